@@ -1,0 +1,16 @@
+pub mod Octets
+pub mod Lines
+pub mod Words
+pub mod Number
+pub mod Name
+pub mod Wildmat
+pub mod Block
+pub mod Command
+pub mod Argument
+pub mod Listing
+pub mod Answer
+pub mod Frame
+pub mod View
+pub mod Keyword
+pub mod AnswerView
+pub mod Session
