@@ -7,11 +7,12 @@ use Rattle.nntp_article.specs.Spool.{Spool, IsSpool, Profile}
 use Rattle.nntp_article.specs.Machine.{Run, start}
 use Rattle.nntp_article.specs.Explains.{Spelled, ExplainsUpTo, Explains, ExplainsFirst, Bad}
 use Rattle.nntp_facts.specs.Given.{facts_of_session, size, weight}
-use Rattle.nntp_facts.specs.Permits.{SomePermits, AreSpellings}
+use Rattle.nntp_facts.specs.Permits.{SomePermits}
 use Rattle.nntp_facts.proofs.Size.{session_size}
 use Rattle.nntp_facts.proofs.FirstBad.{run_fewer, permitted_or_bad}
 use Rattle.nntp_wire.specs.Answer.{Asked, Response, Spells}
 use Rattle.nntp_wire.specs.Session.{prompts_of}
+use Rattle.nntp_facts.proofs.Spellings.{AreSpellings, are_spellings}
 
 -- the longest list of answers that the octets begin with
 record Reading (ps : List Asked) (octets : List ℕ) : Type 0 where

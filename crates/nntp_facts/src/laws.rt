@@ -6,7 +6,7 @@ ghost use Rattle.nntp_article.specs.Machine.{Run, start};
 ghost use Rattle.nntp_facts.specs.Asks.{RunsAt, Nowhere, Meets};
 ghost use Rattle.nntp_facts.specs.Facts.{FitsAll, Holds, Fact, facts_from};
 ghost use Rattle.nntp_facts.specs.Given.{asks_of, HasGivenNumbers, IsGiven, facts_of_session, size, weight, HasAtLeast};
-ghost use Rattle.nntp_facts.specs.Permits.{SomePermits, IsBadAnswer, AreSpellings};
+ghost use Rattle.nntp_facts.specs.Permits.{SomePermits, IsBadAnswer};
 ghost use Rattle.nntp_article.specs.Explains.{Explains, Bad};
 ghost use Rattle.nntp_wire.specs.Answer.{Asked, Response};
 
@@ -79,13 +79,12 @@ pub fn one_answer_is_bad()
         → IsBadAnswer profile prompts answers k → IsBadAnswer profile prompts answers j → k ≡ j }
 {}
 
-/// Some spool explains two streams, or exactly one answer is bad, and never both, where spellings
-/// are as the wire's laws say.
+/// Some spool explains two streams, or exactly one answer is bad, and never both.
 pub fn streams_are_explained_or_bad()
-    ensures explained_or_bad { AreSpellings → (profile : Profile) (client server : List ℕ) → length server < 2 ^ 100
+    ensures explained_or_bad { (profile : Profile) (client server : List ℕ) → length server < 2 ^ 100
         → ((S : Spool) × (n : ℕ) × Explains profile S client server n) ⊎ ((k : ℕ) × Bad profile client server k) }
-    ensures never_both { AreSpellings → (profile : Profile) (S : Spool) (client server : List ℕ) (n k : ℕ)
+    ensures never_both { (profile : Profile) (S : Spool) (client server : List ℕ) (n k : ℕ)
         → Explains profile S client server n → Bad profile client server k → ⊥ }
-    ensures one_bad { AreSpellings → (profile : Profile) (client server : List ℕ) (k j : ℕ)
+    ensures one_bad { (profile : Profile) (client server : List ℕ) (k j : ℕ)
         → Bad profile client server k → Bad profile client server j → k ≡ j }
 {}
