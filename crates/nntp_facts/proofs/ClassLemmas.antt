@@ -15,7 +15,7 @@ use Rattle.nntp_wire.proofs.StreamLemmas.{lines-joined}
 use Rattle.nntp_article.specs.Spool.{Profile, Spool}
 use Rattle.nntp_article.specs.Machine.{Visible, State, Run, start, fits, visible_after}
 use Rattle.nntp_article.specs.Explains.{Spelled, ExplainsUpTo, ExplainsFirst, Bad}
-use Rattle.nntp_facts.specs.Classes.{Class, surplus, cut, malformed, out_of_place, contradiction, visible_from, asked_next, AnswersFirst, IsCut, IsMalformed, BeginsWithAnswer, IsOpenClass, IsClass, left_visible, HasClass, IsSettled}
+use Rattle.nntp_facts.specs.Classes.{Class, Surplus, Cut, Malformed, OutOfPlace, Contradiction, visible_from, asked_next, AnswersFirst, IsCut, IsMalformed, BeginsWithAnswer, IsOpenClass, IsClass, left_visible, HasClass, IsSettled}
 
 -- ---- more prompts
 
@@ -147,24 +147,24 @@ one_fitting profile v asked octets a c =
     true≢false (sym a.fitting ∙ ap (fits profile v asked) same.0 ∙ c.fitting)
 
 open_once : (profile : Profile) (v : Visible) (asked : Asked) (octets : List ℕ) (c d : Class) → IsOpenClass profile v asked octets c → IsOpenClass profile v asked octets d → c ≡ d
-open_once profile v asked octets cut cut h k = refl
-open_once profile v asked octets malformed malformed h k = refl
-open_once profile v asked octets out_of_place out_of_place h k = refl
-open_once profile v asked octets contradiction contradiction h k = refl
-open_once profile v asked octets cut malformed h k = absurd (h k.line k.block k.rest k.frame)
-open_once profile v asked octets malformed cut h k = absurd (k h.line h.block h.rest h.frame)
-open_once profile v asked octets cut out_of_place h k = absurd (not_cut profile v asked octets false h k)
-open_once profile v asked octets out_of_place cut h k = absurd (not_cut profile v asked octets false k h)
-open_once profile v asked octets cut contradiction h k = absurd (not_cut profile v asked octets true h k)
-open_once profile v asked octets contradiction cut h k = absurd (not_cut profile v asked octets true k h)
-open_once profile v asked octets malformed out_of_place h k = absurd (not_malformed profile v asked octets false h k)
-open_once profile v asked octets out_of_place malformed h k = absurd (not_malformed profile v asked octets false k h)
-open_once profile v asked octets malformed contradiction h k = absurd (not_malformed profile v asked octets true h k)
-open_once profile v asked octets contradiction malformed h k = absurd (not_malformed profile v asked octets true k h)
-open_once profile v asked octets out_of_place contradiction h k = absurd (one_fitting profile v asked octets k h)
-open_once profile v asked octets contradiction out_of_place h k = absurd (one_fitting profile v asked octets h k)
-open_once profile v asked octets surplus d h k = absurd h
-open_once profile v asked octets c surplus h k = absurd k
+open_once profile v asked octets Cut Cut h k = refl
+open_once profile v asked octets Malformed Malformed h k = refl
+open_once profile v asked octets OutOfPlace OutOfPlace h k = refl
+open_once profile v asked octets Contradiction Contradiction h k = refl
+open_once profile v asked octets Cut Malformed h k = absurd (h k.line k.block k.rest k.frame)
+open_once profile v asked octets Malformed Cut h k = absurd (k h.line h.block h.rest h.frame)
+open_once profile v asked octets Cut OutOfPlace h k = absurd (not_cut profile v asked octets false h k)
+open_once profile v asked octets OutOfPlace Cut h k = absurd (not_cut profile v asked octets false k h)
+open_once profile v asked octets Cut Contradiction h k = absurd (not_cut profile v asked octets true h k)
+open_once profile v asked octets Contradiction Cut h k = absurd (not_cut profile v asked octets true k h)
+open_once profile v asked octets Malformed OutOfPlace h k = absurd (not_malformed profile v asked octets false h k)
+open_once profile v asked octets OutOfPlace Malformed h k = absurd (not_malformed profile v asked octets false k h)
+open_once profile v asked octets Malformed Contradiction h k = absurd (not_malformed profile v asked octets true h k)
+open_once profile v asked octets Contradiction Malformed h k = absurd (not_malformed profile v asked octets true k h)
+open_once profile v asked octets OutOfPlace Contradiction h k = absurd (one_fitting profile v asked octets k h)
+open_once profile v asked octets Contradiction OutOfPlace h k = absurd (one_fitting profile v asked octets h k)
+open_once profile v asked octets Surplus d h k = absurd h
+open_once profile v asked octets c Surplus h k = absurd k
 
 class_once : (closed : Bool) (profile : Profile) (v : Visible) (next : Option Asked) (octets : List ℕ) (c d : Class) → IsClass closed profile v next octets c → IsClass closed profile v next octets d → c ≡ d
 class_once true profile v next octets c d h k = h ∙ sym k
@@ -172,16 +172,16 @@ class_once false profile v None octets c d h k = h ∙ sym k
 class_once false profile v (Some asked) octets c d h k = open_once profile v asked octets c d h k
 
 some_class : (closed : Bool) (profile : Profile) (v : Visible) (next : Option Asked) (octets : List ℕ) → (class : Class) × IsClass closed profile v next octets class
-some_class true profile v next octets = (surplus, refl)
-some_class false profile v None octets = (surplus, refl)
+some_class true profile v next octets = (Surplus, refl)
+some_class false profile v None octets = (Surplus, refl)
 some_class false profile v (Some asked) octets = elim (dec_spelling asked octets) [
   | inl (r, b, rest, s, e) ↦ elim (cases_Bool (fits profile v asked r)) [
-    | inl t ↦ (contradiction, record { response = r; front = b; rest = rest; spells = s; whole = e; fitting = t })
-    | inr f ↦ (out_of_place, record { response = r; front = b; rest = rest; spells = s; whole = e; fitting = f })
+    | inl t ↦ (Contradiction, record { response = r; front = b; rest = rest; spells = s; whole = e; fitting = t })
+    | inr f ↦ (OutOfPlace, record { response = r; front = b; rest = rest; spells = s; whole = e; fitting = f })
   ]
   | inr none ↦ elim (dec_frame asked octets) [
-    | inl (line, block, rest, f) ↦ (malformed, record { line = line; block = block; rest = rest; frame = f; nothing = λ r s. none (r, frame_octets line block, rest, s, f.whole) })
-    | inr no_frame ↦ (cut, λ line block rest f. no_frame (line, block, rest, f))
+    | inl (line, block, rest, f) ↦ (Malformed, record { line = line; block = block; rest = rest; frame = f; nothing = λ r s. none (r, frame_octets line block, rest, s, f.whole) })
+    | inr no_frame ↦ (Cut, λ line block rest f. no_frame (line, block, rest, f))
   ]
 ]
 
@@ -230,26 +230,26 @@ malformed_longer asked octets more m =
 
 -- where a frame is whole, or the connection closed
 abbrev pub settled : Class → Bool → Type 0
-settled surplus closed = closed ≡ true
-settled cut closed = ⊥
+settled Surplus closed = closed ≡ true
+settled Cut closed = ⊥
 settled class closed = IsTrue true
 
 settled_by : (profile : Profile) (client server : List ℕ) (k : ℕ) (class : Class) (h : HasClass profile client server k class) → IsSettled profile client server k class h → settled class (left_visible client server k h.before).closed
-settled_by profile client server k surplus h s = s
-settled_by profile client server k cut h s = absurd s
-settled_by profile client server k malformed h s = refl
-settled_by profile client server k out_of_place h s = refl
-settled_by profile client server k contradiction h s = refl
+settled_by profile client server k Surplus h s = s
+settled_by profile client server k Cut h s = absurd s
+settled_by profile client server k Malformed h s = refl
+settled_by profile client server k OutOfPlace h s = refl
+settled_by profile client server k Contradiction h s = refl
 
 open_longer : (profile : Profile) (v : Visible) (asked : Asked) (octets more : List ℕ) (class : Class) → settled class false → IsOpenClass profile v asked octets class → IsOpenClass profile v asked (octets ++ more) class
-open_longer profile v asked octets more surplus s h = absurd h
-open_longer profile v asked octets more cut s h = absurd s
-open_longer profile v asked octets more malformed s h = malformed_longer asked octets more h
-open_longer profile v asked octets more out_of_place s h = answer_longer profile v asked octets more false h
-open_longer profile v asked octets more contradiction s h = answer_longer profile v asked octets more true h
+open_longer profile v asked octets more Surplus s h = absurd h
+open_longer profile v asked octets more Cut s h = absurd s
+open_longer profile v asked octets more Malformed s h = malformed_longer asked octets more h
+open_longer profile v asked octets more OutOfPlace s h = answer_longer profile v asked octets more false h
+open_longer profile v asked octets more Contradiction s h = answer_longer profile v asked octets more true h
 
--- surplus octets on an open connection aren't settled
-not_open : (class : Class) → class ≡ surplus → settled class false → ⊥
+-- Surplus octets on an open connection aren't settled
+not_open : (class : Class) → class ≡ Surplus → settled class false → ⊥
 not_open class e s = true≢false (sym (subst (λ c. settled c false) e s))
 
 class_longer : (closed : Bool) (profile : Profile) (v : Visible) (ps qs : List Asked) (answers : List Response) (octets more : List ℕ) (class : Class) → settled class closed
@@ -343,11 +343,11 @@ module _ (profile : Profile) (client server more_client more_server : List ℕ) 
           is.nothing m.response (subst (Spells asked m.response) (sym f.2 ∙ (λ i. frame_octets (one.0 i) (one.1 i))) t)
 
       at_open : (asked : Asked) → asked_next (prompts_of client) h.before.answers ≡ Some asked → (c : Class) → settled c false → IsOpenClass profile v asked h.before.rest c → ⊥
-      at_open asked e surplus t c = c
-      at_open asked e cut t c = t
-      at_open asked e malformed t c = nothing asked e c
-      at_open asked e out_of_place t c = again asked e false c
-      at_open asked e contradiction t c = again asked e true c
+      at_open asked e Surplus t c = c
+      at_open asked e Cut t c = t
+      at_open asked e Malformed t c = nothing asked e c
+      at_open asked e OutOfPlace t c = again asked e false c
+      at_open asked e Contradiction t c = again asked e true c
 
       at_next : (next : Option Asked) → asked_next (prompts_of client) h.before.answers ≡ next → settled class false → IsClass false profile v next h.before.rest class → ⊥
       at_next None e t c = not_open class c t

@@ -41,7 +41,7 @@ RunsAt profile S v at (p ∷ ps) (a ∷ more) = MayAnswer profile S (state_at S 
 pub data Ask : Type 0 where
   Estimates : (marks : WaterMarks) → Ask
   Bounds : (low high : ℕ) → Ask
-  Lists_in : (range : Range) → (listed : List ℕ) → Ask
+  ListsIn : (range : Range) → (listed : List ℕ) → Ask
   Has : (number : ℕ) → Ask
   Lacks : (number : ℕ) → Ask
   StandsAt : (at : Position) → (number : ℕ) → Ask
@@ -55,7 +55,7 @@ pub data Ask : Type 0 where
 abbrev pub Meets : Numbers → Ask → Type 0
 Meets N (Estimates m) = Bound N m
 Meets N (Bounds low high) = (n : ℕ) → IsNumber N n → (low ≤ n) × (n ≤ high)
-Meets N (Lists_in r ns) = Lists N r ns
+Meets N (ListsIn r ns) = Lists N r ns
 Meets N (Has n) = IsNumber N n
 Meets N (Lacks n) = get N n ≡ None
 Meets N (StandsAt at n) = current_in N at ≡ Some n

@@ -9,7 +9,7 @@ use Rattle.nntp_article.specs.Explains.{Spelled}
 
 -- octets where none are due; no whole frame; a frame that spells nothing; an answer that doesn't fit; one that no spool agrees with
 pub data Class : Type 0 where
-  surplus cut malformed out_of_place contradiction : Class
+  Surplus Cut Malformed OutOfPlace Contradiction : Class
 
 -- the visible state that answers leave
 abbrev pub visible_from : Visible → List Asked → List Response → Visible
@@ -55,16 +55,16 @@ pub record BeginsWithAnswer (profile : Profile) (v : Visible) (asked : Asked) (o
 
 -- the class of octets where this is asked on an open connection
 abbrev pub IsOpenClass : Profile → Visible → Asked → List ℕ → Class → Type 0
-IsOpenClass profile v asked octets surplus = ⊥
-IsOpenClass profile v asked octets cut = IsCut asked octets
-IsOpenClass profile v asked octets malformed = IsMalformed asked octets
-IsOpenClass profile v asked octets out_of_place = BeginsWithAnswer profile v asked octets false
-IsOpenClass profile v asked octets contradiction = BeginsWithAnswer profile v asked octets true
+IsOpenClass profile v asked octets Surplus = ⊥
+IsOpenClass profile v asked octets Cut = IsCut asked octets
+IsOpenClass profile v asked octets Malformed = IsMalformed asked octets
+IsOpenClass profile v asked octets OutOfPlace = BeginsWithAnswer profile v asked octets false
+IsOpenClass profile v asked octets Contradiction = BeginsWithAnswer profile v asked octets true
 
 -- the same, where the connection may be closed, or nothing be asked
 abbrev pub IsClass : Bool → Profile → Visible → Option Asked → List ℕ → Class → Type 0
-IsClass true profile v next octets class = class ≡ surplus
-IsClass false profile v None octets class = class ≡ surplus
+IsClass true profile v next octets class = class ≡ Surplus
+IsClass false profile v None octets class = class ≡ Surplus
 IsClass false profile v (Some asked) octets class = IsOpenClass profile v asked octets class
 
 -- the visible state behind the answers
@@ -79,6 +79,6 @@ pub record HasClass (profile : Profile) (client server : List ℕ) (k : ℕ) (cl
 
 -- no octets that follow can mend it: the frame is whole, or the connection is closed
 abbrev pub IsSettled : (profile : Profile) (client server : List ℕ) (k : ℕ) (class : Class) → HasClass profile client server k class → Type 0
-IsSettled profile client server k surplus has = (left_visible client server k has.before).closed ≡ true
-IsSettled profile client server k cut has = ⊥
+IsSettled profile client server k Surplus has = (left_visible client server k has.before).closed ≡ true
+IsSettled profile client server k Cut has = ⊥
 IsSettled profile client server k class has = ⊤
