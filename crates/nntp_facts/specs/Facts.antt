@@ -11,15 +11,17 @@ use Rattle.nntp_wire.specs.Command.{Request, by_id, by_number, current, group, n
 use Rattle.nntp_article.specs.Listed.{listed_numbers, active_groups}
 use Rattle.nntp_wire.specs.Answer.{Asked, Response, to, group_is, numbers_are, sends, active_are, plain}
 
+-- one thing that an answer says of the spool
 pub data Fact : Type 0 where
-  ThereIs : (name : Name) → Fact
-  ThereIsNo : (name : Name) → Fact
-  Asks : (name : Name) → (ask : Ask) → Fact
-  IdAt : (name : Name) → (number : ℕ) → (id : Id) → Fact
-  TextIs : (what : What) → (id : Id) → (lines : Option (List Line)) → Fact
-  NoArticle : (id : Id) → Fact
-  GroupsAre : (wildmat : Option (List ℕ)) → (lines : List ActiveValue) → Fact
+  ThereIs : (name : Name) → Fact  -- there is such a group
+  ThereIsNo : (name : Name) → Fact  -- there is none
+  Asks : (name : Name) → (ask : Ask) → Fact  -- this is asked of the numbers of the group
+  IdAt : (name : Name) → (number : ℕ) → (id : Id) → Fact  -- the group gives the id at the number
+  TextIs : (what : What) → (id : Id) → (lines : Option (List Line)) → Fact  -- the id has an article, of which these lines are sent
+  NoArticle : (id : Id) → Fact  -- the id has none
+  GroupsAre : (wildmat : Option (List ℕ)) → (lines : List ActiveValue) → Fact  -- the matching groups are these
 
+-- the fact holds of the spool
 abbrev pub Holds : Spool → Fact → Type 0
 Holds S (ThereIs name) = IsGroup S name
 Holds S (ThereIsNo name) = get S.groups name ≡ None
@@ -29,6 +31,7 @@ Holds S (TextIs what id lines) = HasText S what id lines
 Holds S (NoArticle id) = get S.articles id ≡ None
 Holds S (GroupsAre p lines) = ActivesAgree S p lines
 
+-- the fact, if the code is the expected one
 abbrev pub on : ℕ → ℕ → Fact → List Fact
 on code expected fact = if code == expected then fact ∷ [] else []
 
@@ -58,15 +61,18 @@ facts_of v at (to (retrieve what (by_id word))) (sends sent) = TextIs what sent.
 facts_of v at (to (retrieve what (by_number n))) (sends sent) = TextIs what sent.id sent.block ∷ IdAt (here v) sent.number sent.id ∷ []
 facts_of v at (to (retrieve what current)) (sends sent) = TextIs what sent.id sent.block ∷ Asks (here v) (StandsAt at sent.number) ∷ IdAt (here v) sent.number sent.id ∷ []
 facts_of v at (to (list_active p)) (active_are lines) = GroupsAre p (active_groups lines) ∷ []
-facts_of v at p a = []
+facts_of v at asked response = []
 
+-- what answers say, from a visible state and a position on
 abbrev pub facts_from : Visible → Position → List Asked → List Response → List Fact
 facts_from v at [] answers = []
-facts_from v at (p ∷ ps) [] = []
-facts_from v at (p ∷ ps) (a ∷ more) = facts_of v at p a ++ facts_from (visible_after v p a) (position_after at p a) ps more
+facts_from v at (asked ∷ ps) [] = []
+facts_from v at (asked ∷ ps) (response ∷ more) =
+    facts_of v at asked response ++ facts_from (visible_after v asked response) (position_after at asked response) ps more
 
 -- the visible condition holds at each place, whatever the spool
 abbrev pub FitsAll : Profile → Visible → List Asked → List Response → Type 0
 FitsAll profile v ps [] = ⊤
-FitsAll profile v [] (a ∷ more) = ⊥
-FitsAll profile v (p ∷ ps) (a ∷ more) = (v.closed ≡ false) × IsTrue (fits profile v p a) × FitsAll profile (visible_after v p a) ps more
+FitsAll profile v [] (response ∷ more) = ⊥
+FitsAll profile v (asked ∷ ps) (response ∷ more) =
+    (v.closed ≡ false) × IsTrue (fits profile v asked response) × FitsAll profile (visible_after v asked response) ps more

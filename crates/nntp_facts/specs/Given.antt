@@ -11,7 +11,7 @@ use Rattle.nntp_facts.specs.Facts.{Fact, ThereIs, Asks, IdAt, TextIs, NoArticle,
 use Rattle.nntp_wire.specs.Answer.{Asked, Response, numbers_are, active_are}
 use Rattle.nntp_wire.specs.declared.command.What.TheVariants.{Article, Head, Body}
 
--- the answer shows the number
+-- the ask shows the number
 abbrev pub shows : Ask → ℕ → Bool
 shows (ListsIn r ns) n = list_any (λ m. n == m) ns
 shows (Has m) n = m == n
@@ -20,10 +20,11 @@ shows (StepsUp at m) n = m == n
 shows (StepsDown at m) n = m == n
 shows ask n = false
 
+-- n is between a and b, and neither
 abbrev pub is_between : ℕ → ℕ → ℕ → Bool
 is_between a b n = nat_lt a n && nat_lt n b
 
--- the answer says that the number isn't there
+-- the ask says that the number isn't there
 abbrev pub denies : Ask → ℕ → Bool
 denies (Estimates m) n = nat_lt n m.low || nat_lt m.high n
 denies (Bounds low high) n = nat_lt n low || nat_lt high n
@@ -37,9 +38,11 @@ denies (IsTop (Known c)) n = nat_lt c n
 denies (IsBottom (Known c)) n = nat_lt n c
 denies ask n = false
 
+-- an answer shows the number
 abbrev pub is_shown : List Ask → ℕ → Bool
 is_shown asks n = list_any (λ ask. shows ask n) asks
 
+-- an answer says that the number isn't there
 abbrev pub is_denied : List Ask → ℕ → Bool
 is_denied asks n = list_any (λ ask. denies ask n) asks
 
@@ -54,10 +57,11 @@ tells_of_first (IsTop First) = true
 tells_of_first (IsBottom First) = true
 tells_of_first ask = false
 
--- one more number is needed, and n may be it
+-- one more number is needed, below m: NEXT led from the unseen first number to m, and none below m is shown
 abbrev pub NeedsOneBelow : List Ask → ℕ → Type 0
 NeedsOneBelow asks m = IsTrue (list_any (λ ask. steps_from_first_to ask m) asks) × ((n : ℕ) → IsTrue (is_shown asks n) → m ≤ n)
 
+-- one more number is needed, since there is one and none is shown
 abbrev pub NeedsOne : List Ask → Type 0
 NeedsOne asks = IsTrue (list_any tells_of_first asks) × ((n : ℕ) → IsFalse (is_shown asks n))
 
@@ -81,6 +85,7 @@ asks_in name (IdAt g n id) = if is_same g name then Has n ∷ [] else []
 asks_in name (GroupsAre p lines) = flat_map (λ line. if is_same line.name name then Bounds line.low line.high ∷ [] else []) lines
 asks_in name fact = []
 
+-- the same of all facts
 abbrev pub asks_of : Name → List Fact → List Ask
 asks_of name facts = flat_map (asks_in name) facts
 
@@ -90,6 +95,7 @@ shows_group name (ThereIs g) = is_same g name
 shows_group name (GroupsAre p lines) = list_any (λ line. is_same line.name name) lines
 shows_group name fact = false
 
+-- one of the facts shows the group
 abbrev pub is_shown_group : List Fact → Name → Bool
 is_shown_group facts name = list_any (shows_group name) facts
 
@@ -98,11 +104,12 @@ abbrev pub first_given : {A : Type 0} → (Fact → Option A) → List Fact → 
 first_given f [] = None
 first_given f (fact ∷ facts) = option_or (f fact) (first_given f facts)
 
--- the id that is shown for a number of a group
+-- the id that a fact shows for a number of a group
 abbrev pub id_in : Name → ℕ → Fact → Option Id
 id_in name n (IdAt g m id) = if is_same g name && m == n then Some id else None
 id_in name n fact = None
 
+-- the id that is shown first for a number of a group
 abbrev pub id_shown : List Fact → Name → ℕ → Option Id
 id_shown facts name n = first_given (id_in name n) facts
 
@@ -113,6 +120,7 @@ mentions id (TextIs what other lines) = is_same other id
 mentions id (NoArticle other) = is_same other id
 mentions id fact = false
 
+-- one of the facts mentions the id
 abbrev pub is_mentioned : List Fact → Id → Bool
 is_mentioned facts id = list_any (mentions id) facts
 
@@ -121,6 +129,7 @@ abbrev pub gives_article : Id → Fact → Bool
 gives_article id (TextIs what other lines) = is_same other id
 gives_article id fact = false
 
+-- a success names the id
 abbrev pub is_sent : List Fact → Id → Bool
 is_sent facts id = list_any (gives_article id) facts
 
@@ -140,6 +149,7 @@ body_in id fact = None
 abbrev pub plain_head : Id → List Line
 plain_head id = (codes "Message-ID: " ++ id) ∷ []
 
+-- the id that is invented with the number k
 abbrev pub invented : ℕ → Id
 invented k = codes "<w" ++ decimal k ++ codes "@invented.invalid>"
 
