@@ -1,5 +1,5 @@
 -- The class of a bad answer: there is one, and octets that follow leave it where it is settled.
-use Rattle.std.proofs.Common.{◌≡◌, ◌≢◌, ℕ, ◌+◌, ◌≤◌, Bool, true, false, IsTrue, List, [], ◌∷◌, ◌++◌, length, map, Option, None, Some, inl, inr, refl, sym, ap, subst, ◌∙◌, arith, append_assoc, length-append, ◌⊎◌}
+use Rattle.std.proofs.Common.{◌≡◌, ℕ, ◌+◌, ◌≤◌, Bool, true, false, IsTrue, List, [], ◌∷◌, ◌++◌, length, map, Option, None, Some, inl, inr, refl, sym, ap, subst, ◌∙◌, arith, append_assoc, length-append, ◌⊎◌}
 use Rattle.std.proofs.lemmas.List.{append_cancel_left, map-append, append-nil}
 use Rattle.std.proofs.lemmas.Bool.{cases_Bool, true≢false}
 use Rattle.nntp_wire.specs.Command.{request_of}
@@ -7,14 +7,13 @@ use Rattle.nntp_wire.specs.Lines.{lines_of_stream}
 use Rattle.nntp_wire.specs.Answer.{Asked, Response, greeting, to, Spells}
 use Rattle.nntp_wire.specs.Frame.{HasFrame, frame_octets}
 use Rattle.nntp_wire.specs.Session.{prompts_of}
-use Rattle.nntp_wire.proofs.Decide.{Dec}
 use Rattle.nntp_wire.proofs.SpellLemmas.{spelling-frame, one-frame}
-use Rattle.nntp_wire.proofs.SpellsDecided.{BeginsWithSpelling, one-spelling, dec_spelling}
-use Rattle.nntp_wire.proofs.FramesDecided.{BeginsWithFrame, dec_frame, frame-longer}
+use Rattle.nntp_wire.proofs.SpellsDecided.{one-spelling, dec_spelling}
+use Rattle.nntp_wire.proofs.FramesDecided.{dec_frame, frame-longer}
 use Rattle.nntp_wire.proofs.StreamLemmas.{lines-joined}
 use Rattle.nntp_article.specs.Spool.{Profile, Spool}
 use Rattle.nntp_article.specs.Machine.{Visible, State, Run, start, fits, visible_after}
-use Rattle.nntp_article.specs.Explains.{Spelled, ExplainsUpTo, ExplainsFirst, Bad}
+use Rattle.nntp_article.specs.Explains.{Spelled, ExplainsFirst, Bad}
 use Rattle.nntp_facts.specs.Classes.{Class, Surplus, Cut, Malformed, OutOfPlace, Contradiction, visible_from, asked_next, AnswersFirst, IsCut, IsMalformed, BeginsWithAnswer, IsOpenClass, IsClass, left_visible, HasClass, IsSettled}
 
 -- ---- more prompts
@@ -263,7 +262,6 @@ class_longer false profile v ps qs answers octets more class s h = by (asked_nex
 
 -- below, answer k is bad, of a settled class
 module _ (profile : Profile) (client server more_client more_server : List ℕ) (k : ℕ) (class : Class) (h : HasClass profile client server k class) (s : IsSettled profile client server k class h) where
-
   -- the class is the same
   pub class_stays : HasClass profile (client ++ more_client) (server ++ more_server) k class
   unfolding before_longer

@@ -1,12 +1,12 @@
 -- Small sessions: what they say, and which numbers they show, deny and need.
-use Rattle.std.proofs.Common.{◌≡◌, ℕ, ◌<◌, ◌≤◌, Bool, true, false, IsTrue, List, [], ◌∷◌, ◌++◌, Option, None, Some, map, inl, inr, refl, ap, subst, sym, ◌∙◌, arith}
+use Rattle.std.proofs.Common.{◌≡◌, ℕ, ◌<◌, ◌≤◌, true, false, IsTrue, List, [], ◌∷◌, ◌++◌, None, Some, map, inl, inr, refl, ap, subst, sym, arith}
 use Rattle.std.specs.Prelude.{codes}
-use Rattle.std.proofs.lemmas.Bool.{cases_eq, eqb-true, or_cases, true≢false}
+use Rattle.std.proofs.lemmas.Bool.{cases_eq, eqb-true, or_cases}
 use Rattle.std.proofs.lemmas.Fmt.{decimal_digit}
-use Rattle.nntp_wire.specs.Answer.{Asked, Response, WaterMarks, greeting, to, group_is, numbers_are, sends, plain}
+use Rattle.nntp_wire.specs.Answer.{Response, WaterMarks, greeting, to, group_is, numbers_are, sends, plain}
 use Rattle.nntp_wire.specs.declared.command.What.TheVariants.{Head, Stat}
 use Rattle.nntp_wire.specs.Command.{Request, by_id, by_number, current, group, list_group, from_one, next, last, retrieve}
-use Rattle.nntp_facts.specs.Asks.{First, Known, Ask, Estimates, StepsUp, StepsDown, StandsAt, ListsIn, IsTop, IsBottom, Has, Lacks}
+use Rattle.nntp_facts.specs.Asks.{First, Known, Ask, Estimates, StepsUp, StepsDown, StandsAt, IsTop, IsBottom, Has, Lacks}
 use Rattle.nntp_facts.specs.Facts.{Fact, ThereIs, Asks, IdAt}
 use Rattle.nntp_facts.specs.Given.{asks_of, is_shown, is_denied, tells_of_first, IsOneMore, AreInvented, invented, facts_of_session, is_mentioned, id_shown, first_given, head_in}
 
@@ -127,6 +127,10 @@ five_is_denied = refl
 
 four_is_denied : is_denied emptied 4 ≡ true
 four_is_denied = refl
+
+-- before LAST was answered no number was needed: the group has none
+unasked_needs_none : (n : ℕ) → IsOneMore (asks (group (codes "g") ∷ stat 5 ∷ []) (selected 1 5 5 ∷ plain 423 ∷ [])) n → ⊥
+unasked_needs_none n x = elim x.needed [ inl below ↦ (let f = below.1.0 in cc) | inr any ↦ (let f = any.0 in cc) ]
 
 -- ---- numbers of LISTGROUP
 

@@ -26,7 +26,6 @@ use Rattle.nntp_facts.proofs.Placed.{Placed}
 use Rattle.nntp_facts.proofs.Invented.{number_of}
 use Rattle.nntp_facts.proofs.Fresh.{Numbered, numbered, of_numbered, part_numbered, unshown_there, unshown_apart, mentioned}
 use Rattle.nntp_wire.specs.Listing.{ActiveValue}
-use Rattle.nntp_wire.specs.Decided.{is_message_id}
 use Rattle.nntp_wire.specs.declared.command.What.{What}
 use Rattle.nntp_wire.specs.declared.command.What.TheVariants.{Article, Head, Body, Stat}
 use Rattle.nntp_wire.specs.Name.{IsMessageId}

@@ -1,5 +1,5 @@
 -- The spool that is given for a session permits it.
-use Rattle.std.proofs.Common.{ℕ, ◌<◌, ◌^◌, List, length, refl}
+use Rattle.std.proofs.Common.{◌<◌, ◌^◌, List, length, refl}
 use Rattle.std.specs.List.{AllByRecursion}
 use Rattle.nntp_article.specs.Spool.{Spool, IsSpool, numbers, Name, Profile}
 use Rattle.nntp_article.specs.Machine.{Run, start}
