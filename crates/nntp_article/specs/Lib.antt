@@ -1,0 +1,6 @@
+pub mod Decided
+pub mod Article
+pub mod Listed
+pub mod Spool
+pub mod Machine
+pub mod Explains

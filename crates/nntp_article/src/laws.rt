@@ -1,0 +1,59 @@
+//! Laws of the definitions alone.
+ghost use Rattle.std.specs.Prelude.{◌≡◌, ℕ, IsTrue, Option, None, Some, MatchOption, IsSome, ◌≤◌, ◌⊎◌, List};
+ghost use Rattle.std.specs.FinMap.{get};
+ghost use Rattle.nntp_article.specs.Spool.{Spool, Numbers, IsNumber, least, IsFirst, Profile};
+ghost use Rattle.nntp_article.specs.Machine.{Visible, State, fits, visible_after, Permits, Run};
+ghost use Rattle.std.specs.Prelude.{◌↔◌};
+ghost use Rattle.nntp_wire.specs.Answer.{Asked, Response};
+ghost use Rattle.nntp_wire.specs.Listing.{ActiveValue, ListsGroup};
+ghost use Rattle.nntp_wire.specs.Name.{IsMessageId, IsGroupName};
+ghost use Rattle.nntp_wire.specs.Wildmat.{MatchesName};
+ghost use Rattle.nntp_article.specs.Decided.{is_message_id, is_group_name, matches_name};
+ghost use Rattle.nntp_article.specs.Listed.{active_of};
+
+/// An answer that some spool permits meets the visible condition, and the visible state after it is
+/// the same whatever the spool.
+pub fn visible_state_is_fixed()
+    ensures visible_condition { (profile : Profile) (S : Spool) (s new : State) (asked : Asked) (response : Response)
+        → Permits profile S s asked response new → IsTrue (fits profile s.visible asked response) }
+    ensures visible_state { (profile : Profile) (S S' : Spool) (s s' new new' : State) (asked : Asked) (response : Response)
+        → Permits profile S s asked response new → Permits profile S' s' asked response new'
+        → s.visible ≡ s'.visible → new.visible ≡ new'.visible }
+{}
+
+/// Over one spool the state after an answer is determined.
+pub fn new_state_is_determined()
+    ensures { (profile : Profile) (S : Spool) (s new new' : State) (asked : Asked) (response : Response)
+        → Permits profile S s asked response new → Permits profile S s asked response new' → new ≡ new' }
+{}
+
+/// The first number of a group is its least, and there is none where it has no number.
+pub fn first_is_least()
+    ensures { (N : Numbers) → IsFirst N (least N) }
+{}
+
+/// A spool permits a session, or it doesn't.
+pub fn permitting_is_decided()
+    ensures { (profile : Profile) (S : Spool) (s : State) (prompts : List Asked) (answers : List Response)
+        → Run profile S s prompts answers ⊎ (Run profile S s prompts answers → ⊥) }
+{}
+
+/// The test for message ids is the relation.
+pub fn message_ids_are_decided()
+    ensures { (id : List ℕ) → IsTrue (is_message_id id) ↔ IsMessageId id }
+{}
+
+/// The test for group names is the relation.
+pub fn group_names_are_decided()
+    ensures { (name : List ℕ) → IsTrue (is_group_name name) ↔ IsGroupName name }
+{}
+
+/// The test for a wildmat that matches a name is the relation.
+pub fn matching_is_decided()
+    ensures { (wildmat name : List ℕ) → IsTrue (matches_name wildmat name) ↔ MatchesName wildmat name }
+{}
+
+/// A line of LIST ACTIVE is read as the group that it lists.
+pub fn active_lines_are_read()
+    ensures { (line : List ℕ) (value : ActiveValue) → ListsGroup line value → active_of line ≡ Some value }
+{}

@@ -1,0 +1,264 @@
+-- A session that says little is given a small spool.
+use Rattle.std.proofs.Common.{◌≡◌, ℕ, ◌+◌, ◌*◌, ◌<◌, ◌≤◌, ◌^◌, Bool, true, false, cond, not, ◌==◌, IsTrue, List, [], ◌∷◌, ◌++◌, map, length, Some, is_some, IsSome, inl, inr, refl, sym, ap, subst, ◌∙◌, arith, length-append}
+use Rattle.std.specs.Prelude.{unwrap_or}
+use Rattle.std.proofs.Common.{T}
+use Rattle.std.specs.List.{list_any, flat_map, IsDistinct}
+use Rattle.std.specs.declared.cmp.Ordering.{Ordering}
+use Rattle.std.specs.Ordering.{nat_cmp, eq_by_cmp}
+use Rattle.std.specs.Cmp.{IsTotalOrder, nat_cmp_total, eq_by_cmp_equiv}
+use Rattle.std.specs.Cmp.Lexicographic.{same_text, nat_list_cmp_total, nat_list_eq_equiv}
+use Rattle.std.specs.FinMap.{FinMap, get, find, is_sorted, empty, get-entries, keys, entries, entries_sorted, contains_key-keys}
+use Rattle.std.proofs.lemmas.Bool.{cases_Bool, eqb-true, not-true, true≢false}
+use Rattle.std.proofs.Math.Nat.{suc-mul}
+use Rattle.std.proofs.lemmas.Nat.{mul-le}
+use Rattle.std.proofs.lemmas.Map.Views.{Contains-from_any, tells_apart}
+use Rattle.std.proofs.lemmas.Map.Lookups.{exact_unsigned}
+use Rattle.std.proofs.lemmas.List.{length-map}
+use Rattle.std.proofs.lemmas.Map.Keys.{IsDistinct-from_sorted}
+use Rattle.std.proofs.lemmas.Map.Made.{length-le_from_is_member}
+use Rattle.nntp_article.specs.Spool.{Spool, Numbers, IsNumber, IsGroup, numbers, Name}
+use Rattle.nntp_article.specs.Machine.{is_same}
+use Rattle.nntp_facts.specs.Asks.{First, Ask, Estimates, Bounds, Lists_in, Has, Lacks, StandsAt, StandsNowhere, StepsUp, StepsDown, IsTop, IsBottom}
+use Rattle.nntp_facts.specs.Facts.{Fact, There_is, There_is_no, Asks, Id_at, Text_is, No_article, Groups_are}
+use Rattle.nntp_facts.specs.Given.{shows, is_shown, IsOneMore, HasGivenNumbers, asks_in, asks_of, shows_group, is_shown_group, id_shown, unshown_in, unshown_ids, size_in, size}
+use Rattle.nntp_facts.proofs.Members.{In, all_at, any_in, found_in, in_map, from_map, to_flat, from_flat, in_contains}
+use Rattle.nntp_facts.proofs.Firsts.{sorted_keys}
+use Rattle.nntp_facts.proofs.GivenNumbers.{one_more_once}
+use Rattle.nntp_article.specs.Article.{Id}
+use Rattle.nntp_wire.specs.Listing.{ActiveValue}
+
+-- a map whose keys stand in a list has no more keys than the list
+pub keys_among : {K X : Type 0} {R : K → K → Ordering} (o : IsTotalOrder R) (m : FinMap R X) (xs : List K) → ((q : K) → IsSome (get m q) → In q xs) → length (entries m) ≤ length xs
+keys_among {R = R} o m xs among =
+    let le = length-le_from_is_member (eq_by_cmp_equiv o) (keys m) xs (IsDistinct-from_sorted R (keys m) (sorted_keys R (entries m) (entries_sorted m)))
+    (λ q i. any_in (eq_by_cmp R q) q xs (among q (contains_key-keys m q ∙ i)) ((eq_by_cmp_equiv o).refl q)) in
+    simp length-map at le
+
+-- an entry is found where keys differ
+find_distinct : {K X : Type 0} {R : K → K → Ordering} (o : IsTotalOrder R) (k : K) (v : X) (es : List (K × X)) → IsDistinct (eq_by_cmp R) (map (λ e. e.0) es) → In (k, v) es → find R k es ≡ Some v
+unfolding IsDistinct
+find_distinct o k v [] d i = absurd i
+find_distinct {R = R} o k v (e ∷ es) d (inl same) =
+    ap (λ b. cond b (Some e.1) (find R k es)) (ap (λ e. eq_by_cmp R k e.0) same ∙ (eq_by_cmp_equiv o).refl k) ∙ ap (λ e. Some e.1) same
+find_distinct {R = R} o k v (e ∷ es) d (inr i) =
+    let apart = all_at (λ y. eq_by_cmp R e.0 y ≡ false) k (map (λ e. e.0) es) d.0 (in_map (λ e. e.0) (k, v) es i) in
+    ap (λ b. cond b (Some e.1) (find R k es)) ((eq_by_cmp_equiv o).symm k e.0 ∙ apart) ∙ find_distinct o k v es d.1 i
+
+-- an entry of a map is found
+pub find_entry : {K X : Type 0} {R : K → K → Ordering} (o : IsTotalOrder R) (k : K) (v : X) (es : List (K × X)) → T (is_sorted R es) → In (k, v) es → find R k es ≡ Some v
+find_entry {R = R} o k v es h i = find_distinct o k v es (IsDistinct-from_sorted R (map (λ e. e.0) es) (sorted_keys R es h)) i
+
+-- ---- the names and numbers that are shown, as lists
+
+-- the groups that a fact shows
+names_in : Fact → List Name
+names_in (There_is name) = name ∷ []
+names_in (Groups_are p lines) = map (λ line. line.name) lines
+names_in fact = []
+
+-- the groups that are shown
+pub names_of : List Fact → List Name
+names_of facts = flat_map names_in facts
+
+-- the numbers that an ask shows
+abbrev pub shown_by : Ask → List ℕ
+shown_by (Lists_in r ns) = ns
+shown_by (Has m) = m ∷ []
+shown_by (StandsAt First m) = m ∷ []
+shown_by (StepsUp at m) = m ∷ []
+shown_by (StepsDown at m) = m ∷ []
+shown_by ask = []
+
+-- the numbers of a group that a fact shows
+abbrev pub numbers_in : Name → Fact → List ℕ
+numbers_in name fact = flat_map shown_by (asks_in name fact)
+
+-- the numbers of a group that are shown
+pub shown_numbers : Name → List Fact → List ℕ
+shown_numbers name facts = flat_map (numbers_in name) facts
+
+-- a group that a fact shows is one of its names
+names_shown : (name : Name) (fact : Fact) → shows_group name fact ≡ true → In name (names_in fact)
+unfolding names_in
+names_shown name (There_is g) t = inl (same_text g name (sym t))
+names_shown name (Groups_are p lines) t =
+    let f = found_in (λ line. is_same line.name name) lines t in
+    subst (λ g. In g (map (λ line. line.name) lines)) (same_text f.0.name name (sym f.2)) (in_map (λ line. line.name) f.0 lines f.1)
+names_shown name fact t = cc
+
+-- a group that is shown is one of the names
+pub shown_name : (facts : List Fact) (name : Name) → IsTrue (is_shown_group facts name) → In name (names_of facts)
+unfolding names_of
+shown_name facts name t = let f = found_in (shows_group name) facts t in to_flat names_in f.0 name facts f.1 (names_shown name f.0 f.2)
+
+-- and back
+names_back : (name : Name) (fact : Fact) → In name (names_in fact) → shows_group name fact ≡ true
+unfolding names_in
+names_back name (There_is g) i = elim i [ inl e ↦ subst (λ n. is_same g n ≡ true) e (nat_list_eq_equiv.refl g) | inr j ↦ absurd j ]
+names_back name (Groups_are p lines) i =
+    let f = from_map (λ (line : ActiveValue). line.name) name lines i in
+    any_in (λ line. is_same line.name name) f.0 lines f.1 (subst (λ n. is_same f.0.name n ≡ true) f.2 (nat_list_eq_equiv.refl f.0.name))
+names_back name fact i = absurd i
+
+-- one of the names is shown
+pub name_shown : (facts : List Fact) (name : Name) → In name (names_of facts) → IsTrue (is_shown_group facts name)
+unfolding names_of
+name_shown facts name i = let f = from_flat names_in name facts i in any_in (shows_group name) f.0 facts f.1 (names_back name f.0 f.2)
+
+-- a number that is shown is one of the ask's
+pub one_shown : (ask : Ask) (n : ℕ) → shows ask n ≡ true → In n (shown_by ask)
+one_shown (Lists_in r ns) n t = let f = found_in (λ m. n == m) ns t in subst (λ m. In m ns) (sym (eqb-true n f.0 f.2)) f.1
+one_shown (Has m) n t = inl (eqb-true m n t)
+one_shown (StandsAt First m) n t = inl (eqb-true m n t)
+one_shown (StepsUp at m) n t = inl (eqb-true m n t)
+one_shown (StepsDown at m) n t = inl (eqb-true m n t)
+one_shown ask n t = cc
+
+-- a number that is shown is one of the numbers
+pub shown_number : (name : Name) (facts : List Fact) (n : ℕ) → IsTrue (is_shown (asks_of name facts) n) → In n (shown_numbers name facts)
+unfolding shown_numbers
+shown_number name facts n t =
+    let f = found_in (λ ask. shows ask n) (asks_of name facts) t in
+    let g = from_flat (asks_in name) f.0 facts f.1 in
+    to_flat (numbers_in name) g.0 n facts g.1 (to_flat shown_by f.0 n (asks_in name g.0) g.2 (one_shown f.0 n f.2))
+
+-- ---- how many there are
+
+-- there are few names
+names_few : (facts : List Fact) → length (names_of facts) ≤ size facts
+unfolding names_of names_in
+names_few [] = omega arith
+names_few (There_is name ∷ facts) = let rest = names_few facts in omega arith
+names_few (Groups_are p lines ∷ facts) =
+    let rest = names_few facts in
+    let names = map (λ (line : ActiveValue). line.name) lines in
+    omega (arith, length-append names (names_of facts), length-map lines (λ (line : ActiveValue). line.name))
+names_few (There_is_no name ∷ facts) = let rest = names_few facts in omega arith
+names_few (Asks name (Lists_in r ns) ∷ facts) = let rest = names_few facts in omega arith
+names_few (Asks name ask ∷ facts) = let rest = names_few facts in omega arith
+names_few (Id_at name n id ∷ facts) = let rest = names_few facts in omega arith
+names_few (Text_is what id lines ∷ facts) = let rest = names_few facts in omega arith
+names_few (No_article id ∷ facts) = let rest = names_few facts in omega arith
+
+-- marks show no number
+no_number : (name : Name) (lines : List ActiveValue) → flat_map shown_by (flat_map (λ line. cond (is_same line.name name) (Bounds line.low line.high ∷ []) []) lines) ≡ []
+no_number name [] = refl
+no_number name (line ∷ lines) =
+    elim (is_same line.name name) as (λ b. flat_map shown_by (cond b (Bounds line.low line.high ∷ []) [] ++ flat_map (λ line. cond (is_same line.name name) (Bounds line.low line.high ∷ []) []) lines) ≡ []) [
+      | true ↦ no_number name lines
+      | false ↦ no_number name lines
+    ]
+
+-- an ask shows few numbers
+asked_few : (g : Name) (ask : Ask) (b : Bool) → length (flat_map shown_by (cond b (ask ∷ []) [])) ≤ size_in (Asks g ask)
+asked_few g (Lists_in r ns) true = omega (arith, length-append ns [])
+asked_few g (Has m) true = omega arith
+asked_few g (Estimates m) true = omega arith
+asked_few g (Bounds low high) true = omega arith
+asked_few g (Lacks m) true = omega arith
+asked_few g (StandsAt First m) true = omega arith
+asked_few g (StandsAt at m) true = omega arith
+asked_few g (StandsNowhere at) true = omega arith
+asked_few g (StepsUp at m) true = omega arith
+asked_few g (StepsDown at m) true = omega arith
+asked_few g (IsTop at) true = omega arith
+asked_few g (IsBottom at) true = omega arith
+asked_few g (Lists_in r ns) false = omega arith
+asked_few g ask false = omega arith
+
+-- and so a fact
+one_few : (name : Name) (fact : Fact) → length (numbers_in name fact) ≤ size_in fact
+one_few name (Asks g ask) = asked_few g ask (is_same g name)
+one_few name (Id_at g n id) = asked_few g (Has n) (is_same g name)
+one_few name (Groups_are p lines) = let none = ap length (no_number name lines) in omega arith
+one_few name (There_is g) = omega arith
+one_few name (There_is_no g) = omega arith
+one_few name (Text_is what id lines) = omega arith
+one_few name (No_article id) = omega arith
+
+-- there are few numbers in a group
+numbers_few : (name : Name) (facts : List Fact) → length (shown_numbers name facts) ≤ size facts
+unfolding shown_numbers
+numbers_few name [] = omega arith
+numbers_few name (fact ∷ facts) =
+    let rest = numbers_few name facts in
+    let here = one_few name fact in
+    let parts = length-append (numbers_in name fact) (shown_numbers name facts) in
+    omega arith
+
+-- there are no more facts than their size
+pub facts_few : (facts : List Fact) → length facts ≤ size facts
+facts_few [] = omega arith
+facts_few (Asks name (Lists_in r ns) ∷ facts) = let rest = facts_few facts in omega arith
+facts_few (Groups_are p lines ∷ facts) = let rest = facts_few facts in omega arith
+facts_few (fact ∷ facts) = let rest = facts_few facts in omega arith
+
+-- ---- the spool that is given
+
+-- where no number is unshown, each is shown
+any_unshown : (asks : List Ask) (ns : List ℕ) → list_any (λ n. not (is_shown asks n)) ns ≡ false → (n : ℕ) → In n ns → IsTrue (is_shown asks n)
+any_unshown asks ns none n i =
+    elim (cases_Bool (is_shown asks n)) [ inl t ↦ t | inr f ↦ absurd (true≢false (sym (any_in (λ n. not (is_shown asks n)) n ns i (ap not f)) ∙ none)) ]
+
+-- a number is one of the keys
+key_in : (N : Numbers) (n : ℕ) → IsNumber N n → In n (keys N)
+key_in N n i = in_contains n (keys N) (Contains-from_any (tells_apart exact_unsigned) n (keys N) (sym (contains_key-keys N n) ∙ i))
+
+-- and back
+key_is : (N : Numbers) (n : ℕ) → In n (keys N) → IsNumber N n
+key_is N n i = contains_key-keys N n ∙ any_in (eq_by_cmp nat_cmp n) n (keys N) i ((eq_by_cmp_equiv nat_cmp_total).refl n)
+
+-- there is one number more than are shown, at most
+pub given_few : (name : Name) (facts : List Fact) (N : Numbers) → HasGivenNumbers (asks_of name facts) N → length (entries N) ≤ 1 + length (shown_numbers name facts)
+given_few name facts N given =
+    let asks = asks_of name facts in
+    elim (cases_Bool (list_any (λ n. not (is_shown asks n)) (keys N))) [
+      | inr none ↦ (let le = keys_among nat_cmp_total N (shown_numbers name facts) (λ n i. shown_number name facts n (any_unshown asks (keys N) none n (key_in N n i))) in omega arith)
+      | inl some ↦
+          let f = found_in (λ n. not (is_shown asks n)) (keys N) some in
+          let unshown : (n : ℕ) → IsNumber N n → is_shown asks n ≡ false → IsOneMore asks n = λ n i h. elim ((given n).0 i) [ inl t ↦ absurd (true≢false (sym t ∙ h)) | inr x ↦ x ] in
+          let one = unshown f.0 (key_is N f.0 f.1) (not-true _ f.2) in
+          let le = keys_among nat_cmp_total N (f.0 ∷ shown_numbers name facts) (λ n i. elim (cases_Bool (is_shown asks n)) [ inl t ↦ inr (shown_number name facts n t) | inr h ↦ inl (one_more_once asks f.0 n one (unshown n i h)) ]) in
+          omega arith
+    ]
+
+-- ids for which none is shown are no more than the numbers
+unshown_few : (facts : List Fact) (name : Name) (es : List (ℕ × Id)) → length (unshown_in facts name es) ≤ length es
+unshown_few facts name [] = omega arith
+unshown_few facts name (e ∷ es) =
+    let rest = unshown_few facts name es in
+    elim (is_some (id_shown facts name e.0)) as (λ b. length (cond b [] (e.1 ∷ []) ++ unshown_in facts name es) ≤ length (e ∷ es)) [ true ↦ omega arith | false ↦ omega arith ]
+
+-- parts that are each of at most b
+parts_few : {A B : Type 0} (f : A → List B) (b : ℕ) (xs : List A) → ((x : A) → In x xs → length (f x) ≤ b) → length (flat_map f xs) ≤ length xs * b
+parts_few f b [] h = omega arith
+parts_few f b (x ∷ xs) h =
+    let rest = parts_few f b xs (λ y i. h y (inr i)) in
+    let here = h x (inl refl) in
+    let parts = length-append (f x) (flat_map f xs) in
+    let product = suc-mul (length xs) b in
+    omega arith
+
+-- the ids for which none is shown are few
+pub unshown_ids_few : (facts : List Fact) (G : Spool) → ((name : Name) → IsGroup G name → IsTrue (is_shown_group facts name)) → ((name : Name) → IsGroup G name → HasGivenNumbers (asks_of name facts) (numbers G name))
+    → length (unshown_ids facts G) ≤ size facts * (1 + size facts)
+unshown_ids_few facts G groups given =
+    let each : (g : Name × Numbers) → In g (entries G.groups) → length (unshown_in facts g.0 (entries g.1)) ≤ 1 + size facts = λ g i.
+    (let at : get G.groups g.0 ≡ Some g.1 = get-entries G.groups g.0 ∙ find_entry nat_list_cmp_total g.0 g.1 (entries G.groups) (entries_sorted G.groups) i in
+    let is : HasGivenNumbers (asks_of g.0 facts) g.1 = subst (HasGivenNumbers (asks_of g.0 facts)) (ap (λ o. unwrap_or o empty) at) (given g.0 (ap is_some at)) in
+    let a = unshown_few facts g.0 (entries g.1) in
+    let b = given_few g.0 facts g.1 is in
+    let c = numbers_few g.0 facts in
+    omega arith) in
+    let all = parts_few (λ (g : Name × Numbers). unshown_in facts g.0 (entries g.1)) (1 + size facts) (entries G.groups) each in
+    let names = keys_among nat_list_cmp_total G.groups (names_of facts) (λ name i. shown_name facts name (groups name i)) in
+    let few = names_few facts in
+    let product = mul-le (length (entries G.groups)) (1 + size facts) (size facts) (1 + size facts) (omega arith) (omega arith) in
+    omega arith
+
+-- fewer ids than invented ids can number
+pub few_enough : (facts : List Fact) (n : ℕ) → size facts < 2 ^ 100 → n ≤ size facts * (1 + size facts) → length facts + n < 10 ^ 64
+few_enough facts n small le =
+    let count = facts_few facts in
+    let product = mul-le (size facts) (1 + size facts) (2 ^ 100) (2 ^ 100) (omega arith) (omega arith) in
+    omega arith

@@ -1,0 +1,79 @@
+-- What a session says is bounded by its answers.
+use Rattle.std.proofs.Common.{ℕ, ◌+◌, ◌≤◌, Bool, true, false, cond, ◌==◌, List, [], ◌∷◌, Option, None, Some, length, arith}
+use Rattle.nntp_article.specs.Machine.{Visible, visible_after, start}
+use Rattle.nntp_facts.specs.Asks.{Position, Nowhere, position_after, Lacks, StandsNowhere, IsTop, IsBottom}
+use Rattle.nntp_facts.specs.Facts.{Fact, There_is_no, No_article, Asks, Id_at, facts_of, facts_of_code, facts_from, on, here}
+use Rattle.nntp_facts.specs.Given.{size, size_in, lines_in, weight, facts_of_session}
+use Rattle.nntp_facts.proofs.FirstBad.{size-append}
+use Rattle.nntp_wire.specs.Answer.{Asked, Response, to, group_is, numbers_are, sends, active_are, plain}
+use Rattle.nntp_wire.specs.Command.{Request, by_id, by_number, current, group, list_group, next, last, retrieve, list_active}
+use Rattle.std.specs.List.{filter_map, cons_option}
+use Rattle.nntp_wire.specs.Listing.{listed_number_of}
+use Rattle.nntp_article.specs.Listed.{listed_numbers, active_of, active_groups}
+
+-- at most one fact of size 1
+one : (b : Bool) (fact : Fact) → size_in fact ≤ 1 → size (cond b (fact ∷ []) []) ≤ 1
+one true fact h = omega arith
+one false fact h = omega arith
+
+-- the same, where the test fails
+unless : (b : Bool) (fact : Fact) → size_in fact ≤ 1 → size (cond b [] (fact ∷ [])) ≤ 1
+unless true fact h = omega arith
+unless false fact h = omega arith
+
+-- a code alone says two facts at most
+code_size : (v : Visible) (at : Position) (command : Request) (code : ℕ) → size (facts_of_code v at command code) ≤ 2
+code_size v at (group word) code = let a = one (code == 411) (There_is_no word) (omega arith) in omega arith
+code_size v at (list_group (Some word) range) code = let a = one (code == 411) (There_is_no word) (omega arith) in omega arith
+code_size v at next code =
+    let a = one (code == 420) (Asks (here v) (StandsNowhere at)) (omega arith) in
+    let b = one (code == 421) (Asks (here v) (IsTop at)) (omega arith) in
+    let both = size-append (on code 420 (Asks (here v) (StandsNowhere at))) (on code 421 (Asks (here v) (IsTop at))) in
+    omega arith
+code_size v at last code =
+    let a = one (code == 420) (Asks (here v) (StandsNowhere at)) (omega arith) in
+    let b = one (code == 422) (Asks (here v) (IsBottom at)) (omega arith) in
+    let both = size-append (on code 420 (Asks (here v) (StandsNowhere at))) (on code 422 (Asks (here v) (IsBottom at))) in
+    omega arith
+code_size v at (retrieve what (by_id word)) code = let a = one (code == 430) (No_article word) (omega arith) in omega arith
+code_size v at (retrieve what (by_number (Some n))) code = let a = one (code == 423) (Asks (here v) (Lacks n)) (omega arith) in omega arith
+code_size v at (retrieve what current) code = let a = one (code == 420) (Asks (here v) (StandsNowhere at)) (omega arith) in omega arith
+code_size v at command code = omega arith
+
+-- as many as there are lines at most
+kept_few : {X Y : Type 0} (f : X → Option Y) (xs : List X) → length (filter_map f xs) ≤ length xs
+kept_few f [] = omega arith
+kept_few f (x ∷ xs) = let rest = kept_few f xs in elim (f x) as (λ o. length (cons_option o (filter_map f xs)) ≤ length (x ∷ xs)) [ None ↦ omega arith | Some y ↦ omega arith ]
+
+listed_few : (lines : List (List ℕ)) → length (listed_numbers lines) ≤ length lines
+listed_few lines = kept_few listed_number_of lines
+
+active_few : (lines : List (List ℕ)) → length (active_groups lines) ≤ length lines
+active_few lines = kept_few active_of lines
+
+-- an answer says three, and one for each line
+answer_size : (v : Visible) (at : Position) (p : Asked) (a : Response) → size (facts_of v at p a) ≤ lines_in a + 3
+answer_size v at (to command) (plain code) = let c = code_size v at command code in omega arith
+answer_size v at (to (group word)) (group_is m name) = omega arith
+answer_size v at (to (list_group word range)) (numbers_are m name lines) = let few = listed_few lines in omega arith
+answer_size v at (to next) (sends sent) = omega arith
+answer_size v at (to last) (sends sent) = omega arith
+answer_size v at (to (retrieve what (by_id word))) (sends sent) = let u = unless (sent.number == 0) (Id_at (here v) sent.number sent.id) (omega arith) in omega arith
+answer_size v at (to (retrieve what (by_number n))) (sends sent) = omega arith
+answer_size v at (to (retrieve what current)) (sends sent) = omega arith
+answer_size v at (to (list_active p)) (active_are lines) = let few = active_few lines in omega arith
+answer_size v at p a = omega arith
+
+-- and so a session, from any state on
+from_size : (v : Visible) (at : Position) (ps : List Asked) (answers : List Response) → size (facts_from v at ps answers) ≤ weight answers
+from_size v at [] answers = omega arith
+from_size v at (p ∷ ps) [] = omega arith
+from_size v at (p ∷ ps) (a ∷ more) =
+    let rest = from_size (visible_after v p a) (position_after at p a) ps more in
+    let here = answer_size v at p a in
+    let both = size-append (facts_of v at p a) (facts_from (visible_after v p a) (position_after at p a) ps more) in
+    omega arith
+
+-- what a session says is bounded by its answers
+pub session_size : (ps : List Asked) (answers : List Response) → size (facts_of_session ps answers) ≤ weight answers
+session_size ps answers = from_size start.visible Nowhere ps answers

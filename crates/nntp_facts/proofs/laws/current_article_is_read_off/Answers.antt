@@ -1,0 +1,7 @@
+use Rattle.nntp_article.specs.Machine.{start}
+use Rattle.nntp_facts.specs.Asks.{Nowhere}
+use Rattle.nntp_facts.proofs.ReadOff.{read_off, run_from}
+use Rattle.nntp_facts.proofs.laws.current_article_is_read_off.Goals as goal
+
+pub returns : goal.returns
+returns c = λ profile S ps answers. (read_off profile S start.visible Nowhere ps answers, run_from profile S start.visible Nowhere ps answers)

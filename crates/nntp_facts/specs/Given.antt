@@ -1,0 +1,208 @@
+-- The spool that is given for what a session says.
+use Rattle.std.specs.Prelude.{◌≡◌, ℕ, ◌+◌, ◌<◌, ◌≤◌, Bool, true, false, not, ◌&&◌, ◌||◌, ◌==◌, nat_lt, if◌then◌else◌, IsTrue, IsFalse, IsSome, ◌↔◌, ◌⊎◌, List, [], ◌∷◌, ◌++◌, length, Option, None, Some, is_some, ⊤, unwrap_or, codes, decimal}
+use Rattle.std.specs.List.{list_any, flat_map}
+use Rattle.std.specs.Option.{option_or}
+use Rattle.std.specs.FinMap.{get, entries, len}
+use Rattle.nntp_article.specs.Article.{head_part, body_part, Id, Line}
+use Rattle.nntp_article.specs.Spool.{Spool, Text, Numbers, IsNumber, IsGroup, numbers, Name}
+use Rattle.nntp_article.specs.Machine.{is_in_range, is_same, start}
+use Rattle.nntp_facts.specs.Asks.{Nowhere, Ask, First, Known, Estimates, Bounds, Lists_in, Has, Lacks, StandsAt, StandsNowhere, StepsUp, StepsDown, IsTop, IsBottom}
+use Rattle.nntp_facts.specs.Facts.{Fact, There_is, Asks, Id_at, Text_is, No_article, Groups_are, facts_from}
+use Rattle.nntp_wire.specs.Answer.{Asked, Response, numbers_are, active_are}
+use Rattle.nntp_wire.specs.declared.command.What.TheVariants.{Article, Head, Body}
+
+-- the answer shows the number
+abbrev pub shows : Ask → ℕ → Bool
+shows (Lists_in r ns) n = list_any (λ m. n == m) ns
+shows (Has m) n = m == n
+shows (StandsAt First m) n = m == n
+shows (StepsUp at m) n = m == n
+shows (StepsDown at m) n = m == n
+shows ask n = false
+
+abbrev pub is_between : ℕ → ℕ → ℕ → Bool
+is_between a b n = nat_lt a n && nat_lt n b
+
+-- the answer says that the number isn't there
+abbrev pub denies : Ask → ℕ → Bool
+denies (Estimates m) n = nat_lt n m.low || nat_lt m.high n
+denies (Bounds low high) n = nat_lt n low || nat_lt high n
+denies (Lists_in r ns) n = is_in_range r n && not (list_any (λ m. n == m) ns)
+denies (Lacks m) n = m == n
+denies (StandsAt First m) n = nat_lt n m
+denies (StandsNowhere First) n = true
+denies (StepsUp (Known c) m) n = is_between c m n
+denies (StepsDown (Known c) m) n = is_between m c n
+denies (IsTop (Known c)) n = nat_lt c n
+denies (IsBottom (Known c)) n = nat_lt n c
+denies ask n = false
+
+abbrev pub is_shown : List Ask → ℕ → Bool
+is_shown asks n = list_any (λ ask. shows ask n) asks
+
+abbrev pub is_denied : List Ask → ℕ → Bool
+is_denied asks n = list_any (λ ask. denies ask n) asks
+
+-- NEXT led from the first number, which wasn't seen, to m
+abbrev pub steps_from_first_to : Ask → ℕ → Bool
+steps_from_first_to (StepsUp First m) n = m == n
+steps_from_first_to ask n = false
+
+-- the first number was told to have none above it, or none below it
+abbrev pub tells_of_first : Ask → Bool
+tells_of_first (IsTop First) = true
+tells_of_first (IsBottom First) = true
+tells_of_first ask = false
+
+-- one more number is needed, and n may be it
+abbrev pub NeedsOneBelow : List Ask → ℕ → Type 0
+NeedsOneBelow asks m = IsTrue (list_any (λ ask. steps_from_first_to ask m) asks) × ((n : ℕ) → IsTrue (is_shown asks n) → m ≤ n)
+
+abbrev pub NeedsOne : List Ask → Type 0
+NeedsOne asks = IsTrue (list_any tells_of_first asks) × ((n : ℕ) → IsFalse (is_shown asks n))
+
+-- n is the one more number: the least from 1 on that isn't denied
+pub record IsOneMore (asks : List Ask) (n : ℕ) : Type 0 where
+  pub needed : ((m : ℕ) × NeedsOneBelow asks m) ⊎ NeedsOne asks
+  pub positive : 1 ≤ n
+  pub not_denied : IsFalse (is_denied asks n)
+  pub is_least : (m : ℕ) → 1 ≤ m → m < n → IsTrue (is_denied asks m)
+
+-- N has the numbers that are given
+abbrev pub HasGivenNumbers : List Ask → Numbers → Type 0
+HasGivenNumbers asks N = (n : ℕ) → IsNumber N n ↔ (IsTrue (is_shown asks n) ⊎ IsOneMore asks n)
+
+-- ---- the whole spool
+
+-- what is asked of the numbers of one group
+abbrev pub asks_in : Name → Fact → List Ask
+asks_in name (Asks g ask) = if is_same g name then ask ∷ [] else []
+asks_in name (Id_at g n id) = if is_same g name then Has n ∷ [] else []
+asks_in name (Groups_are p lines) = flat_map (λ line. if is_same line.name name then Bounds line.low line.high ∷ [] else []) lines
+asks_in name fact = []
+
+abbrev pub asks_of : Name → List Fact → List Ask
+asks_of name facts = flat_map (asks_in name) facts
+
+-- the group is shown
+abbrev pub shows_group : Name → Fact → Bool
+shows_group name (There_is g) = is_same g name
+shows_group name (Groups_are p lines) = list_any (λ line. is_same line.name name) lines
+shows_group name fact = false
+
+abbrev pub is_shown_group : List Fact → Name → Bool
+is_shown_group facts name = list_any (shows_group name) facts
+
+-- what the first of the facts that gives something gives
+abbrev pub first_given : {A : Type 0} → (Fact → Option A) → List Fact → Option A
+first_given f [] = None
+first_given f (fact ∷ facts) = option_or (f fact) (first_given f facts)
+
+-- the id that is shown for a number of a group
+abbrev pub id_in : Name → ℕ → Fact → Option Id
+id_in name n (Id_at g m id) = if is_same g name && m == n then Some id else None
+id_in name n fact = None
+
+abbrev pub id_shown : List Fact → Name → ℕ → Option Id
+id_shown facts name n = first_given (id_in name n) facts
+
+-- the id is named by a success or a step, or denied
+abbrev pub mentions : Id → Fact → Bool
+mentions id (Id_at name n other) = is_same other id
+mentions id (Text_is what other lines) = is_same other id
+mentions id (No_article other) = is_same other id
+mentions id fact = false
+
+abbrev pub is_mentioned : List Fact → Id → Bool
+is_mentioned facts id = list_any (mentions id) facts
+
+-- the id is named by a success
+abbrev pub gives_article : Id → Fact → Bool
+gives_article id (Text_is what other lines) = is_same other id
+gives_article id fact = false
+
+abbrev pub is_sent : List Fact → Id → Bool
+is_sent facts id = list_any (gives_article id) facts
+
+-- the head that is sent for the id
+abbrev pub head_in : Id → Fact → Option (List Line)
+head_in id (Text_is Article other (Some lines)) = if is_same other id then Some (head_part lines) else None
+head_in id (Text_is Head other (Some lines)) = if is_same other id then Some lines else None
+head_in id fact = None
+
+-- the body that is sent for the id
+abbrev pub body_in : Id → Fact → Option (List Line)
+body_in id (Text_is Article other (Some lines)) = if is_same other id then Some (body_part lines) else None
+body_in id (Text_is Body other (Some lines)) = if is_same other id then Some lines else None
+body_in id fact = None
+
+-- a head that says the id and nothing else
+abbrev pub plain_head : Id → List Line
+plain_head id = (codes "Message-ID: " ++ id) ∷ []
+
+abbrev pub invented : ℕ → Id
+invented k = codes "<w" ++ decimal k ++ codes "@invented.invalid>"
+
+-- the ids are invented in turn, from k on, and pass over those that are mentioned
+abbrev pub AreInvented : List Fact → ℕ → List Id → Type 0
+AreInvented facts k [] = ⊤
+AreInvented facts k (id ∷ ids) =
+    (j : ℕ) × (k ≤ j) × (id ≡ invented j) × IsFalse (is_mentioned facts (invented j))
+    × ((i : ℕ) → k ≤ i → i < j → IsTrue (is_mentioned facts (invented i))) × AreInvented facts (j + 1) ids
+
+-- the ids of a group at numbers for which none is shown
+abbrev pub unshown_in : List Fact → Name → List (ℕ × Id) → List Id
+unshown_in facts name [] = []
+unshown_in facts name (e ∷ es) = (if is_some (id_shown facts name e.0) then [] else e.1 ∷ []) ++ unshown_in facts name es
+
+-- those of a spool, groups in byte order and numbers ascending
+abbrev pub unshown_ids : List Fact → Spool → List Id
+unshown_ids facts G = flat_map (λ g. unshown_in facts g.0 (entries g.1)) (entries G.groups)
+
+-- the id stands at a number of a group
+abbrev pub IsUsed : Spool → Id → Type 0
+IsUsed G id = (name : Name) × (n : ℕ) × (get (numbers G name) n ≡ Some id)
+
+-- the spool that is given for what a session says
+pub record IsGiven (facts : List Fact) (G : Spool) : Type 0 where
+  pub groups : (name : Name) → IsGroup G name ↔ IsTrue (is_shown_group facts name)
+  pub numbers_given : (name : Name) → IsGroup G name → HasGivenNumbers (asks_of name facts) (numbers G name)
+  pub ids_shown : (name : Name) (n : ℕ) (id : Id) → IsNumber (numbers G name) n → id_shown facts name n ≡ Some id → get (numbers G name) n ≡ Some id
+  pub ids_invented : AreInvented facts 0 (unshown_ids facts G)
+  pub articles : (id : Id) → IsSome (get G.articles id) ↔ (IsUsed G id ⊎ IsTrue (is_sent facts id))
+  pub heads : (id : Id) (t : Text) → get G.articles id ≡ Some t → t.head ≡ unwrap_or (first_given (head_in id) facts) (plain_head id)
+  pub bodies : (id : Id) (t : Text) → get G.articles id ≡ Some t → t.body ≡ unwrap_or (first_given (body_in id) facts) []
+
+-- S has what is shown, and no fewer numbers in a group than G
+pub record HasAtLeast (facts : List Fact) (G S : Spool) : Type 0 where
+  pub groups : (name : Name) → IsGroup G name → IsGroup S name
+  pub numbers_shown : (name : Name) (n : ℕ) → IsTrue (is_shown (asks_of name facts) n) → IsNumber (numbers S name) n
+  pub ids_shown : (name : Name) (n : ℕ) (id : Id) → id_shown facts name n ≡ Some id → get (numbers S name) n ≡ Some id
+  pub heads_sent : (id : Id) (lines : List Line) → first_given (head_in id) facts ≡ Some lines → (t : Text) × (get S.articles id ≡ Some t) × (t.head ≡ lines)
+  pub bodies_sent : (id : Id) (lines : List Line) → first_given (body_in id) facts ≡ Some lines → (t : Text) × (get S.articles id ≡ Some t) × (t.body ≡ lines)
+  pub counts : (name : Name) → IsGroup G name → len (numbers G name) ≤ len (numbers S name)
+
+-- how many names, numbers and ids a fact has, and at least 1
+abbrev pub size_in : Fact → ℕ
+size_in (Asks name (Lists_in r ns)) = length ns + 1
+size_in (Groups_are p lines) = length lines + 1
+size_in fact = 1
+
+abbrev pub size : List Fact → ℕ
+size [] = 0
+size (fact ∷ facts) = size_in fact + size facts
+
+-- what a session says
+abbrev pub facts_of_session : List Asked → List Response → List Fact
+facts_of_session prompts answers = facts_from start.visible Nowhere prompts answers
+
+-- how many lines with a name or a number an answer has
+abbrev pub lines_in : Response → ℕ
+lines_in (numbers_are m name lines) = length lines
+lines_in (active_are lines) = length lines
+lines_in a = 0
+
+-- a bound on what answers say: three for each, and one for each of its lines
+abbrev pub weight : List Response → ℕ
+weight [] = 0
+weight (a ∷ more) = lines_in a + 3 + weight more

@@ -1,0 +1,21 @@
+-- Whether some spool permits a session, and the first answer from which on none does.
+use Rattle.std.specs.Prelude.{◌≡◌, ℕ, ◌+◌, ◌<◌, ◌≤◌, ◌⊎◌, List, ◌++◌, length, take}
+use Rattle.nntp_article.specs.Spool.{Spool, IsSpool, Profile}
+use Rattle.nntp_article.specs.Machine.{Run, start}
+use Rattle.nntp_facts.specs.Given.{lines_in}
+use Rattle.nntp_wire.specs.Answer.{Asked, Response, Spells}
+
+-- some spool permits the session
+abbrev pub SomePermits : Profile → List Asked → List Response → Type 0
+SomePermits profile prompts answers = (S : Spool) × IsSpool profile S × Run profile S start prompts answers
+
+-- some spool permits the answers before k, and none those up to k
+abbrev pub IsBadAnswer : Profile → List Asked → List Response → ℕ → Type 0
+IsBadAnswer profile prompts answers k = (k < length answers) × SomePermits profile prompts (take k answers) × (SomePermits profile prompts (take (k + 1) answers) → ⊥)
+
+-- what is used of spellings: at most one answer is spelled in front, whether one is can be decided, and a spelling has three octets and one for each line
+pub record AreSpellings : Type 0 where
+  pub one : (p : Asked) (a c : Response) (b d rest more : List ℕ) → Spells p a b → Spells p c d → b ++ rest ≡ d ++ more → (a ≡ c) × (b ≡ d)
+  pub decided : (p : Asked) (octets : List ℕ)
+      → ((a : Response) × (b : List ℕ) × (rest : List ℕ) × Spells p a b × (octets ≡ b ++ rest)) ⊎ ((a : Response) (b rest : List ℕ) → Spells p a b → octets ≡ b ++ rest → ⊥)
+  pub long : (p : Asked) (a : Response) (b : List ℕ) → Spells p a b → lines_in a + 3 ≤ length b

@@ -1,0 +1,91 @@
+//! Laws of the definitions alone.
+ghost use Rattle.std.specs.Prelude.{◌≡◌, ℕ, ◌↔◌, ◌≤◌, ◌<◌, ◌^◌, ◌⊎◌, length, List};
+ghost use Rattle.std.specs.List.{AllByRecursion};
+ghost use Rattle.nntp_article.specs.Spool.{Spool, Numbers, IsSpool, Name, Profile};
+ghost use Rattle.nntp_article.specs.Machine.{Run, start};
+ghost use Rattle.nntp_facts.specs.Asks.{RunsAt, Nowhere, Meets};
+ghost use Rattle.nntp_facts.specs.Facts.{FitsAll, Holds, Fact, facts_from};
+ghost use Rattle.nntp_facts.specs.Given.{asks_of, HasGivenNumbers, IsGiven, facts_of_session, size, weight, HasAtLeast};
+ghost use Rattle.nntp_facts.specs.Permits.{SomePermits, IsBadAnswer, AreSpellings};
+ghost use Rattle.nntp_article.specs.Explains.{Explains, Bad};
+ghost use Rattle.nntp_wire.specs.Answer.{Asked, Response};
+
+/// A spool permits a session exactly if it permits each answer with the current article read off
+/// the session.
+pub fn current_article_is_read_off()
+    ensures { (profile : Profile) (S : Spool) (prompts : List Asked) (answers : List Response)
+        → Run profile S start prompts answers ↔ RunsAt profile S start.visible Nowhere prompts answers }
+{}
+
+/// A spool permits a session exactly if each answer fits and all that the answers say holds of it.
+pub fn permitted_by_facts()
+    ensures { (profile : Profile) (S : Spool) (prompts : List Asked) (answers : List Response)
+        → RunsAt profile S start.visible Nowhere prompts answers
+        ↔ (FitsAll profile start.visible prompts answers × AllByRecursion (Holds S) (facts_from start.visible Nowhere prompts answers)) }
+{}
+
+/// The given numbers of a group meet what is asked of them, if a spool's numbers do.
+pub fn given_numbers_meet_what_is_asked()
+    ensures { (profile : Profile) (S : Spool) (facts : List Fact) (name : Name) (G : Numbers)
+        → IsSpool profile S → AllByRecursion (Holds S) facts → HasGivenNumbers (asks_of name facts) G
+        → AllByRecursion (Meets G) (asks_of name facts) }
+{}
+
+/// There is one given spool at most.
+pub fn given_spool_is_one()
+    ensures { (facts : List Fact) (G H : Spool) → IsGiven facts G → IsGiven facts H → G ≡ H }
+{}
+
+/// What a session says is bounded by its answers and their lines.
+pub fn size_is_bounded()
+    ensures { (prompts : List Asked) (answers : List Response) → size (facts_of_session prompts answers) ≤ weight answers }
+{}
+
+/// If a spool permits a session, then so does the given spool.
+pub fn given_spool_permits()
+    ensures { (profile : Profile) (S G : Spool) (prompts : List Asked) (answers : List Response)
+        → IsSpool profile S → Run profile S start prompts answers → size (facts_of_session prompts answers) < 2 ^ 100
+        → IsGiven (facts_of_session prompts answers) G → IsSpool profile G × Run profile G start prompts answers }
+{}
+
+/// No spool that permits a session lacks what the session shows, or has fewer numbers in a group
+/// than the given one.
+pub fn given_spool_is_least()
+    ensures { (profile : Profile) (S G : Spool) (prompts : List Asked) (answers : List Response)
+        → IsSpool profile S → Run profile S start prompts answers → size (facts_of_session prompts answers) < 2 ^ 100
+        → IsGiven (facts_of_session prompts answers) G → HasAtLeast (facts_of_session prompts answers) G S }
+{}
+
+/// If a spool permits a session, then a spool is given for it.
+pub fn given_spool_exists()
+    ensures { (profile : Profile) (S : Spool) (prompts : List Asked) (answers : List Response)
+        → IsSpool profile S → Run profile S start prompts answers → size (facts_of_session prompts answers) < 2 ^ 100
+        → (G : Spool) × IsGiven (facts_of_session prompts answers) G }
+{}
+
+/// Some spool permits a session, or none does.
+pub fn some_spool_permits_or_none()
+    ensures { (profile : Profile) (prompts : List Asked) (answers : List Response) → size (facts_of_session prompts answers) < 2 ^ 100
+        → SomePermits profile prompts answers ⊎ (SomePermits profile prompts answers → ⊥) }
+{}
+
+/// Some spool permits a session, or exactly one answer is bad, and never both.
+pub fn one_answer_is_bad()
+    ensures permitted_or_bad { (profile : Profile) (prompts : List Asked) (answers : List Response) → size (facts_of_session prompts answers) < 2 ^ 100
+        → SomePermits profile prompts answers ⊎ ((k : ℕ) × IsBadAnswer profile prompts answers k) }
+    ensures never_both { (profile : Profile) (prompts : List Asked) (answers : List Response) (k : ℕ)
+        → SomePermits profile prompts answers → IsBadAnswer profile prompts answers k → ⊥ }
+    ensures one_bad { (profile : Profile) (prompts : List Asked) (answers : List Response) (k j : ℕ)
+        → IsBadAnswer profile prompts answers k → IsBadAnswer profile prompts answers j → k ≡ j }
+{}
+
+/// Some spool explains two streams, or exactly one answer is bad, and never both, where spellings
+/// are as the wire's laws say.
+pub fn streams_are_explained_or_bad()
+    ensures explained_or_bad { AreSpellings → (profile : Profile) (client server : List ℕ) → length server < 2 ^ 100
+        → ((S : Spool) × (n : ℕ) × Explains profile S client server n) ⊎ ((k : ℕ) × Bad profile client server k) }
+    ensures never_both { AreSpellings → (profile : Profile) (S : Spool) (client server : List ℕ) (n k : ℕ)
+        → Explains profile S client server n → Bad profile client server k → ⊥ }
+    ensures one_bad { AreSpellings → (profile : Profile) (client server : List ℕ) (k j : ℕ)
+        → Bad profile client server k → Bad profile client server j → k ≡ j }
+{}
