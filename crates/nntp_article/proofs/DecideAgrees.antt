@@ -13,14 +13,14 @@ use Rattle.std.specs.declared.cmp.Ordering.{Ordering}
 use Rattle.std.specs.Cmp.Lexicographic.{nat_list_cmp_total}
 use Rattle.nntp_article.specs.Spool.{Spool, Numbers, IsNumber, numbers, IsNextAbove, IsNextBelow, NoneAbove, NoneBelow, Lists, IsInRange, text_of, Profile}
 use Rattle.nntp_article.specs.Machine.{State, selected_numbers, Bound, CodeAgrees, NumberAgrees, Agrees, ActivesAgree, MayAnswer, Run, fits, after}
-use Rattle.nntp_article.proofs.Decide.{Dec, dec_true, dec_le, dec_both, dec_three, dec_if, dec_by, dec_none, dec_some_text, each_key, dec_some, dec_option, dec_lists, dec_unless, dec_to, passes, fails}
+use Rattle.nntp_article.proofs.Decide.{Dec, dec_true, dec_le, dec_both, dec_three, dec_if, dec_by, dec_none, dec_some_text, each_key, dec_some, dec_option, dec_lists, dec_unless, dec_to, passes, fails, dec_all}
 use Rattle.nntp_wire.specs.Answer.{WaterMarks, Success, Asked, Response, to, group_is, numbers_are, sends, active_are, plain}
 use Rattle.nntp_wire.specs.declared.range.Range.{Range}
 use Rattle.nntp_wire.specs.Listing.{ActiveValue}
 use Rattle.nntp_wire.specs.Wildmat.{MatchesName}
-use Rattle.nntp_article.specs.Decided.{matches_name}
+use Rattle.nntp_wire.specs.Decided.{matches_name}
 use Rattle.nntp_article.specs.Listed.{listed_numbers, active_groups}
-use Rattle.nntp_article.proofs.DecidedLemmas.{matches_name-iff}
+use Rattle.nntp_wire.proofs.DecidedLemmas.{matches_name-iff}
 use Rattle.nntp_wire.specs.Command.{Target, Request, by_id, by_number, current, group, list_group, next, last, retrieve, list_active}
 
 each_number : (N : Numbers) (p : ℕ → Bool) → Dec ((n : ℕ) → IsNumber N n → IsTrue (p n))
@@ -119,10 +119,6 @@ dec_same_keys o same exact m P d ks =
 
 dec_listing : (N : Numbers) (r : Range) (ns : List ℕ) → Dec (Lists N r ns)
 dec_listing N r ns = dec_same_keys nat_cmp_total nat_cmp-IsAntisymmetric exact_unsigned N (IsInRange r) (dec_in_range r) ns
-
-dec_all : {A : Type 0} (P : A → Type 0) → ((x : A) → Dec (P x)) → (xs : List A) → Dec (AllByRecursion P xs)
-dec_all P d [] = inl tt
-dec_all P d (x ∷ xs) = dec_both (d x) (dec_all P d xs)
 
 dec_marked : (S : Spool) (line : ActiveValue) → Dec ((n : ℕ) → IsNumber (numbers S line.name) n → (line.low ≤ n) × (n ≤ line.high))
 dec_marked S line =

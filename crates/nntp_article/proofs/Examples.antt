@@ -9,7 +9,7 @@ use Rattle.nntp_wire.specs.Command.{by_id, by_number, current, quit, opaque, ill
 use Rattle.nntp_wire.specs.Answer.{Asked, greeting, to, Response, group_is, numbers_are, sends, active_are, plain}
 use Rattle.nntp_wire.specs.declared.command.What.TheVariants.{Article, Head, Body, Stat}
 use Rattle.nntp_article.specs.Article.{Line}
-use Rattle.nntp_article.specs.Decided.{matches_name}
+use Rattle.nntp_wire.specs.Decided.{matches_name}
 use Rattle.nntp_article.specs.Spool.{Profile}
 use Rattle.nntp_article.specs.Machine.{Visible, start, fits, visible_after}
 

@@ -3,7 +3,7 @@ use Rattle.std.specs.Prelude.{ℕ, Bool, true, false, not, ◌&&◌, ◌||◌, �
 use Rattle.std.specs.Char.{to_ascii_lowercase}
 use Rattle.std.specs.Cmp.Lexicographic.{pointwise}
 use Rattle.std.specs.List.{list_any, list_all, before_first, after_first}
-use Rattle.nntp_article.specs.Decided.{is_message_id}
+use Rattle.nntp_wire.specs.Decided.{is_message_id}
 
 -- a line without its CRLF
 abbrev pub Line : Type 0

@@ -1,4 +1,3 @@
-pub mod Decided
 pub mod Article
 pub mod Listed
 pub mod Spool

@@ -13,7 +13,7 @@ use Rattle.nntp_wire.specs.Wildmat.{MatchesName}
 use Rattle.nntp_wire.specs.declared.range.Range.{Range}
 use Rattle.nntp_wire.specs.declared.command.What.{What}
 use Rattle.nntp_wire.specs.declared.command.What.TheVariants.{Article, Head, Body, Stat}
-use Rattle.nntp_article.specs.Decided.{matches_name}
+use Rattle.nntp_wire.specs.Decided.{matches_name}
 use Rattle.nntp_article.specs.Listed.{listed_numbers, active_groups}
 use Rattle.nntp_article.specs.Article.{Line, Id, is_empty, is_head, said_id, head_part}
 use Rattle.nntp_article.specs.Spool.{Profile, Name, Spool, Numbers, IsGroup, IsNumber, numbers, least, IsNextAbove, IsNextBelow, NoneAbove, NoneBelow, Lists, HasText}

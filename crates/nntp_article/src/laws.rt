@@ -3,12 +3,8 @@ ghost use Rattle.std.specs.Prelude.{◌≡◌, ℕ, IsTrue, Option, None, Some, 
 ghost use Rattle.std.specs.FinMap.{get};
 ghost use Rattle.nntp_article.specs.Spool.{Spool, Numbers, IsNumber, least, IsFirst, Profile};
 ghost use Rattle.nntp_article.specs.Machine.{Visible, State, fits, visible_after, Permits, Run};
-ghost use Rattle.std.specs.Prelude.{◌↔◌};
 ghost use Rattle.nntp_wire.specs.Answer.{Asked, Response};
 ghost use Rattle.nntp_wire.specs.Listing.{ActiveValue, ListsGroup};
-ghost use Rattle.nntp_wire.specs.Name.{IsMessageId, IsGroupName};
-ghost use Rattle.nntp_wire.specs.Wildmat.{MatchesName};
-ghost use Rattle.nntp_article.specs.Decided.{is_message_id, is_group_name, matches_name};
 ghost use Rattle.nntp_article.specs.Listed.{active_of};
 
 /// An answer that some spool permits meets the visible condition, and the visible state after it is
@@ -36,21 +32,6 @@ pub fn first_is_least()
 pub fn permitting_is_decided()
     ensures { (profile : Profile) (S : Spool) (s : State) (prompts : List Asked) (answers : List Response)
         → Run profile S s prompts answers ⊎ (Run profile S s prompts answers → ⊥) }
-{}
-
-/// The test for message ids is the relation.
-pub fn message_ids_are_decided()
-    ensures { (id : List ℕ) → IsTrue (is_message_id id) ↔ IsMessageId id }
-{}
-
-/// The test for group names is the relation.
-pub fn group_names_are_decided()
-    ensures { (name : List ℕ) → IsTrue (is_group_name name) ↔ IsGroupName name }
-{}
-
-/// The test for a wildmat that matches a name is the relation.
-pub fn matching_is_decided()
-    ensures { (wildmat name : List ℕ) → IsTrue (matches_name wildmat name) ↔ MatchesName wildmat name }
 {}
 
 /// A line of LIST ACTIVE is read as the group that it lists.

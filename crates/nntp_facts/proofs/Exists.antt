@@ -30,7 +30,7 @@ pub made_for : Profile → List Asked → List Response → Spool
 made_for profile ps answers = made profile.limit (10 ^ 64) (facts_of_session ps answers)
 
 -- it is the given one, if some spool permits the session
-pub given_exists : (profile : Profile) (S : Spool) (ps : List Asked) (answers : List Response) → IsSpool profile S → Run profile S start ps answers → size (facts_of_session ps answers) < 2 ^ 100 → IsGiven (facts_of_session ps answers) (made_for profile ps answers)
+pub given_exists : (profile : Profile) (S : Spool) (ps : List Asked) (answers : List Response) → IsSpool profile S → Run profile S start ps answers → size (facts_of_session ps answers) < 2 ^ 210 → IsGiven (facts_of_session ps answers) (made_for profile ps answers)
 unfolding made_for
 given_exists profile S ps answers spool run small =
     let facts = facts_of_session ps answers in
@@ -40,7 +40,7 @@ given_exists profile S ps answers spool run small =
     (unshown_ids_few facts (made profile.limit (10 ^ 64) facts) (λ name. (made_group profile.limit (10 ^ 64) facts name).0) (λ name. made_given profile.limit (10 ^ 64) facts name (low name))))
 
 -- some spool permits a session, or none does
-pub some_or_none : (profile : Profile) (ps : List Asked) (answers : List Response) → size (facts_of_session ps answers) < 2 ^ 100
+pub some_or_none : (profile : Profile) (ps : List Asked) (answers : List Response) → size (facts_of_session ps answers) < 2 ^ 210
     → ((S : Spool) × IsSpool profile S × Run profile S start ps answers) ⊎ ((S : Spool) → IsSpool profile S → Run profile S start ps answers → ⊥)
 some_or_none profile ps answers small = by (dec_both (dec_spool profile (made_for profile ps answers)) (dec_run profile (made_for profile ps answers) start ps answers))
   where

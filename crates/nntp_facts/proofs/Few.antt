@@ -2,15 +2,13 @@
 use Rattle.std.proofs.Common.{◌≡◌, ℕ, ◌+◌, ◌*◌, ◌<◌, ◌≤◌, ◌^◌, Bool, true, false, cond, not, ◌==◌, IsTrue, List, [], ◌∷◌, ◌++◌, map, length, Some, is_some, IsSome, inl, inr, refl, sym, ap, subst, ◌∙◌, arith, length-append}
 use Rattle.std.specs.Prelude.{unwrap_or}
 use Rattle.std.proofs.Common.{T}
-use Rattle.std.specs.List.{list_any, flat_map, IsDistinct}
+use Rattle.std.specs.List.{list_any, flat_map, IsDistinct, AllByRecursion}
 use Rattle.std.specs.declared.cmp.Ordering.{Ordering}
 use Rattle.std.specs.Ordering.{nat_cmp, eq_by_cmp}
 use Rattle.std.specs.Cmp.{IsTotalOrder, nat_cmp_total, eq_by_cmp_equiv}
-use Rattle.std.specs.Cmp.Lexicographic.{same_text, nat_list_cmp_total, nat_list_eq_equiv}
+use Rattle.std.specs.Cmp.Lexicographic.{slice_cmp, same_text, nat_list_cmp_total, nat_list_eq_equiv}
 use Rattle.std.specs.FinMap.{FinMap, get, find, is_sorted, empty, get-entries, keys, entries, entries_sorted, contains_key-keys}
 use Rattle.std.proofs.lemmas.Bool.{cases_Bool, eqb-true, not-true, true≢false}
-use Rattle.std.proofs.Math.Nat.{suc-mul}
-use Rattle.std.proofs.lemmas.Nat.{mul-le}
 use Rattle.std.proofs.lemmas.Map.Views.{Contains-from_any, tells_apart}
 use Rattle.std.proofs.lemmas.Map.Lookups.{exact_unsigned}
 use Rattle.std.proofs.lemmas.List.{length-map}
@@ -26,6 +24,7 @@ use Rattle.nntp_facts.proofs.Firsts.{sorted_keys}
 use Rattle.nntp_facts.proofs.GivenNumbers.{one_more_once}
 use Rattle.nntp_article.specs.Article.{Id}
 use Rattle.nntp_wire.specs.Listing.{ActiveValue}
+use Rattle.nntp_facts.proofs.Fresh.{mentioned}
 
 -- a map whose keys stand in a list has no more keys than the list
 pub keys_among : {K X : Type 0} {R : K → K → Ordering} (o : IsTotalOrder R) (m : FinMap R X) (xs : List K) → ((q : K) → IsSome (get m q) → In q xs) → length (entries m) ≤ length xs
@@ -166,32 +165,78 @@ asked_few g (IsBottom at) true = omega arith
 asked_few g (Lists_in r ns) false = omega arith
 asked_few g ask false = omega arith
 
--- and so a fact
-one_few : (name : Name) (fact : Fact) → length (numbers_in name fact) ≤ size_in fact
-one_few name (Asks g ask) = asked_few g ask (is_same g name)
-one_few name (Id_at g n id) = asked_few g (Has n) (is_same g name)
-one_few name (Groups_are p lines) = let none = ap length (no_number name lines) in omega arith
-one_few name (There_is g) = omega arith
-one_few name (There_is_no g) = omega arith
-one_few name (Text_is what id lines) = omega arith
-one_few name (No_article id) = omega arith
+-- ---- over several groups
 
--- there are few numbers in a group
-numbers_few : (name : Name) (facts : List Fact) → length (shown_numbers name facts) ≤ size facts
+-- an ask shows numbers of one group: no other has the same name
+none_left : (g : Name) (ask : Ask) (name : Name) (names : List Name) → is_same g name ≡ true → AllByRecursion (λ other. eq_by_cmp (slice_cmp nat_cmp) name other ≡ false) names
+    → length (flat_map (λ n. flat_map shown_by (cond (is_same g n) (ask ∷ []) [])) names) ≡ 0
+none_left g ask name [] same apart = refl
+none_left g ask name (other ∷ names) same apart = by (is_same g other) refl (none_left g ask name names same apart.1)
+  where
+    by : (b : Bool) → is_same g other ≡ b → length (flat_map (λ n. flat_map shown_by (cond (is_same g n) (ask ∷ []) [])) names) ≡ 0
+        → length (flat_map shown_by (cond b (ask ∷ []) []) ++ flat_map (λ n. flat_map shown_by (cond (is_same g n) (ask ∷ []) [])) names) ≡ 0
+    by true e rest =
+        let one : name ≡ other = sym (same_text g name (sym same)) ∙ same_text g other (sym e) in
+        absurd (true≢false (sym (subst (λ n. eq_by_cmp (slice_cmp nat_cmp) name n ≡ true) one ((eq_by_cmp_equiv nat_list_cmp_total).refl name)) ∙ apart.0))
+    by false e rest = rest
+
+-- what an ask shows of several groups is no more than its size
+ask_few : (g : Name) (ask : Ask) (names : List Name) → IsDistinct (eq_by_cmp (slice_cmp nat_cmp)) names → length (flat_map (λ n. flat_map shown_by (cond (is_same g n) (ask ∷ []) [])) names) ≤ size_in (Asks g ask)
+unfolding IsDistinct
+ask_few g ask [] d = omega arith
+ask_few g ask (name ∷ names) d = by (is_same g name) refl d.0 (ask_few g ask names d.1)
+  where
+    by : (b : Bool) → is_same g name ≡ b → AllByRecursion (λ other. eq_by_cmp (slice_cmp nat_cmp) name other ≡ false) names
+        → length (flat_map (λ n. flat_map shown_by (cond (is_same g n) (ask ∷ []) [])) names) ≤ size_in (Asks g ask)
+        → length (flat_map shown_by (cond b (ask ∷ []) []) ++ flat_map (λ n. flat_map shown_by (cond (is_same g n) (ask ∷ []) [])) names) ≤ size_in (Asks g ask)
+    by true e apart rest =
+        let here = asked_few g ask true in
+        let left = none_left g ask name names e apart in
+        let parts = length-append (flat_map shown_by (ask ∷ [])) (flat_map (λ n. flat_map shown_by (cond (is_same g n) (ask ∷ []) [])) names) in
+        omega arith
+    by false e apart rest = rest
+
+-- where nothing is shown of any group
+nothing_few : (f : Name → List ℕ) (names : List Name) → ((name : Name) → f name ≡ []) → length (flat_map f names) ≡ 0
+nothing_few f [] none = refl
+nothing_few f (name ∷ names) none = ap (λ xs. length (xs ++ flat_map f names)) (none name) ∙ nothing_few f names none
+
+-- and so a fact
+one_few : (fact : Fact) (names : List Name) → IsDistinct (eq_by_cmp (slice_cmp nat_cmp)) names → length (flat_map (λ name. numbers_in name fact) names) ≤ size_in fact
+one_few (Asks g ask) names d = ask_few g ask names d
+one_few (Id_at g n id) names d = ask_few g (Has n) names d
+one_few (Groups_are p lines) names d = let none = nothing_few (λ name. numbers_in name (Groups_are p lines)) names (λ name. no_number name lines) in omega arith
+one_few (There_is g) names d = let none = nothing_few (λ name. []) names (λ name. refl) in omega arith
+one_few (There_is_no g) names d = let none = nothing_few (λ name. []) names (λ name. refl) in omega arith
+one_few (Text_is what id lines) names d = let none = nothing_few (λ name. []) names (λ name. refl) in omega arith
+one_few (No_article id) names d = let none = nothing_few (λ name. []) names (λ name. refl) in omega arith
+
+-- two parts for each group
+both_parts : (f h : Name → List ℕ) (names : List Name) → length (flat_map (λ name. f name ++ h name) names) ≡ length (flat_map f names) + length (flat_map h names)
+both_parts f h [] = refl
+both_parts f h (name ∷ names) =
+    omega (arith, both_parts f h names, length-append (f name ++ h name) (flat_map (λ name. f name ++ h name) names), length-append (f name) (h name), length-append (f name) (flat_map f names), length-append (h name) (flat_map h names))
+
+-- there are few numbers, over all groups
+numbers_few : (facts : List Fact) (names : List Name) → IsDistinct (eq_by_cmp (slice_cmp nat_cmp)) names → length (flat_map (λ name. shown_numbers name facts) names) ≤ size facts
 unfolding shown_numbers
-numbers_few name [] = omega arith
-numbers_few name (fact ∷ facts) =
-    let rest = numbers_few name facts in
-    let here = one_few name fact in
-    let parts = length-append (numbers_in name fact) (shown_numbers name facts) in
+numbers_few [] names d = let none = nothing_few (λ name. []) names (λ name. refl) in omega arith
+numbers_few (fact ∷ facts) names d =
+    let rest = numbers_few facts names d in
+    let here = one_few fact names d in
+    let parts = both_parts (λ name. numbers_in name fact) (λ name. shown_numbers name facts) names in
     omega arith
 
--- there are no more facts than their size
-pub facts_few : (facts : List Fact) → length facts ≤ size facts
-facts_few [] = omega arith
-facts_few (Asks name (Lists_in r ns) ∷ facts) = let rest = facts_few facts in omega arith
-facts_few (Groups_are p lines ∷ facts) = let rest = facts_few facts in omega arith
-facts_few (fact ∷ facts) = let rest = facts_few facts in omega arith
+-- no more ids are mentioned than the size
+mentioned_few : (facts : List Fact) → length (mentioned facts) ≤ size facts
+mentioned_few [] = omega arith
+mentioned_few (There_is name ∷ facts) = let rest = mentioned_few facts in omega arith
+mentioned_few (There_is_no name ∷ facts) = let rest = mentioned_few facts in omega arith
+mentioned_few (Asks name ask ∷ facts) = let rest = mentioned_few facts in omega arith
+mentioned_few (Id_at name n id ∷ facts) = let rest = mentioned_few facts in omega arith
+mentioned_few (Text_is what id lines ∷ facts) = let rest = mentioned_few facts in omega arith
+mentioned_few (No_article id ∷ facts) = let rest = mentioned_few facts in omega arith
+mentioned_few (Groups_are p lines ∷ facts) = let rest = mentioned_few facts in omega arith
 
 -- ---- the spool that is given
 
@@ -229,36 +274,38 @@ unshown_few facts name (e ∷ es) =
     let rest = unshown_few facts name es in
     elim (is_some (id_shown facts name e.0)) as (λ b. length (cond b [] (e.1 ∷ []) ++ unshown_in facts name es) ≤ length (e ∷ es)) [ true ↦ omega arith | false ↦ omega arith ]
 
--- parts that are each of at most b
-parts_few : {A B : Type 0} (f : A → List B) (b : ℕ) (xs : List A) → ((x : A) → In x xs → length (f x) ≤ b) → length (flat_map f xs) ≤ length xs * b
-parts_few f b [] h = omega arith
-parts_few f b (x ∷ xs) h =
-    let rest = parts_few f b xs (λ y i. h y (inr i)) in
-    let here = h x (inl refl) in
+-- parts that are each at most one longer than others
+parts_few : {A B C : Type 0} (f : A → List B) (h : A → List C) (xs : List A) → ((x : A) → In x xs → length (f x) ≤ 1 + length (h x)) → length (flat_map f xs) ≤ length xs + length (flat_map h xs)
+parts_few f h [] le = omega arith
+parts_few f h (x ∷ xs) le =
+    let rest = parts_few f h xs (λ y i. le y (inr i)) in
+    let here = le x (inl refl) in
     let parts = length-append (f x) (flat_map f xs) in
-    let product = suc-mul (length xs) b in
+    let others = length-append (h x) (flat_map h xs) in
     omega arith
+
+-- the numbers of the entries are those of their names
+by_names : (facts : List Fact) (es : List (Name × Numbers)) → flat_map (λ (g : Name × Numbers). shown_numbers g.0 facts) es ≡ flat_map (λ name. shown_numbers name facts) (map (λ (g : Name × Numbers). g.0) es)
+by_names facts [] = refl
+by_names facts (e ∷ es) = ap (λ ns. shown_numbers e.0 facts ++ ns) (by_names facts es)
 
 -- the ids for which none is shown are few
 pub unshown_ids_few : (facts : List Fact) (G : Spool) → ((name : Name) → IsGroup G name → IsTrue (is_shown_group facts name)) → ((name : Name) → IsGroup G name → HasGivenNumbers (asks_of name facts) (numbers G name))
-    → length (unshown_ids facts G) ≤ size facts * (1 + size facts)
+    → length (unshown_ids facts G) ≤ size facts + size facts
 unshown_ids_few facts G groups given =
-    let each : (g : Name × Numbers) → In g (entries G.groups) → length (unshown_in facts g.0 (entries g.1)) ≤ 1 + size facts = λ g i.
+    let each : (g : Name × Numbers) → In g (entries G.groups) → length (unshown_in facts g.0 (entries g.1)) ≤ 1 + length (shown_numbers g.0 facts) = λ g i.
     (let at : get G.groups g.0 ≡ Some g.1 = get-entries G.groups g.0 ∙ find_entry nat_list_cmp_total g.0 g.1 (entries G.groups) (entries_sorted G.groups) i in
     let is : HasGivenNumbers (asks_of g.0 facts) g.1 = subst (HasGivenNumbers (asks_of g.0 facts)) (ap (λ o. unwrap_or o empty) at) (given g.0 (ap is_some at)) in
     let a = unshown_few facts g.0 (entries g.1) in
     let b = given_few g.0 facts g.1 is in
-    let c = numbers_few g.0 facts in
     omega arith) in
-    let all = parts_few (λ (g : Name × Numbers). unshown_in facts g.0 (entries g.1)) (1 + size facts) (entries G.groups) each in
+    let all = parts_few (λ (g : Name × Numbers). unshown_in facts g.0 (entries g.1)) (λ (g : Name × Numbers). shown_numbers g.0 facts) (entries G.groups) each in
     let names = keys_among nat_list_cmp_total G.groups (names_of facts) (λ name i. shown_name facts name (groups name i)) in
     let few = names_few facts in
-    let product = mul-le (length (entries G.groups)) (1 + size facts) (size facts) (1 + size facts) (omega arith) (omega arith) in
+    let same = ap length (by_names facts (entries G.groups)) in
+    let total = numbers_few facts (keys G.groups) (IsDistinct-from_sorted (slice_cmp nat_cmp) (keys G.groups) (sorted_keys (slice_cmp nat_cmp) (entries G.groups) (entries_sorted G.groups))) in
     omega arith
 
 -- fewer ids than invented ids can number
-pub few_enough : (facts : List Fact) (n : ℕ) → size facts < 2 ^ 100 → n ≤ size facts * (1 + size facts) → length facts + n < 10 ^ 64
-few_enough facts n small le =
-    let count = facts_few facts in
-    let product = mul-le (size facts) (1 + size facts) (2 ^ 100) (2 ^ 100) (omega arith) (omega arith) in
-    omega arith
+pub few_enough : (facts : List Fact) (n : ℕ) → size facts < 2 ^ 210 → n ≤ size facts + size facts → length (mentioned facts) + n < 10 ^ 64
+few_enough facts n small le = let count = mentioned_few facts in omega arith

@@ -86,10 +86,10 @@ none_permitted profile ps answers = (no_spool, empty_is_spool profile, tt)
 -- ---- the first bad answer
 
 -- some spool permits the first m answers, or one of them is bad
-bad_before : (profile : Profile) (ps : List Asked) (answers : List Response) → size (facts_of_session ps answers) < 2 ^ 100 → (m : ℕ) → m ≤ length answers → SomePermits profile ps (take m answers) ⊎ ((k : ℕ) × IsBadAnswer profile ps answers k)
+bad_before : (profile : Profile) (ps : List Asked) (answers : List Response) → size (facts_of_session ps answers) < 2 ^ 210 → (m : ℕ) → m ≤ length answers → SomePermits profile ps (take m answers) ⊎ ((k : ℕ) × IsBadAnswer profile ps answers k)
 bad_before profile ps answers small zero le = inl (none_permitted profile ps answers)
 bad_before profile ps answers small (suc m) le =
-    let fits : size (facts_of_session ps (take (m + 1) answers)) < 2 ^ 100 = (let s = size_fewer start.visible Nowhere ps answers (m + 1) in omega arith) in
+    let fits : size (facts_of_session ps (take (m + 1) answers)) < 2 ^ 210 = (let s = size_fewer start.visible Nowhere ps answers (m + 1) in omega arith) in
     elim (bad_before profile ps answers small m (omega arith)) [
       | inr bad ↦ inr bad
       | inl good ↦ elim (some_or_none profile ps (take (m + 1) answers) fits) [
@@ -99,7 +99,7 @@ bad_before profile ps answers small (suc m) le =
     ]
 
 -- some spool permits the session, or an answer is bad
-pub permitted_or_bad : (profile : Profile) (ps : List Asked) (answers : List Response) → size (facts_of_session ps answers) < 2 ^ 100 → SomePermits profile ps answers ⊎ ((k : ℕ) × IsBadAnswer profile ps answers k)
+pub permitted_or_bad : (profile : Profile) (ps : List Asked) (answers : List Response) → size (facts_of_session ps answers) < 2 ^ 210 → SomePermits profile ps answers ⊎ ((k : ℕ) × IsBadAnswer profile ps answers k)
 permitted_or_bad profile ps answers small = subst (λ all. SomePermits profile ps all ⊎ ((k : ℕ) × IsBadAnswer profile ps answers k)) (take-length answers) (bad_before profile ps answers small (length answers) (omega arith))
 
 -- and never both

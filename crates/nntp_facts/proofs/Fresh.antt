@@ -14,12 +14,21 @@ use Rattle.nntp_facts.proofs.Members.{In, in_back}
 use Rattle.nntp_article.specs.Spool.{Name}
 use Rattle.nntp_article.specs.Article.{Id}
 
--- the number of the id that a fact mentions, if it is an invented one
-pub number_in : Fact → ℕ
-number_in (Id_at name n id) = number_of id
-number_in (Text_is what id lines) = number_of id
-number_in (No_article id) = number_of id
-number_in fact = 0
+-- the number of the id that a fact mentions, as if it were an invented one
+abbrev pub number_in : Fact → List ℕ
+number_in (Id_at name n id) = number_of id ∷ []
+number_in (Text_is what id lines) = number_of id ∷ []
+number_in (No_article id) = number_of id ∷ []
+number_in fact = []
+
+-- the numbers of the ids that are mentioned
+abbrev pub mentioned : List Fact → List ℕ
+mentioned facts = flat_map number_in facts
+
+-- what is found in the front is found
+any_front : (p : ℕ → Bool) (xs ys : List ℕ) → list_any p xs ≡ true → list_any p (xs ++ ys) ≡ true
+any_front p [] ys h = cc
+any_front p (x ∷ xs) ys h = elim (or_cases (p x) (list_any p xs) h) [ inl t ↦ or_left (p x) _ t | inr r ↦ or_right (p x) _ (any_front p xs ys r) ]
 
 -- what is found in the back is found
 pub any_back : (p : ℕ → Bool) (xs ys : List ℕ) → list_any p ys ≡ true → list_any p (xs ++ ys) ≡ true
@@ -37,30 +46,29 @@ module _ (B : ℕ) (small : (i : ℕ) → i < B → number_of (invented i) ≡ i
   same_number i id l e = eq-eqb i (number_of id) (sym (small i l) ∙ ap number_of (sym (same_text id (invented i) (sym e))))
 
   -- a fact that mentions an invented id has its number
-  counted_in : (i : ℕ) (fact : Fact) → i < B → mentions (invented i) fact ≡ true → eqb i (number_in fact) ≡ true
-  unfolding number_in
-  counted_in i (Id_at name n id) l e = same_number i id l e
-  counted_in i (Text_is what id lines) l e = same_number i id l e
-  counted_in i (No_article id) l e = same_number i id l e
+  counted_in : (i : ℕ) (fact : Fact) → i < B → mentions (invented i) fact ≡ true → list_any (eqb i) (number_in fact) ≡ true
+  counted_in i (Id_at name n id) l e = or_left (eqb i (number_of id)) false (same_number i id l e)
+  counted_in i (Text_is what id lines) l e = or_left (eqb i (number_of id)) false (same_number i id l e)
+  counted_in i (No_article id) l e = or_left (eqb i (number_of id)) false (same_number i id l e)
   counted_in i fact l e = cc
 
   -- and so one of the facts
-  pub counted : (i : ℕ) (facts : List Fact) → i < B → is_mentioned facts (invented i) ≡ true → list_any (eqb i) (map number_in facts) ≡ true
+  pub counted : (i : ℕ) (facts : List Fact) → i < B → is_mentioned facts (invented i) ≡ true → list_any (eqb i) (mentioned facts) ≡ true
   counted i [] l e = cc
   counted i (fact ∷ facts) l e =
       elim (or_cases (mentions (invented i) fact) (is_mentioned facts (invented i)) e) [
-        | inl t ↦ or_left (eqb i (number_in fact)) _ (counted_in i fact l t)
-        | inr r ↦ or_right (eqb i (number_in fact)) _ (counted i facts l r)
+        | inl t ↦ any_front (eqb i) (number_in fact) (mentioned facts) (counted_in i fact l t)
+        | inr r ↦ any_back (eqb i) (number_in fact) (mentioned facts) (counted i facts l r)
       ]
 
   -- the numbers from k on, behind those that were invented before
-  numbered_from : (ids : List Id) (k : ℕ) (done : List ℕ) → ((i : ℕ) → i < k → list_any (eqb i) (done ++ map number_in facts) ≡ true) → length facts + length done + length ids < B → AreInvented facts k ids → Numbered k ids
+  numbered_from : (ids : List Id) (k : ℕ) (done : List ℕ) → ((i : ℕ) → i < k → list_any (eqb i) (done ++ mentioned facts) ≡ true) → length (mentioned facts) + length done + length ids < B → AreInvented facts k ids → Numbered k ids
   numbered_from [] k done below few h = tt
   numbered_from (id ∷ ids) k done below few (j, from, is, free, passed, rest) =
-      let used : (i : ℕ) → i < j → i < B → list_any (eqb i) (done ++ map number_in facts) ≡ true = λ i l s.
-      elim (cases_lt i k) [ inl b ↦ below i b | inr g ↦ any_back (eqb i) done (map number_in facts) (counted i facts s (passed i g l)) ] in
-      let count : length (done ++ map number_in facts) ≡ length done + length facts = length-append done (map number_in facts) ∙ ap (λ n. length done + n) (length-map facts number_in) in
-      let lt : j < B = elim (cases_lt j B) [ inl l ↦ l | inr g ↦ (let le = le-length_from_below (done ++ map number_in facts) B (λ i l. used i (omega arith) l) in absurd (omega arith)) ] in (
+      let used : (i : ℕ) → i < j → i < B → list_any (eqb i) (done ++ mentioned facts) ≡ true = λ i l s.
+      elim (cases_lt i k) [ inl b ↦ below i b | inr g ↦ any_back (eqb i) done (mentioned facts) (counted i facts s (passed i g l)) ] in
+      let count : length (done ++ mentioned facts) ≡ length done + length (mentioned facts) = length-append done (mentioned facts) in
+      let lt : j < B = elim (cases_lt j B) [ inl l ↦ l | inr g ↦ (let le = le-length_from_below (done ++ mentioned facts) B (λ i l. used i (omega arith) l) in absurd (omega arith)) ] in (
         j,
         from,
         lt,
@@ -70,7 +78,7 @@ module _ (B : ℕ) (small : (i : ℕ) → i < B → number_of (invented i) ≡ i
       )
 
   -- the numbers are small if few ids are mentioned and invented
-  pub numbered : (ids : List Id) → length facts + length ids < B → AreInvented facts 0 ids → Numbered 0 ids
+  pub numbered : (ids : List Id) → length (mentioned facts) + length ids < B → AreInvented facts 0 ids → Numbered 0 ids
   numbered ids few h = numbered_from ids 0 [] (λ i l. absurd (omega arith)) (omega arith) h
 
   -- one of the ids has a number, and isn't mentioned

@@ -24,9 +24,9 @@ use Rattle.nntp_facts.proofs.GivenNumbers.{given_meet}
 use Rattle.nntp_facts.proofs.GivenSession.{met_by_facts}
 use Rattle.nntp_facts.proofs.Placed.{Placed}
 use Rattle.nntp_facts.proofs.Invented.{number_of}
-use Rattle.nntp_facts.proofs.Fresh.{Numbered, numbered, of_numbered, part_numbered, unshown_there, unshown_apart}
+use Rattle.nntp_facts.proofs.Fresh.{Numbered, numbered, of_numbered, part_numbered, unshown_there, unshown_apart, mentioned}
 use Rattle.nntp_wire.specs.Listing.{ActiveValue}
-use Rattle.nntp_article.specs.Decided.{is_message_id}
+use Rattle.nntp_wire.specs.Decided.{is_message_id}
 use Rattle.nntp_wire.specs.declared.command.What.{What}
 use Rattle.nntp_wire.specs.declared.command.What.TheVariants.{Article, Head, Body, Stat}
 use Rattle.nntp_wire.specs.Name.{IsMessageId}
@@ -73,7 +73,7 @@ pub record Setting (profile : Profile) (B : ℕ) (S G : Spool) (facts : List Fac
   pub spool : IsSpool profile S
   pub holds : AllByRecursion (Holds S) facts
   pub given : IsGiven facts G
-  pub few : length facts + length (unshown_ids facts G) < B
+  pub few : length (mentioned facts) + length (unshown_ids facts G) < B
   pub placed : AllByRecursion (Placed G) facts
 
 module _ (profile : Profile) (B : ℕ) (S G : Spool) (facts : List Fact) (s : Setting profile B S G facts) where

@@ -31,7 +31,7 @@ groups_shown G facts given = all_from (Shows G) facts one
     one fact i = tt
 
 -- what the laws below stand on
-setting : (profile : Profile) (S G : Spool) (ps : List Asked) (answers : List Response) → IsSpool profile S → Run profile S start ps answers → size (facts_of_session ps answers) < 2 ^ 100
+setting : (profile : Profile) (S G : Spool) (ps : List Asked) (answers : List Response) → IsSpool profile S → Run profile S start ps answers → size (facts_of_session ps answers) < 2 ^ 210
     → IsGiven (facts_of_session ps answers) G → Setting profile (10 ^ 64) S G (facts_of_session ps answers)
 setting profile S G ps answers spool run small given =
     let facts = facts_of_session ps answers in
@@ -41,7 +41,7 @@ setting profile S G ps answers spool run small given =
     record { small = number-invented; ids = invented_is_id; spool = spool; holds = says.1; given = given; few = few; placed = placed }
 
 -- the spool that is given for a session is a spool and permits it
-pub given_permits : (profile : Profile) (S G : Spool) (ps : List Asked) (answers : List Response) → IsSpool profile S → Run profile S start ps answers → size (facts_of_session ps answers) < 2 ^ 100
+pub given_permits : (profile : Profile) (S G : Spool) (ps : List Asked) (answers : List Response) → IsSpool profile S → Run profile S start ps answers → size (facts_of_session ps answers) < 2 ^ 210
     → IsGiven (facts_of_session ps answers) G → IsSpool profile G × Run profile G start ps answers
 given_permits profile S G ps answers spool run small given =
     let facts = facts_of_session ps answers in
@@ -49,7 +49,7 @@ given_permits profile S G ps answers spool run small given =
     (given_is_spool profile (10 ^ 64) S G facts s, run_from profile G start.visible Nowhere ps answers (run_of_facts profile G start.visible Nowhere ps answers (said profile S ps answers run).0 (all_hold profile (10 ^ 64) S G facts s)))
 
 -- a spool that permits a session has what the session shows, and as many numbers as are given
-pub given_is_least : (profile : Profile) (S G : Spool) (ps : List Asked) (answers : List Response) → IsSpool profile S → Run profile S start ps answers → size (facts_of_session ps answers) < 2 ^ 100
+pub given_is_least : (profile : Profile) (S G : Spool) (ps : List Asked) (answers : List Response) → IsSpool profile S → Run profile S start ps answers → size (facts_of_session ps answers) < 2 ^ 210
     → IsGiven (facts_of_session ps answers) G → HasAtLeast (facts_of_session ps answers) G S
 given_is_least profile S G ps answers spool run small given =
     let facts = facts_of_session ps answers in

@@ -10,9 +10,9 @@ use Rattle.std.proofs.lemmas.Fmt.{decimal_is_IsNumeral_wide, length-decimal-le_w
 use Rattle.std.proofs.lemmas.Str.Parse.{digit_from_value}
 use Rattle.nntp_facts.specs.Given.{invented}
 use Rattle.nntp_article.specs.Article.{Id}
-use Rattle.nntp_article.specs.Decided.{is_id_octet, ends_id, is_message_id}
+use Rattle.nntp_wire.specs.Decided.{is_id_octet, ends_id, is_message_id}
 use Rattle.nntp_wire.specs.Name.{IsMessageId}
-use Rattle.nntp_article.proofs.DecidedLemmas.{message_id-iff}
+use Rattle.nntp_wire.proofs.DecidedLemmas.{message_id-iff}
 
 -- the number of an invented id
 pub number_of : Id → ℕ

@@ -17,7 +17,7 @@ use Rattle.nntp_facts.proofs.Members.{In, in_front, in_back, in_cases, in_map, f
 use Rattle.nntp_facts.proofs.Few.{names_of, shown_name, name_shown}
 use Rattle.nntp_facts.proofs.GivenHolds.{same_itself, group_of_number}
 use Rattle.nntp_facts.proofs.Invented.{number_of}
-use Rattle.nntp_facts.proofs.Fresh.{number_in, any_back, counted}
+use Rattle.nntp_facts.proofs.Fresh.{mentioned, any_back, counted}
 use Rattle.nntp_facts.proofs.OneMore.{shown_list, in_shown_list, from_shown_list, free, free_is, free_none, more, more_is, more_found}
 use Rattle.nntp_facts.proofs.Maps.{sorted_as, get_in, in_get, key_of, of_key, made_of, get-made_of, in-made_of, key_map, in_key_map, of_key_map}
 use Rattle.nntp_article.specs.Article.{Id}
@@ -264,22 +264,22 @@ module _ (limit : ℕ) (B : ℕ) (facts : List Fact) where
   module _ (small : (i : ℕ) → i < B → number_of (invented i) ≡ i) where
     -- each number below k is that of an id that is mentioned or was invented
     abbrev Used : ℕ → List ℕ → Type 0
-    Used k done = (i : ℕ) → i < k → list_any (eqb i) (done ++ map number_in facts) ≡ true
+    Used k done = (i : ℕ) → i < k → list_any (eqb i) (done ++ mentioned facts) ≡ true
 
     -- the numbers below the next one are used
-    used_before : (k j : ℕ) (done : List ℕ) → Used k done → ((i : ℕ) → k ≤ i → i < j → IsTrue (is_mentioned facts (invented i))) → (i : ℕ) → i < j → i < B → list_any (eqb i) (done ++ map number_in facts) ≡ true
+    used_before : (k j : ℕ) (done : List ℕ) → Used k done → ((i : ℕ) → k ≤ i → i < j → IsTrue (is_mentioned facts (invented i))) → (i : ℕ) → i < j → i < B → list_any (eqb i) (done ++ mentioned facts) ≡ true
     used_before k j done used passed i l s =
-        elim (cases_lt i k) [ inl b ↦ used i b | inr g ↦ any_back (eqb i) done (map number_in facts) (counted B small facts i facts s (passed i g l)) ]
+        elim (cases_lt i k) [ inl b ↦ used i b | inr g ↦ any_back (eqb i) done (mentioned facts) (counted B small facts i facts s (passed i g l)) ]
 
     -- the numbers below B aren't all used
-    not_all_used : (done : List ℕ) → length facts + length done < B → ((i : ℕ) → i < B → list_any (eqb i) (done ++ map number_in facts) ≡ true) → ⊥
+    not_all_used : (done : List ℕ) → length (mentioned facts) + length done < B → ((i : ℕ) → i < B → list_any (eqb i) (done ++ mentioned facts) ≡ true) → ⊥
     not_all_used done few all =
-        let count : length (done ++ map number_in facts) ≡ length done + length facts = length-append done (map number_in facts) ∙ ap (λ n. length done + n) (length-map facts number_in) in
-        let le = le-length_from_below (done ++ map number_in facts) B all in
+        let count : length (done ++ mentioned facts) ≡ length done + length (mentioned facts) = length-append done (mentioned facts) in
+        let le = le-length_from_below (done ++ mentioned facts) B all in
         omega arith
 
     -- the next number isn't mentioned, and those before it are
-    invents : (k : ℕ) (done : List ℕ) → Used k done → length facts + length done < B
+    invents : (k : ℕ) (done : List ℕ) → Used k done → length (mentioned facts) + length done < B
         → (k ≤ next k) × IsFalse (is_mentioned facts (invented (next k))) × ((i : ℕ) → k ≤ i → i < next k → IsTrue (is_mentioned facts (invented i))) × Used (next k + 1) (next k ∷ done)
     unfolding next
     invents k done used few = by (free (λ j. is_mentioned facts (invented j)) B k) refl
@@ -294,19 +294,19 @@ module _ (limit : ℕ) (B : ℕ) (facts : List Fact) where
             (f.0, f.1, f.2, λ i l. elim (cases_lt i j) [ inl b ↦ or_right (eqb i j) _ (before i b (omega arith)) | inr g ↦ or_left (eqb i j) _ (eq-eqb i j (omega arith)) ])
 
     -- the ids of a group are invented in turn
-    ids_invented : (name : Name) (ns : List ℕ) (k : ℕ) (done : List ℕ) (rest : List Id) → Used k done → length facts + length done + length (unshown_in facts name (numbered_ids name k ns) ++ rest) < B
-        → ((done : List ℕ) → Used (after_ids name k ns) done → length facts + length done + length rest < B → AreInvented facts (after_ids name k ns) rest)
+    ids_invented : (name : Name) (ns : List ℕ) (k : ℕ) (done : List ℕ) (rest : List Id) → Used k done → length (mentioned facts) + length done + length (unshown_in facts name (numbered_ids name k ns) ++ rest) < B
+        → ((done : List ℕ) → Used (after_ids name k ns) done → length (mentioned facts) + length done + length rest < B → AreInvented facts (after_ids name k ns) rest)
         → AreInvented facts k (unshown_in facts name (numbered_ids name k ns) ++ rest)
     unfolding numbered_ids after_ids after_id
     ids_invented name [] k done rest used few then = then done used few
     ids_invented name (n ∷ ns) k done rest used few then = by (id_shown facts name n) (λ k done. ids_invented name ns k done rest) few then
       where
         by : (o : Option Id)
-            → ((k : ℕ) (done : List ℕ) → Used k done → length facts + length done + length (unshown_in facts name (numbered_ids name k ns) ++ rest) < B
-            → ((done : List ℕ) → Used (after_ids name k ns) done → length facts + length done + length rest < B → AreInvented facts (after_ids name k ns) rest)
+            → ((k : ℕ) (done : List ℕ) → Used k done → length (mentioned facts) + length done + length (unshown_in facts name (numbered_ids name k ns) ++ rest) < B
+            → ((done : List ℕ) → Used (after_ids name k ns) done → length (mentioned facts) + length done + length rest < B → AreInvented facts (after_ids name k ns) rest)
             → AreInvented facts k (unshown_in facts name (numbered_ids name k ns) ++ rest))
-            → length facts + length done + length ((cond (is_some o) [] (unwrap_or o (invented (next k)) ∷ []) ++ unshown_in facts name (numbered_ids name (after_id o k) ns)) ++ rest) < B
-            → ((done : List ℕ) → Used (after_ids name (after_id o k) ns) done → length facts + length done + length rest < B → AreInvented facts (after_ids name (after_id o k) ns) rest)
+            → length (mentioned facts) + length done + length ((cond (is_some o) [] (unwrap_or o (invented (next k)) ∷ []) ++ unshown_in facts name (numbered_ids name (after_id o k) ns)) ++ rest) < B
+            → ((done : List ℕ) → Used (after_ids name (after_id o k) ns) done → length (mentioned facts) + length done + length rest < B → AreInvented facts (after_ids name (after_id o k) ns) rest)
             → AreInvented facts k ((cond (is_some o) [] (unwrap_or o (invented (next k)) ∷ []) ++ unshown_in facts name (numbered_ids name (after_id o k) ns)) ++ rest)
         by (Some id) rec few then = rec k done used few then
         by None rec few then =
@@ -314,25 +314,25 @@ module _ (limit : ℕ) (B : ℕ) (facts : List Fact) where
             (next k, v.0, refl, v.1, v.2, rec (next k + 1) (next k ∷ done) v.3 (omega arith) then)
 
     -- and so those of all groups
-    groups_invented : (gs : List Name) (k : ℕ) (done : List ℕ) → Used k done → length facts + length done + length (flat_map (λ (g : Name × Numbers). unshown_in facts g.0 (entries g.1)) (groups_from k gs)) < B
+    groups_invented : (gs : List Name) (k : ℕ) (done : List ℕ) → Used k done → length (mentioned facts) + length done + length (flat_map (λ (g : Name × Numbers). unshown_in facts g.0 (entries g.1)) (groups_from k gs)) < B
         → AreInvented facts k (flat_map (λ (g : Name × Numbers). unshown_in facts g.0 (entries g.1)) (groups_from k gs))
     unfolding groups_from
     groups_invented [] k done used few = tt
     groups_invented (g ∷ gs) k done used few =
         let ns = keys (number_map g) in
         let rest = flat_map (λ (g : Name × Numbers). unshown_in facts g.0 (entries g.1)) (groups_from (after_ids g k ns) gs) in
-        subst (λ es. length facts + length done + length (unshown_in facts g es ++ rest) < B → AreInvented facts k (unshown_in facts g es ++ rest)) (sym (entries_group g k))
+        subst (λ es. length (mentioned facts) + length done + length (unshown_in facts g es ++ rest) < B → AreInvented facts k (unshown_in facts g es ++ rest)) (sym (entries_group g k))
         (λ few. ids_invented g ns k done rest used few (groups_invented gs (after_ids g k ns))) few
 
     -- the ids are invented in turn
-    made_invented : length facts + length (unshown_ids facts made) < B → AreInvented facts 0 (unshown_ids facts made)
+    made_invented : length (mentioned facts) + length (unshown_ids facts made) < B → AreInvented facts 0 (unshown_ids facts made)
     unfolding made
     made_invented few =
-        subst (λ gs. length facts + length (flat_map (λ (g : Name × Numbers). unshown_in facts g.0 (entries g.1)) gs) < B → AreInvented facts 0 (flat_map (λ (g : Name × Numbers). unshown_in facts g.0 (entries g.1)) gs)) (sym entries_groups)
+        subst (λ gs. length (mentioned facts) + length (flat_map (λ (g : Name × Numbers). unshown_in facts g.0 (entries g.1)) gs) < B → AreInvented facts 0 (flat_map (λ (g : Name × Numbers). unshown_in facts g.0 (entries g.1)) gs)) (sym entries_groups)
         (λ few. groups_invented (keys name_map) 0 [] (λ i l. absurd (omega arith)) (omega arith)) few
 
     -- what is made is the given spool, where each group has a free number within the limit
-    pub made_is_given : ((name : Name) (e : ℕ) → IsOneMore (asks_of name facts) e → e ≤ limit) → length facts + length (unshown_ids facts made) < B → IsGiven facts made
+    pub made_is_given : ((name : Name) (e : ℕ) → IsOneMore (asks_of name facts) e → e ≤ limit) → length (mentioned facts) + length (unshown_ids facts made) < B → IsGiven facts made
     made_is_given low few = record {
       groups = made_group;
       numbers_given = λ name i. made_given name (low name) i;

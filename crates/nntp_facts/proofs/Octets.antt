@@ -7,11 +7,12 @@ use Rattle.nntp_article.specs.Spool.{Spool, IsSpool, Profile}
 use Rattle.nntp_article.specs.Machine.{Run, start}
 use Rattle.nntp_article.specs.Explains.{Spelled, ExplainsUpTo, Explains, ExplainsFirst, Bad}
 use Rattle.nntp_facts.specs.Given.{facts_of_session, size, weight}
-use Rattle.nntp_facts.specs.Permits.{SomePermits, AreSpellings}
+use Rattle.nntp_facts.specs.Permits.{SomePermits}
 use Rattle.nntp_facts.proofs.Size.{session_size}
 use Rattle.nntp_facts.proofs.FirstBad.{run_fewer, permitted_or_bad}
 use Rattle.nntp_wire.specs.Answer.{Asked, Response, Spells}
 use Rattle.nntp_wire.specs.Session.{prompts_of}
+use Rattle.nntp_facts.proofs.Spellings.{AreSpellings, are_spellings}
 
 -- the longest list of answers that the octets begin with
 record Reading (ps : List Asked) (octets : List ℕ) : Type 0 where
@@ -145,10 +146,10 @@ module _ (w : AreSpellings) where
       no_length (x ∷ xs) e = absurd (omega arith)
 
   -- some spool explains all, or an answer is bad
-  pub explained_or_bad : (profile : Profile) (client server : List ℕ) → length server < 2 ^ 100 → ((S : Spool) × (n : ℕ) × Explains profile S client server n) ⊎ ((k : ℕ) × Bad profile client server k)
+  pub explained_or_bad : (profile : Profile) (client server : List ℕ) → length server < 2 ^ 210 → ((S : Spool) × (n : ℕ) × Explains profile S client server n) ⊎ ((k : ℕ) × Bad profile client server k)
   explained_or_bad profile client server small =
       let r = read (prompts_of client) server in
-      let few : size (facts_of_session (prompts_of client) r.answers) < 2 ^ 100 = (
+      let few : size (facts_of_session (prompts_of client) r.answers) < 2 ^ 210 = (
       let a = session_size (prompts_of client) r.answers in let b = light (prompts_of client) r.answers r.spelled r.is in let c = ap length r.whole ∙ length-append r.spelled r.rest in omega arith) in
       elim (permitted_or_bad profile (prompts_of client) r.answers few) [
         | inl (S, spool, run) ↦ all S spool run r.rest r.whole

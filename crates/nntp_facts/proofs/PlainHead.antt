@@ -5,11 +5,11 @@ use Rattle.std.specs.List.{list_all, AllByRecursion}
 use Rattle.std.proofs.lemmas.Bool.{and_from, and_parts, le-leb, ne_eqb, leb-true, lt-ltb}
 use Rattle.nntp_article.specs.Article.{is_blank, is_head, said_id, skip_blanks, skip_last_blanks, content_of, Id}
 use Rattle.nntp_facts.specs.Given.{plain_head}
-use Rattle.nntp_article.specs.Decided.{is_id_octet, begins_id, is_message_id}
+use Rattle.nntp_wire.specs.Decided.{is_id_octet, begins_id, is_message_id}
 use Rattle.nntp_article.specs.Spool.{is_line}
 use Rattle.nntp_wire.specs.Name.{IsMessageId}
 use Rattle.nntp_wire.specs.Octets.{is_clean, is_line_breaking}
-use Rattle.nntp_article.proofs.DecidedLemmas.{message_id-iff}
+use Rattle.nntp_wire.proofs.DecidedLemmas.{message_id-iff}
 
 -- an octet of an id is no blank
 visible : (c : ℕ) → is_id_octet c ≡ true → is_blank c ≡ false

@@ -182,12 +182,16 @@ pub record HasAtLeast (facts : List Fact) (G S : Spool) : Type 0 where
   pub bodies_sent : (id : Id) (lines : List Line) → first_given (body_in id) facts ≡ Some lines → (t : Text) × (get S.articles id ≡ Some t) × (t.body ≡ lines)
   pub counts : (name : Name) → IsGroup G name → len (numbers G name) ≤ len (numbers S name)
 
--- how many names, numbers and ids a fact has, and at least 1
+-- a bound on the names, numbers and ids that a fact has from its answer
 abbrev pub size_in : Fact → ℕ
 size_in (Asks name (Lists_in r ns)) = length ns + 1
-size_in (Groups_are p lines) = length lines + 1
+size_in (Asks name (StandsNowhere at)) = 0
+size_in (Asks name (IsTop at)) = 0
+size_in (Asks name (IsBottom at)) = 0
+size_in (Groups_are p lines) = length lines
 size_in fact = 1
 
+-- the same of all facts
 abbrev pub size : List Fact → ℕ
 size [] = 0
 size (fact ∷ facts) = size_in fact + size facts

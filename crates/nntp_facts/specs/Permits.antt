@@ -12,10 +12,3 @@ SomePermits profile prompts answers = (S : Spool) × IsSpool profile S × Run pr
 -- some spool permits the answers before k, and none those up to k
 abbrev pub IsBadAnswer : Profile → List Asked → List Response → ℕ → Type 0
 IsBadAnswer profile prompts answers k = (k < length answers) × SomePermits profile prompts (take k answers) × (SomePermits profile prompts (take (k + 1) answers) → ⊥)
-
--- what is used of spellings: at most one answer is spelled in front, whether one is can be decided, and a spelling has three octets and one for each line
-pub record AreSpellings : Type 0 where
-  pub one : (p : Asked) (a c : Response) (b d rest more : List ℕ) → Spells p a b → Spells p c d → b ++ rest ≡ d ++ more → (a ≡ c) × (b ≡ d)
-  pub decided : (p : Asked) (octets : List ℕ)
-      → ((a : Response) × (b : List ℕ) × (rest : List ℕ) × Spells p a b × (octets ≡ b ++ rest)) ⊎ ((a : Response) (b rest : List ℕ) → Spells p a b → octets ≡ b ++ rest → ⊥)
-  pub long : (p : Asked) (a : Response) (b : List ℕ) → Spells p a b → lines_in a + 3 ≤ length b

@@ -6,7 +6,7 @@ ghost use Rattle.nntp_article.specs.Machine.{Run, start};
 ghost use Rattle.nntp_facts.specs.Asks.{RunsAt, Nowhere, Meets};
 ghost use Rattle.nntp_facts.specs.Facts.{FitsAll, Holds, Fact, facts_from};
 ghost use Rattle.nntp_facts.specs.Given.{asks_of, HasGivenNumbers, IsGiven, facts_of_session, size, weight, HasAtLeast};
-ghost use Rattle.nntp_facts.specs.Permits.{SomePermits, IsBadAnswer, AreSpellings};
+ghost use Rattle.nntp_facts.specs.Permits.{SomePermits, IsBadAnswer};
 ghost use Rattle.nntp_article.specs.Explains.{Explains, Bad};
 ghost use Rattle.nntp_wire.specs.Answer.{Asked, Response};
 
@@ -44,7 +44,7 @@ pub fn size_is_bounded()
 /// If a spool permits a session, then so does the given spool.
 pub fn given_spool_permits()
     ensures { (profile : Profile) (S G : Spool) (prompts : List Asked) (answers : List Response)
-        → IsSpool profile S → Run profile S start prompts answers → size (facts_of_session prompts answers) < 2 ^ 100
+        → IsSpool profile S → Run profile S start prompts answers → size (facts_of_session prompts answers) < 2 ^ 210
         → IsGiven (facts_of_session prompts answers) G → IsSpool profile G × Run profile G start prompts answers }
 {}
 
@@ -52,26 +52,26 @@ pub fn given_spool_permits()
 /// than the given one.
 pub fn given_spool_is_least()
     ensures { (profile : Profile) (S G : Spool) (prompts : List Asked) (answers : List Response)
-        → IsSpool profile S → Run profile S start prompts answers → size (facts_of_session prompts answers) < 2 ^ 100
+        → IsSpool profile S → Run profile S start prompts answers → size (facts_of_session prompts answers) < 2 ^ 210
         → IsGiven (facts_of_session prompts answers) G → HasAtLeast (facts_of_session prompts answers) G S }
 {}
 
 /// If a spool permits a session, then a spool is given for it.
 pub fn given_spool_exists()
     ensures { (profile : Profile) (S : Spool) (prompts : List Asked) (answers : List Response)
-        → IsSpool profile S → Run profile S start prompts answers → size (facts_of_session prompts answers) < 2 ^ 100
+        → IsSpool profile S → Run profile S start prompts answers → size (facts_of_session prompts answers) < 2 ^ 210
         → (G : Spool) × IsGiven (facts_of_session prompts answers) G }
 {}
 
 /// Some spool permits a session, or none does.
 pub fn some_spool_permits_or_none()
-    ensures { (profile : Profile) (prompts : List Asked) (answers : List Response) → size (facts_of_session prompts answers) < 2 ^ 100
+    ensures { (profile : Profile) (prompts : List Asked) (answers : List Response) → size (facts_of_session prompts answers) < 2 ^ 210
         → SomePermits profile prompts answers ⊎ (SomePermits profile prompts answers → ⊥) }
 {}
 
 /// Some spool permits a session, or exactly one answer is bad, and never both.
 pub fn one_answer_is_bad()
-    ensures permitted_or_bad { (profile : Profile) (prompts : List Asked) (answers : List Response) → size (facts_of_session prompts answers) < 2 ^ 100
+    ensures permitted_or_bad { (profile : Profile) (prompts : List Asked) (answers : List Response) → size (facts_of_session prompts answers) < 2 ^ 210
         → SomePermits profile prompts answers ⊎ ((k : ℕ) × IsBadAnswer profile prompts answers k) }
     ensures never_both { (profile : Profile) (prompts : List Asked) (answers : List Response) (k : ℕ)
         → SomePermits profile prompts answers → IsBadAnswer profile prompts answers k → ⊥ }
@@ -79,13 +79,12 @@ pub fn one_answer_is_bad()
         → IsBadAnswer profile prompts answers k → IsBadAnswer profile prompts answers j → k ≡ j }
 {}
 
-/// Some spool explains two streams, or exactly one answer is bad, and never both, where spellings
-/// are as the wire's laws say.
+/// Some spool explains two streams, or exactly one answer is bad, and never both.
 pub fn streams_are_explained_or_bad()
-    ensures explained_or_bad { AreSpellings → (profile : Profile) (client server : List ℕ) → length server < 2 ^ 100
+    ensures explained_or_bad { (profile : Profile) (client server : List ℕ) → length server < 2 ^ 210
         → ((S : Spool) × (n : ℕ) × Explains profile S client server n) ⊎ ((k : ℕ) × Bad profile client server k) }
-    ensures never_both { AreSpellings → (profile : Profile) (S : Spool) (client server : List ℕ) (n k : ℕ)
+    ensures never_both { (profile : Profile) (S : Spool) (client server : List ℕ) (n k : ℕ)
         → Explains profile S client server n → Bad profile client server k → ⊥ }
-    ensures one_bad { AreSpellings → (profile : Profile) (client server : List ℕ) (k j : ℕ)
+    ensures one_bad { (profile : Profile) (client server : List ℕ) (k j : ℕ)
         → Bad profile client server k → Bad profile client server j → k ≡ j }
 {}

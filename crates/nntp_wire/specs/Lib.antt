@@ -15,3 +15,4 @@ pub mod View
 pub mod Keyword
 pub mod AnswerView
 pub mod Session
+pub mod Decided

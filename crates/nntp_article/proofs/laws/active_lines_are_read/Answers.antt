@@ -1,4 +1,4 @@
-use Rattle.nntp_article.proofs.DecidedLemmas.{active_of-lists}
+use Rattle.nntp_article.proofs.ListedLemmas.{active_of-lists}
 use Rattle.nntp_article.proofs.laws.active_lines_are_read.Goals as goal
 
 pub returns : goal.returns

@@ -1,4 +1,4 @@
--- Tests that compute what nntp_wire states as relations: message ids, group names and the matching of wildmats.
+-- Tests that compute relations: message ids, group names and the matching of wildmats (RFC 3977, sections 3.6, 4 and 9.8).
 use Rattle.std.specs.Prelude.{ℕ, Bool, true, false, not, ◌&&◌, ◌||◌, ◌==◌, nat_lt, nat_le, List, [], ◌∷◌, length, map}
 use Rattle.std.specs.List.{list_all, list_any}
 use Rattle.std.specs.Str.{chars, is_utf8}
@@ -20,11 +20,11 @@ abbrev pub begins_id : List ℕ → Bool
 begins_id [] = false
 begins_id (c ∷ cs) = c == 60 && ends_id cs
 
--- `IsMessageId`: 3 to 250 octets of visible ASCII, from `<` to the only `>` (RFC 3977, section 3.6)
+-- the test for `IsMessageId`: 3 to 250 octets of visible ASCII, from `<` to the only `>` (RFC 3977, section 3.6)
 abbrev pub is_message_id : List ℕ → Bool
 is_message_id id = nat_le 3 (length id) && nat_le (length id) 250 && list_all is_id_octet id && begins_id id
 
--- `IsGroupName`: one or more characters of a name, in UTF-8 (section 4.1)
+-- the test for `IsGroupName`: one or more characters of a name, in UTF-8 (section 4.1)
 abbrev pub is_group_name : List ℕ → Bool
 is_group_name name = nat_lt 0 (length name) && is_utf8 name && list_all is_name_char (chars name)
 
@@ -33,7 +33,7 @@ abbrev pub suffixes : List ℕ → List (List ℕ)
 suffixes [] = [] ∷ []
 suffixes (c ∷ cs) = (c ∷ cs) ∷ suffixes cs
 
--- `Matches`: the items match the whole text (section 4.2)
+-- the test for `Matches`: the items match the whole text (section 4.2)
 abbrev pub matches : List Item → List ℕ → Bool
 matches [] [] = true
 matches [] (c ∷ cs) = false
@@ -43,17 +43,17 @@ matches (question ∷ items) (c ∷ cs) = matches items cs
 matches (character d ∷ items) [] = false
 matches (character d ∷ items) (c ∷ cs) = c == d && matches items cs
 
--- `MatchesPattern`: the pattern, without a `!` in front, matches the whole text
+-- the test for `MatchesPattern`: the pattern, without a `!` in front, matches the whole text
 abbrev pub matches_pattern : List ℕ → List ℕ → Bool
 matches_pattern pattern text = matches (map item_of (chars (without_negation pattern))) text
 
--- `IsChosen`: the last of the patterns that matches has no `!`
+-- the test for `IsChosen`: the last of the patterns that matches has no `!`
 abbrev pub is_chosen : List (List ℕ) → List ℕ → Bool
 is_chosen [] text = false
 is_chosen (pattern ∷ more) text =
     is_chosen more text
     || (matches_pattern pattern text && not (is_negated pattern) && not (list_any (λ other. matches_pattern other text) more))
 
--- `MatchesName`: the wildmat matches the name
+-- the test for `MatchesName`: the wildmat matches the name
 abbrev pub matches_name : List ℕ → List ℕ → Bool
 matches_name wildmat name = is_chosen (patterns_of wildmat) (chars name)

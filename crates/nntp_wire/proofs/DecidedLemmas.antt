@@ -8,11 +8,8 @@ use Rattle.std.proofs.lemmas.Bool.Decides.{nat_tests}
 use Rattle.std.proofs.lemmas.Str.{IsUtf8-from_is_utf8, is_utf8-from_IsUtf8, chars-encodes, chars-nil}
 use Rattle.std.proofs.lemmas.List.Elements.{recursion_from_All, All-from_recursion}
 use Rattle.nntp_wire.specs.Name.{IsIdOctet, IsMessageId, IsGroupName, is_name_char}
-use Rattle.nntp_wire.specs.Number.{number_value, number_of, WritesNumber}
-use Rattle.nntp_wire.specs.Listing.{ActiveValue, ListsGroup}
 use Rattle.nntp_wire.specs.Wildmat.{Item, star, question, character, Matches, MatchesPattern, IsChosen, MatchesName, item_of, patterns_of, is_negated, without_negation}
-use Rattle.nntp_article.specs.Decided.{is_id_octet, ends_id, begins_id, is_message_id, is_group_name, suffixes, matches, matches_pattern, is_chosen, matches_name}
-use Rattle.nntp_article.specs.Listed.{active_by, active_of_words, active_of}
+use Rattle.nntp_wire.specs.Decided.{is_id_octet, ends_id, begins_id, is_message_id, is_group_name, suffixes, matches, matches_pattern, is_chosen, matches_name}
 
 -- ---- message ids
 
@@ -191,14 +188,3 @@ matches_name-iff wildmat name = (
   chosen (patterns_of wildmat) (chars name),
   λ c. ap (λ patterns. is_chosen patterns (chars name)) c.whole ∙ choose c.before c.last c.after (chars name) c.matches c.plain c.others,
 )
-
--- ---- lines of LIST ACTIVE
-
-writes : (word : List ℕ) (n : ℕ) → WritesNumber word n → number_of word ≡ Some n
-writes word n h = ap (λ b. cond b (Some (number_value word)) None) h.0 ∙ ap Some h.1
-
-pub active_of-lists : (line : List ℕ) (value : ActiveValue) → ListsGroup line value → active_of line ≡ Some value
-active_of-lists line value l =
-    ap active_of_words l.words_are
-    ∙ ap (λ high. active_by value.name value.status high (number_of l.low_word)) (writes l.high_word value.high l.high_is)
-    ∙ ap (λ low. active_by value.name value.status (Some value.high) low) (writes l.low_word value.low l.low_is)

@@ -1,5 +1,0 @@
-use Rattle.nntp_article.proofs.DecidedLemmas.{matches_name-iff}
-use Rattle.nntp_article.proofs.laws.matching_is_decided.Goals as goal
-
-pub returns : goal.returns
-returns c = matches_name-iff

@@ -1,5 +1,0 @@
-use Rattle.nntp_article.proofs.DecidedLemmas.{message_id-iff}
-use Rattle.nntp_article.proofs.laws.message_ids_are_decided.Goals as goal
-
-pub returns : goal.returns
-returns c = message_id-iff

@@ -1,0 +1,22 @@
+-- Spellings: one response at the front of octets, decided, and no shorter than its lines.
+use Rattle.std.proofs.Common.{◌≡◌, ℕ, ◌+◌, ◌≤◌, ◌⊎◌, List, [], ◌∷◌, ◌++◌, length, arith}
+use Rattle.nntp_wire.specs.Answer.{Asked, Response, group_is, numbers_are, sends, active_are, plain, Spells}
+use Rattle.nntp_wire.proofs.SpellsDecided.{one-spelling, some-spelling, lines_of, spelling-long}
+use Rattle.nntp_facts.specs.Given.{lines_in}
+
+-- what is used of spellings: at most one answer is spelled in front, whether one is can be decided, and a spelling has three octets and one for each line
+pub record AreSpellings : Type 0 where
+  pub one : (p : Asked) (a c : Response) (b d rest more : List ℕ) → Spells p a b → Spells p c d → b ++ rest ≡ d ++ more → (a ≡ c) × (b ≡ d)
+  pub decided : (p : Asked) (octets : List ℕ)
+      → ((a : Response) × (b : List ℕ) × (rest : List ℕ) × Spells p a b × (octets ≡ b ++ rest)) ⊎ ((a : Response) (b rest : List ℕ) → Spells p a b → octets ≡ b ++ rest → ⊥)
+  pub long : (p : Asked) (a : Response) (b : List ℕ) → Spells p a b → lines_in a + 3 ≤ length b
+
+long : (p : Asked) (a : Response) (b : List ℕ) → Spells p a b → lines_in a + 3 ≤ length b
+long p (numbers_are m name lines) b s = spelling-long p (numbers_are m name lines) b s
+long p (active_are lines) b s = spelling-long p (active_are lines) b s
+long p (group_is m name) b s = spelling-long p (group_is m name) b s
+long p (sends sent) b s = spelling-long p (sends sent) b s
+long p (plain code) b s = spelling-long p (plain code) b s
+
+pub are_spellings : AreSpellings
+are_spellings = record { one = one-spelling; decided = some-spelling; long = long }
