@@ -14,3 +14,4 @@ pub mod View
 pub mod Keyword
 pub mod AnswerView
 pub mod Session
+pub mod Decided
