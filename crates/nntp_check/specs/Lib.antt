@@ -1,7 +1,6 @@
 pub mod Watched
 pub mod Writing
 pub mod Capture
-pub mod Pairing
 pub mod Verdict
 pub mod Report
 pub mod Run

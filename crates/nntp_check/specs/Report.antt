@@ -4,7 +4,7 @@ use Rattle.std.specs.Int.{is_in_range}
 use Rattle.std.specs.List.{flat_map}
 use Rattle.nntp_check.specs.Verdict.{Judgement, consistent, bad}
 use Rattle.nntp_check.specs.declared.verdict.Class.{Class}
-use Rattle.nntp_check.specs.declared.verdict.Class.TheVariants.{Surplus, Unsupported, Cut, Malformed, OutOfPlace, Contradiction}
+use Rattle.nntp_check.specs.declared.verdict.Class.TheVariants.{Surplus, Cut, Malformed, Unsupported, OutOfPlace, Contradiction}
 
 -- the hexadecimal digit of a number below 16, in lower case
 abbrev pub hexadecimal_digit : ℕ → ℕ
@@ -29,9 +29,9 @@ spool_text names = codes "spool 1\n" ++ group_lines names ++ codes "end\n"
 
 abbrev pub class_word : Class → List ℕ
 class_word Surplus = codes "Surplus"
-class_word Unsupported = codes "Unsupported"
 class_word Cut = codes "Cut"
 class_word Malformed = codes "Malformed"
+class_word Unsupported = codes "Unsupported"
 class_word OutOfPlace = codes "OutOfPlace"
 class_word Contradiction = codes "Contradiction"
 

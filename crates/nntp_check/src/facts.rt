@@ -1,6 +1,6 @@
 //! What the answers so far say of the groups of a spool.
-use crate::pairing::Exchange;
 use crate::spool::Spool;
+use nntp_pair::Exchange;
 use nntp_wire::{Answer, Command, Prompt};
 use std::alloc::{AllocError, Allocator};
 use std::collections::{BTreeMap, BTreeSet};
@@ -20,6 +20,8 @@ enum Name {
 #[derive(Clone, Copy, Debug, PartialEq, Eq)]
 pub(crate) enum Noted {
     Consistent,
+    /// The command is one that is not judged yet.
+    Unsupported,
     OutOfPlace,
     Contradiction,
 }
@@ -39,7 +41,10 @@ impl<A: Allocator + Copy> Facts<A> {
 
     /// Adds what an answer says, if it may stand behind those before it.
     pub(crate) fn note(&mut self, alloc: A, exchange: &Exchange<'_>) -> Result<Noted, AllocError> {
-        match (&exchange.prompt, &exchange.answer) {
+        if !is_judged(exchange.prompt()) {
+            return Ok(Noted::Unsupported);
+        }
+        match (exchange.prompt(), exchange.answer()) {
             (Prompt::Greeting, Answer::Plain { code }) => Ok(place(matches!(
                 code,
                 200 | 201 | 400 | 502
@@ -108,6 +113,17 @@ impl<A: Allocator + Copy> Facts<A> {
             }
         }
         Ok(Spool::new(groups))
+    }
+}
+
+/// Whether answers to this are judged.
+fn is_judged(prompt: &Prompt<'_>) -> bool {
+    match prompt {
+        Prompt::Greeting => true,
+        Prompt::To(command) => matches!(
+            command,
+            Command::Group(_) | Command::Quit | Command::Opaque | Command::IllFormed
+        ),
     }
 }
 

@@ -1,8 +1,8 @@
 //! The verdict on two streams.
 use crate::facts::{Facts, Noted};
-use crate::pairing::{Pairing, Step};
 use crate::verdict::{Class, Verdict};
 use memchr::memmem;
+use nntp_pair::{Pairs, Step};
 use std::alloc::{AllocError, Allocator};
 
 /// The most octets of a line that a verdict shows.
@@ -16,28 +16,35 @@ pub fn check<A: Allocator + Copy>(
     server: &[u8],
 ) -> Result<Verdict<A>, AllocError> {
     let mut facts = Facts::new(alloc);
-    let mut pairing = Pairing::new(client, server);
+    let mut pairs = Pairs::new(client, server);
+    let mut answers = 0u64;
     loop {
-        let answer = pairing.answers;
-        match pairing.next() {
+        match pairs.next() {
             Step::Exchange(exchange) => {
                 let class = match facts.note(alloc, &exchange)? {
-                    Noted::Consistent => continue,
+                    Noted::Consistent => {
+                        answers = exchange.index() + 1;
+                        continue;
+                    }
+                    Noted::Unsupported => Class::Unsupported,
                     Noted::OutOfPlace => Class::OutOfPlace,
                     Noted::Contradiction => Class::Contradiction,
                 };
-                return bad(alloc, answer, class, exchange.line, exchange.initial);
+                return bad(
+                    alloc,
+                    exchange.index(),
+                    class,
+                    exchange.line(),
+                    exchange.initial(),
+                );
             }
-            Step::Bad(class) => {
-                let (line, rest) = pairing.ahead();
-                return bad(alloc, answer, class, line, rest);
+            Step::Bad { index, class } => {
+                let ahead = pairs.ahead();
+                return bad(alloc, index, Class::from(class), ahead.line, ahead.rest);
             }
-            Step::End => {
+            Step::End { .. } => {
                 let spool = facts.into_spool(alloc)?;
-                return Ok(Verdict::Consistent {
-                    spool,
-                    answers: answer,
-                });
+                return Ok(Verdict::Consistent { spool, answers });
             }
         }
     }

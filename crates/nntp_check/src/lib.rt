@@ -8,7 +8,6 @@ mod capture;
 mod command_line;
 mod facts;
 mod judge;
-mod pairing;
 mod report;
 mod run;
 mod spool;

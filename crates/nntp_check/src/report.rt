@@ -80,9 +80,9 @@ fn word(class: Class) -> &'static [u8]
 {
     match class {
         Class::Surplus => b"Surplus",
-        Class::Unsupported => b"Unsupported",
         Class::Cut => b"Cut",
         Class::Malformed => b"Malformed",
+        Class::Unsupported => b"Unsupported",
         Class::OutOfPlace => b"OutOfPlace",
         Class::Contradiction => b"Contradiction",
     }

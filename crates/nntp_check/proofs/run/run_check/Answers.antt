@@ -16,5 +16,5 @@ returns-clause-err g c = record {
   judgement = verdict_shown c.in-Ok-check.verdict;
   left = c.in-Err.ensures.text.0;
   written = subst (λ (head : List ℕ). Wrote (g.W.Write.contents c.args.output.now.inner) (g.W.Write.contents c.print.new.output.inner) (head ++ tail_of (verdict_shown c.in-Ok-check.verdict)) c.in-Err.ensures.text.0)
-    (c.deref-4.ensures.value ∙ c.in-Ok-head.ensures) c.in-Err.ensures.text.1;
+      (c.deref-4.ensures.value ∙ c.in-Ok-head.ensures) c.in-Err.ensures.text.1;
 }

@@ -7,7 +7,7 @@ use Rattle.nntp_check.proofs.spool.put_groups.Goals as goal
 pub loop-name-preserved : goal.loop-name-preserved
 loop-name-preserved g c = record {
   wrote = Wrote-head (λ names. group_lines (map (λ (name : Vec ℕ g.row.A.Denot). name.items) names)) (λ (name : Vec ℕ g.row.A.Denot). codes "group " ++ name.items ++ codes " 0\n") (λ x xs. refl)
-    _ _ _ _ _ _ _ _ [] c.in-Some.ensures.steps (ap (λ s. codes "group " ++ s ++ codes " 0\n") c.as_slice.ensures.value) c.loop-name.invariant.wrote c.in_ok-put_pieces.ensures.text;
+      _ _ _ _ _ _ _ _ [] c.in-Some.ensures.steps (ap (λ s. codes "group " ++ s ++ codes " 0\n") c.as_slice.ensures.value) c.loop-name.invariant.wrote c.in_ok-put_pieces.ensures.text;
   same = grind (arith, c.in_ok-put_pieces.ensures.failed);
 }
 
@@ -18,5 +18,5 @@ returns-in_err-put_pieces-clause-text g c =
     rw p.1 (
       _,
       Wrote-head (λ names. group_lines (map (λ (name : Vec ℕ g.row.A.Denot). name.items) names)) (λ (name : Vec ℕ g.row.A.Denot). codes "group " ++ name.items ++ codes " 0\n") (λ x xs. refl)
-      _ _ _ _ _ _ _ _ w.0 c.in-Some.ensures.steps (ap (λ s. codes "group " ++ s ++ codes " 0\n") c.as_slice.ensures.value) c.loop-name.invariant.wrote w.1,
+          _ _ _ _ _ _ _ _ w.0 c.in-Some.ensures.steps (ap (λ s. codes "group " ++ s ++ codes " 0\n") c.as_slice.ensures.value) c.loop-name.invariant.wrote w.1,
     )
