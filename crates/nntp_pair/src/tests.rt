@@ -1,0 +1,1 @@
+//! Worked rows: what the definition of a pairing is meant to say.
