@@ -1,5 +1,5 @@
 -- Which response answers what (RFC 3977, sections 3.1 and 3.5): the greeting nothing that was sent, and then each response the next line of the client.
-use Rattle.std.specs.Prelude.{◌≡◌, ◌≢◌, ◌⊎◌, ℕ, ◌+◌, Bool, true, false, List, [], ◌∷◌, Option, None, Some, is_some, map, count_by}
+use Rattle.std.specs.Prelude.{◌≡◌, ◌≢◌, ◌⊎◌, ℕ, ◌+◌, Bool, true, false, List, [], ◌∷◌, ◌++◌, Option, None, Some, is_some, map, count_by, ⊤}
 use Rattle.nntp_wire.specs.Lines.{lines_of_stream}
 use Rattle.nntp_wire.specs.Command.{request_of}
 use Rattle.nntp_wire.specs.Answer.{Asked, greeting, to, Response, Spells}
@@ -104,6 +104,12 @@ abbrev pub Ends : Unpaired → Ending → Type 0
 Ends left (end unanswered) = (left.server ≡ []) × (unanswered ≡ count_by is_some left.places)
 Ends left (bad class) = (left.server ≢ []) × IsBad class left
 
+-- no octets that follow can mend it
+abbrev pub IsLasting : PairClass → Unpaired → Type 0
+IsLasting Surplus left = left.is_closed ≡ true
+IsLasting Cut left = ⊥
+IsLasting Malformed left = ⊤
+
 -- before the first pair both streams are left
 abbrev pub streams : List ℕ → List ℕ → Unpaired
 streams client server = record { index = 0; places = places_of client; server = server; is_closed = false }
@@ -113,3 +119,7 @@ pub record IsPairing (client server : List ℕ) (pairs : List Paired) (ending : 
   pub left : Unpaired
   pub paired : AreNext (streams client server) pairs left
   pub ends : Ends left ending
+
+-- what is left, with more places and more octets behind
+abbrev pub with_more : List (Option (List ℕ)) → List ℕ → Unpaired → Unpaired
+with_more places octets left = record { index = left.index; places = left.places ++ places; server = left.server ++ octets; is_closed = left.is_closed }

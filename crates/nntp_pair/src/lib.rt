@@ -5,9 +5,12 @@
 
 pub mod class;
 pub mod exchange;
+pub mod laws;
 pub mod pairs;
 mod places;
 pub mod step;
+#[cfg(test)]
+mod tests;
 
 pub use class::PairClass;
 pub use exchange::Exchange;

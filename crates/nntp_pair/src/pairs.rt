@@ -1,8 +1,8 @@
 //! The pairing of both streams, one exchange at a time.
-ghost use Rattle.std.specs.Prelude.{◌≡◌, [], ◌∷◌, MatchResult};
+ghost use Rattle.std.specs.Prelude.{◌≡◌, ◌<◌, length, MatchResult};
 ghost use Rattle.std.specs.Option.{option_copied};
 ghost use Rattle.nntp_pair.specs.Pairing.{IsNext, IsBad, streams, line_ahead};
-ghost use Rattle.nntp_pair.specs.Step.{IsStep};
+ghost use Rattle.nntp_pair.specs.Step.{IsStep, OnExchange};
 
 use crate::class::PairClass;
 use crate::exchange::Exchange;
@@ -54,7 +54,8 @@ impl<'a> Pairs<'a> {
 
     /// The next exchange, or how the pairing ends. After an end it answers that end again.
     pub fn next(&mut self) -> Step<'a>
-        ensures { IsStep self.old result self.new }
+        ensures step { IsStep self.old result self.new }
+        ensures progress { OnExchange result (length self.new.server < length self.old.server) }
     {
         if self.server.is_empty() {
             let unanswered = self.places.count_lines();
