@@ -1,5 +1,5 @@
 -- A session that says little is given a small spool.
-use Rattle.std.proofs.Common.{◌≡◌, ℕ, ◌+◌, ◌*◌, ◌<◌, ◌≤◌, ◌^◌, Bool, true, false, cond, not, ◌==◌, IsTrue, List, [], ◌∷◌, ◌++◌, map, length, Some, is_some, IsSome, inl, inr, refl, sym, ap, subst, ◌∙◌, arith, length-append}
+use Rattle.std.proofs.Common.{◌≡◌, ℕ, ◌+◌, ◌<◌, ◌≤◌, ◌^◌, Bool, true, false, cond, not, ◌==◌, IsTrue, List, [], ◌∷◌, ◌++◌, map, length, Some, is_some, IsSome, inl, inr, refl, sym, ap, subst, ◌∙◌, arith, length-append}
 use Rattle.std.specs.Prelude.{unwrap_or}
 use Rattle.std.proofs.Common.{T}
 use Rattle.std.specs.List.{list_any, flat_map, IsDistinct, AllByRecursion}
@@ -16,8 +16,8 @@ use Rattle.std.proofs.lemmas.Map.Keys.{IsDistinct-from_sorted}
 use Rattle.std.proofs.lemmas.Map.Made.{length-le_from_is_member}
 use Rattle.nntp_article.specs.Spool.{Spool, Numbers, IsNumber, IsGroup, numbers, Name}
 use Rattle.nntp_article.specs.Machine.{is_same}
-use Rattle.nntp_facts.specs.Asks.{First, Ask, Estimates, Bounds, Lists_in, Has, Lacks, StandsAt, StandsNowhere, StepsUp, StepsDown, IsTop, IsBottom}
-use Rattle.nntp_facts.specs.Facts.{Fact, There_is, There_is_no, Asks, Id_at, Text_is, No_article, Groups_are}
+use Rattle.nntp_facts.specs.Asks.{First, Ask, Estimates, Bounds, ListsIn, Has, Lacks, StandsAt, StandsNowhere, StepsUp, StepsDown, IsTop, IsBottom}
+use Rattle.nntp_facts.specs.Facts.{Fact, ThereIs, ThereIsNo, Asks, IdAt, TextIs, NoArticle, GroupsAre}
 use Rattle.nntp_facts.specs.Given.{shows, is_shown, IsOneMore, HasGivenNumbers, asks_in, asks_of, shows_group, is_shown_group, id_shown, unshown_in, unshown_ids, size_in, size}
 use Rattle.nntp_facts.proofs.Members.{In, all_at, any_in, found_in, in_map, from_map, to_flat, from_flat, in_contains}
 use Rattle.nntp_facts.proofs.Firsts.{sorted_keys}
@@ -51,8 +51,8 @@ find_entry {R = R} o k v es h i = find_distinct o k v es (IsDistinct-from_sorted
 
 -- the groups that a fact shows
 names_in : Fact → List Name
-names_in (There_is name) = name ∷ []
-names_in (Groups_are p lines) = map (λ line. line.name) lines
+names_in (ThereIs name) = name ∷ []
+names_in (GroupsAre p lines) = map (λ line. line.name) lines
 names_in fact = []
 
 -- the groups that are shown
@@ -61,7 +61,7 @@ names_of facts = flat_map names_in facts
 
 -- the numbers that an ask shows
 abbrev pub shown_by : Ask → List ℕ
-shown_by (Lists_in r ns) = ns
+shown_by (ListsIn r ns) = ns
 shown_by (Has m) = m ∷ []
 shown_by (StandsAt First m) = m ∷ []
 shown_by (StepsUp at m) = m ∷ []
@@ -79,8 +79,8 @@ shown_numbers name facts = flat_map (numbers_in name) facts
 -- a group that a fact shows is one of its names
 names_shown : (name : Name) (fact : Fact) → shows_group name fact ≡ true → In name (names_in fact)
 unfolding names_in
-names_shown name (There_is g) t = inl (same_text g name (sym t))
-names_shown name (Groups_are p lines) t =
+names_shown name (ThereIs g) t = inl (same_text g name (sym t))
+names_shown name (GroupsAre p lines) t =
     let f = found_in (λ line. is_same line.name name) lines t in
     subst (λ g. In g (map (λ line. line.name) lines)) (same_text f.0.name name (sym f.2)) (in_map (λ line. line.name) f.0 lines f.1)
 names_shown name fact t = cc
@@ -93,8 +93,8 @@ shown_name facts name t = let f = found_in (shows_group name) facts t in to_flat
 -- and back
 names_back : (name : Name) (fact : Fact) → In name (names_in fact) → shows_group name fact ≡ true
 unfolding names_in
-names_back name (There_is g) i = elim i [ inl e ↦ subst (λ n. is_same g n ≡ true) e (nat_list_eq_equiv.refl g) | inr j ↦ absurd j ]
-names_back name (Groups_are p lines) i =
+names_back name (ThereIs g) i = elim i [ inl e ↦ subst (λ n. is_same g n ≡ true) e (nat_list_eq_equiv.refl g) | inr j ↦ absurd j ]
+names_back name (GroupsAre p lines) i =
     let f = from_map (λ (line : ActiveValue). line.name) name lines i in
     any_in (λ line. is_same line.name name) f.0 lines f.1 (subst (λ n. is_same f.0.name n ≡ true) f.2 (nat_list_eq_equiv.refl f.0.name))
 names_back name fact i = absurd i
@@ -106,7 +106,7 @@ name_shown facts name i = let f = from_flat names_in name facts i in any_in (sho
 
 -- a number that is shown is one of the ask's
 pub one_shown : (ask : Ask) (n : ℕ) → shows ask n ≡ true → In n (shown_by ask)
-one_shown (Lists_in r ns) n t = let f = found_in (λ m. n == m) ns t in subst (λ m. In m ns) (sym (eqb-true n f.0 f.2)) f.1
+one_shown (ListsIn r ns) n t = let f = found_in (λ m. n == m) ns t in subst (λ m. In m ns) (sym (eqb-true n f.0 f.2)) f.1
 one_shown (Has m) n t = inl (eqb-true m n t)
 one_shown (StandsAt First m) n t = inl (eqb-true m n t)
 one_shown (StepsUp at m) n t = inl (eqb-true m n t)
@@ -127,17 +127,17 @@ shown_number name facts n t =
 names_few : (facts : List Fact) → length (names_of facts) ≤ size facts
 unfolding names_of names_in
 names_few [] = omega arith
-names_few (There_is name ∷ facts) = let rest = names_few facts in omega arith
-names_few (Groups_are p lines ∷ facts) =
+names_few (ThereIs name ∷ facts) = let rest = names_few facts in omega arith
+names_few (GroupsAre p lines ∷ facts) =
     let rest = names_few facts in
     let names = map (λ (line : ActiveValue). line.name) lines in
     omega (arith, length-append names (names_of facts), length-map lines (λ (line : ActiveValue). line.name))
-names_few (There_is_no name ∷ facts) = let rest = names_few facts in omega arith
-names_few (Asks name (Lists_in r ns) ∷ facts) = let rest = names_few facts in omega arith
+names_few (ThereIsNo name ∷ facts) = let rest = names_few facts in omega arith
+names_few (Asks name (ListsIn r ns) ∷ facts) = let rest = names_few facts in omega arith
 names_few (Asks name ask ∷ facts) = let rest = names_few facts in omega arith
-names_few (Id_at name n id ∷ facts) = let rest = names_few facts in omega arith
-names_few (Text_is what id lines ∷ facts) = let rest = names_few facts in omega arith
-names_few (No_article id ∷ facts) = let rest = names_few facts in omega arith
+names_few (IdAt name n id ∷ facts) = let rest = names_few facts in omega arith
+names_few (TextIs what id lines ∷ facts) = let rest = names_few facts in omega arith
+names_few (NoArticle id ∷ facts) = let rest = names_few facts in omega arith
 
 -- marks show no number
 no_number : (name : Name) (lines : List ActiveValue) → flat_map shown_by (flat_map (λ line. cond (is_same line.name name) (Bounds line.low line.high ∷ []) []) lines) ≡ []
@@ -150,7 +150,7 @@ no_number name (line ∷ lines) =
 
 -- an ask shows few numbers
 asked_few : (g : Name) (ask : Ask) (b : Bool) → length (flat_map shown_by (cond b (ask ∷ []) [])) ≤ size_in (Asks g ask)
-asked_few g (Lists_in r ns) true = omega (arith, length-append ns [])
+asked_few g (ListsIn r ns) true = omega (arith, length-append ns [])
 asked_few g (Has m) true = omega arith
 asked_few g (Estimates m) true = omega arith
 asked_few g (Bounds low high) true = omega arith
@@ -162,7 +162,7 @@ asked_few g (StepsUp at m) true = omega arith
 asked_few g (StepsDown at m) true = omega arith
 asked_few g (IsTop at) true = omega arith
 asked_few g (IsBottom at) true = omega arith
-asked_few g (Lists_in r ns) false = omega arith
+asked_few g (ListsIn r ns) false = omega arith
 asked_few g ask false = omega arith
 
 -- ---- over several groups
@@ -204,12 +204,12 @@ nothing_few f (name ∷ names) none = ap (λ xs. length (xs ++ flat_map f names)
 -- and so a fact
 one_few : (fact : Fact) (names : List Name) → IsDistinct (eq_by_cmp (slice_cmp nat_cmp)) names → length (flat_map (λ name. numbers_in name fact) names) ≤ size_in fact
 one_few (Asks g ask) names d = ask_few g ask names d
-one_few (Id_at g n id) names d = ask_few g (Has n) names d
-one_few (Groups_are p lines) names d = let none = nothing_few (λ name. numbers_in name (Groups_are p lines)) names (λ name. no_number name lines) in omega arith
-one_few (There_is g) names d = let none = nothing_few (λ name. []) names (λ name. refl) in omega arith
-one_few (There_is_no g) names d = let none = nothing_few (λ name. []) names (λ name. refl) in omega arith
-one_few (Text_is what id lines) names d = let none = nothing_few (λ name. []) names (λ name. refl) in omega arith
-one_few (No_article id) names d = let none = nothing_few (λ name. []) names (λ name. refl) in omega arith
+one_few (IdAt g n id) names d = ask_few g (Has n) names d
+one_few (GroupsAre p lines) names d = let none = nothing_few (λ name. numbers_in name (GroupsAre p lines)) names (λ name. no_number name lines) in omega arith
+one_few (ThereIs g) names d = let none = nothing_few (λ name. []) names (λ name. refl) in omega arith
+one_few (ThereIsNo g) names d = let none = nothing_few (λ name. []) names (λ name. refl) in omega arith
+one_few (TextIs what id lines) names d = let none = nothing_few (λ name. []) names (λ name. refl) in omega arith
+one_few (NoArticle id) names d = let none = nothing_few (λ name. []) names (λ name. refl) in omega arith
 
 -- two parts for each group
 both_parts : (f h : Name → List ℕ) (names : List Name) → length (flat_map (λ name. f name ++ h name) names) ≡ length (flat_map f names) + length (flat_map h names)
@@ -230,13 +230,13 @@ numbers_few (fact ∷ facts) names d =
 -- no more ids are mentioned than the size
 mentioned_few : (facts : List Fact) → length (mentioned facts) ≤ size facts
 mentioned_few [] = omega arith
-mentioned_few (There_is name ∷ facts) = let rest = mentioned_few facts in omega arith
-mentioned_few (There_is_no name ∷ facts) = let rest = mentioned_few facts in omega arith
+mentioned_few (ThereIs name ∷ facts) = let rest = mentioned_few facts in omega arith
+mentioned_few (ThereIsNo name ∷ facts) = let rest = mentioned_few facts in omega arith
 mentioned_few (Asks name ask ∷ facts) = let rest = mentioned_few facts in omega arith
-mentioned_few (Id_at name n id ∷ facts) = let rest = mentioned_few facts in omega arith
-mentioned_few (Text_is what id lines ∷ facts) = let rest = mentioned_few facts in omega arith
-mentioned_few (No_article id ∷ facts) = let rest = mentioned_few facts in omega arith
-mentioned_few (Groups_are p lines ∷ facts) = let rest = mentioned_few facts in omega arith
+mentioned_few (IdAt name n id ∷ facts) = let rest = mentioned_few facts in omega arith
+mentioned_few (TextIs what id lines ∷ facts) = let rest = mentioned_few facts in omega arith
+mentioned_few (NoArticle id ∷ facts) = let rest = mentioned_few facts in omega arith
+mentioned_few (GroupsAre p lines ∷ facts) = let rest = mentioned_few facts in omega arith
 
 -- ---- the spool that is given
 

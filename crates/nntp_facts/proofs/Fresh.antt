@@ -1,13 +1,12 @@
 -- The numbers of invented ids: they are small, rise, and aren't those of ids that are mentioned.
-use Rattle.std.proofs.Common.{◌≡◌, ℕ, ◌+◌, ◌<◌, ◌≤◌, Bool, true, false, cond, eqb, List, [], ◌∷◌, ◌++◌, map, length, None, is_some, inl, inr, sym, ap, subst, ◌∙◌, arith, length-append}
+use Rattle.std.proofs.Common.{◌≡◌, ℕ, ◌+◌, ◌<◌, ◌≤◌, Bool, true, false, cond, eqb, List, [], ◌∷◌, ◌++◌, length, None, is_some, inl, inr, sym, ap, subst, ◌∙◌, arith, length-append}
 use Rattle.std.specs.Prelude.{IsFalse, ⊤}
 use Rattle.std.specs.List.{list_any, flat_map}
 use Rattle.std.specs.Cmp.Lexicographic.{same_text}
 use Rattle.std.proofs.lemmas.Bool.{cases_lt, or_cases, or_left, or_right, eq-eqb}
-use Rattle.std.proofs.lemmas.List.{length-map}
 use Rattle.std.proofs.lemmas.Map.Steps.{le-length_from_below}
 use Rattle.nntp_article.specs.Machine.{is_same}
-use Rattle.nntp_facts.specs.Facts.{Fact, Id_at, Text_is, No_article}
+use Rattle.nntp_facts.specs.Facts.{Fact, IdAt, TextIs, NoArticle}
 use Rattle.nntp_facts.specs.Given.{mentions, is_mentioned, invented, AreInvented, id_shown, unshown_in}
 use Rattle.nntp_facts.proofs.Invented.{number_of}
 use Rattle.nntp_facts.proofs.Members.{In, in_back}
@@ -16,9 +15,9 @@ use Rattle.nntp_article.specs.Article.{Id}
 
 -- the number of the id that a fact mentions, as if it were an invented one
 abbrev pub number_in : Fact → List ℕ
-number_in (Id_at name n id) = number_of id ∷ []
-number_in (Text_is what id lines) = number_of id ∷ []
-number_in (No_article id) = number_of id ∷ []
+number_in (IdAt name n id) = number_of id ∷ []
+number_in (TextIs what id lines) = number_of id ∷ []
+number_in (NoArticle id) = number_of id ∷ []
 number_in fact = []
 
 -- the numbers of the ids that are mentioned
@@ -47,9 +46,9 @@ module _ (B : ℕ) (small : (i : ℕ) → i < B → number_of (invented i) ≡ i
 
   -- a fact that mentions an invented id has its number
   counted_in : (i : ℕ) (fact : Fact) → i < B → mentions (invented i) fact ≡ true → list_any (eqb i) (number_in fact) ≡ true
-  counted_in i (Id_at name n id) l e = or_left (eqb i (number_of id)) false (same_number i id l e)
-  counted_in i (Text_is what id lines) l e = or_left (eqb i (number_of id)) false (same_number i id l e)
-  counted_in i (No_article id) l e = or_left (eqb i (number_of id)) false (same_number i id l e)
+  counted_in i (IdAt name n id) l e = or_left (eqb i (number_of id)) false (same_number i id l e)
+  counted_in i (TextIs what id lines) l e = or_left (eqb i (number_of id)) false (same_number i id l e)
+  counted_in i (NoArticle id) l e = or_left (eqb i (number_of id)) false (same_number i id l e)
   counted_in i fact l e = cc
 
   -- and so one of the facts

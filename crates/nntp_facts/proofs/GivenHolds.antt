@@ -16,7 +16,7 @@ use Rattle.nntp_article.specs.Spool.{Spool, Text, Numbers, IsNumber, IsGroup, nu
 use Rattle.nntp_article.specs.Machine.{is_same, ActivesAgree}
 use Rattle.nntp_article.proofs.HeadParts.{parts}
 use Rattle.nntp_facts.specs.Asks.{Ask, Meets, Has, Bounds}
-use Rattle.nntp_facts.specs.Facts.{Fact, Holds, There_is, There_is_no, Asks, Id_at, Text_is, No_article, Groups_are}
+use Rattle.nntp_facts.specs.Facts.{Fact, Holds, ThereIs, ThereIsNo, Asks, IdAt, TextIs, NoArticle, GroupsAre}
 use Rattle.nntp_facts.specs.Given.{asks_in, asks_of, shows_group, id_in, id_shown, first_given, mentions, is_mentioned, gives_article, is_sent, head_in, body_in, plain_head, invented, unshown_in, unshown_ids, IsGiven}
 use Rattle.nntp_facts.proofs.Members.{In, all_at, all_part, all_from, any_in, found_in, in_map, from_map, contains_in, in_contains, first_found, first_there}
 use Rattle.nntp_facts.proofs.Firsts.{none_of, not_number}
@@ -26,7 +26,6 @@ use Rattle.nntp_facts.proofs.Placed.{Placed}
 use Rattle.nntp_facts.proofs.Invented.{number_of}
 use Rattle.nntp_facts.proofs.Fresh.{Numbered, numbered, of_numbered, part_numbered, unshown_there, unshown_apart, mentioned}
 use Rattle.nntp_wire.specs.Listing.{ActiveValue}
-use Rattle.nntp_wire.specs.Decided.{is_message_id}
 use Rattle.nntp_wire.specs.declared.command.What.{What}
 use Rattle.nntp_wire.specs.declared.command.What.TheVariants.{Article, Head, Body, Stat}
 use Rattle.nntp_wire.specs.Name.{IsMessageId}
@@ -79,8 +78,8 @@ pub record Setting (profile : Profile) (B : ℕ) (S G : Spool) (facts : List Fac
 module _ (profile : Profile) (B : ℕ) (S G : Spool) (facts : List Fact) (s : Setting profile B S G facts) where
   -- a group that one fact shows is S's
   group_shown : (name : Name) (fact : Fact) → Holds S fact → shows_group name fact ≡ true → IsGroup S name
-  group_shown name (There_is g) h t = subst (IsGroup S) (same_text g name (sym t)) h
-  group_shown name (Groups_are p lines) h t =
+  group_shown name (ThereIs g) h t = subst (IsGroup S) (same_text g name (sym t)) h
+  group_shown name (GroupsAre p lines) h t =
       let f = found_in (λ line. is_same line.name name) lines t in
       ((h.0 name).0 (contains_in name (map (λ line. line.name) lines) (subst (λ g. In g (map (λ line. line.name) lines)) (same_text f.0.name name (sym f.2)) (in_map (λ line. line.name) f.0 lines f.1)))).0
   group_shown name fact h t = cc
@@ -108,7 +107,7 @@ module _ (profile : Profile) (B : ℕ) (S G : Spool) (facts : List Fact) (s : Se
       one g m other false is h e = cc
 
       by : (fact : Fact) → Holds S fact → id_in name n fact ≡ Some id → get (numbers S name) n ≡ Some id
-      by (Id_at g m other) h e = one g m other (is_same g name && m == n) refl h e
+      by (IdAt g m other) h e = one g m other (is_same g name && m == n) refl h e
       by fact h e = cc
 
   -- the invented ids are numbered
@@ -151,7 +150,7 @@ module _ (profile : Profile) (B : ℕ) (S G : Spool) (facts : List Fact) (s : Se
 
   -- an id that a success names has an article in S
   sent_in_S : (id : Id) (fact : Fact) → Holds S fact → gives_article id fact ≡ true → IsSome (get S.articles id)
-  sent_in_S id (Text_is what other lines) h t = subst (λ id. IsSome (get S.articles id)) (same_text other id (sym t)) (mapped (text_of what) (get S.articles other) lines h)
+  sent_in_S id (TextIs what other lines) h t = subst (λ id. IsSome (get S.articles id)) (same_text other id (sym t)) (mapped (text_of what) (get S.articles other) lines h)
     where
       mapped : (f : Text → Option (List Line)) (o : Option Text) (y : Option (List Line)) → option_map f o ≡ Some y → IsSome o
       mapped f None y e = cc
@@ -181,14 +180,14 @@ module _ (profile : Profile) (B : ℕ) (S G : Spool) (facts : List Fact) (s : Se
 
   -- a head that one fact gives_article is S's
   head_by_one : (id : Id) (lines : List Line) (fact : Fact) → Holds S fact → head_in id fact ≡ Some lines → (t : Text) × (get S.articles id ≡ Some t) × (t.head ≡ lines)
-  head_by_one id lines (Text_is Article other (Some ls)) h e =
+  head_by_one id lines (TextIs Article other (Some ls)) h e =
       let a = article_of Article other (Some ls) h in
       by (is_same other id) refl a.0 a.1 (parts_of other a.0 ls a.1 a.2).0 e
     where
       by : (b : Bool) → is_same other id ≡ b → (t : Text) → get S.articles other ≡ Some t → t.head ≡ head_part ls → cond b (Some (head_part ls)) None ≡ Some lines → (t : Text) × (get S.articles id ≡ Some t) × (t.head ≡ lines)
       by true is t at same e = (t, subst (λ id. get S.articles id ≡ Some t) (same_text other id (sym is)) at, cc)
       by false is t at same e = cc
-  head_by_one id lines (Text_is Head other (Some ls)) h e =
+  head_by_one id lines (TextIs Head other (Some ls)) h e =
       let a = article_of Head other (Some ls) h in
       by (is_same other id) refl a.0 a.1 (cc) e
     where
@@ -203,14 +202,14 @@ module _ (profile : Profile) (B : ℕ) (S G : Spool) (facts : List Fact) (s : Se
 
   -- a body that one fact gives_article is S's
   body_by_one : (id : Id) (lines : List Line) (fact : Fact) → Holds S fact → body_in id fact ≡ Some lines → (t : Text) × (get S.articles id ≡ Some t) × (t.body ≡ lines)
-  body_by_one id lines (Text_is Article other (Some ls)) h e =
+  body_by_one id lines (TextIs Article other (Some ls)) h e =
       let a = article_of Article other (Some ls) h in
       by (is_same other id) refl a.0 a.1 (parts_of other a.0 ls a.1 a.2).1 e
     where
       by : (b : Bool) → is_same other id ≡ b → (t : Text) → get S.articles other ≡ Some t → t.body ≡ body_part ls → cond b (Some (body_part ls)) None ≡ Some lines → (t : Text) × (get S.articles id ≡ Some t) × (t.body ≡ lines)
       by true is t at same e = (t, subst (λ id. get S.articles id ≡ Some t) (same_text other id (sym is)) at, cc)
       by false is t at same e = cc
-  body_by_one id lines (Text_is Body other (Some ls)) h e =
+  body_by_one id lines (TextIs Body other (Some ls)) h e =
       let a = article_of Body other (Some ls) h in
       by (is_same other id) refl a.0 a.1 (cc) e
     where
@@ -242,22 +241,22 @@ module _ (profile : Profile) (B : ℕ) (S G : Spool) (facts : List Fact) (s : Se
   if_itself id lines = ap (λ b. cond b (Some lines) None) (same_itself id)
 
   -- what G gives_article of an article that was sent is what S gives_article
-  same_text_of : (what : What) (id : Id) (t u : Text) → In (Text_is what id (text_of what t)) facts → get S.articles id ≡ Some t → get G.articles id ≡ Some u → text_of what u ≡ text_of what t
+  same_text_of : (what : What) (id : Id) (t u : Text) → In (TextIs what id (text_of what t)) facts → get S.articles id ≡ Some t → get G.articles id ≡ Some u → text_of what u ≡ text_of what t
   same_text_of Article id t u i at there =
       let whole = t.head ++ [] ∷ t.body in
-      let h = same_head id t u at there (first_there (head_in id) facts (Text_is Article id (Some whole)) (head_part whole) i (if_itself id (head_part whole))) in
-      let b = same_body id t u at there (first_there (body_in id) facts (Text_is Article id (Some whole)) (body_part whole) i (if_itself id (body_part whole))) in
+      let h = same_head id t u at there (first_there (head_in id) facts (TextIs Article id (Some whole)) (head_part whole) i (if_itself id (head_part whole))) in
+      let b = same_body id t u at there (first_there (body_in id) facts (TextIs Article id (Some whole)) (body_part whole) i (if_itself id (body_part whole))) in
       λ k. Some (h k ++ [] ∷ b k)
-  same_text_of Head id t u i at there = ap Some (same_head id t u at there (first_there (head_in id) facts (Text_is Head id (Some t.head)) t.head i (if_itself id t.head)))
-  same_text_of Body id t u i at there = ap Some (same_body id t u at there (first_there (body_in id) facts (Text_is Body id (Some t.body)) t.body i (if_itself id t.body)))
+  same_text_of Head id t u i at there = ap Some (same_head id t u at there (first_there (head_in id) facts (TextIs Head id (Some t.head)) t.head i (if_itself id t.head)))
+  same_text_of Body id t u i at there = ap Some (same_body id t u at there (first_there (body_in id) facts (TextIs Body id (Some t.body)) t.body i (if_itself id t.body)))
   same_text_of Stat id t u i at there = refl
 
   -- what was sent of an article, G gives_article
-  text_holds : (what : What) (id : Id) (lines : Option (List Line)) → In (Text_is what id lines) facts → HasText S what id lines → HasText G what id lines
+  text_holds : (what : What) (id : Id) (lines : Option (List Line)) → In (TextIs what id lines) facts → HasText S what id lines → HasText G what id lines
   text_holds what id lines i h =
       let a = article_of what id lines h in
-      let g = some_is (get G.articles id) ((s.given.articles id).1 (inr (any_in (gives_article id) (Text_is what id lines) facts i (same_itself id)))) in
-      let same = same_text_of what id a.0 g.0 (subst (λ l. In (Text_is what id l) facts) (sym a.2) i) a.1 g.1 in
+      let g = some_is (get G.articles id) ((s.given.articles id).1 (inr (any_in (gives_article id) (TextIs what id lines) facts i (same_itself id)))) in
+      let same = same_text_of what id a.0 g.0 (subst (λ l. In (TextIs what id l) facts) (sym a.2) i) a.1 g.1 in
       ap (option_map (text_of what)) g.1 ∙ ap Some (same ∙ a.2)
 
   -- what is asked of a name under its own test
@@ -265,18 +264,18 @@ module _ (profile : Profile) (B : ℕ) (S G : Spool) (facts : List Fact) (s : Se
   if_same_name P name ask h = (subst (λ b. AllByRecursion P (cond b (ask ∷ []) [])) (same_itself name) h).0
 
   -- an id that was shown stands in G
-  id_holds : (name : Name) (n : ℕ) (id : Id) → In (Id_at name n id) facts → IsGroup G name → get (numbers S name) n ≡ Some id → get (numbers G name) n ≡ Some id
+  id_holds : (name : Name) (n : ℕ) (id : Id) → In (IdAt name n id) facts → IsGroup G name → get (numbers S name) n ≡ Some id → get (numbers G name) n ≡ Some id
   id_holds name n id i group h =
-      let here : IsNumber (numbers G name) n = if_same_name (Meets (numbers G name)) name (Has n) (all_part (Meets (numbers G name)) (asks_in name) (Id_at name n id) facts i (meets name group)) in
-      let f = first_there (id_in name n) facts (Id_at name n id) id i (ap (λ b. cond b (Some id) None) (and_from (is_same name name) (n == n) (same_itself name) (eq-eqb n n refl))) in
+      let here : IsNumber (numbers G name) n = if_same_name (Meets (numbers G name)) name (Has n) (all_part (Meets (numbers G name)) (asks_in name) (IdAt name n id) facts i (meets name group)) in
+      let f = first_there (id_in name n) facts (IdAt name n id) id i (ap (λ b. cond b (Some id) None) (and_from (is_same name name) (n == n) (same_itself name) (eq-eqb n n refl))) in
       let same : f.0 ≡ id = (let q : Some f.0 ≡ Some id = sym (shown_in_S name n f.0 f.1) ∙ h in cc) in
       s.given.ids_shown name n f.0 here f.1 ∙ ap Some same
 
   -- a list of groups that was sent is G's
-  lines_hold : (p : Option (List ℕ)) (lines : List ActiveValue) → In (Groups_are p lines) facts → ActivesAgree S p lines → ActivesAgree G p lines
+  lines_hold : (p : Option (List ℕ)) (lines : List ActiveValue) → In (GroupsAre p lines) facts → ActivesAgree S p lines → ActivesAgree G p lines
   lines_hold p lines i h =
       let listed : (line : ActiveValue) → In line lines → (name : Name) → line.name ≡ name → IsGroup G name = λ line j name e.
-      (s.given.groups name).1 (any_in (shows_group name) (Groups_are p lines) facts i (any_in (λ line. is_same line.name name) line lines j (subst (λ n. is_same line.name n ≡ true) e (same_itself line.name)))) in (
+      (s.given.groups name).1 (any_in (shows_group name) (GroupsAre p lines) facts i (any_in (λ line. is_same line.name name) line lines j (subst (λ n. is_same line.name n ≡ true) e (same_itself line.name)))) in (
         λ name. (
           λ c. (let f = from_map (λ line. line.name) name lines (in_contains name (map (λ line. line.name) lines) c) in (listed f.0 f.1 name f.2, ((h.0 name).0 c).1)),
           λ g. (h.0 name).1 (group_in_S name g.0, g.1),
@@ -284,26 +283,26 @@ module _ (profile : Profile) (B : ℕ) (S G : Spool) (facts : List Fact) (s : Se
         All-from_recursion _ lines (all_from _ lines (λ line j.
             let group = listed line j line.name refl in
             if_same_name (Meets (numbers G line.name)) line.name (Bounds line.low line.high)
-            (all_part (Meets (numbers G line.name)) _ line lines j (all_part (Meets (numbers G line.name)) (asks_in line.name) (Groups_are p lines) facts i (meets line.name group))))),
+            (all_part (Meets (numbers G line.name)) _ line lines j (all_part (Meets (numbers G line.name)) (asks_in line.name) (GroupsAre p lines) facts i (meets line.name group))))),
       )
 
   -- what holds of S and was said holds of G
   fact_holds : (fact : Fact) → In fact facts → Holds S fact → Placed G fact → Holds G fact
-  fact_holds (There_is name) i h p = (s.given.groups name).1 (any_in (shows_group name) (There_is name) facts i (same_itself name))
-  fact_holds (There_is_no name) i h p = none_of (get G.groups name) (λ g. true≢false (sym (group_in_S name g) ∙ ap is_some h))
+  fact_holds (ThereIs name) i h p = (s.given.groups name).1 (any_in (shows_group name) (ThereIs name) facts i (same_itself name))
+  fact_holds (ThereIsNo name) i h p = none_of (get G.groups name) (λ g. true≢false (sym (group_in_S name g) ∙ ap is_some h))
   fact_holds (Asks name ask) i h p = if_same_name (Meets (numbers G name)) name ask (all_part (Meets (numbers G name)) (asks_in name) (Asks name ask) facts i (meets name p))
-  fact_holds (Id_at name n id) i h p = id_holds name n id i p h
-  fact_holds (Text_is what id lines) i h p = text_holds what id lines i h
-  fact_holds (No_article id) i h p = none_of (get G.articles id) (λ g.
+  fact_holds (IdAt name n id) i h p = id_holds name n id i p h
+  fact_holds (TextIs what id lines) i h p = text_holds what id lines i h
+  fact_holds (NoArticle id) i h p = none_of (get G.articles id) (λ g.
       let denied : IsSome (get S.articles id) → ⊥ = λ t. true≢false (sym t ∙ ap is_some h) in
       elim ((s.given.articles id).0 g) [
         | inl used ↦ elim (id_cases used.0 used.1 id used.2) [
           | inl shown ↦ denied (s.spool.ids_have_articles used.0 used.1 id shown.1)
-          | inr new ↦ true≢false (sym (any_in (mentions id) (No_article id) facts i (same_itself id)) ∙ new.1.3)
+          | inr new ↦ true≢false (sym (any_in (mentions id) (NoArticle id) facts i (same_itself id)) ∙ new.1.3)
         ]
         | inr sent ↦ denied (sent_has_article id sent)
       ])
-  fact_holds (Groups_are p lines) i h g = lines_hold p lines i h
+  fact_holds (GroupsAre p lines) i h g = lines_hold p lines i h
 
   -- all that is said holds of G
   pub all_hold : AllByRecursion (Holds G) facts
@@ -320,5 +319,5 @@ module _ (profile : Profile) (B : ℕ) (S G : Spool) (facts : List Fact) (s : Se
       one g m other false e = cc
 
       by : (fact : Fact) → id_in name n fact ≡ Some id → mentions id fact ≡ true
-      by (Id_at g m other) e = one g m other (is_same g name && m == n) e
+      by (IdAt g m other) e = one g m other (is_same g name && m == n) e
       by fact e = cc

@@ -14,7 +14,6 @@ use Rattle.nntp_facts.proofs.PlainHead.{plain_says, plain_is_head, plain_is_clea
 use Rattle.nntp_facts.proofs.GivenNumbers.{shown_are_numbers, more_is_low, number_there}
 use Rattle.nntp_facts.proofs.GivenSession.{met_by_facts}
 use Rattle.nntp_facts.proofs.GivenHolds.{Setting, group_of_number, group_in_S, id_cases, unshown_once, sent_has_article, head_in_S, body_in_S, shown_mentioned}
-use Rattle.nntp_wire.specs.Decided.{is_message_id}
 use Rattle.nntp_wire.specs.Name.{IsMessageId}
 
 -- a head for an id, without lines that hold NUL, CR or LF, and it says no other id

@@ -12,7 +12,7 @@ use Rattle.std.specs.Option.{option_map_or}
 use Rattle.std.proofs.lemmas.Bool.Decides.{nat_tests}
 use Rattle.nntp_article.specs.Spool.{Numbers, IsNumber, least, IsNextAbove, IsNextBelow, NoneAbove, NoneBelow, IsInRange}
 use Rattle.nntp_article.specs.Machine.{is_in_range}
-use Rattle.nntp_facts.specs.Asks.{First, Known, current_in, Ask, Meets, Estimates, Bounds, Lists_in, Has, Lacks, StandsAt, StandsNowhere, StepsUp, StepsDown, IsTop, IsBottom}
+use Rattle.nntp_facts.specs.Asks.{First, Known, current_in, Ask, Meets, Estimates, Bounds, ListsIn, Has, Lacks, StandsAt, StandsNowhere, StepsUp, StepsDown, IsTop, IsBottom}
 use Rattle.nntp_facts.specs.Given.{shows, denies, is_shown, is_denied, steps_from_first_to, tells_of_first, NeedsOneBelow, NeedsOne, IsOneMore, HasGivenNumbers}
 use Rattle.nntp_facts.proofs.Firsts.{Empty, Begins, firsts, least_is, least_none, least_le, none_of, not_number, len_le}
 use Rattle.nntp_wire.specs.declared.range.Range.{Range}
@@ -58,7 +58,7 @@ le_trans p q = omega arith
 -- ---- what an answer shows is a number, and what it denies isn't
 
 shown_is_number : (N : Numbers) (ask : Ask) (n : ℕ) → Meets N ask → IsTrue (shows ask n) → IsNumber N n
-shown_is_number N (Lists_in r ns) n h s = ((h n).0 (found_in ns n s)).0
+shown_is_number N (ListsIn r ns) n h s = ((h n).0 (found_in ns n s)).0
 shown_is_number N (Has m) n h s = subst (IsNumber N) (eqb-true m n s) h
 shown_is_number N (StandsAt First m) n h s =
     elim (firsts N) [
@@ -72,7 +72,7 @@ shown_is_number N ask n h s = cc
 number_not_denied : (N : Numbers) (ask : Ask) (n : ℕ) → Meets N ask → IsNumber N n → IsTrue (denies ask n) → ⊥
 number_not_denied N (Estimates m) n h i d = let b = h.1 n i in grind (arith, nat_tests)
 number_not_denied N (Bounds low high) n h i d = let b = h n i in grind (arith, nat_tests)
-number_not_denied N (Lists_in r ns) n h i d =
+number_not_denied N (ListsIn r ns) n h i d =
     let p = and_parts (is_in_range r n) (not (list_any (λ m. n == m) ns)) d in
     true≢false (sym (finds ns n ((h n).1 (i, in_range r n p.0))) ∙ not-true (list_any (λ m. n == m) ns) p.1)
 number_not_denied N (Lacks m) n h i d = true≢false (sym i ∙ ap is_some (subst (λ m. get N m ≡ None) (eqb-true m n d) h))
@@ -325,9 +325,9 @@ module _ (asks : List Ask) (N G : Numbers) (met : AllByRecursion (Meets N) asks)
   meets_in_G : (ask : Ask) → IsOf asks ask → Meets N ask → Meets G ask
   meets_in_G (Estimates m) of h = (le_trans as_few h.0, λ n i. elim (from_G (Estimates m) of n i) [ inl j ↦ h.1 n j | inr f ↦ (grind (arith, nat_tests), grind (arith, nat_tests)) ])
   meets_in_G (Bounds low high) of h = λ n i. elim (from_G (Bounds low high) of n i) [ inl j ↦ h n j | inr f ↦ (grind (arith, nat_tests), grind (arith, nat_tests)) ]
-  meets_in_G (Lists_in r ns) of h = λ n. (
-    λ listed. (shown_in_G (Lists_in r ns) of n (finds ns n listed), ((h n).0 listed).1),
-    λ p. elim (from_G (Lists_in r ns) of n p.0) [
+  meets_in_G (ListsIn r ns) of h = λ n. (
+    λ listed. (shown_in_G (ListsIn r ns) of n (finds ns n listed), ((h n).0 listed).1),
+    λ p. elim (from_G (ListsIn r ns) of n p.0) [
       | inl j ↦ (h n).1 (j, p.1)
       | inr f ↦ elim (and_cases (is_in_range r n) _ f) [ inl g ↦ absurd (true≢false (sym (in_range_back r n p.1) ∙ g)) | inr g ↦ found_in ns n (not-false _ g) ]
     ],

@@ -1,10 +1,10 @@
 -- The spool that is given for a session permits it.
-use Rattle.std.proofs.Common.{ℕ, ◌<◌, ◌^◌, List, length, refl}
+use Rattle.std.proofs.Common.{◌<◌, ◌^◌, List, length, refl}
 use Rattle.std.specs.List.{AllByRecursion}
 use Rattle.nntp_article.specs.Spool.{Spool, IsSpool, numbers, Name, Profile}
 use Rattle.nntp_article.specs.Machine.{Run, start}
 use Rattle.nntp_facts.specs.Asks.{Nowhere, Meets}
-use Rattle.nntp_facts.specs.Facts.{Fact, Holds, FitsAll, There_is}
+use Rattle.nntp_facts.specs.Facts.{Fact, Holds, FitsAll, ThereIs}
 use Rattle.nntp_facts.specs.Given.{IsGiven, facts_of_session, unshown_ids, shows_group, asks_of, size, HasAtLeast}
 use Rattle.nntp_facts.proofs.Members.{In, all_from, any_in}
 use Rattle.nntp_facts.proofs.ReadOff.{read_off, run_from}
@@ -27,7 +27,7 @@ groups_shown : (G : Spool) (facts : List Fact) → IsGiven facts G → AllByRecu
 groups_shown G facts given = all_from (Shows G) facts one
   where
     one : (fact : Fact) → In fact facts → Shows G fact
-    one (There_is name) i = (given.groups name).1 (any_in (shows_group name) (There_is name) facts i (same_itself name))
+    one (ThereIs name) i = (given.groups name).1 (any_in (shows_group name) (ThereIs name) facts i (same_itself name))
     one fact i = tt
 
 -- what the laws below stand on

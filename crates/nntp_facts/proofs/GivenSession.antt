@@ -6,7 +6,7 @@ use Rattle.std.specs.Cmp.Lexicographic.{same_text}
 use Rattle.nntp_article.specs.Spool.{Spool, numbers, Name}
 use Rattle.nntp_article.specs.Machine.{is_same}
 use Rattle.nntp_facts.specs.Asks.{Ask, Meets, Has, Bounds}
-use Rattle.nntp_facts.specs.Facts.{Fact, Holds, There_is, There_is_no, Asks, Id_at, Text_is, No_article, Groups_are}
+use Rattle.nntp_facts.specs.Facts.{Fact, Holds, ThereIs, ThereIsNo, Asks, IdAt, TextIs, NoArticle, GroupsAre}
 use Rattle.nntp_facts.specs.Given.{asks_in, asks_of}
 use Rattle.nntp_facts.proofs.Members.{all_at, all_parts}
 use Rattle.std.proofs.Common.{is_some}
@@ -19,14 +19,14 @@ if_same S name g ask h false e = tt
 -- what one fact asks of a group
 met_by_one : (S : Spool) (name : Name) (fact : Fact) → Holds S fact → AllByRecursion (Meets (numbers S name)) (asks_in name fact)
 met_by_one S name (Asks g ask) h = if_same S name g ask h (is_same g name) refl
-met_by_one S name (Id_at g n id) h = if_same S name g (Has n) (ap is_some h) (is_same g name) refl
-met_by_one S name (Groups_are p lines) h =
+met_by_one S name (IdAt g n id) h = if_same S name g (Has n) (ap is_some h) (is_same g name) refl
+met_by_one S name (GroupsAre p lines) h =
     let each = recursion_from_All _ lines h.1 in
     all_parts (Meets (numbers S name)) _ lines (λ line i. if_same S name line.name (Bounds line.low line.high) (all_at _ line lines each i) (is_same line.name name) refl)
-met_by_one S name (There_is g) h = tt
-met_by_one S name (There_is_no g) h = tt
-met_by_one S name (Text_is what id lines) h = tt
-met_by_one S name (No_article id) h = tt
+met_by_one S name (ThereIs g) h = tt
+met_by_one S name (ThereIsNo g) h = tt
+met_by_one S name (TextIs what id lines) h = tt
+met_by_one S name (NoArticle id) h = tt
 
 -- what all that a session says asks of a group
 pub met_by_facts : (S : Spool) (name : Name) (facts : List Fact) → AllByRecursion (Holds S) facts → AllByRecursion (Meets (numbers S name)) (asks_of name facts)

@@ -1,5 +1,5 @@
 -- Invented ids: they are message ids, and differ from one another.
-use Rattle.std.proofs.Common.{◌≡◌, ℕ, ◌+◌, ◌-◌, ◌<◌, ◌≤◌, ◌^◌, true, false, ◌&&◌, not, ◌==◌, IsTrue, List, [], ◌∷◌, ◌++◌, length, take, drop, refl, ap, ◌∙◌, arith, length-append}
+use Rattle.std.proofs.Common.{◌≡◌, ℕ, ◌+◌, ◌-◌, ◌<◌, ◌≤◌, ◌^◌, true, false, ◌&&◌, not, ◌==◌, List, [], ◌∷◌, ◌++◌, length, take, drop, refl, ap, ◌∙◌, arith, length-append}
 use Rattle.std.specs.Prelude.{nat_le, codes, decimal}
 use Rattle.std.specs.List.{list_all}
 use Rattle.std.specs.Str.Parse.{AllDigits, digits_value}
@@ -10,7 +10,7 @@ use Rattle.std.proofs.lemmas.Fmt.{decimal_is_IsNumeral_wide, length-decimal-le_w
 use Rattle.std.proofs.lemmas.Str.Parse.{digit_from_value}
 use Rattle.nntp_facts.specs.Given.{invented}
 use Rattle.nntp_article.specs.Article.{Id}
-use Rattle.nntp_wire.specs.Decided.{is_id_octet, ends_id, is_message_id}
+use Rattle.nntp_wire.specs.Decided.{is_id_octet, ends_id}
 use Rattle.nntp_wire.specs.Name.{IsMessageId}
 use Rattle.nntp_wire.proofs.DecidedLemmas.{message_id-iff}
 

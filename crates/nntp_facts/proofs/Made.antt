@@ -4,14 +4,13 @@ use Rattle.std.specs.Prelude.{IsFalse, unwrap_or, option_to_list}
 use Rattle.std.specs.List.{list_any, flat_map}
 use Rattle.std.specs.Ordering.{nat_cmp}
 use Rattle.std.proofs.lemmas.Bool.{cases_lt, or_left, or_right, eq-eqb}
-use Rattle.std.proofs.lemmas.List.{length-map}
 use Rattle.std.proofs.lemmas.Map.Steps.{le-length_from_below}
 use Rattle.std.specs.Cmp.{nat_cmp_total}
 use Rattle.std.specs.Cmp.Lexicographic.{slice_cmp, same_text, nat_list_cmp_total}
 use Rattle.std.specs.FinMap.{FinMap, get, empty, keys, entries, from_sorted, entries-from_sorted, nat_cmp-IsAntisymmetric, slice_cmp-IsAntisymmetric, IsAntisymmetric}
 use Rattle.nntp_article.specs.Spool.{Spool, Text, Numbers, IsNumber, IsGroup, numbers, Name}
 use Rattle.nntp_article.specs.Machine.{is_same}
-use Rattle.nntp_facts.specs.Facts.{Fact, Text_is}
+use Rattle.nntp_facts.specs.Facts.{Fact, TextIs}
 use Rattle.nntp_facts.specs.Given.{is_shown, IsOneMore, HasGivenNumbers, asks_of, is_shown_group, first_given, id_shown, gives_article, is_sent, head_in, body_in, plain_head, is_mentioned, invented, unshown_in, unshown_ids, IsUsed, AreInvented, IsGiven}
 use Rattle.nntp_facts.proofs.Members.{In, in_front, in_back, in_cases, in_map, from_map, to_flat, from_flat, any_in, found_in}
 use Rattle.nntp_facts.proofs.Few.{names_of, shown_name, name_shown}
@@ -28,7 +27,7 @@ names_apart = slice_cmp-IsAntisymmetric nat_cmp-IsAntisymmetric
 
 -- the id that a success names
 sent_in : Fact → List Id
-sent_in (Text_is what id lines) = id ∷ []
+sent_in (TextIs what id lines) = id ∷ []
 sent_in fact = []
 
 module _ (limit : ℕ) (B : ℕ) (facts : List Fact) where
@@ -204,13 +203,13 @@ module _ (limit : ℕ) (B : ℕ) (facts : List Fact) where
   -- one of the ids that are sent
   sent_back : (id : Id) (fact : Fact) → In id (sent_in fact) → gives_article id fact ≡ true
   unfolding sent_in
-  sent_back id (Text_is what other lines) i = elim i [ inl e ↦ subst (λ x. is_same other x ≡ true) e (same_itself other) | inr j ↦ absurd j ]
+  sent_back id (TextIs what other lines) i = elim i [ inl e ↦ subst (λ x. is_same other x ≡ true) e (same_itself other) | inr j ↦ absurd j ]
   sent_back id fact i = absurd i
 
   -- and back
   sent_there : (id : Id) (fact : Fact) → gives_article id fact ≡ true → In id (sent_in fact)
   unfolding sent_in
-  sent_there id (Text_is what other lines) t = inl (same_text other id (sym t))
+  sent_there id (TextIs what other lines) t = inl (same_text other id (sym t))
   sent_there id fact t = cc
 
   -- the ids are those that are used or sent

@@ -12,7 +12,7 @@ use Rattle.nntp_facts.proofs.Size.{session_size}
 use Rattle.nntp_facts.proofs.FirstBad.{run_fewer, permitted_or_bad}
 use Rattle.nntp_wire.specs.Answer.{Asked, Response, Spells}
 use Rattle.nntp_wire.specs.Session.{prompts_of}
-use Rattle.nntp_facts.proofs.Spellings.{AreSpellings, are_spellings}
+use Rattle.nntp_facts.proofs.Spellings.{AreSpellings}
 
 -- the longest list of answers that the octets begin with
 record Reading (ps : List Asked) (octets : List ℕ) : Type 0 where

@@ -6,7 +6,7 @@ use Rattle.std.proofs.lemmas.Bool.{and_parts, or_cases, eqb-true, true≢false}
 use Rattle.nntp_article.specs.Spool.{Spool, IsGroup, Name, Profile}
 use Rattle.nntp_article.specs.Machine.{Visible, visible_after, fits, is_same, is_num, number_fits}
 use Rattle.nntp_facts.specs.Asks.{Position, position_after}
-use Rattle.nntp_facts.specs.Facts.{Fact, There_is, Asks, Id_at, here, on, facts_of_code, facts_of, facts_from, FitsAll}
+use Rattle.nntp_facts.specs.Facts.{Fact, ThereIs, Asks, IdAt, here, on, facts_of_code, facts_of, facts_from, FitsAll}
 use Rattle.nntp_facts.proofs.Members.{all_both, all_front, all_back}
 use Rattle.nntp_wire.specs.Answer.{Asked, Response, Success, success_code, to, group_is, numbers_are, sends, active_are, plain}
 use Rattle.nntp_wire.specs.Command.{Request, Target, by_id, by_number, current, group, list_group, next, last, retrieve, list_active}
@@ -14,13 +14,13 @@ use Rattle.nntp_wire.specs.declared.command.What.{What}
 
 -- a group that a fact shows is there
 abbrev pub Shows : Spool → Fact → Type 0
-Shows G (There_is name) = IsGroup G name
+Shows G (ThereIs name) = IsGroup G name
 Shows G fact = ⊤
 
 -- numbers that a fact speaks of are those of a group
 abbrev pub Placed : Spool → Fact → Type 0
 Placed G (Asks name ask) = IsGroup G name
-Placed G (Id_at name n id) = IsGroup G name
+Placed G (IdAt name n id) = IsGroup G name
 Placed G fact = ⊤
 
 -- the selected group is there

@@ -2,7 +2,7 @@
 use Rattle.std.proofs.Common.{◌≡◌, ℕ, true, false, cond, ◌&&◌, ◌||◌, ◌==◌, not, IsTrue, List, [], ◌∷◌, ◌++◌, length, Some, None, refl, ap, ◌∙◌, arith, append-nil}
 use Rattle.std.specs.Prelude.{nat_le, codes, nat_lt}
 use Rattle.std.specs.List.{list_all, AllByRecursion}
-use Rattle.std.proofs.lemmas.Bool.{and_from, and_parts, le-leb, ne_eqb, leb-true, lt-ltb}
+use Rattle.std.proofs.lemmas.Bool.{and_from, and_parts, ne_eqb, leb-true, lt-ltb}
 use Rattle.nntp_article.specs.Article.{is_blank, is_head, said_id, skip_blanks, skip_last_blanks, content_of, Id}
 use Rattle.nntp_facts.specs.Given.{plain_head}
 use Rattle.nntp_wire.specs.Decided.{is_id_octet, begins_id, is_message_id}
@@ -23,8 +23,7 @@ clean : (c : ℕ) → is_id_octet c ≡ true → (not (is_line_breaking c) ≡ t
 clean c h =
     let p = and_parts (nat_le 33 c) (nat_le c 126) h in
     let l = leb-true 33 c p.0 in
-    let u = leb-true c 126 p.1 in
-    (
+    let u = leb-true c 126 p.1 in (
       ap not (ap (λ b. b || (c == 13) || (c == 10)) (ne_eqb c 0 (λ e. omega arith)) ∙ ap (λ b. b || (c == 10)) (ne_eqb c 13 (λ e. omega arith)) ∙ ne_eqb c 10 (λ e. omega arith)),
       lt-ltb c 256 (omega arith),
     )

@@ -1,5 +1,5 @@
 -- The current article of a session can be read off the session.
-use Rattle.std.proofs.Common.{◌≡◌, ℕ, List, [], ◌∷◌, refl, sym, subst, ◌∙◌}
+use Rattle.std.proofs.Common.{◌≡◌, List, [], ◌∷◌, refl, sym, subst, ◌∙◌}
 use Rattle.nntp_article.specs.Spool.{Spool, Profile}
 use Rattle.nntp_article.specs.Machine.{Visible, Agrees, Run, after, visible_after}
 use Rattle.nntp_facts.specs.Asks.{RunsAt, Position, position_after, state_at}

@@ -2,7 +2,7 @@
 use Rattle.std.proofs.Common.{ℕ, ◌+◌, ◌≤◌, Bool, true, false, cond, ◌==◌, List, [], ◌∷◌, Option, None, Some, length, arith}
 use Rattle.nntp_article.specs.Machine.{Visible, visible_after, start}
 use Rattle.nntp_facts.specs.Asks.{Position, Nowhere, position_after, Lacks, StandsNowhere, IsTop, IsBottom}
-use Rattle.nntp_facts.specs.Facts.{Fact, There_is_no, No_article, Asks, Id_at, facts_of, facts_of_code, facts_from, on, here}
+use Rattle.nntp_facts.specs.Facts.{Fact, ThereIsNo, NoArticle, Asks, IdAt, facts_of, facts_of_code, facts_from, on, here}
 use Rattle.nntp_facts.specs.Given.{size, size_in, lines_in, weight, facts_of_session}
 use Rattle.nntp_facts.proofs.FirstBad.{size-append}
 use Rattle.nntp_wire.specs.Answer.{Asked, Response, to, group_is, numbers_are, sends, active_are, plain}
@@ -23,8 +23,8 @@ unless false fact h = omega arith
 
 -- a code alone says two facts at most
 code_size : (v : Visible) (at : Position) (command : Request) (code : ℕ) → size (facts_of_code v at command code) ≤ 2
-code_size v at (group word) code = let a = one (code == 411) (There_is_no word) (omega arith) in omega arith
-code_size v at (list_group (Some word) range) code = let a = one (code == 411) (There_is_no word) (omega arith) in omega arith
+code_size v at (group word) code = let a = one (code == 411) (ThereIsNo word) (omega arith) in omega arith
+code_size v at (list_group (Some word) range) code = let a = one (code == 411) (ThereIsNo word) (omega arith) in omega arith
 code_size v at next code =
     let a = one (code == 420) (Asks (here v) (StandsNowhere at)) (omega arith) in
     let b = one (code == 421) (Asks (here v) (IsTop at)) (omega arith) in
@@ -35,7 +35,7 @@ code_size v at last code =
     let b = one (code == 422) (Asks (here v) (IsBottom at)) (omega arith) in
     let both = size-append (on code 420 (Asks (here v) (StandsNowhere at))) (on code 422 (Asks (here v) (IsBottom at))) in
     omega arith
-code_size v at (retrieve what (by_id word)) code = let a = one (code == 430) (No_article word) (omega arith) in omega arith
+code_size v at (retrieve what (by_id word)) code = let a = one (code == 430) (NoArticle word) (omega arith) in omega arith
 code_size v at (retrieve what (by_number (Some n))) code = let a = one (code == 423) (Asks (here v) (Lacks n)) (omega arith) in omega arith
 code_size v at (retrieve what current) code = let a = one (code == 420) (Asks (here v) (StandsNowhere at)) (omega arith) in omega arith
 code_size v at command code = omega arith
@@ -58,7 +58,7 @@ answer_size v at (to (group word)) (group_is m name) = omega arith
 answer_size v at (to (list_group word range)) (numbers_are m name lines) = let few = listed_few lines in omega arith
 answer_size v at (to next) (sends sent) = omega arith
 answer_size v at (to last) (sends sent) = omega arith
-answer_size v at (to (retrieve what (by_id word))) (sends sent) = let u = unless (sent.number == 0) (Id_at (here v) sent.number sent.id) (omega arith) in omega arith
+answer_size v at (to (retrieve what (by_id word))) (sends sent) = let u = unless (sent.number == 0) (IdAt (here v) sent.number sent.id) (omega arith) in omega arith
 answer_size v at (to (retrieve what (by_number n))) (sends sent) = omega arith
 answer_size v at (to (retrieve what current)) (sends sent) = omega arith
 answer_size v at (to (list_active p)) (active_are lines) = let few = active_few lines in omega arith

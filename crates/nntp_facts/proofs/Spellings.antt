@@ -1,7 +1,7 @@
 -- Spellings: one response at the front of octets, decided, and no shorter than its lines.
-use Rattle.std.proofs.Common.{◌≡◌, ℕ, ◌+◌, ◌≤◌, ◌⊎◌, List, [], ◌∷◌, ◌++◌, length, arith}
+use Rattle.std.proofs.Common.{◌≡◌, ℕ, ◌+◌, ◌≤◌, ◌⊎◌, List, ◌++◌, length}
 use Rattle.nntp_wire.specs.Answer.{Asked, Response, group_is, numbers_are, sends, active_are, plain, Spells}
-use Rattle.nntp_wire.proofs.SpellsDecided.{one-spelling, some-spelling, lines_of, spelling-long}
+use Rattle.nntp_wire.proofs.SpellsDecided.{one-spelling, some-spelling, spelling-long}
 use Rattle.nntp_facts.specs.Given.{lines_in}
 
 -- what is used of spellings: at most one answer is spelled in front, whether one is can be decided, and a spelling has three octets and one for each line

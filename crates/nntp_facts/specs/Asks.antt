@@ -1,4 +1,4 @@
--- What answers ask of the numbers of a group, with the current article read off the session.
+-- What answers ask of the numbers of a group, with the current article read off the session (RFC 3977, section 6.1).
 use Rattle.std.specs.Prelude.{◌≡◌, ℕ, ◌≤◌, List, [], ◌∷◌, Option, None, Some, MatchOption, ⊤}
 use Rattle.std.specs.FinMap.{get}
 use Rattle.nntp_article.specs.Spool.{Spool, Numbers, IsNumber, least, IsNextAbove, IsNextBelow, NoneAbove, NoneBelow, Lists, Profile}
@@ -13,14 +13,15 @@ pub data Position : Type 0 where
   First : Position
   Known : (number : ℕ) → Position
 
+-- where an answer leaves the session
 abbrev pub position_after : Position → Asked → Response → Position
-position_after at p (group_is m name) = First
-position_after at p (numbers_are m name lines) = First
+position_after at asked (group_is m name) = First
+position_after at asked (numbers_are m name lines) = First
 position_after at (to next) (sends sent) = Known sent.number
 position_after at (to last) (sends sent) = Known sent.number
 position_after at (to (retrieve what (by_number n))) (sends sent) = Known sent.number
 position_after at (to (retrieve what current)) (sends sent) = Known sent.number
-position_after at p a = at
+position_after at asked response = at
 
 -- the current article of a group at a position
 abbrev pub current_in : Numbers → Position → Option ℕ
@@ -28,34 +29,36 @@ current_in N Nowhere = None
 current_in N First = least N
 current_in N (Known n) = Some n
 
+-- the state over a spool
 abbrev pub state_at : Spool → Visible → Position → State
 state_at S v at = record { visible = v; current = current_in (selected_numbers S v) at }
 
 -- each answer is permitted, with the current article read off the session
 abbrev pub RunsAt : Profile → Spool → Visible → Position → List Asked → List Response → Type 0
 RunsAt profile S v at ps [] = ⊤
-RunsAt profile S v at [] (a ∷ more) = ⊥
-RunsAt profile S v at (p ∷ ps) (a ∷ more) = MayAnswer profile S (state_at S v at) p a × RunsAt profile S (visible_after v p a) (position_after at p a) ps more
+RunsAt profile S v at [] (response ∷ more) = ⊥
+RunsAt profile S v at (asked ∷ ps) (response ∷ more) =
+    MayAnswer profile S (state_at S v at) asked response × RunsAt profile S (visible_after v asked response) (position_after at asked response) ps more
 
 -- one thing that an answer says of the numbers of a group
 pub data Ask : Type 0 where
-  Estimates : (marks : WaterMarks) → Ask
-  Bounds : (low high : ℕ) → Ask
-  Lists_in : (range : Range) → (listed : List ℕ) → Ask
-  Has : (number : ℕ) → Ask
-  Lacks : (number : ℕ) → Ask
-  StandsAt : (at : Position) → (number : ℕ) → Ask
-  StandsNowhere : (at : Position) → Ask
-  StepsUp : (at : Position) → (number : ℕ) → Ask
-  StepsDown : (at : Position) → (number : ℕ) → Ask
-  IsTop : (at : Position) → Ask
-  IsBottom : (at : Position) → Ask
+  Estimates : (marks : WaterMarks) → Ask  -- there are at most so many, between the marks
+  Bounds : (low high : ℕ) → Ask  -- all are between the marks
+  ListsIn : (range : Range) → (listed : List ℕ) → Ask  -- those in the range are these
+  Has : (number : ℕ) → Ask  -- the number is there
+  Lacks : (number : ℕ) → Ask  -- it isn't
+  StandsAt : (at : Position) → (number : ℕ) → Ask  -- the current article is this
+  StandsNowhere : (at : Position) → Ask  -- there is no current article
+  StepsUp : (at : Position) → (number : ℕ) → Ask  -- the next one up is this
+  StepsDown : (at : Position) → (number : ℕ) → Ask  -- the next one down is this
+  IsTop : (at : Position) → Ask  -- none is above the current article
+  IsBottom : (at : Position) → Ask  -- none is below it
 
 -- the numbers meet what is asked
 abbrev pub Meets : Numbers → Ask → Type 0
 Meets N (Estimates m) = Bound N m
 Meets N (Bounds low high) = (n : ℕ) → IsNumber N n → (low ≤ n) × (n ≤ high)
-Meets N (Lists_in r ns) = Lists N r ns
+Meets N (ListsIn r ns) = Lists N r ns
 Meets N (Has n) = IsNumber N n
 Meets N (Lacks n) = get N n ≡ None
 Meets N (StandsAt at n) = current_in N at ≡ Some n

@@ -3,7 +3,7 @@ use Rattle.std.specs.Prelude.{◌≡◌, ℕ, false, ◌==◌, if◌then◌else�
 use Rattle.std.specs.FinMap.{get}
 use Rattle.nntp_article.specs.Spool.{Spool, IsGroup, numbers, HasText, Name, Profile}
 use Rattle.nntp_article.specs.Machine.{Visible, visible_after, ActivesAgree, fits}
-use Rattle.nntp_facts.specs.Asks.{Position, position_after, Ask, Meets, Estimates, Lists_in, Lacks, StandsAt, StandsNowhere, StepsUp, StepsDown, IsTop, IsBottom}
+use Rattle.nntp_facts.specs.Asks.{Position, position_after, Ask, Meets, Estimates, ListsIn, Lacks, StandsAt, StandsNowhere, StepsUp, StepsDown, IsTop, IsBottom}
 use Rattle.nntp_article.specs.Article.{Id, Line}
 use Rattle.nntp_wire.specs.Listing.{ActiveValue}
 use Rattle.nntp_wire.specs.declared.command.What.{What}
@@ -11,24 +11,27 @@ use Rattle.nntp_wire.specs.Command.{Request, by_id, by_number, current, group, n
 use Rattle.nntp_article.specs.Listed.{listed_numbers, active_groups}
 use Rattle.nntp_wire.specs.Answer.{Asked, Response, to, group_is, numbers_are, sends, active_are, plain}
 
+-- one thing that an answer says of the spool
 pub data Fact : Type 0 where
-  There_is : (name : Name) → Fact
-  There_is_no : (name : Name) → Fact
-  Asks : (name : Name) → (ask : Ask) → Fact
-  Id_at : (name : Name) → (number : ℕ) → (id : Id) → Fact
-  Text_is : (what : What) → (id : Id) → (lines : Option (List Line)) → Fact
-  No_article : (id : Id) → Fact
-  Groups_are : (wildmat : Option (List ℕ)) → (lines : List ActiveValue) → Fact
+  ThereIs : (name : Name) → Fact  -- there is such a group
+  ThereIsNo : (name : Name) → Fact  -- there is none
+  Asks : (name : Name) → (ask : Ask) → Fact  -- this is asked of the numbers of the group
+  IdAt : (name : Name) → (number : ℕ) → (id : Id) → Fact  -- the group gives the id at the number
+  TextIs : (what : What) → (id : Id) → (lines : Option (List Line)) → Fact  -- the id has an article, of which these lines are sent
+  NoArticle : (id : Id) → Fact  -- the id has none
+  GroupsAre : (wildmat : Option (List ℕ)) → (lines : List ActiveValue) → Fact  -- the matching groups are these
 
+-- the fact holds of the spool
 abbrev pub Holds : Spool → Fact → Type 0
-Holds S (There_is name) = IsGroup S name
-Holds S (There_is_no name) = get S.groups name ≡ None
+Holds S (ThereIs name) = IsGroup S name
+Holds S (ThereIsNo name) = get S.groups name ≡ None
 Holds S (Asks name ask) = Meets (numbers S name) ask
-Holds S (Id_at name n id) = get (numbers S name) n ≡ Some id
-Holds S (Text_is what id lines) = HasText S what id lines
-Holds S (No_article id) = get S.articles id ≡ None
-Holds S (Groups_are p lines) = ActivesAgree S p lines
+Holds S (IdAt name n id) = get (numbers S name) n ≡ Some id
+Holds S (TextIs what id lines) = HasText S what id lines
+Holds S (NoArticle id) = get S.articles id ≡ None
+Holds S (GroupsAre p lines) = ActivesAgree S p lines
 
+-- the fact, if the code is the expected one
 abbrev pub on : ℕ → ℕ → Fact → List Fact
 on code expected fact = if code == expected then fact ∷ [] else []
 
@@ -38,11 +41,11 @@ here v = unwrap_or v.selected []
 
 -- what an answer of a code alone says
 abbrev pub facts_of_code : Visible → Position → Request → ℕ → List Fact
-facts_of_code v at (group word) code = on code 411 (There_is_no word)
-facts_of_code v at (list_group (Some word) range) code = on code 411 (There_is_no word)
+facts_of_code v at (group word) code = on code 411 (ThereIsNo word)
+facts_of_code v at (list_group (Some word) range) code = on code 411 (ThereIsNo word)
 facts_of_code v at next code = on code 420 (Asks (here v) (StandsNowhere at)) ++ on code 421 (Asks (here v) (IsTop at))
 facts_of_code v at last code = on code 420 (Asks (here v) (StandsNowhere at)) ++ on code 422 (Asks (here v) (IsBottom at))
-facts_of_code v at (retrieve what (by_id word)) code = on code 430 (No_article word)
+facts_of_code v at (retrieve what (by_id word)) code = on code 430 (NoArticle word)
 facts_of_code v at (retrieve what (by_number (Some n))) code = on code 423 (Asks (here v) (Lacks n))
 facts_of_code v at (retrieve what current) code = on code 420 (Asks (here v) (StandsNowhere at))
 facts_of_code v at command code = []
@@ -50,23 +53,26 @@ facts_of_code v at command code = []
 -- what an answer says of the spool
 abbrev pub facts_of : Visible → Position → Asked → Response → List Fact
 facts_of v at (to command) (plain code) = facts_of_code v at command code
-facts_of v at (to (group word)) (group_is m name) = There_is name ∷ Asks name (Estimates m) ∷ []
-facts_of v at (to (list_group word range)) (numbers_are m name lines) = There_is name ∷ Asks name (Estimates m) ∷ Asks name (Lists_in range (listed_numbers lines)) ∷ []
-facts_of v at (to next) (sends sent) = Asks (here v) (StepsUp at sent.number) ∷ Id_at (here v) sent.number sent.id ∷ []
-facts_of v at (to last) (sends sent) = Asks (here v) (StepsDown at sent.number) ∷ Id_at (here v) sent.number sent.id ∷ []
-facts_of v at (to (retrieve what (by_id word))) (sends sent) = Text_is what sent.id sent.block ∷ (if sent.number == 0 then [] else Id_at (here v) sent.number sent.id ∷ [])
-facts_of v at (to (retrieve what (by_number n))) (sends sent) = Text_is what sent.id sent.block ∷ Id_at (here v) sent.number sent.id ∷ []
-facts_of v at (to (retrieve what current)) (sends sent) = Text_is what sent.id sent.block ∷ Asks (here v) (StandsAt at sent.number) ∷ Id_at (here v) sent.number sent.id ∷ []
-facts_of v at (to (list_active p)) (active_are lines) = Groups_are p (active_groups lines) ∷ []
-facts_of v at p a = []
+facts_of v at (to (group word)) (group_is m name) = ThereIs name ∷ Asks name (Estimates m) ∷ []
+facts_of v at (to (list_group word range)) (numbers_are m name lines) = ThereIs name ∷ Asks name (Estimates m) ∷ Asks name (ListsIn range (listed_numbers lines)) ∷ []
+facts_of v at (to next) (sends sent) = Asks (here v) (StepsUp at sent.number) ∷ IdAt (here v) sent.number sent.id ∷ []
+facts_of v at (to last) (sends sent) = Asks (here v) (StepsDown at sent.number) ∷ IdAt (here v) sent.number sent.id ∷ []
+facts_of v at (to (retrieve what (by_id word))) (sends sent) = TextIs what sent.id sent.block ∷ (if sent.number == 0 then [] else IdAt (here v) sent.number sent.id ∷ [])
+facts_of v at (to (retrieve what (by_number n))) (sends sent) = TextIs what sent.id sent.block ∷ IdAt (here v) sent.number sent.id ∷ []
+facts_of v at (to (retrieve what current)) (sends sent) = TextIs what sent.id sent.block ∷ Asks (here v) (StandsAt at sent.number) ∷ IdAt (here v) sent.number sent.id ∷ []
+facts_of v at (to (list_active p)) (active_are lines) = GroupsAre p (active_groups lines) ∷ []
+facts_of v at asked response = []
 
+-- what answers say, from a visible state and a position on
 abbrev pub facts_from : Visible → Position → List Asked → List Response → List Fact
 facts_from v at [] answers = []
-facts_from v at (p ∷ ps) [] = []
-facts_from v at (p ∷ ps) (a ∷ more) = facts_of v at p a ++ facts_from (visible_after v p a) (position_after at p a) ps more
+facts_from v at (asked ∷ ps) [] = []
+facts_from v at (asked ∷ ps) (response ∷ more) =
+    facts_of v at asked response ++ facts_from (visible_after v asked response) (position_after at asked response) ps more
 
 -- the visible condition holds at each place, whatever the spool
 abbrev pub FitsAll : Profile → Visible → List Asked → List Response → Type 0
 FitsAll profile v ps [] = ⊤
-FitsAll profile v [] (a ∷ more) = ⊥
-FitsAll profile v (p ∷ ps) (a ∷ more) = (v.closed ≡ false) × IsTrue (fits profile v p a) × FitsAll profile (visible_after v p a) ps more
+FitsAll profile v [] (response ∷ more) = ⊥
+FitsAll profile v (asked ∷ ps) (response ∷ more) =
+    (v.closed ≡ false) × IsTrue (fits profile v asked response) × FitsAll profile (visible_after v asked response) ps more

@@ -6,28 +6,29 @@ use Rattle.std.specs.FinMap.{get, entries, len}
 use Rattle.nntp_article.specs.Article.{head_part, body_part, Id, Line}
 use Rattle.nntp_article.specs.Spool.{Spool, Text, Numbers, IsNumber, IsGroup, numbers, Name}
 use Rattle.nntp_article.specs.Machine.{is_in_range, is_same, start}
-use Rattle.nntp_facts.specs.Asks.{Nowhere, Ask, First, Known, Estimates, Bounds, Lists_in, Has, Lacks, StandsAt, StandsNowhere, StepsUp, StepsDown, IsTop, IsBottom}
-use Rattle.nntp_facts.specs.Facts.{Fact, There_is, Asks, Id_at, Text_is, No_article, Groups_are, facts_from}
+use Rattle.nntp_facts.specs.Asks.{Nowhere, Ask, First, Known, Estimates, Bounds, ListsIn, Has, Lacks, StandsAt, StandsNowhere, StepsUp, StepsDown, IsTop, IsBottom}
+use Rattle.nntp_facts.specs.Facts.{Fact, ThereIs, Asks, IdAt, TextIs, NoArticle, GroupsAre, facts_from}
 use Rattle.nntp_wire.specs.Answer.{Asked, Response, numbers_are, active_are}
 use Rattle.nntp_wire.specs.declared.command.What.TheVariants.{Article, Head, Body}
 
--- the answer shows the number
+-- the ask shows the number
 abbrev pub shows : Ask → ℕ → Bool
-shows (Lists_in r ns) n = list_any (λ m. n == m) ns
+shows (ListsIn r ns) n = list_any (λ m. n == m) ns
 shows (Has m) n = m == n
 shows (StandsAt First m) n = m == n
 shows (StepsUp at m) n = m == n
 shows (StepsDown at m) n = m == n
 shows ask n = false
 
+-- n is between a and b, and neither
 abbrev pub is_between : ℕ → ℕ → ℕ → Bool
 is_between a b n = nat_lt a n && nat_lt n b
 
--- the answer says that the number isn't there
+-- the ask says that the number isn't there
 abbrev pub denies : Ask → ℕ → Bool
 denies (Estimates m) n = nat_lt n m.low || nat_lt m.high n
 denies (Bounds low high) n = nat_lt n low || nat_lt high n
-denies (Lists_in r ns) n = is_in_range r n && not (list_any (λ m. n == m) ns)
+denies (ListsIn r ns) n = is_in_range r n && not (list_any (λ m. n == m) ns)
 denies (Lacks m) n = m == n
 denies (StandsAt First m) n = nat_lt n m
 denies (StandsNowhere First) n = true
@@ -37,9 +38,11 @@ denies (IsTop (Known c)) n = nat_lt c n
 denies (IsBottom (Known c)) n = nat_lt n c
 denies ask n = false
 
+-- an answer shows the number
 abbrev pub is_shown : List Ask → ℕ → Bool
 is_shown asks n = list_any (λ ask. shows ask n) asks
 
+-- an answer says that the number isn't there
 abbrev pub is_denied : List Ask → ℕ → Bool
 is_denied asks n = list_any (λ ask. denies ask n) asks
 
@@ -54,10 +57,11 @@ tells_of_first (IsTop First) = true
 tells_of_first (IsBottom First) = true
 tells_of_first ask = false
 
--- one more number is needed, and n may be it
+-- one more number is needed, below m: NEXT led from the unseen first number to m, and none below m is shown
 abbrev pub NeedsOneBelow : List Ask → ℕ → Type 0
 NeedsOneBelow asks m = IsTrue (list_any (λ ask. steps_from_first_to ask m) asks) × ((n : ℕ) → IsTrue (is_shown asks n) → m ≤ n)
 
+-- one more number is needed, since there is one and none is shown
 abbrev pub NeedsOne : List Ask → Type 0
 NeedsOne asks = IsTrue (list_any tells_of_first asks) × ((n : ℕ) → IsFalse (is_shown asks n))
 
@@ -77,19 +81,21 @@ HasGivenNumbers asks N = (n : ℕ) → IsNumber N n ↔ (IsTrue (is_shown asks n
 -- what is asked of the numbers of one group
 abbrev pub asks_in : Name → Fact → List Ask
 asks_in name (Asks g ask) = if is_same g name then ask ∷ [] else []
-asks_in name (Id_at g n id) = if is_same g name then Has n ∷ [] else []
-asks_in name (Groups_are p lines) = flat_map (λ line. if is_same line.name name then Bounds line.low line.high ∷ [] else []) lines
+asks_in name (IdAt g n id) = if is_same g name then Has n ∷ [] else []
+asks_in name (GroupsAre p lines) = flat_map (λ line. if is_same line.name name then Bounds line.low line.high ∷ [] else []) lines
 asks_in name fact = []
 
+-- the same of all facts
 abbrev pub asks_of : Name → List Fact → List Ask
 asks_of name facts = flat_map (asks_in name) facts
 
 -- the group is shown
 abbrev pub shows_group : Name → Fact → Bool
-shows_group name (There_is g) = is_same g name
-shows_group name (Groups_are p lines) = list_any (λ line. is_same line.name name) lines
+shows_group name (ThereIs g) = is_same g name
+shows_group name (GroupsAre p lines) = list_any (λ line. is_same line.name name) lines
 shows_group name fact = false
 
+-- one of the facts shows the group
 abbrev pub is_shown_group : List Fact → Name → Bool
 is_shown_group facts name = list_any (shows_group name) facts
 
@@ -98,48 +104,52 @@ abbrev pub first_given : {A : Type 0} → (Fact → Option A) → List Fact → 
 first_given f [] = None
 first_given f (fact ∷ facts) = option_or (f fact) (first_given f facts)
 
--- the id that is shown for a number of a group
+-- the id that a fact shows for a number of a group
 abbrev pub id_in : Name → ℕ → Fact → Option Id
-id_in name n (Id_at g m id) = if is_same g name && m == n then Some id else None
+id_in name n (IdAt g m id) = if is_same g name && m == n then Some id else None
 id_in name n fact = None
 
+-- the id that is shown first for a number of a group
 abbrev pub id_shown : List Fact → Name → ℕ → Option Id
 id_shown facts name n = first_given (id_in name n) facts
 
 -- the id is named by a success or a step, or denied
 abbrev pub mentions : Id → Fact → Bool
-mentions id (Id_at name n other) = is_same other id
-mentions id (Text_is what other lines) = is_same other id
-mentions id (No_article other) = is_same other id
+mentions id (IdAt name n other) = is_same other id
+mentions id (TextIs what other lines) = is_same other id
+mentions id (NoArticle other) = is_same other id
 mentions id fact = false
 
+-- one of the facts mentions the id
 abbrev pub is_mentioned : List Fact → Id → Bool
 is_mentioned facts id = list_any (mentions id) facts
 
 -- the id is named by a success
 abbrev pub gives_article : Id → Fact → Bool
-gives_article id (Text_is what other lines) = is_same other id
+gives_article id (TextIs what other lines) = is_same other id
 gives_article id fact = false
 
+-- a success names the id
 abbrev pub is_sent : List Fact → Id → Bool
 is_sent facts id = list_any (gives_article id) facts
 
 -- the head that is sent for the id
 abbrev pub head_in : Id → Fact → Option (List Line)
-head_in id (Text_is Article other (Some lines)) = if is_same other id then Some (head_part lines) else None
-head_in id (Text_is Head other (Some lines)) = if is_same other id then Some lines else None
+head_in id (TextIs Article other (Some lines)) = if is_same other id then Some (head_part lines) else None
+head_in id (TextIs Head other (Some lines)) = if is_same other id then Some lines else None
 head_in id fact = None
 
 -- the body that is sent for the id
 abbrev pub body_in : Id → Fact → Option (List Line)
-body_in id (Text_is Article other (Some lines)) = if is_same other id then Some (body_part lines) else None
-body_in id (Text_is Body other (Some lines)) = if is_same other id then Some lines else None
+body_in id (TextIs Article other (Some lines)) = if is_same other id then Some (body_part lines) else None
+body_in id (TextIs Body other (Some lines)) = if is_same other id then Some lines else None
 body_in id fact = None
 
 -- a head that says the id and nothing else
 abbrev pub plain_head : Id → List Line
 plain_head id = (codes "Message-ID: " ++ id) ∷ []
 
+-- the id that is invented with the number k
 abbrev pub invented : ℕ → Id
 invented k = codes "<w" ++ decimal k ++ codes "@invented.invalid>"
 
@@ -184,11 +194,11 @@ pub record HasAtLeast (facts : List Fact) (G S : Spool) : Type 0 where
 
 -- a bound on the names, numbers and ids that a fact has from its answer
 abbrev pub size_in : Fact → ℕ
-size_in (Asks name (Lists_in r ns)) = length ns + 1
+size_in (Asks name (ListsIn r ns)) = length ns + 1
 size_in (Asks name (StandsNowhere at)) = 0
 size_in (Asks name (IsTop at)) = 0
 size_in (Asks name (IsBottom at)) = 0
-size_in (Groups_are p lines) = length lines
+size_in (GroupsAre p lines) = length lines
 size_in fact = 1
 
 -- the same of all facts

@@ -1,9 +1,8 @@
 -- Whether some spool permits a session, and the first answer from which on none does.
-use Rattle.std.specs.Prelude.{◌≡◌, ℕ, ◌+◌, ◌<◌, ◌≤◌, ◌⊎◌, List, ◌++◌, length, take}
+use Rattle.std.specs.Prelude.{ℕ, ◌+◌, ◌<◌, List, length, take}
 use Rattle.nntp_article.specs.Spool.{Spool, IsSpool, Profile}
 use Rattle.nntp_article.specs.Machine.{Run, start}
-use Rattle.nntp_facts.specs.Given.{lines_in}
-use Rattle.nntp_wire.specs.Answer.{Asked, Response, Spells}
+use Rattle.nntp_wire.specs.Answer.{Asked, Response}
 
 -- some spool permits the session
 abbrev pub SomePermits : Profile → List Asked → List Response → Type 0

@@ -8,6 +8,8 @@ ghost use Rattle.nntp_facts.specs.Facts.{FitsAll, Holds, Fact, facts_from};
 ghost use Rattle.nntp_facts.specs.Given.{asks_of, HasGivenNumbers, IsGiven, facts_of_session, size, weight, HasAtLeast};
 ghost use Rattle.nntp_facts.specs.Permits.{SomePermits, IsBadAnswer};
 ghost use Rattle.nntp_article.specs.Explains.{Explains, Bad};
+ghost use Rattle.std.specs.Prelude.{◌++◌};
+ghost use Rattle.nntp_facts.specs.Classes.{Class, HasClass, IsSettled};
 ghost use Rattle.nntp_wire.specs.Answer.{Asked, Response};
 
 /// A spool permits a session exactly if it permits each answer with the current article read off
@@ -87,4 +89,21 @@ pub fn streams_are_explained_or_bad()
         → Explains profile S client server n → Bad profile client server k → ⊥ }
     ensures one_bad { (profile : Profile) (client server : List ℕ) (k j : ℕ)
         → Bad profile client server k → Bad profile client server j → k ≡ j }
+{}
+
+/// A bad answer has one class.
+pub fn bad_answer_has_one_class()
+    ensures { (profile : Profile) (client server : List ℕ) (k : ℕ) → Bad profile client server k
+        → (class : Class) × HasClass profile client server k class
+        × ((other : Class) → HasClass profile client server k other → other ≡ class) }
+{}
+
+/// A bad answer whose frame is whole, or that comes after the connection was closed, is bad of the
+/// same class whatever octets follow.
+pub fn settled_answer_stays_bad()
+    ensures { (profile : Profile) (client server more_client more_server : List ℕ) (k : ℕ) (class : Class)
+        → (has : HasClass profile client server k class) → IsSettled profile client server k class has
+        → Bad profile client server k
+        → Bad profile (client ++ more_client) (server ++ more_server) k
+        × HasClass profile (client ++ more_client) (server ++ more_server) k class }
 {}

@@ -1,0 +1,84 @@
+-- Why an answer is bad (RFC 3977, sections 3.1, 3.2 and 3.5).
+use Rattle.std.specs.Prelude.{◌≡◌, ℕ, Bool, true, false, List, [], ◌∷◌, ◌++◌, length, Option, None, Some, ⊤}
+use Rattle.nntp_wire.specs.Answer.{Asked, Response, Spells}
+use Rattle.nntp_wire.specs.Frame.{HasFrame, frame_octets}
+use Rattle.nntp_wire.specs.Session.{prompts_of}
+use Rattle.nntp_article.specs.Spool.{Profile}
+use Rattle.nntp_article.specs.Machine.{Visible, start, fits, visible_after}
+use Rattle.nntp_article.specs.Explains.{Spelled}
+
+-- octets where none are due; no whole frame; a frame that spells nothing; an answer that doesn't fit; one that no spool agrees with
+pub data Class : Type 0 where
+  Surplus Cut Malformed OutOfPlace Contradiction : Class
+
+-- the visible state that answers leave
+abbrev pub visible_from : Visible → List Asked → List Response → Visible
+visible_from v ps [] = v
+visible_from v [] (response ∷ more) = v
+visible_from v (asked ∷ ps) (response ∷ more) = visible_from (visible_after v asked response) ps more
+
+-- what is asked behind the answers, if anything is
+abbrev pub asked_next : List Asked → List Response → Option Asked
+asked_next [] answers = None
+asked_next (asked ∷ ps) [] = Some asked
+asked_next (asked ∷ ps) (response ∷ more) = asked_next ps more
+
+-- the server's octets begin with spellings of k answers, and go on with the rest
+pub record AnswersFirst (client server : List ℕ) (k : ℕ) : Type 0 where
+  pub answers : List Response
+  pub octets : List ℕ
+  pub rest : List ℕ
+  pub count : length answers ≡ k
+  pub spelled : Spelled (prompts_of client) answers octets
+  pub whole : server ≡ octets ++ rest
+
+-- the octets begin with no whole frame
+abbrev pub IsCut : Asked → List ℕ → Type 0
+IsCut asked octets = (line : List ℕ) (block : Option (List ℕ)) (rest : List ℕ) → ¬ (HasFrame asked octets line block rest)
+
+-- they begin with a frame that spells nothing
+pub record IsMalformed (asked : Asked) (octets : List ℕ) : Type 0 where
+  pub line : List ℕ
+  pub block : Option (List ℕ)
+  pub rest : List ℕ
+  pub frame : HasFrame asked octets line block rest
+  pub nothing : (response : Response) → ¬ (Spells asked response (frame_octets line block))
+
+-- they begin with a spelling of an answer that fits the visible state, or doesn't
+pub record BeginsWithAnswer (profile : Profile) (v : Visible) (asked : Asked) (octets : List ℕ) (is_fitting : Bool) : Type 0 where
+  pub response : Response
+  pub front : List ℕ
+  pub rest : List ℕ
+  pub spells : Spells asked response front
+  pub whole : octets ≡ front ++ rest
+  pub fitting : fits profile v asked response ≡ is_fitting
+
+-- the class of octets where this is asked on an open connection
+abbrev pub IsOpenClass : Profile → Visible → Asked → List ℕ → Class → Type 0
+IsOpenClass profile v asked octets Surplus = ⊥
+IsOpenClass profile v asked octets Cut = IsCut asked octets
+IsOpenClass profile v asked octets Malformed = IsMalformed asked octets
+IsOpenClass profile v asked octets OutOfPlace = BeginsWithAnswer profile v asked octets false
+IsOpenClass profile v asked octets Contradiction = BeginsWithAnswer profile v asked octets true
+
+-- the same, where the connection may be closed, or nothing be asked
+abbrev pub IsClass : Bool → Profile → Visible → Option Asked → List ℕ → Class → Type 0
+IsClass true profile v next octets class = class ≡ Surplus
+IsClass false profile v None octets class = class ≡ Surplus
+IsClass false profile v (Some asked) octets class = IsOpenClass profile v asked octets class
+
+-- the visible state behind the answers
+abbrev pub left_visible : (client server : List ℕ) (k : ℕ) → AnswersFirst client server k → Visible
+left_visible client server k before = visible_from start.visible (prompts_of client) before.answers
+
+-- the class of answer k, which is bad
+pub record HasClass (profile : Profile) (client server : List ℕ) (k : ℕ) (class : Class) : Type 0 where
+  pub before : AnswersFirst client server k
+  pub is_class : IsClass (left_visible client server k before).closed profile (left_visible client server k before)
+      (asked_next (prompts_of client) before.answers) before.rest class
+
+-- no octets that follow can mend it: the frame is whole, or the connection is closed
+abbrev pub IsSettled : (profile : Profile) (client server : List ℕ) (k : ℕ) (class : Class) → HasClass profile client server k class → Type 0
+IsSettled profile client server k Surplus has = (left_visible client server k has.before).closed ≡ true
+IsSettled profile client server k Cut has = ⊥
+IsSettled profile client server k class has = ⊤
