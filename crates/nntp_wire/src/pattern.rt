@@ -4,7 +4,7 @@ ghost use Rattle.nntp_wire.specs.Name.{IsUtf8Of};
 ghost use Rattle.nntp_wire.specs.Wildmat.{Matches, item_of};
 ghost use Rattle.nntp_wire.specs.Pattern.{Takes, IsShorter};
 
-use crate::name::first_char;
+use crate::group_name::first_char;
 
 /// What the first item makes of a text.
 enum Step<'a> {
