@@ -1,0 +1,9 @@
+pub mod LineLemmas
+pub mod HeadLemmas
+pub mod WordLemmas
+pub mod IdLemmas
+pub mod SaidLemmas
+pub mod SomeLemmas
+pub mod PartLemmas
+pub mod ContentLemmas
+pub mod MissingLemmas
