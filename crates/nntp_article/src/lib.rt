@@ -2,3 +2,26 @@
 #![tactic(auto)]
 
 pub mod laws;
+//! Articles (RFC 3977, section 3.6; RFC 1036): their parts, heads, headers and control messages.
+#![tactic(auto)]
+
+pub mod control_headers;
+pub mod control_message;
+pub mod head;
+mod head_line;
+pub mod header;
+pub mod missing_headers;
+pub mod parts;
+pub mod required_headers;
+pub mod said_id;
+#[cfg(test)]
+mod tests;
+
+pub use control_headers::control;
+pub use control_message::Control;
+pub use head::Head;
+pub use header::{Header, Headers, content};
+pub use missing_headers::Missing;
+pub use parts::Parts;
+pub use required_headers::missing;
+pub use said_id::lines_say;
