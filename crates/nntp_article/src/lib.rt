@@ -1,8 +1,5 @@
-//! Articles of a spool, and the machine of a session over one spool (RFC 3977, RFC 1036).
-#![tactic(auto)]
-
-pub mod laws;
-//! Articles (RFC 3977, section 3.6; RFC 1036): their parts, heads, headers and control messages.
+//! Articles (RFC 3977, section 3.6; RFC 1036): their parts, heads, headers and control messages. And
+//! the definitions of a spool, and of the machine of a session over one spool, with their laws.
 #![tactic(auto)]
 
 pub mod control_headers;
@@ -10,6 +7,7 @@ pub mod control_message;
 pub mod head;
 mod head_line;
 pub mod header;
+pub mod laws;
 pub mod missing_headers;
 pub mod parts;
 pub mod required_headers;
