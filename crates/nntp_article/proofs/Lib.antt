@@ -4,3 +4,12 @@ pub mod Decide
 pub mod DecideAgrees
 mod Examples
 pub mod ListedLemmas
+pub mod LineLemmas
+pub mod HeadLemmas
+pub mod WordLemmas
+pub mod IdLemmas
+pub mod SaidLemmas
+pub mod SomeLemmas
+pub mod PartLemmas
+pub mod ContentLemmas
+pub mod MissingLemmas

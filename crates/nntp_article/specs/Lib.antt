@@ -3,3 +3,7 @@ pub mod Listed
 pub mod Spool
 pub mod Machine
 pub mod Explains
+pub mod Control
+pub mod Required
+pub mod SaidId
+pub mod View

@@ -1,4 +1,25 @@
-//! Articles of a spool, and the machine of a session over one spool (RFC 3977, RFC 1036).
+//! Articles (RFC 3977, section 3.6; RFC 1036): their parts, heads, headers and control messages. And
+//! the definitions of a spool, and of the machine of a session over one spool, with their laws.
 #![tactic(auto)]
 
+pub mod control_headers;
+pub mod control_message;
+pub mod head;
+mod head_line;
+pub mod header;
 pub mod laws;
+pub mod missing_headers;
+pub mod parts;
+pub mod required_headers;
+pub mod said_id;
+#[cfg(test)]
+mod tests;
+
+pub use control_headers::control;
+pub use control_message::Control;
+pub use head::Head;
+pub use header::{Header, Headers, content};
+pub use missing_headers::Missing;
+pub use parts::Parts;
+pub use required_headers::missing;
+pub use said_id::lines_say;

@@ -4,6 +4,7 @@ pub mod Words
 pub mod Number
 pub mod Name
 pub mod Wildmat
+pub mod Pattern
 pub mod Block
 pub mod Command
 pub mod Argument

@@ -1,0 +1,2 @@
+pub mod CaptureLemmas
+pub mod WroteLemmas

@@ -1,0 +1,7 @@
+pub mod Watched
+pub mod Writing
+pub mod Capture
+pub mod Verdict
+pub mod Report
+pub mod Run
+pub mod CommandLine

@@ -1,0 +1,56 @@
+-- What is printed of a verdict.
+use Rattle.std.specs.Prelude.{ℕ, Bool, ◌==◌, ◌/◌, ◌%◌, ◌+◌, nat_lt, if◌then◌else◌, List, [], ◌∷◌, ◌++◌, Option, None, Some, length, codes, decimal}
+use Rattle.std.specs.Int.{is_in_range}
+use Rattle.std.specs.List.{flat_map}
+use Rattle.nntp_check.specs.Verdict.{Judgement, consistent, bad}
+use Rattle.nntp_check.specs.declared.verdict.Class.{Class}
+use Rattle.nntp_check.specs.declared.verdict.Class.TheVariants.{Surplus, Cut, Malformed, Unsupported, OutOfPlace, Contradiction}
+
+-- the hexadecimal digit of a number below 16, in lower case
+abbrev pub hexadecimal_digit : ℕ → ℕ
+hexadecimal_digit n = if nat_lt n 10 then 48 + n else 87 + n
+
+-- visible ASCII and SP stand for themselves, a backslash is doubled, and any other octet is a backslash, x and two digits
+abbrev pub escaped_octet : ℕ → List ℕ
+escaped_octet b =
+    if b == 92 then codes "\\\\"
+    else (if is_in_range 0x20 0x7E b then b ∷ []
+    else codes "\\x" ++ hexadecimal_digit (b / 16) ∷ hexadecimal_digit (b % 16) ∷ [])
+
+abbrev pub escaped : List ℕ → List ℕ
+escaped octets = flat_map escaped_octet octets
+
+-- a spool's text: a line for each group in the order of its name's octets, between the first and the last
+abbrev pub group_lines : List (List ℕ) → List ℕ
+group_lines names = flat_map (λ name. codes "group " ++ name ++ codes " 0\n") names
+
+abbrev pub spool_text : List (List ℕ) → List ℕ
+spool_text names = codes "spool 1\n" ++ group_lines names ++ codes "end\n"
+
+abbrev pub class_word : Class → List ℕ
+class_word Surplus = codes "Surplus"
+class_word Cut = codes "Cut"
+class_word Malformed = codes "Malformed"
+class_word Unsupported = codes "Unsupported"
+class_word OutOfPlace = codes "OutOfPlace"
+class_word Contradiction = codes "Contradiction"
+
+abbrev pub command_line : Option (List ℕ) → List ℕ
+command_line None = codes "no command\n"
+command_line (Some line) = codes "command " ++ escaped line ++ codes "\n"
+
+-- the lines before a spool's text, or those of a bad answer
+abbrev pub head_of : Judgement → List ℕ
+head_of (consistent groups answers) =
+    codes "consistent answers=" ++ decimal answers ++ codes " groups=" ++ decimal (length groups) ++ codes " numbers=0 articles=0\n"
+head_of (bad answer class command reply) =
+    codes "bad answer " ++ decimal answer ++ codes " " ++ class_word class ++ codes "\n"
+    ++ command_line command ++ codes "answer " ++ escaped reply ++ codes "\n"
+
+-- the spool's text, if there is a spool
+abbrev pub tail_of : Judgement → List ℕ
+tail_of (consistent groups answers) = spool_text groups
+tail_of (bad answer class command reply) = []
+
+abbrev pub report_of : Judgement → List ℕ
+report_of judgement = head_of judgement ++ tail_of judgement

@@ -1,0 +1,4 @@
+pub mod PairLemmas
+pub mod NextLemmas
+pub mod PairingLemmas
+pub mod SpelledLemmas

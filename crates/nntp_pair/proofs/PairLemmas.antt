@@ -1,0 +1,47 @@
+-- What the parts of a pairing say of the whole.
+use Rattle.std.proofs.Common.{◌≡◌, ℕ, List, [], ◌∷◌, Option, None, Some, Bool, true, false, refl, sym, ◌∙◌, ap, subst, length, map, count_by, cond, ◌+◌, arith}
+use Rattle.std.proofs.lemmas.List.Sums.{sum_by-cons}
+use Rattle.std.specs.Prelude.{is_some}
+use Rattle.nntp_wire.specs.Lines.{lines_of_stream}
+use Rattle.nntp_wire.specs.Answer.{Asked, Response, Spells}
+use Rattle.nntp_wire.specs.Frame.{HasFrame, frame_octets}
+use Rattle.nntp_pair.specs.declared.class.PairClass.{PairClass}
+use Rattle.nntp_pair.specs.declared.class.PairClass.TheVariants.{Surplus, Cut, Malformed}
+use Rattle.nntp_pair.specs.Pairing.{Unpaired, Awaits, IsBad, IsUnanswered, IsMalformed, asked_at, places_from}
+
+-- a frame that spells nothing
+pub malformed : (place : Option (List ℕ)) (server initial : List ℕ) (block : Option (List ℕ)) (rest : List ℕ) (asked : Asked) → asked ≡ asked_at place
+    → HasFrame asked server initial block rest → ((response : Response) → ¬ (Spells asked response (frame_octets initial block))) → IsMalformed place server
+malformed place server initial block rest asked same has nothing =
+    record {
+      initial = initial;
+      block = block;
+      rest = rest;
+      frame = subst (λ a. HasFrame a server initial block rest) same has;
+      nothing = λ response. subst (λ a. ¬ (Spells a response (frame_octets initial block))) same (nothing response);
+    }
+
+-- octets that don't answer the next place are bad
+pub unanswered-bad : (class : PairClass) (place : Option (List ℕ)) (index : ℕ) (places behind : List (Option (List ℕ))) (server : List ℕ) (is_closed : Bool) (left : Unpaired)
+    → record { index = index; places = places; server = server; is_closed = is_closed } ≡ left
+    → is_closed ≡ false → places ≡ place ∷ behind → IsUnanswered class place server → IsBad class left
+unanswered-bad class place index places behind server is_closed left same is_open first why =
+    subst (IsBad class) same (at class why) where
+  awaits : Awaits (record { index = index; places = places; server = server; is_closed = is_closed }) place
+  awaits = record { is_open = is_open; places = behind; first = first }
+
+  at : (class : PairClass) → IsUnanswered class place server → IsBad class (record { index = index; places = places; server = server; is_closed = is_closed })
+  at Surplus why = absurd why
+  at Cut why = (place, awaits, why)
+  at Malformed why = (place, awaits, why)
+
+some-count : (lines : List (List ℕ)) → count_by is_some (map Some lines) ≡ length lines
+some-count [] = refl
+some-count (line ∷ lines) =
+    let first : count_by is_some (map Some (line ∷ lines)) ≡ 1 + count_by is_some (map Some lines) = sum_by-cons (λ o. cond (is_some o) 1 0) (Some line) (map Some lines) in
+    omega (arith, some-count lines)
+
+-- the places with a line are those of the client's lines
+pub lines-count : (is_greeted : Bool) (client : List ℕ) → count_by is_some (places_from is_greeted client) ≡ length (lines_of_stream client)
+lines-count true client = some-count (lines_of_stream client)
+lines-count false client = some-count (lines_of_stream client)

@@ -1,0 +1,139 @@
+-- Pairs are spelled one after the other, and what is so spelled is paired.
+use Rattle.std.proofs.Common.{◌≡◌, ◌≢◌, ℕ, ◌+◌, List, [], ◌∷◌, ◌++◌, map, Option, None, Some, Bool, true, false, refl, sym, ◌∙◌, ap, subst}
+use Rattle.std.proofs.lemmas.List.{append-nil}
+use Rattle.std.specs.Prelude.{⊤, is_some, count_by}
+use Rattle.nntp_wire.specs.Answer.{Asked, Response, Spells}
+use Rattle.nntp_wire.specs.Command.{request_of}
+use Rattle.nntp_wire.specs.Answer.{greeting, to}
+use Rattle.nntp_wire.specs.Frame.{HasFrame, frame_octets}
+use Rattle.nntp_wire.specs.Lines.{lines_of_stream}
+use Rattle.nntp_wire.specs.Session.{closes, prompts_of}
+use Rattle.nntp_wire.proofs.SpellLemmas.{spelling-frame}
+use Rattle.nntp_pair.specs.declared.class.PairClass.{PairClass}
+use Rattle.nntp_pair.specs.Pairing.{Paired, Unpaired, IsAnswered, IsNext, AreNext, Ending, end, bad, Ends, IsPairing, streams, asked_at, places_of}
+use Rattle.nntp_pair.specs.Spelled.{AreSpelled, StaysOpen, responses_of, HasPairs}
+use Rattle.nntp_pair.proofs.NextLemmas.{next-no-end}
+use Rattle.nntp_pair.proofs.PairingLemmas.{first-pairs}
+
+-- what is asked at the places of a client
+map-asked : (lines : List (List ℕ)) → map asked_at (map Some lines) ≡ map (λ line. to (request_of line)) lines
+map-asked [] = refl
+map-asked (line ∷ lines) = ap (λ t. to (request_of line) ∷ t) (map-asked lines)
+
+places-prompts : (client : List ℕ) → map asked_at (places_of client) ≡ prompts_of client
+places-prompts client = ap (λ t. greeting ∷ t) (map-asked (lines_of_stream client))
+
+-- pairs are spelled
+run-spelled : (pairs : List Paired) (a b : Unpaired) → AreNext a pairs b → AreSpelled (map asked_at a.places) (responses_of pairs) a.server b.server
+run-spelled [] a b same = ap (λ u. u.server) same
+run-spelled (x ∷ pairs) a b (m, n, run) =
+    subst (λ places. AreSpelled (map asked_at places) (responses_of (x ∷ pairs)) a.server b.server) (sym n.place)
+    (frame_octets x.initial n.answered.block, m.server, n.answered.spells, n.answered.frame.whole, run-spelled pairs m b run)
+
+-- none but the last closes
+run-open : (pairs : List Paired) (a b : Unpaired) → AreNext a pairs b → StaysOpen (map asked_at a.places) (responses_of pairs)
+run-open [] a b same = tt
+run-open (x ∷ []) a b run = tt
+run-open (x ∷ y ∷ pairs) a b (m, n, (k, o, run)) =
+    subst (λ places. StaysOpen (map asked_at places) (responses_of (x ∷ y ∷ pairs))) (sym n.place)
+    (sym n.closing ∙ o.is_open, run-open (y ∷ pairs) m b (k, o, run))
+
+-- the connection is open where a response is left
+abbrev IsOpenFor : Bool → List Response → Type 0
+IsOpenFor is_closed [] = ⊤
+IsOpenFor is_closed (response ∷ responses) = is_closed ≡ false
+
+open-tail : (asked : Asked) (prompts : List Asked) (response : Response) (responses : List Response) → StaysOpen (asked ∷ prompts) (response ∷ responses) → IsOpenFor (closes asked response) responses × StaysOpen prompts responses
+open-tail asked prompts response [] stays = (tt, tt)
+open-tail asked prompts response (next ∷ responses) stays = (stays.0, stays.1)
+
+-- what is spelled is paired
+spelled-run : (responses : List Response) (index : ℕ) (places : List (Option (List ℕ))) (server rest : List ℕ) (is_closed : Bool) → IsOpenFor is_closed responses
+    → AreSpelled (map asked_at places) responses server rest → StaysOpen (map asked_at places) responses
+    → HasPairs (record { index = index; places = places; server = server; is_closed = is_closed }) responses rest
+spelled-run [] index places server rest is_closed is_open spelled stays = ([], record { index = index; places = places; server = server; is_closed = is_closed }, refl, refl, spelled)
+spelled-run (response ∷ responses) index [] server rest is_closed is_open spelled stays = absurd spelled
+spelled-run (response ∷ responses) index (place ∷ places) server rest is_closed is_open (front, behind, spells, whole, spelled) stays =
+    let found = spelling-frame (asked_at place) response front behind spells in
+    let tail = open-tail (asked_at place) (map asked_at places) response responses stays in
+    let more = spelled-run responses (index + 1) places behind rest (closes (asked_at place) response) tail.0 spelled tail.1 in
+    (
+      record { index = index; line = place; initial = found.0; response = response } ∷ more.0,
+      more.1,
+      (
+        record { index = index + 1; places = places; server = behind; is_closed = closes (asked_at place) response },
+        record {
+          index = refl;
+          is_open = is_open;
+          place = refl;
+          answered = record {
+            block = found.1;
+            frame = subst (λ octets. HasFrame (asked_at place) octets found.0 found.1 behind) (sym whole) found.3;
+            spells = subst (Spells (asked_at place) response) (sym found.2) spells;
+          };
+          next_index = refl;
+          closing = refl;
+        },
+        more.2,
+      ),
+      ap (λ t. response ∷ t) more.3,
+      more.4,
+    )
+
+-- the pairs of two streams are spelled
+pub pairs-spelled : (client server : List ℕ) (pairs : List Paired) (left : Unpaired) → AreNext (streams client server) pairs left
+    → AreSpelled (prompts_of client) (responses_of pairs) server left.server × StaysOpen (prompts_of client) (responses_of pairs)
+pairs-spelled client server pairs left run = (
+  subst (λ prompts. AreSpelled prompts (responses_of pairs) server left.server) (places-prompts client) (run-spelled pairs (streams client server) left run),
+  subst (λ prompts. StaysOpen prompts (responses_of pairs)) (places-prompts client) (run-open pairs (streams client server) left run),
+)
+
+-- and what is so spelled is their pairs
+pub spelled-pairs : (client server : List ℕ) (responses : List Response) (rest : List ℕ) → AreSpelled (prompts_of client) responses server rest → StaysOpen (prompts_of client) responses
+    → HasPairs (streams client server) responses rest
+spelled-pairs client server responses rest spelled stays =
+    spelled-run responses 0 (places_of client) server rest false (is_open responses)
+    (subst (λ prompts. AreSpelled prompts responses server rest) (sym (places-prompts client)) spelled)
+    (subst (λ prompts. StaysOpen prompts responses) (sym (places-prompts client)) stays) where
+  is_open : (responses : List Response) → IsOpenFor false responses
+  is_open [] = tt
+  is_open (response ∷ responses) = refl
+
+map-append : (pairs more : List Paired) → responses_of (pairs ++ more) ≡ responses_of pairs ++ responses_of more
+map-append [] more = refl
+map-append (x ∷ pairs) more = ap (λ t. x.response ∷ t) (map-append pairs more)
+
+-- responses that are spelled are the first of the pairing's
+pub spelled-first : (client server : List ℕ) (pairs : List Paired) (ending : Ending) (responses : List Response) (rest : List ℕ) → IsPairing client server pairs ending
+    → AreSpelled (prompts_of client) responses server rest → StaysOpen (prompts_of client) responses → (more : List Response) × (responses_of pairs ≡ responses ++ more)
+spelled-first client server pairs ending responses rest pairing spelled stays =
+    let found = spelled-pairs client server responses rest spelled stays in
+    let first = first-pairs pairs found.0 (streams client server) pairing.left found.1 ending pairing.paired pairing.ends found.2 in
+    (responses_of first.0, ap responses_of first.1 ∙ map-append found.0 first.0 ∙ ap (λ t. t ++ responses_of first.0) found.3)
+
+-- nothing comes next where no octet is left
+run-none : (pairs : List Paired) (a b : Unpaired) → a.server ≡ [] → AreNext a pairs b → (pairs ≡ []) × (a ≡ b)
+run-none [] a b none same = (refl, same)
+run-none (x ∷ pairs) a b none (m, n, run) = absurd (next-no-end (end (count_by is_some a.places)) a m x n (none, refl))
+
+-- responses whose spellings are all octets are those of the pairing, which ends with no octet left
+pub spelled-whole : (client server : List ℕ) (pairs : List Paired) (ending : Ending) (responses : List Response) → IsPairing client server pairs ending
+    → AreSpelled (prompts_of client) responses server [] → StaysOpen (prompts_of client) responses
+    → (responses_of pairs ≡ responses) × (unanswered : ℕ) × (ending ≡ end unanswered)
+spelled-whole client server pairs ending responses pairing spelled stays =
+    let found = spelled-pairs client server responses [] spelled stays in
+    let first = first-pairs pairs found.0 (streams client server) pairing.left found.1 ending pairing.paired pairing.ends found.2 in
+    let none = run-none first.0 found.1 pairing.left found.4 first.2 in
+    let last = at found.1 ending (subst (λ u. Ends u ending) (sym none.1) pairing.ends) found.4 in
+    (ap responses_of (first.1 ∙ ap (λ t. found.0 ++ t) none.0) ∙ map-append found.0 [] ∙ append-nil (responses_of found.0) ∙ found.3, last.0, last.1) where
+  at : (left : Unpaired) (ending : Ending) → Ends left ending → left.server ≡ [] → (unanswered : ℕ) × (ending ≡ end unanswered)
+  at left (end n) ends none = (n, refl)
+  at left (bad class) ends none = absurd (ends.0 none)
+
+-- so where the pairing ends at octets, no responses have them all as their spellings
+pub bad-unspelled : (client server : List ℕ) (pairs : List Paired) (class : PairClass) (responses : List Response) → IsPairing client server pairs (bad class)
+    → StaysOpen (prompts_of client) responses → ¬ (AreSpelled (prompts_of client) responses server [])
+bad-unspelled client server pairs class responses pairing stays spelled =
+    let whole = spelled-whole client server pairs (bad class) responses pairing spelled stays in
+    let same : bad class ≡ end whole.1 = whole.2 in
+    cc

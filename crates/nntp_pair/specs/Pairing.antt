@@ -1,0 +1,125 @@
+-- Which response answers what (RFC 3977, sections 3.1 and 3.5): the greeting nothing that was sent, and then each response the next line of the client.
+use Rattle.std.specs.Prelude.{◌≡◌, ◌≢◌, ◌⊎◌, ℕ, ◌+◌, Bool, true, false, List, [], ◌∷◌, ◌++◌, Option, None, Some, is_some, map, count_by, ⊤}
+use Rattle.nntp_wire.specs.Lines.{lines_of_stream}
+use Rattle.nntp_wire.specs.Command.{request_of}
+use Rattle.nntp_wire.specs.Answer.{Asked, greeting, to, Response, Spells}
+use Rattle.nntp_wire.specs.Frame.{HasFrame, frame_octets}
+use Rattle.nntp_wire.specs.Session.{closes}
+use Rattle.nntp_pair.specs.declared.class.PairClass.{PairClass}
+use Rattle.nntp_pair.specs.declared.class.PairClass.TheVariants.{Surplus, Cut, Malformed}
+
+-- the places of a session: the greeting's, which has no line, and then one for each line of the client
+abbrev pub places_of : List ℕ → List (Option (List ℕ))
+places_of client = None ∷ map Some (lines_of_stream client)
+
+-- the same once the greeting's place is behind
+abbrev pub places_from : Bool → List ℕ → List (Option (List ℕ))
+places_from false client = places_of client
+places_from true client = map Some (lines_of_stream client)
+
+-- what is answered at a place
+abbrev pub asked_at : Option (List ℕ) → Asked
+asked_at None = greeting
+asked_at (Some line) = to (request_of line)
+
+-- the server's octets begin with this response, under this initial line, to what is asked at the place, and go on with the rest
+pub record IsAnswered (place : Option (List ℕ)) (server initial : List ℕ) (response : Response) (rest : List ℕ) : Type 0 where
+  pub block : Option (List ℕ)
+  pub frame : HasFrame (asked_at place) server initial block rest
+  pub spells : Spells (asked_at place) response (frame_octets initial block)
+
+-- some block makes a spelling of the response out of the initial line
+abbrev pub IsSpelled : Option (List ℕ) → List ℕ → Response → Type 0
+IsSpelled place initial response = (block : Option (List ℕ)) × Spells (asked_at place) response (frame_octets initial block)
+
+-- they begin with no whole frame
+abbrev pub IsCut : Option (List ℕ) → List ℕ → Type 0
+IsCut place server = (initial : List ℕ) (block : Option (List ℕ)) (rest : List ℕ) → ¬ (HasFrame (asked_at place) server initial block rest)
+
+-- they begin with a frame that spells nothing
+pub record IsMalformed (place : Option (List ℕ)) (server : List ℕ) : Type 0 where
+  pub initial : List ℕ
+  pub block : Option (List ℕ)
+  pub rest : List ℕ
+  pub frame : HasFrame (asked_at place) server initial block rest
+  pub nothing : (response : Response) → ¬ (Spells (asked_at place) response (frame_octets initial block))
+
+-- why they don't answer what is asked at the place
+abbrev pub IsUnanswered : PairClass → Option (List ℕ) → List ℕ → Type 0
+IsUnanswered Surplus place server = ⊥
+IsUnanswered Cut place server = IsCut place server
+IsUnanswered Malformed place server = IsMalformed place server
+
+-- a response with its place, counted from 0, and the line that it answers
+pub record Paired : Type 0 where
+  pub index : ℕ
+  pub line : Option (List ℕ)
+  pub initial : List ℕ
+  pub response : Response
+
+-- what is left to pair: the index of the next place, the places from there on, the server's octets, and whether the connection is closed
+pub record Unpaired : Type 0 where
+  pub index : ℕ
+  pub places : List (Option (List ℕ))
+  pub server : List ℕ
+  pub is_closed : Bool
+
+-- the pair comes next, and then this is left
+pub record IsNext (before : Unpaired) (pair : Paired) (after : Unpaired) : Type 0 where
+  pub index : pair.index ≡ before.index
+  pub is_open : before.is_closed ≡ false
+  pub place : before.places ≡ pair.line ∷ after.places
+  pub answered : IsAnswered pair.line before.server pair.initial pair.response after.server
+  pub next_index : after.index ≡ before.index + 1
+  pub closing : after.is_closed ≡ closes (asked_at pair.line) pair.response
+
+-- the pairs come next, one after the other, and then this is left
+abbrev pub AreNext : Unpaired → List Paired → Unpaired → Type 0
+AreNext before [] after = before ≡ after
+AreNext before (pair ∷ pairs) after = (between : Unpaired) × IsNext before pair between × AreNext between pairs after
+
+-- the connection is open, and this place is next
+pub record Awaits (left : Unpaired) (place : Option (List ℕ)) : Type 0 where
+  pub is_open : left.is_closed ≡ false
+  pub places : List (Option (List ℕ))
+  pub first : left.places ≡ place ∷ places
+
+-- the line of the first place, if there is one
+abbrev pub line_ahead : List (Option (List ℕ)) → Option (List ℕ)
+line_ahead [] = None
+line_ahead (place ∷ places) = place
+
+-- why octets answer nothing
+abbrev pub IsBad : PairClass → Unpaired → Type 0
+IsBad Surplus left = (left.is_closed ≡ true) ⊎ (left.places ≡ [])
+IsBad Cut left = (place : Option (List ℕ)) × Awaits left place × IsCut place left.server
+IsBad Malformed left = (place : Option (List ℕ)) × Awaits left place × IsMalformed place left.server
+
+-- how a pairing ends: with no octet left, and so many lines unanswered, or at octets that answer nothing
+pub data Ending : Type 0 where
+  end : (unanswered : ℕ) → Ending
+  bad : (class : PairClass) → Ending
+
+abbrev pub Ends : Unpaired → Ending → Type 0
+Ends left (end unanswered) = (left.server ≡ []) × (unanswered ≡ count_by is_some left.places)
+Ends left (bad class) = (left.server ≢ []) × IsBad class left
+
+-- no octets that follow can mend it
+abbrev pub IsLasting : PairClass → Unpaired → Type 0
+IsLasting Surplus left = left.is_closed ≡ true
+IsLasting Cut left = ⊥
+IsLasting Malformed left = ⊤
+
+-- before the first pair both streams are left
+abbrev pub streams : List ℕ → List ℕ → Unpaired
+streams client server = record { index = 0; places = places_of client; server = server; is_closed = false }
+
+-- the pairing of both streams
+pub record IsPairing (client server : List ℕ) (pairs : List Paired) (ending : Ending) : Type 0 where
+  pub left : Unpaired
+  pub paired : AreNext (streams client server) pairs left
+  pub ends : Ends left ending
+
+-- what is left, with more places and more octets behind
+abbrev pub with_more : List (Option (List ℕ)) → List ℕ → Unpaired → Unpaired
+with_more places octets left = record { index = left.index; places = left.places ++ places; server = left.server ++ octets; is_closed = left.is_closed }

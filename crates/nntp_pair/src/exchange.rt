@@ -1,0 +1,121 @@
+//! A response with what it answers.
+ghost use Rattle.std.specs.Prelude.{◌≡◌, ◌<◌, ◌^◌, MatchResult};
+ghost use Rattle.std.specs.Option.{option_copied};
+ghost use Rattle.nntp_wire.specs.AnswerView.{response};
+ghost use Rattle.nntp_wire.specs.Session.{closes};
+ghost use Rattle.nntp_wire.specs.View.{asked};
+ghost use Rattle.nntp_pair.specs.Pairing.{IsAnswered, IsUnanswered, IsSpelled, asked_at};
+
+use crate::class::PairClass;
+use nntp_wire::{Answer, Command, Prompt, frame};
+use std::marker::Model;
+
+/// A response of the server with what it answers.
+#[derive(Drop)]
+pub struct Exchange<'a> {
+    index: u64,
+    line: Option<&'a [u8]>,
+    initial: &'a [u8],
+    prompt: Prompt<'a>,
+    answer: Answer<'a>,
+}
+
+impl<'a> Model for Exchange<'a> {
+    ghost use Rattle.std.specs.Prelude.{◌≡◌, ◌<◌, ◌^◌};
+    ghost use Rattle.std.specs.Option.{option_copied};
+    ghost use Rattle.nntp_wire.specs.AnswerView.{response};
+    ghost use Rattle.nntp_wire.specs.View.{asked};
+    ghost use Rattle.nntp_pair.specs.Pairing.{Paired, IsSpelled, asked_at};
+
+    ghost Value = { Paired };
+
+    ghost view = { λ x. record { index = x.index; line = option_copied x.line; initial = x.initial.now; response = response x.answer } };
+
+    ghost invariant = { λ x. (x.index < 2 ^ 63) × (asked x.prompt ≡ asked_at (option_copied x.line)) × IsSpelled (option_copied x.line) x.initial.now (response x.answer) };
+}
+
+/// What is answered at a place.
+fn prompt_at<'a>(line: Option<&'a [u8]>) -> Prompt<'a>
+    ensures { asked result ≡ asked_at (option_copied line.entry) }
+{
+    match line {
+        Some(line) => Prompt::To(Command::parse(line)),
+        None => Prompt::Greeting,
+    }
+}
+
+impl<'a> Exchange<'a> {
+    /// The exchange at a place, and the octets behind it.
+    pub(crate) fn read(
+        index: u64,
+        line: Option<&'a [u8]>,
+        server: &'a [u8],
+    ) -> Result<(Exchange<'a>, &'a [u8]), PairClass>
+        requires { index < 2 ^ 63 }
+        ensures { MatchResult result
+            (λ p. (p.0.index ≡ index) × (p.0.line ≡ option_copied line.entry) × IsAnswered (option_copied line.entry) server.now p.0.initial p.0.response p.1.now)
+            (λ class. IsUnanswered class (option_copied line.entry) server.now) }
+    {
+        let prompt = prompt_at(line);
+        let Some(frame) = frame(&prompt, server) else {
+            return Err(PairClass::Cut);
+        };
+        let Ok(answer) = Answer::parse(&prompt, &frame) else {
+            return Err(PairClass::Malformed);
+        };
+        let (_, rest) = server.split_at(frame.len());
+        let initial = frame.initial();
+        let exchange = Exchange {
+            index,
+            line,
+            initial,
+            prompt,
+            answer,
+        };
+        Ok((exchange, rest))
+    }
+
+    /// Its place in the session: 0 is the greeting's, k that of the client's k-th line. Less than 2^63.
+    pub fn index(&self) -> u64
+        ensures value { result ≡ self.now.index }
+        ensures small { self.now.index < 2 ^ 63 }
+    {
+        self.index
+    }
+
+    /// The line of the client that is answered, without its CRLF. The greeting answers none.
+    pub fn line(&self) -> Option<&'a [u8]>
+        ensures { option_copied result ≡ self.now.line }
+    {
+        self.line
+    }
+
+    /// The initial line of the response, without its CRLF.
+    pub fn initial(&self) -> &'a [u8]
+        ensures { result.now ≡ self.now.initial }
+    {
+        self.initial
+    }
+
+    /// What is answered.
+    pub fn prompt(&self) -> &Prompt<'a>
+        ensures { asked result.now ≡ asked_at self.now.line }
+    {
+        &self.prompt
+    }
+
+    /// What the response says.
+    pub fn answer(&self) -> &Answer<'a>
+        ensures value { response result.now ≡ self.now.response }
+        ensures is_spelled { IsSpelled self.now.line self.now.initial self.now.response }
+    {
+        &self.answer
+    }
+
+    /// Whether the server closes the connection after it.
+    pub fn closes(&self) -> bool
+        ensures { result ≡ closes (asked_at self.now.line) self.now.response }
+    {
+        self.answer.closes(&self.prompt)
+    }
+}

@@ -1,0 +1,66 @@
+//! Laws of pairings, and of octets that are spellings one after the other.
+ghost use Rattle.std.specs.Prelude.{◌≡◌, ℕ, List, [], ◌++◌, Option, length};
+ghost use Rattle.nntp_wire.specs.Answer.{Response};
+ghost use Rattle.nntp_wire.specs.Session.{prompts_of};
+ghost use Rattle.nntp_pair.specs.declared.class.PairClass.{PairClass};
+ghost use Rattle.nntp_pair.specs.Pairing.{Paired, Unpaired, AreNext, Ending, end, bad, IsPairing, IsLasting, streams, with_more};
+ghost use Rattle.nntp_pair.specs.Spelled.{AreSpelled, StaysOpen, HasPairs, responses_of};
+
+/// Two streams have one pairing.
+pub fn one_pairing()
+    ensures { (client server : List ℕ) (pairs others : List Paired) (ending other : Ending)
+        → IsPairing client server pairs ending → IsPairing client server others other → (pairs ≡ others) × (ending ≡ other) }
+{}
+
+/// The index of the place that is next is the number of pairs before it.
+pub fn index_counts_pairs()
+    ensures { (client server : List ℕ) (pairs : List Paired) (left : Unpaired)
+        → AreNext (streams client server) pairs left → left.index ≡ length pairs }
+{}
+
+/// With more octets behind both streams the pairs are the same.
+pub fn pairs_stay()
+    ensures { (client server client_more server_more : List ℕ) (pairs : List Paired) (left : Unpaired)
+        → AreNext (streams client server) pairs left
+        → (places : List (Option (List ℕ))) × AreNext (streams (client ++ client_more) (server ++ server_more)) pairs (with_more places server_more left) }
+{}
+
+/// And so is a bad end that no octets can mend: a frame that spells nothing, or octets on a closed connection.
+pub fn lasting_end_stays()
+    ensures { (client server client_more server_more : List ℕ) (pairs : List Paired) (class : PairClass) (pairing : IsPairing client server pairs (bad class))
+        → IsLasting class pairing.left → IsPairing (client ++ client_more) (server ++ server_more) pairs (bad class) }
+{}
+
+/// Pairs are spelled one after the other, and none but the last closes the connection.
+pub fn pairs_are_spelled()
+    ensures { (client server : List ℕ) (pairs : List Paired) (left : Unpaired) → AreNext (streams client server) pairs left
+        → AreSpelled (prompts_of client) (responses_of pairs) server left.server × StaysOpen (prompts_of client) (responses_of pairs) }
+{}
+
+/// Responses that are spelled one after the other, and of which none but the last closes, are the responses of pairs.
+pub fn spelled_are_pairs()
+    ensures { (client server : List ℕ) (responses : List Response) (rest : List ℕ)
+        → AreSpelled (prompts_of client) responses server rest → StaysOpen (prompts_of client) responses
+        → HasPairs (streams client server) responses rest }
+{}
+
+/// Such responses are the first of the pairing's.
+pub fn spelled_come_first()
+    ensures { (client server : List ℕ) (pairs : List Paired) (ending : Ending) (responses : List Response) (rest : List ℕ)
+        → IsPairing client server pairs ending → AreSpelled (prompts_of client) responses server rest → StaysOpen (prompts_of client) responses
+        → (more : List Response) × (responses_of pairs ≡ responses ++ more) }
+{}
+
+/// Where their spellings are all octets of the server, they are those of the pairing, which ends with no octet left.
+pub fn spelled_whole()
+    ensures { (client server : List ℕ) (pairs : List Paired) (ending : Ending) (responses : List Response)
+        → IsPairing client server pairs ending → AreSpelled (prompts_of client) responses server [] → StaysOpen (prompts_of client) responses
+        → (responses_of pairs ≡ responses) × (unanswered : ℕ) × (ending ≡ end unanswered) }
+{}
+
+/// Where the pairing ends at octets, no responses have all octets of the server as their spellings.
+pub fn bad_end_is_unspelled()
+    ensures { (client server : List ℕ) (pairs : List Paired) (class : PairClass) (responses : List Response)
+        → IsPairing client server pairs (bad class) → StaysOpen (prompts_of client) responses
+        → ¬ (AreSpelled (prompts_of client) responses server []) }
+{}

@@ -1,0 +1,111 @@
+//! The pairing of both streams, one exchange at a time.
+ghost use Rattle.std.specs.Prelude.{◌≡◌, ◌<◌, length, MatchResult};
+ghost use Rattle.std.specs.Option.{option_copied};
+ghost use Rattle.nntp_pair.specs.Pairing.{IsNext, IsBad, streams, line_ahead};
+ghost use Rattle.nntp_pair.specs.Step.{IsStep, OnExchange};
+
+use crate::class::PairClass;
+use crate::exchange::Exchange;
+use crate::places::Places;
+use crate::step::Step;
+use std::marker::Model;
+
+/// The pairing of both streams.
+#[derive(Drop)]
+pub struct Pairs<'a> {
+    index: u64,
+    places: Places<'a>,
+    server: &'a [u8],
+    is_closed: bool,
+}
+
+impl<'a> Model for Pairs<'a> {
+    ghost use Rattle.std.specs.Prelude.{ℕ, ◌+◌, ◌*◌, ◌<◌, ◌^◌, length};
+    ghost use Rattle.nntp_pair.specs.Pairing.{Unpaired};
+
+    ghost Value = { Unpaired };
+
+    ghost view = { λ p. record { index = p.index; places = p.places; server = p.server.now; is_closed = p.is_closed } };
+
+    ghost invariant = { λ p. 2 * p.index + length p.server.now < 2 ^ 64 };
+}
+
+/// What comes next in both streams.
+#[derive(Clone, Copy, Debug, PartialEq, Eq)]
+pub struct Ahead<'a> {
+    /// The line of the next place, without its CRLF: none at the greeting's, or where no place is left.
+    pub line: Option<&'a [u8]>,
+    /// What is left of the server's stream.
+    pub rest: &'a [u8],
+}
+
+impl<'a> Pairs<'a> {
+    /// The pairing from the greeting on.
+    pub fn new(client: &'a [u8], server: &'a [u8]) -> Pairs<'a>
+        ensures { result ≡ streams client.now server.now }
+    {
+        Pairs {
+            index: 0,
+            places: Places::new(client),
+            server,
+            is_closed: false,
+        }
+    }
+
+    /// The next exchange, or how the pairing ends. After an end it answers that end again.
+    pub fn next(&mut self) -> Step<'a>
+        ensures step { IsStep self.old result self.new }
+        ensures progress { OnExchange result (length self.new.server < length self.old.server) }
+    {
+        if self.server.is_empty() {
+            let unanswered = self.places.count_lines();
+            return Step::End { unanswered };
+        }
+        match self.split_first() {
+            Ok((exchange, behind)) => {
+                *self = behind;
+                Step::Exchange(exchange)
+            }
+            Err(class) => Step::Bad {
+                index: self.index,
+                class,
+            },
+        }
+    }
+
+    /// The next exchange, and the pairing behind it.
+    fn split_first(&self) -> Result<(Exchange<'a>, Pairs<'a>), PairClass>
+        ensures { MatchResult result (λ p. IsNext self.now p.0 p.1) (λ class. IsBad class self.now) }
+    {
+        if self.is_closed {
+            return Err(PairClass::Surplus);
+        }
+        let Some((line, places)) = self.places.split_first() else {
+            return Err(PairClass::Surplus);
+        };
+        let (exchange, server) = Exchange::read(self.index, line, self.server)?;
+        let is_closed = exchange.closes();
+        let behind = Pairs {
+            index: self.index + 1,
+            places,
+            server,
+            is_closed,
+        };
+        Ok((exchange, behind))
+    }
+
+    /// The line of the next place, and what is left of the server's stream.
+    pub fn ahead(&self) -> Ahead<'a>
+        ensures line { option_copied result.line ≡ line_ahead self.now.places }
+        ensures rest { result.rest.now ≡ self.now.server }
+    {
+        let line = match self.places.split_first() {
+            Some((line, _)) => line,
+            None => None,
+        };
+        Ahead {
+            line,
+            rest: self.server,
+        }
+    }
+}

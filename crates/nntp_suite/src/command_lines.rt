@@ -1,0 +1,86 @@
+//! The command line, the words on standard error, and the exit status.
+use clap::error::ErrorKind;
+use nntp_check::{Failure, RunFault, Task, job, status};
+use std::alloc::{AllocError, Global};
+use std::process::Abort;
+use std::test::Fail;
+
+fn words(alloc: Global, of: &[&str]) -> Result<Vec<String>, AllocError> {
+    let mut words = Vec::new(alloc);
+    for word in of {
+        words.push(String::from_str(alloc, word)?)?;
+    }
+    Ok(words)
+}
+
+#[test]
+fn check_is_a_task(rt: HostRuntime) -> Result<(), Fail> {
+    let words = words(rt.alloc(), &["nntpcheck", "check"])?;
+    assert_eq!(rt; job(rt.alloc(), &words)?, Task::Check);
+    Ok(())
+}
+
+#[test]
+fn words_that_ask_for_no_task(rt: HostRuntime) -> Result<(), Fail> {
+    let alloc = rt.alloc();
+    let rows: [(&[&str], ErrorKind, u8); 8] = [
+        (&["nntpcheck"], ErrorKind::MissingSubcommand, 2),
+        (&["nntpcheck", "check", "x"], ErrorKind::UnknownArgument, 2),
+        (
+            &["nntpcheck", "check", "--x"],
+            ErrorKind::UnknownArgument,
+            2,
+        ),
+        (&["nntpcheck", "verify"], ErrorKind::InvalidSubcommand, 2),
+        (&["nntpcheck", "show"], ErrorKind::InvalidSubcommand, 2),
+        (&["nntpcheck", "--help"], ErrorKind::DisplayHelp, 0),
+        (&["nntpcheck", "check", "-h"], ErrorKind::DisplayHelp, 0),
+        (&["nntpcheck", "--version"], ErrorKind::DisplayVersion, 0),
+    ];
+    for (of, kind, code) in rows {
+        let words = words(alloc, of)?;
+        match job(alloc, &words) {
+            Ok(_) => assert!(rt; false, "not refused"),
+            Err(error) => {
+                assert_eq!(rt; error.kind(), kind);
+                assert_eq!(rt; error.use_stderr(), code == 2);
+                assert_eq!(rt; status(&Err(Failure::Words(error))), code);
+            }
+        }
+    }
+    Ok(())
+}
+
+#[test]
+fn faults_by_name(rt: HostRuntime) -> Result<(), Fail> {
+    let rows = [
+        (RunFault::Read, "nntpcheck: read failed"),
+        (RunFault::TooLong, "nntpcheck: input too long"),
+        (
+            RunFault::Capture { piece: 7 },
+            "nntpcheck: bad capture piece 7",
+        ),
+        (RunFault::Memory, "nntpcheck: out of memory"),
+        (RunFault::Write, "nntpcheck: write failed"),
+    ];
+    for (fault, text) in rows {
+        let failure = Failure::Run(fault);
+        assert_eq!(rt; format!(in rt.alloc(); "{failure}")?.as_str(), text);
+        assert_eq!(rt; status(&Err(failure)), 3);
+    }
+    let text = format!(in rt.alloc(); "{}", Failure::NotText)?;
+    assert_eq!(rt; text.as_str(), "nntpcheck: a word is not UTF-8");
+    Ok(())
+}
+
+#[test]
+fn exit_status_of_each_outcome(rt: HostRuntime) {
+    assert_eq!(rt; status(&Ok(true)), 0);
+    assert_eq!(rt; status(&Ok(false)), 1);
+    assert_eq!(rt; status(&Err(Failure::NotText)), 2);
+    assert_eq!(rt; status(&Err(Failure::Help)), 3);
+    assert_eq!(rt;
+        status(&Err(Failure::Words(clap::Error::from(AllocError)))),
+        3
+    );
+}

@@ -1,0 +1,11 @@
+//! Tests of the whole: worked sessions, runs by fake readers and writers, and the command line.
+#![tactic(auto)]
+
+#[cfg(test)]
+mod command_lines;
+#[cfg(test)]
+mod fakes;
+#[cfg(test)]
+mod runs;
+#[cfg(test)]
+mod sessions;

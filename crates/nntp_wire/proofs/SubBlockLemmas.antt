@@ -1,0 +1,114 @@
+-- The first lines of a block, and those behind them.
+use Rattle.std.proofs.Common.{◌≡◌, ℕ, zero, suc, ◌+◌, ◌-◌, ◌<◌, ◌≤◌, List, [], ◌∷◌, ◌++◌, length, take, drop, refl, sym, ◌∙◌, ap, subst, arith, append_assoc, append-nil, length-append}
+use Rattle.std.proofs.lemmas.List.{take_at, drop_at, take_all, drop_all}
+use Rattle.std.specs.Prelude.{map}
+use Rattle.nntp_wire.specs.Octets.{crlf}
+use Rattle.nntp_wire.specs.Lines.{HasNoCrlf, ended}
+use Rattle.nntp_wire.specs.Block.{stuffed, sent, received, AreClean, Sends, IsSent}
+use Rattle.nntp_wire.proofs.FrameLemmas.{one_line, occurs-behind}
+use Rattle.nntp_wire.proofs.SpellLemmas.{stuffed-line}
+use Rattle.nntp_wire.proofs.BlockLemmas.{received-sent}
+
+-- octets without CRLF send no line
+pub sent-line : (rest : List ℕ) → 0 < length rest → HasNoCrlf rest → IsSent rest → ⊥
+sent-line rest some none (lines, sends) = at lines sends.whole where
+  at : (lines : List (List ℕ)) → rest ≡ sent lines → ⊥
+  at [] whole = absurd (omega (arith, ap length whole))
+  at (l ∷ ls) whole = none (length (stuffed l)) (rw (whole, append_assoc (stuffed l) crlf (sent ls)) (occurs-behind (stuffed l) crlf (sent ls)))
+
+clean-append : (xs ys : List (List ℕ)) → AreClean xs → AreClean ys → AreClean (xs ++ ys)
+clean-append [] ys a b = b
+clean-append (x ∷ xs) ys a b = (a.0, clean-append xs ys a.1 b)
+
+sent-append : (xs ys : List (List ℕ)) → sent (xs ++ ys) ≡ sent xs ++ sent ys
+sent-append [] ys = refl
+sent-append (x ∷ xs) ys = ap (λ t. (stuffed x ++ crlf) ++ t) (sent-append xs ys) ∙ sym (append_assoc (stuffed x ++ crlf) (sent xs) (sent ys))
+
+-- these lines were passed over, and those are left
+pub record Passed (k : ℕ) (bytes rest : List ℕ) : Type 0 where
+  pub done : List (List ℕ)
+  pub left : List (List ℕ)
+  pub clean : AreClean done
+  pub whole : bytes ≡ sent done ++ rest
+  pub sends : Sends rest left
+  pub count : length done ≡ k
+
+pub passed-none : (bytes : List ℕ) → IsSent bytes → Passed 0 bytes bytes
+passed-none bytes (lines, sends) = record { done = []; left = lines; clean = tt; whole = refl; sends = sends; count = refl }
+
+-- one more line
+pub passed-more : (k : ℕ) (bytes rest line others : List ℕ) → Passed k bytes rest → HasNoCrlf line → rest ≡ (line ++ crlf) ++ others → Passed (k + 1) bytes others
+passed-more k bytes rest line others p is_line e = at p.left p.sends.clean p.sends.whole where
+  at : (left : List (List ℕ)) → AreClean left → rest ≡ sent left → Passed (k + 1) bytes others
+  at [] clean whole = absurd (omega (arith, ap length (sym e ∙ whole), length-append (line ++ crlf) others, length-append line crlf))
+  at (l ∷ ls) clean whole =
+      let both = one_line line (stuffed l) others (sent ls) is_line (stuffed-line l clean.0).0 (sym e ∙ whole) in
+      let one : (stuffed l ++ crlf) ++ sent ls ≡ sent (l ∷ []) ++ others = ap (λ t. t ++ sent ls) (sym (append-nil (stuffed l ++ crlf))) ∙ ap (λ t. ((stuffed l ++ crlf) ++ []) ++ t) (sym both.1) in
+      record {
+        done = p.done ++ l ∷ [];
+        left = ls;
+        clean = clean-append p.done (l ∷ []) p.clean (clean.0, tt);
+        whole = p.whole ∙ ap (λ t. sent p.done ++ t) (whole ∙ one) ∙ sym (append_assoc (sent p.done) (sent (l ∷ [])) others) ∙ ap (λ t. t ++ others) (sym (sent-append p.done (l ∷ [])));
+        sends = record { clean = clean.1; whole = both.1 };
+        count = omega (arith, length-append p.done (l ∷ []), p.count);
+      }
+
+-- all the lines
+all_lines : (k : ℕ) (bytes rest : List ℕ) (p : Passed k bytes rest) → received bytes ≡ p.done ++ p.left
+all_lines k bytes rest p =
+    ap received (p.whole ∙ ap (λ t. sent p.done ++ t) p.sends.whole ∙ sym (sent-append p.done p.left))
+    ∙ received-sent (p.done ++ p.left) (clean-append p.done p.left p.clean p.sends.clean)
+
+-- what is said of the place behind the first lines
+pub record IsBehind (count : ℕ) (bytes rest : List ℕ) : Type 0 where
+  pub front : bytes ≡ sent (take count (received bytes)) ++ rest
+  pub back : Sends rest (drop count (received bytes))
+
+pub passed-all : (k : ℕ) (bytes rest : List ℕ) → Passed k bytes rest → IsBehind k bytes rest
+passed-all k bytes rest p =
+    let all = all_lines k bytes rest p in
+    let t : take k (received bytes) ≡ p.done = ap (take k) all ∙ take_at p.done p.left k p.count in
+    let d : drop k (received bytes) ≡ p.left = ap (drop k) all ∙ drop_at p.done p.left k p.count in
+    record { front = rw t p.whole; back = rw d p.sends }
+
+-- no line is left
+pub passed-end : (k count : ℕ) (bytes rest : List ℕ) → Passed k bytes rest → k ≤ count → HasNoCrlf rest → IsBehind count bytes rest
+passed-end k count bytes rest p low none = at p.left p.sends refl where
+  at : (left : List (List ℕ)) → Sends rest left → p.left ≡ left → IsBehind count bytes rest
+  at [] sends is =
+      let all : received bytes ≡ p.done = all_lines k bytes rest p ∙ ap (λ t. p.done ++ t) is ∙ append-nil p.done in
+      let t : take count (received bytes) ≡ p.done = ap (take count) all ∙ take_all count p.done (omega (arith, p.count)) in
+      let d : drop count (received bytes) ≡ [] = ap (drop count) all ∙ drop_all count p.done (omega (arith, p.count)) in
+      record { front = rw t p.whole; back = rw d sends }
+  at (l ∷ ls) sends is =
+      absurd (none (length (stuffed l)) (rw (sends.whole, append_assoc (stuffed l) crlf (sent ls)) (occurs-behind (stuffed l) crlf (sent ls))))
+
+clean-take : (k : ℕ) (xs : List (List ℕ)) → AreClean xs → AreClean (take k xs)
+clean-take zero xs h = tt
+clean-take (suc k) [] h = tt
+clean-take (suc k) (x ∷ xs) h = (h.0, clean-take k xs h.1)
+
+-- the octets in front of that place
+pub front_sends : (count : ℕ) (bytes rest front : List ℕ) → AreClean (received bytes) → bytes ≡ sent (take count (received bytes)) ++ rest → front ≡ take (length bytes - length rest) bytes → Sends front (take count (received bytes))
+front_sends count bytes rest front clean whole is =
+    let lines = take count (received bytes) in
+    let n = length bytes - length rest in
+    let at : take n bytes ≡ sent lines = ap (take n) whole ∙ take_at (sent lines) rest n (omega (arith, ap length whole, length-append (sent lines) rest)) in
+    record { clean = clean-take count (received bytes) clean; whole = is ∙ at }
+
+-- the octets behind it
+pub back_sends : (count : ℕ) (bytes rest back : List ℕ) → bytes ≡ sent (take count (received bytes)) ++ rest → Sends rest (drop count (received bytes)) → back ≡ drop (length bytes - length rest) bytes → Sends back (drop count (received bytes))
+back_sends count bytes rest back whole sends is =
+    let lines = take count (received bytes) in
+    let n = length bytes - length rest in
+    let at : back ≡ rest = is ∙ ap (drop n) whole ∙ drop_at (sent lines) rest n (omega (arith, ap length whole, length-append (sent lines) rest)) in
+    subst (λ t. Sends t (drop count (received bytes))) (sym at) sends
+
+-- octets that send lines have those received
+pub received-of : (bytes : List ℕ) (lines : List (List ℕ)) → Sends bytes lines → received bytes ≡ lines
+received-of bytes lines s = ap received s.whole ∙ received-sent lines s.clean
+
+-- each line takes octets
+pub length-lines : (lines : List (List ℕ)) → length lines ≤ length (sent lines)
+length-lines [] = omega arith
+length-lines (l ∷ ls) = omega (arith, length-lines ls, length-append (stuffed l ++ crlf) (sent ls), length-append (stuffed l) crlf)

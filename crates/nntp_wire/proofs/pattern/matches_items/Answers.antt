@@ -1,0 +1,37 @@
+use Rattle.std.proofs.Common.{map, arith}
+use Rattle.nntp_wire.specs.Wildmat.{Matches, item_of}
+use Rattle.nntp_wire.proofs.PatternLemmas.{search-start, search-star, search-one, search-fails}
+use Rattle.nntp_wire.proofs.pattern.matches_items.Goals as goal
+
+pub loop-rest-init : goal.loop-rest-init
+loop-rest-init c = record {
+  search = λ ps ts p q. search-start ps ts c.args.pattern.now c.args.text.now p q;
+  items = omega arith;
+  left = omega arith;
+  tried = omega arith;
+}
+
+pub loop-rest-preserved-in-Star : goal.loop-rest-preserved-in-Star
+loop-rest-preserved-in-Star c = record {
+  search = λ ps ts p q. search-star (Matches (map item_of ps) ts) c.loop-rest.items.now c.loop-rest.left.now c.loop-rest.after.now c.loop-rest.from.now c.in-Star.rest c.in-Star.ensures.takes (c.loop-rest.invariant.search ps ts p q);
+  items = omega arith;
+  left = c.loop-rest.invariant.left;
+  tried = c.loop-rest.invariant.left;
+}
+
+pub loop-rest-preserved-in-One : goal.loop-rest-preserved-in-One
+loop-rest-preserved-in-One c = record {
+  search = λ ps ts p q. search-one (Matches (map item_of ps) ts) c.loop-rest.items.now c.loop-rest.left.now c.loop-rest.after.now c.loop-rest.from.now c.in-One.rest c.in-One.others c.in-One.ensures.takes (c.loop-rest.invariant.search ps ts p q);
+  items = omega (arith, c.in-One.ensures.shorter.0, c.loop-rest.invariant.items);
+  left = omega (arith, c.in-One.ensures.shorter.1, c.loop-rest.invariant.left);
+  tried = c.loop-rest.invariant.tried;
+}
+
+pub loop-rest-preserved : goal.loop-rest-preserved
+loop-rest-preserved c =
+    let found = c.in-Some.ensures.found in record {
+      search = λ ps ts p q. search-fails (Matches (map item_of ps) ts) c.loop-rest.items.now c.loop-rest.left.now c.loop-rest.after.now c.loop-rest.from.now c.in-Some.others.now c.in-Some.field-0-0 found.0 found.1 c.in-Fails.ensures.takes (c.loop-rest.invariant.search ps ts p q);
+      items = omega arith;
+      left = omega (arith, c.in-Some.ensures.shorter, c.loop-rest.invariant.tried);
+      tried = omega (arith, c.in-Some.ensures.shorter, c.loop-rest.invariant.tried);
+    }

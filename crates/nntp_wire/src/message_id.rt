@@ -1,0 +1,60 @@
+//! Message ids (RFC 3977, section 3.6).
+ghost use Rattle.std.specs.Prelude.{◌≡◌, ◌↔◌, IsTrue, All};
+ghost use Rattle.std.specs.Option.{SomeIff};
+ghost use Rattle.nntp_wire.specs.Name.{IsMessageId, IsIdOctet};
+
+use std::marker::Model;
+
+/// A message id, with its angle brackets (RFC 3977, section 3.6).
+#[derive(Drop)]
+pub struct MessageId<'a> {
+    bytes: &'a [u8],
+}
+
+impl<'a> Model for MessageId<'a> {
+    ghost use Rattle.std.specs.Prelude.{List, ℕ};
+    ghost use Rattle.nntp_wire.specs.Name.{IsMessageId};
+
+    ghost Value = { List ℕ };
+
+    ghost view = { λ s. s.bytes.now };
+
+    ghost invariant = { λ s. IsMessageId s.bytes.now };
+}
+
+impl<'a> MessageId<'a> {
+    /// The message id that the octets are.
+    pub fn parse(bytes: &'a [u8]) -> Option<MessageId<'a>>
+        ensures { SomeIff result (IsMessageId bytes.now) bytes.now }
+    {
+        if bytes.len() < 3 || bytes.len() > 250 {
+            return None;
+        }
+        let last = bytes.len() - 1;
+        if bytes[0] != b'<' || bytes[last] != b'>' {
+            return None;
+        }
+        let inside = &bytes[1..last];
+        if !are_id_octets(inside) {
+            return None;
+        }
+        Some(MessageId { bytes })
+    }
+
+    /// Its octets.
+    pub fn as_slice(&self) -> &'a [u8]
+        ensures value { result.now ≡ self.now }
+        ensures is_id { IsMessageId self.now }
+    {
+        self.bytes
+    }
+}
+
+/// Whether the octets may stand inside a message id.
+fn are_id_octets(inside: &[u8]) -> bool
+    ensures { IsTrue result ↔ All IsIdOctet inside.now }
+{
+    inside
+        .iter()
+        .all(|b| *b >= 0x21 && *b <= 0x7E && *b != b'>')
+}

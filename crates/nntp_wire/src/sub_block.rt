@@ -1,0 +1,43 @@
+//! Parts of a block, line by line.
+ghost use Rattle.std.specs.Prelude.{◌≡◌, ◌++◌, take, drop};
+ghost use Rattle.nntp_wire.specs.Block.{IsSent, Sends, received, sent};
+
+use crate::block::Block;
+use crate::framing::split_line;
+
+impl<'a> Block<'a> {
+    /// The block of the first `count` lines, or of all where there are fewer, and the block of
+    /// the lines behind them.
+    pub fn split_at_line(&self, count: usize) -> (Block<'a>, Block<'a>)
+        ensures front { result.0 ≡ take count self.now }
+        ensures back { result.1 ≡ drop count self.now }
+    {
+        let all = self.sent;
+        let rest = skip_lines(all, count);
+        let (front, back) = all.split_at(all.len() - rest.len());
+        (Block { sent: front }, Block { sent: back })
+    }
+
+    /// The same block once more.
+    pub fn copy(&self) -> Block<'a>
+        ensures { result ≡ self.now }
+    {
+        Block { sent: self.sent }
+    }
+}
+
+/// The octets behind the first lines, or behind all where there are fewer.
+fn skip_lines(bytes: &[u8], count: usize) -> &[u8]
+    requires { IsSent bytes.now }
+    ensures front { bytes.now ≡ sent (take count (received bytes.now)) ++ result.now }
+    ensures back { Sends result.now (drop count (received bytes.now)) }
+{
+    let mut rest = bytes;
+    for _line in 0..count {
+        let Some((_, others)) = split_line(rest) else {
+            return rest;
+        };
+        rest = others;
+    }
+    rest
+}

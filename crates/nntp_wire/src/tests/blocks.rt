@@ -1,0 +1,69 @@
+//! Blocks and their lines.
+use super::{is_malformed, reply};
+use crate::{Answer, active_line, listed_number};
+
+#[test]
+fn lines_of_a_block(rt: HostRuntime) {
+    match reply(b"BODY <a@b>", b"222 0 <a@b>\r\n..\r\n...x\r\n\r\n.\r\n") {
+        Some(
+            Ok(
+                Answer::Sent {
+                    block: Some(block),
+                    ..
+                },
+            ),
+        ) => {
+            let mut lines = block.lines();
+            for want in [Some(&b"."[..]), Some(b"..x"), Some(b""), None] {
+                assert_eq!(rt; lines.next(), want);
+            }
+        }
+        _ => assert!(rt; false),
+    }
+}
+
+#[test]
+fn blocks_that_send_nothing(rt: HostRuntime) {
+    let rows: [(&str, &[u8]); 5] = [
+        ("single dot in front", b"100\r\n.x\r\n.\r\n"),
+        ("dot and CR", b"100\r\n.\r.\r\n.\r\n"),
+        ("NUL", b"100\r\na\0b\r\n.\r\n"),
+        ("bare CR", b"100\r\na\rb\r\n.\r\n"),
+        ("bare LF", b"100\r\na\nb\r\n.\r\n"),
+    ];
+    for (row, stream) in rows {
+        assert!(rt; is_malformed(b"HELP", stream), "{row}");
+    }
+}
+
+#[test]
+fn listed_numbers(rt: HostRuntime) {
+    let rows: [(&[u8], Option<u64>); 6] = [
+        (b"007", Some(7)),
+        (b" 7\t", Some(7)),
+        (b"0000000000000007", Some(7)),
+        (b"00000000000000007", None),
+        (b"7 a", None),
+        (b"", None),
+    ];
+    for (line, want) in rows {
+        assert_eq!(rt; listed_number(line), want, "{line:?}");
+    }
+}
+
+#[test]
+fn active_lines(rt: HostRuntime) {
+    match active_line(b"g 5 1 y") {
+        Some(active) => {
+            assert_eq!(rt; active.name.as_slice(), b"g".as_slice());
+            assert_eq!(rt; active.high, 5);
+            assert_eq!(rt; active.low, 1);
+            assert_eq!(rt; active.status, b"y".as_slice());
+        }
+        None => assert!(rt; false),
+    }
+    let rows: [&[u8]; 5] = [b"", b"g 5 1", b"g 5 1 y z", b"a,b 5 1 y", b"g 5 x y"];
+    for line in rows {
+        assert!(rt; active_line(line).is_none(), "{line:?}");
+    }
+}

@@ -1,0 +1,72 @@
+//! The words of a line (RFC 3977, section 3.1).
+ghost use Rattle.std.specs.Prelude.{◌≡◌, ◌<◌, List, [], ◌∷◌, ℕ, length, slice_index, false, MatchOption};
+ghost use Rattle.std.specs.Iterator.{YieldsFirstRef, item_count};
+ghost use Rattle.nntp_wire.specs.Octets.{is_blank};
+ghost use Rattle.nntp_wire.specs.Words.{words_of};
+
+use memchr::memchr2;
+use std::marker::Model;
+
+/// The words of a line, first to last.
+#[derive(Drop)]
+pub struct Words<'a> {
+    rest: &'a [u8],
+}
+
+impl<'a> Model for Words<'a> {
+    ghost Value = { List (List ℕ) };
+
+    ghost view = { λ s. words_of s.rest.now };
+}
+
+impl<'a> Words<'a> {
+    pub(crate) fn new(line: &'a [u8]) -> Words<'a>
+        ensures { result ≡ words_of line.now }
+    {
+        Words { rest: line }
+    }
+}
+
+impl<'a> Iterator for Words<'a> {
+    type Item = &'a [u8];
+
+    ghost next_gives = { YieldsFirstRef (λ words. words) };
+
+    ghost remaining = { item_count (λ words. words) };
+
+    fn next(&mut self) -> Option<&'a [u8]> {
+        let Some((word, rest)) = split_word(self.rest) else {
+            self.rest = &[];
+            return None;
+        };
+        self.rest = rest;
+        Some(word)
+    }
+}
+
+/// The first word, and the octets behind it.
+fn split_word(line: &[u8]) -> Option<(&[u8], &[u8])>
+    ensures { MatchOption result (words_of line.now ≡ []) (λ p. words_of line.now ≡ p.0.now ∷ words_of p.1.now) }
+{
+    let rest = skip_blanks(line);
+    if rest.is_empty() {
+        return None;
+    }
+    let end = memchr2(b' ', b'\t', rest).unwrap_or(rest.len());
+    Some(rest.split_at(end))
+}
+
+/// The octets from the first on that is no SP and no TAB.
+fn skip_blanks(line: &[u8]) -> &[u8]
+    ensures words { words_of result.now ≡ words_of line.now }
+    ensures first { 0 < length result.now → is_blank (slice_index result.now 0) ≡ false }
+{
+    let mut rest = line;
+    while let Some((first, others)) = rest.split_first() {
+        if *first != b' ' && *first != b'\t' {
+            return rest;
+        }
+        rest = others;
+    }
+    rest
+}
