@@ -3,12 +3,12 @@ use Rattle.std.proofs.Common.{◌≡◌, ℕ, true, false, cond, ◌&&◌, ◌||
 use Rattle.std.specs.Prelude.{nat_le, codes, nat_lt}
 use Rattle.std.specs.List.{list_all, AllByRecursion}
 use Rattle.std.proofs.lemmas.Bool.{and_from, and_parts, ne_eqb, leb-true, lt-ltb}
-use Rattle.nntp_article.specs.Article.{is_blank, is_head, said_id, skip_blanks, skip_last_blanks, content_of, Id}
+use Rattle.nntp_article.specs.Article.{is_head, said_id, skip_blanks, skip_last_blanks, content_of, Id}
 use Rattle.nntp_facts.specs.Given.{plain_head}
 use Rattle.nntp_wire.specs.Decided.{is_id_octet, begins_id, is_message_id}
 use Rattle.nntp_article.specs.Spool.{is_line}
 use Rattle.nntp_wire.specs.Name.{IsMessageId}
-use Rattle.nntp_wire.specs.Octets.{is_clean, is_line_breaking}
+use Rattle.nntp_wire.specs.Octets.{is_blank, is_clean, is_line_breaking}
 use Rattle.nntp_wire.proofs.DecidedLemmas.{message_id-iff}
 
 -- an octet of an id is no blank
@@ -58,7 +58,7 @@ octets : (id : Id) → IsMessageId id → list_all is_id_octet id ≡ true
 octets id h = (and_parts (nat_le 3 (length id) && nat_le (length id) 250) _ (and_parts _ (begins_id id) ((message_id-iff id).1 h)).0).1
 
 -- the content of the one header is the id
-content : (id : Id) → list_all is_id_octet id ≡ true → content_of (record { first = codes "Message-ID: " ++ id; more = [] }) ≡ id
+content : (id : Id) → list_all is_id_octet id ≡ true → content_of ((codes "Message-ID: " ++ id) ∷ []) ≡ id
 content id h = ap (λ cs. skip_last_blanks (skip_blanks cs)) (append-nil id) ∙ ap skip_last_blanks (no_blanks id h) ∙ no_last_blanks id h
 
 -- the head says the id
