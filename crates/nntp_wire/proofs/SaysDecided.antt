@@ -1,5 +1,5 @@
 -- Whether what stands behind a code says a response can be decided.
-use Rattle.std.proofs.Common.{◌≡◌, ℕ, Bool, true, false, ◌==◌, not, IsTrue, List, [], ◌∷◌, ◌++◌, drop, Option, None, Some, inl, inr, refl, sym, ap, subst, ◌∙◌}
+use Rattle.std.proofs.Common.{◌≡◌, ℕ, true, ◌==◌, not, IsTrue, List, [], ◌∷◌, ◌++◌, Option, None, Some, inl, inr, refl, sym, ap, subst, ◌∙◌}
 use Rattle.std.specs.List.{list_all}
 use Rattle.std.proofs.lemmas.Bool.{and_from, cases_Bool, cases_eq, true≢false}
 use Rattle.std.proofs.lemmas.List.Elements.{recursion_from_All, All-from_recursion}
@@ -9,7 +9,7 @@ use Rattle.nntp_wire.specs.Number.{is_number, number_value}
 use Rattle.nntp_wire.specs.Name.{IsMessageId, IsGroupName}
 use Rattle.nntp_wire.specs.Argument.{no_space, is_comment, BeginsWithArgument, BeginsWithNumber, HasArticle, HasGroup}
 use Rattle.nntp_wire.specs.Listing.{ActiveValue, ListsGroup, IsActiveLine, AreActiveLines, are_listed_numbers, begins_with_versions}
-use Rattle.nntp_wire.specs.Answer.{Response, group_is, numbers_are, sends, active_are, plain, Says, SaysGroup, SaysNumbers, SaysArticle, SaysActive, SaysCode, SaysCapabilities}
+use Rattle.nntp_wire.specs.Answer.{Response, group_is, numbers_are, sends, active_are, plain, Says, SaysGroup, SaysNumbers, SaysArticle, SaysActive}
 use Rattle.nntp_wire.specs.declared.kind.Kind.{Kind}
 use Rattle.nntp_wire.specs.declared.kind.Kind.TheVariants.{Group, Numbers, Sent, Active, Capabilities, Plain}
 use Rattle.nntp_wire.proofs.ArgumentLemmas.{one-argument, no-second, no-id, no-low, no-high, no-fourth, no-name}
