@@ -1,5 +1,5 @@
 -- What the parts of a pairing say of the whole.
-use Rattle.std.proofs.Common.{◌≡◌, ℕ, List, [], ◌∷◌, Option, None, Some, Bool, true, false, refl, sym, ◌∙◌, ap, subst, length, map, count_by, cond, ◌+◌, arith}
+use Rattle.std.proofs.Common.{◌≡◌, ℕ, List, [], ◌∷◌, Option, Some, Bool, true, false, refl, subst, length, map, count_by, cond, ◌+◌, arith}
 use Rattle.std.proofs.lemmas.List.Sums.{sum_by-cons}
 use Rattle.std.specs.Prelude.{is_some}
 use Rattle.nntp_wire.specs.Lines.{lines_of_stream}
@@ -27,13 +27,13 @@ pub unanswered-bad : (class : PairClass) (place : Option (List ℕ)) (index : �
     → is_closed ≡ false → places ≡ place ∷ behind → IsUnanswered class place server → IsBad class left
 unanswered-bad class place index places behind server is_closed left same is_open first why =
     subst (IsBad class) same (at class why) where
-  awaits : Awaits (record { index = index; places = places; server = server; is_closed = is_closed }) place
-  awaits = record { is_open = is_open; places = behind; first = first }
+      awaits : Awaits (record { index = index; places = places; server = server; is_closed = is_closed }) place
+      awaits = record { is_open = is_open; places = behind; first = first }
 
-  at : (class : PairClass) → IsUnanswered class place server → IsBad class (record { index = index; places = places; server = server; is_closed = is_closed })
-  at Surplus why = absurd why
-  at Cut why = (place, awaits, why)
-  at Malformed why = (place, awaits, why)
+      at : (class : PairClass) → IsUnanswered class place server → IsBad class (record { index = index; places = places; server = server; is_closed = is_closed })
+      at Surplus why = absurd why
+      at Cut why = (place, awaits, why)
+      at Malformed why = (place, awaits, why)
 
 some-count : (lines : List (List ℕ)) → count_by is_some (map Some lines) ≡ length lines
 some-count [] = refl

@@ -1,12 +1,11 @@
 -- A pairing is determined, and stays when more octets follow.
-use Rattle.std.proofs.Common.{◌≡◌, ◌≢◌, ℕ, ◌+◌, List, [], ◌∷◌, ◌++◌, length, map, arith, Option, None, Some, Bool, true, false, refl, sym, ◌∙◌, ap, subst, inl, inr, append_assoc}
-use Rattle.nntp_wire.specs.Answer.{Response}
+use Rattle.std.proofs.Common.{◌≡◌, ◌≢◌, ℕ, ◌+◌, List, [], ◌∷◌, ◌++◌, length, map, arith, Option, None, Some, false, refl, sym, ◌∙◌, ap, subst, inl, append_assoc}
 use Rattle.nntp_wire.specs.Frame.{HasFrame, frame_octets}
 use Rattle.nntp_wire.specs.Lines.{lines_of_stream}
 use Rattle.nntp_wire.proofs.StreamLemmas.{lines-joined}
 use Rattle.nntp_pair.specs.declared.class.PairClass.{PairClass}
 use Rattle.nntp_pair.specs.declared.class.PairClass.TheVariants.{Surplus, Cut, Malformed}
-use Rattle.nntp_pair.specs.Pairing.{Paired, Unpaired, IsAnswered, IsMalformed, IsNext, AreNext, Awaits, IsBad, IsLasting, Ending, end, bad, Ends, IsPairing, streams, with_more, asked_at}
+use Rattle.nntp_pair.specs.Pairing.{Paired, Unpaired, IsNext, AreNext, Awaits, IsBad, IsLasting, Ending, bad, Ends, IsPairing, streams, with_more, asked_at}
 use Rattle.nntp_pair.proofs.NextLemmas.{one-next, next-no-end, one-end}
 
 -- one more pair

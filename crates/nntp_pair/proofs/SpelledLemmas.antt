@@ -1,5 +1,5 @@
 -- Pairs are spelled one after the other, and what is so spelled is paired.
-use Rattle.std.proofs.Common.{◌≡◌, ◌≢◌, ℕ, ◌+◌, List, [], ◌∷◌, ◌++◌, map, Option, None, Some, Bool, true, false, refl, sym, ◌∙◌, ap, subst}
+use Rattle.std.proofs.Common.{◌≡◌, ℕ, ◌+◌, List, [], ◌∷◌, ◌++◌, map, Option, Some, Bool, false, refl, sym, ◌∙◌, ap, subst}
 use Rattle.std.proofs.lemmas.List.{append-nil}
 use Rattle.std.specs.Prelude.{⊤, is_some, count_by}
 use Rattle.nntp_wire.specs.Answer.{Asked, Response, Spells}
@@ -10,7 +10,7 @@ use Rattle.nntp_wire.specs.Lines.{lines_of_stream}
 use Rattle.nntp_wire.specs.Session.{closes, prompts_of}
 use Rattle.nntp_wire.proofs.SpellLemmas.{spelling-frame}
 use Rattle.nntp_pair.specs.declared.class.PairClass.{PairClass}
-use Rattle.nntp_pair.specs.Pairing.{Paired, Unpaired, IsAnswered, IsNext, AreNext, Ending, end, bad, Ends, IsPairing, streams, asked_at, places_of}
+use Rattle.nntp_pair.specs.Pairing.{Paired, Unpaired, AreNext, Ending, end, bad, Ends, IsPairing, streams, asked_at, places_of}
 use Rattle.nntp_pair.specs.Spelled.{AreSpelled, StaysOpen, responses_of, HasPairs}
 use Rattle.nntp_pair.proofs.NextLemmas.{next-no-end}
 use Rattle.nntp_pair.proofs.PairingLemmas.{first-pairs}
@@ -56,8 +56,7 @@ spelled-run (response ∷ responses) index [] server rest is_closed is_open spel
 spelled-run (response ∷ responses) index (place ∷ places) server rest is_closed is_open (front, behind, spells, whole, spelled) stays =
     let found = spelling-frame (asked_at place) response front behind spells in
     let tail = open-tail (asked_at place) (map asked_at places) response responses stays in
-    let more = spelled-run responses (index + 1) places behind rest (closes (asked_at place) response) tail.0 spelled tail.1 in
-    (
+    let more = spelled-run responses (index + 1) places behind rest (closes (asked_at place) response) tail.0 spelled tail.1 in (
       record { index = index; line = place; initial = found.0; response = response } ∷ more.0,
       more.1,
       (
@@ -95,9 +94,9 @@ spelled-pairs client server responses rest spelled stays =
     spelled-run responses 0 (places_of client) server rest false (is_open responses)
     (subst (λ prompts. AreSpelled prompts responses server rest) (sym (places-prompts client)) spelled)
     (subst (λ prompts. StaysOpen prompts responses) (sym (places-prompts client)) stays) where
-  is_open : (responses : List Response) → IsOpenFor false responses
-  is_open [] = tt
-  is_open (response ∷ responses) = refl
+      is_open : (responses : List Response) → IsOpenFor false responses
+      is_open [] = tt
+      is_open (response ∷ responses) = refl
 
 map-append : (pairs more : List Paired) → responses_of (pairs ++ more) ≡ responses_of pairs ++ responses_of more
 map-append [] more = refl
@@ -126,9 +125,9 @@ spelled-whole client server pairs ending responses pairing spelled stays =
     let none = run-none first.0 found.1 pairing.left found.4 first.2 in
     let last = at found.1 ending (subst (λ u. Ends u ending) (sym none.1) pairing.ends) found.4 in
     (ap responses_of (first.1 ∙ ap (λ t. found.0 ++ t) none.0) ∙ map-append found.0 [] ∙ append-nil (responses_of found.0) ∙ found.3, last.0, last.1) where
-  at : (left : Unpaired) (ending : Ending) → Ends left ending → left.server ≡ [] → (unanswered : ℕ) × (ending ≡ end unanswered)
-  at left (end n) ends none = (n, refl)
-  at left (bad class) ends none = absurd (ends.0 none)
+      at : (left : Unpaired) (ending : Ending) → Ends left ending → left.server ≡ [] → (unanswered : ℕ) × (ending ≡ end unanswered)
+      at left (end n) ends none = (n, refl)
+      at left (bad class) ends none = absurd (ends.0 none)
 
 -- so where the pairing ends at octets, no responses have them all as their spellings
 pub bad-unspelled : (client server : List ℕ) (pairs : List Paired) (class : PairClass) (responses : List Response) → IsPairing client server pairs (bad class)

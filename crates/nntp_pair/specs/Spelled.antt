@@ -1,5 +1,5 @@
 -- Octets that are spellings of responses, one after the other (RFC 3977, sections 3.2 and 3.5).
-use Rattle.std.specs.Prelude.{◌≡◌, ℕ, Bool, false, List, [], ◌∷◌, ◌++◌, map, ⊤}
+use Rattle.std.specs.Prelude.{◌≡◌, ℕ, false, List, [], ◌∷◌, ◌++◌, map, ⊤}
 use Rattle.nntp_wire.specs.Answer.{Asked, Response, Spells}
 use Rattle.nntp_wire.specs.Session.{closes}
 use Rattle.nntp_pair.specs.Pairing.{Paired, Unpaired, AreNext}

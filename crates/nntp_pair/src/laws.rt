@@ -3,8 +3,23 @@ ghost use Rattle.std.specs.Prelude.{◌≡◌, ℕ, List, [], ◌++◌, Option, 
 ghost use Rattle.nntp_wire.specs.Answer.{Response};
 ghost use Rattle.nntp_wire.specs.Session.{prompts_of};
 ghost use Rattle.nntp_pair.specs.declared.class.PairClass.{PairClass};
-ghost use Rattle.nntp_pair.specs.Pairing.{Paired, Unpaired, AreNext, Ending, end, bad, IsPairing, IsLasting, streams, with_more};
+ghost use Rattle.nntp_pair.specs.Pairing.{Paired, Unpaired, IsNext, AreNext, Ending, end, bad, Ends, IsPairing, IsLasting, streams, with_more};
 ghost use Rattle.nntp_pair.specs.Spelled.{AreSpelled, StaysOpen, HasPairs, responses_of};
+
+/// One pair comes next, and then one thing is left.
+pub fn one_next_pair()
+    ensures { (before left other : Unpaired) (pair also : Paired) → IsNext before pair left → IsNext before also other → (pair ≡ also) × (left ≡ other) }
+{}
+
+/// Where a pair comes next, no pairing ends.
+pub fn no_pair_at_an_end()
+    ensures { (ending : Ending) (before left : Unpaired) (pair : Paired) → IsNext before pair left → ¬ (Ends before ending) }
+{}
+
+/// A pairing ends in one way.
+pub fn one_end()
+    ensures { (ending other : Ending) (left : Unpaired) → Ends left ending → Ends left other → ending ≡ other }
+{}
 
 /// Two streams have one pairing.
 pub fn one_pairing()

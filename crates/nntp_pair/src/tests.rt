@@ -56,7 +56,12 @@ fn pairings_that_end(rt: HostRuntime) {
             &[(None, b"200 hi"), (Some(b"QUIT"), b"205 bye")],
             0,
         ),
-        ("a rest alone", (b"QUIT", b"200 hi\r\n"), &[(None, b"200 hi")], 0),
+        (
+            "a rest alone",
+            (b"QUIT", b"200 hi\r\n"),
+            &[(None, b"200 hi")],
+            0,
+        ),
         (
             "more commands than answers",
             (b"GROUP g\r\nNEXT\r\nQUIT\r\n", b"200 hi\r\n"),
@@ -69,7 +74,12 @@ fn pairings_that_end(rt: HostRuntime) {
             &[(None, b"200 hi"), (Some(b"HELP"), b"400 bye")],
             2,
         ),
-        ("400 as greeting", (b"GROUP g\r\n", b"400 no\r\n"), &[(None, b"400 no")], 1),
+        (
+            "400 as greeting",
+            (b"GROUP g\r\n", b"400 no\r\n"),
+            &[(None, b"400 no")],
+            1,
+        ),
         (
             "pipelined commands",
             (
@@ -116,7 +126,10 @@ fn pairings_that_end(rt: HostRuntime) {
         ),
         (
             "a command without block",
-            (b"GROUP g\r\nNEXT\r\n", b"200 hi\r\n211 1 5 5 g\r\n421 no\r\n"),
+            (
+                b"GROUP g\r\nNEXT\r\n",
+                b"200 hi\r\n211 1 5 5 g\r\n421 no\r\n",
+            ),
             &[
                 (None, b"200 hi"),
                 (Some(b"GROUP g"), b"211 1 5 5 g"),
@@ -132,7 +145,12 @@ fn pairings_that_end(rt: HostRuntime) {
 
 #[test]
 fn pairings_that_break(rt: HostRuntime) {
-    let rows: [(&str, (&[u8], &[u8]), &[(Option<&[u8]>, &[u8])], (u64, PairClass)); 11] = [
+    let rows: [(
+        &str,
+        (&[u8], &[u8]),
+        &[(Option<&[u8]>, &[u8])],
+        (u64, PairClass),
+    ); 11] = [
         (
             "a sent line of dot and x",
             (b"BODY <a@b>\r\n", b"200 hi\r\n222 0 <a@b>\r\n.x\r\n.\r\n"),
@@ -153,7 +171,10 @@ fn pairings_that_break(rt: HostRuntime) {
         ),
         (
             "an answer after 502 to MODE READER",
-            (b"MODE READER\r\nGROUP g\r\n", b"200 hi\r\n502 no\r\n411 no\r\n"),
+            (
+                b"MODE READER\r\nGROUP g\r\n",
+                b"200 hi\r\n502 no\r\n411 no\r\n",
+            ),
             &[(None, b"200 hi"), (Some(b"MODE READER"), b"502 no")],
             (2, PairClass::Surplus),
         ),
@@ -177,18 +198,31 @@ fn pairings_that_break(rt: HostRuntime) {
         ),
         (
             "a block that does not end",
-            (b"ARTICLE <a@b>\r\n", b"200 hi\r\n220 0 <a@b>\r\nSubject: one\r\n\r\n"),
+            (
+                b"ARTICLE <a@b>\r\n",
+                b"200 hi\r\n220 0 <a@b>\r\nSubject: one\r\n\r\n",
+            ),
             &[(None, b"200 hi")],
             (1, PairClass::Cut),
         ),
-        ("a greeting that does not end", (b"QUIT\r\n", b"200 hi\r"), &[], (0, PairClass::Cut)),
+        (
+            "a greeting that does not end",
+            (b"QUIT\r\n", b"200 hi\r"),
+            &[],
+            (0, PairClass::Cut),
+        ),
         (
             "no code",
             (b"HELP\r\n", b"200 hi\r\n2x3 ok\r\n"),
             &[(None, b"200 hi")],
             (1, PairClass::Malformed),
         ),
-        ("no greeting", (b"QUIT\r\n", b"\r\n205 bye\r\n"), &[], (0, PairClass::Malformed)),
+        (
+            "no greeting",
+            (b"QUIT\r\n", b"\r\n205 bye\r\n"),
+            &[],
+            (0, PairClass::Malformed),
+        ),
     ];
     for (name, streams, exchanges, want) in rows {
         is_bad(&rt, name, after(&rt, name, streams, exchanges), want);
@@ -205,7 +239,15 @@ fn what_is_ahead(rt: HostRuntime) {
     for _ in 0..2 {
         assert_eq!(rt; pairs.ahead().line, Some(b"ARTICLE <a@b>".as_slice()));
         assert_eq!(rt; pairs.ahead().rest.len(), 29);
-        assert!(rt; matches!(pairs.next(), Step::Bad { index: 1, class: PairClass::Cut }));
+        assert!(rt;
+            matches!(
+                pairs.next(),
+                Step::Bad {
+                    index: 1,
+                    class: PairClass::Cut
+                }
+            )
+        );
     }
     let mut pairs = Pairs::new(b"QUIT", b"200 hi\r\nx");
     assert!(rt; matches!(pairs.next(), Step::Exchange(_)));

@@ -1,18 +1,16 @@
 -- Items against characters, from one `*` to the next.
-use Rattle.std.proofs.Common.{◌≡◌, ◌≢◌, ◌↔◌, ℕ, ◌<◌, List, [], ◌∷◌, ◌++◌, length, Bor, refl, sym, ◌∙◌, ap, arith, true, false, Bool, ◌&&◌, ◌⊎◌, inl, inr, ⊎_elim, map, length-append}
+use Rattle.std.proofs.Common.{◌≡◌, ◌≢◌, ◌↔◌, ℕ, ◌<◌, List, [], ◌∷◌, ◌++◌, length, Bor, refl, sym, ◌∙◌, ap, arith, true, false, Bool, ◌⊎◌, inl, inr, ⊎_elim, map, length-append}
 use Rattle.std.specs.Prelude.{◌==◌, if◌then◌else◌}
 use Rattle.std.proofs.lemmas.Bool.{cases_eq}
 use Rattle.std.proofs.lemmas.Bool.Decides.{nat_tests}
 use Rattle.std.specs.Char.{IsScalar, encode_utf8}
 use Rattle.std.specs.Str.{encode_utf8_all}
+use Rattle.nntp_wire.proofs.BoolLemmas.{and_parts}
 use Rattle.nntp_wire.specs.Name.{IsUtf8Of}
 use Rattle.nntp_wire.specs.Pattern.{Fits, Takes}
 use Rattle.nntp_wire.specs.declared.pattern.Step.TheVariants.{Star, One, Fails}
 use Rattle.nntp_wire.specs.Wildmat.{Item, star, question, character, Matches, item_of}
 use Rattle.nntp_wire.proofs.NameLemmas.{encode_utf8-some, one_first_char}
-
-and_parts : (a b : Bool) → (a && b) ≡ true → (a ≡ true) × (b ≡ true)
-and_parts a b h = grind (arith, nat_tests)
 
 -- octets that begin with a character are those of a list that does
 pub utf8-cons : (ps bytes rest : List ℕ) (c : ℕ) → IsScalar c → bytes ≡ encode_utf8 c ++ rest → IsUtf8Of ps bytes → (ds : List ℕ) × (ps ≡ c ∷ ds) × IsUtf8Of ds rest

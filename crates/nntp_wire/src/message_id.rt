@@ -23,7 +23,7 @@ impl<'a> Model for MessageId<'a> {
 }
 
 impl<'a> MessageId<'a> {
-    /// The message id that the octets are.
+    /// The message id that the octets are: 3 to 250 of them, with the brackets. None: they are none.
     pub fn parse(bytes: &'a [u8]) -> Option<MessageId<'a>>
         ensures { SomeIff result (IsMessageId bytes.now) bytes.now }
     {
@@ -41,7 +41,7 @@ impl<'a> MessageId<'a> {
         Some(MessageId { bytes })
     }
 
-    /// Its octets.
+    /// Its octets, with the angle brackets.
     pub fn as_slice(&self) -> &'a [u8]
         ensures value { result.now ≡ self.now }
         ensures is_id { IsMessageId self.now }

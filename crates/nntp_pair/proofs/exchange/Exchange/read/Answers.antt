@@ -1,6 +1,4 @@
-use Rattle.std.proofs.Common.{drop, sym, subst}
 use Rattle.std.specs.Option.{option_copied}
-use Rattle.nntp_wire.specs.Answer.{Asked}
 use Rattle.nntp_pair.proofs.PairLemmas.{malformed}
 use Rattle.nntp_pair.proofs.exchange.Exchange.read.Goals as goal
 
