@@ -6,6 +6,8 @@ use Rattle.nntp_wire.specs.Session.{prompts_of}
 use Rattle.nntp_article.specs.Spool.{Profile}
 use Rattle.nntp_article.specs.Machine.{Visible, start, fits, visible_after}
 use Rattle.nntp_article.specs.Explains.{Spelled}
+use Rattle.nntp_pair.specs.declared.class.PairClass.{PairClass}
+use Rattle.nntp_pair.specs.declared.class.PairClass.TheVariants.{Surplus as PairSurplus, Cut as PairCut, Malformed as PairMalformed}
 
 -- octets where none are due; no whole frame; a frame that spells nothing; an answer that doesn't fit; one that no spool agrees with
 pub data Class : Type 0 where
@@ -82,3 +84,9 @@ abbrev pub IsSettled : (profile : Profile) (client server : List ℕ) (k : ℕ) 
 IsSettled profile client server k Surplus has = (left_visible client server k has.before).closed ≡ true
 IsSettled profile client server k Cut has = ⊥
 IsSettled profile client server k class has = ⊤
+
+-- the class of octets at which a pairing ends
+abbrev pub class_of : PairClass → Class
+class_of PairSurplus = Surplus
+class_of PairCut = Cut
+class_of PairMalformed = Malformed

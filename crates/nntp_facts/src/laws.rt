@@ -9,7 +9,9 @@ ghost use Rattle.nntp_facts.specs.Given.{asks_of, HasGivenNumbers, IsGiven, fact
 ghost use Rattle.nntp_facts.specs.Permits.{SomePermits, IsBadAnswer};
 ghost use Rattle.nntp_article.specs.Explains.{Explains, Bad};
 ghost use Rattle.std.specs.Prelude.{◌++◌};
-ghost use Rattle.nntp_facts.specs.Classes.{Class, HasClass, IsSettled};
+ghost use Rattle.nntp_facts.specs.Classes.{Class, HasClass, IsSettled, class_of};
+ghost use Rattle.nntp_pair.specs.Pairing.{Paired, Unpaired, AreNext, IsBad, streams};
+ghost use Rattle.nntp_pair.specs.declared.class.PairClass.{PairClass};
 ghost use Rattle.nntp_wire.specs.Answer.{Asked, Response};
 
 /// A spool permits a session exactly if it permits each answer with the current article read off
@@ -106,4 +108,11 @@ pub fn settled_answer_stays_bad()
         → Bad profile client server k
         → Bad profile (client ++ more_client) (server ++ more_server) k
         × HasClass profile (client ++ more_client) (server ++ more_server) k class }
+{}
+
+/// Where the pairing of two streams ends at octets, these have the class of that end.
+pub fn pairing_ends_in_class()
+    ensures { (profile : Profile) (client server : List ℕ) (pairs : List Paired) (left : Unpaired) (class : PairClass)
+        → AreNext (streams client server) pairs left → IsBad class left
+        → HasClass profile client server (length pairs) (class_of class) }
 {}
