@@ -64,12 +64,20 @@ asked_count (p ∷ ps) (a ∷ more) asked e = let le = asked_count ps more asked
 -- ---- one answer more
 
 -- an answer is given on an open connection
-run_open : (profile : Profile) (S : Spool) (s : State) (ps : List Asked) (answers : List Response) (a : Response) → Run profile S s ps (answers ++ a ∷ []) → (visible_from s.visible ps answers).closed ≡ false
+pub run_open : (profile : Profile) (S : Spool) (s : State) (ps : List Asked) (answers : List Response) (a : Response) → Run profile S s ps (answers ++ a ∷ []) → (visible_from s.visible ps answers).closed ≡ false
 run_open profile S s [] [] a r = absurd r
 run_open profile S s (p ∷ ps) [] a (new, permits, rest) = permits.may.is_open
 run_open profile S s [] (x ∷ answers) a r = absurd r
 run_open profile S s (p ∷ ps) (x ∷ answers) a (new, permits, rest) =
     ap (λ t. (visible_from t ps answers).closed) (sym (ap (λ t. t.visible) permits.leads)) ∙ run_open profile S new ps answers a rest
+
+-- and fits the visible state
+pub run_fits : (profile : Profile) (S : Spool) (s : State) (ps : List Asked) (answers : List Response) (asked : Asked) (a : Response) → asked_next ps answers ≡ Some asked → Run profile S s ps (answers ++ a ∷ [])
+    → IsTrue (fits profile (visible_from s.visible ps answers) asked a)
+run_fits profile S s [] answers asked a e r = cc
+run_fits profile S s (p ∷ ps) [] asked a e (new, permits, rest) = let same : p ≡ asked = cc in subst (λ p. IsTrue (fits profile s.visible p a)) same permits.may.fits_visible
+run_fits profile S s (p ∷ ps) (x ∷ answers) asked a e (new, permits, rest) =
+    subst (λ t. IsTrue (fits profile (visible_from t ps answers) asked a)) (ap (λ t. t.visible) permits.leads) (run_fits profile S new ps answers asked a e rest)
 
 spelled_snoc : (ps : List Asked) (answers : List Response) (octets b : List ℕ) (asked : Asked) (a : Response) → Spelled ps answers octets → asked_next ps answers ≡ Some asked → Spells asked a b → Spelled ps (answers ++ a ∷ []) (octets ++ b)
 spelled_snoc [] answers octets b asked a s e t = cc
@@ -80,16 +88,16 @@ spelled_snoc (p ∷ ps) (x ∷ answers) octets b asked a (c, rest, s, tail, whol
     (c, rest ++ b, s, spelled_snoc ps answers rest b asked a tail e t, ap (λ o. o ++ b) whole ∙ append_assoc c rest b)
 
 -- of a reading that is one answer longer, the answers before are the same
-record OneMore (ps : List Asked) (answers others : List Response) (rest more : List ℕ) : Type 0 where
-  asked : Asked
-  response : Response
-  front : List ℕ
-  next : asked_next ps answers ≡ Some asked
-  spells : Spells asked response front
-  is : others ≡ answers ++ response ∷ []
-  whole : rest ≡ front ++ more
+pub record OneMore (ps : List Asked) (answers others : List Response) (rest more : List ℕ) : Type 0 where
+  pub asked : Asked
+  pub response : Response
+  pub front : List ℕ
+  pub next : asked_next ps answers ≡ Some asked
+  pub spells : Spells asked response front
+  pub is : others ≡ answers ++ response ∷ []
+  pub whole : rest ≡ front ++ more
 
-one_more : (ps : List Asked) (answers others : List Response) (sp tp rest more : List ℕ) → Spelled ps answers sp → Spelled ps others tp → sp ++ rest ≡ tp ++ more → length others ≡ length answers + 1
+pub one_more : (ps : List Asked) (answers others : List Response) (sp tp rest more : List ℕ) → Spelled ps answers sp → Spelled ps others tp → sp ++ rest ≡ tp ++ more → length others ≡ length answers + 1
     → OneMore ps answers others rest more
 one_more ps answers [] sp tp rest more s t e count = absurd (omega arith)
 one_more [] answers (y ∷ others) sp tp rest more s t e count = absurd t
@@ -127,13 +135,13 @@ as_many (p ∷ ps) (x ∷ answers) (y ∷ others) sp tp rest more (b, tail, s, s
 -- ---- one class
 
 -- a spelling has a whole frame
-not_cut : (profile : Profile) (v : Visible) (asked : Asked) (octets : List ℕ) (b : Bool) → IsCut asked octets → BeginsWithAnswer profile v asked octets b → ⊥
+pub not_cut : (profile : Profile) (v : Visible) (asked : Asked) (octets : List ℕ) (b : Bool) → IsCut asked octets → BeginsWithAnswer profile v asked octets b → ⊥
 not_cut profile v asked octets b none a =
     let f = spelling-frame asked a.response a.front a.rest a.spells in
     none f.0 f.1 a.rest (subst (λ o. HasFrame asked o f.0 f.1 a.rest) (sym a.whole) f.3)
 
 -- and what it spells is spelled by its frame
-not_malformed : (profile : Profile) (v : Visible) (asked : Asked) (octets : List ℕ) (b : Bool) → IsMalformed asked octets → BeginsWithAnswer profile v asked octets b → ⊥
+pub not_malformed : (profile : Profile) (v : Visible) (asked : Asked) (octets : List ℕ) (b : Bool) → IsMalformed asked octets → BeginsWithAnswer profile v asked octets b → ⊥
 not_malformed profile v asked octets b m a =
     let f = spelling-frame asked a.response a.front a.rest a.spells in
     let same = one-frame asked octets f.0 m.line f.1 m.block a.rest m.rest (subst (λ o. HasFrame asked o f.0 f.1 a.rest) (sym a.whole) f.3) m.frame in

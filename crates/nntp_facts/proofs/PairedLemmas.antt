@@ -9,21 +9,21 @@ use Rattle.nntp_pair.specs.Pairing.{Paired, Unpaired, AreNext, IsBad, asked_at, 
 use Rattle.nntp_pair.specs.Spelled.{responses_of}
 use Rattle.nntp_pair.specs.declared.class.PairClass.{PairClass}
 use Rattle.nntp_pair.specs.declared.class.PairClass.TheVariants.{Surplus as surplus, Cut as cut, Malformed as malformed}
-use Rattle.nntp_article.specs.Spool.{Profile}
-use Rattle.nntp_article.specs.Machine.{Visible, start, visible_after}
-use Rattle.nntp_article.specs.Explains.{Spelled}
-use Rattle.nntp_facts.specs.Classes.{visible_from, asked_next, IsClass, HasClass, class_of}
+use Rattle.nntp_article.specs.Spool.{Profile, Spool, IsSpool}
+use Rattle.nntp_article.specs.Machine.{Visible, start, visible_after, Run}
+use Rattle.nntp_article.specs.Explains.{Spelled, ExplainsUpTo}
+use Rattle.nntp_facts.specs.Classes.{visible_from, asked_next, IsClass, HasClass, class_of, Class}
 
 -- the prompts of places
 prompts_at : (lines : List (List ℕ)) → map asked_at (map Some lines) ≡ map (λ line. to (request_of line)) lines
 prompts_at [] = refl
 prompts_at (line ∷ lines) = ap (λ ps. to (request_of line) ∷ ps) (prompts_at lines)
 
-prompts_are : (client : List ℕ) → map asked_at (places_of client) ≡ prompts_of client
+pub prompts_are : (client : List ℕ) → map asked_at (places_of client) ≡ prompts_of client
 prompts_are client = ap (λ ps. greeting ∷ ps) (prompts_at (lines_of_stream client))
 
 -- what is asked at the first of the places
-abbrev first_asked : List (Option (List ℕ)) → Option Asked
+abbrev pub first_asked : List (Option (List ℕ)) → Option Asked
 first_asked [] = None
 first_asked (place ∷ places) = Some (asked_at place)
 
@@ -52,20 +52,20 @@ after_closes v asked (plain code) e = ap (λ b. b || closes asked (plain code)) 
 -- ---- pairs
 
 -- what pairs leave
-record Paired_up (v : Visible) (before left : Unpaired) (pairs : List Paired) : Type 0 where
-  octets : List ℕ
-  spelled : Spelled (map asked_at before.places) (responses_of pairs) octets
-  whole : before.server ≡ octets ++ left.server
-  closed : left.is_closed ≡ (visible_from v (map asked_at before.places) (responses_of pairs)).closed
-  next : asked_next (map asked_at before.places) (responses_of pairs) ≡ first_asked left.places
+pub record PairedUp (v : Visible) (before left : Unpaired) (pairs : List Paired) : Type 0 where
+  pub octets : List ℕ
+  pub spelled : Spelled (map asked_at before.places) (responses_of pairs) octets
+  pub whole : before.server ≡ octets ++ left.server
+  pub closed : left.is_closed ≡ (visible_from v (map asked_at before.places) (responses_of pairs)).closed
+  pub next : asked_next (map asked_at before.places) (responses_of pairs) ≡ first_asked left.places
 
 nothing_next : (places : List (Option (List ℕ))) → asked_next (map asked_at places) [] ≡ first_asked places
 nothing_next [] = refl
 nothing_next (place ∷ places) = refl
 
-paired_up : (v : Visible) (before left : Unpaired) (pairs : List Paired) → before.is_closed ≡ v.closed → AreNext before pairs left → Paired_up v before left pairs
+pub paired_up : (v : Visible) (before left : Unpaired) (pairs : List Paired) → before.is_closed ≡ v.closed → AreNext before pairs left → PairedUp v before left pairs
 paired_up v before left [] same e =
-    subst (λ left. Paired_up v before left []) e (record { octets = []; spelled = refl; whole = refl; closed = same; next = nothing_next before.places })
+    subst (λ left. PairedUp v before left []) e (record { octets = []; spelled = refl; whole = refl; closed = same; next = nothing_next before.places })
 paired_up v before left (pair ∷ pairs) same (between, first, more) =
     let opened : v.closed ≡ false = sym same ∙ first.is_open in
     let response = pair.response in
@@ -99,13 +99,15 @@ end_class malformed profile v left (place, awaits, m) =
     subst (λ (x : Bool × List (Option (List ℕ))). IsClass x.0 profile v (first_asked x.1) left.server (class_of malformed)) (λ i. (sym awaits.is_open i, sym awaits.first i))
     (record { line = m.initial; block = m.block; rest = m.rest; frame = m.frame; nothing = m.nothing })
 
-count : (pairs : List Paired) → length (responses_of pairs) ≡ length pairs
+pub count : (pairs : List Paired) → length (responses_of pairs) ≡ length pairs
 count [] = refl
 count (pair ∷ pairs) = ap suc (count pairs)
 
-pub end_has_class : (profile : Profile) (client server : List ℕ) (pairs : List Paired) (left : Unpaired) (class : PairClass) → AreNext (streams client server) pairs left → IsBad class left
-    → HasClass profile client server (length pairs) (class_of class)
-end_has_class profile client server pairs left class paired h =
+-- the octets that pairs leave have the class that they have where they stand
+pub has_class : (profile : Profile) (client server : List ℕ) (pairs : List Paired) (left : Unpaired) (class : Class) → AreNext (streams client server) pairs left
+    → IsClass left.is_closed profile (visible_from start.visible (prompts_of client) (responses_of pairs)) (first_asked left.places) left.server class
+    → HasClass profile client server (length pairs) class
+has_class profile client server pairs left class paired h =
     let up = paired_up start.visible (streams client server) left pairs refl paired in
     let ps = prompts_are client in
     record {
@@ -121,5 +123,25 @@ end_has_class profile client server pairs left class paired h =
           let v = visible_from start.visible (prompts_of client) (responses_of pairs) in
           let closed : left.is_closed ≡ v.closed = up.closed ∙ ap (λ ps. (visible_from start.visible ps (responses_of pairs)).closed) ps in
           let next : first_asked left.places ≡ asked_next (prompts_of client) (responses_of pairs) = sym up.next ∙ ap (λ ps. asked_next ps (responses_of pairs)) ps in
-          subst (λ (x : Bool × Option Asked). IsClass x.0 profile v x.1 left.server (class_of class)) (λ i. (closed i, next i)) (end_class class profile v left h);
+          subst (λ (x : Bool × Option Asked). IsClass x.0 profile v x.1 left.server class) (λ i. (closed i, next i)) h;
+    }
+
+pub end_has_class : (profile : Profile) (client server : List ℕ) (pairs : List Paired) (left : Unpaired) (class : PairClass) → AreNext (streams client server) pairs left → IsBad class left
+    → HasClass profile client server (length pairs) (class_of class)
+end_has_class profile client server pairs left class paired h =
+    has_class profile client server pairs left (class_of class) paired (end_class class profile (visible_from start.visible (prompts_of client) (responses_of pairs)) left h)
+
+-- who permits the responses of the pairs explains them
+pub explained_pairs : (profile : Profile) (S : Spool) (client server : List ℕ) (pairs : List Paired) (left : Unpaired) → AreNext (streams client server) pairs left
+    → IsSpool profile S → Run profile S start (prompts_of client) (responses_of pairs) → ExplainsUpTo profile S client server (length pairs) left.server
+explained_pairs profile S client server pairs left paired spool run =
+    let up = paired_up start.visible (streams client server) left pairs refl paired in
+    record {
+      is_spool = spool;
+      answers = responses_of pairs;
+      octets = up.octets;
+      count = count pairs;
+      run = run;
+      spelled = subst (λ ps. Spelled ps (responses_of pairs) up.octets) (prompts_are client) up.spelled;
+      whole = up.whole;
     }

@@ -90,3 +90,8 @@ abbrev pub class_of : PairClass → Class
 class_of PairSurplus = Surplus
 class_of PairCut = Cut
 class_of PairMalformed = Malformed
+
+-- the class of an answer that no spool permits together with those before, by whether it fits the visible state
+abbrev pub class_by : Bool → Class
+class_by true = Contradiction
+class_by false = OutOfPlace

@@ -2,15 +2,17 @@
 ghost use Rattle.std.specs.Prelude.{◌≡◌, ℕ, ◌↔◌, ◌≤◌, ◌<◌, ◌^◌, ◌⊎◌, length, List};
 ghost use Rattle.std.specs.List.{AllByRecursion};
 ghost use Rattle.nntp_article.specs.Spool.{Spool, Numbers, IsSpool, Name, Profile};
-ghost use Rattle.nntp_article.specs.Machine.{Run, start};
+ghost use Rattle.nntp_article.specs.Machine.{Run, start, fits};
 ghost use Rattle.nntp_facts.specs.Asks.{RunsAt, Nowhere, Meets};
 ghost use Rattle.nntp_facts.specs.Facts.{FitsAll, Holds, Fact, facts_from};
 ghost use Rattle.nntp_facts.specs.Given.{asks_of, HasGivenNumbers, IsGiven, facts_of_session, size, weight, HasAtLeast};
 ghost use Rattle.nntp_facts.specs.Permits.{SomePermits, IsBadAnswer};
 ghost use Rattle.nntp_article.specs.Explains.{Explains, Bad};
-ghost use Rattle.std.specs.Prelude.{◌++◌};
-ghost use Rattle.nntp_facts.specs.Classes.{Class, HasClass, IsSettled, class_of};
-ghost use Rattle.nntp_pair.specs.Pairing.{Paired, Unpaired, AreNext, IsBad, streams};
+ghost use Rattle.std.specs.Prelude.{false, [], ◌∷◌, ◌++◌};
+ghost use Rattle.nntp_wire.specs.Session.{prompts_of};
+ghost use Rattle.nntp_pair.specs.Spelled.{responses_of};
+ghost use Rattle.nntp_facts.specs.Classes.{Class, HasClass, IsSettled, class_of, class_by, visible_from};
+ghost use Rattle.nntp_pair.specs.Pairing.{Paired, Unpaired, IsNext, AreNext, IsBad, end, bad, IsPairing, asked_at, streams};
 ghost use Rattle.nntp_pair.specs.declared.class.PairClass.{PairClass};
 ghost use Rattle.nntp_wire.specs.Answer.{Asked, Response};
 
@@ -115,4 +117,37 @@ pub fn pairing_ends_in_class()
     ensures { (profile : Profile) (client server : List ℕ) (pairs : List Paired) (left : Unpaired) (class : PairClass)
         → AreNext (streams client server) pairs left → IsBad class left
         → HasClass profile client server (length pairs) (class_of class) }
+{}
+
+/// Who permits the responses of a pairing that comes to the end of the server's octets explains both
+/// streams.
+pub fn pairing_to_the_end_is_explained()
+    ensures { (profile : Profile) (S : Spool) (client server : List ℕ) (pairs : List Paired) (unanswered : ℕ)
+        → IsPairing client server pairs (end unanswered) → IsSpool profile S
+        → Run profile S start (prompts_of client) (responses_of pairs) → Explains profile S client server (length pairs) }
+{}
+
+/// Where a pairing ends at octets, and some spool permits its responses, the answer there is bad, of
+/// the class of that end.
+pub fn pairing_to_octets_is_bad()
+    ensures { (profile : Profile) (client server : List ℕ) (pairs : List Paired) (class : PairClass)
+        → IsPairing client server pairs (bad class) → SomePermits profile (prompts_of client) (responses_of pairs)
+        → Bad profile client server (length pairs) × HasClass profile client server (length pairs) (class_of class) }
+{}
+
+/// A paired response that no spool permits behind those that some spool permits is a bad answer; it
+/// is out of place where it doesn't fit the visible state, and else a contradiction.
+pub fn unpermitted_response_is_bad()
+    ensures bad { (profile : Profile) (client server : List ℕ) (pairs : List Paired) (pair : Paired) (before after : Unpaired)
+        → AreNext (streams client server) pairs before → IsNext before pair after
+        → SomePermits profile (prompts_of client) (responses_of pairs)
+        → (SomePermits profile (prompts_of client) (responses_of pairs ++ pair.response ∷ []) → ⊥)
+        → Bad profile client server (length pairs) }
+    ensures class { (profile : Profile) (client server : List ℕ) (pairs : List Paired) (pair : Paired) (before after : Unpaired)
+        → AreNext (streams client server) pairs before → IsNext before pair after
+        → HasClass profile client server (length pairs) (class_by (fits profile (visible_from start.visible (prompts_of client) (responses_of pairs)) (asked_at pair.line) pair.response)) }
+    ensures unfitting { (profile : Profile) (client server : List ℕ) (pairs : List Paired) (pair : Paired) (before after : Unpaired)
+        → AreNext (streams client server) pairs before → IsNext before pair after
+        → fits profile (visible_from start.visible (prompts_of client) (responses_of pairs)) (asked_at pair.line) pair.response ≡ false
+        → SomePermits profile (prompts_of client) (responses_of pairs ++ pair.response ∷ []) → ⊥ }
 {}

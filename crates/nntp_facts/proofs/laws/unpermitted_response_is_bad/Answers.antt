@@ -1,0 +1,10 @@
+use Rattle.std.proofs.Common.{refl}
+use Rattle.nntp_facts.proofs.PairedBad.{bad_answer, answer_has_class, unfitting}
+use Rattle.nntp_facts.proofs.laws.unpermitted_response_is_bad.Goals as goal
+
+pub returns : goal.returns
+returns c = record {
+  bad = bad_answer;
+  class = λ profile client server pairs pair before after paired next. answer_has_class profile client server pairs pair before after paired next _ refl;
+  unfitting = unfitting;
+}
