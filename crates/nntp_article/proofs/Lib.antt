@@ -1,4 +1,3 @@
-pub mod HeadParts
 pub mod Firsts
 pub mod Decide
 pub mod DecideAgrees
@@ -13,3 +12,4 @@ pub mod SomeLemmas
 pub mod PartLemmas
 pub mod ContentLemmas
 pub mod MissingLemmas
+pub mod HeadParts
