@@ -21,8 +21,8 @@ enum Step<'a> {
 /// Whether the items match the whole text.
 ///
 /// Where they don't fit, the items behind the last `*` are tried one character further on, and
-/// never those behind an earlier one: what `*` takes may always be longer. So the steps are at
-/// most as many as there are items, times the characters of the text.
+/// never those behind an earlier one: what `*` takes may always be longer. So the steps are in the
+/// order of the items times the characters.
 pub(crate) fn matches_items(pattern: &[u8], text: &[u8]) -> bool
     ensures { (ps ts : List ℕ) → IsUtf8Of ps pattern.now → IsUtf8Of ts text.now → IsTrue result ↔ Matches (map item_of ps) ts }
 {
