@@ -1,11 +1,11 @@
 -- A pairing is determined, and stays when more octets follow.
-use Rattle.std.proofs.Common.{◌≡◌, ◌≢◌, ℕ, ◌+◌, List, [], ◌∷◌, ◌++◌, length, map, arith, Option, None, Some, false, refl, sym, ◌∙◌, ap, subst, inl, append_assoc}
+use Rattle.std.proofs.Common.{◌≡◌, ◌≢◌, ℕ, ◌+◌, List, [], ◌∷◌, ◌++◌, length, drop, map, arith, Option, None, Some, false, refl, sym, ◌∙◌, ap, subst, inl, append_assoc}
 use Rattle.nntp_wire.specs.Frame.{HasFrame, frame_octets}
 use Rattle.nntp_wire.specs.Lines.{lines_of_stream}
 use Rattle.nntp_wire.proofs.StreamLemmas.{lines-joined}
 use Rattle.nntp_pair.specs.declared.class.PairClass.{PairClass}
 use Rattle.nntp_pair.specs.declared.class.PairClass.TheVariants.{Surplus, Cut, Malformed}
-use Rattle.nntp_pair.specs.Pairing.{Paired, Unpaired, IsNext, AreNext, Awaits, IsBad, IsLasting, Ending, bad, Ends, IsPairing, streams, with_more, asked_at}
+use Rattle.nntp_pair.specs.Pairing.{Paired, Unpaired, IsNext, AreNext, Awaits, IsBad, IsLasting, Ending, bad, Ends, IsPairing, streams, with_more, asked_at, places_of}
 use Rattle.nntp_pair.proofs.NextLemmas.{one-next, next-no-end, one-end}
 
 -- one more pair
@@ -23,6 +23,14 @@ index-count (x ∷ pairs) a b (m, n, run) =
 
 pub index-counts : (client server : List ℕ) (pairs : List Paired) (left : Unpaired) → AreNext (streams client server) pairs left → left.index ≡ length pairs
 index-counts client server pairs left run = let all : left.index ≡ 0 + length pairs = index-count pairs (streams client server) left run in omega arith
+
+run-places : (pairs : List Paired) (a b : Unpaired) → AreNext a pairs b → drop (length pairs) a.places ≡ b.places
+run-places [] a b same = ap (λ u. u.places) same
+run-places (x ∷ pairs) a b (m, n, run) = ap (drop (length (x ∷ pairs))) n.place ∙ run-places pairs m b run
+
+-- the places that are left are those behind the pairs
+pub places-left : (client server : List ℕ) (pairs : List Paired) (left : Unpaired) → AreNext (streams client server) pairs left → drop (length pairs) (places_of client) ≡ left.places
+places-left client server pairs left run = run-places pairs (streams client server) left run
 
 -- pairs that come next are the first of all pairs up to the end
 pub first-pairs : (pairs others : List Paired) (a b c : Unpaired) (e : Ending) → AreNext a pairs b → Ends b e → AreNext a others c

@@ -20,7 +20,7 @@ map-asked : (lines : List (List ℕ)) → map asked_at (map Some lines) ≡ map 
 map-asked [] = refl
 map-asked (line ∷ lines) = ap (λ t. to (request_of line) ∷ t) (map-asked lines)
 
-places-prompts : (client : List ℕ) → map asked_at (places_of client) ≡ prompts_of client
+pub places-prompts : (client : List ℕ) → map asked_at (places_of client) ≡ prompts_of client
 places-prompts client = ap (λ t. greeting ∷ t) (map-asked (lines_of_stream client))
 
 -- pairs are spelled

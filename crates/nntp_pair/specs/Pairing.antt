@@ -28,11 +28,7 @@ pub record IsAnswered (place : Option (List ℕ)) (server initial : List ℕ) (r
   pub frame : HasFrame (asked_at place) server initial block rest
   pub spells : Spells (asked_at place) response (frame_octets initial block)
 
--- some block makes a spelling of the response out of the initial line
-abbrev pub IsSpelled : Option (List ℕ) → List ℕ → Response → Type 0
-IsSpelled place initial response = (block : Option (List ℕ)) × Spells (asked_at place) response (frame_octets initial block)
-
--- they begin with no whole frame
+-- the server's octets begin with no whole frame
 abbrev pub IsCut : Option (List ℕ) → List ℕ → Type 0
 IsCut place server = (initial : List ℕ) (block : Option (List ℕ)) (rest : List ℕ) → ¬ (HasFrame (asked_at place) server initial block rest)
 
@@ -44,11 +40,15 @@ pub record IsMalformed (place : Option (List ℕ)) (server : List ℕ) : Type 0 
   pub frame : HasFrame (asked_at place) server initial block rest
   pub nothing : (response : Response) → ¬ (Spells (asked_at place) response (frame_octets initial block))
 
--- why they don't answer what is asked at the place
+-- why the server's octets don't answer what is asked at the place
 abbrev pub IsUnanswered : PairClass → Option (List ℕ) → List ℕ → Type 0
 IsUnanswered Surplus place server = ⊥
 IsUnanswered Cut place server = IsCut place server
 IsUnanswered Malformed place server = IsMalformed place server
+
+-- with some block the initial line spells the response to what is asked at the place
+abbrev pub IsSpelled : Option (List ℕ) → List ℕ → Response → Type 0
+IsSpelled place initial response = (block : Option (List ℕ)) × Spells (asked_at place) response (frame_octets initial block)
 
 -- a response with its place, counted from 0, and the line that it answers
 pub record Paired : Type 0 where
@@ -84,12 +84,12 @@ pub record Awaits (left : Unpaired) (place : Option (List ℕ)) : Type 0 where
   pub places : List (Option (List ℕ))
   pub first : left.places ≡ place ∷ places
 
--- the line of the first place, if there is one
+-- the line of the first of these places, if it has one
 abbrev pub line_ahead : List (Option (List ℕ)) → Option (List ℕ)
 line_ahead [] = None
 line_ahead (place ∷ places) = place
 
--- why octets answer nothing
+-- why the octets that are left answer nothing
 abbrev pub IsBad : PairClass → Unpaired → Type 0
 IsBad Surplus left = (left.is_closed ≡ true) ⊎ (left.places ≡ [])
 IsBad Cut left = (place : Option (List ℕ)) × Awaits left place × IsCut place left.server
@@ -100,11 +100,12 @@ pub data Ending : Type 0 where
   end : (unanswered : ℕ) → Ending
   bad : (class : PairClass) → Ending
 
+-- the pairing ends here, in this way
 abbrev pub Ends : Unpaired → Ending → Type 0
 Ends left (end unanswered) = (left.server ≡ []) × (unanswered ≡ count_by is_some left.places)
 Ends left (bad class) = (left.server ≢ []) × IsBad class left
 
--- no octets that follow can mend it
+-- and no octets that follow can change that
 abbrev pub IsLasting : PairClass → Unpaired → Type 0
 IsLasting Surplus left = left.is_closed ≡ true
 IsLasting Cut left = ⊥

@@ -10,7 +10,7 @@ use crate::class::PairClass;
 use nntp_wire::{Answer, Command, Prompt, frame};
 use std::marker::Model;
 
-/// A response of the server with what it answers.
+/// A response of the server with what it answers. `Pairs::next` alone makes one.
 #[derive(Drop)]
 pub struct Exchange<'a> {
     index: u64,
@@ -45,7 +45,7 @@ fn prompt_at<'a>(line: Option<&'a [u8]>) -> Prompt<'a>
 }
 
 impl<'a> Exchange<'a> {
-    /// The exchange at a place, and the octets behind it.
+    /// The exchange at a place, which has this index, and the octets behind it.
     pub(crate) fn read(
         index: u64,
         line: Option<&'a [u8]>,

@@ -1,9 +1,9 @@
 //! Laws of pairings, and of octets that are spellings one after the other.
-ghost use Rattle.std.specs.Prelude.{◌≡◌, ℕ, List, [], ◌++◌, Option, length};
+ghost use Rattle.std.specs.Prelude.{◌≡◌, ℕ, List, [], ◌++◌, Option, length, map, drop};
 ghost use Rattle.nntp_wire.specs.Answer.{Response};
 ghost use Rattle.nntp_wire.specs.Session.{prompts_of};
 ghost use Rattle.nntp_pair.specs.declared.class.PairClass.{PairClass};
-ghost use Rattle.nntp_pair.specs.Pairing.{Paired, Unpaired, IsNext, AreNext, Ending, end, bad, Ends, IsPairing, IsLasting, streams, with_more};
+ghost use Rattle.nntp_pair.specs.Pairing.{Paired, Unpaired, IsNext, AreNext, Ending, end, bad, Ends, IsPairing, IsLasting, asked_at, places_of, streams, with_more};
 ghost use Rattle.nntp_pair.specs.Spelled.{AreSpelled, StaysOpen, HasPairs, responses_of};
 
 /// One pair comes next, and then one thing is left.
@@ -31,6 +31,17 @@ pub fn one_pairing()
 pub fn index_counts_pairs()
     ensures { (client server : List ℕ) (pairs : List Paired) (left : Unpaired)
         → AreNext (streams client server) pairs left → left.index ≡ length pairs }
+{}
+
+/// The places that are left are those behind the pairs.
+pub fn places_go_in_order()
+    ensures { (client server : List ℕ) (pairs : List Paired) (left : Unpaired)
+        → AreNext (streams client server) pairs left → drop (length pairs) (places_of client) ≡ left.places }
+{}
+
+/// What is asked at the places of a session are its prompts.
+pub fn places_ask_the_prompts()
+    ensures { (client : List ℕ) → map asked_at (places_of client) ≡ prompts_of client }
 {}
 
 /// With more octets behind both streams the pairs are the same.

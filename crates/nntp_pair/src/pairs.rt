@@ -10,7 +10,7 @@ use crate::places::Places;
 use crate::step::Step;
 use std::marker::Model;
 
-/// The pairing of both streams.
+/// The pairing of both streams: what is left of it. It keeps nothing but slices of the streams, and takes no memory.
 #[derive(Drop)]
 pub struct Pairs<'a> {
     index: u64,
@@ -53,6 +53,8 @@ impl<'a> Pairs<'a> {
     }
 
     /// The next exchange, or how the pairing ends. After an end it answers that end again.
+    ///
+    /// It reads the octets of that exchange alone, and the rest of the client's stream at an end.
     pub fn next(&mut self) -> Step<'a>
         ensures step { IsStep self.old result self.new }
         ensures progress { OnExchange result (length self.new.server < length self.old.server) }

@@ -7,8 +7,8 @@ use crate::exchange::Exchange;
 pub enum Step<'a> {
     /// The next exchange.
     Exchange(Exchange<'a>),
-    /// Octets that answer nothing, at the place of this index.
+    /// Octets that answer nothing, at the place of this index: 0 is the greeting's, k that of the client's k-th line.
     Bad { index: u64, class: PairClass },
-    /// Nothing is left. So many lines of the client have no answer.
+    /// No octet is left. So many lines of the client have no answer.
     End { unanswered: u64 },
 }
