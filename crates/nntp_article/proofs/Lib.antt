@@ -7,3 +7,4 @@ pub mod SomeLemmas
 pub mod PartLemmas
 pub mod ContentLemmas
 pub mod MissingLemmas
+pub mod ArticleLaws

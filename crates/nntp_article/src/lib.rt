@@ -1,6 +1,7 @@
 //! Articles (RFC 3977, section 3.6; RFC 1036): their parts, heads, headers and control messages.
 #![tactic(auto)]
 
+pub mod article_laws;
 pub mod control_headers;
 pub mod control_message;
 pub mod head;
