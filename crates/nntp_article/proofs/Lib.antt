@@ -13,3 +13,4 @@ pub mod PartLemmas
 pub mod ContentLemmas
 pub mod MissingLemmas
 pub mod HeadParts
+pub mod ArticleLaws

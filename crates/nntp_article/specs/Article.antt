@@ -1,7 +1,7 @@
 -- Articles: their two parts, the headers of a head, and the id that a head says (RFC 3977, section 3.6; RFC 1036, section 2).
-use Rattle.std.specs.Prelude.{ℕ, Bool, true, false, not, ◌&&◌, ◌||◌, ◌==◌, nat_le, if◌then◌else◌, List, [], ◌∷◌, ◌++◌, Option, None, Some, codes}
-use Rattle.std.specs.List.{list_any, list_all, filter, concat, before_first, after_first}
-use Rattle.nntp_wire.specs.Octets.{is_blank}
+use Rattle.std.specs.Prelude.{ℕ, ◌≡◌, Bool, true, false, not, ◌&&◌, ◌||◌, ◌==◌, nat_le, if◌then◌else◌, List, [], ◌∷◌, ◌++◌, Option, None, Some, codes}
+use Rattle.std.specs.List.{list_any, list_all, filter, concat, flat_map, before_first, after_first}
+use Rattle.nntp_wire.specs.Octets.{is_blank, is_clean}
 use Rattle.nntp_wire.specs.Words.{is_same_word}
 use Rattle.nntp_wire.specs.Decided.{is_message_id}
 
@@ -30,6 +30,11 @@ abbrev pub body_part : List Line → List Line
 body_part [] = []
 body_part ([] ∷ lines) = lines
 body_part ((c ∷ cs) ∷ lines) = body_part lines
+
+-- the lines are the head, an empty line and the body, and the head has no empty line
+pub record AreParts (lines head body : List Line) : Type 0 where
+  pub whole : lines ≡ head ++ [] ∷ body
+  pub none : list_any is_empty head ≡ false
 
 -- ---- headers
 
@@ -82,6 +87,16 @@ headers (line ∷ lines) = with_line line (headers lines)
 -- one or more headers, one after the other
 abbrev pub is_head : List Line → Bool
 is_head lines = not (is_empty (headers lines)) && list_all is_header (headers lines)
+
+-- the same of lines that hold no NUL, CR or LF
+abbrev pub is_clean_head : List Line → Bool
+is_clean_head lines = list_all is_clean lines && is_head lines
+
+-- the lines are these headers, one or more, one after the other
+pub record AreHeaders (lines : List Line) (found : List Header) : Type 0 where
+  pub some : is_empty found ≡ false
+  pub each : list_all is_header found ≡ true
+  pub whole : lines ≡ flat_map (λ header. header) found
 
 -- ---- what a header says
 

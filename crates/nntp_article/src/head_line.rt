@@ -1,17 +1,24 @@
 //! Lines of a head (RFC 3977, section 3.6; RFC 1036, section 2).
 ghost use Rattle.std.specs.Prelude.{◌≡◌};
 ghost use Rattle.std.specs.List.{list_all, before_first, after_first};
-ghost use Rattle.nntp_wire.specs.Octets.{is_blank};
+ghost use Rattle.nntp_wire.specs.Octets.{is_blank, is_clean};
 ghost use Rattle.nntp_wire.specs.Words.{is_same_word};
 ghost use Rattle.nntp_article.specs.Article.{is_continuation, is_colon, is_name_octet, begins_header, is_head_line, skip_blanks, skip_last_blanks};
 
-use memchr::memchr;
+use memchr::{memchr, memchr3};
 
 /// Whether the octet is SP or TAB.
 fn is_blank(octet: u8) -> bool
     ensures { result ≡ is_blank octet }
 {
     octet == b' ' || octet == b'\t'
+}
+
+/// Whether no octet is NUL, CR or LF.
+pub(crate) fn is_clean(line: &[u8]) -> bool
+    ensures { result ≡ is_clean line.now }
+{
+    memchr3(0, b'\r', b'\n', line).is_none()
 }
 
 /// Whether the line continues the header before it.

@@ -2,6 +2,7 @@
 //! the definitions of a spool, and of the machine of a session over one spool, with their laws.
 #![tactic(auto)]
 
+pub mod article_laws;
 pub mod control_headers;
 pub mod control_message;
 pub mod head;

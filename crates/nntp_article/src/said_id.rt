@@ -5,12 +5,15 @@
 ghost use Rattle.std.specs.Prelude.{◌≡◌, ◌++◌, ◌∷◌, false, IsTrue, List, [], ℕ};
 ghost use Rattle.std.specs.List.{list_all};
 ghost use Rattle.std.specs.Option.{SomeIff};
+ghost use Rattle.nntp_wire.specs.Octets.{is_clean};
 ghost use Rattle.nntp_wire.specs.Words.{words_of};
-ghost use Rattle.nntp_article.specs.Article.{Line, Header, is_continuation, is_head, is_head_line, said_id};
+ghost use Rattle.nntp_article.specs.Article.{Line, Header, is_continuation, is_head, is_clean_head, is_head_line, said_id};
 ghost use Rattle.nntp_article.specs.SaidId.{id_with, id_by};
 ghost use Rattle.nntp_article.specs.View.{held};
 
-use crate::head_line::{begins_header, is_continuation, is_head_line, is_same, split_at_colon};
+use crate::head_line::{
+    begins_header, is_clean, is_continuation, is_head_line, is_same, split_at_colon,
+};
 use nntp_wire::{MessageId, words};
 use std::alloc::Allocator;
 
@@ -119,14 +122,35 @@ impl<'a> SaidId<'a> {
 }
 
 /// The id that a head says which is held as lines: the same as `Head::message_id` of them. None
-/// where the lines are no head, Some(None) where the head says no id.
+/// where the lines are no head or one holds NUL, CR or LF; Some(None) where the head says no id.
 pub fn lines_say<A: Allocator>(lines: &[Vec<u8, A>]) -> Option<Option<MessageId<'_>>>
-    ensures { SomeIff result (IsTrue (is_head (held lines.now))) (said_id (held lines.now)) }
+    ensures { SomeIff result (IsTrue (is_clean_head (held lines.now))) (said_id (held lines.now)) }
 {
-    if !is_head(lines) {
+    if !is_clean_head(lines) {
         return None;
     }
     Some(id_of(lines))
+}
+
+/// Whether the lines are a head, and none holds NUL, CR or LF.
+fn is_clean_head<A: Allocator>(lines: &[Vec<u8, A>]) -> bool
+    ensures { result ≡ is_clean_head (held lines.now) }
+{
+    are_clean(lines) && is_head(lines)
+}
+
+/// Whether no line holds NUL, CR or LF.
+fn are_clean<A: Allocator>(lines: &[Vec<u8, A>]) -> bool
+    ensures { result ≡ list_all is_clean (held lines.now) }
+{
+    let mut rest = lines;
+    while let Some((line, others)) = rest.split_first() {
+        if !is_clean(line) {
+            return false;
+        }
+        rest = others;
+    }
+    true
 }
 
 /// Whether the lines are one or more headers.

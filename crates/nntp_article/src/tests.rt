@@ -215,6 +215,8 @@ fn held_lines_say(rt: HostRuntime) -> Result<(), AllocError> {
     assert!(rt; is_no_head(lines_say(&begins_with_blank)));
     let empty_line = held(alloc, &[b"Message-ID: <a@b>", b""])?;
     assert!(rt; is_no_head(lines_say(&empty_line)));
+    let bare_return = held(alloc, &[b"Message-ID: <a@b>", b"Subject: a\rb"])?;
+    assert!(rt; is_no_head(lines_say(&bare_return)));
     Ok(())
 }
 
