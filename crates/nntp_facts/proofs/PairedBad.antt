@@ -16,7 +16,8 @@ use Rattle.nntp_article.specs.Explains.{Spelled, ExplainsUpTo, Explains, Explain
 use Rattle.nntp_facts.specs.Permits.{SomePermits}
 use Rattle.nntp_facts.specs.Classes.{Class, visible_from, asked_next, BeginsWithAnswer, IsOpenClass, IsClass, HasClass, left_visible, class_of, class_by}
 use Rattle.nntp_facts.proofs.ClassLemmas.{OneMore, one_more, run_open, run_fits, not_cut, not_malformed}
-use Rattle.nntp_facts.proofs.PairedLemmas.{first_asked, paired_up, prompts_are, count, has_class, end_has_class, explained_pairs}
+use Rattle.nntp_pair.proofs.SpelledLemmas.{places-prompts}
+use Rattle.nntp_facts.proofs.PairedLemmas.{first_asked, paired_up, count, has_class, end_has_class, explained_pairs}
 
 -- where the pairing comes to its end, who permits its responses explains both streams
 pub explained_end : (profile : Profile) (S : Spool) (client server : List ℕ) (pairs : List Paired) (unanswered : ℕ) → IsPairing client server pairs (end unanswered)
@@ -94,7 +95,7 @@ module _ (profile : Profile) (client server : List ℕ) (pairs : List Paired) (p
   asked_is : asked_next (prompts_of client) (responses_of pairs) ≡ Some (asked_at pair.line)
   asked_is =
       let up = paired_up start.visible (streams client server) before pairs refl paired in
-      ap (λ ps. asked_next ps (responses_of pairs)) (sym (prompts_are client)) ∙ up.next ∙ ap first_asked next.place
+      ap (λ ps. asked_next ps (responses_of pairs)) (sym (places-prompts client)) ∙ up.next ∙ ap first_asked next.place
 
   -- an answer that doesn't fit is permitted by no spool
   pub unfitting : fits profile (visible_from start.visible (prompts_of client) (responses_of pairs)) (asked_at pair.line) pair.response ≡ false → SomePermits profile (prompts_of client) (responses_of pairs ++ pair.response ∷ []) → ⊥
@@ -104,7 +105,7 @@ module _ (profile : Profile) (client server : List ℕ) (pairs : List Paired) (p
   permitted : (T : Spool) → ExplainsFirst profile T client server (length pairs) → SomePermits profile (prompts_of client) (responses_of pairs ++ pair.response ∷ [])
   permitted T (more, y) =
       let up = paired_up start.visible (streams client server) before pairs refl paired in
-      let spelled = subst (λ ps. Spelled ps (responses_of pairs) up.octets) (prompts_are client) up.spelled in
+      let spelled = subst (λ ps. Spelled ps (responses_of pairs) up.octets) (places-prompts client) up.spelled in
       let a = count pairs in
       let b = y.count in
       let m = one_more (prompts_of client) (responses_of pairs) y.answers up.octets y.octets before.server more spelled y.spelled (sym up.whole ∙ y.whole) (omega arith) in

@@ -7,20 +7,13 @@ use Rattle.nntp_wire.specs.Frame.{frame_octets}
 use Rattle.nntp_wire.specs.Session.{prompts_of, closes}
 use Rattle.nntp_pair.specs.Pairing.{Paired, Unpaired, AreNext, IsBad, asked_at, places_of, streams}
 use Rattle.nntp_pair.specs.Spelled.{responses_of}
+use Rattle.nntp_pair.proofs.SpelledLemmas.{places-prompts}
 use Rattle.nntp_pair.specs.declared.class.PairClass.{PairClass}
 use Rattle.nntp_pair.specs.declared.class.PairClass.TheVariants.{Surplus as surplus, Cut as cut, Malformed as malformed}
 use Rattle.nntp_article.specs.Spool.{Profile, Spool, IsSpool}
 use Rattle.nntp_article.specs.Machine.{Visible, start, visible_after, Run}
 use Rattle.nntp_article.specs.Explains.{Spelled, ExplainsUpTo}
 use Rattle.nntp_facts.specs.Classes.{visible_from, asked_next, IsClass, HasClass, class_of, Class}
-
--- the prompts of places
-prompts_at : (lines : List (List ℕ)) → map asked_at (map Some lines) ≡ map (λ line. to (request_of line)) lines
-prompts_at [] = refl
-prompts_at (line ∷ lines) = ap (λ ps. to (request_of line) ∷ ps) (prompts_at lines)
-
-pub prompts_are : (client : List ℕ) → map asked_at (places_of client) ≡ prompts_of client
-prompts_are client = ap (λ ps. greeting ∷ ps) (prompts_at (lines_of_stream client))
 
 -- what is asked at the first of the places
 abbrev pub first_asked : List (Option (List ℕ)) → Option Asked
@@ -42,7 +35,7 @@ numbers_stay (to quit) m name lines = refl
 numbers_stay (to command) m name lines = refl
 
 -- an open connection is closed by an answer that closes
-after_closes : (v : Visible) (asked : Asked) (response : Response) → v.closed ≡ false → (visible_after v asked response).closed ≡ closes asked response
+pub after_closes : (v : Visible) (asked : Asked) (response : Response) → v.closed ≡ false → (visible_after v asked response).closed ≡ closes asked response
 after_closes v asked (group_is m name) e = e ∙ sym (group_stays asked m name)
 after_closes v asked (numbers_are m name lines) e = e ∙ sym (numbers_stay asked m name lines)
 after_closes v asked (sends s) e = ap (λ b. b || closes asked (sends s)) e
@@ -109,7 +102,7 @@ pub has_class : (profile : Profile) (client server : List ℕ) (pairs : List Pai
     → HasClass profile client server (length pairs) class
 has_class profile client server pairs left class paired h =
     let up = paired_up start.visible (streams client server) left pairs refl paired in
-    let ps = prompts_are client in
+    let ps = places-prompts client in
     record {
       before = record {
         answers = responses_of pairs;
@@ -142,6 +135,6 @@ explained_pairs profile S client server pairs left paired spool run =
       octets = up.octets;
       count = count pairs;
       run = run;
-      spelled = subst (λ ps. Spelled ps (responses_of pairs) up.octets) (prompts_are client) up.spelled;
+      spelled = subst (λ ps. Spelled ps (responses_of pairs) up.octets) (places-prompts client) up.spelled;
       whole = up.whole;
     }

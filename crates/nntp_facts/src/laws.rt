@@ -1,5 +1,5 @@
 //! Laws of the definitions alone.
-ghost use Rattle.std.specs.Prelude.{◌≡◌, ℕ, ◌↔◌, ◌≤◌, ◌<◌, ◌^◌, ◌⊎◌, length, List};
+ghost use Rattle.std.specs.Prelude.{◌≡◌, ℕ, ◌↔◌, ◌≤◌, ◌<◌, ◌^◌, ◌⊎◌, false, List, [], ◌∷◌, ◌++◌, length};
 ghost use Rattle.std.specs.List.{AllByRecursion};
 ghost use Rattle.nntp_article.specs.Spool.{Spool, Numbers, IsSpool, Name, Profile};
 ghost use Rattle.nntp_article.specs.Machine.{Run, start, fits};
@@ -7,12 +7,11 @@ ghost use Rattle.nntp_facts.specs.Asks.{RunsAt, Nowhere, Meets};
 ghost use Rattle.nntp_facts.specs.Facts.{FitsAll, Holds, Fact, facts_from};
 ghost use Rattle.nntp_facts.specs.Given.{asks_of, HasGivenNumbers, IsGiven, facts_of_session, size, weight, HasAtLeast};
 ghost use Rattle.nntp_facts.specs.Permits.{SomePermits, IsBadAnswer};
-ghost use Rattle.nntp_article.specs.Explains.{Explains, Bad};
-ghost use Rattle.std.specs.Prelude.{false, [], ◌∷◌, ◌++◌};
+ghost use Rattle.nntp_article.specs.Explains.{Explains, ExplainsUpTo, Bad};
 ghost use Rattle.nntp_wire.specs.Session.{prompts_of};
-ghost use Rattle.nntp_pair.specs.Spelled.{responses_of};
+ghost use Rattle.nntp_pair.specs.Spelled.{HasPairs, responses_of};
 ghost use Rattle.nntp_facts.specs.Classes.{Class, HasClass, IsSettled, class_of, class_by, visible_from};
-ghost use Rattle.nntp_pair.specs.Pairing.{Paired, Unpaired, IsNext, AreNext, IsBad, end, bad, IsPairing, asked_at, streams};
+ghost use Rattle.nntp_pair.specs.Pairing.{Paired, Unpaired, IsNext, AreNext, IsBad, Ending, end, bad, IsPairing, asked_at, streams};
 ghost use Rattle.nntp_pair.specs.declared.class.PairClass.{PairClass};
 ghost use Rattle.nntp_wire.specs.Answer.{Asked, Response};
 
@@ -150,4 +149,19 @@ pub fn unpermitted_response_is_bad()
         → AreNext (streams client server) pairs before → IsNext before pair after
         → fits profile (visible_from start.visible (prompts_of client) (responses_of pairs)) (asked_at pair.line) pair.response ≡ false
         → SomePermits profile (prompts_of client) (responses_of pairs ++ pair.response ∷ []) → ⊥ }
+{}
+
+/// The answers of an explanation are those of the first pairs of the streams, in order, and it leaves
+/// the octets that they leave.
+pub fn explanation_is_by_pairs()
+    ensures { (profile : Profile) (S : Spool) (client server : List ℕ) (n : ℕ) (rest : List ℕ)
+        → (explained : ExplainsUpTo profile S client server n rest) → HasPairs (streams client server) explained.answers rest }
+{}
+
+/// The answers of an explanation of both streams are those of the whole pairing, which ends with no
+/// octet left. So where a pairing ends at octets, no spool explains the streams.
+pub fn explanation_is_by_all_pairs()
+    ensures { (profile : Profile) (S : Spool) (client server : List ℕ) (n : ℕ) (pairs : List Paired) (ending : Ending)
+        → IsPairing client server pairs ending → (explained : Explains profile S client server n)
+        → (responses_of pairs ≡ explained.answers) × (unanswered : ℕ) × (ending ≡ end unanswered) }
 {}
