@@ -8,5 +8,6 @@ pub mod Reading
 pub mod Places
 pub mod Ascending
 pub mod Content
+pub mod Counts
 pub mod Faults
 pub mod Building

@@ -6,6 +6,8 @@ ghost use Rattle.std.specs.List.{list_all};
 ghost use Rattle.std.specs.BTreeMap.{IsOrdered};
 ghost use Rattle.std.specs.Ordering.{nat_cmp, is_lt};
 ghost use Rattle.std.specs.Cmp.Lexicographic.{slice_cmp};
+ghost use Rattle.nntp_spool.specs.Counts.{numbers_in};
+ghost use Rattle.std.specs.Prelude.{sum};
 ghost use Rattle.nntp_spool.specs.Reading.{is_last, with_group, with_article, all_known, ids_have_articles, no_spool};
 ghost use Rattle.nntp_spool.specs.Shown.{text_of_article};
 
@@ -106,6 +108,27 @@ impl<A: Allocator> Content<A> {
         self.articles.contains_key(id)
     }
 
+    /// How many groups there are.
+    pub(crate) fn count_groups(&self) -> u64
+        ensures { result ≡ map.len self.now.groups }
+    {
+        self.groups.len() as u64
+    }
+
+    /// How many numbers there are in all groups.
+    pub(crate) fn count_numbers(&self) -> u128
+        ensures { result ≡ numbers_in self.now }
+    {
+        sum_of_lens(&self.groups)
+    }
+
+    /// How many articles there are.
+    pub(crate) fn count_articles(&self) -> u64
+        ensures { result ≡ map.len self.now.articles }
+    {
+        self.articles.len() as u64
+    }
+
     /// Whether the name is greater than each group's.
     pub(crate) fn is_after_groups(&self, name: &[u8]) -> bool
         ensures { result ≡ is_last self.now.groups name.now }
@@ -173,4 +196,16 @@ fn knows_groups<A: Allocator>(
     groups
         .iter()
         .all(|(_, numbers)| content.knows_all(numbers))
+}
+
+fn sum_of_lens<A: Allocator>(groups: &BTreeMap<Vec<u8, A>, Numbers<A>, A>) -> u128
+    ensures sum { result ≡ sum (list_map (λ e. map.len e.1) groups.now.entries) }
+    ensures ordered { IsOrdered (λ a b. slice_cmp nat_cmp a.items b.items) groups.now }
+{
+    let mut total = 0u128;
+    let mut entries = groups.iter();
+    while let Some((_, numbers)) = entries.next() {
+        total += numbers.len() as u128;
+    }
+    total
 }

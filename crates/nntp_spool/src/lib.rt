@@ -22,7 +22,7 @@ pub use limit::LIMIT;
 pub use article::Article;
 pub use read_fault::{Kind, ReadFault};
 pub use builder::SpoolBuilder;
-pub use spool::Spool;
+pub use spool::{Counts, Spool};
 pub use spool_fault::SpoolFault;
 pub use watched::Watched;
 pub use write::WriteFault;

@@ -1,6 +1,8 @@
 //! A spool: the groups of a server with their numbers, and its articles.
 ghost use Rattle.std.specs.Prelude.{◌≡◌, ◌||◌, is_err, IfOk, IfErr};
+ghost use Rattle.std.specs.FinMap.{len};
 ghost use Rattle.nntp_article.specs.Spool.{IsSpool};
+ghost use Rattle.nntp_spool.specs.Counts.{numbers_in};
 ghost use Rattle.nntp_spool.specs.Limit.{narrow};
 ghost use Rattle.nntp_spool.specs.Text.{spool_text};
 ghost use Rattle.nntp_spool.specs.Faults.{IsFault};
@@ -15,6 +17,15 @@ use crate::write::WriteFault;
 use std::alloc::{Allocator, Global};
 use std::io::Write;
 use std::marker::Model;
+
+/// How much a spool holds.
+#[derive(Clone, Copy, Debug, PartialEq, Eq)]
+pub struct Counts {
+    pub groups: u64,
+    /// Numbers over all groups.
+    pub numbers: u128,
+    pub articles: u64,
+}
 
 /// A fixed collection of groups and articles. Each id at a number has an article.
 #[derive(Drop)]
@@ -51,6 +62,19 @@ impl<A: Allocator> Spool<A> {
         ensures is_spool { IsSpool narrow self.now }
     {
         &self.content
+    }
+
+    /// How many groups, numbers and articles there are.
+    pub fn counts(&self) -> Counts
+        ensures groups { result.groups ≡ len self.now.groups }
+        ensures numbers { result.numbers ≡ numbers_in self.now }
+        ensures articles { result.articles ≡ len self.now.articles }
+    {
+        Counts {
+            groups: self.content.count_groups(),
+            numbers: self.content.count_numbers(),
+            articles: self.content.count_articles(),
+        }
     }
 
     /// Writes the spool's text. After a fault the writer took a front of it.
