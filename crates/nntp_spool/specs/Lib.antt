@@ -1,0 +1,13 @@
+pub mod Watched
+pub mod Writing
+pub mod Coded
+pub mod Shown
+pub mod Text
+pub mod Limit
+pub mod Reading
+pub mod Places
+pub mod Ascending
+pub mod Content
+pub mod Counts
+pub mod Faults
+pub mod Building

@@ -1,0 +1,47 @@
+-- The one text of a spool.
+use Rattle.std.specs.Prelude.{◌≡◌, Some, ℕ, ◌<◌, ◌^◌, List, [], ◌∷◌, ◌++◌, length, map, codes}
+use Rattle.std.specs.Fmt.{decimal}
+use Rattle.std.specs.List.{flat_map, join_with_byte}
+use Rattle.std.specs.FinMap.{get, entries, len}
+use Rattle.nntp_article.specs.Article.{Line, Id}
+use Rattle.nntp_article.specs.Spool.{Profile, Name, Spool, Numbers, Text, IsSpool}
+
+-- words, with one space between each two
+abbrev pub spaced : List (List ℕ) → Line
+spaced words = join_with_byte 32 words
+
+abbrev pub group_line : Name → ℕ → Line
+group_line name count = spaced (codes "group" ∷ name ∷ decimal count ∷ [])
+
+abbrev pub number_line : ℕ → Id → Line
+number_line n id = spaced (decimal n ∷ id ∷ [])
+
+abbrev pub article_line : Id → ℕ → ℕ → Line
+article_line id heads bodies = spaced (codes "article" ∷ id ∷ decimal heads ∷ decimal bodies ∷ [])
+
+abbrev pub barred : List Line → List Line
+barred lines = map (λ line. 124 ∷ line) lines
+
+-- a group: its name and how many numbers it has, and then its numbers
+abbrev pub group_lines : Name × Numbers → List Line
+group_lines g = group_line g.0 (len g.1) ∷ map (λ e. number_line e.0 e.1) (entries g.1)
+
+-- an article: its id and how many lines it has, and then its lines
+abbrev pub article_lines : Id × Text → List Line
+article_lines a = article_line a.0 (length a.1.head) (length a.1.body) ∷ (barred a.1.head ++ barred a.1.body)
+
+abbrev pub spool_lines : Spool → List Line
+spool_lines S = codes "spool 1" ∷ (flat_map group_lines (entries S.groups) ++ (flat_map article_lines (entries S.articles) ++ codes "end" ∷ []))
+
+-- each line with its end
+abbrev pub ended : List Line → List ℕ
+ended lines = flat_map (λ line. line ++ 10 ∷ []) lines
+
+abbrev pub spool_text : Spool → List ℕ
+spool_text S = ended (spool_lines S)
+
+-- a spool whose counts fit 64 bits, as those of each spool in memory do
+pub record IsWritten (profile : Profile) (S : Spool) : Type 0 where
+  pub is_spool : IsSpool profile S
+  pub counts : (name : Name) (N : Numbers) → get S.groups name ≡ Some N → len N < 2 ^ 64
+  pub lines : (id : Id) (t : Text) → get S.articles id ≡ Some t → (length t.head < 2 ^ 64) × (length t.body < 2 ^ 64)

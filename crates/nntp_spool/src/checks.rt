@@ -1,0 +1,53 @@
+//! What names, ids and lines have to be.
+ghost use Rattle.std.specs.Prelude.{◌≡◌};
+ghost use Rattle.std.specs.List.{list_all};
+ghost use Rattle.nntp_wire.specs.Decided.{is_group_name, is_message_id};
+ghost use Rattle.nntp_article.specs.Spool.{is_line};
+ghost use Rattle.nntp_spool.specs.Reading.{fits_head};
+ghost use Rattle.nntp_spool.specs.Shown.{lines_of};
+
+use crate::fields::is_content;
+use nntp_article::lines_say;
+use nntp_wire::laws::{group_names_are_decided, message_ids_are_decided};
+use nntp_wire::{GroupName, MessageId};
+use std::alloc::Allocator;
+
+/// Whether the octets are a group name.
+pub(crate) fn is_name(name: &[u8]) -> bool
+    ensures { result ≡ is_group_name name.now }
+{
+    group_names_are_decided();
+    GroupName::parse(name).is_some()
+}
+
+/// Whether the octets are a message id.
+pub(crate) fn is_id(id: &[u8]) -> bool
+    ensures { result ≡ is_message_id id.now }
+{
+    message_ids_are_decided();
+    MessageId::parse(id).is_some()
+}
+
+fn all_are_lines<A: Allocator>(lines: &[Vec<u8, A>]) -> bool
+    ensures { result ≡ list_all (λ line. is_line line.items) lines.now }
+{
+    lines.iter().all(|line| is_content(line.as_slice()))
+}
+
+/// Whether the lines have no NUL, CR or LF.
+pub(crate) fn are_lines<A: Allocator>(lines: &[Vec<u8, A>]) -> bool
+    ensures { result ≡ list_all is_line (lines_of lines.now) }
+{
+    all_are_lines(lines)
+}
+
+/// Whether the lines are a head that says this id or none.
+pub(crate) fn fits_head<A: Allocator>(id: &[u8], lines: &[Vec<u8, A>]) -> bool
+    ensures { result ≡ fits_head id.now (lines_of lines.now) }
+{
+    match lines_say(lines) {
+        Some(Some(said)) => said.as_slice() == id,
+        Some(None) => true,
+        None => false,
+    }
+}

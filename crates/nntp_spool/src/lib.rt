@@ -1,0 +1,28 @@
+//! The spool of a news server: built, written as text, read back.
+#![tactic(auto)]
+
+pub mod article;
+mod content;
+mod builder;
+mod checks;
+mod fields;
+pub mod laws;
+mod limit;
+mod numbers;
+mod place;
+mod read;
+pub mod read_fault;
+mod spool;
+pub mod spool_fault;
+mod text;
+mod watched;
+mod write;
+
+pub use limit::LIMIT;
+pub use article::Article;
+pub use read_fault::{Kind, ReadFault};
+pub use builder::SpoolBuilder;
+pub use spool::{Counts, Spool};
+pub use spool_fault::SpoolFault;
+pub use watched::Watched;
+pub use write::WriteFault;

@@ -1,0 +1,96 @@
+//! A reader or a writer that remembers whether a call on it failed.
+ghost use Rattle.std.specs.Prelude.{◌≡◌, ◌||◌, ◌&&◌, ◌<◌, length, false, is_err, List};
+ghost use Rattle.std.specs.Io.{ReadsAtMost, WritesAtMost};
+ghost use Rattle.std.specs.Io.KnownBytes.{ReadConsumes, WriteAppends, Keeps};
+
+use std::io;
+use std::io::{Read, Write};
+
+/// Passes each read, write and flush on, and remembers whether one of them failed.
+#[derive(Drop)]
+pub struct Watched<T> {
+    inner: T,
+    has_failed: bool,
+}
+
+impl<T> Watched<T> {
+    ghost use Rattle.nntp_spool.specs.Watched.{inner_of, has_failed_of};
+
+    pub fn new(inner: T) -> Watched<T>
+        ensures inner { inner_of result ≡ inner }
+        ensures fresh { has_failed_of result ≡ false }
+    {
+        Watched {
+            inner,
+            has_failed: false,
+        }
+    }
+
+    pub fn into_inner(self) -> T
+        ensures { result ≡ inner_of self }
+    {
+        let Watched {
+            inner,
+            has_failed: _,
+        } = self;
+        inner
+    }
+
+    /// Whether since `new` a read, a write or a flush answered an error, or a write of at least one octet took none.
+    pub fn failed(&self) -> bool
+        ensures { result ≡ has_failed_of self.now }
+    {
+        self.has_failed
+    }
+}
+
+impl<R: Read> Read for Watched<R> {
+    ghost use Rattle.nntp_spool.specs.Watched.{inner_of, has_failed_of};
+
+    ghost remaining = { λ w. R.remaining (inner_of w) };
+
+    fn read(&mut self, buf: &mut [u8]) -> io::Result<usize>
+        ensures bound { ReadsAtMost result buf.new }
+        ensures bytes { ReadConsumes (R.remaining (inner_of self.old)) (R.remaining (inner_of self.new)) result buf.new }
+        ensures failed { has_failed_of self.new ≡ (has_failed_of self.old || is_err result) }
+    {
+        let outcome = self.inner.read(buf);
+        if outcome.is_err() {
+            self.has_failed = true;
+        }
+        outcome
+    }
+}
+
+impl<W: Write> Write for Watched<W> {
+    ghost use Rattle.nntp_spool.specs.Watched.{inner_of, has_failed_of, takes_none};
+
+    ghost contents = { λ w. W.contents (inner_of w) };
+
+    fn write(&mut self, buf: &[u8]) -> io::Result<usize>
+        ensures bound { WritesAtMost result buf.now }
+        ensures bytes { WriteAppends (W.contents (inner_of self.old)) (W.contents (inner_of self.new)) result buf.now }
+        ensures failed { has_failed_of self.new ≡ (has_failed_of self.old || takes_none result buf.now) }
+    {
+        let outcome = self.inner.write(buf);
+        let is_failure = match &outcome {
+            Ok(count) => *count == 0 && !buf.is_empty(),
+            Err(_) => true,
+        };
+        if is_failure {
+            self.has_failed = true;
+        }
+        outcome
+    }
+
+    fn flush(&mut self) -> io::Result<()>
+        ensures bytes { Keeps (W.contents (inner_of self.old)) (W.contents (inner_of self.new)) }
+        ensures failed { has_failed_of self.new ≡ (has_failed_of self.old || is_err result) }
+    {
+        let outcome = self.inner.flush();
+        if outcome.is_err() {
+            self.has_failed = true;
+        }
+        outcome
+    }
+}

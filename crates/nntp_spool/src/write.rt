@@ -1,0 +1,41 @@
+//! Octets handed to a writer.
+ghost use Rattle.std.specs.Prelude.{◌≡◌, ◌||◌, is_err};
+ghost use Rattle.std.specs.List.{flat_map};
+ghost use Rattle.nntp_spool.specs.Watched.{inner_of, has_failed_of};
+ghost use Rattle.nntp_spool.specs.Writing.{Writes};
+
+use crate::watched::Watched;
+use std::io::Write;
+use thiserror::Error;
+
+/// The writer answered an error, or took none of some octets.
+#[derive(Clone, Copy, Debug, PartialEq, Eq, Error)]
+#[error("write failed")]
+pub struct WriteFault;
+
+/// Hands over all of the octets.
+pub(crate) fn put<W: Write>(w: &mut Watched<W>, octets: &[u8]) -> Result<(), WriteFault>
+    ensures text { Writes result (W.contents (inner_of w.old)) (W.contents (inner_of w.new)) octets.now }
+    ensures failed { has_failed_of w.new ≡ (has_failed_of w.old || is_err result) }
+{
+    let mut rest = octets;
+    while !rest.is_empty() {
+        match w.write(rest) {
+            Ok(0) => return Err(WriteFault),
+            Ok(count) => rest = rest.split_at(count).1,
+            Err(_) => return Err(WriteFault),
+        }
+    }
+    Ok(())
+}
+
+/// Hands over the pieces, one after the other.
+pub(crate) fn put_pieces<W: Write>(w: &mut Watched<W>, pieces: &[&[u8]]) -> Result<(), WriteFault>
+    ensures text { Writes result (W.contents (inner_of w.old)) (W.contents (inner_of w.new)) (flat_map (λ piece. piece.now) pieces.now) }
+    ensures failed { has_failed_of w.new ≡ (has_failed_of w.old || is_err result) }
+{
+    for piece in pieces {
+        put(w, *piece)?;
+    }
+    Ok(())
+}
