@@ -1,5 +1,3 @@
-pub mod Watched
-pub mod Writing
 pub mod Capture
 pub mod Verdict
 pub mod Report

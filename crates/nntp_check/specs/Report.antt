@@ -1,7 +1,10 @@
 -- What is printed of a verdict.
-use Rattle.std.specs.Prelude.{ℕ, Bool, ◌==◌, ◌/◌, ◌%◌, ◌+◌, nat_lt, if◌then◌else◌, List, [], ◌∷◌, ◌++◌, Option, None, Some, length, codes, decimal}
+use Rattle.std.specs.Prelude.{ℕ, Bool, ◌==◌, ◌/◌, ◌%◌, ◌+◌, nat_lt, if◌then◌else◌, List, [], ◌∷◌, ◌++◌, Option, None, Some, codes, decimal}
 use Rattle.std.specs.Int.{is_in_range}
 use Rattle.std.specs.List.{flat_map}
+use Rattle.std.specs.FinMap.{len}
+use Rattle.nntp_spool.specs.Counts.{numbers_in}
+use Rattle.nntp_spool.specs.Text.{spool_text}
 use Rattle.nntp_check.specs.Verdict.{Judgement, consistent, bad}
 use Rattle.nntp_check.specs.declared.verdict.Class.{Class}
 use Rattle.nntp_check.specs.declared.verdict.Class.TheVariants.{Surplus, Cut, Malformed, Unsupported, OutOfPlace, Contradiction}
@@ -20,13 +23,6 @@ escaped_octet b =
 abbrev pub escaped : List ℕ → List ℕ
 escaped octets = flat_map escaped_octet octets
 
--- a spool's text: a line for each group in the order of its name's octets, between the first and the last
-abbrev pub group_lines : List (List ℕ) → List ℕ
-group_lines names = flat_map (λ name. codes "group " ++ name ++ codes " 0\n") names
-
-abbrev pub spool_text : List (List ℕ) → List ℕ
-spool_text names = codes "spool 1\n" ++ group_lines names ++ codes "end\n"
-
 abbrev pub class_word : Class → List ℕ
 class_word Surplus = codes "Surplus"
 class_word Cut = codes "Cut"
@@ -41,15 +37,16 @@ command_line (Some line) = codes "command " ++ escaped line ++ codes "\n"
 
 -- the lines before a spool's text, or those of a bad answer
 abbrev pub head_of : Judgement → List ℕ
-head_of (consistent groups answers) =
-    codes "consistent answers=" ++ decimal answers ++ codes " groups=" ++ decimal (length groups) ++ codes " numbers=0 articles=0\n"
+head_of (consistent spool answers) =
+    codes "consistent answers=" ++ decimal answers ++ codes " groups=" ++ decimal (len spool.groups)
+    ++ codes " numbers=" ++ decimal (numbers_in spool) ++ codes " articles=" ++ decimal (len spool.articles) ++ codes "\n"
 head_of (bad answer class command reply) =
     codes "bad answer " ++ decimal answer ++ codes " " ++ class_word class ++ codes "\n"
     ++ command_line command ++ codes "answer " ++ escaped reply ++ codes "\n"
 
 -- the spool's text, if there is a spool
 abbrev pub tail_of : Judgement → List ℕ
-tail_of (consistent groups answers) = spool_text groups
+tail_of (consistent spool answers) = spool_text spool
 tail_of (bad answer class command reply) = []
 
 abbrev pub report_of : Judgement → List ℕ

@@ -4,7 +4,7 @@ use Rattle.std.specs.Io.KnownBytes.{Appends, Consumes, IsAtEnd}
 use Rattle.nntp_check.specs.Capture.{AreStreams, IsBadPiece}
 use Rattle.nntp_check.specs.Report.{report_of}
 use Rattle.nntp_check.specs.Verdict.{Judgement, is_consistent}
-use Rattle.nntp_check.specs.Writing.{Wrote}
+use Rattle.nntp_spool.specs.Writing.{Wrote}
 use Rattle.nntp_check.specs.declared.run.RunFault.{RunFault}
 use Rattle.nntp_check.specs.declared.run.RunFault.TheVariants as faults
 

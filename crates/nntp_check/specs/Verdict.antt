@@ -1,6 +1,7 @@
 -- What is said of a session.
 use Rattle.std.specs.Prelude.{ℕ, Bool, true, false, List, Option}
 use Rattle.std.specs.Option.{option_map}
+use Rattle.nntp_article.specs.Spool.{Spool}
 use Rattle.nntp_check.specs.declared.verdict.Class.{Class}
 use Rattle.nntp_check.specs.declared.verdict.Class.TheVariants.{Surplus, Cut, Malformed}
 use Rattle.nntp_pair.specs.declared.class.PairClass.{PairClass}
@@ -8,13 +9,13 @@ use Rattle.nntp_pair.specs.declared.class.PairClass.TheVariants as pair
 use Rattle.nntp_check.specs.declared.verdict.Verdict.{Verdict}
 use Rattle.nntp_check.specs.declared.verdict.Verdict.TheVariants.{Consistent, Bad}
 
--- a verdict: the groups of a spool that explains so many answers, or the answer that none explains
+-- a verdict: a spool that explains so many answers, or the answer that none explains
 pub data Judgement : Type 0 where
-  consistent : (groups : List (List ℕ)) → (answers : ℕ) → Judgement
+  consistent : (spool : Spool) → (answers : ℕ) → Judgement
   bad : (answer : ℕ) → (class : Class) → (command : Option (List ℕ)) → (reply : List ℕ) → Judgement
 
 abbrev pub is_consistent : Judgement → Bool
-is_consistent (consistent groups answers) = true
+is_consistent (consistent spool answers) = true
 is_consistent (bad answer class command reply) = false
 
 -- the verdict without where it lies in memory

@@ -1,9 +1,9 @@
 //! What the answers so far say of the groups of a spool.
-use crate::spool::Spool;
 use nntp_pair::Exchange;
+use nntp_spool::{Spool, SpoolBuilder};
 use nntp_wire::{Answer, Command, Prompt};
 use std::alloc::{AllocError, Allocator};
-use std::collections::{BTreeMap, BTreeSet};
+use std::collections::BTreeMap;
 
 /// The greatest article number (RFC 3977, section 6).
 const LIMIT: u64 = 2_147_483_647;
@@ -106,13 +106,16 @@ impl<A: Allocator + Copy> Facts<A> {
 
     /// A spool of the groups that were shown. It gives all the answers that were noted.
     pub(crate) fn into_spool(self, alloc: A) -> Result<Spool<A>, AllocError> {
-        let mut groups = BTreeSet::new(alloc);
+        let mut builder = SpoolBuilder::new(alloc);
         for (name, what) in self.names {
-            if let Name::Group { .. } = what {
-                groups.insert(name)?;
+            // Names that were shown are names of groups, each one once: only memory can be refused.
+            if let Name::Group { .. } = what
+                && builder.group(name.as_slice()).is_err()
+            {
+                return Err(AllocError);
             }
         }
-        Ok(Spool::new(groups))
+        builder.finish().map_err(|_| AllocError)
     }
 }
 

@@ -10,15 +10,10 @@ mod facts;
 mod judge;
 mod report;
 mod run;
-mod spool;
 mod verdict;
-mod watched;
-mod write;
 
 pub use command_line::{Failure, Task, job, status};
 pub use judge::check;
+pub use nntp_spool::{Counts, Spool, Watched, WriteFault};
 pub use run::{RunFault, run_check};
-pub use spool::{Counts, Spool};
 pub use verdict::{Class, Verdict};
-pub use watched::Watched;
-pub use write::WriteFault;

@@ -3,13 +3,12 @@ ghost use Rattle.std.specs.Prelude.{◌≡◌, ◌<◌, ◌||◌, ◌++◌, ◌�
 ghost use Rattle.std.specs.Option.{option_map};
 ghost use Rattle.nntp_check.specs.Report.{head_of, tail_of, class_word, command_line, escaped, escaped_octet, hexadecimal_digit};
 ghost use Rattle.nntp_check.specs.Verdict.{verdict_shown};
-ghost use Rattle.nntp_check.specs.Watched.{inner_of, has_failed_of};
-ghost use Rattle.nntp_check.specs.Writing.{Writes};
+ghost use Rattle.nntp_spool.specs.Watched.{inner_of, has_failed_of};
+ghost use Rattle.nntp_spool.specs.Writing.{Writes};
 
 use crate::verdict::{Class, Verdict};
-use crate::watched::Watched;
-use crate::write::{WriteFault, put};
 use itoa::Buffer;
+use nntp_spool::{Counts, Watched, WriteFault, put};
 use std::alloc::{AllocError, Allocator};
 use std::io::Write;
 
@@ -21,11 +20,7 @@ pub(crate) fn head<A: Allocator + Copy>(
     ensures { IfOk result (λ text. text.items ≡ head_of (verdict_shown verdict.now)) }
 {
     match verdict {
-        Verdict::Consistent { spool, answers } => consistent_line(
-            alloc,
-            *answers,
-            spool.counts().groups,
-        ),
+        Verdict::Consistent { spool, answers } => consistent_line(alloc, *answers, spool.counts()),
         Verdict::Bad {
             answer,
             class,
@@ -44,16 +39,21 @@ pub(crate) fn head<A: Allocator + Copy>(
 fn consistent_line<A: Allocator + Copy>(
     alloc: A,
     answers: u64,
-    groups: u64,
+    counts: Counts,
 ) -> Result<Vec<u8, A>, AllocError>
-    ensures { IfOk result (λ text. text.items ≡ codes "consistent answers=" ++ decimal answers ++ codes " groups=" ++ decimal groups ++ codes " numbers=0 articles=0\n") }
+    ensures { IfOk result (λ text. text.items ≡ codes "consistent answers=" ++ decimal answers ++ codes " groups=" ++ decimal counts.groups
+        ++ codes " numbers=" ++ decimal counts.numbers ++ codes " articles=" ++ decimal counts.articles ++ codes "\n") }
 {
     let mut buffer = Buffer::new();
     let mut text = Vec::from_slice(alloc, b"consistent answers=")?;
     text.extend_from_slice(buffer.format(answers).as_bytes())?;
     text.extend_from_slice(b" groups=")?;
-    text.extend_from_slice(buffer.format(groups).as_bytes())?;
-    text.extend_from_slice(b" numbers=0 articles=0\n")?;
+    text.extend_from_slice(buffer.format(counts.groups).as_bytes())?;
+    text.extend_from_slice(b" numbers=")?;
+    text.extend_from_slice(buffer.format(counts.numbers).as_bytes())?;
+    text.extend_from_slice(b" articles=")?;
+    text.extend_from_slice(buffer.format(counts.articles).as_bytes())?;
+    text.push(b'\n')?;
     Ok(text)
 }
 

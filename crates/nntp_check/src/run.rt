@@ -1,17 +1,16 @@
 //! A run: reads a capture from a reader, and writes the report on it to a writer.
 ghost use Rattle.std.specs.Prelude.{◌≡◌, ◌≢◌, ◌↔◌, ◌||◌, ◌++◌, false, true, is_err, IfOk, IfErr, IsErrOf};
-ghost use Rattle.nntp_check.specs.Watched.{inner_of, has_failed_of};
+ghost use Rattle.nntp_spool.specs.Watched.{inner_of, has_failed_of};
 ghost use Rattle.nntp_check.specs.Report.{tail_of};
 ghost use Rattle.nntp_check.specs.Run.{ReadsAll, ReadFault, IsReported, IsRunFault};
 ghost use Rattle.nntp_check.specs.Verdict.{verdict_shown};
-ghost use Rattle.nntp_check.specs.Writing.{Writes};
+ghost use Rattle.nntp_spool.specs.Writing.{Writes};
 
 use crate::capture::{CaptureFault, split};
 use crate::judge::check;
 use crate::report::{head, write_report};
 use crate::verdict::Verdict;
-use crate::watched::Watched;
-use crate::write::WriteFault;
+use nntp_spool::{Watched, WriteFault};
 use std::alloc::Allocator;
 use std::io::{Read, Write};
 use thiserror::Error;

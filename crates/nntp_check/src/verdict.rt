@@ -2,8 +2,8 @@
 ghost use Rattle.std.specs.Prelude.{◌≡◌};
 ghost use Rattle.nntp_check.specs.Verdict.{is_consistent, verdict_shown};
 
-use crate::spool::Spool;
 use nntp_pair::PairClass;
+use nntp_spool::Spool;
 use std::alloc::{Allocator, Global};
 use thiserror::Error;
 

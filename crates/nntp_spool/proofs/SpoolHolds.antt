@@ -13,7 +13,9 @@ use Rattle.std.proofs.lemmas.List.Sums.{AllPass-from_list_all, list_all-from_All
 use Rattle.std.proofs.lemmas.List.Folds.{list_all-append}
 use Rattle.nntp_wire.specs.Decided.{is_group_name, is_message_id}
 use Rattle.nntp_wire.proofs.DecidedLemmas.{group_name-iff, message_id-iff}
-use Rattle.nntp_article.specs.Article.{Line, Id, is_head, said_id}
+use Rattle.nntp_wire.specs.Octets.{is_clean}
+use Rattle.nntp_spool.proofs.Words.{list_all_weaken}
+use Rattle.nntp_article.specs.Article.{Line, Id, is_head, is_clean_head, said_id}
 use Rattle.nntp_article.specs.Machine.{is_num, says_own_id, is_same}
 use Rattle.nntp_article.specs.Spool.{Profile, Name, Spool, Numbers, Text, numbers, IsGroup, IsNumber, IsSpool, is_line}
 use Rattle.nntp_spool.specs.Reading.{fits_head, all_known, ids_have_articles, spool_at}
@@ -77,8 +79,8 @@ module _ (profile : Profile) (S : Spool) where
     ids = λ id is. let t = value_of_some (get S.articles id) is in (message_id-iff id).0 (content.articles id t.0 t.1).is_id;
     heads = λ id t g.
         let a = content.articles id t g in
-        ((and_parts (is_head t.head) (says_own_id id t.head) a.head).0, AllPass-from_list_all is_line (t.head ++ t.body) (list_all-append is_line t.head t.body ∙ and_from (list_all is_line t.head) (list_all is_line t.body) a.head_lines a.body_lines));
-    own_ids = λ id said t g says. said_own id said t.head (and_parts (is_head t.head) (says_own_id id t.head) (content.articles id t g).head).1 says;
+        ((and_parts (list_all is_clean t.head) (is_head t.head) (and_parts (is_clean_head t.head) (says_own_id id t.head) a.head).0).1, AllPass-from_list_all is_line (t.head ++ t.body) (list_all-append is_line t.head t.body ∙ and_from (list_all is_line t.head) (list_all is_line t.body) a.head_lines a.body_lines));
+    own_ids = λ id said t g says. said_own id said t.head (and_parts (is_clean_head t.head) (says_own_id id t.head) (content.articles id t g).head).1 says;
   }
 
   pub content_of_spool : IsSpool profile S → IsContent profile S
@@ -99,7 +101,7 @@ module _ (profile : Profile) (S : Spool) where
         let lines = and_parts (list_all is_line t.head) (list_all is_line t.body) (sym (list_all-append is_line t.head t.body) ∙ list_all-from_AllPass is_line (t.head ++ t.body) h.1) in
         record {
           is_id = (message_id-iff id).1 (s.ids id (ap is_some g));
-          head = and_from (is_head t.head) (says_own_id id t.head) h.0 (own_said id (said_id t.head) (λ said says. s.own_ids id said t g says));
+          head = and_from (is_clean_head t.head) (says_own_id id t.head) (and_from (list_all is_clean t.head) (is_head t.head) (list_all_weaken is_line is_clean (λ l passes. (and_parts (is_clean l) _ passes).0) t.head lines.0) h.0) (own_said id (said_id t.head) (λ said says. s.own_ids id said t g says));
           head_lines = lines.0;
           body_lines = lines.1;
         };

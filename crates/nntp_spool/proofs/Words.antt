@@ -24,7 +24,7 @@ is_not : (b : Bool) → not b ≡ true → b ≡ false
 is_not true e = cc
 is_not false e = refl
 
-pub list_all_weaken : (p q : ℕ → Bool) → ((x : ℕ) → p x ≡ true → q x ≡ true) → (xs : List ℕ) → list_all p xs ≡ true → list_all q xs ≡ true
+pub list_all_weaken : {X : Type 0} (p q : X → Bool) → ((x : X) → p x ≡ true → q x ≡ true) → (xs : List X) → list_all p xs ≡ true → list_all q xs ≡ true
 list_all_weaken p q imp [] h = refl
 list_all_weaken p q imp (x ∷ xs) h = let both = and_parts (p x) (list_all p xs) h in and_from (q x) (list_all q xs) (imp x both.0) (list_all_weaken p q imp xs both.1)
 

@@ -7,7 +7,7 @@ use Rattle.std.specs.Ordering.{is_lt}
 use Rattle.std.specs.declared.cmp.Ordering.{Ordering}
 use Rattle.std.specs.FinMap.{FinMap, get, insert, empty, entries}
 use Rattle.nntp_wire.specs.Decided.{is_group_name, is_message_id}
-use Rattle.nntp_article.specs.Article.{Line, Id, is_empty, is_head}
+use Rattle.nntp_article.specs.Article.{Line, Id, is_empty, is_clean_head}
 use Rattle.nntp_article.specs.Spool.{Profile, Name, Spool, Numbers, Text, is_line}
 use Rattle.nntp_article.specs.Machine.{is_num, says_own_id}
 use Rattle.nntp_spool.specs.declared.read_fault.Kind.{Kind}
@@ -156,7 +156,7 @@ group_at profile line name count S p =
 
 -- the lines are a head, and the id that it says, if it says one, is this id
 abbrev pub fits_head : Id → List Line → Bool
-fits_head id lines = is_head lines && says_own_id id lines
+fits_head id lines = is_clean_head lines && says_own_id id lines
 
 -- the lines of an article, whose line is the one given
 unfoldable pub article_at : ℕ → Id → ℕ → ℕ → Spool → Place → Result (Spool × Place) ReadFault

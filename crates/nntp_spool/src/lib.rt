@@ -25,4 +25,4 @@ pub use builder::SpoolBuilder;
 pub use spool::{Counts, Spool};
 pub use spool_fault::SpoolFault;
 pub use watched::Watched;
-pub use write::WriteFault;
+pub use write::{WriteFault, put};

@@ -1,9 +1,10 @@
 use Rattle.std.proofs.Common.{◌≡◌, [], ap, map, ◌++◌, ◌∙◌, codes, subst}
 use Rattle.std.proofs.lemmas.Result.{err_from_is_err_and}
 use Rattle.std.proofs.lemmas.List.{append-nil}
-use Rattle.nntp_check.specs.Report.{tail_of, spool_text}
+use Rattle.nntp_check.specs.Report.{tail_of}
+use Rattle.nntp_spool.specs.Text.{spool_text}
 use Rattle.nntp_check.specs.Verdict.{verdict_shown}
-use Rattle.nntp_check.proofs.WroteLemmas.{Wrote-first, Writes-last}
+use Rattle.nntp_spool.proofs.WroteLemmas.{Wrote-first, Writes-last}
 use Rattle.nntp_check.proofs.report.write_report.Goals as goal
 
 pub returns-in_err-put-clause-text : goal.returns-in_err-put-clause-text

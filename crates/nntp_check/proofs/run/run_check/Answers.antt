@@ -2,7 +2,7 @@ use Rattle.std.proofs.Common.{ℕ, List, ◌++◌, ◌∙◌, subst}
 use Rattle.nntp_check.specs.Report.{tail_of}
 use Rattle.nntp_check.specs.Verdict.{verdict_shown}
 use Rattle.nntp_check.specs.Capture.{AreStreams}
-use Rattle.nntp_check.specs.Writing.{Wrote}
+use Rattle.nntp_spool.specs.Writing.{Wrote}
 use Rattle.nntp_check.proofs.run.run_check.Goals as goal
 
 pub returns-clause-err : goal.returns-clause-err
