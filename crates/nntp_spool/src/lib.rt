@@ -14,6 +14,8 @@ mod read;
 pub mod read_fault;
 mod spool;
 pub mod spool_fault;
+#[cfg(test)]
+mod tests;
 mod text;
 mod watched;
 mod write;
