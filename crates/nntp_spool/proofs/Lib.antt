@@ -17,3 +17,4 @@ pub mod TextLaws
 pub mod WholeText
 pub mod SpoolHolds
 pub mod ContentHolds
+pub mod SessionLaws
