@@ -18,3 +18,4 @@ pub mod WholeText
 pub mod SpoolHolds
 pub mod ContentHolds
 pub mod SessionLaws
+pub mod Firsts

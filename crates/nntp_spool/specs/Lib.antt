@@ -12,3 +12,4 @@ pub mod Counts
 pub mod Faults
 pub mod Building
 pub mod Sessions
+pub mod SessionView

@@ -12,6 +12,7 @@ mod numbers;
 mod place;
 mod read;
 pub mod read_fault;
+mod session;
 mod spool;
 pub mod spool_fault;
 #[cfg(test)]
