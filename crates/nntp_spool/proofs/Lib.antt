@@ -5,7 +5,7 @@ pub mod Least
 pub mod Parts
 pub mod Decimals
 pub mod Repeats
-pub mod Tests
+pub mod TestLemmas
 pub mod Keys
 pub mod Words
 pub mod Names
@@ -17,3 +17,5 @@ pub mod TextLaws
 pub mod WholeText
 pub mod SpoolHolds
 pub mod ContentHolds
+pub mod SessionLaws
+pub mod Firsts

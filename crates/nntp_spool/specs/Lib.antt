@@ -11,3 +11,5 @@ pub mod Content
 pub mod Counts
 pub mod Faults
 pub mod Building
+pub mod Sessions
+pub mod SessionView

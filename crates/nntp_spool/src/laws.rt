@@ -1,5 +1,10 @@
-//! Laws of the text.
-ghost use Rattle.std.specs.Prelude.{◌≡◌, ℕ, ◌<◌, ◌^◌, List, Ok};
+//! Laws of the text, and of what a spool explains of a pairing.
+ghost use Rattle.std.specs.Prelude.{◌≡◌, ℕ, ◌<◌, ◌^◌, List, Ok, length};
+ghost use Rattle.nntp_pair.specs.declared.class.PairClass.{PairClass};
+ghost use Rattle.nntp_pair.specs.Pairing.{Paired, Unpaired, IsNext, AreNext, Ends, bad, asked_at, streams};
+ghost use Rattle.nntp_article.specs.Machine.{start, MayAnswer};
+ghost use Rattle.nntp_article.specs.Explains.{ExplainsUpTo};
+ghost use Rattle.nntp_spool.specs.Sessions.{state_after, MayAnswerAll, RefusesAt};
 ghost use Rattle.nntp_article.specs.Spool.{Profile, Spool, IsSpool};
 ghost use Rattle.nntp_spool.specs.Text.{spool_text, IsWritten};
 ghost use Rattle.nntp_spool.specs.Reading.{spool_at};
@@ -19,4 +24,25 @@ pub fn each_text_is_read()
 pub fn texts_differ()
     ensures { (profile : Profile) (S T : Spool) → profile.limit < 2 ^ 64 → IsWritten profile S → IsWritten profile T
         → spool_text S ≡ spool_text T → S ≡ T }
+{}
+
+/// Where a pairing's responses are permitted, the spool explains as many answers, up to the octets
+/// that are left.
+pub fn what_is_permitted_is_explained()
+    ensures { (profile : Profile) (S : Spool) (client server : List ℕ) (pairs : List Paired) (left : Unpaired) → IsSpool profile S
+        → AreNext (streams client server) pairs left → MayAnswerAll profile S start pairs → ExplainsUpTo profile S client server (length pairs) left.server }
+{}
+
+/// A response that isn't permitted behind those that are is the first that the spool doesn't explain.
+pub fn what_is_not_permitted_is_refused()
+    ensures { (profile : Profile) (S : Spool) (client server : List ℕ) (pairs : List Paired) (left behind : Unpaired) (x : Paired) → IsSpool profile S
+        → AreNext (streams client server) pairs left → MayAnswerAll profile S start pairs → IsNext left x behind
+        → ¬ (MayAnswer profile S (state_after S start pairs) (asked_at x.line) x.response) → RefusesAt profile S client server (length pairs) }
+{}
+
+/// Octets that answer nothing behind responses that are permitted are the first answer that the spool
+/// doesn't explain.
+pub fn what_answers_nothing_is_refused()
+    ensures { (profile : Profile) (S : Spool) (client server : List ℕ) (pairs : List Paired) (left : Unpaired) (class : PairClass) → IsSpool profile S
+        → AreNext (streams client server) pairs left → MayAnswerAll profile S start pairs → Ends left (bad class) → RefusesAt profile S client server (length pairs) }
 {}

@@ -12,8 +12,11 @@ mod numbers;
 mod place;
 mod read;
 pub mod read_fault;
+mod session;
 mod spool;
 pub mod spool_fault;
+#[cfg(test)]
+mod tests;
 mod text;
 mod watched;
 mod write;

@@ -1,6 +1,6 @@
 use Rattle.std.proofs.Common.{◌∙◌}
 use Rattle.nntp_wire.specs.Decided.{is_message_id}
-use Rattle.nntp_spool.proofs.Tests.{is_some-test}
+use Rattle.nntp_spool.proofs.TestLemmas.{is_some-test}
 use Rattle.nntp_spool.proofs.checks.is_id.Goals as goal
 
 pub returns : goal.returns
