@@ -108,9 +108,11 @@ module _ {K X : Type 0} {R : K → K → Ordering} (o : IsTotalOrder R) where
       where
         both : (below_all R e.0 es ≡ true) × (is_sorted R es ≡ true)
         both = and_parts (below_all R e.0 es) (is_sorted R es) sorted
+
         other : (k : K) (v : X) (b : Bool) → eq_by_cmp R k e.0 ≡ b → find R k es ≡ Some v → b ≡ false
         other k v true t f = absurd (some_none v (sym f ∙ ap (λ (q : K). find R q es) (same k e.0 (equal_is (R k e.0) t)) ∙ find_below e.0 es both.0))
         other k v false t f = refl
+
         behind : (k : K) (v : X) → find R k es ≡ Some v → P k v
         behind k v f = h k v (rw (other k v (eq_by_cmp R k e.0) refl f) f)
 

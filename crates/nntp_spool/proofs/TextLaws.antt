@@ -73,7 +73,7 @@ items_take profile (suc most) articles S p x le e =
           with_texts = rest.with_texts ∙ ap (λ (t : List (Id × Text)). t ++ rest.texts) (entries-insert_last nat_list_cmp_total S.articles a.id a.text a.last) ∙ append_assoc (entries S.articles) ((a.id, a.text) ∷ []) rest.texts;
           known = rest.known;
           parts = a.parts ∙ ap (λ (t : List Line). article_lines (a.id, a.text) ++ t) (rest.parts ∙ ap (λ (t : List (Name × Numbers)). flat_map group_lines t ++ (flat_map article_lines rest.texts ++ codes "end" ∷ x.1.parts)) none)
-            ∙ sym (append_assoc (article_lines (a.id, a.text)) (flat_map article_lines rest.texts) (codes "end" ∷ x.1.parts));
+              ∙ sym (append_assoc (article_lines (a.id, a.text)) (flat_map article_lines rest.texts) (codes "end" ∷ x.1.parts));
         }
     taken turn (inr (inr d)) f more =
         let same : ◌≡◌ {A = Spool × Place} (S, d.next) x = ok_is (S, d.next) x (ap (turn_then (items_at profile most)) (sym d.is) ∙ f) in
@@ -136,13 +136,13 @@ text_takes profile bytes S le e =
     let groups : entries S.groups ≡ t.groups = ap (λ (T : Spool). entries T.groups) (sym same) ∙ t.with_groups ∙ ap (λ (es : List (Name × Numbers)). es ++ t.groups) (no_entries (slice_cmp nat_cmp)) in
     let texts : entries S.articles ≡ t.texts = ap (λ (T : Spool). entries T.articles) (sym same) ∙ t.with_texts ∙ ap (λ (es : List (Id × Text)). es ++ t.texts) (no_entries (slice_cmp nat_cmp)) in
     let lines : parts_of bytes ≡ spool_lines S ++ [] ∷ [] =
-        line_takes start a.0 a.1 ∙ ap (λ (l : Line). l ∷ a.0.1.parts) ((bytes_eq-Decides a.0.0 (codes "spool 1")).0 c.0)
-        ∙ ap (λ (ps : List Line). codes "spool 1" ∷ ps) (t.parts
-        ∙ ap (λ (ps : List Line). flat_map group_lines t.groups ++ (flat_map article_lines t.texts ++ codes "end" ∷ ps)) (end_is b.0.1.parts d.0)
-        ∙ ap (λ (es : List (Name × Numbers)). flat_map group_lines es ++ (flat_map article_lines t.texts ++ codes "end" ∷ [] ∷ [])) (sym groups)
-        ∙ ap (λ (es : List (Id × Text)). flat_map group_lines (entries S.groups) ++ (flat_map article_lines es ++ codes "end" ∷ [] ∷ [])) (sym texts)
-        ∙ ap (λ (ps : List Line). flat_map group_lines (entries S.groups) ++ ps) (sym (append_assoc (flat_map article_lines (entries S.articles)) (codes "end" ∷ []) ([] ∷ [])))
-        ∙ sym (append_assoc (flat_map group_lines (entries S.groups)) (flat_map article_lines (entries S.articles) ++ codes "end" ∷ []) ([] ∷ []))) in
+    line_takes start a.0 a.1 ∙ ap (λ (l : Line). l ∷ a.0.1.parts) ((bytes_eq-Decides a.0.0 (codes "spool 1")).0 c.0)
+    ∙ ap (λ (ps : List Line). codes "spool 1" ∷ ps) (t.parts
+    ∙ ap (λ (ps : List Line). flat_map group_lines t.groups ++ (flat_map article_lines t.texts ++ codes "end" ∷ ps)) (end_is b.0.1.parts d.0)
+    ∙ ap (λ (es : List (Name × Numbers)). flat_map group_lines es ++ (flat_map article_lines t.texts ++ codes "end" ∷ [] ∷ [])) (sym groups)
+    ∙ ap (λ (es : List (Id × Text)). flat_map group_lines (entries S.groups) ++ (flat_map article_lines es ++ codes "end" ∷ [] ∷ [])) (sym texts)
+    ∙ ap (λ (ps : List Line). flat_map group_lines (entries S.groups) ++ ps) (sym (append_assoc (flat_map article_lines (entries S.articles)) (codes "end" ∷ []) ([] ∷ [])))
+    ∙ sym (append_assoc (flat_map group_lines (entries S.groups)) (flat_map article_lines (entries S.articles) ++ codes "end" ∷ []) ([] ∷ []))) in
     record {
       content = record {
         groups = all_got nat_list_cmp_total octet_keys (λ name N. IsNamed profile name N) S.groups (subst (AllByRecursion (λ g. IsNamed profile g.0 g.1)) (sym groups) t.named);
@@ -199,13 +199,12 @@ module _ (profile : Profile) (F : Spool) (le : profile.limit < 2 ^ 64) (content 
       let front = first_tail texts in
       let one = item_article_again profile line articles S a.0 a.1 front.0 front.1 size.0 size.1 (content.articles a.0 a.1 at.here) at.less in
       let split : tail_lines (a ∷ texts) ≡ article_lines a ++ front.0 ∷ front.1 = append_assoc (article_lines a) (flat_map article_lines texts) (codes "end" ∷ [] ∷ []) ∙ ap (λ (ps : List Line). article_lines a ++ ps) front.2 in
-      let rest = texts_again most one.0 true (with_article S a.0 a.1) texts g (next_entry S.articles F.articles a.0 a.1 texts t at.less) (omega arith) in
-      (
+      let rest = texts_again most one.0 true (with_article S a.0 a.1) texts g (next_entry S.articles F.articles a.0 a.1 texts t at.less) (omega arith) in (
         rest.0,
         ap (λ (ps : List Line). items_at profile (suc most) articles S (record { line = line; parts = ps })) split
-        ∙ ap (λ (r : Result Turn ReadFault). r >>= turn_then (items_at profile most)) one.1
-        ∙ ap (λ (ps : List Line). items_at profile most true (with_article S a.0 a.1) (record { line = one.0; parts = ps })) (sym front.2)
-        ∙ rest.1,
+            ∙ ap (λ (r : Result Turn ReadFault). r >>= turn_then (items_at profile most)) one.1
+            ∙ ap (λ (ps : List Line). items_at profile most true (with_article S a.0 a.1) (record { line = one.0; parts = ps })) (sym front.2)
+            ∙ rest.1,
       )
 
   pub groups_again : (most line : ℕ) (S : Spool) (groups : List (Name × Numbers)) (texts : List (Id × Text)) → entries F.groups ≡ entries S.groups ++ groups → entries F.articles ≡ entries S.articles ++ texts
@@ -217,11 +216,10 @@ module _ (profile : Profile) (F : Spool) (le : profile.limit < 2 ^ 64) (content 
       let front = first_lines groups texts in
       let one = item_group_again profile line S n.0 n.1 front.0 front.1 le (sizes.counts n.0 n.1 at.here) (content.groups n.0 n.1 at.here) at.less in
       let split : flat_map group_lines (n ∷ groups) ++ tail_lines texts ≡ group_lines n ++ front.0 ∷ front.1 = append_assoc (group_lines n) (flat_map group_lines groups) (tail_lines texts) ∙ ap (λ (ps : List Line). group_lines n ++ ps) front.2 in
-      let rest = groups_again most one.0 (with_group S n.0 n.1) groups texts (next_entry S.groups F.groups n.0 n.1 groups g at.less) t (omega arith) in
-      (
+      let rest = groups_again most one.0 (with_group S n.0 n.1) groups texts (next_entry S.groups F.groups n.0 n.1 groups g at.less) t (omega arith) in (
         rest.0,
         ap (λ (ps : List Line). items_at profile (suc most) false S (record { line = line; parts = ps })) split
-        ∙ ap (λ (r : Result Turn ReadFault). r >>= turn_then (items_at profile most)) one.1
-        ∙ ap (λ (ps : List Line). items_at profile most false (with_group S n.0 n.1) (record { line = one.0; parts = ps })) (sym front.2)
-        ∙ rest.1,
+            ∙ ap (λ (r : Result Turn ReadFault). r >>= turn_then (items_at profile most)) one.1
+            ∙ ap (λ (ps : List Line). items_at profile most false (with_group S n.0 n.1) (record { line = one.0; parts = ps })) (sym front.2)
+            ∙ rest.1,
       )

@@ -54,7 +54,7 @@ clean-group : (profile : Profile) (name : Name) (N : Numbers) → profile.limit 
 clean-group profile name N le small named =
     let first = spaced-lacks (codes "group") (name ++ 32 ∷ decimal (len N)) refl (spaced-lacks name (decimal (len N)) (name-lacks 10 name (omega arith) refl named.is_name) (decimal-lacks (len N) small)) in
     let each = got_all nat_cmp_total nat_cmp-IsAntisymmetric (λ n id. lacks 10 (number_line n id) ≡ true) N (λ n id g.
-        let is = named.numbers.each n id g in spaced-lacks (decimal n) id (decimal-lacks n (num-small profile n le is.0)) (id-lacks 10 id (omega arith) is.1)) in
+    let is = named.numbers.each n id g in spaced-lacks (decimal n) id (decimal-lacks n (num-small profile n le is.0)) (id-lacks 10 id (omega arith) is.1)) in
     and_from (lacks 10 (group_line name (len N))) (clean (map (λ e. number_line e.0 e.1) (entries N))) first (clean-map (λ e. number_line e.0 e.1) (entries N) each)
 
 line-lacks : (l : Line) → is_line l ≡ true → lacks 10 l ≡ true
@@ -69,7 +69,7 @@ line-lacks l h = let both = and_parts (is_clean l) (list_all (λ c. nat_lt c 256
 clean-article : (id : Id) (t : Text) → length t.head < 2 ^ 64 → length t.body < 2 ^ 64 → IsArticle id t → clean (article_lines (id, t)) ≡ true
 clean-article id t h b is =
     let first = spaced-lacks (codes "article") (id ++ 32 ∷ (decimal (length t.head) ++ 32 ∷ decimal (length t.body))) refl (spaced-lacks id (decimal (length t.head) ++ 32 ∷ decimal (length t.body)) (id-lacks 10 id (omega arith) is.is_id)
-        (spaced-lacks (decimal (length t.head)) (decimal (length t.body)) (decimal-lacks (length t.head) h) (decimal-lacks (length t.body) b))) in
+    (spaced-lacks (decimal (length t.head)) (decimal (length t.body)) (decimal-lacks (length t.head) h) (decimal-lacks (length t.body) b))) in
     and_from (lacks 10 (article_line id (length t.head) (length t.body))) (clean (barred t.head ++ barred t.body)) first (clean-append (barred t.head) (barred t.body) (barred-clean t.head is.head_lines) (barred-clean t.body is.body_lines))
   where
     barred-clean : (lines : List Line) → list_all is_line lines ≡ true → clean (barred lines) ≡ true
@@ -132,12 +132,12 @@ text_again profile F le content sizes known =
     let groups = entries F.groups in
     let texts = entries F.articles in
     let lines : parts_of (spool_text F) ≡ codes "spool 1" ∷ (flat_map group_lines groups ++ tail_lines texts) =
-        parts_of-ended (spool_lines F) (clean-text profile F le content sizes)
-        ∙ ap (λ (ps : List Line). codes "spool 1" ∷ ps) (append_assoc (flat_map group_lines groups) (flat_map article_lines texts ++ codes "end" ∷ []) ([] ∷ []) ∙ ap (λ (ps : List Line). flat_map group_lines groups ++ ps) (append_assoc (flat_map article_lines texts) (codes "end" ∷ []) ([] ∷ []))) in
+    parts_of-ended (spool_lines F) (clean-text profile F le content sizes)
+    ∙ ap (λ (ps : List Line). codes "spool 1" ∷ ps) (append_assoc (flat_map group_lines groups) (flat_map article_lines texts ++ codes "end" ∷ []) ([] ∷ []) ∙ ap (λ (ps : List Line). flat_map group_lines groups ++ ps) (append_assoc (flat_map article_lines texts) (codes "end" ∷ []) ([] ∷ []))) in
     let front = first_lines groups texts in
     let most : length groups + length texts < length (spool_text F) =
-        omega (arith, length-text F, enough group_lines groups (λ g. omega arith), enough article_lines texts (λ a. omega arith)) in
+    omega (arith, length-text F, enough group_lines groups (λ g. omega arith), enough article_lines texts (λ a. omega arith)) in
     let again = groups_again profile F le content sizes known (length (spool_text F)) 2 no_spool groups texts (ap (λ (es : List (Name × Numbers)). es ++ groups) (sym (no_entries (slice_cmp nat_cmp)))) (ap (λ (es : List (Id × Text)). es ++ texts) (sym (no_entries (slice_cmp nat_cmp)))) most in
     let line : line_at (record { line = 1; parts = parts_of (spool_text F) }) ≡ Ok (codes "spool 1", record { line = 2; parts = flat_map group_lines groups ++ tail_lines texts }) =
-        ap (next_line 1) lines ∙ ap (λ (ps : List Line). next_line 1 (codes "spool 1" ∷ ps)) front.2 ∙ ap (λ (ps : List Line). Ok (codes "spool 1", record { line = 2; parts = ps })) (sym front.2) in
+    ap (next_line 1) lines ∙ ap (λ (ps : List Line). next_line 1 (codes "spool 1" ∷ ps)) front.2 ∙ ap (λ (ps : List Line). Ok (codes "spool 1", record { line = 2; parts = ps })) (sym front.2) in
     rw (line, again.1) refl

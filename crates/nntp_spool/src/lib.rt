@@ -2,9 +2,9 @@
 #![tactic(auto)]
 
 pub mod article;
-mod content;
 mod builder;
 mod checks;
+mod content;
 mod fields;
 pub mod laws;
 mod limit;
@@ -21,10 +21,10 @@ mod text;
 mod watched;
 mod write;
 
-pub use limit::LIMIT;
 pub use article::Article;
-pub use read_fault::{Kind, ReadFault};
 pub use builder::SpoolBuilder;
+pub use limit::LIMIT;
+pub use read_fault::{Kind, ReadFault};
 pub use spool::{Counts, Spool};
 pub use spool_fault::SpoolFault;
 pub use watched::Watched;
