@@ -14,7 +14,8 @@ use Rattle.nntp_wire.proofs.StreamLemmas.{lines-joined}
 use Rattle.nntp_article.specs.Spool.{Profile, Spool}
 use Rattle.nntp_article.specs.Machine.{Visible, State, Run, start, fits, visible_after}
 use Rattle.nntp_article.specs.Explains.{Spelled, ExplainsFirst, Bad}
-use Rattle.nntp_facts.specs.Classes.{Class, Surplus, Cut, Malformed, OutOfPlace, Contradiction, visible_from, asked_next, AnswersFirst, IsCut, IsMalformed, BeginsWithAnswer, IsOpenClass, IsClass, left_visible, HasClass, IsSettled}
+use Rattle.nntp_pair.specs.Pairing.{IsCut, IsMalformed}
+use Rattle.nntp_facts.specs.Classes.{Class, Surplus, Cut, Malformed, OutOfPlace, Contradiction, visible_from, asked_next, AnswersFirst, BeginsWithAnswer, IsOpenClass, IsClass, left_visible, HasClass, IsSettled}
 
 -- ---- more prompts
 
@@ -144,7 +145,7 @@ not_cut profile v asked octets b none a =
 pub not_malformed : (profile : Profile) (v : Visible) (asked : Asked) (octets : List ℕ) (b : Bool) → IsMalformed asked octets → BeginsWithAnswer profile v asked octets b → ⊥
 not_malformed profile v asked octets b m a =
     let f = spelling-frame asked a.response a.front a.rest a.spells in
-    let same = one-frame asked octets f.0 m.line f.1 m.block a.rest m.rest (subst (λ o. HasFrame asked o f.0 f.1 a.rest) (sym a.whole) f.3) m.frame in
+    let same = one-frame asked octets f.0 m.initial f.1 m.block a.rest m.rest (subst (λ o. HasFrame asked o f.0 f.1 a.rest) (sym a.whole) f.3) m.frame in
     m.nothing a.response (subst (Spells asked a.response) (sym f.2 ∙ (λ i. frame_octets (same.0 i) (same.1 i))) a.spells)
 
 -- one answer fits, or it doesn't
@@ -158,8 +159,8 @@ open_once profile v asked octets Cut Cut h k = refl
 open_once profile v asked octets Malformed Malformed h k = refl
 open_once profile v asked octets OutOfPlace OutOfPlace h k = refl
 open_once profile v asked octets Contradiction Contradiction h k = refl
-open_once profile v asked octets Cut Malformed h k = absurd (h k.line k.block k.rest k.frame)
-open_once profile v asked octets Malformed Cut h k = absurd (k h.line h.block h.rest h.frame)
+open_once profile v asked octets Cut Malformed h k = absurd (h k.initial k.block k.rest k.frame)
+open_once profile v asked octets Malformed Cut h k = absurd (k h.initial h.block h.rest h.frame)
 open_once profile v asked octets Cut OutOfPlace h k = absurd (not_cut profile v asked octets false h k)
 open_once profile v asked octets OutOfPlace Cut h k = absurd (not_cut profile v asked octets false k h)
 open_once profile v asked octets Cut Contradiction h k = absurd (not_cut profile v asked octets true h k)
@@ -187,7 +188,7 @@ some_class false profile v (Some asked) octets = elim (dec_spelling asked octets
     | inr f ↦ (OutOfPlace, record { response = r; front = b; rest = rest; spells = s; whole = e; fitting = f })
   ]
   | inr none ↦ elim (dec_frame asked octets) [
-    | inl (line, block, rest, f) ↦ (Malformed, record { line = line; block = block; rest = rest; frame = f; nothing = λ r s. none (r, frame_octets line block, rest, s, f.whole) })
+    | inl (line, block, rest, f) ↦ (Malformed, record { initial = line; block = block; rest = rest; frame = f; nothing = λ r s. none (r, frame_octets line block, rest, s, f.whole) })
     | inr no_frame ↦ (Cut, λ line block rest f. no_frame (line, block, rest, f))
   ]
 ]
@@ -233,7 +234,7 @@ answer_longer profile v asked octets more b a =
 
 malformed_longer : (asked : Asked) (octets more : List ℕ) → IsMalformed asked octets → IsMalformed asked (octets ++ more)
 malformed_longer asked octets more m =
-    record { line = m.line; block = m.block; rest = m.rest ++ more; frame = frame-longer asked octets m.line m.rest more m.block m.frame; nothing = m.nothing }
+    record { initial = m.initial; block = m.block; rest = m.rest ++ more; frame = frame-longer asked octets m.initial m.rest more m.block m.frame; nothing = m.nothing }
 
 -- where a frame is whole, or the connection closed
 abbrev pub settled : Class → Bool → Type 0
@@ -344,8 +345,8 @@ module _ (profile : Profile) (client server more_client more_server : List ℕ) 
           let same : m.asked ≡ asked = (let f = sym m.next ∙ asked_longer (prompts_of client) q.0 h.before.answers asked e in cc) in
           let t = subst (λ p. Spells p m.response m.front) same m.spells in
           let f = spelling-frame asked m.response m.front more t in
-          let long = frame-longer asked h.before.rest is.line is.rest more_server is.block is.frame in
-          let one = one-frame asked (h.before.rest ++ more_server) f.0 is.line f.1 is.block more (is.rest ++ more_server) (subst (λ o. HasFrame asked o f.0 f.1 more) (sym m.whole) f.3) long in
+          let long = frame-longer asked h.before.rest is.initial is.rest more_server is.block is.frame in
+          let one = one-frame asked (h.before.rest ++ more_server) f.0 is.initial f.1 is.block more (is.rest ++ more_server) (subst (λ o. HasFrame asked o f.0 f.1 more) (sym m.whole) f.3) long in
           is.nothing m.response (subst (Spells asked m.response) (sym f.2 ∙ (λ i. frame_octets (one.0 i) (one.1 i))) t)
 
       at_open : (asked : Asked) → asked_next (prompts_of client) h.before.answers ≡ Some asked → (c : Class) → settled c false → IsOpenClass profile v asked h.before.rest c → ⊥

@@ -90,7 +90,7 @@ end_class cut profile v left (place, awaits, none) =
     subst (λ (x : Bool × List (Option (List ℕ))). IsClass x.0 profile v (first_asked x.1) left.server (class_of cut)) (λ i. (sym awaits.is_open i, sym awaits.first i)) none
 end_class malformed profile v left (place, awaits, m) =
     subst (λ (x : Bool × List (Option (List ℕ))). IsClass x.0 profile v (first_asked x.1) left.server (class_of malformed)) (λ i. (sym awaits.is_open i, sym awaits.first i))
-    (record { line = m.initial; block = m.block; rest = m.rest; frame = m.frame; nothing = m.nothing })
+    m
 
 pub count : (pairs : List Paired) → length (responses_of pairs) ≡ length pairs
 count [] = refl

@@ -1,11 +1,11 @@
 -- Why an answer is bad (RFC 3977, sections 3.1, 3.2 and 3.5).
 use Rattle.std.specs.Prelude.{◌≡◌, ℕ, Bool, true, false, List, [], ◌∷◌, ◌++◌, length, Option, None, Some, ⊤}
 use Rattle.nntp_wire.specs.Answer.{Asked, Response, Spells}
-use Rattle.nntp_wire.specs.Frame.{HasFrame, frame_octets}
 use Rattle.nntp_wire.specs.Session.{prompts_of}
 use Rattle.nntp_article.specs.Spool.{Profile}
 use Rattle.nntp_article.specs.Machine.{Visible, start, fits, visible_after}
 use Rattle.nntp_article.specs.Explains.{Spelled}
+use Rattle.nntp_pair.specs.Pairing.{IsCut, IsMalformed}
 use Rattle.nntp_pair.specs.declared.class.PairClass.{PairClass}
 use Rattle.nntp_pair.specs.declared.class.PairClass.TheVariants.{Surplus as PairSurplus, Cut as PairCut, Malformed as PairMalformed}
 
@@ -34,19 +34,7 @@ pub record AnswersFirst (client server : List ℕ) (k : ℕ) : Type 0 where
   pub spelled : Spelled (prompts_of client) answers octets
   pub whole : server ≡ octets ++ rest
 
--- the octets begin with no whole frame
-abbrev pub IsCut : Asked → List ℕ → Type 0
-IsCut asked octets = (line : List ℕ) (block : Option (List ℕ)) (rest : List ℕ) → ¬ (HasFrame asked octets line block rest)
-
--- they begin with a frame that spells nothing
-pub record IsMalformed (asked : Asked) (octets : List ℕ) : Type 0 where
-  pub line : List ℕ
-  pub block : Option (List ℕ)
-  pub rest : List ℕ
-  pub frame : HasFrame asked octets line block rest
-  pub nothing : (response : Response) → ¬ (Spells asked response (frame_octets line block))
-
--- they begin with a spelling of an answer that fits the visible state, or doesn't
+-- the octets begin with a spelling of an answer that fits the visible state, or doesn't
 pub record BeginsWithAnswer (profile : Profile) (v : Visible) (asked : Asked) (octets : List ℕ) (is_fitting : Bool) : Type 0 where
   pub response : Response
   pub front : List ℕ

@@ -11,7 +11,7 @@ use Rattle.nntp_pair.specs.Pairing.{Unpaired, Awaits, IsBad, IsUnanswered, IsMal
 
 -- a frame that spells nothing
 pub malformed : (place : Option (List ℕ)) (server initial : List ℕ) (block : Option (List ℕ)) (rest : List ℕ) (asked : Asked) → asked ≡ asked_at place
-    → HasFrame asked server initial block rest → ((response : Response) → ¬ (Spells asked response (frame_octets initial block))) → IsMalformed place server
+    → HasFrame asked server initial block rest → ((response : Response) → ¬ (Spells asked response (frame_octets initial block))) → IsMalformed (asked_at place) server
 malformed place server initial block rest asked same has nothing =
     record {
       initial = initial;

@@ -28,23 +28,23 @@ pub record IsAnswered (place : Option (List ℕ)) (server initial : List ℕ) (r
   pub frame : HasFrame (asked_at place) server initial block rest
   pub spells : Spells (asked_at place) response (frame_octets initial block)
 
--- the server's octets begin with no whole frame
-abbrev pub IsCut : Option (List ℕ) → List ℕ → Type 0
-IsCut place server = (initial : List ℕ) (block : Option (List ℕ)) (rest : List ℕ) → ¬ (HasFrame (asked_at place) server initial block rest)
+-- the server's octets begin with no whole frame of what is asked
+abbrev pub IsCut : Asked → List ℕ → Type 0
+IsCut asked server = (initial : List ℕ) (block : Option (List ℕ)) (rest : List ℕ) → ¬ (HasFrame asked server initial block rest)
 
 -- they begin with a frame that spells nothing
-pub record IsMalformed (place : Option (List ℕ)) (server : List ℕ) : Type 0 where
+pub record IsMalformed (asked : Asked) (server : List ℕ) : Type 0 where
   pub initial : List ℕ
   pub block : Option (List ℕ)
   pub rest : List ℕ
-  pub frame : HasFrame (asked_at place) server initial block rest
-  pub nothing : (response : Response) → ¬ (Spells (asked_at place) response (frame_octets initial block))
+  pub frame : HasFrame asked server initial block rest
+  pub nothing : (response : Response) → ¬ (Spells asked response (frame_octets initial block))
 
 -- why the server's octets don't answer what is asked at the place
 abbrev pub IsUnanswered : PairClass → Option (List ℕ) → List ℕ → Type 0
 IsUnanswered Surplus place server = ⊥
-IsUnanswered Cut place server = IsCut place server
-IsUnanswered Malformed place server = IsMalformed place server
+IsUnanswered Cut place server = IsCut (asked_at place) server
+IsUnanswered Malformed place server = IsMalformed (asked_at place) server
 
 -- with some block the initial line spells the response to what is asked at the place
 abbrev pub IsSpelled : Option (List ℕ) → List ℕ → Response → Type 0
@@ -92,8 +92,8 @@ line_ahead (place ∷ places) = place
 -- why the octets that are left answer nothing
 abbrev pub IsBad : PairClass → Unpaired → Type 0
 IsBad Surplus left = (left.is_closed ≡ true) ⊎ (left.places ≡ [])
-IsBad Cut left = (place : Option (List ℕ)) × Awaits left place × IsCut place left.server
-IsBad Malformed left = (place : Option (List ℕ)) × Awaits left place × IsMalformed place left.server
+IsBad Cut left = (place : Option (List ℕ)) × Awaits left place × IsCut (asked_at place) left.server
+IsBad Malformed left = (place : Option (List ℕ)) × Awaits left place × IsMalformed (asked_at place) left.server
 
 -- how a pairing ends: with no octet left, and so many lines unanswered, or at octets that answer nothing
 pub data Ending : Type 0 where
