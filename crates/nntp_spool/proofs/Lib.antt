@@ -19,3 +19,4 @@ pub mod SpoolHolds
 pub mod ContentHolds
 pub mod SessionLaws
 pub mod Firsts
+pub mod Ascends

@@ -13,3 +13,4 @@ pub mod Faults
 pub mod Building
 pub mod Sessions
 pub mod SessionView
+pub mod Fitting

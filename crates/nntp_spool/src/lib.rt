@@ -6,6 +6,7 @@ mod content;
 mod builder;
 mod checks;
 mod fields;
+mod fits;
 pub mod laws;
 mod limit;
 mod numbers;
