@@ -20,3 +20,4 @@ pub mod ContentHolds
 pub mod SessionLaws
 pub mod Firsts
 pub mod Ascends
+pub mod Walks

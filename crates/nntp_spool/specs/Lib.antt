@@ -14,3 +14,4 @@ pub mod Building
 pub mod Sessions
 pub mod SessionView
 pub mod Fitting
+pub mod Walk

@@ -1,6 +1,7 @@
 //! The spool of a news server: built, written as text, read back.
 #![tactic(auto)]
 
+mod agrees;
 pub mod article;
 mod content;
 mod builder;
@@ -9,6 +10,7 @@ mod fields;
 mod fits;
 pub mod laws;
 mod limit;
+mod lookups;
 mod numbers;
 mod place;
 mod read;
@@ -19,6 +21,7 @@ pub mod spool_fault;
 #[cfg(test)]
 mod tests;
 mod text;
+mod texts;
 mod watched;
 mod write;
 
