@@ -21,3 +21,4 @@ pub mod SessionLaws
 pub mod Firsts
 pub mod Ascends
 pub mod Walks
+pub mod ActiveLemmas

@@ -15,3 +15,4 @@ pub mod Sessions
 pub mod SessionView
 pub mod Fitting
 pub mod Walk
+pub mod Actives

@@ -1,6 +1,7 @@
 //! The spool of a news server: built, written as text, read back.
 #![tactic(auto)]
 
+mod active;
 mod agrees;
 pub mod article;
 mod content;

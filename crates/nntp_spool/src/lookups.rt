@@ -1,7 +1,7 @@
 //! What the machine looks up in the numbers of a group.
 ghost use Rattle.std.specs.Prelude.{◌≡◌, ℕ, ◌≤◌, ◌↔◌, ◌∷◌, [], true, IsTrue, MatchOption, IfSome, Some};
 ghost use Rattle.std.specs.FinMap as map;
-ghost use Rattle.nntp_article.specs.Spool.{IsNextAbove, IsNextBelow, NoneAbove, NoneBelow, Lists};
+ghost use Rattle.nntp_article.specs.Spool.{IsNumber, IsNextAbove, IsNextBelow, NoneAbove, NoneBelow, Lists};
 ghost use Rattle.nntp_article.specs.Machine.{Bound, is_ascending};
 ghost use Rattle.nntp_article.specs.Listed.{listed_numbers};
 ghost use Rattle.nntp_spool.specs.Walk.{IsNextFrom, IsAbove, ListsFrom};
@@ -68,6 +68,16 @@ impl<A: Allocator> Numbers<A> {
         if self.len() as u64 > estimate {
             return false;
         }
+        match (self.least(), self.greatest()) {
+            (Some(least), Some(greatest)) => low <= least && greatest <= high,
+            _ => true,
+        }
+    }
+
+    /// Whether each number is between the marks.
+    pub(crate) fn is_between(&self, low: u64, high: u64) -> bool
+        ensures { IsTrue result ↔ ((n : ℕ) → IsNumber self.now n → (low ≤ n) × (n ≤ high)) }
+    {
         match (self.least(), self.greatest()) {
             (Some(least), Some(greatest)) => low <= least && greatest <= high,
             _ => true,
