@@ -19,3 +19,6 @@ pub mod SpoolHolds
 pub mod ContentHolds
 pub mod SessionLaws
 pub mod Firsts
+pub mod Ascends
+pub mod Walks
+pub mod ActiveLemmas

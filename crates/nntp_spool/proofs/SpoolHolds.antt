@@ -32,7 +32,7 @@ value_of_some : {A : Type 0} (o : Option A) → IsSome o → (x : A) × (o ≡ S
 value_of_some None h = absurd (true≢false (sym h))
 value_of_some (Some x) h = (x, refl)
 
-passed_all : {X : Type 0} (p : X → Bool) (xs : List X) → AllByRecursion (λ x. p x ≡ true) xs → list_all p xs ≡ true
+pub passed_all : {X : Type 0} (p : X → Bool) (xs : List X) → AllByRecursion (λ x. p x ≡ true) xs → list_all p xs ≡ true
 passed_all p [] h = refl
 passed_all p (x ∷ xs) h = and_from (p x) (list_all p xs) h.0 (passed_all p xs h.1)
 

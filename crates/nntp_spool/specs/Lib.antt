@@ -13,3 +13,6 @@ pub mod Faults
 pub mod Building
 pub mod Sessions
 pub mod SessionView
+pub mod Fitting
+pub mod Walk
+pub mod Actives

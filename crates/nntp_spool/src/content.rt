@@ -101,6 +101,13 @@ impl<A: Allocator> Content<A> {
         self.groups.get(name)
     }
 
+    /// The article of an id.
+    pub(crate) fn article(&self, id: &[u8]) -> Option<&Article<A>>
+        ensures { option_map (λ a. text_of_article a.now) result ≡ map.get self.now.articles id.now }
+    {
+        self.articles.get(id)
+    }
+
     /// Whether the id has an article.
     pub(crate) fn has_article(&self, id: &[u8]) -> bool
         ensures { result ≡ is_some (map.get self.now.articles id.now) }

@@ -1,13 +1,17 @@
 //! The spool of a news server: built, written as text, read back.
 #![tactic(auto)]
 
+mod active;
+mod agrees;
 pub mod article;
 mod builder;
 mod checks;
 mod content;
 mod fields;
+mod fits;
 pub mod laws;
 mod limit;
+mod lookups;
 mod numbers;
 mod place;
 mod read;
@@ -18,6 +22,7 @@ pub mod spool_fault;
 #[cfg(test)]
 mod tests;
 mod text;
+mod texts;
 mod watched;
 mod write;
 

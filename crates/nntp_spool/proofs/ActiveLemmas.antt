@@ -1,0 +1,155 @@
+-- The groups of lines, one after the other.
+use Rattle.std.proofs.Common.{◌≡◌, ℕ, zero, suc, ◌<◌, ◌≤◌, Bool, true, false, not, cond, IsTrue, IsSome, List, [], ◌∷◌, Option, None, Some, MatchOption, length, map, refl, sym, ap, subst, ◌∙◌, arith}
+use Rattle.std.specs.Prelude.{◌↔◌, ◌||◌, ◌&&◌, Contains, All, IfSome, is_some, unwrap_or, drop}
+use Rattle.std.specs.List.{list_all, list_any, AllByRecursion}
+use Rattle.std.specs.Option.{option_map_or}
+use Rattle.std.specs.Ordering.{nat_cmp}
+use Rattle.std.specs.Cmp.Lexicographic.{slice_cmp, nat_list_cmp_total, bytes_decides}
+use Rattle.std.specs.FinMap.{get, empty, entries}
+use Rattle.std.proofs.lemmas.Bool.{true≢false, and_from, and_parts}
+use Rattle.std.proofs.lemmas.List.Elements.{recursion_from_All, All-from_recursion}
+use Rattle.nntp_wire.specs.Decided.{is_group_name, matches_name}
+use Rattle.nntp_wire.specs.Wildmat.{MatchesName}
+use Rattle.nntp_wire.specs.Listing.{ActiveValue, ListsGroup, IsActiveLine, AreActiveLines}
+use Rattle.nntp_wire.specs.declared.listing.ActiveLine.{ActiveLine}
+use Rattle.nntp_wire.proofs.DecidedLemmas.{group_name-iff}
+use Rattle.nntp_article.specs.Listed.{active_of, active_groups}
+use Rattle.nntp_article.specs.Spool.{Profile, Spool, Numbers, Name, IsGroup, IsNumber, IsSpool, numbers}
+use Rattle.nntp_article.specs.Machine.{is_same, names_differ, ActivesAgree}
+use Rattle.nntp_spool.specs.Actives.{active_value, LineAgrees, is_listed}
+use Rattle.nntp_spool.proofs.Keys.{got_all, all_got}
+use Rattle.nntp_spool.proofs.NumbersHold.{all_passed}
+use Rattle.nntp_spool.proofs.SpoolHolds.{passed_all}
+use Rattle.nntp_spool.proofs.TextLaws.{octet_keys}
+
+some_not_none : {A : Type 0} (x : A) → Some x ≡ None → ⊥
+some_not_none x e = cc
+
+-- the group of a first line
+pub first_active : (o : Option ActiveLine) (line : List ℕ) (rest : List (List ℕ)) → AreActiveLines (line ∷ rest) → MatchOption o ((value : ActiveValue) → ListsGroup line value → ⊥) (λ a. ListsGroup line (active_value a))
+    → ((line : List ℕ) (value : ActiveValue) → ListsGroup line value → active_of line ≡ Some value)
+    → MatchOption o (active_groups (line ∷ rest) ≡ []) (λ a. active_groups (line ∷ rest) ≡ active_value a ∷ active_groups rest)
+first_active None line rest are none law = let first = (recursion_from_All IsActiveLine (line ∷ rest) are).0 in absurd (none first.0 first.1)
+first_active (Some a) line rest are lists law = rw (law line (active_value a) lists) refl
+
+pub rest_active : (line : List ℕ) (rest : List (List ℕ)) → AreActiveLines (line ∷ rest) → AreActiveLines rest
+rest_active line rest are = All-from_recursion IsActiveLine rest (recursion_from_All IsActiveLine (line ∷ rest) are).1
+
+-- no other is the same
+pub none_same : (name : List ℕ) (lines : List ActiveValue) → list_any (λ line. is_same name line.name) lines ≡ false → list_all (λ other. not (is_same name other.name)) lines ≡ true
+none_same name [] e = refl
+none_same name (l ∷ lines) e = by (is_same name l.name) (list_any (λ line. is_same name line.name) lines) refl e (none_same name lines)
+  where
+    by : (a b : Bool) → is_same name l.name ≡ a → (a || b) ≡ false → (b ≡ false → list_all (λ other. not (is_same name other.name)) lines ≡ true) → list_all (λ other. not (is_same name other.name)) (l ∷ lines) ≡ true
+    by true b p e rest = absurd (true≢false e)
+    by false b p e rest = rw p (rest e)
+
+pub some_same : (name : List ℕ) (lines : List ActiveValue) → list_any (λ line. is_same name line.name) lines ≡ true → list_all (λ other. not (is_same name other.name)) lines ≡ false
+some_same name [] e = absurd (true≢false (sym e))
+some_same name (l ∷ lines) e = by (is_same name l.name) (list_any (λ line. is_same name line.name) lines) refl e (some_same name lines)
+  where
+    by : (a b : Bool) → is_same name l.name ≡ a → (a || b) ≡ true → (b ≡ true → list_all (λ other. not (is_same name other.name)) lines ≡ false) → list_all (λ other. not (is_same name other.name)) (l ∷ lines) ≡ false
+    by true b p e rest = rw p refl
+    by false b p e rest = rw p (rest e)
+
+-- ---- names that are listed
+
+any_contains : (name : List ℕ) (lines : List ActiveValue) → list_any (λ line. is_same name line.name) lines ≡ true → Contains (map (λ line. line.name) lines) name
+any_contains name [] e = absurd (true≢false (sym e))
+any_contains name (l ∷ lines) e = by (is_same name l.name) refl e (any_contains name lines)
+  where
+    by : (a : Bool) → is_same name l.name ≡ a → (a || list_any (λ line. is_same name line.name) lines) ≡ true → (list_any (λ line. is_same name line.name) lines ≡ true → Contains (map (λ line. line.name) lines) name)
+        → Contains (map (λ line. line.name) (l ∷ lines)) name
+    by true p e rest = (0, omega arith, sym ((bytes_decides name l.name).0 p))
+    by false p e rest = let c = rest e in (suc c.0, (let lt = c.1 in omega arith), c.2)
+
+contains_any : (name : List ℕ) (lines : List ActiveValue) → Contains (map (λ line. line.name) lines) name → list_any (λ line. is_same name line.name) lines ≡ true
+contains_any name [] (k, lt, e) = absurd (omega arith)
+contains_any name (l ∷ lines) (zero, lt, e) = let here : is_same name l.name ≡ true = (bytes_decides name l.name).1 (sym e) in rw here refl
+contains_any name (l ∷ lines) (suc k, lt, e) = or_right (is_same name l.name) _ (contains_any name lines (k, omega arith, e))
+  where
+    or_right : (a b : Bool) → b ≡ true → (a || b) ≡ true
+    or_right true b e = refl
+    or_right false b e = e
+
+-- what holds of each line holds of each name
+of_name : (P : Name → Type 0) (lines : List ActiveValue) → AllByRecursion (λ line. P line.name) lines → (name : Name) → Contains (map (λ line. line.name) lines) name → P name
+of_name P [] all name (k, lt, e) = absurd (omega arith)
+of_name P (l ∷ lines) all name (zero, lt, e) = subst P e all.0
+of_name P (l ∷ lines) all name (suc k, lt, e) = of_name P lines all.1 name (k, omega arith, e)
+
+-- and the other way round
+of_lines : (P : Name → Type 0) (lines : List ActiveValue) → ((name : Name) → Contains (map (λ line. line.name) lines) name → P name) → AllByRecursion (λ line. P line.name) lines
+of_lines P [] h = tt
+of_lines P (l ∷ lines) h = (h l.name (0, omega arith, refl), of_lines P lines (λ name (k, lt, e). h name (suc k, omega arith, e)))
+
+both_all : {X : Type 0} (P Q R : X → Type 0) → ((x : X) → P x → Q x → R x) → (xs : List X) → AllByRecursion P xs → AllByRecursion Q xs → AllByRecursion R xs
+both_all P Q R f [] p q = tt
+both_all P Q R f (x ∷ xs) p q = (f x p.0 q.0, both_all P Q R f xs p.1 q.1)
+
+weaker : {X : Type 0} (P Q : X → Type 0) → ((x : X) → P x → Q x) → (xs : List X) → AllByRecursion P xs → AllByRecursion Q xs
+weaker P Q f [] p = tt
+weaker P Q f (x ∷ xs) p = (f x p.0, weaker P Q f xs p.1)
+
+abbrev IsAsked : Spool → Option (List ℕ) → Name → Type 0
+IsAsked S p name = IsGroup S name × IfSome p (λ w. MatchesName w name)
+
+abbrev IsMarked : Spool → ActiveValue → Type 0
+IsMarked S line = (n : ℕ) → IsNumber (numbers S line.name) n → (line.low ≤ n) × (n ≤ line.high)
+
+module _ (profile : Profile) (S : Spool) (is : IsSpool profile S) (p : Option (List ℕ)) (decided : (name : Name) → IsTrue (option_map_or (λ w. matches_name w name) p true) ↔ IfSome p (λ w. MatchesName w name)) (lines : List ActiveValue) where
+  listed_or : (name : Name) → IsGroup S name → is_listed p lines name ≡ true → IfSome p (λ w. MatchesName w name) → list_any (λ line. is_same name line.name) lines ≡ true
+  listed_or name g h m = by (is_group_name name) (option_map_or (λ w. matches_name w name) p true) ((group_name-iff name).1 (is.names name g)) ((decided name).1 m) h
+    where
+      by : (a b : Bool) → a ≡ true → b ≡ true → (not (a && b) || list_any (λ line. is_same name line.name) lines) ≡ true → list_any (λ line. is_same name line.name) lines ≡ true
+      by true true ea eb h = h
+      by true false ea eb h = absurd (true≢false (sym eb))
+      by false b ea eb h = absurd (true≢false (sym ea))
+
+  listed_if : (name : Name) → (IfSome p (λ w. MatchesName w name) → list_any (λ line. is_same name line.name) lines ≡ true) → is_listed p lines name ≡ true
+  listed_if name h = by (is_group_name name) (option_map_or (λ w. matches_name w name) p true) refl
+    where
+      by : (a b : Bool) → option_map_or (λ w. matches_name w name) p true ≡ b → (not (a && b) || list_any (λ line. is_same name line.name) lines) ≡ true
+      by true true e = h ((decided name).0 e)
+      by true false e = refl
+      by false b e = refl
+
+  pub actives-agree : AllByRecursion (LineAgrees S p) lines → list_all (λ e. is_listed p lines e.0) (entries S.groups) ≡ true → ActivesAgree S p lines
+  actives-agree agree listed = (
+    λ name. (
+      of_name (IsAsked S p) lines (weaker (LineAgrees S p) (λ line. IsAsked S p line.name) (λ line a. (a.0, a.1)) lines agree) name,
+      λ (g, m). any_contains name lines (listed_or name g (known name g) m),
+    ),
+    All-from_recursion (IsMarked S) lines (weaker (LineAgrees S p) (IsMarked S) (λ line a. a.2) lines agree),
+  )
+    where
+      value_of_some : (o : Option Numbers) → IsSome o → (N : Numbers) × (o ≡ Some N)
+      value_of_some None h = absurd (true≢false (sym h))
+      value_of_some (Some N) h = (N, refl)
+      known : (name : Name) → IsGroup S name → is_listed p lines name ≡ true
+      known name g = let N = value_of_some (get S.groups name) g in all_got nat_list_cmp_total octet_keys (λ name N. is_listed p lines name ≡ true) S.groups (all_passed (λ e. is_listed p lines e.0) (entries S.groups) listed) name N.0 N.1
+
+  pub agree-lines : ActivesAgree S p lines → AllByRecursion (LineAgrees S p) lines
+  agree-lines a = both_all (λ line. IsAsked S p line.name) (IsMarked S) (LineAgrees S p) (λ line q m. (q.0, q.1, m)) lines (of_lines (IsAsked S p) lines (λ name c. (a.0 name).0 c)) (recursion_from_All (IsMarked S) lines a.1)
+
+  pub agree-listed : ActivesAgree S p lines → list_all (λ e. is_listed p lines e.0) (entries S.groups) ≡ true
+  agree-listed a = passed_all (λ e. is_listed p lines e.0) (entries S.groups) (got_all nat_list_cmp_total octet_keys (λ name N. is_listed p lines name ≡ true) S.groups (λ name N g.
+      listed_if name (λ m. contains_any name lines ((a.0 name).1 (ap is_some g, m)))))
+
+pub decided_by : ((wildmat name : List ℕ) → IsTrue (matches_name wildmat name) ↔ MatchesName wildmat name) → (p : Option (List ℕ)) (name : Name) → IsTrue (option_map_or (λ w. matches_name w name) p true) ↔ IfSome p (λ w. MatchesName w name)
+decided_by law None name = (λ t. tt, λ t. refl)
+decided_by law (Some w) name = law w name
+
+-- ---- names that differ
+
+pub back_lines : (rest lines new behind : List (List ℕ)) → lines ≡ rest → new ≡ drop 1 lines → behind ≡ drop 1 rest → new ≡ behind
+back_lines rest lines new behind e f g = f ∙ ap (drop 1) e ∙ sym g
+
+pub front_groups : (rest lines new behind : List (List ℕ)) (v : ActiveValue) → lines ≡ rest → active_groups lines ≡ v ∷ active_groups new → new ≡ drop 1 lines → behind ≡ drop 1 rest → active_groups rest ≡ v ∷ active_groups behind
+front_groups rest lines new behind v e groups f g = sym (ap active_groups e) ∙ groups ∙ ap (λ (ls : List (List ℕ)). v ∷ active_groups ls) (back_lines rest lines new behind e f g)
+
+pub differ_not : (v : ActiveValue) (lines : List ActiveValue) → list_any (λ line. is_same v.name line.name) lines ≡ true → names_differ (v ∷ lines) ≡ false
+differ_not v lines e = rw (some_same v.name lines e) refl
+
+pub differ_more : (v : ActiveValue) (lines : List ActiveValue) → list_any (λ line. is_same v.name line.name) lines ≡ false → names_differ (v ∷ lines) ≡ names_differ lines
+differ_more v lines e = rw (none_same v.name lines e) refl

@@ -1,0 +1,18 @@
+use Rattle.std.proofs.Common.{List, ℕ, sym, ap, ◌∙◌}
+use Rattle.std.specs.List.{list_all}
+use Rattle.std.specs.Ordering.{nat_cmp}
+use Rattle.std.specs.Cmp.Lexicographic.{slice_cmp, nat_list_cmp_total}
+use Rattle.std.specs.FinMap as map
+use Rattle.nntp_article.specs.Listed.{active_groups}
+use Rattle.nntp_article.specs.Spool.{Numbers}
+use Rattle.nntp_spool.specs.Actives.{is_listed}
+use Rattle.nntp_spool.proofs.Shown.{entries-shown, list_all-map}
+use Rattle.nntp_spool.proofs.content.Content.are_groups_listed.Goals as goal
+
+pub returns : goal.returns
+returns g c =
+    let es = c.self.inside.groups.entries in
+    let listed = is_listed c.args.wildmat.now (active_groups c.args.block.now) in
+    let is = entries-shown (slice_cmp nat_cmp) (λ k. k.items) (λ v. v) nat_list_cmp_total (map.slice_cmp-IsAntisymmetric map.nat_cmp-IsAntisymmetric) es c.are_listed.ensures.ordered in
+    let test = λ (fs : List (List ℕ × Numbers)). list_all (λ e. listed e.0) fs in
+    c.are_listed.ensures.is ∙ sym (list_all-map (λ e. listed e.0) (λ e. (e.0.items, e.1)) es) ∙ ap test (sym is) ∙ ap (λ s. test (map.entries s.groups)) c.self.view_is
