@@ -1,16 +1,16 @@
 -- A group and an article that are read are those that are written, and those that are written are read.
-use Rattle.std.proofs.Common.{◌≡◌, ◌⊎◌, inl, inr, ℕ, suc, ◌+◌, ◌^◌, ◌<◌, Bool, true, false, not, cond, List, [], ◌∷◌, ◌++◌, Option, Some, Result, Ok, Err, length, map, refl, sym, ap, subst, ◌∙◌, append_assoc, arith}
+use Rattle.std.proofs.Common.{◌≡◌, ◌⊎◌, inl, inr, ℕ, ◌+◌, ◌^◌, ◌<◌, Bool, true, false, cond, List, [], ◌∷◌, ◌++◌, Result, Ok, Err, length, refl, sym, ap, subst, ◌∙◌, append_assoc, arith}
 use Rattle.std.specs.Prelude.{codes}
-use Rattle.std.specs.List.{list_all, flat_map}
-use Rattle.std.specs.FinMap.{get, insert, empty, entries, len, len-entries}
+use Rattle.std.specs.List.{list_all}
+use Rattle.std.specs.FinMap.{empty, entries, len, len-entries}
 use Rattle.nntp_wire.specs.Decided.{is_group_name, is_message_id}
 use Rattle.nntp_article.specs.Article.{Line, Id}
 use Rattle.nntp_article.specs.Spool.{Profile, Name, Spool, Numbers, Text, is_line}
 use Rattle.nntp_spool.specs.declared.read_fault.ReadFault.{ReadFault}
 use Rattle.nntp_spool.specs.declared.read_fault.Kind.TheVariants as kinds
-use Rattle.nntp_spool.specs.Text.{number_line, group_line, article_line, barred, group_lines, article_lines}
-use Rattle.nntp_spool.specs.Reading.{◌>>=◌, fault, shaped, Place, Turn, On, Done, Item, Group, Article, End, line_at, next_line, words_of, item_of, is_last, repeat, number_at, numbers_at, content_at, contents_at, with_group, with_article, group_at, article_at, item_then, item_at, fits_head, ids_have_articles}
-use Rattle.nntp_spool.specs.Ascending.{number_lines, with_all}
+use Rattle.nntp_spool.specs.Text.{group_line, article_line, barred, group_lines, article_lines}
+use Rattle.nntp_spool.specs.Reading.{◌>>=◌, fault, shaped, Place, Turn, On, Done, Item, Group, Article, End, line_at, next_line, words_of, item_of, is_last, numbers_at, contents_at, with_group, with_article, group_at, article_at, item_then, item_at, fits_head, ids_have_articles}
+use Rattle.nntp_spool.specs.Ascending.{number_lines}
 use Rattle.nntp_spool.specs.Content.{AreNumbers, IsNamed, IsArticle}
 use Rattle.nntp_spool.proofs.Names.{name-lacks, name-some, id-lacks, id-some}
 use Rattle.nntp_spool.proofs.Words.{item-group_line, item-article_line, ItemLine, item_line}
@@ -45,9 +45,9 @@ group_takes profile line name count S p x le e =
       last = b.0;
       made = sym (ap (λ (y : Spool × Place). y.0) same);
       parts = ap (λ (t : List Line). group_line name count ∷ t) taken.4
-        ∙ ap (λ (n : ℕ). group_line name n ∷ (number_lines es ++ c.0.1.parts)) counted
-        ∙ ap (λ (fs : List (ℕ × List ℕ)). group_line name (len c.0.0) ∷ (number_lines fs ++ c.0.1.parts)) (sym listed)
-        ∙ ap (λ (y : Spool × Place). group_lines (name, c.0.0) ++ y.1.parts) same;
+          ∙ ap (λ (n : ℕ). group_line name n ∷ (number_lines es ++ c.0.1.parts)) counted
+          ∙ ap (λ (fs : List (ℕ × List ℕ)). group_line name (len c.0.0) ∷ (number_lines fs ++ c.0.1.parts)) (sym listed)
+          ∙ ap (λ (y : Spool × Place). group_lines (name, c.0.0) ++ y.1.parts) same;
     }
 
 record ArticleTaken (id : Id) (heads bodies : ℕ) (S : Spool) (p : Place) (x : Spool × Place) : Type 0 where
@@ -76,12 +76,12 @@ article_takes line id heads bodies S p x e =
       last = b.0;
       made = sym (ap (λ (y : Spool × Place). y.0) same);
       parts = ap (λ (t : List Line). article_line id heads bodies ∷ t) (h.4 ∙ ap (λ (t : List Line). barred h.0 ++ t) k.4)
-        ∙ ap (λ (n : ℕ). article_line id n bodies ∷ (barred h.0 ++ (barred k.0 ++ d.0.1.parts))) (sym h.2 ∙ ap length (sym h.3))
-        ∙ ap (λ (n : ℕ). article_line id (length text.head) n ∷ (barred h.0 ++ (barred k.0 ++ d.0.1.parts))) (sym k.2 ∙ ap length (sym k.3))
-        ∙ ap (λ (t : List Line). article_line id (length text.head) (length text.body) ∷ (barred t ++ (barred k.0 ++ d.0.1.parts))) (sym h.3)
-        ∙ ap (λ (t : List Line). article_line id (length text.head) (length text.body) ∷ (barred text.head ++ (barred t ++ d.0.1.parts))) (sym k.3)
-        ∙ ap (λ (t : List Line). article_line id (length text.head) (length text.body) ∷ t) (sym (append_assoc (barred text.head) (barred text.body) d.0.1.parts))
-        ∙ ap (λ (y : Spool × Place). article_lines (id, text) ++ y.1.parts) same;
+          ∙ ap (λ (n : ℕ). article_line id n bodies ∷ (barred h.0 ++ (barred k.0 ++ d.0.1.parts))) (sym h.2 ∙ ap length (sym h.3))
+          ∙ ap (λ (n : ℕ). article_line id (length text.head) n ∷ (barred h.0 ++ (barred k.0 ++ d.0.1.parts))) (sym k.2 ∙ ap length (sym k.3))
+          ∙ ap (λ (t : List Line). article_line id (length text.head) (length text.body) ∷ (barred t ++ (barred k.0 ++ d.0.1.parts))) (sym h.3)
+          ∙ ap (λ (t : List Line). article_line id (length text.head) (length text.body) ∷ (barred text.head ++ (barred t ++ d.0.1.parts))) (sym k.3)
+          ∙ ap (λ (t : List Line). article_line id (length text.head) (length text.body) ∷ t) (sym (append_assoc (barred text.head) (barred text.body) d.0.1.parts))
+          ∙ ap (λ (y : Spool × Place). article_lines (id, text) ++ y.1.parts) same;
     }
   where
     fitting : {A : Type 0} (b : Bool) (d : ReadFault) (r : Result A ReadFault) (y : A) → cond b r (Err d) ≡ Ok y → (b ≡ true) × (r ≡ Ok y)
@@ -174,7 +174,7 @@ group_again profile line at S name N next parts le named last =
     let all = with_all-entries profile N named.numbers in
     let again = numbers_again profile line (entries N) next parts empty le all.0 in
     let read : numbers_at profile (len N) (record { line = line; parts = number_lines (entries N) ++ next ∷ parts }) ≡ done (N, record { line = again.0; parts = next ∷ parts })
-        = ap (λ (n : ℕ). numbers_at profile n (record { line = line; parts = number_lines (entries N) ++ next ∷ parts })) (len-entries N) ∙ again.1 ∙ ap (λ (M : Numbers). done (M, record { line = again.0; parts = next ∷ parts })) all.1 in
+    = ap (λ (n : ℕ). numbers_at profile n (record { line = line; parts = number_lines (entries N) ++ next ∷ parts })) (len-entries N) ∙ again.1 ∙ ap (λ (M : Numbers). done (M, record { line = again.0; parts = next ∷ parts })) all.1 in
     (again.0, rw (named.is_name, last, read) refl)
 
 article_again : (line at : ℕ) (S : Spool) (id : Id) (t : Text) (next : Line) (parts : List Line) → IsArticle id t → is_last S.articles id ≡ true
@@ -185,7 +185,7 @@ article_again line at S id t next parts is last =
     let head = contents_again line t.head body_first.0 body_first.1 [] is.head_lines in
     let body = contents_again head.0 t.body next parts [] is.body_lines in
     let read_head : contents_at (length t.head) (record { line = line; parts = barred t.head ++ (barred t.body ++ next ∷ parts) }) ≡ done (t.head, record { line = head.0; parts = barred t.body ++ next ∷ parts })
-        = ap (λ (ps : List Line). contents_at (length t.head) (record { line = line; parts = barred t.head ++ ps })) body_first.2 ∙ head.1 ∙ ap (λ (ps : List Line). done (t.head, record { line = head.0; parts = ps })) (sym body_first.2) in
+    = ap (λ (ps : List Line). contents_at (length t.head) (record { line = line; parts = barred t.head ++ ps })) body_first.2 ∙ head.1 ∙ ap (λ (ps : List Line). done (t.head, record { line = head.0; parts = ps })) (sym body_first.2) in
     (body.0, rw (is.is_id, last, read_head, body.1, is.head) refl)
 
 pub item_group_again : (profile : Profile) (line : ℕ) (S : Spool) (name : Name) (N : Numbers) (next : Line) (parts : List Line) → profile.limit < 2 ^ 64 → len N < 2 ^ 64 → IsNamed profile name N → is_last S.groups name ≡ true

@@ -1,6 +1,5 @@
 -- Entries in the order of their keys.
-use Rattle.std.proofs.Common.{◌≡◌, ◌⊎◌, inl, inr, ℕ, Bool, true, false, cond, T, IsTrue, List, [], ◌∷◌, ◌++◌, Option, None, Some, refl, sym, ap, subst, ◌∙◌}
-use Rattle.std.specs.Prelude.{◌&&◌}
+use Rattle.std.proofs.Common.{◌≡◌, ◌⊎◌, inl, inr, Bool, true, false, cond, T, List, [], ◌∷◌, ◌++◌, Option, None, Some, refl, sym, ap, subst, ◌∙◌}
 use Rattle.std.specs.declared.cmp.Ordering.{Ordering}
 use Rattle.std.specs.declared.cmp.Ordering.TheVariants.{Less, Equal, Greater}
 use Rattle.std.specs.Ordering.{is_lt, is_eq, eq_by_cmp, ordering_reverse}
@@ -8,7 +7,7 @@ use Rattle.std.specs.Cmp.{IsTotalOrder, eq_by_cmp_equiv}
 use Rattle.std.specs.List.{list_all, AllByRecursion}
 use Rattle.std.specs.FinMap.{FinMap, get, entries, insert, put, find, is_sorted, entries-insert, get-insert, entries_sorted, get-entries, IsAntisymmetric}
 use Rattle.std.specs.FinMap.Entries.{below_all}
-use Rattle.std.proofs.lemmas.Bool.{true≢false, and_parts}
+use Rattle.std.proofs.lemmas.Bool.{and_parts}
 use Rattle.nntp_spool.specs.Reading.{is_last}
 
 pub is_passed : (b : Bool) → T b → b ≡ true
@@ -108,9 +107,11 @@ module _ {K X : Type 0} {R : K → K → Ordering} (o : IsTotalOrder R) where
       where
         both : (below_all R e.0 es ≡ true) × (is_sorted R es ≡ true)
         both = and_parts (below_all R e.0 es) (is_sorted R es) sorted
+
         other : (k : K) (v : X) (b : Bool) → eq_by_cmp R k e.0 ≡ b → find R k es ≡ Some v → b ≡ false
         other k v true t f = absurd (some_none v (sym f ∙ ap (λ (q : K). find R q es) (same k e.0 (equal_is (R k e.0) t)) ∙ find_below e.0 es both.0))
         other k v false t f = refl
+
         behind : (k : K) (v : X) → find R k es ≡ Some v → P k v
         behind k v f = h k v (rw (other k v (eq_by_cmp R k e.0) refl f) f)
 

@@ -1,5 +1,5 @@
 -- Numbers that follow one another are numbers of a group, and the other way round.
-use Rattle.std.proofs.Common.{◌≡◌, ◌⊎◌, inl, inr, ℕ, Bool, true, false, List, [], ◌∷◌, ◌++◌, None, Some, length, refl, sym, ap, subst, ◌∙◌, append_assoc}
+use Rattle.std.proofs.Common.{◌≡◌, ◌⊎◌, inl, inr, ℕ, Bool, true, false, List, [], ◌∷◌, ◌++◌, None, Some, refl, sym, ap, ◌∙◌, append_assoc}
 use Rattle.std.specs.Prelude.{◌||◌, bytes_eq}
 use Rattle.std.specs.List.{list_all, list_any, AllByRecursion}
 use Rattle.std.specs.Ordering.{nat_cmp, is_lt, eq_by_cmp}
@@ -12,9 +12,9 @@ use Rattle.nntp_wire.specs.Decided.{is_message_id}
 use Rattle.nntp_article.specs.Machine.{is_num}
 use Rattle.nntp_article.specs.Spool.{Profile, Numbers}
 use Rattle.nntp_spool.specs.Reading.{has_id, is_last}
-use Rattle.nntp_spool.specs.Ascending.{Follows, AllFollow, with_all}
+use Rattle.nntp_spool.specs.Ascending.{AllFollow, with_all}
 use Rattle.nntp_spool.specs.Content.{AreNumbers}
-use Rattle.nntp_spool.proofs.Keys.{is_passed, some_is, less_before, find_middle, find_front, got_all, all_got, entries-insert_last, apart, tied_itself, got_more}
+use Rattle.nntp_spool.proofs.Keys.{is_passed, less_before, find_middle, find_front, got_all, all_got, entries-insert_last, apart, tied_itself, got_more}
 use Rattle.nntp_spool.proofs.NumberLaws.{entries-with_all}
 
 either_false : (a b : Bool) → (a || b) ≡ false → (a ≡ false) × (b ≡ false)
@@ -62,6 +62,7 @@ one_more profile N n id a num is_id fresh =
     each_is : (q : ℕ) (x : List ℕ) → ((q ≡ n) × (x ≡ id)) ⊎ (get N q ≡ Some x) → (is_num profile q ≡ true) × (is_message_id x ≡ true)
     each_is q x (inl e) = (ap (is_num profile) e.0 ∙ num, ap is_message_id e.1 ∙ is_id)
     each_is q x (inr g) = a.each q x g
+
     one_is : (q m : ℕ) (x : List ℕ) → ((q ≡ n) × (x ≡ id)) ⊎ (get N q ≡ Some x) → ((m ≡ n) × (x ≡ id)) ⊎ (get N m ≡ Some x) → q ≡ m
     one_is q m x (inl e) (inl d) = e.0 ∙ sym d.0
     one_is q m x (inl e) (inr h) = absurd (fresh_id N id fresh m (h ∙ ap Some e.1))
@@ -78,8 +79,10 @@ numbers_follow profile N M (x ∷ es) e a = (record { num = (a.each x.0 x.1 here
   where
     last : is_last N x.0 ≡ true
     last = less_before nat_cmp_total (entries N) x es (ap (is_sorted nat_cmp) (sym e) ∙ is_passed _ (entries_sorted M))
+
     here : get M x.0 ≡ Some x.1
     here = get-entries M x.0 ∙ ap (find nat_cmp x.0) e ∙ find_middle nat_cmp_total (entries N) x es last
+
     other : (k : ℕ) (v : List ℕ) (b : Bool) → get N k ≡ Some v → bytes_eq v x.1 ≡ b → b ≡ false
     other k v false g t = refl
     other k v true g t =
@@ -87,8 +90,10 @@ numbers_follow profile N M (x ∷ es) e a = (record { num = (a.each x.0 x.1 here
         let same : k ≡ x.0 = a.one_to_one k x.0 x.1 (there ∙ ap Some ((bytes_eq-Decides v x.1).0 t)) here in
         let less = all_got nat_cmp_total nat_cmp-IsAntisymmetric (λ q w. is_lt (nat_cmp q x.0) ≡ true) N (all_passed (λ f. is_lt (nat_cmp f.0 x.0)) (entries N) last) k v g in
         absurd (true≢false (sym (tied_itself nat_cmp_total k) ∙ ap (λ q. eq_by_cmp nat_cmp q k) same ∙ apart nat_cmp_total k x.0 less))
+
     fresh : has_id N x.1 ≡ false
     fresh = any_none (λ f. bytes_eq f.1 x.1) (entries N) (got_all nat_cmp_total nat_cmp-IsAntisymmetric (λ k v. bytes_eq v x.1 ≡ false) N (λ k v g. other k v (bytes_eq v x.1) g refl))
+
     behind : entries M ≡ entries (insert N x.0 x.1) ++ es
     behind = (e ∙ sym (append_assoc (entries N) (x ∷ []) es) ∙ ap (λ fs. fs ++ es) (sym (entries-insert_last nat_cmp_total N x.0 x.1 last)))
 

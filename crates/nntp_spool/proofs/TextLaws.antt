@@ -1,9 +1,8 @@
 -- A text that is read is that of the spool it is read as, and the text of a spool is read as this spool.
-use Rattle.std.proofs.Common.{◌≡◌, ◌⊎◌, inl, inr, ℕ, zero, suc, ◌+◌, ◌^◌, ◌<◌, ◌≤◌, Bool, true, false, cond, eqb, List, [], ◌∷◌, ◌++◌, Option, Some, Result, Ok, Err, length, refl, sym, ap, subst, ◌∙◌, append_assoc, arith, length-append}
-use Rattle.std.specs.Prelude.{codes, bytes_eq, ◌&&◌}
+use Rattle.std.proofs.Common.{◌≡◌, inl, inr, ℕ, zero, suc, ◌+◌, ◌^◌, ◌<◌, Bool, true, false, cond, List, [], ◌∷◌, ◌++◌, Some, Result, Ok, Err, length, refl, sym, ap, subst, ◌∙◌, append_assoc, arith}
+use Rattle.std.specs.Prelude.{codes, bytes_eq}
 use Rattle.std.specs.declared.cmp.Ordering.{Ordering}
 use Rattle.std.specs.Ordering.{nat_cmp, is_lt}
-use Rattle.std.specs.Cmp.{IsTotalOrder}
 use Rattle.std.specs.Cmp.Lexicographic.{slice_cmp, nat_list_cmp_total}
 use Rattle.std.specs.List.{list_all, flat_map, AllByRecursion, join_with_byte}
 use Rattle.std.specs.FinMap.{FinMap, get, insert, empty, entries, len, find, is_sorted, entries_sorted, get-entries, len-empty, len-entries, same_entries_map, IsAntisymmetric, slice_cmp-IsAntisymmetric, nat_cmp-IsAntisymmetric}
@@ -12,16 +11,16 @@ use Rattle.std.proofs.lemmas.List.{append-nil, nil_from_length}
 use Rattle.std.proofs.lemmas.List.Splits.{join_with_byte-slice_split}
 use Rattle.std.proofs.lemmas.Slice.Eq.{bytes_eq-Decides}
 use Rattle.nntp_article.specs.Article.{Line, Id, is_empty}
-use Rattle.nntp_article.specs.Spool.{Profile, Name, Spool, Numbers, Text, is_line}
+use Rattle.nntp_article.specs.Spool.{Profile, Name, Spool, Numbers, Text}
 use Rattle.nntp_spool.specs.declared.read_fault.ReadFault.{ReadFault}
 use Rattle.nntp_spool.specs.declared.read_fault.Kind.TheVariants as kinds
 use Rattle.nntp_spool.specs.Text.{group_lines, article_lines, spool_lines, spool_text, ended}
-use Rattle.nntp_spool.specs.Reading.{◌>>=◌, fault, Place, Turn, On, Done, line_at, parts_of, is_last, with_group, with_article, no_spool, item_at, items_at, turn_then, is_end, spool_at, ids_have_articles}
+use Rattle.nntp_spool.specs.Reading.{◌>>=◌, fault, Place, Turn, line_at, parts_of, is_last, with_group, with_article, no_spool, item_at, items_at, turn_then, is_end, spool_at, ids_have_articles}
 use Rattle.nntp_spool.specs.Content.{IsNamed, IsArticle, IsContent}
 use Rattle.nntp_spool.proofs.Shown.{spool_is}
 use Rattle.nntp_spool.proofs.Keys.{is_passed, less_before, find_middle, all_got, entries-insert_last}
 use Rattle.nntp_spool.proofs.NumberLaws.{bind_ok, ok_is, done, line_takes}
-use Rattle.nntp_spool.proofs.ItemLaws.{TakenItem, item_takes, line_again, item_group_again, item_article_again, item_end_again}
+use Rattle.nntp_spool.proofs.ItemLaws.{TakenItem, item_takes, item_group_again, item_article_again, item_end_again}
 
 pub octet_keys : IsAntisymmetric (slice_cmp nat_cmp)
 octet_keys = slice_cmp-IsAntisymmetric nat_cmp-IsAntisymmetric
@@ -73,7 +72,7 @@ items_take profile (suc most) articles S p x le e =
           with_texts = rest.with_texts ∙ ap (λ (t : List (Id × Text)). t ++ rest.texts) (entries-insert_last nat_list_cmp_total S.articles a.id a.text a.last) ∙ append_assoc (entries S.articles) ((a.id, a.text) ∷ []) rest.texts;
           known = rest.known;
           parts = a.parts ∙ ap (λ (t : List Line). article_lines (a.id, a.text) ++ t) (rest.parts ∙ ap (λ (t : List (Name × Numbers)). flat_map group_lines t ++ (flat_map article_lines rest.texts ++ codes "end" ∷ x.1.parts)) none)
-            ∙ sym (append_assoc (article_lines (a.id, a.text)) (flat_map article_lines rest.texts) (codes "end" ∷ x.1.parts));
+              ∙ sym (append_assoc (article_lines (a.id, a.text)) (flat_map article_lines rest.texts) (codes "end" ∷ x.1.parts));
         }
     taken turn (inr (inr d)) f more =
         let same : ◌≡◌ {A = Spool × Place} (S, d.next) x = ok_is (S, d.next) x (ap (turn_then (items_at profile most)) (sym d.is) ∙ f) in
@@ -136,13 +135,13 @@ text_takes profile bytes S le e =
     let groups : entries S.groups ≡ t.groups = ap (λ (T : Spool). entries T.groups) (sym same) ∙ t.with_groups ∙ ap (λ (es : List (Name × Numbers)). es ++ t.groups) (no_entries (slice_cmp nat_cmp)) in
     let texts : entries S.articles ≡ t.texts = ap (λ (T : Spool). entries T.articles) (sym same) ∙ t.with_texts ∙ ap (λ (es : List (Id × Text)). es ++ t.texts) (no_entries (slice_cmp nat_cmp)) in
     let lines : parts_of bytes ≡ spool_lines S ++ [] ∷ [] =
-        line_takes start a.0 a.1 ∙ ap (λ (l : Line). l ∷ a.0.1.parts) ((bytes_eq-Decides a.0.0 (codes "spool 1")).0 c.0)
-        ∙ ap (λ (ps : List Line). codes "spool 1" ∷ ps) (t.parts
-        ∙ ap (λ (ps : List Line). flat_map group_lines t.groups ++ (flat_map article_lines t.texts ++ codes "end" ∷ ps)) (end_is b.0.1.parts d.0)
-        ∙ ap (λ (es : List (Name × Numbers)). flat_map group_lines es ++ (flat_map article_lines t.texts ++ codes "end" ∷ [] ∷ [])) (sym groups)
-        ∙ ap (λ (es : List (Id × Text)). flat_map group_lines (entries S.groups) ++ (flat_map article_lines es ++ codes "end" ∷ [] ∷ [])) (sym texts)
-        ∙ ap (λ (ps : List Line). flat_map group_lines (entries S.groups) ++ ps) (sym (append_assoc (flat_map article_lines (entries S.articles)) (codes "end" ∷ []) ([] ∷ [])))
-        ∙ sym (append_assoc (flat_map group_lines (entries S.groups)) (flat_map article_lines (entries S.articles) ++ codes "end" ∷ []) ([] ∷ []))) in
+    line_takes start a.0 a.1 ∙ ap (λ (l : Line). l ∷ a.0.1.parts) ((bytes_eq-Decides a.0.0 (codes "spool 1")).0 c.0)
+    ∙ ap (λ (ps : List Line). codes "spool 1" ∷ ps) (t.parts
+    ∙ ap (λ (ps : List Line). flat_map group_lines t.groups ++ (flat_map article_lines t.texts ++ codes "end" ∷ ps)) (end_is b.0.1.parts d.0)
+    ∙ ap (λ (es : List (Name × Numbers)). flat_map group_lines es ++ (flat_map article_lines t.texts ++ codes "end" ∷ [] ∷ [])) (sym groups)
+    ∙ ap (λ (es : List (Id × Text)). flat_map group_lines (entries S.groups) ++ (flat_map article_lines es ++ codes "end" ∷ [] ∷ [])) (sym texts)
+    ∙ ap (λ (ps : List Line). flat_map group_lines (entries S.groups) ++ ps) (sym (append_assoc (flat_map article_lines (entries S.articles)) (codes "end" ∷ []) ([] ∷ [])))
+    ∙ sym (append_assoc (flat_map group_lines (entries S.groups)) (flat_map article_lines (entries S.articles) ++ codes "end" ∷ []) ([] ∷ []))) in
     record {
       content = record {
         groups = all_got nat_list_cmp_total octet_keys (λ name N. IsNamed profile name N) S.groups (subst (AllByRecursion (λ g. IsNamed profile g.0 g.1)) (sym groups) t.named);
@@ -199,13 +198,12 @@ module _ (profile : Profile) (F : Spool) (le : profile.limit < 2 ^ 64) (content 
       let front = first_tail texts in
       let one = item_article_again profile line articles S a.0 a.1 front.0 front.1 size.0 size.1 (content.articles a.0 a.1 at.here) at.less in
       let split : tail_lines (a ∷ texts) ≡ article_lines a ++ front.0 ∷ front.1 = append_assoc (article_lines a) (flat_map article_lines texts) (codes "end" ∷ [] ∷ []) ∙ ap (λ (ps : List Line). article_lines a ++ ps) front.2 in
-      let rest = texts_again most one.0 true (with_article S a.0 a.1) texts g (next_entry S.articles F.articles a.0 a.1 texts t at.less) (omega arith) in
-      (
+      let rest = texts_again most one.0 true (with_article S a.0 a.1) texts g (next_entry S.articles F.articles a.0 a.1 texts t at.less) (omega arith) in (
         rest.0,
         ap (λ (ps : List Line). items_at profile (suc most) articles S (record { line = line; parts = ps })) split
-        ∙ ap (λ (r : Result Turn ReadFault). r >>= turn_then (items_at profile most)) one.1
-        ∙ ap (λ (ps : List Line). items_at profile most true (with_article S a.0 a.1) (record { line = one.0; parts = ps })) (sym front.2)
-        ∙ rest.1,
+            ∙ ap (λ (r : Result Turn ReadFault). r >>= turn_then (items_at profile most)) one.1
+            ∙ ap (λ (ps : List Line). items_at profile most true (with_article S a.0 a.1) (record { line = one.0; parts = ps })) (sym front.2)
+            ∙ rest.1,
       )
 
   pub groups_again : (most line : ℕ) (S : Spool) (groups : List (Name × Numbers)) (texts : List (Id × Text)) → entries F.groups ≡ entries S.groups ++ groups → entries F.articles ≡ entries S.articles ++ texts
@@ -217,11 +215,10 @@ module _ (profile : Profile) (F : Spool) (le : profile.limit < 2 ^ 64) (content 
       let front = first_lines groups texts in
       let one = item_group_again profile line S n.0 n.1 front.0 front.1 le (sizes.counts n.0 n.1 at.here) (content.groups n.0 n.1 at.here) at.less in
       let split : flat_map group_lines (n ∷ groups) ++ tail_lines texts ≡ group_lines n ++ front.0 ∷ front.1 = append_assoc (group_lines n) (flat_map group_lines groups) (tail_lines texts) ∙ ap (λ (ps : List Line). group_lines n ++ ps) front.2 in
-      let rest = groups_again most one.0 (with_group S n.0 n.1) groups texts (next_entry S.groups F.groups n.0 n.1 groups g at.less) t (omega arith) in
-      (
+      let rest = groups_again most one.0 (with_group S n.0 n.1) groups texts (next_entry S.groups F.groups n.0 n.1 groups g at.less) t (omega arith) in (
         rest.0,
         ap (λ (ps : List Line). items_at profile (suc most) false S (record { line = line; parts = ps })) split
-        ∙ ap (λ (r : Result Turn ReadFault). r >>= turn_then (items_at profile most)) one.1
-        ∙ ap (λ (ps : List Line). items_at profile most false (with_group S n.0 n.1) (record { line = one.0; parts = ps })) (sym front.2)
-        ∙ rest.1,
+            ∙ ap (λ (r : Result Turn ReadFault). r >>= turn_then (items_at profile most)) one.1
+            ∙ ap (λ (ps : List Line). items_at profile most false (with_group S n.0 n.1) (record { line = one.0; parts = ps })) (sym front.2)
+            ∙ rest.1,
       )

@@ -1,7 +1,7 @@
 -- A session, exchange by exchange.
 use Rattle.std.specs.Prelude.{◌==◌}
-use Rattle.std.proofs.Common.{◌≡◌, ◌⊎◌, inl, inr, Bool, true, false, cond, ℕ, ◌+◌, List, [], ◌∷◌, ◌++◌, Option, None, Some, length, refl, sym, ap, subst, ◌∙◌, arith, length-append}
-use Rattle.nntp_wire.specs.Answer.{Asked, greeting, to, success_code, kind_of, SaysByLines, SaysActive, SaysNumbers, SaysCapabilities, Response, group_is, numbers_are, sends, active_are, plain, Spells, Says}
+use Rattle.std.proofs.Common.{◌≡◌, ◌⊎◌, inl, inr, Bool, true, false, cond, ℕ, ◌+◌, List, [], ◌∷◌, ◌++◌, Option, None, Some, length, refl, sym, ap, subst, ◌∙◌, length-append}
+use Rattle.nntp_wire.specs.Answer.{Asked, greeting, to, success_code, kind_of, SaysByLines, SaysActive, SaysNumbers, SaysCapabilities, Response, group_is, numbers_are, sends, active_are, plain, Says}
 use Rattle.nntp_wire.specs.Listing.{AreActiveLines}
 use Rattle.nntp_wire.specs.Command.{Request, capabilities, mode_reader, next, last, quit, opaque, ill_formed, group, list_group, retrieve, list_active}
 use Rattle.nntp_pair.specs.Pairing.{Paired, Unpaired, IsNext, AreNext, Ends, bad, IsSpelled, asked_at, streams}
@@ -27,12 +27,15 @@ says-listing (to request) code bytes block lines s = by request s
     listed : (block : Option (List (List ℕ))) → SaysByLines SaysActive block (active_are lines) → AreActiveLines lines
     listed None s = absurd s
     listed (Some sent) s = subst AreActiveLines (sym s.1) s.0
+
     not_numbers : (block : Option (List (List ℕ))) → SaysByLines (SaysNumbers bytes) block (active_are lines) → ⊥
     not_numbers None s = s
     not_numbers (Some sent) s = s
+
     not_capabilities : (block : Option (List (List ℕ))) → SaysByLines (SaysCapabilities code) block (active_are lines) → ⊥
     not_capabilities None s = s
     not_capabilities (Some sent) s = s.1
+
     by : (request : Request) → Says (kind_of (to request) code) code bytes block (active_are lines) → AreActiveLines lines
     by (group name) s = elim (one_of (λ k. Says k code bytes block (active_are lines)) (code == 211) _ _ s) [ inl p ↦ absurd p | inr p ↦ absurd p ]
     by (list_group name range) s = elim (one_of (λ k. Says k code bytes block (active_are lines)) (code == 211) _ _ s) [ inl p ↦ absurd (not_numbers block p) | inr p ↦ absurd p ]

@@ -1,13 +1,13 @@
 -- The text of a whole spool is read as this spool.
-use Rattle.std.proofs.Common.{◌≡◌, ℕ, zero, suc, ◌+◌, ◌^◌, ◌<◌, ◌≤◌, Bool, true, false, cond, eqb, List, [], ◌∷◌, ◌++◌, Option, Some, Result, Ok, Err, length, map, refl, sym, ap, subst, ◌∙◌, append_assoc, arith, length-append}
-use Rattle.std.specs.Prelude.{codes, ◌&&◌, ◌||◌, not, nat_lt}
+use Rattle.std.proofs.Common.{◌≡◌, ℕ, ◌+◌, ◌^◌, ◌<◌, ◌≤◌, Bool, true, false, eqb, List, [], ◌∷◌, ◌++◌, Ok, length, map, refl, sym, ap, ◌∙◌, append_assoc, arith, length-append}
+use Rattle.std.specs.Prelude.{codes, ◌||◌, not, nat_lt}
 use Rattle.std.specs.Fmt.{decimal}
 use Rattle.std.specs.Ordering.{nat_cmp}
 use Rattle.std.specs.Cmp.{nat_cmp_total}
 use Rattle.std.specs.Cmp.Lexicographic.{slice_cmp, nat_list_cmp_total}
 use Rattle.std.specs.List.{list_all, flat_map, AllByRecursion}
-use Rattle.std.specs.FinMap.{get, entries, len, len-entries, nat_cmp-IsAntisymmetric}
-use Rattle.std.proofs.lemmas.Bool.{true≢false, and_from, and_parts}
+use Rattle.std.specs.FinMap.{entries, len, len-entries, nat_cmp-IsAntisymmetric}
+use Rattle.std.proofs.lemmas.Bool.{and_from, and_parts}
 use Rattle.std.proofs.lemmas.Bool.Decides.{nat_tests}
 use Rattle.std.proofs.lemmas.List.{length-map}
 use Rattle.std.proofs.lemmas.List.Folds.{list_all-append}
@@ -15,11 +15,9 @@ use Rattle.nntp_wire.specs.Octets.{is_clean, is_line_breaking}
 use Rattle.nntp_article.specs.Article.{Line, Id}
 use Rattle.nntp_article.specs.Spool.{Profile, Name, Spool, Numbers, Text, is_line}
 use Rattle.nntp_article.specs.Machine.{is_num}
-use Rattle.nntp_spool.specs.declared.read_fault.ReadFault.{ReadFault}
-use Rattle.nntp_spool.specs.declared.read_fault.Kind.TheVariants as kinds
 use Rattle.nntp_spool.specs.Text.{number_line, group_line, article_line, barred, group_lines, article_lines, spool_lines, spool_text, ended}
-use Rattle.nntp_spool.specs.Reading.{◌>>=◌, fault, Place, line_at, next_line, parts_of, no_spool, items_at, is_end, spool_at, ids_have_articles}
-use Rattle.nntp_spool.specs.Content.{AreNumbers, IsNamed, IsArticle, IsContent}
+use Rattle.nntp_spool.specs.Reading.{line_at, next_line, parts_of, no_spool, spool_at, ids_have_articles}
+use Rattle.nntp_spool.specs.Content.{IsNamed, IsArticle, IsContent}
 use Rattle.nntp_spool.proofs.Keys.{all_got, got_all}
 use Rattle.nntp_spool.proofs.Words.{lacks, lacks-append, lacks-digits, are_digits-decimal, parts_front, list_all_weaken}
 use Rattle.nntp_spool.proofs.Names.{name-lacks, id-lacks}
@@ -54,7 +52,7 @@ clean-group : (profile : Profile) (name : Name) (N : Numbers) → profile.limit 
 clean-group profile name N le small named =
     let first = spaced-lacks (codes "group") (name ++ 32 ∷ decimal (len N)) refl (spaced-lacks name (decimal (len N)) (name-lacks 10 name (omega arith) refl named.is_name) (decimal-lacks (len N) small)) in
     let each = got_all nat_cmp_total nat_cmp-IsAntisymmetric (λ n id. lacks 10 (number_line n id) ≡ true) N (λ n id g.
-        let is = named.numbers.each n id g in spaced-lacks (decimal n) id (decimal-lacks n (num-small profile n le is.0)) (id-lacks 10 id (omega arith) is.1)) in
+    let is = named.numbers.each n id g in spaced-lacks (decimal n) id (decimal-lacks n (num-small profile n le is.0)) (id-lacks 10 id (omega arith) is.1)) in
     and_from (lacks 10 (group_line name (len N))) (clean (map (λ e. number_line e.0 e.1) (entries N))) first (clean-map (λ e. number_line e.0 e.1) (entries N) each)
 
 line-lacks : (l : Line) → is_line l ≡ true → lacks 10 l ≡ true
@@ -69,7 +67,7 @@ line-lacks l h = let both = and_parts (is_clean l) (list_all (λ c. nat_lt c 256
 clean-article : (id : Id) (t : Text) → length t.head < 2 ^ 64 → length t.body < 2 ^ 64 → IsArticle id t → clean (article_lines (id, t)) ≡ true
 clean-article id t h b is =
     let first = spaced-lacks (codes "article") (id ++ 32 ∷ (decimal (length t.head) ++ 32 ∷ decimal (length t.body))) refl (spaced-lacks id (decimal (length t.head) ++ 32 ∷ decimal (length t.body)) (id-lacks 10 id (omega arith) is.is_id)
-        (spaced-lacks (decimal (length t.head)) (decimal (length t.body)) (decimal-lacks (length t.head) h) (decimal-lacks (length t.body) b))) in
+    (spaced-lacks (decimal (length t.head)) (decimal (length t.body)) (decimal-lacks (length t.head) h) (decimal-lacks (length t.body) b))) in
     and_from (lacks 10 (article_line id (length t.head) (length t.body))) (clean (barred t.head ++ barred t.body)) first (clean-append (barred t.head) (barred t.body) (barred-clean t.head is.head_lines) (barred-clean t.body is.body_lines))
   where
     barred-clean : (lines : List Line) → list_all is_line lines ≡ true → clean (barred lines) ≡ true
@@ -132,12 +130,12 @@ text_again profile F le content sizes known =
     let groups = entries F.groups in
     let texts = entries F.articles in
     let lines : parts_of (spool_text F) ≡ codes "spool 1" ∷ (flat_map group_lines groups ++ tail_lines texts) =
-        parts_of-ended (spool_lines F) (clean-text profile F le content sizes)
-        ∙ ap (λ (ps : List Line). codes "spool 1" ∷ ps) (append_assoc (flat_map group_lines groups) (flat_map article_lines texts ++ codes "end" ∷ []) ([] ∷ []) ∙ ap (λ (ps : List Line). flat_map group_lines groups ++ ps) (append_assoc (flat_map article_lines texts) (codes "end" ∷ []) ([] ∷ []))) in
+    parts_of-ended (spool_lines F) (clean-text profile F le content sizes)
+    ∙ ap (λ (ps : List Line). codes "spool 1" ∷ ps) (append_assoc (flat_map group_lines groups) (flat_map article_lines texts ++ codes "end" ∷ []) ([] ∷ []) ∙ ap (λ (ps : List Line). flat_map group_lines groups ++ ps) (append_assoc (flat_map article_lines texts) (codes "end" ∷ []) ([] ∷ []))) in
     let front = first_lines groups texts in
     let most : length groups + length texts < length (spool_text F) =
-        omega (arith, length-text F, enough group_lines groups (λ g. omega arith), enough article_lines texts (λ a. omega arith)) in
+    omega (arith, length-text F, enough group_lines groups (λ g. omega arith), enough article_lines texts (λ a. omega arith)) in
     let again = groups_again profile F le content sizes known (length (spool_text F)) 2 no_spool groups texts (ap (λ (es : List (Name × Numbers)). es ++ groups) (sym (no_entries (slice_cmp nat_cmp)))) (ap (λ (es : List (Id × Text)). es ++ texts) (sym (no_entries (slice_cmp nat_cmp)))) most in
     let line : line_at (record { line = 1; parts = parts_of (spool_text F) }) ≡ Ok (codes "spool 1", record { line = 2; parts = flat_map group_lines groups ++ tail_lines texts }) =
-        ap (next_line 1) lines ∙ ap (λ (ps : List Line). next_line 1 (codes "spool 1" ∷ ps)) front.2 ∙ ap (λ (ps : List Line). Ok (codes "spool 1", record { line = 2; parts = ps })) (sym front.2) in
+    ap (next_line 1) lines ∙ ap (λ (ps : List Line). next_line 1 (codes "spool 1" ∷ ps)) front.2 ∙ ap (λ (ps : List Line). Ok (codes "spool 1", record { line = 2; parts = ps })) (sym front.2) in
     rw (line, again.1) refl

@@ -165,10 +165,7 @@ impl<A: Allocator> Content<A> {
     }
 }
 
-fn is_after_names<A: Allocator>(
-    groups: &BTreeMap<Vec<u8, A>, Numbers<A>, A>,
-    name: &[u8],
-) -> bool
+fn is_after_names<A: Allocator>(groups: &BTreeMap<Vec<u8, A>, Numbers<A>, A>, name: &[u8]) -> bool
     ensures is { result ≡ list_all (λ e. is_lt (slice_cmp nat_cmp e.0.items name.now)) groups.now.entries }
     ensures ordered { IsOrdered (λ a b. slice_cmp nat_cmp a.items b.items) groups.now }
 {
@@ -200,9 +197,7 @@ fn knows_groups<A: Allocator>(
     ensures is { result ≡ list_all (λ e. all_known content.now e.1) groups.now.entries }
     ensures ordered { IsOrdered (λ a b. slice_cmp nat_cmp a.items b.items) groups.now }
 {
-    groups
-        .iter()
-        .all(|(_, numbers)| content.knows_all(numbers))
+    groups.iter().all(|(_, numbers)| content.knows_all(numbers))
 }
 
 fn sum_of_lens<A: Allocator>(groups: &BTreeMap<Vec<u8, A>, Numbers<A>, A>) -> u128

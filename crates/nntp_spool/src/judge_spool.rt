@@ -20,7 +20,12 @@ use std::alloc::Allocator;
 
 impl<A: Allocator + Copy> Session<A> {
     /// Whether the condition over the spool holds.
-    pub(crate) fn agrees(&self, spool: &Content<A>, prompt: &Prompt<'_>, answer: &Answer<'_>) -> bool
+    pub(crate) fn agrees(
+        &self,
+        spool: &Content<A>,
+        prompt: &Prompt<'_>,
+        answer: &Answer<'_>,
+    ) -> bool
         requires spool { IsSpool narrow spool.now }
         requires listing { IsListing (response answer.now) }
         requires fits { fits narrow self.now.visible (asked prompt.now) (response answer.now) ≡ true }
@@ -40,7 +45,15 @@ impl<A: Allocator + Copy> Session<A> {
                 high,
                 name,
                 block,
-            } => agrees_numbers(spool, prompt, *estimate, *low, *high, name.as_slice(), block),
+            } => agrees_numbers(
+                spool,
+                prompt,
+                *estimate,
+                *low,
+                *high,
+                name.as_slice(),
+                block,
+            ),
             Answer::Sent {
                 code,
                 number,
@@ -72,10 +85,28 @@ impl<A: Allocator + Copy> Session<A> {
         ensures { IsTrue result ↔ Agrees spool.now self.now (asked prompt.now) (sends (record { code = code; number = number; id = id.now; block = block.now })) }
     {
         match spool.group(self.selected_name()) {
-            Some(numbers) => agrees_sent(spool, numbers, self.current(), prompt, code, number, id, block),
+            Some(numbers) => agrees_sent(
+                spool,
+                numbers,
+                self.current(),
+                prompt,
+                code,
+                number,
+                id,
+                block,
+            ),
             None => {
                 let none = self.no_numbers();
-                agrees_sent(spool, &none, self.current(), prompt, code, number, id, block)
+                agrees_sent(
+                    spool,
+                    &none,
+                    self.current(),
+                    prompt,
+                    code,
+                    number,
+                    id,
+                    block,
+                )
             }
         }
     }
@@ -238,11 +269,7 @@ fn lists<A: Allocator>(spool: &Content<A>, name: &[u8], range: Range, block: &Bl
 }
 
 /// 215 to LIST ACTIVE.
-fn agrees_listing<A: Allocator>(
-    spool: &Content<A>,
-    prompt: &Prompt<'_>,
-    block: &Block<'_>,
-) -> bool
+fn agrees_listing<A: Allocator>(spool: &Content<A>, prompt: &Prompt<'_>, block: &Block<'_>) -> bool
     requires lines { AreActiveLines block.now }
     requires spool { IsSpool narrow spool.now }
     ensures { (s : State) → IsTrue result ↔ Agrees spool.now s (asked prompt.now) (active_are block.now) }

@@ -4,9 +4,9 @@
 mod active;
 mod agrees;
 pub mod article;
-mod content;
 mod builder;
 mod checks;
+mod content;
 mod fields;
 mod fits;
 mod judge;
@@ -25,18 +25,20 @@ pub mod spool_fault;
 mod tests;
 mod text;
 mod texts;
-mod verified;
 mod verification;
+#[cfg(test)]
+mod verification_tests;
+mod verified;
 mod watched;
 mod write;
 
-pub use limit::LIMIT;
 pub use article::Article;
-pub use read_fault::{Kind, ReadFault};
 pub use builder::SpoolBuilder;
+pub use limit::LIMIT;
+pub use read_fault::{Kind, ReadFault};
 pub use spool::{Counts, Spool};
 pub use spool_fault::SpoolFault;
-pub use verified::Verified;
 pub use verification::verify;
+pub use verified::Verified;
 pub use watched::Watched;
 pub use write::WriteFault;

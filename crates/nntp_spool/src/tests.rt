@@ -6,8 +6,7 @@ const TWO_NUMBERS: &[u8] =
     b"spool 1\ngroup g 2\n1 <w0@invented.invalid>\n4 <b@x>\narticle <b@x> 1 0\n|Message-ID: <b@x>\narticle <w0@invented.invalid> 1 0\n|Message-ID: <w0@invented.invalid>\nend\n";
 
 /// An article in no group, whose body has lines that begin with dots.
-const DOTTED_BODY: &[u8] =
-    b"spool 1\narticle <a@b> 1 3\n|Message-ID: <a@b>\n|.\n|..x\n|\nend\n";
+const DOTTED_BODY: &[u8] = b"spool 1\narticle <a@b> 1 3\n|Message-ID: <a@b>\n|.\n|..x\n|\nend\n";
 
 fn fault_of(rt: &HostRuntime, text: &[u8]) -> Option<ReadFault> {
     Spool::read(rt.alloc(), text).err()
