@@ -1,12 +1,11 @@
 -- The groups of lines, one after the other.
-use Rattle.std.proofs.Common.{◌≡◌, ℕ, zero, suc, ◌<◌, ◌≤◌, Bool, true, false, not, cond, IsTrue, IsSome, List, [], ◌∷◌, Option, None, Some, MatchOption, length, map, refl, sym, ap, subst, ◌∙◌, arith}
-use Rattle.std.specs.Prelude.{◌↔◌, ◌||◌, ◌&&◌, Contains, All, IfSome, is_some, unwrap_or, drop}
+use Rattle.std.proofs.Common.{◌≡◌, ℕ, zero, suc, ◌≤◌, Bool, true, false, not, IsTrue, IsSome, List, [], ◌∷◌, Option, None, Some, MatchOption, map, refl, sym, ap, subst, ◌∙◌, arith}
+use Rattle.std.specs.Prelude.{◌↔◌, ◌||◌, ◌&&◌, Contains, IfSome, is_some, drop}
 use Rattle.std.specs.List.{list_all, list_any, AllByRecursion}
 use Rattle.std.specs.Option.{option_map_or}
-use Rattle.std.specs.Ordering.{nat_cmp}
-use Rattle.std.specs.Cmp.Lexicographic.{slice_cmp, nat_list_cmp_total, bytes_decides}
-use Rattle.std.specs.FinMap.{get, empty, entries}
-use Rattle.std.proofs.lemmas.Bool.{true≢false, and_from, and_parts}
+use Rattle.std.specs.Cmp.Lexicographic.{nat_list_cmp_total, bytes_decides}
+use Rattle.std.specs.FinMap.{get, entries}
+use Rattle.std.proofs.lemmas.Bool.{true≢false}
 use Rattle.std.proofs.lemmas.List.Elements.{recursion_from_All, All-from_recursion}
 use Rattle.nntp_wire.specs.Decided.{is_group_name, matches_name}
 use Rattle.nntp_wire.specs.Wildmat.{MatchesName}
@@ -126,6 +125,7 @@ module _ (profile : Profile) (S : Spool) (is : IsSpool profile S) (p : Option (L
       value_of_some : (o : Option Numbers) → IsSome o → (N : Numbers) × (o ≡ Some N)
       value_of_some None h = absurd (true≢false (sym h))
       value_of_some (Some N) h = (N, refl)
+
       known : (name : Name) → IsGroup S name → is_listed p lines name ≡ true
       known name g = let N = value_of_some (get S.groups name) g in all_got nat_list_cmp_total octet_keys (λ name N. is_listed p lines name ≡ true) S.groups (all_passed (λ e. is_listed p lines e.0) (entries S.groups) listed) name N.0 N.1
 

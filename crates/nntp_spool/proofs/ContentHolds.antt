@@ -1,5 +1,5 @@
 -- What a builder adds leaves groups and articles that a spool may hold.
-use Rattle.std.proofs.Common.{◌≡◌, ◌⊎◌, inl, inr, ℕ, Bool, true, false, cond, not, List, Option, None, Some, is_some, is_none, refl, sym, ap, subst, ◌∙◌}
+use Rattle.std.proofs.Common.{◌≡◌, ◌⊎◌, inl, inr, ℕ, Bool, true, false, cond, not, Option, None, Some, is_some, is_none, refl, sym, ap, subst, ◌∙◌}
 use Rattle.std.specs.Prelude.{◌&&◌, unwrap_or}
 use Rattle.std.specs.List.{list_all}
 use Rattle.std.specs.Ordering.{nat_cmp}
@@ -10,7 +10,6 @@ use Rattle.nntp_wire.specs.Decided.{is_group_name, is_message_id}
 use Rattle.nntp_article.specs.Article.{Id}
 use Rattle.nntp_article.specs.Machine.{is_num}
 use Rattle.nntp_article.specs.Spool.{Profile, Name, Spool, Numbers, Text, numbers, is_line}
-use Rattle.nntp_spool.specs.declared.spool_fault.SpoolFault.{SpoolFault}
 use Rattle.nntp_spool.specs.declared.spool_fault.SpoolFault.TheVariants as faults
 use Rattle.nntp_spool.specs.Reading.{has_id, fits_head, with_group, with_article, no_spool}
 use Rattle.nntp_spool.specs.Building.{group_fault, number_fault, article_fault}

@@ -1,16 +1,16 @@
 -- A group and an article that are read are those that are written, and those that are written are read.
-use Rattle.std.proofs.Common.{◌≡◌, ◌⊎◌, inl, inr, ℕ, suc, ◌+◌, ◌^◌, ◌<◌, Bool, true, false, not, cond, List, [], ◌∷◌, ◌++◌, Option, Some, Result, Ok, Err, length, map, refl, sym, ap, subst, ◌∙◌, append_assoc, arith}
+use Rattle.std.proofs.Common.{◌≡◌, ◌⊎◌, inl, inr, ℕ, ◌+◌, ◌^◌, ◌<◌, Bool, true, false, cond, List, [], ◌∷◌, ◌++◌, Result, Ok, Err, length, refl, sym, ap, subst, ◌∙◌, append_assoc, arith}
 use Rattle.std.specs.Prelude.{codes}
-use Rattle.std.specs.List.{list_all, flat_map}
-use Rattle.std.specs.FinMap.{get, insert, empty, entries, len, len-entries}
+use Rattle.std.specs.List.{list_all}
+use Rattle.std.specs.FinMap.{empty, entries, len, len-entries}
 use Rattle.nntp_wire.specs.Decided.{is_group_name, is_message_id}
 use Rattle.nntp_article.specs.Article.{Line, Id}
 use Rattle.nntp_article.specs.Spool.{Profile, Name, Spool, Numbers, Text, is_line}
 use Rattle.nntp_spool.specs.declared.read_fault.ReadFault.{ReadFault}
 use Rattle.nntp_spool.specs.declared.read_fault.Kind.TheVariants as kinds
-use Rattle.nntp_spool.specs.Text.{number_line, group_line, article_line, barred, group_lines, article_lines}
-use Rattle.nntp_spool.specs.Reading.{◌>>=◌, fault, shaped, Place, Turn, On, Done, Item, Group, Article, End, line_at, next_line, words_of, item_of, is_last, repeat, number_at, numbers_at, content_at, contents_at, with_group, with_article, group_at, article_at, item_then, item_at, fits_head, ids_have_articles}
-use Rattle.nntp_spool.specs.Ascending.{number_lines, with_all}
+use Rattle.nntp_spool.specs.Text.{group_line, article_line, barred, group_lines, article_lines}
+use Rattle.nntp_spool.specs.Reading.{◌>>=◌, fault, shaped, Place, Turn, On, Done, Item, Group, Article, End, line_at, next_line, words_of, item_of, is_last, numbers_at, contents_at, with_group, with_article, group_at, article_at, item_then, item_at, fits_head, ids_have_articles}
+use Rattle.nntp_spool.specs.Ascending.{number_lines}
 use Rattle.nntp_spool.specs.Content.{AreNumbers, IsNamed, IsArticle}
 use Rattle.nntp_spool.proofs.Names.{name-lacks, name-some, id-lacks, id-some}
 use Rattle.nntp_spool.proofs.Words.{item-group_line, item-article_line, ItemLine, item_line}

@@ -22,3 +22,4 @@ pub mod Firsts
 pub mod Ascends
 pub mod Walks
 pub mod ActiveLemmas
+pub mod VerifyLemmas

@@ -1,5 +1,5 @@
 -- Numbers that follow one another are numbers of a group, and the other way round.
-use Rattle.std.proofs.Common.{◌≡◌, ◌⊎◌, inl, inr, ℕ, Bool, true, false, List, [], ◌∷◌, ◌++◌, None, Some, length, refl, sym, ap, subst, ◌∙◌, append_assoc}
+use Rattle.std.proofs.Common.{◌≡◌, ◌⊎◌, inl, inr, ℕ, Bool, true, false, List, [], ◌∷◌, ◌++◌, None, Some, refl, sym, ap, ◌∙◌, append_assoc}
 use Rattle.std.specs.Prelude.{◌||◌, bytes_eq}
 use Rattle.std.specs.List.{list_all, list_any, AllByRecursion}
 use Rattle.std.specs.Ordering.{nat_cmp, is_lt, eq_by_cmp}
@@ -12,9 +12,9 @@ use Rattle.nntp_wire.specs.Decided.{is_message_id}
 use Rattle.nntp_article.specs.Machine.{is_num}
 use Rattle.nntp_article.specs.Spool.{Profile, Numbers}
 use Rattle.nntp_spool.specs.Reading.{has_id, is_last}
-use Rattle.nntp_spool.specs.Ascending.{Follows, AllFollow, with_all}
+use Rattle.nntp_spool.specs.Ascending.{AllFollow, with_all}
 use Rattle.nntp_spool.specs.Content.{AreNumbers}
-use Rattle.nntp_spool.proofs.Keys.{is_passed, some_is, less_before, find_middle, find_front, got_all, all_got, entries-insert_last, apart, tied_itself, got_more}
+use Rattle.nntp_spool.proofs.Keys.{is_passed, less_before, find_middle, find_front, got_all, all_got, entries-insert_last, apart, tied_itself, got_more}
 use Rattle.nntp_spool.proofs.NumberLaws.{entries-with_all}
 
 either_false : (a b : Bool) → (a || b) ≡ false → (a ≡ false) × (b ≡ false)

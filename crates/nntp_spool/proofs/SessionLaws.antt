@@ -1,9 +1,9 @@
 -- What a spool permits of a pairing is what it explains of the streams.
-use Rattle.std.proofs.Common.{◌≡◌, ℕ, zero, suc, ◌+◌, ◌<◌, Bool, true, false, List, [], ◌∷◌, ◌++◌, Option, None, Some, length, map, refl, sym, ap, subst, ◌∙◌, append_assoc, arith, length-append}
+use Rattle.std.proofs.Common.{◌≡◌, ℕ, suc, ◌+◌, ◌<◌, Bool, true, false, List, [], ◌∷◌, ◌++◌, Some, length, map, refl, sym, ap, subst, ◌∙◌, append_assoc, arith, length-append}
 use Rattle.std.specs.Prelude.{◌||◌}
-use Rattle.std.proofs.lemmas.List.{append-nil, length-map}
-use Rattle.nntp_wire.specs.Command.{Request, capabilities, mode_reader, next, last, quit, opaque, ill_formed, group, list_group, retrieve, list_active, request_of}
-use Rattle.nntp_wire.specs.Answer.{Asked, greeting, to, Response, group_is, numbers_are, sends, active_are, plain, Spells, WaterMarks}
+use Rattle.std.proofs.lemmas.List.{length-map}
+use Rattle.nntp_wire.specs.Command.{Request, mode_reader, quit, request_of}
+use Rattle.nntp_wire.specs.Answer.{Asked, greeting, to, Response, group_is, numbers_are, sends, active_are, plain, WaterMarks}
 use Rattle.nntp_wire.specs.Lines.{lines_of_stream}
 use Rattle.nntp_wire.specs.Session.{closes, prompts_of}
 use Rattle.nntp_pair.specs.declared.class.PairClass.{PairClass}
@@ -14,7 +14,7 @@ use Rattle.nntp_pair.proofs.PairingLemmas.{AreNext-push}
 use Rattle.nntp_pair.proofs.SpelledLemmas.{pairs-spelled, spelled-pairs}
 use Rattle.nntp_article.specs.Spool.{Profile, Spool, IsSpool}
 use Rattle.nntp_article.specs.Machine.{State, Visible, start, MayAnswer, Run, after, visible_after}
-use Rattle.nntp_article.specs.Explains.{Spelled, ExplainsUpTo, ExplainsFirst}
+use Rattle.nntp_article.specs.Explains.{Spelled, ExplainsUpTo}
 use Rattle.nntp_spool.specs.Sessions.{state_after, MayAnswerAll, RefusesAt}
 
 -- ---- pairs

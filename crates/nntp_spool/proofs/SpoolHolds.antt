@@ -1,28 +1,27 @@
 -- A spool is groups and articles that a spool may hold, each id with its article.
-use Rattle.std.proofs.Common.{◌≡◌, ℕ, ◌≤◌, ◌<◌, ◌^◌, Ok, Err, Bool, true, false, IsTrue, IsSome, List, [], ◌∷◌, ◌++◌, Option, None, Some, is_some, length, refl, sym, ap, subst, ◌∙◌, arith}
-use Rattle.std.specs.Prelude.{◌&&◌, All, unwrap_or}
+use Rattle.std.proofs.Common.{◌≡◌, ℕ, ◌≤◌, ◌<◌, ◌^◌, Ok, Err, Bool, true, IsSome, List, [], ◌∷◌, ◌++◌, Option, None, Some, is_some, length, refl, sym, ap, subst, ◌∙◌, arith}
+use Rattle.std.specs.Prelude.{unwrap_or}
 use Rattle.std.specs.List.{list_all, AllByRecursion}
 use Rattle.std.specs.Option.{option_map_or}
 use Rattle.std.specs.Ordering.{nat_cmp}
 use Rattle.std.specs.Cmp.{nat_cmp_total}
-use Rattle.std.specs.Cmp.Lexicographic.{slice_cmp, nat_list_cmp_total, bytes_decides}
+use Rattle.std.specs.Cmp.Lexicographic.{nat_list_cmp_total, bytes_decides}
 use Rattle.std.specs.FinMap.{get, empty, entries, get-empty, nat_cmp-IsAntisymmetric}
 use Rattle.std.proofs.lemmas.Bool.{true≢false, and_from, and_parts}
 use Rattle.std.proofs.lemmas.Bool.Decides.{nat_tests}
 use Rattle.std.proofs.lemmas.List.Sums.{AllPass-from_list_all, list_all-from_AllPass}
 use Rattle.std.proofs.lemmas.List.Folds.{list_all-append}
-use Rattle.nntp_wire.specs.Decided.{is_group_name, is_message_id}
 use Rattle.nntp_wire.proofs.DecidedLemmas.{group_name-iff, message_id-iff}
 use Rattle.nntp_wire.specs.Octets.{is_clean}
 use Rattle.nntp_spool.proofs.Words.{list_all_weaken}
 use Rattle.nntp_article.specs.Article.{Line, Id, is_head, is_clean_head, said_id}
 use Rattle.nntp_article.specs.Machine.{is_num, says_own_id, is_same}
-use Rattle.nntp_article.specs.Spool.{Profile, Name, Spool, Numbers, Text, numbers, IsGroup, IsNumber, IsSpool, is_line}
-use Rattle.nntp_spool.specs.Reading.{fits_head, all_known, ids_have_articles, spool_at}
+use Rattle.nntp_article.specs.Spool.{Profile, Name, Spool, Numbers, numbers, IsSpool, is_line}
+use Rattle.nntp_spool.specs.Reading.{all_known, ids_have_articles, spool_at}
 use Rattle.nntp_spool.specs.declared.read_fault.ReadFault.{ReadFault}
 use Rattle.nntp_spool.specs.Text.{spool_text, IsWritten}
-use Rattle.nntp_spool.specs.Content.{AreNumbers, IsNamed, IsArticle, IsContent}
-use Rattle.nntp_spool.proofs.Keys.{some_is, all_got, got_all}
+use Rattle.nntp_spool.specs.Content.{AreNumbers, IsNamed, IsContent}
+use Rattle.nntp_spool.proofs.Keys.{all_got, got_all}
 use Rattle.nntp_spool.proofs.NumbersHold.{no_numbers, all_passed}
 use Rattle.nntp_spool.proofs.NumberLaws.{ok_is, done}
 use Rattle.nntp_spool.proofs.TextLaws.{octet_keys, HasCounts, text_takes}

@@ -1,5 +1,5 @@
 -- Tests that are the same.
-use Rattle.std.proofs.Common.{◌≡◌, Bool, true, false, IsTrue, Option, None, Some, is_some, refl, sym, List, ℕ}
+use Rattle.std.proofs.Common.{◌≡◌, Bool, true, false, IsTrue, Option, None, Some, is_some, refl, sym}
 use Rattle.std.specs.Prelude.{◌↔◌}
 use Rattle.std.specs.Option.{SomeIff}
 

@@ -1,9 +1,8 @@
 -- A text that is read is that of the spool it is read as, and the text of a spool is read as this spool.
-use Rattle.std.proofs.Common.{◌≡◌, ◌⊎◌, inl, inr, ℕ, zero, suc, ◌+◌, ◌^◌, ◌<◌, ◌≤◌, Bool, true, false, cond, eqb, List, [], ◌∷◌, ◌++◌, Option, Some, Result, Ok, Err, length, refl, sym, ap, subst, ◌∙◌, append_assoc, arith, length-append}
-use Rattle.std.specs.Prelude.{codes, bytes_eq, ◌&&◌}
+use Rattle.std.proofs.Common.{◌≡◌, inl, inr, ℕ, zero, suc, ◌+◌, ◌^◌, ◌<◌, Bool, true, false, cond, List, [], ◌∷◌, ◌++◌, Some, Result, Ok, Err, length, refl, sym, ap, subst, ◌∙◌, append_assoc, arith}
+use Rattle.std.specs.Prelude.{codes, bytes_eq}
 use Rattle.std.specs.declared.cmp.Ordering.{Ordering}
 use Rattle.std.specs.Ordering.{nat_cmp, is_lt}
-use Rattle.std.specs.Cmp.{IsTotalOrder}
 use Rattle.std.specs.Cmp.Lexicographic.{slice_cmp, nat_list_cmp_total}
 use Rattle.std.specs.List.{list_all, flat_map, AllByRecursion, join_with_byte}
 use Rattle.std.specs.FinMap.{FinMap, get, insert, empty, entries, len, find, is_sorted, entries_sorted, get-entries, len-empty, len-entries, same_entries_map, IsAntisymmetric, slice_cmp-IsAntisymmetric, nat_cmp-IsAntisymmetric}
@@ -12,16 +11,16 @@ use Rattle.std.proofs.lemmas.List.{append-nil, nil_from_length}
 use Rattle.std.proofs.lemmas.List.Splits.{join_with_byte-slice_split}
 use Rattle.std.proofs.lemmas.Slice.Eq.{bytes_eq-Decides}
 use Rattle.nntp_article.specs.Article.{Line, Id, is_empty}
-use Rattle.nntp_article.specs.Spool.{Profile, Name, Spool, Numbers, Text, is_line}
+use Rattle.nntp_article.specs.Spool.{Profile, Name, Spool, Numbers, Text}
 use Rattle.nntp_spool.specs.declared.read_fault.ReadFault.{ReadFault}
 use Rattle.nntp_spool.specs.declared.read_fault.Kind.TheVariants as kinds
 use Rattle.nntp_spool.specs.Text.{group_lines, article_lines, spool_lines, spool_text, ended}
-use Rattle.nntp_spool.specs.Reading.{◌>>=◌, fault, Place, Turn, On, Done, line_at, parts_of, is_last, with_group, with_article, no_spool, item_at, items_at, turn_then, is_end, spool_at, ids_have_articles}
+use Rattle.nntp_spool.specs.Reading.{◌>>=◌, fault, Place, Turn, line_at, parts_of, is_last, with_group, with_article, no_spool, item_at, items_at, turn_then, is_end, spool_at, ids_have_articles}
 use Rattle.nntp_spool.specs.Content.{IsNamed, IsArticle, IsContent}
 use Rattle.nntp_spool.proofs.Shown.{spool_is}
 use Rattle.nntp_spool.proofs.Keys.{is_passed, less_before, find_middle, all_got, entries-insert_last}
 use Rattle.nntp_spool.proofs.NumberLaws.{bind_ok, ok_is, done, line_takes}
-use Rattle.nntp_spool.proofs.ItemLaws.{TakenItem, item_takes, line_again, item_group_again, item_article_again, item_end_again}
+use Rattle.nntp_spool.proofs.ItemLaws.{TakenItem, item_takes, item_group_again, item_article_again, item_end_again}
 
 pub octet_keys : IsAntisymmetric (slice_cmp nat_cmp)
 octet_keys = slice_cmp-IsAntisymmetric nat_cmp-IsAntisymmetric

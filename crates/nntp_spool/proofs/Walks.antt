@@ -1,14 +1,12 @@
 -- Numbers that are listed one after the other are those of a group within a range.
-use Rattle.std.proofs.Common.{◌≡◌, ◌⊎◌, inl, inr, ℕ, zero, suc, ◌-◌, ◌<◌, ◌≤◌, true, IsTrue, IsSome, List, [], ◌∷◌, Option, None, Some, MatchOption, length, get_or, refl, sym, ap, subst, ◌∙◌, arith}
-use Rattle.std.specs.Prelude.{Contains, IfSome, ◌↔◌, ◌&&◌, nat_lt, nat_le, ⊤}
-use Rattle.std.specs.Option.{option_map_or}
+use Rattle.std.proofs.Common.{◌≡◌, ◌⊎◌, inl, inr, ℕ, zero, suc, ◌<◌, ◌≤◌, true, IsSome, List, [], ◌∷◌, Option, None, Some, MatchOption, refl, sym, subst, arith}
+use Rattle.std.specs.Prelude.{Contains, IfSome, ◌↔◌, nat_lt, ⊤}
 use Rattle.std.specs.List.{list_all}
 use Rattle.std.specs.FinMap.{get}
 use Rattle.std.proofs.lemmas.Bool.{and_parts, cases_lt}
 use Rattle.std.proofs.lemmas.Bool.Decides.{nat_tests}
 use Rattle.nntp_wire.specs.declared.range.Range.{Range}
-use Rattle.nntp_article.specs.Spool.{Numbers, IsNumber, IsFirst, IsNextAbove, NoneAbove, IsInRange, Lists}
-use Rattle.nntp_article.specs.Machine.{is_ascending, is_in_range}
+use Rattle.nntp_article.specs.Spool.{Numbers, IsNumber, Lists}
 use Rattle.nntp_spool.specs.Walk.{IsAbove, IsNextFrom, ListsFrom}
 
 contains_first : (n : ℕ) (ns : List ℕ) → Contains (n ∷ ns) n
@@ -30,6 +28,7 @@ above_all n m (k ∷ ns) h c = by (contains_cons k m ns c) (above_all n m ns bot
   where
     both : (nat_lt n k ≡ true) × (list_all (λ k. nat_lt n k) ns ≡ true)
     both = and_parts (nat_lt n k) (list_all (λ k. nat_lt n k) ns) h
+
     by : (m ≡ k) ⊎ Contains ns m → (Contains ns m → n < m) → n < m
     by (inl e) rest = let lt : n < k = grind (arith, nat_tests, both.0) in omega arith
     by (inr c) rest = rest c
@@ -49,25 +48,30 @@ module _ (N : Numbers) (r : Range) (before : Option ℕ) where
           higher : (c : Option ℕ) → IsAbove c n → n < m → IsAbove c m
           higher None a lt = tt
           higher (Some c) a lt = omega arith
+
       forth : ListsFrom N r before (n ∷ ns) → (m : ℕ) → Contains ns m → IsNumber N m × (n < m) × IfSome r.last (λ last. m ≤ last)
       forth h m c = let is = (h m).0 (contains_later n m ns c) in (is.0, above_all n m ns asc c, is.2)
+
       back : ListsFrom N r before (n ∷ ns) → (m : ℕ) → (IsNumber N m × (n < m) × IfSome r.last (λ last. m ≤ last)) → Contains ns m
       back h m (is, lt, fit) = by (contains_cons n m ns ((h m).1 (is, above m lt, fit)))
         where
           by : (m ≡ n) ⊎ Contains ns m → Contains ns m
           by (inl e) = absurd (omega arith)
           by (inr c) = c
+
       forth2 : ListsFrom N r (Some n) ns → (m : ℕ) → Contains (n ∷ ns) m → IsNumber N m × IsAbove before m × IfSome r.last (λ last. m ≤ last)
       forth2 h m c = by (contains_cons n m ns c)
         where
           by : (m ≡ n) ⊎ Contains ns m → IsNumber N m × IsAbove before m × IfSome r.last (λ last. m ≤ last)
           by (inl e) = subst (λ (k : ℕ). IsNumber N k × IsAbove before k × IfSome r.last (λ last. k ≤ last)) (sym e) (here.0, here.1, fits)
           by (inr c) = let is = (h m).0 c in (is.0, above m is.1, is.2)
+
       back2 : ListsFrom N r (Some n) ns → (m : ℕ) → (IsNumber N m × IsAbove before m × IfSome r.last (λ last. m ≤ last)) → Contains (n ∷ ns) m
       back2 h m (is, a, fit) = by (order n m (here.2 m a is))
         where
           order : (n m : ℕ) → n ≤ m → (m ≡ n) ⊎ (n < m)
           order n m le = elim (cases_lt n m) [ inl lt ↦ inr lt | inr ge ↦ inl (omega arith) ]
+
           by : (m ≡ n) ⊎ (n < m) → Contains (n ∷ ns) m
           by (inl e) = subst (λ (k : ℕ). Contains (n ∷ ns) k) (sym e) (contains_first n ns)
           by (inr lt) = contains_later n m ns ((h m).1 (is, lt, fit))
@@ -78,9 +82,11 @@ module _ (N : Numbers) (r : Range) (before : Option ℕ) where
     where
       is : IsNumber N n × IsAbove before n × IfSome r.last (λ last. n ≤ last)
       is = (h n).0 (contains_first n ns)
+
       lower : (last : Option ℕ) (m : ℕ) → m < n → IfSome last (λ l. n ≤ l) → IfSome last (λ l. m ≤ l)
       lower None m lt fit = tt
       lower (Some l) m lt fit = omega arith
+
       least : (m : ℕ) → IsAbove before m → IsNumber N m → n ≤ m
       least m a is_m = by (cases_lt m n)
         where

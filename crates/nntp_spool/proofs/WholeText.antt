@@ -1,13 +1,13 @@
 -- The text of a whole spool is read as this spool.
-use Rattle.std.proofs.Common.{◌≡◌, ℕ, zero, suc, ◌+◌, ◌^◌, ◌<◌, ◌≤◌, Bool, true, false, cond, eqb, List, [], ◌∷◌, ◌++◌, Option, Some, Result, Ok, Err, length, map, refl, sym, ap, subst, ◌∙◌, append_assoc, arith, length-append}
-use Rattle.std.specs.Prelude.{codes, ◌&&◌, ◌||◌, not, nat_lt}
+use Rattle.std.proofs.Common.{◌≡◌, ℕ, ◌+◌, ◌^◌, ◌<◌, ◌≤◌, Bool, true, false, eqb, List, [], ◌∷◌, ◌++◌, Ok, length, map, refl, sym, ap, ◌∙◌, append_assoc, arith, length-append}
+use Rattle.std.specs.Prelude.{codes, ◌||◌, not, nat_lt}
 use Rattle.std.specs.Fmt.{decimal}
 use Rattle.std.specs.Ordering.{nat_cmp}
 use Rattle.std.specs.Cmp.{nat_cmp_total}
 use Rattle.std.specs.Cmp.Lexicographic.{slice_cmp, nat_list_cmp_total}
 use Rattle.std.specs.List.{list_all, flat_map, AllByRecursion}
-use Rattle.std.specs.FinMap.{get, entries, len, len-entries, nat_cmp-IsAntisymmetric}
-use Rattle.std.proofs.lemmas.Bool.{true≢false, and_from, and_parts}
+use Rattle.std.specs.FinMap.{entries, len, len-entries, nat_cmp-IsAntisymmetric}
+use Rattle.std.proofs.lemmas.Bool.{and_from, and_parts}
 use Rattle.std.proofs.lemmas.Bool.Decides.{nat_tests}
 use Rattle.std.proofs.lemmas.List.{length-map}
 use Rattle.std.proofs.lemmas.List.Folds.{list_all-append}
@@ -15,11 +15,9 @@ use Rattle.nntp_wire.specs.Octets.{is_clean, is_line_breaking}
 use Rattle.nntp_article.specs.Article.{Line, Id}
 use Rattle.nntp_article.specs.Spool.{Profile, Name, Spool, Numbers, Text, is_line}
 use Rattle.nntp_article.specs.Machine.{is_num}
-use Rattle.nntp_spool.specs.declared.read_fault.ReadFault.{ReadFault}
-use Rattle.nntp_spool.specs.declared.read_fault.Kind.TheVariants as kinds
 use Rattle.nntp_spool.specs.Text.{number_line, group_line, article_line, barred, group_lines, article_lines, spool_lines, spool_text, ended}
-use Rattle.nntp_spool.specs.Reading.{◌>>=◌, fault, Place, line_at, next_line, parts_of, no_spool, items_at, is_end, spool_at, ids_have_articles}
-use Rattle.nntp_spool.specs.Content.{AreNumbers, IsNamed, IsArticle, IsContent}
+use Rattle.nntp_spool.specs.Reading.{line_at, next_line, parts_of, no_spool, spool_at, ids_have_articles}
+use Rattle.nntp_spool.specs.Content.{IsNamed, IsArticle, IsContent}
 use Rattle.nntp_spool.proofs.Keys.{all_got, got_all}
 use Rattle.nntp_spool.proofs.Words.{lacks, lacks-append, lacks-digits, are_digits-decimal, parts_front, list_all_weaken}
 use Rattle.nntp_spool.proofs.Names.{name-lacks, id-lacks}

@@ -1,5 +1,5 @@
 -- Groups and articles that a spool may hold, whether each id has its article or not.
-use Rattle.std.specs.Prelude.{◌≡◌, ℕ, true, List, Some}
+use Rattle.std.specs.Prelude.{◌≡◌, ℕ, true, Some}
 use Rattle.std.specs.List.{list_all}
 use Rattle.std.specs.FinMap.{get}
 use Rattle.nntp_wire.specs.Decided.{is_group_name, is_message_id}

@@ -1,5 +1,5 @@
 -- Numbers that ascend, seen from the one before them.
-use Rattle.std.specs.Prelude.{ℕ, Bool, true, ◌&&◌, nat_lt, List, [], ◌∷◌, Option, None, Some}
+use Rattle.std.specs.Prelude.{ℕ, Bool, true, ◌&&◌, nat_lt, List, [], ◌∷◌, Option, Some}
 use Rattle.std.specs.Option.{option_map_or}
 
 -- the first is greater than the one before, if there is one, and each than the one before it

@@ -16,3 +16,5 @@ pub mod SessionView
 pub mod Fitting
 pub mod Walk
 pub mod Actives
+pub mod Listing
+pub mod Verifying

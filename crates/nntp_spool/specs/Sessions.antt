@@ -3,7 +3,7 @@ use Rattle.std.specs.Prelude.{◌≢◌, ℕ, List, [], ◌∷◌, ⊤}
 use Rattle.nntp_pair.specs.Pairing.{Paired, asked_at}
 use Rattle.nntp_article.specs.Spool.{Profile, Spool}
 use Rattle.nntp_article.specs.Machine.{State, MayAnswer, after}
-use Rattle.nntp_article.specs.Explains.{Explains, ExplainsUpTo, ExplainsFirst}
+use Rattle.nntp_article.specs.Explains.{ExplainsUpTo, ExplainsFirst}
 
 -- the state that the responses of pairs lead to
 abbrev pub state_after : Spool → State → List Paired → State

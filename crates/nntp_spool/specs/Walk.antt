@@ -1,5 +1,5 @@
 -- The numbers of a group within a range, from some number on.
-use Rattle.std.specs.Prelude.{◌≡◌, ℕ, ◌<◌, ◌≤◌, ◌↔◌, List, Option, None, Some, MatchOption, IfSome, Contains, ⊤}
+use Rattle.std.specs.Prelude.{◌≡◌, ℕ, ◌<◌, ◌≤◌, ◌↔◌, List, Option, None, MatchOption, IfSome, Contains}
 use Rattle.std.specs.FinMap.{get}
 use Rattle.nntp_wire.specs.declared.range.Range.{Range}
 use Rattle.nntp_article.specs.Spool.{Numbers, IsNumber}

@@ -1,10 +1,11 @@
 //! Whether an answer fits a session, whatever the spool, a row of the machine's table at a time.
-ghost use Rattle.std.specs.Prelude.{◌≡◌, ◌&&◌, nat_lt, true, ℕ, List, Option, is_some};
+ghost use Rattle.std.specs.Prelude.{◌≡◌, ◌==◌, ◌&&◌, nat_lt, true, ℕ, List, Option, is_some};
 ghost use Rattle.std.specs.List.{list_all};
 ghost use Rattle.std.specs.Option.{option_map_or};
 ghost use Rattle.std.specs.FinMap as map;
 ghost use Rattle.nntp_wire.specs.Listing.{listed_number_of};
 ghost use Rattle.nntp_wire.specs.View.{request, target};
+ghost use Rattle.nntp_wire.specs.Answer.{success_code};
 ghost use Rattle.nntp_article.specs.Article.{is_head};
 ghost use Rattle.nntp_article.specs.Listed.{listed_numbers};
 ghost use Rattle.nntp_article.specs.Machine.{code_fits, is_generic, is_num, is_in_range, is_ascending, is_same, marks_fit, number_fits, head_fits, says_own_id, Visible};
@@ -192,5 +193,17 @@ pub(crate) fn fits_head(what: What, id: &[u8], block: &Option<Block<'_>>) -> boo
         (What::Stat, None) => true,
         (What::Article, None) | (What::Head, None) | (What::Body, None) => false,
         (What::Stat, Some(_)) => false,
+    }
+}
+
+/// Whether the code is the one by which the command succeeds.
+pub(crate) fn is_success(what: What, code: u64) -> bool
+    ensures { result ≡ (code == success_code what) }
+{
+    match what {
+        What::Article => code == 220,
+        What::Head => code == 221,
+        What::Body => code == 222,
+        What::Stat => code == 223,
     }
 }

@@ -9,6 +9,8 @@ mod checks;
 mod content;
 mod fields;
 mod fits;
+mod judge;
+mod judge_spool;
 pub mod laws;
 mod limit;
 mod lookups;
@@ -23,6 +25,10 @@ pub mod spool_fault;
 mod tests;
 mod text;
 mod texts;
+mod verification;
+#[cfg(test)]
+mod verification_tests;
+mod verified;
 mod watched;
 mod write;
 
@@ -32,5 +38,7 @@ pub use limit::LIMIT;
 pub use read_fault::{Kind, ReadFault};
 pub use spool::{Counts, Spool};
 pub use spool_fault::SpoolFault;
+pub use verification::verify;
+pub use verified::Verified;
 pub use watched::Watched;
 pub use write::{WriteFault, put};

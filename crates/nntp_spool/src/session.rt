@@ -1,13 +1,15 @@
 //! The state of a session, step by step over a spool.
-ghost use Rattle.std.specs.Prelude.{◌≡◌, OnOk, Option, None, Some, is_some, unwrap_or, [], option_copied};
+ghost use Rattle.std.specs.Prelude.{◌≡◌, OnOk, Some, is_some, unwrap_or, [], option_copied, false};
+ghost use Rattle.std.specs.Option.{option_map_or, option_or};
 ghost use Rattle.std.specs.FinMap as map;
 ghost use Rattle.nntp_wire.specs.View.{asked};
 ghost use Rattle.nntp_wire.specs.AnswerView.{response};
-ghost use Rattle.nntp_article.specs.Machine.{start, after, current_after, selects, are_zeros};
+ghost use Rattle.nntp_article.specs.Machine.{start, after, is_same, selects, are_zeros};
 ghost use Rattle.nntp_article.specs.Spool.{least, numbers as numbers_of};
 ghost use Rattle.nntp_spool.specs.SessionView.{moved};
 
 use crate::content::Content;
+use crate::fits::is_same;
 use crate::numbers::Numbers;
 use nntp_article::laws::first_is_least;
 use nntp_wire::{Answer, Command, Prompt, Which};
@@ -51,6 +53,13 @@ impl<A: Allocator + Copy> Session<A> {
             current: None,
             lows: BTreeMap::new(alloc),
         }
+    }
+
+    /// The numbers of no group.
+    pub(crate) fn no_numbers(&self) -> Numbers<A>
+        ensures { result ≡ map.empty }
+    {
+        Numbers::new(self.alloc)
     }
 
     fn note_low(&mut self, name: &[u8], low: u64) -> Result<(), AllocError>
@@ -163,6 +172,19 @@ impl<A: Allocator> Session<A> {
         ensures { map.get self.now.visible.lows name.now ≡ result }
     {
         self.lows.get(name).copied()
+    }
+
+    /// Whether the name is that of the group that LISTGROUP names, or else of the selected one.
+    pub(crate) fn is_listed_group(&self, group: &Option<&[u8]>, name: &[u8]) -> bool
+        ensures { result ≡ option_map_or (is_same name.now) (option_or (option_copied group.now) self.now.visible.selected) false }
+    {
+        match group {
+            Some(word) => is_same(name, *word),
+            None => match &self.selected {
+                Some(selected) => is_same(name, selected.as_slice()),
+                None => false,
+            },
+        }
     }
 
     /// The name of the selected group, or the empty name, which names no group.

@@ -1,4 +1,4 @@
-use Rattle.std.proofs.Common.{◌≡◌, length}
+use Rattle.std.proofs.Common.{length}
 use Rattle.nntp_wire.specs.Listing.{AreActiveLines}
 use Rattle.nntp_article.specs.Listed.{active_groups}
 use Rattle.std.specs.Prelude.{◌↔◌}

@@ -1,4 +1,4 @@
-use Rattle.std.proofs.Common.{◌≤◌, ℕ, List, sym, subst, ◌∙◌}
+use Rattle.std.proofs.Common.{◌≤◌, ℕ, sym, subst, ◌∙◌}
 use Rattle.std.proofs.lemmas.Bool.{true≢false}
 use Rattle.nntp_article.specs.Spool.{Name, IsGroup, IsNumber, numbers}
 use Rattle.nntp_spool.proofs.active.agrees_group.Goals as goal

@@ -1,6 +1,5 @@
-use Rattle.std.proofs.Common.{◌≡◌, true, ◌∷◌, List, ℕ, sym, ap, subst, ◌∙◌}
-use Rattle.std.specs.Prelude.{◌&&◌, not}
-use Rattle.std.specs.List.{list_all, list_any}
+use Rattle.std.proofs.Common.{List, ℕ, sym, ap, subst, ◌∙◌}
+use Rattle.std.specs.List.{list_any}
 use Rattle.nntp_wire.specs.Listing.{AreActiveLines}
 use Rattle.nntp_article.specs.Listed.{active_groups}
 use Rattle.nntp_article.specs.Machine.{names_differ, is_same}

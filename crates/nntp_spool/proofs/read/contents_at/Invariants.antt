@@ -1,7 +1,5 @@
 use Rattle.std.proofs.Common.{◌≡◌, ◌-◌}
-use Rattle.std.proofs.Common.{map as list_map}
 use Rattle.nntp_spool.specs.Reading.{contents_at, content_at, repeat}
-use Rattle.nntp_spool.specs.Limit.{narrow}
 use Rattle.nntp_spool.specs.Shown.{lines_of}
 use Rattle.nntp_spool.specs.Places.{place_shown}
 use Rattle.nntp_spool.proofs.read.contents_at.Given as goal

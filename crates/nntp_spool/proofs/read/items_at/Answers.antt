@@ -1,6 +1,5 @@
 use Rattle.std.proofs.Common.{Ok, ap, ◌∙◌}
 use Rattle.nntp_spool.specs.Limit.{narrow}
-use Rattle.nntp_spool.specs.Shown.{lines_of}
 use Rattle.nntp_spool.specs.Places.{turn_shown}
 use Rattle.nntp_spool.proofs.Repeats.{item_goes_on}
 use Rattle.nntp_spool.proofs.read.items_at.Goals as goal

@@ -1,7 +1,6 @@
 use Rattle.std.proofs.Common.{◌≡◌, ◌-◌, false}
 use Rattle.nntp_spool.specs.Reading.{items_at}
 use Rattle.nntp_spool.specs.Limit.{narrow}
-use Rattle.nntp_spool.specs.Shown.{lines_of}
 use Rattle.nntp_spool.specs.Places.{place_shown}
 use Rattle.nntp_spool.proofs.read.items_at.Given as goal
 

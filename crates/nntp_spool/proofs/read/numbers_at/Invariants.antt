@@ -1,7 +1,6 @@
 use Rattle.std.proofs.Common.{◌≡◌, ◌-◌}
 use Rattle.nntp_spool.specs.Reading.{numbers_at, number_at, repeat}
 use Rattle.nntp_spool.specs.Limit.{narrow}
-use Rattle.nntp_spool.specs.Shown.{lines_of}
 use Rattle.nntp_spool.specs.Places.{place_shown}
 use Rattle.nntp_spool.proofs.read.numbers_at.Given as goal
 

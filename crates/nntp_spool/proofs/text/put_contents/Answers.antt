@@ -1,4 +1,4 @@
-use Rattle.std.proofs.Common.{arith, [], ◌∷◌, ◌++◌, refl, ap, ◌∙◌, map as list_map}
+use Rattle.std.proofs.Common.{arith, [], ◌∷◌, ◌++◌, refl, ap, ◌∙◌}
 use Rattle.std.proofs.lemmas.Result.{err_from_is_err_and}
 use Rattle.nntp_spool.specs.Text.{ended, barred}
 use Rattle.nntp_spool.specs.Shown.{lines_of}

@@ -1,4 +1,4 @@
-use Rattle.std.proofs.Common.{subst, sym, ap, ◌∙◌}
+use Rattle.std.proofs.Common.{subst, sym}
 use Rattle.nntp_spool.specs.Limit.{narrow}
 use Rattle.nntp_spool.specs.Content.{IsContent}
 use Rattle.nntp_spool.proofs.ContentHolds.{nothing}

@@ -1,5 +1,5 @@
-use Rattle.std.proofs.Common.{◌≡◌, true, IsTrue, List, ℕ, ◌∷◌, [], Some, sym, ap, subst, ◌∙◌}
-use Rattle.std.specs.Prelude.{◌↔◌, ◌&&◌, nat_lt}
+use Rattle.std.proofs.Common.{◌≡◌, true, List, ℕ, sym, ap, subst, ◌∙◌}
+use Rattle.std.specs.Prelude.{◌↔◌, nat_lt}
 use Rattle.std.specs.List.{list_all}
 use Rattle.std.proofs.lemmas.Bool.{true≢false, and_parts}
 use Rattle.nntp_article.specs.Spool.{Lists}

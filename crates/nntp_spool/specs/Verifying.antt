@@ -1,0 +1,12 @@
+-- What `verify` answers.
+use Rattle.std.specs.Prelude.{ℕ, List}
+use Rattle.nntp_article.specs.Spool.{Profile, Spool}
+use Rattle.nntp_article.specs.Explains.{Explains}
+use Rattle.nntp_spool.specs.declared.verified.Verified.{Verified}
+use Rattle.nntp_spool.specs.declared.verified.Verified.TheVariants.{Permits, Refuses}
+use Rattle.nntp_spool.specs.Sessions.{RefusesAt}
+
+-- the spool explains both streams, with so many answers; or this answer is the first that it doesn't explain
+abbrev pub IsVerified : Profile → Spool → List ℕ → List ℕ → Verified → Type 0
+IsVerified profile S client server (Permits answers) = Explains profile S client server answers
+IsVerified profile S client server (Refuses index) = RefusesAt profile S client server index

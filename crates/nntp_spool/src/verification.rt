@@ -1,0 +1,60 @@
+//! Whether a given spool explains a session.
+ghost use Rattle.std.specs.Prelude.{◌≡◌, OnOk, MatchResult, ◌↔◌, IsTrue, IfOk};
+ghost use Rattle.nntp_pair.specs.Pairing.{asked_at};
+ghost use Rattle.nntp_article.specs.Machine.{MayAnswer, after};
+ghost use Rattle.nntp_article.specs.Spool.{IsSpool};
+ghost use Rattle.nntp_spool.specs.Limit.{narrow};
+ghost use Rattle.nntp_spool.specs.Verifying.{IsVerified};
+
+use crate::content::Content;
+use crate::session::Session;
+use crate::spool::Spool;
+use crate::verified::Verified;
+use nntp_pair::{Exchange, Pairs, Step};
+use std::alloc::{AllocError, Allocator};
+
+impl<A: Allocator + Copy> Session<A> {
+    /// Whether the exchange is permitted.
+    fn permits(&self, spool: &Content<A>, exchange: &Exchange<'_>) -> bool
+        requires { IsSpool narrow spool.now }
+        ensures { IsTrue result ↔ MayAnswer narrow spool.now self.now (asked_at exchange.now.line) exchange.now.response }
+    {
+        self.may_answer(spool, exchange.prompt(), exchange.answer())
+    }
+
+    /// The state that the exchange leaves.
+    fn pass(&mut self, spool: &Content<A>, exchange: &Exchange<'_>) -> Result<(), AllocError>
+        ensures { OnOk result (self.new ≡ after spool.now self.old (asked_at exchange.now.line) exchange.now.response) }
+    {
+        self.advance(spool, exchange.prompt(), exchange.answer())
+    }
+}
+
+/// Whether the spool explains both streams of a session; and if not, which answer is the first that
+/// it doesn't explain together with those before it.
+pub fn verify<A: Allocator + Copy>(
+    alloc: A,
+    spool: &Spool<A>,
+    client: &[u8],
+    server: &[u8],
+) -> Result<Verified, AllocError>
+    ensures { IfOk result (λ verified. IsVerified narrow spool.now client.now server.now verified) }
+{
+    let content = spool.content();
+    let mut pairs = Pairs::new(client, server);
+    let mut session = Session::new(alloc);
+    let mut answers = 0;
+    loop {
+        match pairs.next() {
+            Step::Exchange(exchange) => {
+                if !session.permits(content, &exchange) {
+                    return Ok(Verified::Refuses { index: answers });
+                }
+                session.pass(content, &exchange)?;
+                answers = exchange.index() + 1;
+            }
+            Step::Bad { .. } => return Ok(Verified::Refuses { index: answers }),
+            Step::End { .. } => return Ok(Verified::Permits { answers }),
+        }
+    }
+}
