@@ -1,10 +1,12 @@
--- What is printed of a verdict.
-use Rattle.std.specs.Prelude.{ℕ, Bool, ◌==◌, ◌/◌, ◌%◌, ◌+◌, nat_lt, if◌then◌else◌, List, [], ◌∷◌, ◌++◌, Option, None, Some, codes, decimal}
+-- What is printed: of a verdict, and of what `verify` answers.
+use Rattle.std.specs.Prelude.{ℕ, Bool, true, false, ◌==◌, ◌/◌, ◌%◌, ◌+◌, nat_lt, if◌then◌else◌, List, [], ◌∷◌, ◌++◌, Option, None, Some, codes, decimal}
 use Rattle.std.specs.Int.{is_in_range}
 use Rattle.std.specs.List.{flat_map}
 use Rattle.std.specs.FinMap.{len}
 use Rattle.nntp_spool.specs.Counts.{numbers_in}
 use Rattle.nntp_spool.specs.Text.{spool_text}
+use Rattle.nntp_spool.specs.declared.verified.Verified.{Verified}
+use Rattle.nntp_spool.specs.declared.verified.Verified.TheVariants.{Permits, Refuses}
 use Rattle.nntp_check.specs.Verdict.{Judgement, consistent, bad}
 use Rattle.nntp_check.specs.declared.verdict.Class.{Class}
 use Rattle.nntp_check.specs.declared.verdict.Class.TheVariants.{Surplus, Cut, Malformed, Unsupported, OutOfPlace, Contradiction}
@@ -35,19 +37,21 @@ abbrev pub command_line : Option (List ℕ) → List ℕ
 command_line None = codes "no command\n"
 command_line (Some line) = codes "command " ++ escaped line ++ codes "\n"
 
--- the lines before a spool's text, or those of a bad answer
-abbrev pub head_of : Judgement → List ℕ
-head_of (consistent spool answers) =
+-- the report of a verdict: how much explains how many answers, and the spool's text; or which answer is bad
+abbrev pub report_of : Judgement → List ℕ
+report_of (consistent spool answers) =
     codes "consistent answers=" ++ decimal answers ++ codes " groups=" ++ decimal (len spool.groups)
     ++ codes " numbers=" ++ decimal (numbers_in spool) ++ codes " articles=" ++ decimal (len spool.articles) ++ codes "\n"
-head_of (bad answer class command reply) =
+    ++ spool_text spool
+report_of (bad answer class command reply) =
     codes "bad answer " ++ decimal answer ++ codes " " ++ class_word class ++ codes "\n"
     ++ command_line command ++ codes "answer " ++ escaped reply ++ codes "\n"
 
--- the spool's text, if there is a spool
-abbrev pub tail_of : Judgement → List ℕ
-tail_of (consistent spool answers) = spool_text spool
-tail_of (bad answer class command reply) = []
+-- the report on a given spool
+abbrev pub verified_report : Verified → List ℕ
+verified_report (Permits answers) = codes "permits answers=" ++ decimal answers ++ codes "\n"
+verified_report (Refuses index) = codes "refuses answer " ++ decimal index ++ codes "\n"
 
-abbrev pub report_of : Judgement → List ℕ
-report_of judgement = head_of judgement ++ tail_of judgement
+abbrev pub is_permitted : Verified → Bool
+is_permitted (Permits answers) = true
+is_permitted (Refuses index) = false

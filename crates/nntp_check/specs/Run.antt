@@ -1,12 +1,20 @@
 -- What a run reads and writes, at any reader and writer: known octets are those of the traits.
-use Rattle.std.specs.Prelude.{◌≡◌, ℕ, ◌≤◌, ◌<◌, Bool, List, ◌++◌, length, Option}
+use Rattle.std.specs.Prelude.{◌≡◌, ℕ, ◌≤◌, ◌<◌, Bool, List, length, Option, ⊤}
 use Rattle.std.specs.Io.KnownBytes.{Appends, Consumes, IsAtEnd}
-use Rattle.nntp_check.specs.Capture.{AreStreams, IsBadPiece}
-use Rattle.nntp_check.specs.Report.{report_of}
-use Rattle.nntp_check.specs.Verdict.{Judgement, is_consistent}
+use Rattle.nntp_article.specs.Spool.{Spool, IsSpool}
+use Rattle.nntp_spool.specs.Faults.{IsFirstFault}
+use Rattle.nntp_spool.specs.Limit.{narrow}
+use Rattle.nntp_spool.specs.Text.{spool_text}
+use Rattle.nntp_spool.specs.Verifying.{IsVerified}
 use Rattle.nntp_spool.specs.Writing.{Wrote}
-use Rattle.nntp_check.specs.declared.run.RunFault.{RunFault}
-use Rattle.nntp_check.specs.declared.run.RunFault.TheVariants as faults
+use Rattle.nntp_spool.specs.declared.read_fault.ReadFault.{ReadFault}
+use Rattle.nntp_spool.specs.declared.verified.Verified.{Verified}
+use Rattle.nntp_check.specs.Capture.{AreStreams, IsBadPiece}
+use Rattle.nntp_check.specs.Judging.{IsPlaced}
+use Rattle.nntp_check.specs.Report.{report_of, verified_report, is_permitted}
+use Rattle.nntp_check.specs.Verdict.{Judgement, is_consistent}
+use Rattle.nntp_check.specs.declared.run_fault.RunFault.{RunFault}
+use Rattle.nntp_check.specs.declared.run_fault.RunFault.TheVariants as faults
 
 -- these octets, at most so many, were read, and no more are left
 pub record ReadsAll (old new : Option (List ℕ)) (most : ℕ) (octets : List ℕ) : Type 0 where
@@ -20,24 +28,20 @@ pub record ReadsMore (old new : Option (List ℕ)) (most : ℕ) : Type 0 where
   pub read : Consumes old new octets
   pub many : most < length octets
 
-abbrev pub ReadFault : Option (List ℕ) → Option (List ℕ) → ℕ → RunFault → Type 0
-ReadFault old new most faults.Read = Unit {0}
-ReadFault old new most faults.TooLong = ReadsMore old new most
-ReadFault old new most (faults.Capture _) = ⊥
-ReadFault old new most faults.Memory = Unit {0}
-ReadFault old new most faults.Write = ⊥
+-- why not all octets were read
+abbrev pub IsReadFault : Option (List ℕ) → Option (List ℕ) → ℕ → RunFault → Type 0
+IsReadFault old new most faults.Read = ⊤
+IsReadFault old new most faults.TooLong = ReadsMore old new most
+IsReadFault old new most (faults.Capture piece) = ⊥
+IsReadFault old new most (faults.Spool fault) = ⊥
+IsReadFault old new most faults.Memory = ⊤
+IsReadFault old new most faults.Write = ⊥
 
--- what was read is a capture, what was written is the report of a judgement, and the answer is whether it is `consistent`
-pub record IsReported (in_old in_new out_old out_new : Option (List ℕ)) (most : ℕ) (answer : Bool) : Type 0 where
+-- what was read is a capture of these streams
+pub record ReadsCapture (old new : Option (List ℕ)) (most : ℕ) (client server spool : List ℕ) : Type 0 where
   pub octets : List ℕ
-  pub client : List ℕ
-  pub server : List ℕ
-  pub spool : List ℕ
-  pub read : ReadsAll in_old in_new most octets
+  pub read : ReadsAll old new most octets
   pub capture : AreStreams octets client server spool
-  pub judgement : Judgement
-  pub written : Appends out_old out_new (report_of judgement)
-  pub exact : answer ≡ is_consistent judgement
 
 -- what was read is no capture: this piece of it is the first that is none
 pub record ReadsBadPiece (old new : Option (List ℕ)) (most piece : ℕ) : Type 0 where
@@ -45,21 +49,76 @@ pub record ReadsBadPiece (old new : Option (List ℕ)) (most piece : ℕ) : Type
   pub read : ReadsAll old new most octets
   pub bad : IsBadPiece octets piece
 
--- the writer took the front of the report
-pub record IsCutShort (in_old in_new out_old out_new : Option (List ℕ)) (most : ℕ) : Type 0 where
-  pub octets : List ℕ
+-- why no capture was read
+abbrev pub IsInputFault : Option (List ℕ) → Option (List ℕ) → ℕ → RunFault → Type 0
+IsInputFault old new most faults.Read = ⊤
+IsInputFault old new most faults.TooLong = ReadsMore old new most
+IsInputFault old new most (faults.Capture piece) = ReadsBadPiece old new most piece
+IsInputFault old new most (faults.Spool fault) = ⊥
+IsInputFault old new most faults.Memory = ⊤
+IsInputFault old new most faults.Write = ⊥
+
+-- the report of `check` on a client's and a server's octets, and its answer
+pub record CheckReports (client server spool text : List ℕ) (answer : Bool) : Type 0 where
+  pub judgement : Judgement
+  pub placed : IsPlaced client server judgement
+  pub text_is : text ≡ report_of judgement
+  pub answer_is : answer ≡ is_consistent judgement
+
+-- the report of `verify` on them and on a spool's text, and its answer
+pub record VerifyReports (client server spool text : List ℕ) (answer : Bool) : Type 0 where
+  pub value : Spool
+  pub is_spool : IsSpool narrow value
+  pub spool_is : spool ≡ spool_text value
+  pub verified : Verified
+  pub exact : IsVerified narrow value client server verified
+  pub text_is : text ≡ verified_report verified
+  pub answer_is : answer ≡ is_permitted verified
+
+-- what was read is a capture, and what was written is the report on it
+pub record IsReported (Reports : List ℕ → List ℕ → List ℕ → List ℕ → Bool → Type 0) (in_old in_new out_old out_new : Option (List ℕ)) (most : ℕ) (answer : Bool) : Type 0 where
   pub client : List ℕ
   pub server : List ℕ
   pub spool : List ℕ
-  pub read : ReadsAll in_old in_new most octets
-  pub capture : AreStreams octets client server spool
-  pub judgement : Judgement
-  pub left : List ℕ
-  pub written : Wrote out_old out_new (report_of judgement) left
+  pub read : ReadsCapture in_old in_new most client server spool
+  pub text : List ℕ
+  pub reports : Reports client server spool text answer
+  pub written : Appends out_old out_new text
 
-abbrev pub IsRunFault : Option (List ℕ) → Option (List ℕ) → Option (List ℕ) → Option (List ℕ) → ℕ → RunFault → Type 0
-IsRunFault in_old in_new out_old out_new most faults.Read = Unit {0}
-IsRunFault in_old in_new out_old out_new most faults.TooLong = ReadsMore in_old in_new most
-IsRunFault in_old in_new out_old out_new most (faults.Capture piece) = ReadsBadPiece in_old in_new most piece
-IsRunFault in_old in_new out_old out_new most faults.Memory = Unit {0}
-IsRunFault in_old in_new out_old out_new most faults.Write = IsCutShort in_old in_new out_old out_new most
+-- the writer took a front of the report
+pub record IsCutShort (Reports : List ℕ → List ℕ → List ℕ → List ℕ → Bool → Type 0) (in_old in_new out_old out_new : Option (List ℕ)) (most : ℕ) : Type 0 where
+  pub client : List ℕ
+  pub server : List ℕ
+  pub spool : List ℕ
+  pub read : ReadsCapture in_old in_new most client server spool
+  pub text : List ℕ
+  pub answer : Bool
+  pub reports : Reports client server spool text answer
+  pub left : List ℕ
+  pub written : Wrote out_old out_new text left
+
+-- what was read is a capture, and its spool pieces are the text of no spool, by this fault
+pub record ReadsNoSpool (old new : Option (List ℕ)) (most : ℕ) (fault : ReadFault) : Type 0 where
+  pub client : List ℕ
+  pub server : List ℕ
+  pub spool : List ℕ
+  pub read : ReadsCapture old new most client server spool
+  pub first : IsFirstFault narrow spool fault
+
+-- why `check` gives no answer
+abbrev pub IsCheckFault : Option (List ℕ) → Option (List ℕ) → Option (List ℕ) → Option (List ℕ) → ℕ → RunFault → Type 0
+IsCheckFault in_old in_new out_old out_new most faults.Read = ⊤
+IsCheckFault in_old in_new out_old out_new most faults.TooLong = ReadsMore in_old in_new most
+IsCheckFault in_old in_new out_old out_new most (faults.Capture piece) = ReadsBadPiece in_old in_new most piece
+IsCheckFault in_old in_new out_old out_new most (faults.Spool fault) = ⊥
+IsCheckFault in_old in_new out_old out_new most faults.Memory = ⊤
+IsCheckFault in_old in_new out_old out_new most faults.Write = IsCutShort CheckReports in_old in_new out_old out_new most
+
+-- why `verify` gives no answer
+abbrev pub IsVerifyFault : Option (List ℕ) → Option (List ℕ) → Option (List ℕ) → Option (List ℕ) → ℕ → RunFault → Type 0
+IsVerifyFault in_old in_new out_old out_new most faults.Read = ⊤
+IsVerifyFault in_old in_new out_old out_new most faults.TooLong = ReadsMore in_old in_new most
+IsVerifyFault in_old in_new out_old out_new most (faults.Capture piece) = ReadsBadPiece in_old in_new most piece
+IsVerifyFault in_old in_new out_old out_new most (faults.Spool fault) = ReadsNoSpool in_old in_new most fault
+IsVerifyFault in_old in_new out_old out_new most faults.Memory = ⊤
+IsVerifyFault in_old in_new out_old out_new most faults.Write = IsCutShort VerifyReports in_old in_new out_old out_new most

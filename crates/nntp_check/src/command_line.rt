@@ -2,7 +2,7 @@
 ghost use Rattle.std.specs.Prelude.{◌≡◌};
 ghost use Rattle.nntp_check.specs.CommandLine.{status_of};
 
-use crate::run::RunFault;
+use crate::run_fault::RunFault;
 use clap::Command;
 use clap::error::ErrorKind;
 use std::alloc::Global;
@@ -11,7 +11,10 @@ use thiserror::Error;
 /// What the words ask for.
 #[derive(Clone, Copy, Debug, PartialEq, Eq)]
 pub enum Task {
+    /// Judge a session.
     Check,
+    /// Tell whether a given spool explains a session.
+    Verify,
 }
 
 /// Why the program gives no answer.
@@ -35,15 +38,22 @@ pub fn job(alloc: Global, words: &[String]) -> Result<Task, clap::Error> {
     let check = Command::new(alloc, "check").about(
         "Judge the capture on standard input: write a spool that explains the session, or name the first answer that none explains",
     );
+    let verify = Command::new(alloc, "verify").about(
+        "Tell whether the spool in the capture on standard input explains its session, or name the first answer that it doesn't explain",
+    );
     let command = Command::new(alloc, "nntpcheck")
         .version("0.1.0")
         .about(
             "Judges recorded NNTP reader sessions (RFC 3977): is there one collection of articles that could have given all of a server's answers?",
         )
         .subcommand_required(true)
-        .subcommand(check)?;
-    command.try_get_matches_from(words)?;
-    Ok(Task::Check)
+        .subcommand(check)?
+        .subcommand(verify)?;
+    let matches = command.try_get_matches_from(words)?;
+    match matches.subcommand_name() {
+        Some("verify") => Ok(Task::Verify),
+        _ => Ok(Task::Check),
+    }
 }
 
 /// The status that the process ends with: 0 yes and help, 1 no, 2 words that were refused, 3 a fault.

@@ -1,4 +1,8 @@
 //! What the answers so far say of the groups of a spool.
+ghost use Rattle.std.specs.Prelude.{◌≡◌, IfSome, None};
+ghost use Rattle.nntp_check.specs.Judging.{pair_class_of};
+
+use crate::verdict::Class;
 use nntp_pair::Exchange;
 use nntp_spool::{Spool, SpoolBuilder};
 use nntp_wire::{Answer, Command, Prompt};
@@ -24,6 +28,20 @@ pub(crate) enum Noted {
     Unsupported,
     OutOfPlace,
     Contradiction,
+}
+
+impl Noted {
+    /// Why the answer is bad, if it is.
+    pub(crate) fn class(self) -> Option<Class>
+        ensures { IfSome result (λ class. pair_class_of class ≡ None) }
+    {
+        match self {
+            Noted::Consistent => None,
+            Noted::Unsupported => Some(Class::Unsupported),
+            Noted::OutOfPlace => Some(Class::OutOfPlace),
+            Noted::Contradiction => Some(Class::Contradiction),
+        }
+    }
 }
 
 /// The names that answers spoke of.

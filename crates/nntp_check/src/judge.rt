@@ -1,8 +1,13 @@
 //! The verdict on two streams.
+ghost use Rattle.std.specs.Prelude.{◌≡◌, IfOk};
+ghost use Rattle.std.specs.Option.{option_copied, option_map};
+ghost use Rattle.nntp_check.specs.Judging.{IsFirstLine, IsPlaced, shown};
+ghost use Rattle.nntp_check.specs.Verdict.{bad, verdict_shown};
+
 use crate::facts::{Facts, Noted};
 use crate::verdict::{Class, Verdict};
-use memchr::memmem;
 use nntp_pair::{Pairs, Step};
+use nntp_wire::split_first_line;
 use std::alloc::{AllocError, Allocator};
 
 /// The most octets of a line that a verdict shows.
@@ -14,33 +19,31 @@ pub fn check<A: Allocator + Copy>(
     alloc: A,
     client: &[u8],
     server: &[u8],
-) -> Result<Verdict<A>, AllocError> {
+) -> Result<Verdict<A>, AllocError>
+    ensures { IfOk result (λ verdict. IsPlaced client.now server.now (verdict_shown verdict)) }
+{
     let mut facts = Facts::new(alloc);
     let mut pairs = Pairs::new(client, server);
-    let mut answers = 0u64;
+    let mut answers = 0;
     loop {
         match pairs.next() {
             Step::Exchange(exchange) => {
-                let class = match facts.note(alloc, &exchange)? {
-                    Noted::Consistent => {
-                        answers = exchange.index() + 1;
-                        continue;
-                    }
-                    Noted::Unsupported => Class::Unsupported,
-                    Noted::OutOfPlace => Class::OutOfPlace,
-                    Noted::Contradiction => Class::Contradiction,
-                };
-                return bad(
-                    alloc,
-                    exchange.index(),
-                    class,
-                    exchange.line(),
-                    exchange.initial(),
-                );
+                let noted = facts.note(alloc, &exchange)?;
+                if let Some(class) = noted.class() {
+                    return bad(
+                        alloc,
+                        exchange.index(),
+                        class,
+                        exchange.line(),
+                        exchange.initial(),
+                    );
+                }
+                answers = exchange.index() + 1;
             }
             Step::Bad { index, class } => {
                 let ahead = pairs.ahead();
-                return bad(alloc, index, Class::from(class), ahead.line, ahead.rest);
+                let reply = first_line(ahead.rest);
+                return bad(alloc, index, Class::from(class), ahead.line, reply);
             }
             Step::End { .. } => {
                 let spool = facts.into_spool(alloc)?;
@@ -50,16 +53,16 @@ pub fn check<A: Allocator + Copy>(
     }
 }
 
-/// The verdict that an answer is bad, which stands at the front of these octets.
+/// The verdict that an answer is bad: the line that it is for, and its initial line.
 fn bad<A: Allocator + Copy>(
     alloc: A,
     answer: u64,
     class: Class,
     line: Option<&[u8]>,
-    octets: &[u8],
-) -> Result<Verdict<A>, AllocError> {
-    let end = memmem::find(octets, b"\r\n").unwrap_or(octets.len());
-    let (first, _) = octets.split_at(end);
+    initial: &[u8],
+) -> Result<Verdict<A>, AllocError>
+    ensures { IfOk result (λ verdict. verdict_shown verdict ≡ bad answer class (option_map shown (option_copied line.entry)) (shown initial.now)) }
+{
     let command = match line {
         Some(line) => Some(Vec::from_slice(alloc, shown(line))?),
         None => None,
@@ -68,12 +71,24 @@ fn bad<A: Allocator + Copy>(
         answer,
         class,
         command,
-        reply: Vec::from_slice(alloc, shown(first))?,
+        reply: Vec::from_slice(alloc, shown(initial))?,
     })
 }
 
+/// The octets up to the first CRLF, or all of them where there is none.
+fn first_line(octets: &[u8]) -> &[u8]
+    ensures { IsFirstLine octets.now result.now }
+{
+    match split_first_line(octets) {
+        Some((line, _)) => line,
+        None => octets,
+    }
+}
+
 /// The first octets of a line, as many as a verdict shows.
-fn shown(line: &[u8]) -> &[u8] {
-    let (front, _) = line.split_at(line.len().min(SHOWN));
+fn shown(line: &[u8]) -> &[u8]
+    ensures { result.now ≡ shown line.now }
+{
+    let (front, _) = line.split_at(SHOWN.min(line.len()));
     front
 }

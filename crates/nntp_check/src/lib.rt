@@ -1,19 +1,23 @@
 //! Judges recorded NNTP sessions: whether one fixed spool explains all that a server answered.
 //!
-//! `check` judges the two streams of a session, and `run_check` those of a capture, whose report
-//! it writes. `job` and `status` are the program's command line and its exit status.
+//! `check` judges the two streams of a session. `run_check` judges those of a capture and writes the
+//! report on them; `run_verify` tells whether the spool of a capture explains its session. `job` and
+//! `status` are the program's command line and its exit status.
 #![tactic(auto)]
 
 mod capture;
 mod command_line;
 mod facts;
+mod input;
 mod judge;
 mod report;
 mod run;
+mod run_fault;
 mod verdict;
 
 pub use command_line::{Failure, Task, job, status};
 pub use judge::check;
-pub use nntp_spool::{Counts, Spool, Watched, WriteFault};
-pub use run::{RunFault, run_check};
+pub use nntp_spool::{Counts, Kind, ReadFault, Spool, Watched, WriteFault};
+pub use run::{run_check, run_verify};
+pub use run_fault::RunFault;
 pub use verdict::{Class, Verdict};

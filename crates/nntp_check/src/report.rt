@@ -1,26 +1,27 @@
-//! The report on a session.
-ghost use Rattle.std.specs.Prelude.{◌≡◌, ◌<◌, ◌||◌, ◌++◌, ◌∷◌, [], OnOk, IfOk, is_err, codes, decimal};
+//! The reports of `check` and `verify`.
+ghost use Rattle.std.specs.Prelude.{◌≡◌, ◌<◌, ◌++◌, ◌∷◌, [], OnOk, IfOk, codes, decimal};
 ghost use Rattle.std.specs.Option.{option_map};
-ghost use Rattle.nntp_check.specs.Report.{head_of, tail_of, class_word, command_line, escaped, escaped_octet, hexadecimal_digit};
+ghost use Rattle.nntp_spool.specs.Text.{spool_text};
+ghost use Rattle.nntp_check.specs.Report.{report_of, verified_report, class_word, command_line, escaped, escaped_octet, hexadecimal_digit};
 ghost use Rattle.nntp_check.specs.Verdict.{verdict_shown};
-ghost use Rattle.nntp_spool.specs.Watched.{inner_of, has_failed_of};
-ghost use Rattle.nntp_spool.specs.Writing.{Writes};
 
 use crate::verdict::{Class, Verdict};
 use itoa::Buffer;
-use nntp_spool::{Counts, Watched, WriteFault, put};
+use nntp_spool::{Counts, Spool, Verified, Watched, WriteFault};
 use std::alloc::{AllocError, Allocator};
-use std::io::Write;
 
-/// The lines of the report before a spool's text, or all lines on a bad answer.
-pub(crate) fn head<A: Allocator + Copy>(
+/// The report on a verdict, whole.
+pub(crate) fn report<A: Allocator + Copy>(
     alloc: A,
     verdict: &Verdict<A>,
 ) -> Result<Vec<u8, A>, AllocError>
-    ensures { IfOk result (λ text. text.items ≡ head_of (verdict_shown verdict.now)) }
+    ensures { IfOk result (λ text. text.items ≡ report_of (verdict_shown verdict.now)) }
 {
     match verdict {
-        Verdict::Consistent { spool, answers } => consistent_line(alloc, *answers, spool.counts()),
+        Verdict::Consistent { spool, answers } => {
+            let line = consistent_line(alloc, *answers, spool.counts())?;
+            with_spool(line, spool)
+        }
         Verdict::Bad {
             answer,
             class,
@@ -33,6 +34,36 @@ pub(crate) fn head<A: Allocator + Copy>(
             Ok(text)
         }
     }
+}
+
+/// The line, and then the spool's text.
+fn with_spool<A: Allocator>(line: Vec<u8, A>, spool: &Spool<A>) -> Result<Vec<u8, A>, AllocError>
+    ensures { IfOk result (λ text. text.items ≡ line.items ++ spool_text spool.now) }
+{
+    let mut text = Watched::new(line);
+    match spool.write(&mut text) {
+        Ok(()) => Ok(text.into_inner()),
+        // A vector takes all octets, but where memory is refused.
+        Err(WriteFault) => Err(AllocError),
+    }
+}
+
+/// The report on what `verify` answers.
+pub(crate) fn verified_report<A: Allocator + Copy>(
+    alloc: A,
+    verified: Verified,
+) -> Result<Vec<u8, A>, AllocError>
+    ensures { IfOk result (λ text. text.items ≡ verified_report verified) }
+{
+    let (label, number): (&[u8], u64) = match verified {
+        Verified::Permits { answers } => (b"permits answers=", answers),
+        Verified::Refuses { index } => (b"refuses answer ", index),
+    };
+    let mut buffer = Buffer::new();
+    let mut text = Vec::from_slice(alloc, label)?;
+    text.extend_from_slice(buffer.format(number).as_bytes())?;
+    text.push(b'\n')?;
+    Ok(text)
 }
 
 /// How much explains how many answers.
@@ -142,20 +173,4 @@ fn hexadecimal_digit(n: u8) -> u8
     ensures { result ≡ hexadecimal_digit n }
 {
     if n < 10 { b'0' + n } else { b'a' - 10 + n }
-}
-
-/// Writes the head, and then the spool's text if there is a spool.
-pub(crate) fn write_report<A: Allocator, W: Write>(
-    verdict: &Verdict<A>,
-    head: &[u8],
-    output: &mut Watched<W>,
-) -> Result<(), WriteFault>
-    ensures text { Writes result (W.contents (inner_of output.old)) (W.contents (inner_of output.new)) (head.now ++ tail_of (verdict_shown verdict.now)) }
-    ensures failed { has_failed_of output.new ≡ (has_failed_of output.old || is_err result) }
-{
-    put(output, head)?;
-    match verdict {
-        Verdict::Consistent { spool, .. } => spool.write(output),
-        Verdict::Bad { .. } => Ok(()),
-    }
 }

@@ -2,8 +2,7 @@
 #![tactic(auto)]
 
 use clap::error::ErrorKind;
-use nntp_check::{Failure, RunFault, Task, Watched, job, run_check, status};
-use std::io::BufWriter;
+use nntp_check::{Failure, RunFault, Task, Watched, job, run_check, run_verify, status};
 use std::process::ExitCode;
 use std::{env, io};
 
@@ -34,13 +33,11 @@ fn run(rt: &HostRuntime) -> Result<bool, Failure> {
         Ok(task) => task,
         Err(error) => return Err(Failure::Words(error)),
     };
-    let Ok(output) = BufWriter::new(rt.alloc(), rt.stdout()) else {
-        return Err(Failure::Run(RunFault::Memory));
-    };
     let mut input = Watched::new(rt.stdin());
-    let mut output = Watched::new(output);
+    let mut output = Watched::new(rt.stdout());
     let outcome = match task {
         Task::Check => run_check(rt.alloc(), &mut input, &mut output, MOST),
+        Task::Verify => run_verify(rt.alloc(), &mut input, &mut output, MOST),
     };
     outcome.map_err(Failure::Run)
 }

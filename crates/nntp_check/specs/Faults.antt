@@ -1,0 +1,20 @@
+-- The fault of a run that a fault of its parts is.
+use Rattle.nntp_spool.specs.declared.read_fault.Kind.{Kind}
+use Rattle.nntp_spool.specs.declared.read_fault.Kind.TheVariants as kinds
+use Rattle.nntp_spool.specs.declared.read_fault.ReadFault.{ReadFault}
+use Rattle.nntp_check.specs.declared.capture.CaptureFault.{CaptureFault}
+use Rattle.nntp_check.specs.declared.capture.CaptureFault.TheVariants as pieces
+use Rattle.nntp_check.specs.declared.run_fault.RunFault.{RunFault}
+use Rattle.nntp_check.specs.declared.run_fault.RunFault.TheVariants.{Capture, Spool, Memory}
+
+abbrev pub of_capture : CaptureFault → RunFault
+of_capture (pieces.Piece piece) = Capture piece
+of_capture pieces.Memory = Memory
+
+-- want of memory while a text is read is told as such
+abbrev pub of_kind : ReadFault → Kind → RunFault
+of_kind fault kinds.Memory = Memory
+of_kind fault kind = Spool fault
+
+abbrev pub of_text : ReadFault → RunFault
+of_text fault = of_kind fault fault.kind

@@ -1,0 +1,61 @@
+-- Where a verdict on two streams stands: at the end of their pairing, or at the exchange or the octets that are bad (RFC 3977, section 3.5).
+use Rattle.std.specs.Prelude.{◌≡◌, ◌≢◌, ◌⊎◌, ℕ, List, [], ◌++◌, Option, None, Some, MatchOption, length, take}
+use Rattle.std.specs.Option.{option_map}
+use Rattle.nntp_wire.specs.Octets.{crlf}
+use Rattle.nntp_wire.specs.Lines.{HasNoCrlf}
+use Rattle.nntp_pair.specs.Pairing.{Paired, Unpaired, IsNext, AreNext, IsBad, IsPairing, end, line_ahead, streams}
+use Rattle.nntp_pair.specs.declared.class.PairClass.{PairClass}
+use Rattle.nntp_pair.specs.declared.class.PairClass.TheVariants as pair
+use Rattle.nntp_check.specs.declared.verdict.Class.{Class}
+use Rattle.nntp_check.specs.declared.verdict.Class.TheVariants.{Surplus, Cut, Malformed, Unsupported, OutOfPlace, Contradiction}
+use Rattle.nntp_check.specs.Verdict.{Judgement, consistent, bad}
+
+-- the octets up to the first CRLF, or all of them where there is none
+abbrev pub IsFirstLine : List ℕ → List ℕ → Type 0
+IsFirstLine octets line = HasNoCrlf line × ((octets ≡ line) ⊎ ((rest : List ℕ) × (octets ≡ line ++ crlf ++ rest)))
+
+-- as much of a line as a verdict shows
+abbrev pub shown : List ℕ → List ℕ
+shown line = take 512 line
+
+-- an exchange comes next
+abbrev pub HasNext : Unpaired → Type 0
+HasNext left = (next : Paired) × (behind : Unpaired) × IsNext left next behind
+
+-- the class of octets that answer nothing: the other classes are of an exchange
+abbrev pub pair_class_of : Class → Option PairClass
+pair_class_of Surplus = Some pair.Surplus
+pair_class_of Cut = Some pair.Cut
+pair_class_of Malformed = Some pair.Malformed
+pair_class_of Unsupported = None
+pair_class_of OutOfPlace = None
+pair_class_of Contradiction = None
+
+-- what stands at a bad answer: octets that answer nothing, or an exchange
+abbrev pub StandsAt : Class → Unpaired → Type 0
+StandsAt class left = MatchOption (pair_class_of class) (HasNext left) (λ c. IsBad c left)
+
+-- behind so many exchanges octets are left, and the verdict shows the command and the reply there
+pub record IsBadAnswer (client server : List ℕ) (answer : ℕ) (class : Class) (command : Option (List ℕ)) (reply : List ℕ) : Type 0 where
+  pub pairs : List Paired
+  pub left : Unpaired
+  pub before : AreNext (streams client server) pairs left
+  pub place : answer ≡ length pairs
+  pub some : left.server ≢ []
+  pub stands : StandsAt class left
+  pub command_is : command ≡ option_map shown (line_ahead left.places)
+  pub line : List ℕ
+  pub first : IsFirstLine left.server line
+  pub reply_is : reply ≡ shown line
+
+-- the pairing of both streams ends with no octet left, behind so many exchanges
+pub record IsAnsweredThroughout (client server : List ℕ) (answers : ℕ) : Type 0 where
+  pub pairs : List Paired
+  pub unanswered : ℕ
+  pub pairing : IsPairing client server pairs (end unanswered)
+  pub count : answers ≡ length pairs
+
+-- a verdict stands where the pairing of both streams says
+abbrev pub IsPlaced : List ℕ → List ℕ → Judgement → Type 0
+IsPlaced client server (consistent spool answers) = IsAnsweredThroughout client server answers
+IsPlaced client server (bad answer class command reply) = IsBadAnswer client server answer class command reply

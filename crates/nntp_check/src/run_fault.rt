@@ -1,0 +1,72 @@
+//! Why a run gives no answer.
+ghost use Rattle.std.specs.Prelude.{◌≡◌};
+ghost use Rattle.nntp_check.specs.Faults.{of_capture, of_text};
+ghost use Rattle.nntp_check.specs.declared.run_fault.RunFault.TheVariants.{Memory, Write};
+
+use crate::capture::CaptureFault;
+use nntp_spool::{Kind, ReadFault, WriteFault};
+use std::alloc::AllocError;
+use thiserror::Error;
+
+/// Why a run gives no answer. Of the first five nothing was written.
+#[derive(Clone, Copy, Debug, PartialEq, Eq, Error)]
+pub enum RunFault {
+    /// The reader answered an error, be it that a call was interrupted.
+    #[error("read failed")]
+    Read,
+    /// More octets came than the run may read.
+    #[error("input too long")]
+    TooLong,
+    /// The input is no capture.
+    #[error("bad capture piece {piece}")]
+    Capture {
+        /// The first piece that is none, counted from 1.
+        piece: u64,
+    },
+    /// The joined spool pieces are the text of no spool.
+    #[error("{0}")]
+    Spool(ReadFault),
+    #[error("out of memory")]
+    Memory,
+    /// The writer answered an error, or took none of some octets. It took a front of the text.
+    #[error("write failed")]
+    Write,
+}
+
+impl From<AllocError> for RunFault {
+    ghost from_gives = { λ _ fault. fault ≡ Memory };
+
+    fn from(_error: AllocError) -> RunFault {
+        RunFault::Memory
+    }
+}
+
+impl From<WriteFault> for RunFault {
+    ghost from_gives = { λ _ fault. fault ≡ Write };
+
+    fn from(_fault: WriteFault) -> RunFault {
+        RunFault::Write
+    }
+}
+
+impl From<CaptureFault> for RunFault {
+    ghost from_gives = { λ fault result. result ≡ of_capture fault };
+
+    fn from(fault: CaptureFault) -> RunFault {
+        match fault {
+            CaptureFault::Piece(piece) => RunFault::Capture { piece },
+            CaptureFault::Memory => RunFault::Memory,
+        }
+    }
+}
+
+impl From<ReadFault> for RunFault {
+    ghost from_gives = { λ fault result. result ≡ of_text fault };
+
+    fn from(fault: ReadFault) -> RunFault {
+        match fault.kind {
+            Kind::Memory => RunFault::Memory,
+            _ => RunFault::Spool(fault),
+        }
+    }
+}
