@@ -8,6 +8,7 @@ mod capture;
 mod command_line;
 mod facts;
 mod judge;
+pub mod laws;
 mod report;
 mod run;
 mod verdict;
