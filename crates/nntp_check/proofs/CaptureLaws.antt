@@ -1,7 +1,7 @@
 -- Octets are a capture or have a first bad piece, and that in one way.
 use Rattle.std.proofs.Common.{◌≡◌, ◌≢◌, ◌⊎◌, ℕ, zero, suc, ◌+◌, ◌≤◌, List, [], ◌∷◌, ◌++◌, length, flat_map, inl, inr, refl, sym, ap, subst, ◌∙◌, append_assoc, arith, length-append}
 use Rattle.std.specs.List.{AllByRecursion}
-use Rattle.nntp_check.specs.Capture.{Part, spelled, IsPiece, BeginsNoPiece, octets_if, Begins, AreStreams, IsCapture, IsBadPiece}
+use Rattle.nntp_check.specs.Capture.{Part, spelled, IsPiece, BeginsNoPiece, octets_from, Begins, AreStreams, IsCapture, IsBadPiece}
 use Rattle.nntp_check.specs.declared.capture.Source.TheVariants.{Client, Server, Spool}
 use Rattle.nntp_check.proofs.CaptureLemmas.{spelled-length}
 use Rattle.nntp_check.proofs.FirstPiece.{one-piece, dec_piece}
@@ -44,9 +44,9 @@ capture-or-bad octets = by (has-end (length octets) octets (omega arith))
   where
     by : HasEnd octets → IsCapture octets ⊎ ((number : ℕ) × IsBadPiece octets number)
     by (parts, rest, pieces, inl end) = inl (
-      flat_map (octets_if Client) parts,
-      flat_map (octets_if Server) parts,
-      flat_map (octets_if Spool) parts,
+      flat_map (octets_from Client) parts,
+      flat_map (octets_from Server) parts,
+      flat_map (octets_from Spool) parts,
       record { parts = parts; pieces = subst (Begins octets parts) end pieces; from_client = refl; from_server = refl; from_spool = refl },
     )
     by (parts, rest, pieces, inr (some, none)) = inr (length parts + 1, record { parts = parts; rest = rest; pieces = pieces; some = some; none = none; place = refl })
@@ -85,9 +85,9 @@ pub one-capture : (octets client other_client server other_server spool other_sp
     → (client ≡ other_client) × (server ≡ other_server) × (spool ≡ other_spool)
 one-capture octets client other_client server other_server spool other_spool s t =
     let same = (one-begin octets s.parts t.parts [] [] s.pieces t.pieces nil-no-piece nil-no-piece).0 in (
-      s.from_client ∙ ap (flat_map (octets_if Client)) same ∙ sym t.from_client,
-      s.from_server ∙ ap (flat_map (octets_if Server)) same ∙ sym t.from_server,
-      s.from_spool ∙ ap (flat_map (octets_if Spool)) same ∙ sym t.from_spool,
+      s.from_client ∙ ap (flat_map (octets_from Client)) same ∙ sym t.from_client,
+      s.from_server ∙ ap (flat_map (octets_from Server)) same ∙ sym t.from_server,
+      s.from_spool ∙ ap (flat_map (octets_from Spool)) same ∙ sym t.from_spool,
     )
 
 -- and so is the number of the first bad piece

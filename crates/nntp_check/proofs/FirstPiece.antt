@@ -3,8 +3,10 @@ use Rattle.std.proofs.Common.{◌≡◌, ◌≢◌, ◌⊎◌, ℕ, ◌+◌, tru
 use Rattle.std.proofs.lemmas.Bool.{cases_Bool, cases_eq, cases_lt, and_from, and_parts, true≢false}
 use Rattle.std.proofs.lemmas.List.{append_cancel_left, take-append-drop}
 use Rattle.std.proofs.Math.Seq.{take-append_seam}
+use Rattle.std.specs.List.{list_all}
+use Rattle.std.specs.Char.{is_ascii_digit}
 use Rattle.nntp_wire.proofs.Decide.{Dec, dec_by}
-use Rattle.nntp_check.specs.Capture.{Part, word_of, spelled, IsPiece, BeginsNoWord, BeginsNoPiece, count_of, all_digits, is_digit}
+use Rattle.nntp_check.specs.Capture.{Part, word_of, spelled, IsPiece, BeginsNoWord, BeginsNoPiece, count_of}
 use Rattle.nntp_check.specs.declared.capture.Source.{Source}
 use Rattle.nntp_check.specs.declared.capture.Source.TheVariants.{Client, Server, Spool}
 use Rattle.nntp_check.proofs.CaptureLemmas.{one_word, spelled-append, counted, piece_line}
@@ -12,14 +14,14 @@ use Rattle.nntp_check.proofs.CaptureLemmas.{one_word, spelled-append, counted, p
 -- ---- one piece
 
 -- digits up to LF, and what follows it
-one_line : (ds es after more : List ℕ) → all_digits ds ≡ true → all_digits es ≡ true → ds ++ 10 ∷ after ≡ es ++ 10 ∷ more → (ds ≡ es) × (after ≡ more)
+one_line : (ds es after more : List ℕ) → list_all is_ascii_digit ds ≡ true → list_all is_ascii_digit es ≡ true → ds ++ 10 ∷ after ≡ es ++ 10 ∷ more → (ds ≡ es) × (after ≡ more)
 one_line [] [] after more h i e = (refl, cc)
-one_line [] (c ∷ es) after more h i e = let is : c ≡ 10 = cc in absurd (true≢false (sym i ∙ ap (λ x. all_digits (x ∷ es)) is))
-one_line (b ∷ ds) [] after more h i e = let is : b ≡ 10 = cc in absurd (true≢false (sym h ∙ ap (λ x. all_digits (x ∷ ds)) is))
+one_line [] (c ∷ es) after more h i e = let is : c ≡ 10 = cc in absurd (true≢false (sym i ∙ ap (λ x. list_all is_ascii_digit (x ∷ es)) is))
+one_line (b ∷ ds) [] after more h i e = let is : b ≡ 10 = cc in absurd (true≢false (sym h ∙ ap (λ x. list_all is_ascii_digit (x ∷ ds)) is))
 one_line (b ∷ ds) (c ∷ es) after more h i e =
     let first : b ≡ c = cc in
     let behind : ds ++ 10 ∷ after ≡ es ++ 10 ∷ more = cc in
-    let rest = one_line ds es after more (and_parts (is_digit b) (all_digits ds) h).1 (and_parts (is_digit c) (all_digits es) i).1 behind in
+    let rest = one_line ds es after more (and_parts (is_ascii_digit b) (list_all is_ascii_digit ds) h).1 (and_parts (is_ascii_digit c) (list_all is_ascii_digit es) i).1 behind in
     ((λ k. first k ∷ rest.0 k), rest.1)
 
 -- equally many octets, and what follows them
@@ -69,7 +71,7 @@ dec_word bytes = by (dec_front (word_of Client) bytes) (dec_front (word_of Serve
 
 -- digits up to LF
 abbrev HasDigits : List ℕ → Type 0
-HasDigits line = (ds : List ℕ) × (after : List ℕ) × (all_digits ds ≡ true) × (line ≡ ds ++ 10 ∷ after)
+HasDigits line = (ds : List ℕ) × (after : List ℕ) × (list_all is_ascii_digit ds ≡ true) × (line ≡ ds ++ 10 ∷ after)
 
 -- whether digits up to LF are at the front
 dec_digits : (line : List ℕ) → Dec (HasDigits line)
@@ -80,25 +82,25 @@ dec_digits [] = inr (λ h. none h.0 h.1 h.3)
     none (d ∷ ds) after e = cc
 dec_digits (b ∷ line) = elim (cases_eq b 10) [
   | inl is ↦ inl ([], line, refl, ap (λ x. x ∷ line) is)
-  | inr other ↦ elim (cases_Bool (is_digit b)) [
-    | inl digit ↦ dec_by (λ h. (b ∷ h.0, h.1, and_from (is_digit b) (all_digits h.0) digit h.2, ap (λ t. b ∷ t) h.3)) (λ h. (behind h.0 h.1 other h.2 h.3).1) (dec_digits line)
+  | inr other ↦ elim (cases_Bool (is_ascii_digit b)) [
+    | inl digit ↦ dec_by (λ h. (b ∷ h.0, h.1, and_from (is_ascii_digit b) (list_all is_ascii_digit h.0) digit h.2, ap (λ t. b ∷ t) h.3)) (λ h. (behind h.0 h.1 other h.2 h.3).1) (dec_digits line)
     | inr none ↦ inr (λ h. true≢false (sym (behind h.0 h.1 other h.2 h.3).0 ∙ none))
   ]
 ]
   where
-    behind : (ds after : List ℕ) → b ≢ 10 → all_digits ds ≡ true → b ∷ line ≡ ds ++ 10 ∷ after → (is_digit b ≡ true) × HasDigits line
+    behind : (ds after : List ℕ) → b ≢ 10 → list_all is_ascii_digit ds ≡ true → b ∷ line ≡ ds ++ 10 ∷ after → (is_ascii_digit b ≡ true) × HasDigits line
     behind [] after other h e = absurd (other (cc))
     behind (d ∷ ds) after other h e =
-        let both = and_parts (is_digit d) (all_digits ds) h in
+        let both = and_parts (is_ascii_digit d) (list_all is_ascii_digit ds) h in
         let same : b ≡ d = cc in
-        (ap is_digit same ∙ both.0, (ds, after, both.1, (cc)))
+        (ap is_ascii_digit same ∙ both.0, (ds, after, both.1, (cc)))
 
 -- octets begin with a piece
 abbrev pub BeginsWithPiece : List ℕ → Type 0
 BeginsWithPiece bytes = (p : Part) × (more : List ℕ) × IsPiece p × (bytes ≡ spelled p ++ more)
 
 -- where digits and LF are behind the word
-at_count : (s : Source) (bytes ds after : List ℕ) (count : Option ℕ) → all_digits ds ≡ true → bytes ≡ word_of s ++ (ds ++ 10 ∷ after) → count_of ds ≡ count → BeginsWithPiece bytes ⊎ BeginsNoPiece bytes
+at_count : (s : Source) (bytes ds after : List ℕ) (count : Option ℕ) → list_all is_ascii_digit ds ≡ true → bytes ≡ word_of s ++ (ds ++ 10 ∷ after) → count_of ds ≡ count → BeginsWithPiece bytes ⊎ BeginsNoPiece bytes
 at_count s bytes ds after None digits e none = inr (λ p more is f.
     let line = one_line ds p.digits after (p.octets ++ more) digits (counted p.digits (length p.octets) is) (piece_line s bytes (ds ++ 10 ∷ after) p more e f) in
     let some : None ≡ Some (length p.octets) = sym none ∙ ap count_of line.0 ∙ is in
