@@ -10,6 +10,7 @@ mod command_line;
 mod facts;
 mod input;
 mod judge;
+pub mod laws;
 mod report;
 mod run;
 mod run_fault;

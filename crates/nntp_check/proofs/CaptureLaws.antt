@@ -1,0 +1,95 @@
+-- Octets are a capture or have a first bad piece, and that in one way.
+use Rattle.std.proofs.Common.{◌≡◌, ◌≢◌, ◌⊎◌, ℕ, zero, suc, ◌+◌, ◌≤◌, List, [], ◌∷◌, ◌++◌, length, flat_map, inl, inr, refl, sym, ap, subst, ◌∙◌, append_assoc, arith, length-append}
+use Rattle.std.specs.List.{AllByRecursion}
+use Rattle.nntp_check.specs.Capture.{Part, spelled, IsPiece, BeginsNoPiece, octets_from, Begins, AreStreams, IsCapture, IsBadPiece}
+use Rattle.nntp_check.specs.declared.capture.Source.TheVariants.{Client, Server, Spool}
+use Rattle.nntp_check.proofs.CaptureLemmas.{spelled-length}
+use Rattle.nntp_check.proofs.FirstPiece.{one-piece, dec_piece}
+
+-- ---- one of both
+
+-- pieces, and then the end, or octets that begin no piece
+abbrev HasEnd : List ℕ → Type 0
+HasEnd bytes = (parts : List Part) × (rest : List ℕ) × Begins bytes parts rest × ((rest ≡ []) ⊎ ((rest ≢ []) × BeginsNoPiece rest))
+
+-- a piece more in front
+begins-cons : (bytes more : List ℕ) (p : Part) (parts : List Part) (rest : List ℕ) → IsPiece p → bytes ≡ spelled p ++ more → Begins more parts rest → Begins bytes (p ∷ parts) rest
+begins-cons bytes more p parts rest is e b = record {
+  whole = e ∙ ap (λ t. spelled p ++ t) b.whole ∙ sym (append_assoc (spelled p) (flat_map spelled parts) rest);
+  each = (is, b.each);
+}
+
+-- what follows a piece is shorter
+behind-shorter : (n : ℕ) (bytes more : List ℕ) (p : Part) → length bytes ≤ suc n → bytes ≡ spelled p ++ more → length more ≤ n
+behind-shorter n bytes more p few e =
+    let some = spelled-length p in
+    let all : length bytes ≡ length (spelled p) + length more = ap length e ∙ length-append (spelled p) more in
+    omega arith
+
+-- octets, at most so many, have an end
+has-end : (n : ℕ) (bytes : List ℕ) → length bytes ≤ n → HasEnd bytes
+has-end zero [] few = ([], [], record { whole = refl; each = tt }, inl refl)
+has-end zero (b ∷ bytes) few = absurd (omega arith)
+has-end (suc n) [] few = ([], [], record { whole = refl; each = tt }, inl refl)
+has-end (suc n) (b ∷ bytes) few = elim (dec_piece (b ∷ bytes)) [
+  | inl (p, more, is, e) ↦
+      let after = has-end n more (behind-shorter n (b ∷ bytes) more p few e) in
+      (p ∷ after.0, after.1, begins-cons (b ∷ bytes) more p after.0 after.1 is e after.2, after.3)
+  | inr none ↦ ([], b ∷ bytes, record { whole = refl; each = tt }, inr ((λ e. cc), none))
+]
+
+-- a capture, or a first bad piece
+pub capture-or-bad : (octets : List ℕ) → IsCapture octets ⊎ ((number : ℕ) × IsBadPiece octets number)
+capture-or-bad octets = by (has-end (length octets) octets (omega arith))
+  where
+    by : HasEnd octets → IsCapture octets ⊎ ((number : ℕ) × IsBadPiece octets number)
+    by (parts, rest, pieces, inl end) = inl (
+      flat_map (octets_from Client) parts,
+      flat_map (octets_from Server) parts,
+      flat_map (octets_from Spool) parts,
+      record { parts = parts; pieces = subst (Begins octets parts) end pieces; from_client = refl; from_server = refl; from_spool = refl },
+    )
+    by (parts, rest, pieces, inr (some, none)) = inr (length parts + 1, record { parts = parts; rest = rest; pieces = pieces; some = some; none = none; place = refl })
+
+-- ---- in one way
+
+-- where no octets are, no piece is
+nil-no-piece : BeginsNoPiece []
+nil-no-piece p more is e =
+    let some = spelled-length p in
+    let none : 0 ≡ length (spelled p) + length more = ap length e ∙ length-append (spelled p) more in
+    omega arith
+
+-- pieces up to what begins none are determined
+same-parts : (parts others : List Part) (rest left : List ℕ) → AllByRecursion IsPiece parts → AllByRecursion IsPiece others → BeginsNoPiece rest → BeginsNoPiece left
+    → flat_map spelled parts ++ rest ≡ flat_map spelled others ++ left → (parts ≡ others) × (rest ≡ left)
+same-parts [] [] rest left each also none no_more e = (refl, e)
+same-parts [] (q ∷ others) rest left each also none no_more e = absurd (none q (flat_map spelled others ++ left) also.0 (e ∙ append_assoc (spelled q) (flat_map spelled others) left))
+same-parts (p ∷ parts) [] rest left each also none no_more e = absurd (no_more p (flat_map spelled parts ++ rest) each.0 (sym e ∙ append_assoc (spelled p) (flat_map spelled parts) rest))
+same-parts (p ∷ parts) (q ∷ others) rest left each also none no_more e =
+    let first = one-piece p q (flat_map spelled parts ++ rest) (flat_map spelled others ++ left) each.0 also.0
+    (sym (append_assoc (spelled p) (flat_map spelled parts) rest) ∙ e ∙ append_assoc (spelled q) (flat_map spelled others) left) in
+    let behind = same-parts parts others rest left each.1 also.1 none no_more first.1 in
+    ((λ k. first.0 k ∷ behind.0 k), behind.1)
+
+-- the same of octets
+one-begin : (octets : List ℕ) (parts others : List Part) (rest left : List ℕ) → Begins octets parts rest → Begins octets others left → BeginsNoPiece rest → BeginsNoPiece left → (parts ≡ others) × (rest ≡ left)
+one-begin octets parts others rest left b c none no_more = same-parts parts others rest left b.each c.each none no_more (sym b.whole ∙ c.whole)
+
+-- never a capture with a bad piece
+pub not-both : (octets : List ℕ) (number : ℕ) → IsCapture octets → IsBadPiece octets number → ⊥
+not-both octets number (client, server, spool, s) b = b.some (sym (one-begin octets s.parts b.parts [] b.rest s.pieces b.pieces nil-no-piece b.none).1)
+
+-- its streams are determined
+pub one-capture : (octets client other_client server other_server spool other_spool : List ℕ) → AreStreams octets client server spool → AreStreams octets other_client other_server other_spool
+    → (client ≡ other_client) × (server ≡ other_server) × (spool ≡ other_spool)
+one-capture octets client other_client server other_server spool other_spool s t =
+    let same = (one-begin octets s.parts t.parts [] [] s.pieces t.pieces nil-no-piece nil-no-piece).0 in (
+      s.from_client ∙ ap (flat_map (octets_from Client)) same ∙ sym t.from_client,
+      s.from_server ∙ ap (flat_map (octets_from Server)) same ∙ sym t.from_server,
+      s.from_spool ∙ ap (flat_map (octets_from Spool)) same ∙ sym t.from_spool,
+    )
+
+-- and so is the number of the first bad piece
+pub one-bad-piece : (octets : List ℕ) (number other : ℕ) → IsBadPiece octets number → IsBadPiece octets other → number ≡ other
+one-bad-piece octets number other b c = b.place ∙ ap (λ parts. length parts + 1) (one-begin octets b.parts c.parts b.rest c.rest b.pieces c.pieces b.none c.none).0 ∙ sym c.place
