@@ -1,6 +1,6 @@
 //! The command line, the words on standard error, and the exit status.
 use clap::error::ErrorKind;
-use nntp_check::{Failure, RunFault, Task, job, status};
+use nntp_check::{Failure, Kind, ReadFault, RunFault, Task, job, status};
 use std::alloc::{AllocError, Global};
 use std::process::Abort;
 use std::test::Fail;
@@ -14,9 +14,11 @@ fn words(alloc: Global, of: &[&str]) -> Result<Vec<String>, AllocError> {
 }
 
 #[test]
-fn check_is_a_task(rt: HostRuntime) -> Result<(), Fail> {
-    let words = words(rt.alloc(), &["nntpcheck", "check"])?;
-    assert_eq!(rt; job(rt.alloc(), &words)?, Task::Check);
+fn words_that_ask_for_a_task(rt: HostRuntime) -> Result<(), Fail> {
+    let check = words(rt.alloc(), &["nntpcheck", "check"])?;
+    assert_eq!(rt; job(rt.alloc(), &check)?, Task::Check);
+    let verify = words(rt.alloc(), &["nntpcheck", "verify"])?;
+    assert_eq!(rt; job(rt.alloc(), &verify)?, Task::Verify);
     Ok(())
 }
 
@@ -31,7 +33,7 @@ fn words_that_ask_for_no_task(rt: HostRuntime) -> Result<(), Fail> {
             ErrorKind::UnknownArgument,
             2,
         ),
-        (&["nntpcheck", "verify"], ErrorKind::InvalidSubcommand, 2),
+        (&["nntpcheck", "verify", "x"], ErrorKind::UnknownArgument, 2),
         (&["nntpcheck", "show"], ErrorKind::InvalidSubcommand, 2),
         (&["nntpcheck", "--help"], ErrorKind::DisplayHelp, 0),
         (&["nntpcheck", "check", "-h"], ErrorKind::DisplayHelp, 0),
@@ -59,6 +61,13 @@ fn faults_by_name(rt: HostRuntime) -> Result<(), Fail> {
         (
             RunFault::Capture { piece: 7 },
             "nntpcheck: bad capture piece 7",
+        ),
+        (
+            RunFault::Spool(ReadFault {
+                line: 12,
+                kind: Kind::DuplicateId,
+            }),
+            "nntpcheck: spool line 12 DuplicateId",
         ),
         (RunFault::Memory, "nntpcheck: out of memory"),
         (RunFault::Write, "nntpcheck: write failed"),

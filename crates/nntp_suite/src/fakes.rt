@@ -37,6 +37,17 @@ pub(crate) fn reader(left: &[u8], most: usize, fails_at: u64) -> Watched<FakeRea
     })
 }
 
+/// Gives octets for ever.
+#[derive(Drop)]
+pub(crate) struct EndlessReader;
+
+impl Read for EndlessReader {
+    fn read(&mut self, buf: &mut [u8]) -> io::Result<usize> {
+        buf.fill(b'x');
+        Ok(buf.len())
+    }
+}
+
 /// What a full sink does.
 #[derive(Clone, Copy)]
 pub(crate) enum Full {

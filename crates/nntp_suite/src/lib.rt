@@ -6,6 +6,8 @@ mod command_lines;
 #[cfg(test)]
 mod fakes;
 #[cfg(test)]
+mod given_spools;
+#[cfg(test)]
 mod runs;
 #[cfg(test)]
 mod sessions;

@@ -1,8 +1,18 @@
 //! Runs over captures, by readers and writers that give and take a little or fail.
-use crate::fakes::{Full, reader, writer};
-use nntp_check::{Failure, RunFault, Verdict, check, run_check, status};
+use crate::fakes::{EndlessReader, Full, reader, writer};
+use nntp_check::{Failure, RunFault, Task, Verdict, Watched, check, run_check, run_verify, status};
+use std::alloc::Global;
+use std::io::{Read, Write};
 use std::process::Abort;
 use std::test::Fail;
+
+/// A run by its task: the capture that it reads and the report that it writes.
+#[derive(Clone, Copy)]
+struct Run {
+    task: Task,
+    capture: &'static [u8],
+    report: &'static [u8],
+}
 
 /// A session of two commands, in two pieces.
 const CAPTURE: &[u8] =
@@ -11,17 +21,50 @@ const CAPTURE: &[u8] =
 const REPORT: &[u8] =
     b"consistent answers=3 groups=1 numbers=0 articles=0\nspool 1\ngroup g 0\nend\n";
 
+const RUNS: [Run; 2] = [
+    Run {
+        task: Task::Check,
+        capture: CAPTURE,
+        report: REPORT,
+    },
+    Run {
+        task: Task::Verify,
+        capture: b"client 15\nGROUP g\r\nQUIT\r\nserver 30\n200 hi\r\n211 0 1 0 g\r\n205 bye\r\nspool 22\nspool 1\ngroup g 0\nend\n",
+        report: b"permits answers=3\n",
+    },
+];
+
+fn run<R: Read, W: Write>(
+    alloc: Global,
+    task: Task,
+    input: &mut Watched<R>,
+    output: &mut Watched<W>,
+    most: u64,
+) -> Result<bool, RunFault> {
+    match task {
+        Task::Check => run_check(alloc, input, output, most),
+        Task::Verify => run_verify(alloc, input, output, most),
+    }
+}
+
 #[test]
 fn report_of_a_capture(rt: HostRuntime) -> Result<(), Fail> {
-    for most in [1, 7, 4096] {
-        let mut input = reader(CAPTURE, most, 0);
-        let mut output = writer(rt.alloc(), 1000, most, Full::Fails);
-        let answer = run_check(rt.alloc(), &mut input, &mut output, 65)?;
-        assert!(rt; answer);
-        assert!(rt; !input.failed() && !output.failed());
-        let written = output.into_inner();
-        assert_eq!(rt; written.held.as_slice(), REPORT, "{most} octets at a time");
-        assert_eq!(rt; written.flushes, 1);
+    for row in RUNS {
+        let task = row.task;
+        for most in [1, 7, 4096] {
+            let mut input = reader(row.capture, most, 0);
+            let mut output = writer(rt.alloc(), 1000, most, Full::Fails);
+            let length = row.capture.len() as u64;
+            assert!(rt; run(rt.alloc(), task, &mut input, &mut output, length)?);
+            assert!(rt; !input.failed() && !output.failed());
+            let written = output.into_inner();
+            assert_eq!(rt;
+                written.held.as_slice(),
+                row.report,
+                "{task:?} by {most} octets"
+            );
+            assert_eq!(rt; written.flushes, 1);
+        }
     }
     Ok(())
 }
@@ -62,40 +105,71 @@ fn no_capture_or_too_long(rt: HostRuntime) {
         ),
     ];
     for (octets, most, fault) in rows {
-        let mut input = reader(octets, 4096, 0);
+        for task in [Task::Check, Task::Verify] {
+            let mut input = reader(octets, 4096, 0);
+            let mut output = writer(rt.alloc(), 1000, 1000, Full::Fails);
+            let outcome = run(rt.alloc(), task, &mut input, &mut output, most);
+            assert_eq!(rt; outcome, Err(fault));
+            let written = output.into_inner();
+            assert!(rt; written.held.is_empty());
+            assert_eq!(rt; written.flushes, 0);
+            assert_eq!(rt; status(&outcome.map_err(Failure::Run)), 3);
+        }
+    }
+}
+
+#[test]
+fn an_input_without_end_is_too_long(rt: HostRuntime) {
+    for task in [Task::Check, Task::Verify] {
+        let mut input = Watched::new(EndlessReader);
         let mut output = writer(rt.alloc(), 1000, 1000, Full::Fails);
-        let outcome = run_check(rt.alloc(), &mut input, &mut output, most);
-        assert_eq!(rt; outcome, Err(fault));
+        let outcome = run(rt.alloc(), task, &mut input, &mut output, 1000);
+        assert_eq!(rt; outcome, Err(RunFault::TooLong));
         assert!(rt; output.into_inner().held.is_empty());
-        assert_eq!(rt; status(&outcome.map_err(Failure::Run)), 3);
     }
 }
 
 #[test]
 fn failing_reads_leave_nothing_written(rt: HostRuntime) {
-    for fails_at in 1..=11u64 {
-        let mut input = reader(CAPTURE, 7, fails_at);
+    for row in RUNS {
+        let task = row.task;
+        // One read for each seven octets or fewer, and one that finds the end.
+        let reads = row.capture.len().div_ceil(7) as u64 + 1;
+        for fails_at in 1..=reads {
+            let mut input = reader(row.capture, 7, fails_at);
+            let mut output = writer(rt.alloc(), 1000, 1000, Full::Fails);
+            let outcome = run(rt.alloc(), task, &mut input, &mut output, 1 << 30);
+            assert_eq!(rt; outcome, Err(RunFault::Read), "{task:?} at read {fails_at}");
+            assert!(rt; input.failed());
+            let written = output.into_inner();
+            assert!(rt; written.held.is_empty());
+            assert_eq!(rt; written.flushes, 0);
+        }
+        let mut input = reader(row.capture, 7, reads + 1);
         let mut output = writer(rt.alloc(), 1000, 1000, Full::Fails);
-        let outcome = run_check(rt.alloc(), &mut input, &mut output, 1 << 30);
-        assert_eq!(rt; outcome, Err(RunFault::Read), "at read {fails_at}");
-        assert!(rt; input.failed());
-        let written = output.into_inner();
-        assert!(rt; written.held.is_empty());
-        assert_eq!(rt; written.flushes, 0);
+        let outcome = run(rt.alloc(), task, &mut input, &mut output, 1 << 30);
+        assert_eq!(rt;
+            outcome,
+            Ok(true),
+            "{task:?} reads to the end, and no further"
+        );
     }
 }
 
 #[test]
 fn failing_writes_leave_a_front_of_the_report(rt: HostRuntime) {
-    for full in [Full::Fails, Full::TakesNone] {
-        for room in 0..REPORT.len() {
-            let mut input = reader(CAPTURE, 4096, 0);
-            let mut output = writer(rt.alloc(), room, 5, full);
-            let outcome = run_check(rt.alloc(), &mut input, &mut output, 1 << 30);
-            assert_eq!(rt; outcome, Err(RunFault::Write), "at octet {room}");
-            assert!(rt; output.failed());
-            let written = output.into_inner();
-            assert_eq!(rt; written.held.as_slice(), &REPORT[..room]);
+    for row in RUNS {
+        let task = row.task;
+        for full in [Full::Fails, Full::TakesNone] {
+            for room in 0..row.report.len() {
+                let mut input = reader(row.capture, 4096, 0);
+                let mut output = writer(rt.alloc(), room, 5, full);
+                let outcome = run(rt.alloc(), task, &mut input, &mut output, 1 << 30);
+                assert_eq!(rt; outcome, Err(RunFault::Write), "{task:?} at octet {room}");
+                assert!(rt; output.failed());
+                let written = output.into_inner();
+                assert_eq!(rt; written.held.as_slice(), &row.report[..room]);
+            }
         }
     }
 }

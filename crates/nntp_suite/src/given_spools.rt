@@ -1,0 +1,88 @@
+//! Runs of `verify`: a session, the text of a spool, and whether the spool explains the session.
+use crate::fakes::{Full, reader, writer};
+use nntp_check::{Failure, Kind, ReadFault, RunFault, run_verify, status};
+use std::process::Abort;
+use std::test::Fail;
+
+/// GROUP, and then NEXT, which gives the group's second number.
+const SESSION: &str =
+    "client 15\nGROUP g\r\nNEXT\r\nserver 34\n200 hi\r\n211 3 1 5 g\r\n223 4 <b@x>\r\n";
+
+/// A spool that explains it, of 160 octets.
+const SPOOL: &str =
+    "spool 1\ngroup g 2\n1 <w0@invented.invalid>\n4 <b@x>\narticle <b@x> 1 0\n|Message-ID: <b@x>\narticle <w0@invented.invalid> 1 0\n|Message-ID: <w0@invented.invalid>\nend\n";
+
+/// What a run over the session and these pieces answers and writes.
+fn verified(rt: &HostRuntime, spool: &str) -> Result<(bool, Vec<u8>), Fail> {
+    let capture = format!(in rt.alloc(); "{SESSION}{spool}")?;
+    let mut input = reader(capture.as_bytes(), 4096, 0);
+    let mut output = writer(rt.alloc(), 1000, 1000, Full::Fails);
+    let answer = run_verify(rt.alloc(), &mut input, &mut output, 1 << 30)?;
+    Ok((answer, output.into_inner().held))
+}
+
+#[test]
+fn spools_that_explain_a_session_and_one_that_does_not(rt: HostRuntime) -> Result<(), Fail> {
+    let rows: [(&str, bool, &[u8]); 3] = [
+        (SPOOL, true, b"permits answers=3\n"),
+        (
+            "spool 1\ngroup g 2\n2 <w0@invented.invalid>\n4 <b@x>\narticle <b@x> 1 0\n|Message-ID: <b@x>\narticle <w0@invented.invalid> 1 0\n|Message-ID: <w0@invented.invalid>\nend\n",
+            true,
+            b"permits answers=3\n",
+        ),
+        (
+            "spool 1\ngroup g 2\n1 <w0@invented.invalid>\n4 <c@x>\narticle <c@x> 1 0\n|Message-ID: <c@x>\narticle <w0@invented.invalid> 1 0\n|Message-ID: <w0@invented.invalid>\nend\n",
+            false,
+            b"refuses answer 2\n",
+        ),
+    ];
+    for (text, answer, report) in rows {
+        let pieces = format!(in rt.alloc(); "spool {}\n{text}", text.len())?;
+        let (answered, written) = verified(&rt, pieces.as_str())?;
+        assert_eq!(rt; written.as_slice(), report);
+        assert_eq!(rt; answered, answer);
+    }
+    Ok(())
+}
+
+#[test]
+fn the_text_of_a_spool_in_two_pieces(rt: HostRuntime) -> Result<(), Fail> {
+    assert_eq!(rt; SPOOL.len(), 160);
+    let (front, rest) = SPOOL.split_at(50);
+    let pieces = format!(in rt.alloc(); "spool 50\n{front}spool 110\n{rest}")?;
+    let (answer, written) = verified(&rt, pieces.as_str())?;
+    assert_eq!(rt; written.as_slice(), b"permits answers=3\n".as_slice());
+    assert!(rt; answer);
+    Ok(())
+}
+
+#[test]
+fn texts_of_no_spool(rt: HostRuntime) -> Result<(), Fail> {
+    let rows = [
+        ("", 1, Kind::Shape),
+        ("spool 7\nspool 1", 1, Kind::Shape),
+        ("spool 8\nspool 1\n", 2, Kind::Shape),
+        ("spool 24\nspool 1\ngroup a,b 0\nend\n", 2, Kind::Name),
+        ("spool 27\nspool 1\ngroup g 1\n0 <a@b>\n\n", 3, Kind::Number),
+        (
+            "spool 32\nspool 1\ngroup h 0\ngroup g 0\nend\n",
+            3,
+            Kind::Order,
+        ),
+        ("spool 12\nspool 1\nend\nspool 4\nend\n", 3, Kind::Shape),
+    ];
+    for (pieces, line, kind) in rows {
+        let capture = format!(in rt.alloc(); "{SESSION}{pieces}")?;
+        let mut input = reader(capture.as_bytes(), 4096, 0);
+        let mut output = writer(rt.alloc(), 1000, 1000, Full::Fails);
+        let outcome = run_verify(rt.alloc(), &mut input, &mut output, 1 << 30);
+        assert_eq!(rt;
+            outcome,
+            Err(RunFault::Spool(ReadFault { line, kind })),
+            "{pieces}"
+        );
+        assert!(rt; output.into_inner().held.is_empty());
+        assert_eq!(rt; status(&outcome.map_err(Failure::Run)), 3);
+    }
+    Ok(())
+}
