@@ -34,7 +34,7 @@ const RUNS: [Run; 2] = [
     },
 ];
 
-fn run<R: Read, W: Write>(
+fn perform<R: Read, W: Write>(
     alloc: Global,
     task: Task,
     input: &mut Watched<R>,
@@ -55,7 +55,7 @@ fn report_of_a_capture(rt: HostRuntime) -> Result<(), Fail> {
             let mut input = reader(row.capture, most, 0);
             let mut output = writer(rt.alloc(), 1000, most, Full::Fails);
             let length = row.capture.len() as u64;
-            assert!(rt; run(rt.alloc(), task, &mut input, &mut output, length)?);
+            assert!(rt; perform(rt.alloc(), task, &mut input, &mut output, length)?);
             assert!(rt; !input.failed() && !output.failed());
             let written = output.into_inner();
             assert_eq!(rt;
@@ -108,7 +108,7 @@ fn no_capture_or_too_long(rt: HostRuntime) {
         for task in [Task::Check, Task::Verify] {
             let mut input = reader(octets, 4096, 0);
             let mut output = writer(rt.alloc(), 1000, 1000, Full::Fails);
-            let outcome = run(rt.alloc(), task, &mut input, &mut output, most);
+            let outcome = perform(rt.alloc(), task, &mut input, &mut output, most);
             assert_eq!(rt; outcome, Err(fault));
             let written = output.into_inner();
             assert!(rt; written.held.is_empty());
@@ -123,7 +123,7 @@ fn an_input_without_end_is_too_long(rt: HostRuntime) {
     for task in [Task::Check, Task::Verify] {
         let mut input = Watched::new(EndlessReader);
         let mut output = writer(rt.alloc(), 1000, 1000, Full::Fails);
-        let outcome = run(rt.alloc(), task, &mut input, &mut output, 1000);
+        let outcome = perform(rt.alloc(), task, &mut input, &mut output, 1000);
         assert_eq!(rt; outcome, Err(RunFault::TooLong));
         assert!(rt; output.into_inner().held.is_empty());
     }
@@ -138,7 +138,7 @@ fn failing_reads_leave_nothing_written(rt: HostRuntime) {
         for fails_at in 1..=reads {
             let mut input = reader(row.capture, 7, fails_at);
             let mut output = writer(rt.alloc(), 1000, 1000, Full::Fails);
-            let outcome = run(rt.alloc(), task, &mut input, &mut output, 1 << 30);
+            let outcome = perform(rt.alloc(), task, &mut input, &mut output, 1 << 30);
             assert_eq!(rt; outcome, Err(RunFault::Read), "{task:?} at read {fails_at}");
             assert!(rt; input.failed());
             let written = output.into_inner();
@@ -147,7 +147,7 @@ fn failing_reads_leave_nothing_written(rt: HostRuntime) {
         }
         let mut input = reader(row.capture, 7, reads + 1);
         let mut output = writer(rt.alloc(), 1000, 1000, Full::Fails);
-        let outcome = run(rt.alloc(), task, &mut input, &mut output, 1 << 30);
+        let outcome = perform(rt.alloc(), task, &mut input, &mut output, 1 << 30);
         assert_eq!(rt;
             outcome,
             Ok(true),
@@ -164,7 +164,7 @@ fn failing_writes_leave_a_front_of_the_report(rt: HostRuntime) {
             for room in 0..row.report.len() {
                 let mut input = reader(row.capture, 4096, 0);
                 let mut output = writer(rt.alloc(), room, 5, full);
-                let outcome = run(rt.alloc(), task, &mut input, &mut output, 1 << 30);
+                let outcome = perform(rt.alloc(), task, &mut input, &mut output, 1 << 30);
                 assert_eq!(rt; outcome, Err(RunFault::Write), "{task:?} at octet {room}");
                 assert!(rt; output.failed());
                 let written = output.into_inner();
