@@ -1,10 +1,13 @@
-//! Tests of the whole: worked sessions, runs by fake readers and writers, and the command line.
+//! Tests of the whole: worked sessions, runs by fake readers and writers, want of memory, and the
+//! command line.
 #![tactic(auto)]
 
 #[cfg(test)]
 mod command_lines;
 #[cfg(test)]
 mod fakes;
+#[cfg(test)]
+mod memory;
 #[cfg(test)]
 mod runs;
 #[cfg(test)]
