@@ -5,11 +5,11 @@ use std::process::Abort;
 use std::test::Fail;
 
 /// GROUP, and then NEXT, which gives the group's second number.
-const SESSION: &str =
+pub(crate) const SESSION: &str =
     "client 15\nGROUP g\r\nNEXT\r\nserver 34\n200 hi\r\n211 3 1 5 g\r\n223 4 <b@x>\r\n";
 
 /// A spool that explains it, of 160 octets.
-const SPOOL: &str =
+pub(crate) const SPOOL: &str =
     "spool 1\ngroup g 2\n1 <w0@invented.invalid>\n4 <b@x>\narticle <b@x> 1 0\n|Message-ID: <b@x>\narticle <w0@invented.invalid> 1 0\n|Message-ID: <w0@invented.invalid>\nend\n";
 
 /// What a run over the session and these pieces answers and writes.

@@ -1,4 +1,5 @@
-//! Tests of the whole: worked sessions, runs by fake readers and writers, and the command line.
+//! Tests of the whole: worked sessions, runs by fake readers and writers, want of memory, and the
+//! command line.
 #![tactic(auto)]
 
 #[cfg(test)]
@@ -7,6 +8,8 @@ mod command_lines;
 mod fakes;
 #[cfg(test)]
 mod given_spools;
+#[cfg(test)]
+mod memory;
 #[cfg(test)]
 mod runs;
 #[cfg(test)]

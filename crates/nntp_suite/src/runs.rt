@@ -15,10 +15,10 @@ struct Run {
 }
 
 /// A session of two commands, in two pieces.
-const CAPTURE: &[u8] =
+pub(crate) const CAPTURE: &[u8] =
     b"client 15\nGROUP g\r\nQUIT\r\nserver 30\n200 hi\r\n211 0 1 0 g\r\n205 bye\r\n";
 
-const REPORT: &[u8] =
+pub(crate) const REPORT: &[u8] =
     b"consistent answers=3 groups=1 numbers=0 articles=0\nspool 1\ngroup g 0\nend\n";
 
 const RUNS: [Run; 2] = [

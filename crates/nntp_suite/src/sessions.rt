@@ -7,14 +7,14 @@ use std::test::Fail;
 
 /// A session by name, its two streams, and its report.
 #[derive(Clone, Copy)]
-struct Row {
-    name: &'static str,
-    client: &'static str,
-    server: &'static str,
-    report: &'static str,
+pub(crate) struct Row {
+    pub(crate) name: &'static str,
+    pub(crate) client: &'static str,
+    pub(crate) server: &'static str,
+    pub(crate) report: &'static str,
 }
 
-const ROWS: [Row; 24] = [
+pub(crate) const ROWS: [Row; 24] = [
     Row {
         name: "nothing_was_sent",
         client: "",
@@ -162,7 +162,7 @@ const ROWS: [Row; 24] = [
 ];
 
 /// The capture of two streams, each in one piece.
-fn capture(alloc: Global, client: &str, server: &str) -> Result<String, AllocError> {
+pub(crate) fn capture(alloc: Global, client: &str, server: &str) -> Result<String, AllocError> {
     format!(in alloc;
         "client {}\n{client}server {}\n{server}",
         client.len(),

@@ -1,0 +1,143 @@
+//! Want of memory in a run: nothing is written, and the exit status is 3.
+use super::{Ended, refuse_each, right_if};
+use crate::fakes::{FakeWriter, Full, reader, writer};
+use crate::given_spools::{SESSION, SPOOL};
+use crate::runs::{CAPTURE, REPORT};
+use crate::sessions::{ROWS, capture};
+use nntp_check::{Failure, Kind, ReadFault, RunFault, Task, run_check, run_verify, status};
+use nntp_refusing::Refusing;
+use std::alloc::Global;
+use std::process::Abort;
+use std::test::Fail;
+
+/// A run by name: its task, its input, how many octets that may have, and what it answers and writes.
+#[derive(Clone, Copy)]
+struct Run<'a> {
+    name: &'a str,
+    task: Task,
+    input: &'a [u8],
+    most: u64,
+    answer: Result<bool, RunFault>,
+    report: &'a [u8],
+}
+
+impl<'a> Run<'a> {
+    /// Compares an outcome and what was written with what is wanted.
+    fn compare(&self, outcome: Result<bool, RunFault>, written: &FakeWriter) -> Ended {
+        if outcome != Err(RunFault::Memory) {
+            return right_if(outcome == self.answer && written.held.as_slice() == self.report);
+        }
+        let is_untouched = written.held.is_empty() && written.flushes == 0;
+        if is_untouched && status(&outcome.map_err(Failure::Run)) == 3 {
+            Ended::Memory
+        } else {
+            Ended::Wrong
+        }
+    }
+
+    /// Runs with a few octets at a read.
+    fn end(&self, alloc: Global, heap: &Refusing<Global>) -> Ended {
+        let mut input = reader(self.input, 7, 0);
+        let mut output = writer(alloc, 10000, 10000, Full::Fails);
+        let outcome = match self.task {
+            Task::Check => run_check(heap, &mut input, &mut output, self.most),
+            Task::Verify => run_verify(heap, &mut input, &mut output, self.most),
+        };
+        self.compare(outcome, &output.into_inner())
+    }
+}
+
+#[test]
+fn runs_over_captures(rt: HostRuntime) {
+    let rows = [
+        Run {
+            name: "a session of two commands",
+            task: Task::Check,
+            input: CAPTURE,
+            most: 1 << 30,
+            answer: Ok(true),
+            report: REPORT,
+        },
+        Run {
+            name: "a piece that is cut",
+            task: Task::Check,
+            input: b"client 5\nQUIT",
+            most: 1 << 30,
+            answer: Err(RunFault::Capture { piece: 1 }),
+            report: b"",
+        },
+        Run {
+            name: "more octets than may be read",
+            task: Task::Check,
+            input: CAPTURE,
+            most: 10,
+            answer: Err(RunFault::TooLong),
+            report: b"",
+        },
+    ];
+    for row in rows {
+        let refused = refuse_each(&rt, rt.alloc(), row.name, |heap| row.end(rt.alloc(), heap));
+        assert!(rt; refused > 0, "{refused}");
+        assert!(rt; refused > 3 || row.answer != Ok(true), "{refused}");
+    }
+}
+
+#[test]
+fn runs_over_captures_with_a_spool(rt: HostRuntime) -> Result<(), Fail> {
+    let fault = ReadFault {
+        line: 2,
+        kind: Kind::Name,
+    };
+    let rows: [(&str, &str, Result<bool, RunFault>, &[u8]); 3] = [
+        (
+            "a spool that explains",
+            SPOOL,
+            Ok(true),
+            b"permits answers=3\n",
+        ),
+        (
+            "a spool that lacks the second number",
+            "spool 1\ngroup g 1\n1 <a@x>\narticle <a@x> 1 0\n|Message-ID: <a@x>\nend\n",
+            Ok(false),
+            b"refuses answer 2\n",
+        ),
+        (
+            "a text of no spool",
+            "spool 1\ngroup a,b 0\nend\n",
+            Err(RunFault::Spool(fault)),
+            b"",
+        ),
+    ];
+    for (name, text, answer, report) in rows {
+        let capture = format!(in rt.alloc(); "{SESSION}spool {}\n{text}", text.len())?;
+        let run = Run {
+            name,
+            task: Task::Verify,
+            input: capture.as_bytes(),
+            most: 1 << 30,
+            answer,
+            report,
+        };
+        let refused = refuse_each(&rt, rt.alloc(), name, |heap| run.end(rt.alloc(), heap));
+        assert!(rt; refused > 3, "{refused}");
+    }
+    Ok(())
+}
+
+#[test]
+fn runs_over_worked_sessions(rt: HostRuntime) -> Result<(), Fail> {
+    for row in ROWS {
+        let capture = capture(rt.alloc(), row.client, row.server)?;
+        let run = Run {
+            name: row.name,
+            task: Task::Check,
+            input: capture.as_bytes(),
+            most: 1 << 30,
+            answer: Ok(row.report.starts_with("consistent")),
+            report: row.report.as_bytes(),
+        };
+        let refused = refuse_each(&rt, rt.alloc(), run.name, |heap| run.end(rt.alloc(), heap));
+        assert!(rt; refused > 3, "{refused}");
+    }
+    Ok(())
+}

@@ -1,0 +1,245 @@
+//! Want of memory while a spool is built, read and put to a session.
+use super::{Ended, refuse_each, right_if};
+use nntp_check::Watched;
+use nntp_refusing::Refusing;
+use nntp_spool::{
+    Article, Counts, Kind, ReadFault, Spool, SpoolBuilder, SpoolFault, Verified, verify,
+};
+use std::alloc::{AllocError, Global};
+use std::process::Abort;
+
+type Heap<'a> = &'a Refusing<Global>;
+
+/// A group with the numbers 1 and 4.
+const TWO_NUMBERS: &[u8] =
+    b"spool 1\ngroup g 2\n1 <w0@invented.invalid>\n4 <b@x>\narticle <b@x> 1 0\n|Message-ID: <b@x>\narticle <w0@invented.invalid> 1 0\n|Message-ID: <w0@invented.invalid>\nend\n";
+
+/// The same with the number 2 in the place of 1.
+const TWO_AND_FOUR: &[u8] =
+    b"spool 1\ngroup g 2\n2 <w0@invented.invalid>\n4 <b@x>\narticle <b@x> 1 0\n|Message-ID: <b@x>\narticle <w0@invented.invalid> 1 0\n|Message-ID: <w0@invented.invalid>\nend\n";
+
+/// The same with another id at 4.
+const OTHER_ID: &[u8] =
+    b"spool 1\ngroup g 2\n1 <w0@invented.invalid>\n4 <c@x>\narticle <c@x> 1 0\n|Message-ID: <c@x>\narticle <w0@invented.invalid> 1 0\n|Message-ID: <w0@invented.invalid>\nend\n";
+
+/// A call on a builder.
+#[derive(Clone, Copy)]
+enum Call {
+    Group(&'static [u8]),
+    Number(&'static [u8], u64, &'static [u8]),
+    /// The id, the lines of the head and those of the body.
+    Article(&'static [u8], &'static [&'static [u8]], &'static [&'static [u8]]),
+}
+
+/// Calls, each with its outcome.
+const CALLS: [(Call, Result<(), SpoolFault>); 14] = [
+    (Call::Group(b"g"), Ok(())),
+    (Call::Group(b"g"), Err(SpoolFault::DuplicateGroup)),
+    (Call::Group(b"a,b"), Err(SpoolFault::BadName)),
+    (
+        Call::Number(b"h", 1, b"<a@b>"),
+        Err(SpoolFault::UnknownGroup),
+    ),
+    (Call::Number(b"g", 0, b"<a@b>"), Err(SpoolFault::BadNumber)),
+    (Call::Number(b"g", 1, b"a"), Err(SpoolFault::BadId)),
+    (Call::Number(b"g", 1, b"<a@b>"), Ok(())),
+    (
+        Call::Number(b"g", 1, b"<c@d>"),
+        Err(SpoolFault::DuplicateNumber),
+    ),
+    (
+        Call::Number(b"g", 2, b"<a@b>"),
+        Err(SpoolFault::DuplicateId),
+    ),
+    (Call::Article(b"<a@b>", &[], &[]), Err(SpoolFault::BadHead)),
+    (
+        Call::Article(b"<a@b>", &[b"Message-ID: <c@d>"], &[]),
+        Err(SpoolFault::BadHead),
+    ),
+    (
+        Call::Article(b"<a@b>", &[b"Subject: s"], &[b"a\rb"]),
+        Err(SpoolFault::BadBody),
+    ),
+    (Call::Article(b"<a@b>", &[b"Subject: s"], &[]), Ok(())),
+    (
+        Call::Article(b"<a@b>", &[b"Subject: s"], &[]),
+        Err(SpoolFault::DuplicateId),
+    ),
+];
+
+/// Lines that are held.
+fn lines<'a>(
+    heap: Heap<'a>,
+    texts: &[&[u8]],
+) -> Result<Vec<Vec<u8, Heap<'a>>, Heap<'a>>, AllocError> {
+    let mut lines = Vec::new(heap);
+    for text in texts {
+        lines.push(Vec::from_slice(heap, *text)?)?;
+    }
+    Ok(lines)
+}
+
+impl Call {
+    /// Makes the call; an article is made of `ample` memory.
+    fn make<'a>(
+        &self,
+        builder: &mut SpoolBuilder<Heap<'a>>,
+        ample: Heap<'a>,
+    ) -> Result<Result<(), SpoolFault>, AllocError> {
+        match self {
+            Call::Group(name) => Ok(builder.group(*name)),
+            Call::Number(name, number, id) => Ok(builder.number(*name, *number, *id)),
+            Call::Article(id, head, body) => {
+                let article = Article {
+                    head: lines(ample, *head)?,
+                    body: lines(ample, *body)?,
+                };
+                Ok(builder.article(*id, article))
+            }
+        }
+    }
+}
+
+/// Makes the calls, and `finish` behind them. The call of which a request was refused wants memory,
+/// and each later one fails.
+fn build<'a>(
+    heap: Heap<'a>,
+    ample: Heap<'a>,
+    calls: &[(Call, Result<(), SpoolFault>)],
+    wanted: Result<Counts, SpoolFault>,
+) -> Ended {
+    let mut builder = SpoolBuilder::new(heap);
+    let mut has_failed = false;
+    for (call, outcome) in calls {
+        let Ok(told) = call.make(&mut builder, ample) else {
+            return Ended::Wrong;
+        };
+        let is_right = if has_failed {
+            told == Err(SpoolFault::Failed)
+        } else if heap.has_refused() {
+            has_failed = true;
+            told == Err(SpoolFault::Memory)
+        } else {
+            told == *outcome
+        };
+        if !is_right {
+            return Ended::Wrong;
+        }
+    }
+    let finished = builder.finish().map(|spool| spool.counts());
+    if has_failed && finished == Err(SpoolFault::Failed) {
+        return Ended::Memory;
+    }
+    right_if(!has_failed && finished == wanted)
+}
+
+#[test]
+fn spools_that_are_built(rt: HostRuntime) {
+    let counts = Counts {
+        groups: 1,
+        numbers: 1,
+        articles: 1,
+    };
+    let (unknown, _) = CALLS.split_at(12);
+    let rows = [
+        (
+            "an id without its article",
+            unknown,
+            Err(SpoolFault::UnknownId),
+        ),
+        ("a spool of one article", CALLS.as_slice(), Ok(counts)),
+    ];
+    let ample = Refusing::new(rt.alloc(), 0);
+    for (name, calls, wanted) in rows {
+        let refused = refuse_each(&rt, rt.alloc(), name, |heap| {
+            build(heap, &ample, calls, wanted)
+        });
+        assert!(rt; refused > 3, "{refused}");
+    }
+}
+
+/// Reads octets as the text of a spool, and writes the spool again.
+fn read(alloc: Global, heap: Heap<'_>, text: &[u8], wanted: Option<ReadFault>) -> Ended {
+    match Spool::read(heap, text) {
+        Ok(spool) => {
+            let mut output = Watched::new(Vec::new(alloc));
+            let is_written = spool.write(&mut output).is_ok();
+            right_if(is_written && output.into_inner().as_slice() == text && wanted.is_none())
+        }
+        Err(
+            ReadFault {
+                line: 0,
+                kind: Kind::Memory,
+            },
+        ) => Ended::Memory,
+        Err(fault) => right_if(wanted == Some(fault)),
+    }
+}
+
+#[test]
+fn spools_that_are_read(rt: HostRuntime) {
+    let fault = |line, kind| Some(ReadFault { line, kind });
+    let rows: [(&str, &[u8], Option<ReadFault>, u64); 7] = [
+        ("two numbers", TWO_NUMBERS, None, 10),
+        ("two and four", TWO_AND_FOUR, None, 10),
+        ("another id", OTHER_ID, None, 10),
+        (
+            "a number that begins with 0",
+            b"spool 1\ngroup g 1\n01 <a@b>\nend\n",
+            fault(3, Kind::Shape),
+            0,
+        ),
+        (
+            "groups in another order",
+            b"spool 1\ngroup h 0\ngroup g 0\nend\n",
+            fault(3, Kind::Order),
+            1,
+        ),
+        (
+            "an id without its article",
+            b"spool 1\ngroup g 1\n1 <a@b>\nend\n",
+            fault(4, Kind::UnknownId),
+            2,
+        ),
+        ("no octets", b"", fault(1, Kind::Shape), 0),
+    ];
+    for (name, text, wanted, least) in rows {
+        let refused = refuse_each(&rt, rt.alloc(), name, |heap| {
+            read(rt.alloc(), heap, text, wanted)
+        });
+        assert!(rt; refused >= least, "{name}, {refused}");
+    }
+}
+
+/// Puts the spool of a text, which is made of `ample` memory, to a session that steps to number 4.
+fn put<'a>(heap: Heap<'a>, ample: Heap<'a>, text: &[u8], wanted: Verified) -> Ended {
+    let client = b"GROUP g\r\nNEXT\r\n";
+    let server = b"200 hi\r\n211 3 1 5 g\r\n223 4 <b@x>\r\n";
+    let Ok(spool) = Spool::read(ample, text) else {
+        return Ended::Wrong;
+    };
+    match verify(heap, &spool, client, server) {
+        Ok(verified) => right_if(verified == wanted),
+        Err(AllocError) => Ended::Memory,
+    }
+}
+
+#[test]
+fn spools_that_are_put_to_a_session(rt: HostRuntime) {
+    let rows: [(&str, &[u8], Verified); 3] = [
+        ("two numbers", TWO_NUMBERS, Verified::Permits { answers: 3 }),
+        (
+            "two and four",
+            TWO_AND_FOUR,
+            Verified::Permits { answers: 3 },
+        ),
+        ("another id", OTHER_ID, Verified::Refuses { index: 2 }),
+    ];
+    let ample = Refusing::new(rt.alloc(), 0);
+    for (name, text, wanted) in rows {
+        let refused = refuse_each(&rt, rt.alloc(), name, |heap| {
+            put(heap, &ample, text, wanted)
+        });
+        assert!(rt; refused >= 3, "{name}, {refused}");
+    }
+}
