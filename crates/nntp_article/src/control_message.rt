@@ -3,7 +3,7 @@
 use std::alloc::{Allocator, Global};
 
 /// What a Control header says.
-#[derive(Drop)]
+#[derive(Debug, Drop, PartialEq, Eq)]
 pub enum Control<A: Allocator = Global> {
     /// The article with this message id is to be cancelled.
     Cancel(Vec<u8, A>),

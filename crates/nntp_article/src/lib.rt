@@ -3,16 +3,16 @@
 #![tactic(auto)]
 
 pub mod article_laws;
-pub mod control_headers;
-pub mod control_message;
-pub mod head;
+mod control_headers;
+mod control_message;
+mod head;
 mod head_line;
-pub mod header;
+mod header;
 pub mod laws;
-pub mod missing_headers;
-pub mod parts;
-pub mod required_headers;
-pub mod said_id;
+mod missing_headers;
+mod parts;
+mod required_headers;
+mod said_id;
 #[cfg(test)]
 mod tests;
 

@@ -3,12 +3,12 @@
 //! `Pairs` goes over both recorded streams. Each step is an exchange, or how the pairing ends.
 #![tactic(auto)]
 
-pub mod class;
-pub mod exchange;
+mod class;
+mod exchange;
 pub mod laws;
-pub mod pairs;
+mod pairs;
 mod places;
-pub mod step;
+mod step;
 #[cfg(test)]
 mod tests;
 
