@@ -1,5 +1,5 @@
 -- How a judgement goes through the exchanges of two streams.
-use Rattle.std.proofs.Common.{◌≡◌, ◌≢◌, ◌∙◌, sym, subst, refl, ℕ, ◌+◌, List, [], ◌∷◌, ◌++◌, Option, None, Some, MatchOption, Result, Ok, Err, IfOk, length, ap, inr}
+use Rattle.std.proofs.Common.{◌≡◌, ◌≢◌, ◌∙◌, sym, subst, refl, ℕ, ◌+◌, List, [], ◌∷◌, ◌++◌, Option, None, MatchOption, Result, Ok, Err, IfOk, length, ap, inr}
 use Rattle.std.specs.Option.{option_map}
 use Rattle.std.proofs.lemmas.List.{length_push, append_assoc}
 use Rattle.nntp_wire.specs.Octets.{crlf}

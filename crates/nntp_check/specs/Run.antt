@@ -28,15 +28,6 @@ pub record ReadsMore (old new : Option (List ℕ)) (most : ℕ) : Type 0 where
   pub read : Consumes old new octets
   pub many : most < length octets
 
--- why not all octets were read
-abbrev pub IsReadFault : Option (List ℕ) → Option (List ℕ) → ℕ → RunFault → Type 0
-IsReadFault old new most faults.Read = ⊤
-IsReadFault old new most faults.TooLong = ReadsMore old new most
-IsReadFault old new most (faults.Capture piece) = ⊥
-IsReadFault old new most (faults.Spool fault) = ⊥
-IsReadFault old new most faults.Memory = ⊤
-IsReadFault old new most faults.Write = ⊥
-
 -- what was read is a capture of these streams
 pub record ReadsCapture (old new : Option (List ℕ)) (most : ℕ) (client server spool : List ℕ) : Type 0 where
   pub octets : List ℕ
@@ -105,20 +96,13 @@ pub record ReadsNoSpool (old new : Option (List ℕ)) (most : ℕ) (fault : Read
   pub read : ReadsCapture old new most client server spool
   pub first : IsFirstFault narrow spool fault
 
--- why `check` gives no answer
+-- why `check` gives no answer: a fault of the input, or a report that is cut short
 abbrev pub IsCheckFault : Option (List ℕ) → Option (List ℕ) → Option (List ℕ) → Option (List ℕ) → ℕ → RunFault → Type 0
-IsCheckFault in_old in_new out_old out_new most faults.Read = ⊤
-IsCheckFault in_old in_new out_old out_new most faults.TooLong = ReadsMore in_old in_new most
-IsCheckFault in_old in_new out_old out_new most (faults.Capture piece) = ReadsBadPiece in_old in_new most piece
-IsCheckFault in_old in_new out_old out_new most (faults.Spool fault) = ⊥
-IsCheckFault in_old in_new out_old out_new most faults.Memory = ⊤
 IsCheckFault in_old in_new out_old out_new most faults.Write = IsCutShort CheckReports in_old in_new out_old out_new most
+IsCheckFault in_old in_new out_old out_new most fault = IsInputFault in_old in_new most fault
 
--- why `verify` gives no answer
+-- why `verify` gives no answer: the same, or the text of no spool
 abbrev pub IsVerifyFault : Option (List ℕ) → Option (List ℕ) → Option (List ℕ) → Option (List ℕ) → ℕ → RunFault → Type 0
-IsVerifyFault in_old in_new out_old out_new most faults.Read = ⊤
-IsVerifyFault in_old in_new out_old out_new most faults.TooLong = ReadsMore in_old in_new most
-IsVerifyFault in_old in_new out_old out_new most (faults.Capture piece) = ReadsBadPiece in_old in_new most piece
-IsVerifyFault in_old in_new out_old out_new most (faults.Spool fault) = ReadsNoSpool in_old in_new most fault
-IsVerifyFault in_old in_new out_old out_new most faults.Memory = ⊤
 IsVerifyFault in_old in_new out_old out_new most faults.Write = IsCutShort VerifyReports in_old in_new out_old out_new most
+IsVerifyFault in_old in_new out_old out_new most (faults.Spool fault) = ReadsNoSpool in_old in_new most fault
+IsVerifyFault in_old in_new out_old out_new most fault = IsInputFault in_old in_new most fault

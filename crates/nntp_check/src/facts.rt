@@ -4,13 +4,10 @@ ghost use Rattle.nntp_check.specs.Judging.{pair_class_of};
 
 use crate::verdict::Class;
 use nntp_pair::Exchange;
-use nntp_spool::{Spool, SpoolBuilder};
+use nntp_spool::{LIMIT, Spool, SpoolBuilder};
 use nntp_wire::{Answer, Command, Prompt};
 use std::alloc::{AllocError, Allocator};
 use std::collections::BTreeMap;
-
-/// The greatest article number (RFC 3977, section 6).
-const LIMIT: u64 = 2_147_483_647;
 
 /// What is known of a name.
 #[derive(Clone, Copy, PartialEq, Eq)]

@@ -1,7 +1,7 @@
 //! What a run reads: a capture, to its end.
 ghost use Rattle.std.specs.Prelude.{◌≡◌, ◌↔◌, false, true, IfOk, IfErr, IsErrOf};
 ghost use Rattle.nntp_spool.specs.Watched.{inner_of, has_failed_of};
-ghost use Rattle.nntp_check.specs.Run.{ReadsAll, IsReadFault, ReadsCapture, IsInputFault};
+ghost use Rattle.nntp_check.specs.Run.{ReadsAll, ReadsCapture, IsInputFault};
 
 use crate::capture::{Streams, split};
 use crate::run_fault::RunFault;
@@ -16,7 +16,7 @@ fn read_all<A: Allocator + Copy, R: Read>(
     most: u64,
 ) -> Result<Vec<u8, A>, RunFault>
     ensures ok { IfOk result (λ bytes. ReadsAll (R.remaining (inner_of input.old)) (R.remaining (inner_of input.new)) most bytes.items) }
-    ensures err { IfErr result (IsReadFault (R.remaining (inner_of input.old)) (R.remaining (inner_of input.new)) most) }
+    ensures err { IfErr result (IsInputFault (R.remaining (inner_of input.old)) (R.remaining (inner_of input.new)) most) }
     ensures failed { has_failed_of input.old ≡ false → (IsErrOf result RunFault.Read ↔ (has_failed_of input.new ≡ true)) }
 {
     let mut bytes = Vec::new(alloc);
