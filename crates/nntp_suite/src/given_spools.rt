@@ -9,8 +9,30 @@ pub(crate) const SESSION: &str =
     "client 15\nGROUP g\r\nNEXT\r\nserver 34\n200 hi\r\n211 3 1 5 g\r\n223 4 <b@x>\r\n";
 
 /// A spool that explains it, of 160 octets.
-pub(crate) const SPOOL: &str =
+const SPOOL: &str =
     "spool 1\ngroup g 2\n1 <w0@invented.invalid>\n4 <b@x>\narticle <b@x> 1 0\n|Message-ID: <b@x>\narticle <w0@invented.invalid> 1 0\n|Message-ID: <w0@invented.invalid>\nend\n";
+
+/// Spools by name: their texts, and what a run over the session answers and writes of each.
+pub(crate) const ROWS: [(&str, &str, bool, &[u8]); 3] = [
+    (
+        "a spool that explains the session",
+        SPOOL,
+        true,
+        b"permits answers=3\n",
+    ),
+    (
+        "another first number",
+        "spool 1\ngroup g 2\n2 <w0@invented.invalid>\n4 <b@x>\narticle <b@x> 1 0\n|Message-ID: <b@x>\narticle <w0@invented.invalid> 1 0\n|Message-ID: <w0@invented.invalid>\nend\n",
+        true,
+        b"permits answers=3\n",
+    ),
+    (
+        "another id at the second number",
+        "spool 1\ngroup g 2\n1 <w0@invented.invalid>\n4 <c@x>\narticle <c@x> 1 0\n|Message-ID: <c@x>\narticle <w0@invented.invalid> 1 0\n|Message-ID: <w0@invented.invalid>\nend\n",
+        false,
+        b"refuses answer 2\n",
+    ),
+];
 
 /// What a run over the session and these pieces answers and writes.
 fn verified(rt: &HostRuntime, spool: &str) -> Result<(bool, Vec<u8>), Fail> {
@@ -23,24 +45,11 @@ fn verified(rt: &HostRuntime, spool: &str) -> Result<(bool, Vec<u8>), Fail> {
 
 #[test]
 fn spools_that_explain_a_session_and_one_that_does_not(rt: HostRuntime) -> Result<(), Fail> {
-    let rows: [(&str, bool, &[u8]); 3] = [
-        (SPOOL, true, b"permits answers=3\n"),
-        (
-            "spool 1\ngroup g 2\n2 <w0@invented.invalid>\n4 <b@x>\narticle <b@x> 1 0\n|Message-ID: <b@x>\narticle <w0@invented.invalid> 1 0\n|Message-ID: <w0@invented.invalid>\nend\n",
-            true,
-            b"permits answers=3\n",
-        ),
-        (
-            "spool 1\ngroup g 2\n1 <w0@invented.invalid>\n4 <c@x>\narticle <c@x> 1 0\n|Message-ID: <c@x>\narticle <w0@invented.invalid> 1 0\n|Message-ID: <w0@invented.invalid>\nend\n",
-            false,
-            b"refuses answer 2\n",
-        ),
-    ];
-    for (text, answer, report) in rows {
+    for (name, text, answer, report) in ROWS {
         let pieces = format!(in rt.alloc(); "spool {}\n{text}", text.len())?;
         let (answered, written) = verified(&rt, pieces.as_str())?;
-        assert_eq!(rt; written.as_slice(), report);
-        assert_eq!(rt; answered, answer);
+        assert_eq!(rt; written.as_slice(), report, "{name}");
+        assert_eq!(rt; answered, answer, "{name}");
     }
     Ok(())
 }

@@ -1,7 +1,8 @@
 //! Want of memory in a run: nothing is written, and the exit status is 3.
 use super::{Ended, refuse_each, right_if};
 use crate::fakes::{FakeWriter, Full, reader, writer};
-use crate::given_spools::{SESSION, SPOOL};
+use crate::given_spools;
+use crate::given_spools::SESSION;
 use crate::runs::{CAPTURE, REPORT};
 use crate::sessions::{ROWS, capture};
 use nntp_check::{Failure, Kind, ReadFault, RunFault, Task, run_check, run_verify, status};
@@ -82,46 +83,47 @@ fn runs_over_captures(rt: HostRuntime) {
     }
 }
 
+/// Refuses each request of a run over the session and this text of a spool.
+fn verify_with(
+    rt: &impl Abort,
+    alloc: Global,
+    name: &str,
+    text: &str,
+    answer: Result<bool, RunFault>,
+    report: &[u8],
+) -> Result<(), Fail> {
+    let capture = format!(in alloc; "{SESSION}spool {}\n{text}", text.len())?;
+    let run = Run {
+        name,
+        task: Task::Verify,
+        input: capture.as_bytes(),
+        most: 1 << 30,
+        answer,
+        report,
+    };
+    let refused = refuse_each(rt, alloc, name, |heap| run.end(alloc, heap));
+    assert!(rt; refused > 3, "{refused}");
+    Ok(())
+}
+
 #[test]
 fn runs_over_captures_with_a_spool(rt: HostRuntime) -> Result<(), Fail> {
+    for (name, text, answer, report) in given_spools::ROWS {
+        verify_with(&rt, rt.alloc(), name, text, Ok(answer), report)?;
+    }
     let fault = ReadFault {
         line: 2,
         kind: Kind::Name,
     };
-    let rows: [(&str, &str, Result<bool, RunFault>, &[u8]); 3] = [
-        (
-            "a spool that explains",
-            SPOOL,
-            Ok(true),
-            b"permits answers=3\n",
-        ),
-        (
-            "a spool that lacks the second number",
-            "spool 1\ngroup g 1\n1 <a@x>\narticle <a@x> 1 0\n|Message-ID: <a@x>\nend\n",
-            Ok(false),
-            b"refuses answer 2\n",
-        ),
-        (
-            "a text of no spool",
-            "spool 1\ngroup a,b 0\nend\n",
-            Err(RunFault::Spool(fault)),
-            b"",
-        ),
-    ];
-    for (name, text, answer, report) in rows {
-        let capture = format!(in rt.alloc(); "{SESSION}spool {}\n{text}", text.len())?;
-        let run = Run {
-            name,
-            task: Task::Verify,
-            input: capture.as_bytes(),
-            most: 1 << 30,
-            answer,
-            report,
-        };
-        let refused = refuse_each(&rt, rt.alloc(), name, |heap| run.end(rt.alloc(), heap));
-        assert!(rt; refused > 3, "{refused}");
-    }
-    Ok(())
+    let text = "spool 1\ngroup a,b 0\nend\n";
+    verify_with(
+        &rt,
+        rt.alloc(),
+        "a text of no spool",
+        text,
+        Err(RunFault::Spool(fault)),
+        b"",
+    )
 }
 
 #[test]
