@@ -1,5 +1,7 @@
 //! Runs of `verify`: a session, the text of a spool, and whether the spool explains the session.
 use crate::fakes::{Full, reader, writer};
+use crate::sessions;
+use crate::sessions::capture;
 use nntp_check::{Failure, Kind, ReadFault, RunFault, run_verify, status};
 use std::process::Abort;
 use std::test::Fail;
@@ -93,5 +95,40 @@ fn texts_of_no_spool(rt: HostRuntime) -> Result<(), Fail> {
         assert!(rt; output.into_inner().held.is_empty());
         assert_eq!(rt; status(&outcome.map_err(Failure::Run)), 3);
     }
+    Ok(())
+}
+
+/// The answers of a report on a consistent session, as `answers=A`, and its spool's text.
+fn given(report: &str) -> Option<(&str, &str)> {
+    let (line, text) = report.split_once('\n')?;
+    let (answers, _) = line.strip_prefix("consistent ")?.split_once(' ')?;
+    Some((answers, text))
+}
+
+#[test]
+fn spools_that_check_gives_explain_their_sessions(rt: HostRuntime) -> Result<(), Fail> {
+    let mut given_spools = 0u64;
+    for row in sessions::ROWS {
+        let name = row.name;
+        let Some((answers, text)) = given(row.report) else {
+            continue;
+        };
+        given_spools = given_spools.saturating_add(1);
+        let session = capture(rt.alloc(), row.client, row.server)?;
+        let capture = format!(in rt.alloc(); "{session}spool {}\n{text}", text.len())?;
+        let mut input = reader(capture.as_bytes(), 4096, 0);
+        let mut output = writer(rt.alloc(), 1000, 1000, Full::Fails);
+        assert!(rt;
+            run_verify(rt.alloc(), &mut input, &mut output, 1 << 30)?,
+            "{name}"
+        );
+        let report = format!(in rt.alloc(); "permits {answers}\n")?;
+        assert_eq!(rt;
+            output.into_inner().held.as_slice(),
+            report.as_bytes(),
+            "{name}"
+        );
+    }
+    assert_eq!(rt; given_spools, 8);
     Ok(())
 }
