@@ -1,8 +1,9 @@
 //! Runs of `verify`: a session, the text of a spool, and whether the spool explains the session.
 use crate::fakes::{Full, reader, writer};
 use crate::sessions;
-use crate::sessions::capture;
+use crate::sessions::{Row, capture};
 use nntp_check::{Failure, Kind, ReadFault, RunFault, run_verify, status};
+use std::alloc::Global;
 use std::process::Abort;
 use std::test::Fail;
 
@@ -105,30 +106,29 @@ fn given(report: &str) -> Option<(&str, &str)> {
     Some((answers, text))
 }
 
+/// Whether a run permits the spool of the row's report, if there is one.
+fn is_permitted(alloc: Global, row: Row) -> Result<Option<bool>, Fail> {
+    let Some((answers, text)) = given(row.report) else {
+        return Ok(None);
+    };
+    let session = capture(alloc, row.client, row.server)?;
+    let capture = format!(in alloc; "{session}spool {}\n{text}", text.len())?;
+    let mut input = reader(capture.as_bytes(), 4096, 0);
+    let mut output = writer(alloc, 1000, 1000, Full::Fails);
+    let answer = run_verify(alloc, &mut input, &mut output, 1 << 30)?;
+    let report = format!(in alloc; "permits {answers}\n")?;
+    Ok(Some(answer && output.into_inner().held.as_slice() == report.as_bytes()))
+}
+
 #[test]
 fn spools_that_check_gives_explain_their_sessions(rt: HostRuntime) -> Result<(), Fail> {
-    let mut given_spools = 0u64;
+    let mut count = 0u64;
     for row in sessions::ROWS {
-        let name = row.name;
-        let Some((answers, text)) = given(row.report) else {
-            continue;
-        };
-        given_spools = given_spools.saturating_add(1);
-        let session = capture(rt.alloc(), row.client, row.server)?;
-        let capture = format!(in rt.alloc(); "{session}spool {}\n{text}", text.len())?;
-        let mut input = reader(capture.as_bytes(), 4096, 0);
-        let mut output = writer(rt.alloc(), 1000, 1000, Full::Fails);
-        assert!(rt;
-            run_verify(rt.alloc(), &mut input, &mut output, 1 << 30)?,
-            "{name}"
-        );
-        let report = format!(in rt.alloc(); "permits {answers}\n")?;
-        assert_eq!(rt;
-            output.into_inner().held.as_slice(),
-            report.as_bytes(),
-            "{name}"
-        );
+        if let Some(answer) = is_permitted(rt.alloc(), row)? {
+            assert!(rt; answer, "{}", row.name);
+            count = count.saturating_add(1);
+        }
     }
-    assert_eq!(rt; given_spools, 8);
+    assert_eq!(rt; count, 8);
     Ok(())
 }
