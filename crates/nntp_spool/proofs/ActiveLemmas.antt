@@ -1,11 +1,11 @@
 -- The groups of lines, one after the other.
-use Rattle.std.proofs.Common.{◌≡◌, ℕ, zero, suc, ◌≤◌, Bool, true, false, not, IsTrue, IsSome, List, [], ◌∷◌, Option, None, Some, MatchOption, map, refl, sym, ap, subst, ◌∙◌, arith}
-use Rattle.std.specs.Prelude.{◌↔◌, ◌||◌, ◌&&◌, Contains, IfSome, is_some, drop}
-use Rattle.std.specs.List.{list_all, list_any, AllByRecursion}
+use Rattle.std.proofs.Common.{◌≡◌, ℕ, zero, suc, ◌≤◌, Bool, true, false, IsTrue, length, List, [], ◌∷◌, Option, None, Some, MatchOption, map, refl, sym, ap, subst, arith}
+use Rattle.std.specs.Prelude.{◌↔◌, ◌||◌, Contains, IfSome}
+use Rattle.std.specs.List.{list_any, count_by, AllByRecursion}
 use Rattle.std.specs.Option.{option_map_or}
-use Rattle.std.specs.Cmp.Lexicographic.{nat_list_cmp_total, bytes_decides}
-use Rattle.std.specs.FinMap.{get, entries}
-use Rattle.std.proofs.lemmas.Bool.{true≢false}
+use Rattle.std.specs.Cmp.Lexicographic.{bytes_decides}
+use Rattle.std.specs.FinMap.{entries}
+use Rattle.std.proofs.lemmas.Bool.{true≢false, and_parts}
 use Rattle.std.proofs.lemmas.List.Elements.{recursion_from_All, All-from_recursion}
 use Rattle.nntp_wire.specs.Decided.{is_group_name, matches_name}
 use Rattle.nntp_wire.specs.Wildmat.{MatchesName}
@@ -13,13 +13,10 @@ use Rattle.nntp_wire.specs.Listing.{ActiveValue, ListsGroup, IsActiveLine, AreAc
 use Rattle.nntp_wire.specs.declared.listing.ActiveLine.{ActiveLine}
 use Rattle.nntp_wire.proofs.DecidedLemmas.{group_name-iff}
 use Rattle.nntp_article.specs.Listed.{active_of, active_groups}
-use Rattle.nntp_article.specs.Spool.{Profile, Spool, Numbers, Name, IsGroup, IsNumber, IsSpool, numbers}
+use Rattle.nntp_article.specs.Spool.{Profile, Spool, Name, IsGroup, IsNumber, IsSpool, numbers}
 use Rattle.nntp_article.specs.Machine.{is_same, names_differ, ActivesAgree}
-use Rattle.nntp_spool.specs.Actives.{active_value, LineAgrees, is_listed}
-use Rattle.nntp_spool.proofs.Keys.{got_all, all_got}
-use Rattle.nntp_spool.proofs.NumbersHold.{all_passed}
-use Rattle.nntp_spool.proofs.SpoolHolds.{passed_all}
-use Rattle.nntp_spool.proofs.TextLaws.{octet_keys}
+use Rattle.nntp_spool.specs.Actives.{active_value, LineAgrees, is_asked}
+use Rattle.nntp_spool.proofs.Asked.{as_many, each_listed}
 
 some_not_none : {A : Type 0} (x : A) → Some x ≡ None → ⊥
 some_not_none x e = cc
@@ -34,22 +31,13 @@ first_active (Some a) line rest are lists law = rw (law line (active_value a) li
 pub rest_active : (line : List ℕ) (rest : List (List ℕ)) → AreActiveLines (line ∷ rest) → AreActiveLines rest
 rest_active line rest are = All-from_recursion IsActiveLine rest (recursion_from_All IsActiveLine (line ∷ rest) are).1
 
--- no other is the same
-pub none_same : (name : List ℕ) (lines : List ActiveValue) → list_any (λ line. is_same name line.name) lines ≡ false → list_all (λ other. not (is_same name other.name)) lines ≡ true
-none_same name [] e = refl
-none_same name (l ∷ lines) e = by (is_same name l.name) (list_any (λ line. is_same name line.name) lines) refl e (none_same name lines)
+-- a group a line
+pub length-active : ((line : List ℕ) (value : ActiveValue) → ListsGroup line value → active_of line ≡ Some value) → (lines : List (List ℕ)) → AreActiveLines lines → length (active_groups lines) ≡ length lines
+length-active law lines are = by lines (recursion_from_All IsActiveLine lines are)
   where
-    by : (a b : Bool) → is_same name l.name ≡ a → (a || b) ≡ false → (b ≡ false → list_all (λ other. not (is_same name other.name)) lines ≡ true) → list_all (λ other. not (is_same name other.name)) (l ∷ lines) ≡ true
-    by true b p e rest = absurd (true≢false e)
-    by false b p e rest = rw p (rest e)
-
-pub some_same : (name : List ℕ) (lines : List ActiveValue) → list_any (λ line. is_same name line.name) lines ≡ true → list_all (λ other. not (is_same name other.name)) lines ≡ false
-some_same name [] e = absurd (true≢false (sym e))
-some_same name (l ∷ lines) e = by (is_same name l.name) (list_any (λ line. is_same name line.name) lines) refl e (some_same name lines)
-  where
-    by : (a b : Bool) → is_same name l.name ≡ a → (a || b) ≡ true → (b ≡ true → list_all (λ other. not (is_same name other.name)) lines ≡ false) → list_all (λ other. not (is_same name other.name)) (l ∷ lines) ≡ false
-    by true b p e rest = rw p refl
-    by false b p e rest = rw p (rest e)
+    by : (lines : List (List ℕ)) → AllByRecursion IsActiveLine lines → length (active_groups lines) ≡ length lines
+    by [] all = refl
+    by (line ∷ lines) all = rw (law line all.0.0 all.0.1) (ap suc (by lines all.1))
 
 -- ---- names that are listed
 
@@ -97,59 +85,43 @@ abbrev IsMarked : Spool → ActiveValue → Type 0
 IsMarked S line = (n : ℕ) → IsNumber (numbers S line.name) n → (line.low ≤ n) × (n ≤ line.high)
 
 module _ (profile : Profile) (S : Spool) (is : IsSpool profile S) (p : Option (List ℕ)) (decided : (name : Name) → IsTrue (option_map_or (λ w. matches_name w name) p true) ↔ IfSome p (λ w. MatchesName w name)) (lines : List ActiveValue) where
-  listed_or : (name : Name) → IsGroup S name → is_listed p lines name ≡ true → IfSome p (λ w. MatchesName w name) → list_any (λ line. is_same name line.name) lines ≡ true
-  listed_or name g h m = by (is_group_name name) (option_map_or (λ w. matches_name w name) p true) ((group_name-iff name).1 (is.names name g)) ((decided name).1 m) h
-    where
-      by : (a b : Bool) → a ≡ true → b ≡ true → (not (a && b) || list_any (λ line. is_same name line.name) lines) ≡ true → list_any (λ line. is_same name line.name) lines ≡ true
-      by true true ea eb h = h
-      by true false ea eb h = absurd (true≢false (sym eb))
-      by false b ea eb h = absurd (true≢false (sym ea))
+  is_asked_if : (name : Name) → IsGroup S name → IfSome p (λ w. MatchesName w name) → is_asked p name ≡ true
+  is_asked_if name g m = rw ((group_name-iff name).1 (is.names name g)) ((decided name).1 m)
 
-  listed_if : (name : Name) → (IfSome p (λ w. MatchesName w name) → list_any (λ line. is_same name line.name) lines ≡ true) → is_listed p lines name ≡ true
-  listed_if name h = by (is_group_name name) (option_map_or (λ w. matches_name w name) p true) refl
-    where
-      by : (a b : Bool) → option_map_or (λ w. matches_name w name) p true ≡ b → (not (a && b) || list_any (λ line. is_same name line.name) lines) ≡ true
-      by true true e = h ((decided name).0 e)
-      by true false e = refl
-      by false b e = refl
+  asks : (name : Name) → is_asked p name ≡ true → IfSome p (λ w. MatchesName w name)
+  asks name e = (decided name).0 (and_parts (is_group_name name) (option_map_or (λ w. matches_name w name) p true) e).1
 
-  pub actives-agree : AllByRecursion (LineAgrees S p) lines → list_all (λ e. is_listed p lines e.0) (entries S.groups) ≡ true → ActivesAgree S p lines
+  -- each group that matches is listed
+  abbrev ListsAll : Type 0
+  ListsAll = (name : Name) → IsGroup S name → is_asked p name ≡ true → list_any (λ line. is_same name line.name) lines ≡ true
+
+  actives-agree : AllByRecursion (LineAgrees S p) lines → ListsAll → ActivesAgree S p lines
   actives-agree agree listed = (
     λ name. (
       of_name (IsAsked S p) lines (weaker (LineAgrees S p) (λ line. IsAsked S p line.name) (λ line a. (a.0, a.1)) lines agree) name,
-      λ (g, m). any_contains name lines (listed_or name g (known name g) m),
+      λ (g, m). any_contains name lines (listed name g (is_asked_if name g m)),
     ),
     All-from_recursion (IsMarked S) lines (weaker (LineAgrees S p) (IsMarked S) (λ line a. a.2) lines agree),
   )
-    where
-      value_of_some : (o : Option Numbers) → IsSome o → (N : Numbers) × (o ≡ Some N)
-      value_of_some None h = absurd (true≢false (sym h))
-      value_of_some (Some N) h = (N, refl)
-
-      known : (name : Name) → IsGroup S name → is_listed p lines name ≡ true
-      known name g = let N = value_of_some (get S.groups name) g in all_got nat_list_cmp_total octet_keys (λ name N. is_listed p lines name ≡ true) S.groups (all_passed (λ e. is_listed p lines e.0) (entries S.groups) listed) name N.0 N.1
 
   pub agree-lines : ActivesAgree S p lines → AllByRecursion (LineAgrees S p) lines
   agree-lines a = both_all (λ line. IsAsked S p line.name) (IsMarked S) (LineAgrees S p) (λ line q m. (q.0, q.1, m)) lines (of_lines (IsAsked S p) lines (λ name c. (a.0 name).0 c)) (recursion_from_All (IsMarked S) lines a.1)
 
-  pub agree-listed : ActivesAgree S p lines → list_all (λ e. is_listed p lines e.0) (entries S.groups) ≡ true
-  agree-listed a = passed_all (λ e. is_listed p lines e.0) (entries S.groups) (got_all nat_list_cmp_total octet_keys (λ name N. is_listed p lines name ≡ true) S.groups (λ name N g.
-      listed_if name (λ m. contains_any name lines ((a.0 name).1 (ap is_some g, m)))))
+  agree-listed : ActivesAgree S p lines → ListsAll
+  agree-listed a name g e = contains_any name lines ((a.0 name).1 (g, asks name e))
+
+  are_asked : AllByRecursion (LineAgrees S p) lines → (name : Name) → list_any (λ line. is_same name line.name) lines ≡ true → (IsGroup S name) × (is_asked p name ≡ true)
+  are_asked agree name e =
+      let a = of_name (IsAsked S p) lines (weaker (LineAgrees S p) (λ line. IsAsked S p line.name) (λ line a. (a.0, a.1)) lines agree) name (any_contains name lines e) in
+      (a.0, is_asked_if name a.0 a.1)
+
+  -- as many groups are listed as match, exactly if the lists agree
+  pub agree-count : names_differ lines ≡ true → AllByRecursion (LineAgrees S p) lines → (count_by (λ e. is_asked p e.0) (entries S.groups) ≡ length lines) ↔ ActivesAgree S p lines
+  agree-count differ agree = (
+    λ e. actives-agree agree (each_listed S.groups (is_asked p) lines differ (are_asked agree) e),
+    λ a. as_many S.groups (is_asked p) lines differ (are_asked agree) (agree-listed a),
+  )
 
 pub decided_by : ((wildmat name : List ℕ) → IsTrue (matches_name wildmat name) ↔ MatchesName wildmat name) → (p : Option (List ℕ)) (name : Name) → IsTrue (option_map_or (λ w. matches_name w name) p true) ↔ IfSome p (λ w. MatchesName w name)
 decided_by law None name = (λ t. tt, λ t. refl)
 decided_by law (Some w) name = law w name
-
--- ---- names that differ
-
-pub back_lines : (rest lines new behind : List (List ℕ)) → lines ≡ rest → new ≡ drop 1 lines → behind ≡ drop 1 rest → new ≡ behind
-back_lines rest lines new behind e f g = f ∙ ap (drop 1) e ∙ sym g
-
-pub front_groups : (rest lines new behind : List (List ℕ)) (v : ActiveValue) → lines ≡ rest → active_groups lines ≡ v ∷ active_groups new → new ≡ drop 1 lines → behind ≡ drop 1 rest → active_groups rest ≡ v ∷ active_groups behind
-front_groups rest lines new behind v e groups f g = sym (ap active_groups e) ∙ groups ∙ ap (λ (ls : List (List ℕ)). v ∷ active_groups ls) (back_lines rest lines new behind e f g)
-
-pub differ_not : (v : ActiveValue) (lines : List ActiveValue) → list_any (λ line. is_same v.name line.name) lines ≡ true → names_differ (v ∷ lines) ≡ false
-differ_not v lines e = rw (some_same v.name lines e) refl
-
-pub differ_more : (v : ActiveValue) (lines : List ActiveValue) → list_any (λ line. is_same v.name line.name) lines ≡ false → names_differ (v ∷ lines) ≡ names_differ lines
-differ_more v lines e = rw (none_same v.name lines e) refl

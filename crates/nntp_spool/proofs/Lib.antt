@@ -23,3 +23,7 @@ pub mod Ascends
 pub mod Walks
 pub mod ActiveLemmas
 pub mod VerifyLemmas
+pub mod Sets
+pub mod Ids
+pub mod Lasts
+pub mod Asked

@@ -17,7 +17,7 @@ use Rattle.nntp_spool.specs.Content.{AreNumbers}
 use Rattle.nntp_spool.proofs.Keys.{is_passed, less_before, find_middle, find_front, got_all, all_got, entries-insert_last, apart, tied_itself, got_more}
 use Rattle.nntp_spool.proofs.NumberLaws.{entries-with_all}
 
-either_false : (a b : Bool) → (a || b) ≡ false → (a ≡ false) × (b ≡ false)
+pub either_false : (a b : Bool) → (a || b) ≡ false → (a ≡ false) × (b ≡ false)
 either_false true b e = absurd (true≢false e)
 either_false false b e = (refl, e)
 

@@ -1,13 +1,11 @@
 -- The groups that LIST ACTIVE lists, against a spool (RFC 3977, section 7.6.3).
-use Rattle.std.specs.Prelude.{ℕ, ◌≤◌, Bool, true, not, ◌&&◌, ◌||◌, List, Option, IfSome}
-use Rattle.std.specs.List.{list_any}
+use Rattle.std.specs.Prelude.{ℕ, ◌≤◌, Bool, true, ◌&&◌, List, Option, IfSome}
 use Rattle.std.specs.Option.{option_map_or}
 use Rattle.nntp_wire.specs.Wildmat.{MatchesName}
 use Rattle.nntp_wire.specs.Decided.{is_group_name, matches_name}
 use Rattle.nntp_wire.specs.Listing.{ActiveValue}
 use Rattle.nntp_wire.specs.declared.listing.ActiveLine.{ActiveLine}
 use Rattle.nntp_article.specs.Spool.{Spool, Name, IsGroup, IsNumber, numbers}
-use Rattle.nntp_article.specs.Machine.{is_same}
 
 -- what the line says
 abbrev pub active_value : ActiveLine → ActiveValue
@@ -17,6 +15,6 @@ active_value a = record { name = a.name; high = a.high; low = a.low; status = a.
 abbrev pub LineAgrees : Spool → Option (List ℕ) → ActiveValue → Type 0
 LineAgrees S p line = IsGroup S line.name × IfSome p (λ w. MatchesName w line.name) × ((n : ℕ) → IsNumber (numbers S line.name) n → (line.low ≤ n) × (n ≤ line.high))
 
--- the group, if it matches, is listed
-abbrev pub is_listed : Option (List ℕ) → List ActiveValue → Name → Bool
-is_listed p lines name = not (is_group_name name && option_map_or (λ w. matches_name w name) p true) || list_any (λ line. is_same name line.name) lines
+-- the name is a group's, and matches
+abbrev pub is_asked : Option (List ℕ) → Name → Bool
+is_asked p name = is_group_name name && option_map_or (λ w. matches_name w name) p true

@@ -8,6 +8,7 @@ pub mod Reading
 pub mod Places
 pub mod Ascending
 pub mod Content
+pub mod Ids
 pub mod Counts
 pub mod Faults
 pub mod Building

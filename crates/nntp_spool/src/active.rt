@@ -1,70 +1,56 @@
 //! Whether the groups of LIST ACTIVE fit and agree with a spool (RFC 3977, section 7.6.3).
-ghost use Rattle.std.specs.Prelude.{◌≡◌, ℕ, ◌≤◌, ◌==◌, ◌&&◌, ◌||◌, ◌+◌, nat_le, ◌↔◌, ◌∷◌, [], true, drop, IsTrue, IfSome, MatchOption};
-ghost use Rattle.std.specs.List.{list_all, list_any, AllByRecursion};
+ghost use Rattle.std.specs.Prelude.{◌≡◌, ℕ, ◌≤◌, ◌==◌, ◌&&◌, ◌||◌, ◌+◌, nat_le, ◌↔◌, ◌∷◌, [], true, length, IsTrue, IfOk, IfSome, MatchOption};
+ghost use Rattle.std.specs.List.{list_all, count_by, AllByRecursion};
 ghost use Rattle.std.specs.Option.{option_map_or};
 ghost use Rattle.std.specs.BTreeMap.{IsOrdered};
 ghost use Rattle.std.specs.FinMap as map;
 ghost use Rattle.std.specs.Ordering.{nat_cmp};
 ghost use Rattle.std.specs.Cmp.Lexicographic.{slice_cmp};
 ghost use Rattle.nntp_wire.specs.Wildmat.{MatchesName};
-ghost use Rattle.nntp_wire.specs.Decided.{is_group_name, matches_name};
+ghost use Rattle.nntp_wire.specs.Decided.{matches_name};
 ghost use Rattle.nntp_wire.specs.Listing.{AreActiveLines};
 ghost use Rattle.nntp_article.specs.Listed.{active_groups};
 ghost use Rattle.nntp_article.specs.Spool.{IsSpool, IsGroup, IsNumber, numbers as numbers_of};
-ghost use Rattle.nntp_article.specs.Machine.{active_fits, names_differ, is_same, ActivesAgree};
+ghost use Rattle.nntp_article.specs.Machine.{active_fits, names_differ, ActivesAgree};
 ghost use Rattle.nntp_spool.specs.Limit.{narrow};
-ghost use Rattle.nntp_spool.specs.Actives.{active_value, LineAgrees, is_listed};
+ghost use Rattle.nntp_spool.specs.Actives.{active_value, LineAgrees, is_asked};
 
 use crate::content::Content;
-use crate::fits::is_same;
 use crate::limit::LIMIT;
 use crate::numbers::Numbers;
 use nntp_article::laws::active_lines_are_read;
 use nntp_wire::laws::{group_names_are_decided, matching_is_decided};
 use nntp_wire::{ActiveLine, Block, GroupName, Lines, Wildmat, active_line};
-use std::alloc::Allocator;
-use std::collections::BTreeMap;
+use std::alloc::{AllocError, Allocator};
+use std::collections::{BTreeMap, BTreeSet};
 
 /// The next group that is listed.
 fn next_group<'a>(lines: &mut Lines<'a>) -> Option<ActiveLine<'a>>
     requires { AreActiveLines lines.old }
     ensures groups { MatchOption result (active_groups lines.old ≡ []) (λ a. active_groups lines.old ≡ active_value a ∷ active_groups lines.new) }
     ensures lines { AreActiveLines lines.new }
-    ensures back { lines.new ≡ drop 1 lines.old }
 {
     active_lines_are_read();
     let line = lines.next()?;
     active_line(line)
 }
 
-/// Whether a line lists the group.
-fn lists_group(block: &Block<'_>, name: &[u8]) -> bool
+/// Whether no group is listed twice.
+pub(crate) fn names_differ<A: Allocator + Copy>(
+    alloc: A,
+    block: &Block<'_>,
+) -> Result<bool, AllocError>
     requires { AreActiveLines block.now }
-    ensures { result ≡ list_any (λ line. is_same name.now line.name) (active_groups block.now) }
+    ensures { IfOk result (λ differ. differ ≡ names_differ (active_groups block.now)) }
 {
+    let mut names = BTreeSet::new(alloc);
     let mut lines = block.lines();
     while let Some(group) = next_group(&mut lines) {
-        if is_same(name, group.name.as_slice()) {
-            return true;
+        if !names.insert(group.name.as_slice())? {
+            return Ok(false);
         }
     }
-    false
-}
-
-/// Whether no group is listed twice.
-pub(crate) fn names_differ(block: &Block<'_>) -> bool
-    requires { AreActiveLines block.now }
-    ensures { result ≡ names_differ (active_groups block.now) }
-{
-    let mut rest = block.copy();
-    while let Some(group) = next_group(&mut rest.lines()) {
-        let (_, behind) = rest.split_at_line(1);
-        if lists_group(&behind, group.name.as_slice()) {
-            return false;
-        }
-        rest = behind;
-    }
-    true
+    Ok(true)
 }
 
 /// Whether the name matches the wildmat, if there is one.
@@ -147,19 +133,9 @@ fn agree_groups<A: Allocator>(
     true
 }
 
-/// Whether the name, if it matches, is listed.
-fn is_listed(wildmat: &Option<Wildmat<'_>>, block: &Block<'_>, name: &[u8]) -> bool
-    requires { AreActiveLines block.now }
-    ensures { result ≡ is_listed wildmat.now (active_groups block.now) name.now }
-{
-    if !is_matching(wildmat, name) {
-        return true;
-    }
-    lists_group(block, name)
-}
-
-fn is_matching(wildmat: &Option<Wildmat<'_>>, name: &[u8]) -> bool
-    ensures { result ≡ (is_group_name name.now && option_map_or (λ w. matches_name w name.now) wildmat.now true) }
+/// Whether the name is that of a group that matches.
+fn is_asked(wildmat: &Option<Wildmat<'_>>, name: &[u8]) -> bool
+    ensures { result ≡ is_asked wildmat.now name.now }
 {
     group_names_are_decided();
     match GroupName::parse(name) {
@@ -168,45 +144,49 @@ fn is_matching(wildmat: &Option<Wildmat<'_>>, name: &[u8]) -> bool
     }
 }
 
-/// Whether each of these groups that matches is listed.
-fn are_listed<A: Allocator>(
+/// How many of these groups match.
+fn count_asked<A: Allocator>(
     groups: &BTreeMap<Vec<u8, A>, Numbers<A>, A>,
     wildmat: &Option<Wildmat<'_>>,
-    block: &Block<'_>,
-) -> bool
-    requires { AreActiveLines block.now }
-    ensures is { result ≡ list_all (λ e. is_listed wildmat.now (active_groups block.now) e.0.items) groups.now.entries }
+) -> usize
+    ensures is { result ≡ count_by (λ e. is_asked wildmat.now e.0.items) groups.now.entries }
     ensures ordered { IsOrdered (λ a b. slice_cmp nat_cmp a.items b.items) groups.now }
 {
-    let mut entries = groups.iter();
-    while let Some((name, _)) = entries.next() {
-        if !is_listed(wildmat, block, name.as_slice()) {
-            return false;
-        }
-    }
-    true
+    groups
+        .iter()
+        .filter(|(name, _)| is_asked(wildmat, name.as_slice()))
+        .count()
 }
 
 impl<A: Allocator> Content<A> {
-    /// Whether each group that matches is listed.
-    fn are_groups_listed(&self, wildmat: &Option<Wildmat<'_>>, block: &Block<'_>) -> bool
-        requires { AreActiveLines block.now }
-        ensures { result ≡ list_all (λ e. is_listed wildmat.now (active_groups block.now) e.0) (map.entries self.now.groups) }
+    /// How many groups match.
+    fn count_asked(&self, wildmat: &Option<Wildmat<'_>>) -> usize
+        ensures { result ≡ count_by (λ e. is_asked wildmat.now e.0) (map.entries self.now.groups) }
     {
-        are_listed(&self.groups, wildmat, block)
+        count_asked(&self.groups, wildmat)
     }
 }
 
-/// Whether exactly the matching groups are listed, and the marks bound their numbers.
+/// How many lines there are.
+fn count_lines(block: &Block<'_>) -> usize
+    ensures { result ≡ length block.now }
+{
+    block.lines().count()
+}
+
+/// Whether exactly the matching groups are listed, and the marks bound their numbers. No group is
+/// listed twice, so none is missing where as many are listed as match.
 pub(crate) fn agrees_active<A: Allocator>(
     spool: &Content<A>,
     wildmat: &Option<Wildmat<'_>>,
     block: &Block<'_>,
 ) -> bool
     requires lines { AreActiveLines block.now }
+    requires differ { names_differ (active_groups block.now) ≡ true }
     requires spool { IsSpool narrow spool.now }
     ensures { IsTrue result ↔ ActivesAgree spool.now wildmat.now (active_groups block.now) }
 {
     matching_is_decided();
-    agree_groups(spool, wildmat, block) && spool.are_groups_listed(wildmat, block)
+    active_lines_are_read();
+    agree_groups(spool, wildmat, block) && spool.count_asked(wildmat) == count_lines(block)
 }

@@ -1,5 +1,5 @@
 //! A spool, built call by call.
-ghost use Rattle.std.specs.Prelude.{◌≡◌, ℕ, false};
+ghost use Rattle.std.specs.Prelude.{◌≡◌, false};
 ghost use Rattle.std.specs.FinMap as map;
 ghost use Rattle.nntp_article.specs.Spool.{numbers as numbers_of};
 ghost use Rattle.nntp_spool.specs.Limit.{narrow};
@@ -145,11 +145,7 @@ impl<A: Allocator + Copy> SpoolBuilder<A> {
         if let Some(fault) = number_fault(&self.content, name, number, id) {
             return Err(fault);
         }
-        let Ok(id) = Vec::from_slice(self.alloc, id) else {
-            self.failed = true;
-            return Err(SpoolFault::Memory);
-        };
-        let Ok(_) = self.content.put_number(name, number, id) else {
+        let Ok(_) = self.content.put_number(self.alloc, name, number, id) else {
             self.failed = true;
             return Err(SpoolFault::Memory);
         };

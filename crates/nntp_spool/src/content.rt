@@ -1,14 +1,15 @@
 //! Groups and articles, as they are taken in before all of a spool is there.
-ghost use Rattle.std.specs.Prelude.{◌≡◌, ℕ, OnOk, OnErr, option_map, option_copied, is_some, map as list_map};
+ghost use Rattle.std.specs.Prelude.{◌≡◌, OnOk, OnErr, option_map, option_copied, is_some, map as list_map};
 ghost use Rattle.std.specs.FinMap as map;
 ghost use Rattle.nntp_article.specs.Spool.{IsGroup, numbers as numbers_of};
 ghost use Rattle.std.specs.List.{list_all};
 ghost use Rattle.std.specs.BTreeMap.{IsOrdered};
-ghost use Rattle.std.specs.Ordering.{nat_cmp, is_lt};
+ghost use Rattle.std.specs.Ordering.{nat_cmp};
 ghost use Rattle.std.specs.Cmp.Lexicographic.{slice_cmp};
 ghost use Rattle.nntp_spool.specs.Counts.{numbers_in};
 ghost use Rattle.std.specs.Prelude.{sum};
 ghost use Rattle.nntp_spool.specs.Reading.{is_last, with_group, with_article, all_known, ids_have_articles, no_spool};
+ghost use Rattle.nntp_spool.specs.Ids.{with_number};
 ghost use Rattle.nntp_spool.specs.Shown.{text_of_article};
 
 use crate::article::Article;
@@ -62,19 +63,20 @@ impl<A: Allocator + Copy> Content<A> {
         Ok(())
     }
 
-    /// Adds a number to a group that is there.
+    /// Adds a number to a group that is there, unless the group has the number or the id already.
     pub(crate) fn put_number(
         &mut self,
+        alloc: A,
         name: &[u8],
         number: u64,
-        id: Vec<u8, A>,
+        id: &[u8],
     ) -> Result<(), AllocError>
         requires { IsGroup self.old name.now }
-        ensures ok { OnOk result (self.new ≡ with_group self.old name.now (map.insert (numbers_of self.old name.now) number id.items)) }
+        ensures ok { OnOk result (self.new ≡ with_group self.old name.now (with_number (numbers_of self.old name.now) number id.now)) }
         ensures err { OnErr result (self.new ≡ self.old) }
     {
         if let Some(group) = self.groups.get_mut(name) {
-            group.insert(number, id)?;
+            group.insert(alloc, number, id)?;
         }
         Ok(())
     }
@@ -140,14 +142,20 @@ impl<A: Allocator> Content<A> {
     pub(crate) fn is_after_groups(&self, name: &[u8]) -> bool
         ensures { result ≡ is_last self.now.groups name.now }
     {
-        is_after_names(&self.groups, name)
+        match self.groups.last_key_value() {
+            Some((greatest, _)) => greatest.as_slice().cmp(name).is_lt(),
+            None => true,
+        }
     }
 
     /// Whether the id is greater than each article's.
     pub(crate) fn is_after_articles(&self, id: &[u8]) -> bool
         ensures { result ≡ is_last self.now.articles id.now }
     {
-        is_after_ids(&self.articles, id)
+        match self.articles.last_key_value() {
+            Some((greatest, _)) => greatest.as_slice().cmp(id).is_lt(),
+            None => true,
+        }
     }
 
     /// Whether each id of the numbers has an article.
@@ -163,24 +171,6 @@ impl<A: Allocator> Content<A> {
     {
         knows_groups(self, &self.groups)
     }
-}
-
-fn is_after_names<A: Allocator>(groups: &BTreeMap<Vec<u8, A>, Numbers<A>, A>, name: &[u8]) -> bool
-    ensures is { result ≡ list_all (λ e. is_lt (slice_cmp nat_cmp e.0.items name.now)) groups.now.entries }
-    ensures ordered { IsOrdered (λ a b. slice_cmp nat_cmp a.items b.items) groups.now }
-{
-    groups
-        .iter()
-        .all(|(key, _)| key.as_slice().cmp(name).is_lt())
-}
-
-fn is_after_ids<A: Allocator>(articles: &BTreeMap<Vec<u8, A>, Article<A>, A>, id: &[u8]) -> bool
-    ensures is { result ≡ list_all (λ e. is_lt (slice_cmp nat_cmp e.0.items id.now)) articles.now.entries }
-    ensures ordered { IsOrdered (λ a b. slice_cmp nat_cmp a.items b.items) articles.now }
-{
-    articles
-        .iter()
-        .all(|(key, _)| key.as_slice().cmp(id).is_lt())
 }
 
 fn knows_ids<A: Allocator>(content: &Content<A>, ids: &BTreeMap<u64, Vec<u8, A>, A>) -> bool

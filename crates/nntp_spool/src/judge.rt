@@ -1,5 +1,5 @@
 //! Whether a session may go on with an answer.
-ghost use Rattle.std.specs.Prelude.{◌≡◌, ◌↔◌, IsTrue};
+ghost use Rattle.std.specs.Prelude.{◌≡◌, ◌↔◌, IsTrue, IfOk};
 ghost use Rattle.nntp_wire.specs.View.{asked};
 ghost use Rattle.nntp_wire.specs.AnswerView.{response};
 ghost use Rattle.nntp_wire.specs.Answer.{plain, sends, group_is, numbers_are, active_are};
@@ -17,7 +17,7 @@ use crate::fits::{
 };
 use crate::session::Session;
 use nntp_wire::{Answer, Block, Command, Prompt};
-use std::alloc::Allocator;
+use std::alloc::{AllocError, Allocator};
 
 impl<A: Allocator + Copy> Session<A> {
     /// Whether the answer is permitted.
@@ -26,41 +26,44 @@ impl<A: Allocator + Copy> Session<A> {
         spool: &Content<A>,
         prompt: &Prompt<'_>,
         answer: &Answer<'_>,
-    ) -> bool
+    ) -> Result<bool, AllocError>
         requires spool { IsSpool narrow spool.now }
         requires listing { IsListing (response answer.now) }
-        ensures { IsTrue result ↔ MayAnswer narrow spool.now self.now (asked prompt.now) (response answer.now) }
+        ensures { IfOk result (λ may. IsTrue may ↔ MayAnswer narrow spool.now self.now (asked prompt.now) (response answer.now)) }
     {
-        !self.is_closed() && self.fits(prompt, answer) && self.agrees(spool, prompt, answer)
+        if self.is_closed() || !self.fits(prompt, answer)? {
+            return Ok(false);
+        }
+        Ok(self.agrees(spool, prompt, answer))
     }
 
     /// Whether the visible condition holds.
-    fn fits(&self, prompt: &Prompt<'_>, answer: &Answer<'_>) -> bool
+    fn fits(&self, prompt: &Prompt<'_>, answer: &Answer<'_>) -> Result<bool, AllocError>
         requires { IsListing (response answer.now) }
-        ensures { result ≡ fits narrow self.now.visible (asked prompt.now) (response answer.now) }
+        ensures { IfOk result (λ does. does ≡ fits narrow self.now.visible (asked prompt.now) (response answer.now)) }
     {
         match answer {
-            Answer::Plain { code } => self.fits_plain(prompt, *code),
+            Answer::Plain { code } => Ok(self.fits_plain(prompt, *code)),
             Answer::Group {
                 estimate,
                 low,
                 high,
                 name,
-            } => self.fits_group(prompt, *estimate, *low, *high, name.as_slice()),
+            } => Ok(self.fits_group(prompt, *estimate, *low, *high, name.as_slice())),
             Answer::Numbers {
                 estimate,
                 low,
                 high,
                 name,
                 block,
-            } => self.fits_numbers(prompt, *estimate, *low, *high, name.as_slice(), block),
+            } => Ok(self.fits_numbers(prompt, *estimate, *low, *high, name.as_slice(), block)),
             Answer::Sent {
                 code,
                 number,
                 id,
                 block,
-            } => self.fits_sent(prompt, *code, *number, id.as_slice(), block),
-            Answer::Active(block) => fits_active(prompt, block),
+            } => Ok(self.fits_sent(prompt, *code, *number, id.as_slice(), block)),
+            Answer::Active(block) => fits_active(self.alloc, prompt, block),
         }
     }
 
@@ -167,13 +170,20 @@ impl<A: Allocator + Copy> Session<A> {
     }
 }
 
-fn fits_active(prompt: &Prompt<'_>, block: &Block<'_>) -> bool
+fn fits_active<A: Allocator + Copy>(
+    alloc: A,
+    prompt: &Prompt<'_>,
+    block: &Block<'_>,
+) -> Result<bool, AllocError>
     requires { AreActiveLines block.now }
-    ensures { (v : Visible) → result ≡ fits narrow v (asked prompt.now) (active_are block.now) }
+    ensures { IfOk result (λ does. (v : Visible) → does ≡ fits narrow v (asked prompt.now) (active_are block.now)) }
 {
     match prompt {
         Prompt::To(Command::ListActive(wildmat)) => {
-            fit_groups(wildmat, block) && names_differ(block)
+            if !fit_groups(wildmat, block) {
+                return Ok(false);
+            }
+            names_differ(alloc, block)
         }
         Prompt::Greeting
         | Prompt::To(Command::Capabilities)
@@ -185,6 +195,6 @@ fn fits_active(prompt: &Prompt<'_>, block: &Block<'_>) -> bool
         | Prompt::To(Command::Retrieve { .. })
         | Prompt::To(Command::Quit)
         | Prompt::To(Command::Opaque)
-        | Prompt::To(Command::IllFormed) => false,
+        | Prompt::To(Command::IllFormed) => Ok(false),
     }
 }

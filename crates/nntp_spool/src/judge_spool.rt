@@ -272,6 +272,7 @@ fn lists<A: Allocator>(spool: &Content<A>, name: &[u8], range: Range, block: &Bl
 fn agrees_listing<A: Allocator>(spool: &Content<A>, prompt: &Prompt<'_>, block: &Block<'_>) -> bool
     requires lines { AreActiveLines block.now }
     requires spool { IsSpool narrow spool.now }
+    requires fits { (v : Visible) × (fits narrow v (asked prompt.now) (active_are block.now) ≡ true) }
     ensures { (s : State) → IsTrue result ↔ Agrees spool.now s (asked prompt.now) (active_are block.now) }
 {
     match prompt {

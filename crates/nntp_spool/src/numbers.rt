@@ -1,14 +1,12 @@
 //! The numbers of one group, with the id at each.
-ghost use Rattle.std.specs.Prelude.{◌≡◌, ℕ, OnOk, OnErr, option_map, MatchOption, ◌≤◌, bytes_eq};
-ghost use Rattle.std.specs.Ordering.{nat_cmp, is_lt};
+ghost use Rattle.std.specs.Prelude.{◌≡◌, ℕ, OnOk, OnErr, IfOk, option_map, MatchOption, ◌≤◌};
 ghost use Rattle.std.specs.FinMap as map;
-ghost use Rattle.std.specs.BTreeMap.{IsOrdered};
-ghost use Rattle.std.specs.List.{list_all, list_any};
 ghost use Rattle.nntp_article.specs.Spool.{IsFirst, IsNextAbove, IsNextBelow, NoneAbove, NoneBelow, IsNumber};
 ghost use Rattle.nntp_spool.specs.Reading.{is_last, has_id};
+ghost use Rattle.nntp_spool.specs.Ids.{is_free, with_number};
 
 use std::alloc::{AllocError, Allocator, Global};
-use std::collections::BTreeMap;
+use std::collections::{BTreeMap, BTreeSet};
 use std::marker::Model;
 use std::ops::Bound;
 
@@ -16,6 +14,8 @@ use std::ops::Bound;
 #[derive(Drop)]
 pub struct Numbers<A: Allocator = Global> {
     pub(crate) ids: BTreeMap<u64, Vec<u8, A>, A>,
+    /// Copies of the ids, by which one is looked up.
+    known: BTreeSet<Vec<u8, A>, A>,
 }
 
 impl<A: Allocator> Model for Numbers<A> {
@@ -29,6 +29,10 @@ impl<A: Allocator> Model for Numbers<A> {
     ghost coded = { map.code coded_ℕ (coded_list coded_ℕ) };
 
     ghost view = { λ a. map.from_entries (list_map (λ e. (e.0, e.1.items)) a.ids.entries) };
+
+    ghost use Rattle.nntp_spool.specs.Ids.{AreIdsOf};
+
+    ghost invariant = { λ a. AreIdsOf a.known.keys (map.from_entries (list_map (λ e. (e.0, e.1.items)) a.ids.entries)) };
 }
 
 impl<A: Allocator + Copy> Numbers<A> {
@@ -37,16 +41,29 @@ impl<A: Allocator + Copy> Numbers<A> {
     {
         Numbers {
             ids: BTreeMap::new(alloc),
+            known: BTreeSet::new(alloc),
         }
     }
 
-    /// Adds a number, or puts it in the place of the same one.
-    pub(crate) fn insert(&mut self, number: u64, id: Vec<u8, A>) -> Result<(), AllocError>
-        ensures ok { OnOk result (self.new ≡ map.insert self.old number id.items) }
+    /// Adds a number with its id, and answers true. Where the number or the id is there already, it
+    /// answers false and adds nothing.
+    pub(crate) fn insert(&mut self, alloc: A, number: u64, id: &[u8]) -> Result<bool, AllocError>
+        ensures added { IfOk result (λ added. added ≡ is_free self.old number id.now) }
+        ensures ok { OnOk result (self.new ≡ with_number self.old number id.now) }
         ensures err { OnErr result (self.new ≡ self.old) }
     {
-        self.ids.insert(number, id)?;
-        Ok(())
+        if self.id(number).is_some() || self.has_some_id(id) {
+            return Ok(false);
+        }
+        let held = Vec::from_slice(alloc, id)?;
+        self.known.insert(Vec::from_slice(alloc, id)?)?;
+        match self.ids.insert(number, held) {
+            Ok(_) => Ok(true),
+            Err(_) => {
+                self.known.remove(id);
+                Err(AllocError)
+            }
+        }
     }
 }
 
@@ -117,27 +134,16 @@ impl<A: Allocator> Numbers<A> {
     pub(crate) fn is_after(&self, number: u64) -> bool
         ensures { result ≡ is_last self.now number }
     {
-        is_after_keys(&self.ids, number)
+        match self.greatest() {
+            Some(greatest) => greatest < number,
+            None => true,
+        }
     }
 
     /// Whether some number has the id.
     pub(crate) fn has_some_id(&self, id: &[u8]) -> bool
         ensures { result ≡ has_id self.now id.now }
     {
-        is_among(&self.ids, id)
+        self.known.contains(id)
     }
-}
-
-fn is_among<A: Allocator>(ids: &BTreeMap<u64, Vec<u8, A>, A>, id: &[u8]) -> bool
-    ensures is { result ≡ list_any (λ e. bytes_eq e.1.items id.now) ids.now.entries }
-    ensures ordered { IsOrdered nat_cmp ids.now }
-{
-    ids.iter().any(|(_, found)| found.as_slice() == id)
-}
-
-fn is_after_keys<A: Allocator>(ids: &BTreeMap<u64, Vec<u8, A>, A>, number: u64) -> bool
-    ensures is { result ≡ list_all (λ e. is_lt (nat_cmp e.0 number)) ids.now.entries }
-    ensures ordered { IsOrdered nat_cmp ids.now }
-{
-    ids.iter().all(|(key, _)| *key < number)
 }

@@ -66,7 +66,7 @@ fn number_in(at: u64, line: &[u8]) -> Result<(u64, &[u8]), ReadError>
 }
 
 /// One more number of a group.
-#[tactic(auto, unfolding(crate::specs::Reading::number_at))]
+#[tactic(auto, using(crate::proofs::Ids::id_in_the_way), unfolding(crate::specs::Reading::number_at))]
 fn number_at<'a, A: Allocator + Copy>(
     alloc: A,
     numbers: &mut Numbers<A>,
@@ -79,10 +79,9 @@ fn number_at<'a, A: Allocator + Copy>(
     if !numbers.is_after(number) {
         return Err(fault(place.line, Kind::Order));
     }
-    if numbers.has_some_id(id) {
+    if !numbers.insert(alloc, number, id)? {
         return Err(fault(place.line, Kind::DuplicateId));
     }
-    numbers.insert(number, Vec::from_slice(alloc, id)?)?;
     Ok(next)
 }
 

@@ -21,7 +21,7 @@ use std::marker::Model;
 /// and the greatest low mark of each group so far.
 #[derive(Drop)]
 pub(crate) struct Session<A: Allocator> {
-    alloc: A,
+    pub(crate) alloc: A,
     closed: bool,
     selected: Option<Vec<u8, A>>,
     current: Option<u64>,

@@ -55,6 +55,7 @@ fn lines_of_another_form(rt: HostRuntime) {
     assert!(rt; fault_of(&rt, b"spool 1\nend") == shape(2));
     assert!(rt; fault_of(&rt, b"spool 1\r\nend\r\n") == shape(1));
     assert!(rt; fault_of(&rt, b"spool 1\nend\r\n") == shape(2));
+    assert!(rt; fault_of(&rt, b"spool 1\ngroup g 0\r\nend\n") == shape(2));
     assert!(rt; fault_of(&rt, b"spool 1\nend\nend\n") == shape(3));
     assert!(rt; fault_of(&rt, b"spool 1\nend\nx") == shape(3));
     assert!(rt; fault_of(&rt, b"spool 1\ngroup g 1\n01 <a@b>\nend\n") == shape(3));
@@ -93,6 +94,8 @@ fn lines_of_articles(rt: HostRuntime) {
 fn names_numbers_and_ids(rt: HostRuntime) {
     let name = b"spool 1\ngroup a,b 0\nend\n";
     assert!(rt; fault_of(&rt, name) == told(2, Kind::Name));
+    let nul = b"spool 1\ngroup g\0h 0\nend\n";
+    assert!(rt; fault_of(&rt, nul) == told(2, Kind::Name));
     let zero = b"spool 1\ngroup g 1\n0 <a@b>\n";
     assert!(rt; fault_of(&rt, zero) == told(3, Kind::Number));
     let above = b"spool 1\ngroup g 1\n2147483648 <a@b>\n";
@@ -101,6 +104,10 @@ fn names_numbers_and_ids(rt: HostRuntime) {
     assert!(rt; fault_of(&rt, long) == told(3, Kind::Number));
     let id = b"spool 1\ngroup g 1\n1 a\n";
     assert!(rt; fault_of(&rt, id) == told(3, Kind::Id));
+    let with_carriage_return = b"spool 1\ngroup g 1\n1 <a@b>\r\nend\n";
+    assert!(rt; fault_of(&rt, with_carriage_return) == told(3, Kind::Id));
+    let both = b"spool 1\ngroup g 1\n0 a\n";
+    assert!(rt; fault_of(&rt, both) == told(3, Kind::Number));
     let of_article = b"spool 1\narticle a 0 0\nend\n";
     assert!(rt; fault_of(&rt, of_article) == told(2, Kind::Id));
 }
@@ -166,7 +173,7 @@ fn with_one_number(rt: &HostRuntime) -> Result<SpoolBuilder, Fail> {
 }
 
 #[test]
-fn groups_and_numbers_that_are_refused(rt: HostRuntime) -> Result<(), Fail> {
+fn calls_that_are_refused(rt: HostRuntime) -> Result<(), Fail> {
     let mut builder = SpoolBuilder::new(rt.alloc());
     assert!(rt; builder.group(b"g").is_ok());
     assert!(rt; builder.group(b"g") == Err(SpoolFault::DuplicateGroup));
@@ -178,22 +185,27 @@ fn groups_and_numbers_that_are_refused(rt: HostRuntime) -> Result<(), Fail> {
     assert!(rt; builder.number(b"g", 1, b"<a@b>").is_ok());
     assert!(rt; builder.number(b"g", 1, b"<c@d>") == Err(SpoolFault::DuplicateNumber));
     assert!(rt; builder.number(b"g", 2, b"<a@b>") == Err(SpoolFault::DuplicateId));
+    let no_line = article(&rt, &[], &[])?;
+    assert!(rt; builder.article(b"<a@b>", no_line) == Err(SpoolFault::BadHead));
+    let other = article(&rt, &[b"Message-ID: <c@d>"], &[])?;
+    assert!(rt; builder.article(b"<a@b>", other) == Err(SpoolFault::BadHead));
+    let broken = article(&rt, &[b"Subject: s"], &[b"a\rb"])?;
+    assert!(rt; builder.article(b"<a@b>", broken) == Err(SpoolFault::BadBody));
+    assert!(rt; matches!(builder.finish(), Err(SpoolFault::UnknownId)));
     Ok(())
 }
 
 #[test]
 fn articles_that_are_refused(rt: HostRuntime) -> Result<(), Fail> {
     let mut builder = with_one_number(&rt)?;
-    let no_line = article(&rt, &[], &[])?;
-    assert!(rt; builder.article(b"a", article(&rt, &[], &[])?) == Err(SpoolFault::BadId));
-    assert!(rt; builder.article(b"<a@b>", no_line) == Err(SpoolFault::BadHead));
-    let other = article(&rt, &[b"Message-ID: <c@d>"], &[])?;
-    assert!(rt; builder.article(b"<a@b>", other) == Err(SpoolFault::BadHead));
-    let broken = article(&rt, &[b"Subject: s"], &[b"a\rb"])?;
-    assert!(rt; builder.article(b"<a@b>", broken) == Err(SpoolFault::BadBody));
+    let named = article(&rt, &[b"Subject: s"], &[])?;
+    assert!(rt; builder.article(b"a", named) == Err(SpoolFault::BadId));
     let broken_head = article(&rt, &[b"Subject: a\rb"], &[])?;
     assert!(rt; builder.article(b"<a@b>", broken_head) == Err(SpoolFault::BadHead));
-    assert!(rt; matches!(builder.finish(), Err(SpoolFault::UnknownId)));
+    // The id of another group's number may be the same; that of this group's may not.
+    builder.group(b"h")?;
+    assert!(rt; builder.number(b"h", 1, b"<a@b>").is_ok());
+    assert!(rt; builder.number(b"g", 2, b"<a@b>") == Err(SpoolFault::DuplicateId));
     Ok(())
 }
 
@@ -203,12 +215,16 @@ fn a_spool_is_built(rt: HostRuntime) -> Result<(), Fail> {
     builder.article(b"<a@b>", article(&rt, &[b"Subject: s"], &[])?)?;
     let again = article(&rt, &[b"Subject: s"], &[])?;
     assert!(rt; builder.article(b"<a@b>", again) == Err(SpoolFault::DuplicateId));
-    let counts = builder.finish()?.counts();
+    let spool = builder.finish()?;
     let expected = Counts {
         groups: 1,
         numbers: 1,
         articles: 1,
     };
-    assert_eq!(rt; counts, expected);
+    assert_eq!(rt; spool.counts(), expected);
+    let mut out = Watched::new(Vec::new(rt.alloc()));
+    spool.write(&mut out)?;
+    let text = b"spool 1\ngroup g 1\n1 <a@b>\narticle <a@b> 1 0\n|Subject: s\nend\n";
+    assert_eq!(rt; out.into_inner().as_slice(), text.as_slice());
     Ok(())
 }

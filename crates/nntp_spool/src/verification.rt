@@ -1,5 +1,5 @@
 //! Whether a given spool explains a session.
-ghost use Rattle.std.specs.Prelude.{◌≡◌, OnOk, MatchResult, ◌↔◌, IsTrue, IfOk};
+ghost use Rattle.std.specs.Prelude.{◌≡◌, OnOk, ◌↔◌, IsTrue, IfOk};
 ghost use Rattle.nntp_pair.specs.Pairing.{asked_at};
 ghost use Rattle.nntp_article.specs.Machine.{MayAnswer, after};
 ghost use Rattle.nntp_article.specs.Spool.{IsSpool};
@@ -15,9 +15,9 @@ use std::alloc::{AllocError, Allocator};
 
 impl<A: Allocator + Copy> Session<A> {
     /// Whether the exchange is permitted.
-    fn permits(&self, spool: &Content<A>, exchange: &Exchange<'_>) -> bool
+    fn permits(&self, spool: &Content<A>, exchange: &Exchange<'_>) -> Result<bool, AllocError>
         requires { IsSpool narrow spool.now }
-        ensures { IsTrue result ↔ MayAnswer narrow spool.now self.now (asked_at exchange.now.line) exchange.now.response }
+        ensures { IfOk result (λ may. IsTrue may ↔ MayAnswer narrow spool.now self.now (asked_at exchange.now.line) exchange.now.response) }
     {
         self.may_answer(spool, exchange.prompt(), exchange.answer())
     }
@@ -47,7 +47,7 @@ pub fn verify<A: Allocator + Copy>(
     loop {
         match pairs.next() {
             Step::Exchange(exchange) => {
-                if !session.permits(content, &exchange) {
+                if !session.permits(content, &exchange)? {
                     return Ok(Verified::Refuses { index: answers });
                 }
                 session.pass(content, &exchange)?;

@@ -1,25 +1,39 @@
-use Rattle.std.proofs.Common.{List, ℕ, sym, ap, subst, ◌∙◌}
-use Rattle.std.specs.List.{list_any}
-use Rattle.nntp_wire.specs.Listing.{AreActiveLines}
+use Rattle.std.proofs.Common.{◌≡◌, Bool, true, false, not, List, refl, sym, ap, subst, ◌∙◌}
+use Rattle.std.specs.Prelude.{◌&&◌}
+use Rattle.std.proofs.lemmas.Bool.{true≢false}
+use Rattle.nntp_wire.specs.Listing.{ActiveValue, AreActiveLines}
 use Rattle.nntp_article.specs.Listed.{active_groups}
-use Rattle.nntp_article.specs.Machine.{names_differ, is_same}
+use Rattle.nntp_article.specs.Machine.{names_differ}
 use Rattle.nntp_spool.specs.Actives.{active_value}
-use Rattle.nntp_spool.proofs.ActiveLemmas.{front_groups, back_lines, differ_not, differ_more}
+use Rattle.nntp_spool.proofs.Asked.{lack, none_named, named_once, named_twice}
 use Rattle.nntp_spool.proofs.active.names_differ.Goals as goal
 
-pub returns-then-lists_group : goal.returns-then-lists_group
-returns-then-lists_group c =
-    let gs = active_groups c.split_at_line-behind.result.1 in
-    let front = front_groups c.loop-group.rest c.lines.result c.next_group.new.lines c.split_at_line-behind.result.1 (active_value c.in-Some.group) c.lines.ensures.lines c.in-Some.ensures.groups c.in-Some.ensures.back c.split_at_line-behind.ensures.back in
-    let found = sym (ap (λ (n : List ℕ). list_any (λ line. is_same n line.name) gs) c.as_slice.ensures.value) ∙ sym c.lists_group.ensures ∙ c.if-lists_group.true in
-    sym (differ_not (active_value c.in-Some.group) gs found) ∙ ap names_differ (sym front) ∙ c.loop-group.invariant.same
+taken : (added b : Bool) → added ≡ not b → added ≡ false → b ≡ true
+taken added true e f = refl
+taken added false e f = absurd (true≢false (sym e ∙ f))
+
+free : (added b : Bool) → added ≡ not b → added ≡ true → b ≡ false
+free added true e f = absurd (true≢false (sym f ∙ e))
+free added false e f = refl
+
+pub loop-group-init : goal.loop-group-init
+loop-group-init g c = record {
+  are = subst AreActiveLines (sym c.lines-lines.ensures.lines) c.requires;
+  same = none_named c.new-names.result.keys (active_groups c.lines-lines.result) c.new-names.ensures.empty ∙ ap (λ ls. names_differ (active_groups ls)) c.lines-lines.ensures.lines;
+}
+
+pub returns-then-not-branch : goal.returns-then-not-branch
+returns-then-not-branch g c =
+    let old = c.loop-group.names.keys in
+    let twice = named_twice (active_value c.in-Some.group) (active_groups c.next_group.new.lines) old c.as_slice.result c.as_slice.ensures.value (taken _ _ c.in_ok-insert.ensures.added c.if-not-branch.true) in
+    sym twice ∙ ap (λ (lines : List ActiveValue). names_differ lines && lack old lines) (sym c.in-Some.ensures.groups) ∙ c.loop-group.invariant.same
 
 pub loop-group-preserved : goal.loop-group-preserved
-loop-group-preserved c =
-    let gs = active_groups c.split_at_line-behind.result.1 in
-    let front = front_groups c.loop-group.rest c.lines.result c.next_group.new.lines c.split_at_line-behind.result.1 (active_value c.in-Some.group) c.lines.ensures.lines c.in-Some.ensures.groups c.in-Some.ensures.back c.split_at_line-behind.ensures.back in
-    let found = sym (ap (λ (n : List ℕ). list_any (λ line. is_same n line.name) gs) c.as_slice.ensures.value) ∙ sym c.lists_group.ensures ∙ c.if-lists_group.false in
+loop-group-preserved g c =
+    let old = c.loop-group.names.keys in
+    let once = named_once (active_value c.in-Some.group) (active_groups c.next_group.new.lines) old c.as_slice.result c.as_slice.ensures.value c.insert.new.self.keys
+    (free _ _ c.in_ok-insert.ensures.added c.if-not-branch.false) c.in_ok-insert.ensures.keys in
     record {
-      are = subst AreActiveLines (back_lines c.loop-group.rest c.lines.result c.next_group.new.lines c.split_at_line-behind.result.1 c.lines.ensures.lines c.in-Some.ensures.back c.split_at_line-behind.ensures.back) c.in-Some.ensures.lines;
-      same = sym (differ_more (active_value c.in-Some.group) gs found) ∙ ap names_differ (sym front) ∙ c.loop-group.invariant.same;
+      are = c.in-Some.ensures.lines;
+      same = once ∙ ap (λ (lines : List ActiveValue). names_differ lines && lack old lines) (sym c.in-Some.ensures.groups) ∙ c.loop-group.invariant.same;
     }

@@ -1,17 +1,21 @@
-use Rattle.std.proofs.Common.{List, ℕ, sym, ap, ◌∙◌}
-use Rattle.std.specs.List.{list_all}
+use Rattle.std.proofs.Common.{◌<◌, length, sym, ap, ◌∙◌, arith}
 use Rattle.std.specs.Ordering.{nat_cmp, is_lt}
 use Rattle.std.specs.Cmp.Lexicographic.{slice_cmp, nat_list_cmp_total}
-use Rattle.std.specs.FinMap as map
-use Rattle.nntp_article.specs.Spool.{Text}
+use Rattle.std.proofs.lemmas.Bool.{true≢false}
+use Rattle.std.proofs.lemmas.List.{nil_from_length}
 use Rattle.nntp_spool.specs.Shown.{text_of_article}
-use Rattle.nntp_spool.specs.Reading.{is_last}
-use Rattle.nntp_spool.proofs.Shown.{entries-shown, list_all-map}
+use Rattle.nntp_spool.proofs.Lasts.{last_shown, none_shown}
+use Rattle.nntp_spool.proofs.TextLaws.{octet_keys}
 use Rattle.nntp_spool.proofs.content.Content.is_after_articles.Goals as goal
 
-pub returns : goal.returns
-returns g c =
-    let es = c.self.inside.articles.entries in
-    let is = entries-shown (slice_cmp nat_cmp) (λ k. k.items) text_of_article nat_list_cmp_total (map.slice_cmp-IsAntisymmetric map.nat_cmp-IsAntisymmetric) es c.is_after_ids.ensures.ordered in
-    let test = λ (fs : List (List ℕ × Text)). list_all (λ e. is_lt (slice_cmp nat_cmp e.0 c.args.id.now)) fs in
-    c.is_after_ids.ensures.is ∙ sym (list_all-map (λ e. is_lt (slice_cmp nat_cmp e.0 c.args.id.now)) (λ e. (e.0.items, text_of_article e.1)) es) ∙ ap test (sym is) ∙ ap (λ s. is_last s.articles c.args.id.now) c.self.view_is
+pub returns-in-Some : goal.returns-in-Some
+returns-in-Some g c =
+    c.is_lt.ensures ∙ ap is_lt (c.cmp.ensures ∙ ap (λ name. slice_cmp nat_cmp name c.args.id.now) c.as_slice.ensures.value)
+    ∙ last_shown (slice_cmp nat_cmp) (λ k. k.items) text_of_article nat_list_cmp_total octet_keys c.self.inside.articles.entries c.args.self.now.articles c.in-Some.greatest.now _ c.args.id.now
+    (ap (λ s. s.articles) c.self.view_is) c.in-Some.ensures.value c.in-Some.ensures.all_up_to
+
+pub returns-in-None : goal.returns-in-None
+returns-in-None g c =
+    let none : 0 < length c.self.inside.articles.entries → ⊥ = λ p. true≢false (sym (c.in-None.ensures.variant.1 p)) in
+    none_shown (slice_cmp nat_cmp) (λ k. k.items) text_of_article nat_list_cmp_total octet_keys c.self.inside.articles.entries c.args.self.now.articles c.args.id.now
+    (ap (λ s. s.articles) c.self.view_is) (nil_from_length _ (omega (arith, none)))

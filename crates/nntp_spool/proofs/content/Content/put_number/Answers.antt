@@ -6,6 +6,7 @@ use Rattle.std.specs.Cmp.Lexicographic.{slice_cmp, nat_list_cmp_total}
 use Rattle.std.specs.FinMap as map
 use Rattle.std.proofs.lemmas.Bool.{true≢false}
 use Rattle.std.proofs.lemmas.Result.{err_from_is_err_and}
+use Rattle.nntp_spool.specs.Ids.{with_number}
 use Rattle.nntp_spool.proofs.Shown.{replaced, missing, insert-same, spool_is}
 use Rattle.nntp_spool.proofs.content.Content.put_number.Goals as goal
 use Rattle.nntp_spool.proofs.content.Content.put_number.Goals.{in-Some+in_ok-insert, in_default}
@@ -26,7 +27,7 @@ returns-clause-ok g c =
       | in-Some+in_ok-insert w ↦
           let r = replaced (slice_cmp nat_cmp) (λ k. k.items) (λ v. v) nat_list_cmp_total same c.self.inside.groups.entries _ c.args.self.now.groups c.args.name.now w.in-Some.group.now w.insert.new.self
           (ap (λ s. s.groups) c.self.view_is) w.in-Some.ensures.value (c.get_mut.follows.holds w.insert.new.self).0 in
-          rw w.self-inside-is (spool_is _ _ (r.0 ∙ ap (map.insert c.args.self.now.groups c.args.name.now) (w.in_ok-insert.ensures.ok ∙ ap (λ o. map.insert (unwrap_or o map.empty) c.args.number c.args.id.items) (sym r.1))) (ap (λ s. s.articles) c.self.view_is))
+          rw w.self-inside-is (spool_is _ _ (r.0 ∙ ap (map.insert c.args.self.now.groups c.args.name.now) (w.in_ok-insert.ensures.ok ∙ ap (λ o. with_number (unwrap_or o map.empty) c.args.number c.args.id.now) (sym r.1))) (ap (λ s. s.articles) c.self.view_is))
       | in_default w ↦
           absurd (true≢false (sym c.requires ∙ ap is_some (missing (slice_cmp nat_cmp) (λ k. k.items) (λ v. v) nat_list_cmp_total same c.self.inside.groups.entries c.args.self.now.groups c.args.name.now (ap (λ s. s.groups) c.self.view_is) (ap option_copied_mut (sym w.in_default.is) ∙ c.get_mut.ensures.value))))
     ]
