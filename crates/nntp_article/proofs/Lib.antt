@@ -12,5 +12,6 @@ pub mod SomeLemmas
 pub mod PartLemmas
 pub mod ContentLemmas
 pub mod MissingLemmas
+pub mod Closing
 pub mod HeadParts
 pub mod ArticleLaws

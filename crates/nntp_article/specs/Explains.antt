@@ -1,16 +1,9 @@
 -- A spool explains what client and server sent (RFC 3977, sections 3.1 and 3.5).
-use Rattle.std.specs.Prelude.{◌≡◌, ◌≢◌, ℕ, ◌+◌, List, [], ◌∷◌, ◌++◌, length}
-use Rattle.nntp_wire.specs.Answer.{Asked, Response, Spells}
-use Rattle.nntp_wire.specs.Session.{prompts_of}
+use Rattle.std.specs.Prelude.{◌≡◌, ◌≢◌, ℕ, ◌+◌, List, [], ◌++◌, length}
+use Rattle.nntp_wire.specs.Answer.{Response}
+use Rattle.nntp_wire.specs.Session.{prompts_of, Spelled}
 use Rattle.nntp_article.specs.Spool.{Profile, Spool, IsSpool}
 use Rattle.nntp_article.specs.Machine.{Run, start}
-
--- the octets are one spelling of each answer, one after the other
-abbrev pub Spelled : List Asked → List Response → List ℕ → Type 0
-Spelled ps [] octets = octets ≡ []
-Spelled [] (response ∷ more) octets = ⊥
-Spelled (asked ∷ ps) (response ∷ more) octets =
-    (front : List ℕ) × (rest : List ℕ) × Spells asked response front × Spelled ps more rest × (octets ≡ front ++ rest)
 
 -- the spool permits the first n answers, and the server's octets go on with the rest
 pub record ExplainsUpTo (profile : Profile) (S : Spool) (client server : List ℕ) (n : ℕ) (rest : List ℕ) : Type 0 where

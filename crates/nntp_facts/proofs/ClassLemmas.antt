@@ -6,14 +6,14 @@ use Rattle.nntp_wire.specs.Command.{request_of}
 use Rattle.nntp_wire.specs.Lines.{lines_of_stream}
 use Rattle.nntp_wire.specs.Answer.{Asked, Response, greeting, to, Spells}
 use Rattle.nntp_wire.specs.Frame.{HasFrame, frame_octets}
-use Rattle.nntp_wire.specs.Session.{prompts_of}
+use Rattle.nntp_wire.specs.Session.{prompts_of, Spelled}
 use Rattle.nntp_wire.proofs.SpellLemmas.{spelling-frame, one-frame}
 use Rattle.nntp_wire.proofs.SpellsDecided.{one-spelling, dec_spelling}
 use Rattle.nntp_wire.proofs.FramesDecided.{dec_frame, frame-longer}
 use Rattle.nntp_wire.proofs.StreamLemmas.{lines-joined}
 use Rattle.nntp_article.specs.Spool.{Profile, Spool}
 use Rattle.nntp_article.specs.Machine.{Visible, State, Run, start, fits, visible_after}
-use Rattle.nntp_article.specs.Explains.{Spelled, ExplainsFirst, Bad}
+use Rattle.nntp_article.specs.Explains.{ExplainsFirst, Bad}
 use Rattle.nntp_pair.specs.Pairing.{IsCut, IsMalformed}
 use Rattle.nntp_facts.specs.Classes.{Class, Surplus, Cut, Malformed, OutOfPlace, Contradiction, visible_from, asked_next, AnswersFirst, BeginsWithAnswer, IsOpenClass, IsClass, left_visible, HasClass, IsSettled}
 

@@ -5,13 +5,13 @@ use Rattle.std.proofs.lemmas.Bool.{cases_lt, cases_order}
 use Rattle.std.proofs.lemmas.List.{append_cancel_left, length-take}
 use Rattle.nntp_article.specs.Spool.{Spool, IsSpool, Profile}
 use Rattle.nntp_article.specs.Machine.{Run, start}
-use Rattle.nntp_article.specs.Explains.{Spelled, ExplainsUpTo, Explains, ExplainsFirst, Bad}
+use Rattle.nntp_wire.specs.Session.{Spelled, prompts_of}
+use Rattle.nntp_article.specs.Explains.{ExplainsUpTo, Explains, ExplainsFirst, Bad}
 use Rattle.nntp_facts.specs.Given.{facts_of_session, size, weight}
 use Rattle.nntp_facts.specs.Permits.{SomePermits}
 use Rattle.nntp_facts.proofs.Size.{session_size}
 use Rattle.nntp_facts.proofs.FirstBad.{run_fewer, permitted_or_bad}
 use Rattle.nntp_wire.specs.Answer.{Asked, Response, Spells}
-use Rattle.nntp_wire.specs.Session.{prompts_of}
 use Rattle.nntp_facts.proofs.Spellings.{AreSpellings}
 
 -- the longest list of answers that the octets begin with

@@ -6,17 +6,16 @@ use Rattle.nntp_wire.specs.Answer.{Asked, Spells}
 use Rattle.nntp_wire.specs.Frame.{framed, frame_octets}
 use Rattle.nntp_wire.specs.Session.{prompts_of}
 use Rattle.nntp_wire.proofs.SpellsDecided.{one-spelling}
-use Rattle.nntp_pair.specs.Pairing.{Paired, Unpaired, IsNext, AreNext, end, bad, IsPairing, asked_at, streams}
-use Rattle.nntp_pair.specs.Spelled.{responses_of}
+use Rattle.nntp_pair.specs.Pairing.{Paired, Unpaired, IsNext, AreNext, end, bad, IsPairing, responses_of, asked_at, streams}
 use Rattle.nntp_pair.specs.declared.class.PairClass.{PairClass}
 use Rattle.nntp_pair.specs.declared.class.PairClass.TheVariants.{Surplus as surplus, Cut as cut, Malformed as malformed}
 use Rattle.nntp_article.specs.Spool.{Profile, Spool, IsSpool}
 use Rattle.nntp_article.specs.Machine.{Run, start, fits}
-use Rattle.nntp_article.specs.Explains.{Spelled, ExplainsUpTo, Explains, ExplainsFirst, Bad}
+use Rattle.nntp_article.specs.Explains.{ExplainsUpTo, Explains, ExplainsFirst, Bad}
 use Rattle.nntp_facts.specs.Permits.{SomePermits}
 use Rattle.nntp_facts.specs.Classes.{Class, visible_from, asked_next, BeginsWithAnswer, IsOpenClass, IsClass, HasClass, left_visible, class_of, class_by}
 use Rattle.nntp_facts.proofs.ClassLemmas.{OneMore, one_more, run_open, run_fits, not_cut, not_malformed}
-use Rattle.nntp_pair.proofs.SpelledLemmas.{places-prompts}
+use Rattle.nntp_pair.proofs.SpelledLemmas.{places-prompts, pairs-spelled}
 use Rattle.nntp_facts.proofs.PairedLemmas.{first_asked, paired_up, count, has_class, end_has_class, explained_pairs}
 
 -- where the pairing comes to its end, who permits its responses explains both streams
@@ -104,11 +103,10 @@ module _ (profile : Profile) (client server : List ℕ) (pairs : List Paired) (p
   -- who explains one answer more permits this one
   permitted : (T : Spool) → ExplainsFirst profile T client server (length pairs) → SomePermits profile (prompts_of client) (responses_of pairs ++ pair.response ∷ [])
   permitted T (more, y) =
-      let up = paired_up start.visible (streams client server) before pairs refl paired in
-      let spelled = subst (λ ps. Spelled ps (responses_of pairs) up.octets) (places-prompts client) up.spelled in
+      let spelled = (pairs-spelled client server pairs before paired).0 in
       let a = count pairs in
       let b = y.count in
-      let m = one_more (prompts_of client) (responses_of pairs) y.answers up.octets y.octets before.server more spelled y.spelled (sym up.whole ∙ y.whole) (omega arith) in
+      let m = one_more (prompts_of client) (responses_of pairs) y.answers spelled.0 y.octets before.server more spelled.1 y.spelled (sym spelled.2 ∙ y.whole) (omega arith) in
       let same : m.asked ≡ asked_at pair.line = (let e = sym m.next ∙ asked_is in cc) in
       let one = one-spelling (asked_at pair.line) m.response pair.response m.front (frame_octets pair.initial next.answered.block) more after.server
       (subst (λ asked. Spells asked m.response m.front) same m.spells) next.answered.spells (sym m.whole ∙ next.answered.frame.whole) in

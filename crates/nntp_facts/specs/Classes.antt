@@ -1,10 +1,9 @@
 -- Why an answer is bad (RFC 3977, sections 3.1, 3.2 and 3.5).
 use Rattle.std.specs.Prelude.{◌≡◌, ℕ, Bool, true, false, List, [], ◌∷◌, ◌++◌, length, Option, None, Some, ⊤}
 use Rattle.nntp_wire.specs.Answer.{Asked, Response, Spells}
-use Rattle.nntp_wire.specs.Session.{prompts_of}
+use Rattle.nntp_wire.specs.Session.{prompts_of, Spelled}
 use Rattle.nntp_article.specs.Spool.{Profile}
 use Rattle.nntp_article.specs.Machine.{Visible, start, fits, visible_after}
-use Rattle.nntp_article.specs.Explains.{Spelled}
 use Rattle.nntp_pair.specs.Pairing.{IsCut, IsMalformed}
 use Rattle.nntp_pair.specs.declared.class.PairClass.{PairClass}
 use Rattle.nntp_pair.specs.declared.class.PairClass.TheVariants.{Surplus as PairSurplus, Cut as PairCut, Malformed as PairMalformed}

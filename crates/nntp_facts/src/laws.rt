@@ -9,9 +9,8 @@ ghost use Rattle.nntp_facts.specs.Given.{asks_of, HasGivenNumbers, IsGiven, fact
 ghost use Rattle.nntp_facts.specs.Permits.{SomePermits, IsBadAnswer};
 ghost use Rattle.nntp_article.specs.Explains.{Explains, ExplainsUpTo, Bad};
 ghost use Rattle.nntp_wire.specs.Session.{prompts_of};
-ghost use Rattle.nntp_pair.specs.Spelled.{HasPairs, responses_of};
 ghost use Rattle.nntp_facts.specs.Classes.{Class, HasClass, IsSettled, class_of, class_by, visible_from};
-ghost use Rattle.nntp_pair.specs.Pairing.{Paired, Unpaired, IsNext, AreNext, IsBad, Ending, end, bad, IsPairing, asked_at, streams};
+ghost use Rattle.nntp_pair.specs.Pairing.{Paired, Unpaired, IsNext, AreNext, IsBad, Ending, end, bad, IsPairing, HasPairs, responses_of, asked_at, streams};
 ghost use Rattle.nntp_pair.specs.declared.class.PairClass.{PairClass};
 ghost use Rattle.nntp_wire.specs.Answer.{Asked, Response};
 

@@ -1,5 +1,5 @@
 -- Pairs are spelled one after the other, and what is so spelled is paired.
-use Rattle.std.proofs.Common.{◌≡◌, ℕ, ◌+◌, List, [], ◌∷◌, ◌++◌, map, Option, Some, Bool, false, refl, sym, ◌∙◌, ap, subst}
+use Rattle.std.proofs.Common.{◌≡◌, ℕ, ◌+◌, List, [], ◌∷◌, ◌++◌, map, Option, Some, Bool, false, refl, sym, ◌∙◌, ap, subst, append_assoc}
 use Rattle.std.proofs.lemmas.List.{append-nil}
 use Rattle.std.specs.Prelude.{⊤, is_some, count_by}
 use Rattle.nntp_wire.specs.Answer.{Asked, Response, Spells}
@@ -7,11 +7,10 @@ use Rattle.nntp_wire.specs.Command.{request_of}
 use Rattle.nntp_wire.specs.Answer.{greeting, to}
 use Rattle.nntp_wire.specs.Frame.{HasFrame, frame_octets}
 use Rattle.nntp_wire.specs.Lines.{lines_of_stream}
-use Rattle.nntp_wire.specs.Session.{closes, prompts_of}
+use Rattle.nntp_wire.specs.Session.{closes, prompts_of, AreSpelled, StaysOpen}
 use Rattle.nntp_wire.proofs.SpellLemmas.{spelling-frame}
 use Rattle.nntp_pair.specs.declared.class.PairClass.{PairClass}
-use Rattle.nntp_pair.specs.Pairing.{Paired, Unpaired, AreNext, Ending, end, bad, Ends, IsPairing, streams, asked_at, places_of}
-use Rattle.nntp_pair.specs.Spelled.{AreSpelled, StaysOpen, responses_of, HasPairs}
+use Rattle.nntp_pair.specs.Pairing.{Paired, Unpaired, AreNext, Ending, end, bad, Ends, IsPairing, responses_of, HasPairs, streams, asked_at, places_of}
 use Rattle.nntp_pair.proofs.NextLemmas.{next-no-end}
 use Rattle.nntp_pair.proofs.PairingLemmas.{first-pairs}
 
@@ -25,10 +24,12 @@ places-prompts client = ap (λ t. greeting ∷ t) (map-asked (lines_of_stream cl
 
 -- pairs are spelled
 run-spelled : (pairs : List Paired) (a b : Unpaired) → AreNext a pairs b → AreSpelled (map asked_at a.places) (responses_of pairs) a.server b.server
-run-spelled [] a b same = ap (λ u. u.server) same
+run-spelled [] a b same = ([], refl, ap (λ u. u.server) same)
 run-spelled (x ∷ pairs) a b (m, n, run) =
+    let more = run-spelled pairs m b run in
+    let front = frame_octets x.initial n.answered.block in
     subst (λ places. AreSpelled (map asked_at places) (responses_of (x ∷ pairs)) a.server b.server) (sym n.place)
-    (frame_octets x.initial n.answered.block, m.server, n.answered.spells, n.answered.frame.whole, run-spelled pairs m b run)
+    (front ++ more.0, (front, more.0, n.answered.spells, more.1, refl), n.answered.frame.whole ∙ ap (λ o. front ++ o) more.2 ∙ sym (append_assoc front more.0 b.server))
 
 -- none but the last closes
 run-open : (pairs : List Paired) (a b : Unpaired) → AreNext a pairs b → StaysOpen (map asked_at a.places) (responses_of pairs)
@@ -51,12 +52,15 @@ open-tail asked prompts response (next ∷ responses) stays = (stays.0, stays.1)
 spelled-run : (responses : List Response) (index : ℕ) (places : List (Option (List ℕ))) (server rest : List ℕ) (is_closed : Bool) → IsOpenFor is_closed responses
     → AreSpelled (map asked_at places) responses server rest → StaysOpen (map asked_at places) responses
     → HasPairs (record { index = index; places = places; server = server; is_closed = is_closed }) responses rest
-spelled-run [] index places server rest is_closed is_open spelled stays = ([], record { index = index; places = places; server = server; is_closed = is_closed }, refl, refl, spelled)
-spelled-run (response ∷ responses) index [] server rest is_closed is_open spelled stays = absurd spelled
-spelled-run (response ∷ responses) index (place ∷ places) server rest is_closed is_open (front, behind, spells, whole, spelled) stays =
+spelled-run [] index places server rest is_closed is_open (octets, none, whole) stays =
+    ([], record { index = index; places = places; server = server; is_closed = is_closed }, refl, refl, whole ∙ ap (λ o. o ++ rest) none)
+spelled-run (response ∷ responses) index [] server rest is_closed is_open spelled stays = absurd spelled.1
+spelled-run (response ∷ responses) index (place ∷ places) server rest is_closed is_open (octets, (front, tail_octets, spells, spelled, both), all) stays =
+    let behind = tail_octets ++ rest in
+    let whole : server ≡ front ++ behind = all ∙ ap (λ o. o ++ rest) both ∙ append_assoc front tail_octets rest in
     let found = spelling-frame (asked_at place) response front behind spells in
     let tail = open-tail (asked_at place) (map asked_at places) response responses stays in
-    let more = spelled-run responses (index + 1) places behind rest (closes (asked_at place) response) tail.0 spelled tail.1 in (
+    let more = spelled-run responses (index + 1) places behind rest (closes (asked_at place) response) tail.0 (tail_octets, spelled, refl) tail.1 in (
       record { index = index; line = place; initial = found.0; response = response } ∷ more.0,
       more.1,
       (

@@ -1,3 +1,2 @@
 pub mod Pairing
-pub mod Spelled
 pub mod Step

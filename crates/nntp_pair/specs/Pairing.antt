@@ -121,6 +121,14 @@ pub record IsPairing (client server : List ℕ) (pairs : List Paired) (ending : 
   pub paired : AreNext (streams client server) pairs left
   pub ends : Ends left ending
 
+-- the responses of pairs
+abbrev pub responses_of : List Paired → List Response
+responses_of pairs = map (λ pair. pair.response) pairs
+
+-- pairs with these responses come next, and then the rest of the server's octets
+abbrev pub HasPairs : Unpaired → List Response → List ℕ → Type 0
+HasPairs before responses rest = (pairs : List Paired) × (left : Unpaired) × AreNext before pairs left × (responses_of pairs ≡ responses) × (left.server ≡ rest)
+
 -- what is left, with more places and more octets behind
 abbrev pub with_more : List (Option (List ℕ)) → List ℕ → Unpaired → Unpaired
 with_more places octets left = record { index = left.index; places = left.places ++ places; server = left.server ++ octets; is_closed = left.is_closed }

@@ -1,10 +1,9 @@
 //! Laws of pairings, and of octets that are spellings one after the other.
 ghost use Rattle.std.specs.Prelude.{◌≡◌, ℕ, List, [], ◌++◌, Option, length, map, drop};
 ghost use Rattle.nntp_wire.specs.Answer.{Response};
-ghost use Rattle.nntp_wire.specs.Session.{prompts_of};
+ghost use Rattle.nntp_wire.specs.Session.{prompts_of, AreSpelled, StaysOpen};
 ghost use Rattle.nntp_pair.specs.declared.class.PairClass.{PairClass};
-ghost use Rattle.nntp_pair.specs.Pairing.{Paired, Unpaired, IsNext, AreNext, Ending, end, bad, Ends, IsPairing, IsLasting, asked_at, places_of, streams, with_more};
-ghost use Rattle.nntp_pair.specs.Spelled.{AreSpelled, StaysOpen, HasPairs, responses_of};
+ghost use Rattle.nntp_pair.specs.Pairing.{Paired, Unpaired, IsNext, AreNext, Ending, end, bad, Ends, IsPairing, IsLasting, HasPairs, responses_of, asked_at, places_of, streams, with_more};
 
 /// One pair comes next, and then one thing is left.
 pub fn one_next_pair()

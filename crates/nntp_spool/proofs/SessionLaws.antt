@@ -1,20 +1,17 @@
 -- What a spool permits of a pairing is what it explains of the streams.
-use Rattle.std.proofs.Common.{◌≡◌, ℕ, suc, ◌+◌, ◌<◌, Bool, true, false, List, [], ◌∷◌, ◌++◌, Some, length, map, refl, sym, ap, subst, ◌∙◌, append_assoc, arith, length-append}
-use Rattle.std.specs.Prelude.{◌||◌}
+use Rattle.std.proofs.Common.{◌≡◌, ℕ, suc, ◌+◌, ◌<◌, List, [], ◌∷◌, ◌++◌, length, map, refl, sym, ap, subst, ◌∙◌, arith, length-append}
 use Rattle.std.proofs.lemmas.List.{length-map}
-use Rattle.nntp_wire.specs.Command.{Request, mode_reader, quit, request_of}
-use Rattle.nntp_wire.specs.Answer.{Asked, greeting, to, Response, group_is, numbers_are, sends, active_are, plain, WaterMarks}
-use Rattle.nntp_wire.specs.Lines.{lines_of_stream}
-use Rattle.nntp_wire.specs.Session.{closes, prompts_of}
+use Rattle.nntp_wire.specs.Answer.{Asked, Response}
+use Rattle.nntp_wire.specs.Session.{prompts_of}
 use Rattle.nntp_pair.specs.declared.class.PairClass.{PairClass}
-use Rattle.nntp_pair.specs.Pairing.{Paired, Unpaired, IsNext, AreNext, Ends, bad, asked_at, places_of, streams}
-use Rattle.nntp_pair.specs.Spelled.{AreSpelled, StaysOpen, responses_of}
+use Rattle.nntp_pair.specs.Pairing.{Paired, Unpaired, IsNext, AreNext, Ends, bad, responses_of, asked_at, places_of, streams}
 use Rattle.nntp_pair.proofs.NextLemmas.{next-shorter, one-next, next-no-end}
 use Rattle.nntp_pair.proofs.PairingLemmas.{AreNext-push}
-use Rattle.nntp_pair.proofs.SpelledLemmas.{pairs-spelled, spelled-pairs}
+use Rattle.nntp_pair.proofs.SpelledLemmas.{places-prompts, pairs-spelled, spelled-pairs}
 use Rattle.nntp_article.specs.Spool.{Profile, Spool, IsSpool}
-use Rattle.nntp_article.specs.Machine.{State, Visible, start, MayAnswer, Run, after, visible_after}
-use Rattle.nntp_article.specs.Explains.{Spelled, ExplainsUpTo}
+use Rattle.nntp_article.specs.Machine.{State, start, MayAnswer, Run, after}
+use Rattle.nntp_article.specs.Explains.{ExplainsUpTo}
+use Rattle.nntp_article.proofs.Closing.{run-stays-open}
 use Rattle.nntp_spool.specs.Sessions.{state_after, MayAnswerAll, RefusesAt}
 
 -- ---- pairs
@@ -39,13 +36,6 @@ one-further (x ∷ pairs) (y ∷ others) a b c (d, n, more) (f, m, rest) e =
     one-further pairs others d b c more (subst (λ (u : Unpaired). AreNext u others c) (sym one.1) rest) (omega arith)
 
 -- ---- runs
-
-prompts : (client : List ℕ) → map asked_at (places_of client) ≡ prompts_of client
-prompts client = ap (λ (ps : List Asked). greeting ∷ ps) (of_lines (lines_of_stream client))
-  where
-    of_lines : (lines : List (List ℕ)) → map asked_at (map Some lines) ≡ map (λ line. to (request_of line)) lines
-    of_lines [] = refl
-    of_lines (l ∷ lines) = ap (λ (ps : List Asked). to (request_of l) ∷ ps) (of_lines lines)
 
 pairs-run : (profile : Profile) (S : Spool) (s : State) (pairs : List Paired) (a b : Unpaired) → AreNext a pairs b → MayAnswerAll profile S s pairs → Run profile S s (map asked_at a.places) (responses_of pairs)
 pairs-run profile S s [] a b n may = tt
@@ -72,74 +62,19 @@ pub all-more : (profile : Profile) (S : Spool) (s : State) (pairs : List Paired)
 all-more profile S s [] x all may = (may, tt)
 all-more profile S s (y ∷ pairs) x all may = (all.0, all-more profile S (after S s (asked_at y.line) y.response) pairs x all.1 may)
 
--- ---- the connection stays open
-
-either_false : (a b : Bool) → (a || b) ≡ false → b ≡ false
-either_false true b e = cc
-either_false false b e = e
-
-group-stays : (asked : Asked) (m : WaterMarks) (name : List ℕ) → closes asked (group_is m name) ≡ false
-group-stays greeting m name = refl
-group-stays (to request) m name = of_request request
-  where
-    of_request : (request : Request) → closes (to request) (group_is m name) ≡ false
-    of_request mode_reader = refl
-    of_request quit = refl
-    of_request request = refl
-
-numbers-stay : (asked : Asked) (m : WaterMarks) (name : List ℕ) (lines : List (List ℕ)) → closes asked (numbers_are m name lines) ≡ false
-numbers-stay greeting m name lines = refl
-numbers-stay (to request) m name lines = of_request request
-  where
-    of_request : (request : Request) → closes (to request) (numbers_are m name lines) ≡ false
-    of_request mode_reader = refl
-    of_request quit = refl
-    of_request request = refl
-
-stays : (v : Visible) (asked : Asked) (response : Response) → (visible_after v asked response).closed ≡ false → closes asked response ≡ false
-stays v asked (group_is m name) e = group-stays asked m name
-stays v asked (numbers_are m name lines) e = numbers-stay asked m name lines
-stays v asked (sends sent) e = either_false v.closed (closes asked (sends sent)) e
-stays v asked (active_are lines) e = either_false v.closed (closes asked (active_are lines)) e
-stays v asked (plain code) e = either_false v.closed (closes asked (plain code)) e
-
-run-stays : (profile : Profile) (S : Spool) (s : State) (ps : List Asked) (responses : List Response) → Run profile S s ps responses → StaysOpen ps responses
-run-stays profile S s ps [] run = tt
-run-stays profile S s ps (r ∷ []) run = tt
-run-stays profile S s [] (r ∷ q ∷ responses) run = absurd run
-run-stays profile S s (p ∷ []) (r ∷ q ∷ responses) run = absurd run.2
-run-stays profile S s (p ∷ p2 ∷ ps) (r ∷ q ∷ responses) run =
-    let closed = ap (λ (t : State). t.visible.closed) (sym run.1.leads) ∙ run.2.1.may.is_open in
-    (stays s.visible p r closed, run-stays profile S run.0 (p2 ∷ ps) (q ∷ responses) run.2)
-
--- ---- octets
-
-spelled-are : (ps : List Asked) (responses : List Response) (octets server rest : List ℕ) → Spelled ps responses octets → server ≡ octets ++ rest → AreSpelled ps responses server rest
-spelled-are ps [] octets server rest s e = e ∙ ap (λ (os : List ℕ). os ++ rest) s
-spelled-are [] (r ∷ responses) octets server rest s e = absurd s
-spelled-are (p ∷ ps) (r ∷ responses) octets server rest (front, behind, spells, more, whole) e =
-    (front, behind ++ rest, spells, e ∙ ap (λ (os : List ℕ). os ++ rest) whole ∙ append_assoc front behind rest, spelled-are ps responses behind (behind ++ rest) rest more refl)
-
-are-spelled : (ps : List Asked) (responses : List Response) (server rest : List ℕ) → AreSpelled ps responses server rest → (octets : List ℕ) × Spelled ps responses octets × (server ≡ octets ++ rest)
-are-spelled ps [] server rest s = ([], refl, s)
-are-spelled [] (r ∷ responses) server rest s = absurd s
-are-spelled (p ∷ ps) (r ∷ responses) server rest (front, behind, spells, whole, more) =
-    let tail = are-spelled ps responses behind rest more in
-    (front ++ tail.0, (front, tail.0, spells, tail.1, refl), whole ∙ ap (λ (os : List ℕ). front ++ os) tail.2 ∙ sym (append_assoc front tail.0 rest))
-
 -- ---- both
 
 module _ (profile : Profile) (S : Spool) (is : IsSpool profile S) (client server : List ℕ) where
   -- pairs that are permitted are explained
   pub permitted-explained : (pairs : List Paired) (left : Unpaired) → AreNext (streams client server) pairs left → MayAnswerAll profile S start pairs → ExplainsUpTo profile S client server (length pairs) left.server
   permitted-explained pairs left n may =
-      let spelled = are-spelled (prompts_of client) (responses_of pairs) server left.server (pairs-spelled client server pairs left n).0 in
+      let spelled = (pairs-spelled client server pairs left n).0 in
       record {
         is_spool = is;
         answers = responses_of pairs;
         octets = spelled.0;
         count = length-map pairs (λ pair. pair.response);
-        run = subst (λ (ps : List Asked). Run profile S start ps (responses_of pairs)) (prompts client) (pairs-run profile S start pairs (streams client server) left n may);
+        run = subst (λ (ps : List Asked). Run profile S start ps (responses_of pairs)) (places-prompts client) (pairs-run profile S start pairs (streams client server) left n may);
         spelled = spelled.1;
         whole = spelled.2;
       }
@@ -147,8 +82,8 @@ module _ (profile : Profile) (S : Spool) (is : IsSpool profile S) (client server
   -- and what is explained is permitted of as many pairs
   explained-pairs : (k : ℕ) (rest : List ℕ) → ExplainsUpTo profile S client server k rest → (pairs : List Paired) × (left : Unpaired) × AreNext (streams client server) pairs left × MayAnswerAll profile S start pairs × (length pairs ≡ k)
   explained-pairs k rest e =
-      let found = spelled-pairs client server e.answers rest (spelled-are (prompts_of client) e.answers e.octets server rest e.spelled e.whole) (run-stays profile S start (prompts_of client) e.answers e.run) in
-      let run = subst (λ (rs : List Response). Run profile S start (map asked_at (places_of client)) rs) (sym found.3) (subst (λ (ps : List Asked). Run profile S start ps e.answers) (sym (prompts client)) e.run) in
+      let found = spelled-pairs client server e.answers rest (e.octets, e.spelled, e.whole) (run-stays-open profile S start (prompts_of client) e.answers e.run) in
+      let run = subst (λ (rs : List Response). Run profile S start (map asked_at (places_of client)) rs) (sym found.3) (subst (λ (ps : List Asked). Run profile S start ps e.answers) (sym (places-prompts client)) e.run) in
       (found.0, found.1, found.2, run-pairs profile S start found.0 (streams client server) found.1 found.2 run, sym (length-map found.0 (λ pair. pair.response)) ∙ ap length found.3 ∙ e.count)
 
   -- a response that isn't permitted is refused

@@ -1,9 +1,8 @@
 -- The first lines of a block, and those behind them.
 use Rattle.std.proofs.Common.{◌≡◌, ℕ, zero, suc, ◌+◌, ◌-◌, ◌<◌, ◌≤◌, List, [], ◌∷◌, ◌++◌, length, take, drop, refl, sym, ◌∙◌, ap, subst, arith, append_assoc, append-nil, length-append}
 use Rattle.std.proofs.lemmas.List.{take_at, drop_at, take_all, drop_all}
-use Rattle.std.specs.Prelude.{map}
 use Rattle.nntp_wire.specs.Octets.{crlf}
-use Rattle.nntp_wire.specs.Lines.{HasNoCrlf, ended}
+use Rattle.nntp_wire.specs.Lines.{HasNoCrlf}
 use Rattle.nntp_wire.specs.Block.{stuffed, sent, received, AreClean, Sends, IsSent}
 use Rattle.nntp_wire.proofs.FrameLemmas.{one_line, occurs-behind}
 use Rattle.nntp_wire.proofs.SpellLemmas.{stuffed-line}

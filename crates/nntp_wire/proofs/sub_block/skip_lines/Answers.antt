@@ -1,5 +1,5 @@
-use Rattle.std.proofs.Common.{◌<◌, ◌≤◌, arith, subst, ap}
-use Rattle.nntp_wire.proofs.SubBlockLemmas.{Passed, passed-none, passed-more, passed-end, passed-all, IsBehind}
+use Rattle.std.proofs.Common.{arith, subst}
+use Rattle.nntp_wire.proofs.SubBlockLemmas.{passed-none, passed-more, passed-end, passed-all, IsBehind}
 use Rattle.nntp_wire.proofs.sub_block.skip_lines.Goals as goal
 
 pub loop-line-init : goal.loop-line-init
