@@ -3,7 +3,7 @@
 
 mod active;
 mod agrees;
-pub mod article;
+mod article;
 mod builder;
 mod checks;
 mod content;
@@ -17,10 +17,10 @@ mod lookups;
 mod numbers;
 mod place;
 mod read;
-pub mod read_fault;
+mod read_fault;
 mod session;
 mod spool;
-pub mod spool_fault;
+mod spool_fault;
 #[cfg(test)]
 mod tests;
 mod text;

@@ -34,6 +34,7 @@ pub enum Kind {
 pub struct ReadFault {
     /// The number of the line, from 1 on.
     pub line: u64,
+    /// Of the kinds that hold on that line, the one that is looked at first, in the order of `Kind`.
     pub kind: Kind,
 }
 

@@ -21,9 +21,11 @@ use std::marker::Model;
 /// How much a spool holds.
 #[derive(Clone, Copy, Debug, PartialEq, Eq)]
 pub struct Counts {
+    /// Groups, those without numbers among them.
     pub groups: u64,
     /// Numbers over all groups.
     pub numbers: u128,
+    /// Articles, those in no group among them.
     pub articles: u64,
 }
 
@@ -77,7 +79,7 @@ impl<A: Allocator> Spool<A> {
         }
     }
 
-    /// Writes the spool's text. After a fault the writer took a front of it.
+    /// Writes the spool's text, and doesn't flush. After a fault the writer took a front of it.
     pub fn write<W: Write>(&self, w: &mut Watched<W>) -> Result<(), WriteFault>
         ensures text { Writes result (W.contents (inner_of w.old)) (W.contents (inner_of w.new)) (spool_text self.now) }
         ensures failed { has_failed_of w.new ≡ (has_failed_of w.old || is_err result) }
@@ -87,7 +89,8 @@ impl<A: Allocator> Spool<A> {
 }
 
 impl<A: Allocator + Copy> Spool<A> {
-    /// The spool whose text the octets are, or the first fault of the octets.
+    /// The spool whose text the octets are, or the first fault of the octets. No memory is taken on
+    /// the word of a count alone.
     pub fn read(alloc: A, octets: &[u8]) -> Result<Spool<A>, ReadFault>
         ensures spool { IfOk result (λ spool. octets.now ≡ spool_text spool) }
         ensures fault { IfErr result (λ fault. IsFault narrow octets.now fault) }

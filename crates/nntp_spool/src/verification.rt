@@ -31,7 +31,7 @@ impl<A: Allocator + Copy> Session<A> {
 }
 
 /// Whether the spool explains both streams of a session; and if not, which answer is the first that
-/// it doesn't explain together with those before it.
+/// it doesn't explain together with those before it. `Err` says that memory was refused.
 pub fn verify<A: Allocator + Copy>(
     alloc: A,
     spool: &Spool<A>,

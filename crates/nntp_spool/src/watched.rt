@@ -16,6 +16,7 @@ pub struct Watched<T> {
 impl<T> Watched<T> {
     ghost use Rattle.nntp_spool.specs.Watched.{inner_of, has_failed_of};
 
+    /// Watches a reader or a writer from now on.
     pub fn new(inner: T) -> Watched<T>
         ensures inner { inner_of result ≡ inner }
         ensures fresh { has_failed_of result ≡ false }
@@ -26,6 +27,7 @@ impl<T> Watched<T> {
         }
     }
 
+    /// The reader or writer itself. A writer isn't flushed first.
     pub fn into_inner(self) -> T
         ensures { result ≡ inner_of self }
     {

@@ -13,7 +13,7 @@ use thiserror::Error;
 #[error("write failed")]
 pub struct WriteFault;
 
-/// Hands all of the octets to the writer. After a fault it took a front of them.
+/// Hands all of the octets to the writer, and doesn't flush. After a fault it took a front of them.
 pub fn put<W: Write>(w: &mut Watched<W>, octets: &[u8]) -> Result<(), WriteFault>
     ensures text { Writes result (W.contents (inner_of w.old)) (W.contents (inner_of w.new)) octets.now }
     ensures failed { has_failed_of w.new ≡ (has_failed_of w.old || is_err result) }
