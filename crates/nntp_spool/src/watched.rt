@@ -44,6 +44,16 @@ impl<T> Watched<T> {
     {
         self.has_failed
     }
+
+    /// Remembers a failure.
+    fn note(&mut self, is_failure: bool)
+        ensures inner { inner_of self.new ≡ inner_of self.old }
+        ensures failed { has_failed_of self.new ≡ (has_failed_of self.old || is_failure) }
+    {
+        if is_failure {
+            self.has_failed = true;
+        }
+    }
 }
 
 impl<R: Read> Read for Watched<R> {
@@ -57,9 +67,7 @@ impl<R: Read> Read for Watched<R> {
         ensures failed { has_failed_of self.new ≡ (has_failed_of self.old || is_err result) }
     {
         let outcome = self.inner.read(buf);
-        if outcome.is_err() {
-            self.has_failed = true;
-        }
+        self.note(outcome.is_err());
         outcome
     }
 }
@@ -75,13 +83,10 @@ impl<W: Write> Write for Watched<W> {
         ensures failed { has_failed_of self.new ≡ (has_failed_of self.old || takes_none result buf.now) }
     {
         let outcome = self.inner.write(buf);
-        let is_failure = match &outcome {
+        self.note(match &outcome {
             Ok(count) => *count == 0 && !buf.is_empty(),
             Err(_) => true,
-        };
-        if is_failure {
-            self.has_failed = true;
-        }
+        });
         outcome
     }
 
@@ -90,9 +95,7 @@ impl<W: Write> Write for Watched<W> {
         ensures failed { has_failed_of self.new ≡ (has_failed_of self.old || is_err result) }
     {
         let outcome = self.inner.flush();
-        if outcome.is_err() {
-            self.has_failed = true;
-        }
+        self.note(outcome.is_err());
         outcome
     }
 }
