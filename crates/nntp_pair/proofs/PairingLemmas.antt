@@ -66,7 +66,7 @@ one-pairing client server pairs others ending other p q =
 -- a frame stays with octets behind it
 frame-more : (place : Option (List ℕ)) (server line : List ℕ) (block : Option (List ℕ)) (rest octets : List ℕ) → HasFrame (asked_at place) server line block rest → HasFrame (asked_at place) (server ++ octets) line block (rest ++ octets)
 frame-more place server line block rest octets f =
-    record { whole = ap (λ t. t ++ octets) f.whole ∙ append_assoc (frame_octets line block) rest octets; is_line = f.is_line; due = f.due; up_to_dot = f.up_to_dot }
+    record { whole = ap (λ t. t ++ octets) f.whole ∙ append_assoc (frame_octets line block) rest octets; is_line = f.is_line; due = f.due; before_dot_line = f.before_dot_line }
 
 next-more : (places : List (Option (List ℕ))) (octets : List ℕ) (a b : Unpaired) (x : Paired) → IsNext a x b → IsNext (with_more places octets a) x (with_more places octets b)
 next-more places octets a b x next =

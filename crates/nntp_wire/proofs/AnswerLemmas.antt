@@ -16,7 +16,7 @@ use Rattle.nntp_wire.specs.Block.{sent, dot_line}
 use Rattle.nntp_wire.specs.Argument.{HasArticle, HasGroup}
 use Rattle.nntp_wire.specs.Answer.{Asked, Response, group_is, numbers_are, sends, SaysGroup, SaysNumbers, SaysArticle, Says, Spells, has_code, status_of, kind_of, is_block_due, block_octets, IsCleanBlock}
 use Rattle.nntp_wire.specs.AnswerView.{Answers, Reads, IsBlock, SendsBlock}
-use Rattle.nntp_wire.specs.Frame.{frame_octets, framed, IsUpToDot}
+use Rattle.nntp_wire.specs.Frame.{frame_octets, framed, IsBeforeDotLine}
 
 -- no group, no response
 pub no-group : (bytes : List ℕ) → ((e l h : ℕ) (name : List ℕ) → ¬ (HasGroup bytes e l h name)) → (r : Response) → SaysGroup bytes r → ⊥
@@ -72,13 +72,13 @@ reads-spells asked line sent r reads = at sent reads.block reads.is_block.sends 
       record { line = line; code = reads.code; block = Some ls; whole = ap (λ t. (line ++ crlf) ++ (t ++ dot_line)) p.whole; status = reads.status; due = due; clean = p.clean; says = says }
 
 -- a block between an initial line and a dot line sends what is spelled
-block-sends : (sent : Option (List ℕ)) (block : Option (List (List ℕ))) → IsUpToDot sent → IsCleanBlock block → framed sent ≡ block_octets block → SendsBlock sent block
+block-sends : (sent : Option (List ℕ)) (block : Option (List (List ℕ))) → IsBeforeDotLine sent → IsCleanBlock block → framed sent ≡ block_octets block → SendsBlock sent block
 block-sends None None up clean e = tt
 block-sends None (Some ls) up clean e = absurd (omega (arith, ap length e, length-append (sent ls) dot_line))
 block-sends (Some x) None up clean e = absurd (omega (arith, ap length e, length-append x dot_line))
 block-sends (Some x) (Some ls) up clean e = record { clean = clean; whole = append_cancel_right x (sent ls) dot_line e }
 
-pub spells-reads : (asked : Asked) (line : List ℕ) (sent : Option (List ℕ)) (r : Response) → HasNoCrlf line → IsUpToDot sent → Spells asked r (frame_octets line sent) → Reads asked line sent r
+pub spells-reads : (asked : Asked) (line : List ℕ) (sent : Option (List ℕ)) (r : Response) → HasNoCrlf line → IsBeforeDotLine sent → Spells asked r (frame_octets line sent) → Reads asked line sent r
 spells-reads asked line sent r is_line up s =
     let both = one_line line s.line (framed sent) (block_octets s.block) is_line (clean-line s.line (status-clean asked s.line s.code s.status)) s.whole in
     record {

@@ -8,7 +8,7 @@ use Rattle.nntp_wire.specs.Octets.{dot, crlf}
 use Rattle.nntp_wire.specs.Lines.{HasNoCrlf, ended, lines_of_stream}
 use Rattle.nntp_wire.specs.Block.{dot_line}
 use Rattle.nntp_wire.specs.Answer.{Asked, code_of}
-use Rattle.nntp_wire.specs.Frame.{HasFrame, IsBlockLine, IsUpToDot, is_due_by, framed, frame_octets}
+use Rattle.nntp_wire.specs.Frame.{HasFrame, IsBlockLine, IsBeforeDotLine, is_due_by, framed, frame_octets}
 use Rattle.nntp_wire.proofs.Decide.{Dec}
 use Rattle.nntp_wire.proofs.FrameLemmas.{line-one}
 use Rattle.nntp_wire.proofs.StreamLemmas.{stream-split, lines-first, lines-ended}
@@ -20,7 +20,7 @@ BeginsWithFrame asked stream = (line : List ℕ) × (block : Option (List ℕ)) 
 -- octets behind a frame
 pub frame-longer : (asked : Asked) (stream line rest more : List ℕ) (block : Option (List ℕ)) → HasFrame asked stream line block rest → HasFrame asked (stream ++ more) line block (rest ++ more)
 frame-longer asked stream line rest more block f =
-    record { whole = ap (λ t. t ++ more) f.whole ∙ append_assoc (frame_octets line block) rest more; is_line = f.is_line; due = f.due; up_to_dot = f.up_to_dot }
+    record { whole = ap (λ t. t ++ more) f.whole ∙ append_assoc (frame_octets line block) rest more; is_line = f.is_line; due = f.due; before_dot_line = f.before_dot_line }
 
 -- ---- the lines of a frame
 
@@ -106,7 +106,7 @@ dec_frame asked stream = by (lines_of_stream stream) refl (stream-split stream).
                     ∙ sym (append_assoc (line ++ crlf) (ended front ++ dot_line) (ended back ++ rest));
                 is_line = good.0;
                 due = sym is;
-                up_to_dot = (front, block, refl);
+                before_dot_line = (front, block, refl);
               },
             )
         with_block is (inr none) = inr (λ h. never h.0 h.1 h.2 h.3)
@@ -117,9 +117,9 @@ dec_frame asked stream = by (lines_of_stream stream) refl (stream-split stream).
                 let same : line ≡ other = cc in
                 let behind : lines ≡ lines_of_stream (framed block ++ more) = cc in
                 let some = no_block asked other block f.due (ap (λ l. is_due_by asked (code_of l)) (sym same) ∙ is) in
-                let up : IsUpToDot (Some some.0) = subst IsUpToDot some.1 f.up_to_dot in
+                let up : IsBeforeDotLine (Some some.0) = subst IsBeforeDotLine some.1 f.before_dot_line in
                 no_dot lines up.0 (lines_of_stream more) none (behind ∙ ap (λ b. lines_of_stream (framed b ++ more)) some.1 ∙ frame-dot up.0 some.0 more up.1 up.2)
 
         at : (is_due_by asked (code_of line) ≡ true) ⊎ (is_due_by asked (code_of line) ≡ false) → Dec (BeginsWithFrame asked stream)
         at (inl is) = with_block is (find_dot lines good.1)
-        at (inr not_due) = inl (line, None, ended lines ++ rest, record { whole = parts ∙ ap (λ t. t ++ (ended lines ++ rest)) (sym (append-nil (line ++ crlf))); is_line = good.0; due = sym not_due; up_to_dot = tt })
+        at (inr not_due) = inl (line, None, ended lines ++ rest, record { whole = parts ∙ ap (λ t. t ++ (ended lines ++ rest)) (sym (append-nil (line ++ crlf))); is_line = good.0; due = sym not_due; before_dot_line = tt })
