@@ -7,6 +7,7 @@ use Rattle.nntp_check.specs.declared.capture.CaptureFault.TheVariants as pieces
 use Rattle.nntp_check.specs.declared.run_fault.RunFault.{RunFault}
 use Rattle.nntp_check.specs.declared.run_fault.RunFault.TheVariants.{Capture, Spool, Memory}
 
+-- a bad piece of the capture, or want of memory
 abbrev pub of_capture : CaptureFault → RunFault
 of_capture (pieces.Piece piece) = Capture piece
 of_capture pieces.Memory = Memory
@@ -16,5 +17,6 @@ abbrev pub of_kind : ReadFault → Kind → RunFault
 of_kind fault kinds.Memory = Memory
 of_kind fault kind = Spool fault
 
+-- the fault of a run over a text that is no spool's
 abbrev pub of_text : ReadFault → RunFault
 of_text fault = of_kind fault fault.kind

@@ -22,9 +22,11 @@ escaped_octet b =
     else (if is_in_range 0x20 0x7E b then b ∷ []
     else codes "\\x" ++ hexadecimal_digit (b / 16) ∷ hexadecimal_digit (b % 16) ∷ [])
 
+-- octets as they are printed
 abbrev pub escaped : List ℕ → List ℕ
 escaped octets = flat_map escaped_octet octets
 
+-- the word that is printed for a class
 abbrev pub class_word : Class → List ℕ
 class_word Surplus = codes "Surplus"
 class_word Cut = codes "Cut"
@@ -33,6 +35,7 @@ class_word Unsupported = codes "Unsupported"
 class_word OutOfPlace = codes "OutOfPlace"
 class_word Contradiction = codes "Contradiction"
 
+-- the line of the command that a bad answer is for
 abbrev pub command_line : Option (List ℕ) → List ℕ
 command_line None = codes "no command\n"
 command_line (Some line) = codes "command " ++ escaped line ++ codes "\n"
@@ -52,6 +55,7 @@ abbrev pub verified_report : Verified → List ℕ
 verified_report (Permits answers) = codes "permits answers=" ++ decimal answers ++ codes "\n"
 verified_report (Refuses index) = codes "refuses answer " ++ decimal index ++ codes "\n"
 
+-- the spool explains the session
 abbrev pub is_permitted : Verified → Bool
 is_permitted (Permits answers) = true
 is_permitted (Refuses index) = false

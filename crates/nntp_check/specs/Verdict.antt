@@ -14,6 +14,7 @@ pub data Judgement : Type 0 where
   consistent : (spool : Spool) → (answers : ℕ) → Judgement
   bad : (answer : ℕ) → (class : Class) → (command : Option (List ℕ)) → (reply : List ℕ) → Judgement
 
+-- some spool was found
 abbrev pub is_consistent : Judgement → Bool
 is_consistent (consistent spool answers) = true
 is_consistent (bad answer class command reply) = false
