@@ -1,14 +1,16 @@
 -- Small sessions: what they say, and which numbers they show, deny and need.
 use Rattle.std.proofs.Common.{◌≡◌, ℕ, ◌<◌, ◌≤◌, true, false, IsTrue, List, [], ◌∷◌, ◌++◌, None, Some, map, inl, inr, refl, ap, subst, sym, arith}
 use Rattle.std.specs.Prelude.{codes}
-use Rattle.std.proofs.lemmas.Bool.{cases_eq, eqb-true, or_cases}
+use Rattle.std.proofs.lemmas.Bool.{cases_eq, eqb-true, le-ltb, or_cases}
 use Rattle.std.proofs.lemmas.Fmt.{decimal_digit}
 use Rattle.nntp_wire.specs.Answer.{Response, WaterMarks, greeting, to, group_is, numbers_are, sends, plain}
 use Rattle.nntp_wire.specs.declared.command.What.TheVariants.{Head, Stat}
 use Rattle.nntp_wire.specs.Command.{Request, by_id, by_number, current, group, list_group, from_one, next, last, retrieve}
 use Rattle.nntp_facts.specs.Asks.{First, Known, Ask, Estimates, StepsUp, StepsDown, StandsAt, IsTop, IsBottom, Has, Lacks}
 use Rattle.nntp_facts.specs.Facts.{Fact, ThereIs, Asks, IdAt}
-use Rattle.nntp_facts.specs.Given.{asks_of, is_shown, is_denied, tells_of_first, IsOneMore, AreInvented, invented, facts_of_session, is_mentioned, id_shown, first_given, head_in}
+use Rattle.nntp_facts.specs.Together.{number_in, AsksStand, Together}
+use Rattle.std.proofs.lemmas.Bool.Decides.{nat_tests}
+use Rattle.nntp_facts.specs.Given.{IsGivenNumber, asks_of, is_shown, is_denied, demand, NotEmpty, SecondIs, IsOneMore, AreInvented, invented, facts_of_session, is_mentioned, id_shown, first_given, head_in}
 
 abbrev g : List ℕ
 g = codes "g"
@@ -58,8 +60,11 @@ four_is_least n t = elim (or_cases _ _ t) [
 ]
 
 -- so one more is needed below it, and that is 1
+stepped_demands : demand (asks_of (codes "g") stepped) ≡ SecondIs 4
+stepped_demands = refl
+
 one_is_given : IsOneMore (asks_of (codes "g") stepped) 1
-one_is_given = record { needed = inl (4, (refl, four_is_least)); positive = omega arith; not_denied = refl; is_least = λ m some low. absurd (omega arith) }
+one_is_given = record { needed = λ n t. le-ltb n 4 (four_is_least n t); wanted = refl; positive = omega arith; not_denied = refl; is_least = λ m some low. absurd (omega arith) }
 
 -- ---- then 1 and 2 are denied
 
@@ -88,7 +93,7 @@ below_three m some low = elim (cases_eq m 1) [
 ]
 
 three_is_given : IsOneMore denied 3
-three_is_given = record { needed = inl (4, (refl, still_least)); positive = omega arith; not_denied = refl; is_least = below_three }
+three_is_given = record { needed = λ n t. le-ltb n 4 (still_least n t); wanted = refl; positive = omega arith; not_denied = refl; is_least = below_three }
 
 -- and where 3 is denied too, no number is left below 4
 all_denied : is_denied (asks (group (codes "g") ∷ next ∷ stat 1 ∷ stat 2 ∷ stat 3 ∷ []) (selected 3 1 5 ∷ found 4 (codes "<b@x>") ∷ plain 423 ∷ plain 423 ∷ plain 423 ∷ [])) 3 ≡ true
@@ -109,7 +114,7 @@ seen_leaves_above : is_denied seen 4 ≡ false
 seen_leaves_above = refl
 
 seen_needs_none : (n : ℕ) → IsOneMore seen n → ⊥
-seen_needs_none n x = elim x.needed [ inl below ↦ (let f = below.1.0 in cc) | inr any ↦ (let f = any.0 in cc) ]
+seen_needs_none n x = let w = x.wanted in cc
 
 -- ---- one number that is denied, and then one below it
 
@@ -119,7 +124,7 @@ emptied = asks (group (codes "g") ∷ stat 5 ∷ last ∷ []) (selected 1 5 5 �
 emptied_asks : emptied ≡ Estimates (marks 1 5 5) ∷ Lacks 5 ∷ IsBottom First ∷ []
 emptied_asks = refl
 
-emptied_needs_one : tells_of_first (IsBottom First) ≡ true
+emptied_needs_one : demand emptied ≡ NotEmpty
 emptied_needs_one = refl
 
 five_is_denied : is_denied emptied 5 ≡ true
@@ -128,9 +133,17 @@ five_is_denied = refl
 four_is_denied : is_denied emptied 4 ≡ true
 four_is_denied = refl
 
+-- so no number is left, and what is asked doesn't stand together
+emptied_falls : AsksStand emptied → ⊥
+emptied_falls h = by h.demand_met.0 h.demand_met.1
+  where
+    by : (n : ℕ) → IsGivenNumber emptied n → ⊥
+    by n (inl s) = cc
+    by n (inr x) = let free = x.not_denied in grind (arith, nat_tests)
+
 -- before LAST was answered no number was needed: the group has none
 unasked_needs_none : (n : ℕ) → IsOneMore (asks (group (codes "g") ∷ stat 5 ∷ []) (selected 1 5 5 ∷ plain 423 ∷ [])) n → ⊥
-unasked_needs_none n x = elim x.needed [ inl below ↦ (let f = below.1.0 in cc) | inr any ↦ (let f = any.0 in cc) ]
+unasked_needs_none n x = let w = x.wanted in cc
 
 -- ---- numbers of LISTGROUP
 
@@ -177,6 +190,12 @@ repeated = session (group (codes "g") ∷ stat 1 ∷ stat 2 ∷ []) (selected 2 
 same_id : id_shown repeated (codes "g") 1 ≡ id_shown repeated (codes "g") 2
 same_id = refl
 
+repeated_falls : Together repeated → ⊥
+repeated_falls h =
+    let one = h.ids_once (codes "g") (codes "<a@b>") in
+    let at_two : first_given (number_in (codes "g") (codes "<a@b>")) repeated ≡ Some 2 = one.1.1.1.1.1.0 in
+    cc
+
 -- a head that was sent
 abbrev headed : List Fact
 headed = session (retrieve Head (by_id (codes "<a@b>")) ∷ []) (sends (record { code = 221; number = 0; id = codes "<a@b>"; block = Some (codes "Subject: one" ∷ []) }) ∷ [])
@@ -208,7 +227,4 @@ one_is_free = refl
 
 -- 2 is shown below 4, so no number more is needed
 returned_needs_none : (n : ℕ) → IsOneMore returned n → ⊥
-returned_needs_none n x = elim x.needed [
-  | inl below ↦ (let le = below.1.1 2 refl in elim (or_cases _ _ below.1.0) [ inl e ↦ (let same = eqb-true 4 below.0 e in omega arith) | inr f ↦ cc ])
-  | inr any ↦ (let f = any.0 in cc)
-]
+returned_needs_none n x = let w = x.needed 2 refl in cc

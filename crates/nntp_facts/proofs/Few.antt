@@ -9,8 +9,6 @@ use Rattle.std.specs.Cmp.{IsTotalOrder, nat_cmp_total, eq_by_cmp_equiv}
 use Rattle.std.specs.Cmp.Lexicographic.{slice_cmp, same_text, nat_list_cmp_total, nat_list_eq_equiv}
 use Rattle.std.specs.FinMap.{FinMap, get, find, is_sorted, empty, get-entries, keys, entries, entries_sorted, contains_key-keys}
 use Rattle.std.proofs.lemmas.Bool.{cases_Bool, eqb-true, not-true, true≢false}
-use Rattle.std.proofs.lemmas.Map.Views.{Contains-from_any, tells_apart}
-use Rattle.std.proofs.lemmas.Map.Lookups.{exact_unsigned}
 use Rattle.std.proofs.lemmas.List.{length-map}
 use Rattle.std.proofs.lemmas.Map.Keys.{IsDistinct-from_sorted}
 use Rattle.std.proofs.lemmas.Map.Made.{length-le_from_is_member}
@@ -19,9 +17,9 @@ use Rattle.nntp_article.specs.Machine.{is_same}
 use Rattle.nntp_facts.specs.Asks.{First, Ask, Estimates, Bounds, ListsIn, Has, Lacks, StandsAt, StandsNowhere, StepsUp, StepsDown, IsTop, IsBottom}
 use Rattle.nntp_facts.specs.Facts.{Fact, ThereIs, ThereIsNo, Asks, IdAt, TextIs, NoArticle, GroupsAre}
 use Rattle.nntp_facts.specs.Given.{shows, is_shown, IsOneMore, HasGivenNumbers, asks_in, asks_of, shows_group, is_shown_group, id_shown, unshown_in, unshown_ids, size_in, size}
-use Rattle.nntp_facts.proofs.Members.{In, all_at, any_in, found_in, in_map, from_map, to_flat, from_flat, in_contains}
+use Rattle.nntp_facts.proofs.Members.{In, all_at, any_in, found_in, in_map, from_map, to_flat, from_flat}
 use Rattle.nntp_facts.proofs.Firsts.{sorted_keys}
-use Rattle.nntp_facts.proofs.GivenNumbers.{one_more_once}
+use Rattle.nntp_facts.proofs.MetNumbers.{one_more_once, any_unshown, key_in, key_is}
 use Rattle.nntp_article.specs.Article.{Id}
 use Rattle.nntp_wire.specs.Listing.{ActiveValue}
 use Rattle.nntp_facts.proofs.Fresh.{mentioned}
@@ -239,19 +237,6 @@ mentioned_few (NoArticle id ∷ facts) = let rest = mentioned_few facts in omega
 mentioned_few (GroupsAre p lines ∷ facts) = let rest = mentioned_few facts in omega arith
 
 -- ---- the spool that is given
-
--- where no number is unshown, each is shown
-any_unshown : (asks : List Ask) (ns : List ℕ) → list_any (λ n. not (is_shown asks n)) ns ≡ false → (n : ℕ) → In n ns → IsTrue (is_shown asks n)
-any_unshown asks ns none n i =
-    elim (cases_Bool (is_shown asks n)) [ inl t ↦ t | inr f ↦ absurd (true≢false (sym (any_in (λ n. not (is_shown asks n)) n ns i (ap not f)) ∙ none)) ]
-
--- a number is one of the keys
-key_in : (N : Numbers) (n : ℕ) → IsNumber N n → In n (keys N)
-key_in N n i = in_contains n (keys N) (Contains-from_any (tells_apart exact_unsigned) n (keys N) (sym (contains_key-keys N n) ∙ i))
-
--- and back
-key_is : (N : Numbers) (n : ℕ) → In n (keys N) → IsNumber N n
-key_is N n i = contains_key-keys N n ∙ any_in (eq_by_cmp nat_cmp n) n (keys N) i ((eq_by_cmp_equiv nat_cmp_total).refl n)
 
 -- there is one number more than are shown, at most
 pub given_few : (name : Name) (facts : List Fact) (N : Numbers) → HasGivenNumbers (asks_of name facts) N → length (entries N) ≤ 1 + length (shown_numbers name facts)

@@ -80,7 +80,7 @@ empty_is_spool profile = record {
 }
 
 -- some spool permits no answers
-none_permitted : (profile : Profile) (ps : List Asked) (answers : List Response) → SomePermits profile ps (take 0 answers)
+pub none_permitted : (profile : Profile) (ps : List Asked) (answers : List Response) → SomePermits profile ps (take 0 answers)
 none_permitted profile ps answers = (no_spool, empty_is_spool profile, tt)
 
 -- ---- the first bad answer

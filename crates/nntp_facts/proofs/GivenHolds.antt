@@ -1,38 +1,36 @@
--- All that a session says holds of the spool that is given for it.
+-- What stands together holds of the spool that is given for it.
 use Rattle.std.proofs.Common.{◌≡◌, ℕ, ◌+◌, ◌<◌, ◌⊎◌, Bool, true, false, cond, ◌&&◌, ◌==◌, IsTrue, List, [], ◌∷◌, ◌++◌, map, length, Option, None, Some, is_some, IsSome, option_map, inl, inr, refl, sym, ap, subst, ◌∙◌}
-use Rattle.std.specs.Prelude.{IsFalse, unwrap_or}
+use Rattle.std.specs.Prelude.{IsFalse, IfSome, unwrap_or}
 use Rattle.std.specs.declared.cmp.Ordering.{Ordering}
 use Rattle.std.specs.declared.cmp.Ordering.TheVariants.{Less, Equal, Greater}
-use Rattle.std.specs.List.{AllByRecursion}
+use Rattle.std.specs.List.{AllByRecursion, list_any}
+use Rattle.std.specs.Option.{option_map_or}
 use Rattle.std.specs.Ordering.{eq_by_cmp, is_eq}
-use Rattle.std.specs.Cmp.Lexicographic.{same_text}
 use Rattle.std.specs.Ordering.{nat_cmp}
 use Rattle.std.specs.FinMap.{get, find, empty, entries, get-entries, get-empty, IsAntisymmetric, nat_cmp-IsAntisymmetric, slice_cmp-IsAntisymmetric}
-use Rattle.std.specs.Cmp.Lexicographic.{nat_list_eq_equiv}
-use Rattle.std.proofs.lemmas.Bool.{true≢false, and_parts, and_from, eqb-true, eq-eqb}
+use Rattle.std.proofs.lemmas.Bool.{true≢false, and_parts, and_from, and_cases, false_from_ne_true, not-false, eqb-true, eq-eqb}
 use Rattle.std.proofs.lemmas.List.Elements.{All-from_recursion}
-use Rattle.nntp_article.specs.Article.{head_part, body_part, Id, Line}
-use Rattle.nntp_article.specs.Spool.{Spool, Text, Numbers, IsNumber, IsGroup, numbers, IsSpool, HasText, text_of, Name, Profile}
-use Rattle.nntp_article.specs.Machine.{is_same, ActivesAgree}
-use Rattle.nntp_article.proofs.HeadParts.{parts}
+use Rattle.nntp_article.specs.Article.{head_part, body_part, is_empty, is_head, Id, Line}
+use Rattle.nntp_article.specs.Spool.{Spool, Text, Numbers, IsNumber, IsGroup, numbers, HasText, text_of, Name, Profile}
+use Rattle.nntp_article.specs.Machine.{is_same, head_fits, active_fits, ActivesAgree}
 use Rattle.nntp_facts.specs.Asks.{Ask, Meets, Has, Bounds}
 use Rattle.nntp_facts.specs.Facts.{Fact, Holds, ThereIs, ThereIsNo, Asks, IdAt, TextIs, NoArticle, GroupsAre}
-use Rattle.nntp_facts.specs.Given.{asks_in, asks_of, shows_group, id_in, id_shown, first_given, mentions, is_mentioned, gives_article, is_sent, head_in, body_in, plain_head, invented, unshown_in, unshown_ids, IsGiven}
-use Rattle.nntp_facts.proofs.Members.{In, all_at, all_part, all_from, any_in, found_in, in_map, from_map, contains_in, in_contains, first_found, first_there}
+use Rattle.nntp_facts.specs.Given.{asks_in, asks_of, shows_group, id_in, id_shown, first_given, mentions, is_mentioned, gives_article, head_in, body_in, plain_head, invented, unshown_in, unshown_ids, IsGiven}
+use Rattle.nntp_facts.specs.Together.{IsWellFormed, denies_group, number_in, shows_article, denies_article, GiveOne, Together}
+use Rattle.nntp_facts.proofs.Members.{In, all_at, all_part, all_from, any_in, found_in, from_map, contains_in, in_contains, first_found}
 use Rattle.nntp_facts.proofs.Firsts.{none_of, not_number}
 use Rattle.nntp_facts.proofs.GivenNumbers.{given_meet}
-use Rattle.nntp_facts.proofs.GivenSession.{met_by_facts}
-use Rattle.nntp_facts.proofs.Placed.{Placed}
+use Rattle.nntp_facts.proofs.Stand.{same_itself, in_listed, matching}
+use Rattle.nntp_facts.proofs.Placed.{IsSelectable, Placed}
+use Rattle.nntp_facts.proofs.Fitting.{IsFitting}
 use Rattle.nntp_facts.proofs.Invented.{number_of}
 use Rattle.nntp_facts.proofs.Fresh.{Numbered, numbered, of_numbered, part_numbered, unshown_there, unshown_apart, mentioned}
 use Rattle.nntp_wire.specs.Listing.{ActiveValue}
 use Rattle.nntp_wire.specs.declared.command.What.{What}
 use Rattle.nntp_wire.specs.declared.command.What.TheVariants.{Article, Head, Body, Stat}
 use Rattle.nntp_wire.specs.Name.{IsMessageId}
-
--- a text is the same as itself
-pub same_itself : (xs : List ℕ) → is_same xs xs ≡ true
-same_itself xs = nat_list_eq_equiv.refl xs
+use Rattle.nntp_wire.specs.Wildmat.{MatchesName}
+use Rattle.nntp_wire.specs.Decided.{matches_name}
 
 -- an entry that is found is one of the map's
 pub entry_in : {K X : Type 0} {R : K → K → Ordering} (same : IsAntisymmetric R) (q : K) (v : X) (es : List (K × X)) → find R q es ≡ Some v → In (q, v) es
@@ -49,8 +47,8 @@ entry_in {R = R} same q v (x ∷ es) e = by (eq_by_cmp R q x.0) refl (λ e. entr
     by false is rest e = inr (rest e)
 
 -- an id at a number is one of the entries
-pub number_in : (N : Numbers) (n : ℕ) (id : Id) → get N n ≡ Some id → In (n, id) (entries N)
-number_in N n id e = entry_in nat_cmp-IsAntisymmetric n id (entries N) (sym (get-entries N n) ∙ e)
+pub entry_of_number : (N : Numbers) (n : ℕ) (id : Id) → get N n ≡ Some id → In (n, id) (entries N)
+entry_of_number N n id e = entry_in nat_cmp-IsAntisymmetric n id (entries N) (sym (get-entries N n) ∙ e)
 
 -- a number of a name is one of a group
 pub group_of_number : (S : Spool) (name : Name) (n : ℕ) → IsNumber (numbers S name) n → (N : Numbers) × (get S.groups name ≡ Some N) × (numbers S name ≡ N)
@@ -65,50 +63,43 @@ pub some_is : {A : Type 0} (o : Option A) → IsSome o → (x : A) × (o ≡ Som
 some_is None h = cc
 some_is (Some x) h = (x, refl)
 
--- the spool S meets what is said, and G is given for it
-pub record Setting (profile : Profile) (B : ℕ) (S G : Spool) (facts : List Fact) : Type 0 where
+-- where there is an empty line, the parts make the whole
+pub parts_joined : (lines : List Line) → list_any is_empty lines ≡ true → lines ≡ head_part lines ++ [] ∷ body_part lines
+parts_joined [] t = cc
+parts_joined ([] ∷ lines) t = refl
+parts_joined ((c ∷ cs) ∷ lines) t = ap (λ ls. (c ∷ cs) ∷ ls) (parts_joined lines t)
+
+-- what one of the facts gives is what the first gives
+pub one_given : {A : Type 0} (f : Fact → Option A) (facts : List Fact) → GiveOne f facts → (fact : Fact) → In fact facts → (x : A) → f fact ≡ Some x → first_given f facts ≡ Some x
+one_given f facts one fact i x e = subst (λ o. IfSome o (λ x. first_given f facts ≡ Some x)) e (all_at _ fact facts one i)
+
+-- the fact that shows the id for the number
+pub record ShownAt (facts : List Fact) (name : Name) (n : ℕ) (id : Id) : Type 0 where
+  pub fact : Fact
+  pub there : In fact facts
+  pub number : number_in name id fact ≡ Some n
+  pub article : shows_article id fact ≡ true
+  pub mentioned : mentions id fact ≡ true
+  pub formed : IsWellFormed fact → IsMessageId id
+
+-- what is said stands together and fits, and G is given for it
+pub record Setting (profile : Profile) (B : ℕ) (G : Spool) (facts : List Fact) : Type 0 where
   pub small : (i : ℕ) → i < B → number_of (invented i) ≡ i
   pub ids : (i : ℕ) → i < B → IsMessageId (invented i)
-  pub spool : IsSpool profile S
-  pub holds : AllByRecursion (Holds S) facts
+  pub fitting : AllByRecursion (IsFitting profile) facts
+  pub placed : AllByRecursion (Placed facts) facts
+  pub together : Together facts
   pub given : IsGiven facts G
   pub few : length (mentioned facts) + length (unshown_ids facts G) < B
-  pub placed : AllByRecursion (Placed G) facts
 
-module _ (profile : Profile) (B : ℕ) (S G : Spool) (facts : List Fact) (s : Setting profile B S G facts) where
-  -- a group that one fact shows is S's
-  group_shown : (name : Name) (fact : Fact) → Holds S fact → shows_group name fact ≡ true → IsGroup S name
-  group_shown name (ThereIs g) h t = subst (IsGroup S) (same_text g name (sym t)) h
-  group_shown name (GroupsAre p lines) h t =
-      let f = found_in (λ line. is_same line.name name) lines t in
-      ((h.0 name).0 (contains_in name (map (λ line. line.name) lines) (subst (λ g. In g (map (λ line. line.name) lines)) (same_text f.0.name name (sym f.2)) (in_map (λ line. line.name) f.0 lines f.1)))).0
-  group_shown name fact h t = cc
-
-  -- the groups of G are groups of S
-  pub group_in_S : (name : Name) → IsGroup G name → IsGroup S name
-  group_in_S name i =
-      let f = found_in (shows_group name) facts ((s.given.groups name).0 i) in
-      group_shown name f.0 (all_at (Holds S) f.0 facts s.holds f.1) f.2
+module _ (profile : Profile) (B : ℕ) (G : Spool) (facts : List Fact) (s : Setting profile B G facts) where
+  -- a group that a 211 selected is one of G
+  group_there : (name : Name) → IsSelectable facts name → IsGroup G name
+  group_there name h = (s.given.groups name).1 (any_in (shows_group name) (ThereIs name) facts h.there (same_itself name))
 
   -- the numbers of a group of G meet what is asked of them
   pub meets : (name : Name) → IsGroup G name → AllByRecursion (Meets (numbers G name)) (asks_of name facts)
-  meets name i = given_meet (asks_of name facts) (numbers S name) (numbers G name) (met_by_facts S name facts s.holds) (λ n j. (s.spool.numbers_in_limit name n j).0) (s.given.numbers_given name i)
-
-  -- an id that is shown is S's
-  pub shown_in_S : (name : Name) (n : ℕ) (id : Id) → id_shown facts name n ≡ Some id → get (numbers S name) n ≡ Some id
-  shown_in_S name n id e =
-      let f = first_found (id_in name n) facts id e in
-      by f.0 (all_at (Holds S) f.0 facts s.holds f.1) f.2
-    where
-      one : (g : Name) (m : ℕ) (other : Id) (b : Bool) → (is_same g name && m == n) ≡ b → get (numbers S g) m ≡ Some other → cond b (Some other) None ≡ Some id → get (numbers S name) n ≡ Some id
-      one g m other true is h e =
-          let p = and_parts (is_same g name) (m == n) is in
-          subst (λ g. get (numbers S g) n ≡ Some id) (same_text g name (sym p.0)) (subst (λ m. get (numbers S g) m ≡ Some id) (eqb-true m n p.1) (h ∙ e))
-      one g m other false is h e = cc
-
-      by : (fact : Fact) → Holds S fact → id_in name n fact ≡ Some id → get (numbers S name) n ≡ Some id
-      by (IdAt g m other) h e = one g m other (is_same g name && m == n) refl h e
-      by fact h e = cc
+  meets name i = given_meet (asks_of name facts) (numbers G name) (s.together.numbers name) (s.given.numbers_given name i)
 
   -- the invented ids are numbered
   all_numbered : Numbered B s.small facts 0 (unshown_ids facts G)
@@ -125,7 +116,7 @@ module _ (profile : Profile) (B : ℕ) (S G : Spool) (facts : List Fact) (s : Se
   unshown_is name n id e none =
       let g = group_of_number G name n (ap is_some e) in
       let p = part_of name g.0 g.1 in
-      let i = number_in g.0 n id (subst (λ N. get N n ≡ Some id) g.2 e) in
+      let i = entry_of_number g.0 n id (subst (λ N. get N n ≡ Some id) g.2 e) in
       let r = of_numbered B s.small facts p.0 (unshown_in facts name (entries g.0)) id p.1 (unshown_there B s.small facts name n id (entries g.0) i none) in
       (r.0, r.2, r.3, r.4)
 
@@ -134,151 +125,101 @@ module _ (profile : Profile) (B : ℕ) (S G : Spool) (facts : List Fact) (s : Se
   unshown_once name n m id e f none none' =
       let g = group_of_number G name n (ap is_some e) in
       let p = part_of name g.0 g.1 in
-      unshown_apart B s.small facts name p.0 n m id (entries g.0) p.1 (number_in g.0 n id (subst (λ N. get N n ≡ Some id) g.2 e)) (number_in g.0 m id (subst (λ N. get N m ≡ Some id) g.2 f)) none none'
+      unshown_apart B s.small facts name p.0 n m id (entries g.0) p.1 (entry_of_number g.0 n id (subst (λ N. get N n ≡ Some id) g.2 e)) (entry_of_number g.0 m id (subst (λ N. get N m ≡ Some id) g.2 f)) none none'
 
-  -- an id at a number of G is S's, or an invented one that isn't mentioned
+  -- an id at a number of G is shown, or an invented one that isn't mentioned
   pub id_cases : (name : Name) (n : ℕ) (id : Id) → get (numbers G name) n ≡ Some id
-      → ((id_shown facts name n ≡ Some id) × (get (numbers S name) n ≡ Some id)) ⊎ ((id_shown facts name n ≡ None) × ((j : ℕ) × (j < B) × (id ≡ invented j) × IsFalse (is_mentioned facts id)))
+      → (id_shown facts name n ≡ Some id) ⊎ ((id_shown facts name n ≡ None) × ((j : ℕ) × (j < B) × (id ≡ invented j) × IsFalse (is_mentioned facts id)))
   id_cases name n id e = by (id_shown facts name n) refl
     where
-      by : (o : Option Id) → id_shown facts name n ≡ o → ((id_shown facts name n ≡ Some id) × (get (numbers S name) n ≡ Some id)) ⊎ ((id_shown facts name n ≡ None) × ((j : ℕ) × (j < B) × (id ≡ invented j) × IsFalse (is_mentioned facts id)))
+      by : (o : Option Id) → id_shown facts name n ≡ o → (id_shown facts name n ≡ Some id) ⊎ ((id_shown facts name n ≡ None) × ((j : ℕ) × (j < B) × (id ≡ invented j) × IsFalse (is_mentioned facts id)))
       by None is = inr (is, unshown_is name n id e is)
       by (Some other) is =
           let have = s.given.ids_shown name n other (ap is_some e) is in
           let same : other ≡ id = (let q : Some other ≡ Some id = sym have ∙ e in cc) in
-          inl (is ∙ ap Some same, shown_in_S name n other is ∙ ap Some same)
+          inl (is ∙ ap Some same)
 
-  -- an id that a success names has an article in S
-  sent_in_S : (id : Id) (fact : Fact) → Holds S fact → gives_article id fact ≡ true → IsSome (get S.articles id)
-  sent_in_S id (TextIs what other lines) h t = subst (λ id. IsSome (get S.articles id)) (same_text other id (sym t)) (mapped (text_of what) (get S.articles other) lines h)
+  -- an id that is shown is that of one of the facts
+  pub shown_at : (name : Name) (n : ℕ) (id : Id) → id_shown facts name n ≡ Some id → ShownAt facts name n id
+  shown_at name n id e = let f = first_found (id_in name n) facts id e in let a = by f.0 f.2 in record { fact = f.0; there = f.1; number = a.0; article = a.1; mentioned = a.2; formed = a.3 }
     where
-      mapped : (f : Text → Option (List Line)) (o : Option Text) (y : Option (List Line)) → option_map f o ≡ Some y → IsSome o
-      mapped f None y e = cc
-      mapped f (Some x) y e = refl
-  sent_in_S id fact h t = cc
+      by : (fact : Fact) → id_in name n fact ≡ Some id → (number_in name id fact ≡ Some n) × (shows_article id fact ≡ true) × (mentions id fact ≡ true) × (IsWellFormed fact → IsMessageId id)
+      by (IdAt g m other) e = one (is_same g name) (m == n) refl e
+        where
+          one : (a b : Bool) → (m == n) ≡ b → cond (a && b) (Some other) None ≡ Some id → (cond (a && is_same other id) (Some m) None ≡ Some n) × (is_same other id ≡ true) × (is_same other id ≡ true) × (IsMessageId other → IsMessageId id)
+          one true true is e =
+              let same : other ≡ id = cc in
+              let own : is_same other id ≡ true = subst (λ x. is_same other x ≡ true) same (same_itself other) in
+              (ap (λ b. cond b (Some m) None) own ∙ ap Some (eqb-true m n is), own, own, λ h. subst IsMessageId same h)
+          one true false is e = cc
+          one false b is e = cc
+      by fact e = cc
 
-  -- an id that is sent has an article in S
-  pub sent_has_article : (id : Id) → IsTrue (is_sent facts id) → IsSome (get S.articles id)
-  sent_has_article id t =
-      let f = found_in (gives_article id) facts t in
-      sent_in_S id f.0 (all_at (Holds S) f.0 facts s.holds f.1) f.2
+  -- an id that a fact shows to have an article isn't denied
+  not_denied : (id : Id) (fact : Fact) → In fact facts → shows_article id fact ≡ true → In (NoArticle id) facts → ⊥
+  not_denied id fact i t j =
+      true≢false (sym (any_in (denies_article id) (NoArticle id) facts j (same_itself id)) ∙ s.together.articles id (any_in (shows_article id) fact facts i t))
 
-  -- what is sent of an article in S
-  article_of : (what : What) (id : Id) (lines : Option (List Line)) → HasText S what id lines → (t : Text) × (get S.articles id ≡ Some t) × (text_of what t ≡ lines)
-  article_of what id lines h = by (get S.articles id) refl h
-    where
-      by : (o : Option Text) → get S.articles id ≡ o → option_map (text_of what) o ≡ Some lines → (t : Text) × (get S.articles id ≡ Some t) × (text_of what t ≡ lines)
-      by None is h = cc
-      by (Some t) is h = (t, is, cc)
+  -- an article of G whose head is sent has that head
+  head_is : (id : Id) (u : Text) (lines : List Line) (fact : Fact) → In fact facts → get G.articles id ≡ Some u → head_in id fact ≡ Some lines → u.head ≡ lines
+  head_is id u lines fact i there e = s.given.heads id u there ∙ ap (λ o. unwrap_or o (plain_head id)) (one_given (head_in id) facts (s.together.heads id) fact i lines e)
 
-  -- the parts of an article that is sent
-  parts_of : (id : Id) (t : Text) (lines : List Line) → get S.articles id ≡ Some t → Some (t.head ++ [] ∷ t.body) ≡ Some lines → (t.head ≡ head_part lines) × (t.body ≡ body_part lines)
-  parts_of id t lines e same =
-      let p = parts t.head t.body (s.spool.heads id t e).0 in
-      let whole : t.head ++ [] ∷ t.body ≡ lines = cc in
-      (sym p.0 ∙ ap head_part whole, sym p.1 ∙ ap body_part whole)
-
-  -- a head that one fact gives_article is S's
-  head_by_one : (id : Id) (lines : List Line) (fact : Fact) → Holds S fact → head_in id fact ≡ Some lines → (t : Text) × (get S.articles id ≡ Some t) × (t.head ≡ lines)
-  head_by_one id lines (TextIs Article other (Some ls)) h e =
-      let a = article_of Article other (Some ls) h in
-      by (is_same other id) refl a.0 a.1 (parts_of other a.0 ls a.1 a.2).0 e
-    where
-      by : (b : Bool) → is_same other id ≡ b → (t : Text) → get S.articles other ≡ Some t → t.head ≡ head_part ls → cond b (Some (head_part ls)) None ≡ Some lines → (t : Text) × (get S.articles id ≡ Some t) × (t.head ≡ lines)
-      by true is t at same e = (t, subst (λ id. get S.articles id ≡ Some t) (same_text other id (sym is)) at, cc)
-      by false is t at same e = cc
-  head_by_one id lines (TextIs Head other (Some ls)) h e =
-      let a = article_of Head other (Some ls) h in
-      by (is_same other id) refl a.0 a.1 (cc) e
-    where
-      by : (b : Bool) → is_same other id ≡ b → (t : Text) → get S.articles other ≡ Some t → t.head ≡ ls → cond b (Some ls) None ≡ Some lines → (t : Text) × (get S.articles id ≡ Some t) × (t.head ≡ lines)
-      by true is t at same e = (t, subst (λ id. get S.articles id ≡ Some t) (same_text other id (sym is)) at, cc)
-      by false is t at same e = cc
-  head_by_one id lines fact h e = cc
-
-  -- a head that is sent is S's
-  pub head_in_S : (id : Id) (lines : List Line) → first_given (head_in id) facts ≡ Some lines → (t : Text) × (get S.articles id ≡ Some t) × (t.head ≡ lines)
-  head_in_S id lines e = let f = first_found (head_in id) facts lines e in head_by_one id lines f.0 (all_at (Holds S) f.0 facts s.holds f.1) f.2
-
-  -- a body that one fact gives_article is S's
-  body_by_one : (id : Id) (lines : List Line) (fact : Fact) → Holds S fact → body_in id fact ≡ Some lines → (t : Text) × (get S.articles id ≡ Some t) × (t.body ≡ lines)
-  body_by_one id lines (TextIs Article other (Some ls)) h e =
-      let a = article_of Article other (Some ls) h in
-      by (is_same other id) refl a.0 a.1 (parts_of other a.0 ls a.1 a.2).1 e
-    where
-      by : (b : Bool) → is_same other id ≡ b → (t : Text) → get S.articles other ≡ Some t → t.body ≡ body_part ls → cond b (Some (body_part ls)) None ≡ Some lines → (t : Text) × (get S.articles id ≡ Some t) × (t.body ≡ lines)
-      by true is t at same e = (t, subst (λ id. get S.articles id ≡ Some t) (same_text other id (sym is)) at, cc)
-      by false is t at same e = cc
-  body_by_one id lines (TextIs Body other (Some ls)) h e =
-      let a = article_of Body other (Some ls) h in
-      by (is_same other id) refl a.0 a.1 (cc) e
-    where
-      by : (b : Bool) → is_same other id ≡ b → (t : Text) → get S.articles other ≡ Some t → t.body ≡ ls → cond b (Some ls) None ≡ Some lines → (t : Text) × (get S.articles id ≡ Some t) × (t.body ≡ lines)
-      by true is t at same e = (t, subst (λ id. get S.articles id ≡ Some t) (same_text other id (sym is)) at, cc)
-      by false is t at same e = cc
-  body_by_one id lines fact h e = cc
-
-  -- a body that is sent is S's
-  pub body_in_S : (id : Id) (lines : List Line) → first_given (body_in id) facts ≡ Some lines → (t : Text) × (get S.articles id ≡ Some t) × (t.body ≡ lines)
-  body_in_S id lines e = let f = first_found (body_in id) facts lines e in body_by_one id lines f.0 (all_at (Holds S) f.0 facts s.holds f.1) f.2
-
-  -- where a head is sent, G's is S's
-  same_head : (id : Id) (t u : Text) → get S.articles id ≡ Some t → get G.articles id ≡ Some u → ((lines : List Line) × (first_given (head_in id) facts ≡ Some lines)) → u.head ≡ t.head
-  same_head id t u at there (lines, e) =
-      let h = head_in_S id lines e in
-      let one : h.0 ≡ t = (let q : Some h.0 ≡ Some t = sym h.1 ∙ at in cc) in
-      s.given.heads id u there ∙ ap (λ o. unwrap_or o (plain_head id)) e ∙ sym h.2 ∙ ap (λ t. t.head) one
-
-  -- where a body is sent, G's is S's
-  same_body : (id : Id) (t u : Text) → get S.articles id ≡ Some t → get G.articles id ≡ Some u → ((lines : List Line) × (first_given (body_in id) facts ≡ Some lines)) → u.body ≡ t.body
-  same_body id t u at there (lines, e) =
-      let h = body_in_S id lines e in
-      let one : h.0 ≡ t = (let q : Some h.0 ≡ Some t = sym h.1 ∙ at in cc) in
-      s.given.bodies id u there ∙ ap (λ o. unwrap_or o []) e ∙ sym h.2 ∙ ap (λ t. t.body) one
+  -- and that body
+  body_is : (id : Id) (u : Text) (lines : List Line) (fact : Fact) → In fact facts → get G.articles id ≡ Some u → body_in id fact ≡ Some lines → u.body ≡ lines
+  body_is id u lines fact i there e = s.given.bodies id u there ∙ ap (λ o. unwrap_or o []) (one_given (body_in id) facts (s.together.bodies id) fact i lines e)
 
   -- a test of a text against itself
   if_itself : (id : Id) (lines : List Line) → cond (is_same id id) (Some lines) None ≡ Some lines
   if_itself id lines = ap (λ b. cond b (Some lines) None) (same_itself id)
 
-  -- what G gives_article of an article that was sent is what S gives_article
-  same_text_of : (what : What) (id : Id) (t u : Text) → In (TextIs what id (text_of what t)) facts → get S.articles id ≡ Some t → get G.articles id ≡ Some u → text_of what u ≡ text_of what t
-  same_text_of Article id t u i at there =
-      let whole = t.head ++ [] ∷ t.body in
-      let h = same_head id t u at there (first_there (head_in id) facts (TextIs Article id (Some whole)) (head_part whole) i (if_itself id (head_part whole))) in
-      let b = same_body id t u at there (first_there (body_in id) facts (TextIs Article id (Some whole)) (body_part whole) i (if_itself id (body_part whole))) in
-      λ k. Some (h k ++ [] ∷ b k)
-  same_text_of Head id t u i at there = ap Some (same_head id t u at there (first_there (head_in id) facts (TextIs Head id (Some t.head)) t.head i (if_itself id t.head)))
-  same_text_of Body id t u i at there = ap Some (same_body id t u at there (first_there (body_in id) facts (TextIs Body id (Some t.body)) t.body i (if_itself id t.body)))
-  same_text_of Stat id t u i at there = refl
+  -- what was sent of an article is what G has of it
+  text_is : (what : What) (id : Id) (lines : Option (List Line)) (u : Text) → In (TextIs what id lines) facts → head_fits what id lines ≡ true → get G.articles id ≡ Some u → text_of what u ≡ lines
+  text_is Article id (Some ls) u i f at =
+      let head : u.head ≡ head_part ls = head_is id u (head_part ls) (TextIs Article id (Some ls)) i at (if_itself id (head_part ls)) in
+      let body : u.body ≡ body_part ls = body_is id u (body_part ls) (TextIs Article id (Some ls)) i at (if_itself id (body_part ls)) in
+      let some = (and_parts (list_any is_empty ls) _ (and_parts (list_any is_empty ls && is_head (head_part ls)) _ f).0).0 in
+      (λ k. Some (head k ++ [] ∷ body k)) ∙ ap Some (sym (parts_joined ls some))
+  text_is Head id (Some ls) u i f at = ap Some (head_is id u ls (TextIs Head id (Some ls)) i at (if_itself id ls))
+  text_is Body id (Some ls) u i f at = ap Some (body_is id u ls (TextIs Body id (Some ls)) i at (if_itself id ls))
+  text_is Stat id None u i f at = refl
+  text_is Article id None u i f at = cc
+  text_is Head id None u i f at = cc
+  text_is Body id None u i f at = cc
+  text_is Stat id (Some ls) u i f at = cc
 
-  -- what was sent of an article, G gives_article
-  text_holds : (what : What) (id : Id) (lines : Option (List Line)) → In (TextIs what id lines) facts → HasText S what id lines → HasText G what id lines
-  text_holds what id lines i h =
-      let a = article_of what id lines h in
+  text_holds : (what : What) (id : Id) (lines : Option (List Line)) → In (TextIs what id lines) facts → head_fits what id lines ≡ true → HasText G what id lines
+  text_holds what id lines i f =
       let g = some_is (get G.articles id) ((s.given.articles id).1 (inr (any_in (gives_article id) (TextIs what id lines) facts i (same_itself id)))) in
-      let same = same_text_of what id a.0 g.0 (subst (λ l. In (TextIs what id l) facts) (sym a.2) i) a.1 g.1 in
-      ap (option_map (text_of what)) g.1 ∙ ap Some (same ∙ a.2)
+      ap (option_map (text_of what)) g.1 ∙ ap Some (text_is what id lines g.0 i f g.1)
 
   -- what is asked of a name under its own test
   if_same_name : (P : Ask → Type 0) (name : Name) (ask : Ask) → AllByRecursion P (cond (is_same name name) (ask ∷ []) []) → P ask
   if_same_name P name ask h = (subst (λ b. AllByRecursion P (cond b (ask ∷ []) [])) (same_itself name) h).0
 
   -- an id that was shown stands in G
-  id_holds : (name : Name) (n : ℕ) (id : Id) → In (IdAt name n id) facts → IsGroup G name → get (numbers S name) n ≡ Some id → get (numbers G name) n ≡ Some id
-  id_holds name n id i group h =
+  id_holds : (name : Name) (n : ℕ) (id : Id) → In (IdAt name n id) facts → IsGroup G name → get (numbers G name) n ≡ Some id
+  id_holds name n id i group =
       let here : IsNumber (numbers G name) n = if_same_name (Meets (numbers G name)) name (Has n) (all_part (Meets (numbers G name)) (asks_in name) (IdAt name n id) facts i (meets name group)) in
-      let f = first_there (id_in name n) facts (IdAt name n id) id i (ap (λ b. cond b (Some id) None) (and_from (is_same name name) (n == n) (same_itself name) (eq-eqb n n refl))) in
-      let same : f.0 ≡ id = (let q : Some f.0 ≡ Some id = sym (shown_in_S name n f.0 f.1) ∙ h in cc) in
-      s.given.ids_shown name n f.0 here f.1 ∙ ap Some same
+      let own = ap (λ b. cond b (Some id) None) (and_from (is_same name name) (n == n) (same_itself name) (eq-eqb n n refl)) in
+      s.given.ids_shown name n id here (one_given (id_in name n) facts (s.together.ids name n) (IdAt name n id) i id own)
+
+  -- a group of G isn't denied
+  not_denied_group : (name : Name) (fact : Fact) → In fact facts → IsGroup G name → denies_group name fact ≡ false
+  not_denied_group name fact i g = false_from_ne_true _ (λ t. true≢false (sym (any_in (denies_group name) fact facts i t) ∙ s.together.groups name ((s.given.groups name).0 g)))
 
   -- a list of groups that was sent is G's
-  lines_hold : (p : Option (List ℕ)) (lines : List ActiveValue) → In (GroupsAre p lines) facts → ActivesAgree S p lines → ActivesAgree G p lines
-  lines_hold p lines i h =
+  lines_hold : (p : Option (List ℕ)) (lines : List ActiveValue) → In (GroupsAre p lines) facts → AllByRecursion (λ line. IsTrue (active_fits profile p line)) lines → ActivesAgree G p lines
+  lines_hold p lines i fit =
       let listed : (line : ActiveValue) → In line lines → (name : Name) → line.name ≡ name → IsGroup G name = λ line j name e.
-      (s.given.groups name).1 (any_in (shows_group name) (GroupsAre p lines) facts i (any_in (λ line. is_same line.name name) line lines j (subst (λ n. is_same line.name n ≡ true) e (same_itself line.name)))) in (
+      (s.given.groups name).1 (any_in (shows_group name) (GroupsAre p lines) facts i (any_in (λ line. is_same line.name name) line lines j (subst (λ n. is_same line.name n ≡ true) e (same_itself line.name)))) in
+      let matches : (line : ActiveValue) → In line lines → (name : Name) → line.name ≡ name → IfSome p (λ w. MatchesName w name) = λ line j name e.
+      (matching name p).0 (subst (λ n. option_map_or (λ w. matches_name w n) p true ≡ true) e (and_parts _ (option_map_or (λ w. matches_name w line.name) p true) (all_at (λ line. IsTrue (active_fits profile p line)) line lines fit j)).1) in (
         λ name. (
-          λ c. (let f = from_map (λ line. line.name) name lines (in_contains name (map (λ line. line.name) lines) c) in (listed f.0 f.1 name f.2, ((h.0 name).0 c).1)),
-          λ g. (h.0 name).1 (group_in_S name g.0, g.1),
+          λ c. (let f = from_map (λ line. line.name) name lines (in_contains name (map (λ line. line.name) lines) c) in (listed f.0 f.1 name f.2, matches f.0 f.1 name f.2)),
+          λ g. elim (and_cases (option_map_or (λ w. matches_name w name) p true) _ (not_denied_group name (GroupsAre p lines) i g.0)) [
+            | inl unmatched ↦ absurd (true≢false (sym ((matching name p).1 g.1) ∙ unmatched))
+            | inr there ↦ contains_in name (map (λ line. line.name) lines) (in_listed name lines (not-false _ there))
+          ],
         ),
         All-from_recursion _ lines (all_from _ lines (λ line j.
             let group = listed line j line.name refl in
@@ -286,38 +227,27 @@ module _ (profile : Profile) (B : ℕ) (S G : Spool) (facts : List Fact) (s : Se
             (all_part (Meets (numbers G line.name)) _ line lines j (all_part (Meets (numbers G line.name)) (asks_in line.name) (GroupsAre p lines) facts i (meets line.name group))))),
       )
 
-  -- what holds of S and was said holds of G
-  fact_holds : (fact : Fact) → In fact facts → Holds S fact → Placed G fact → Holds G fact
-  fact_holds (ThereIs name) i h p = (s.given.groups name).1 (any_in (shows_group name) (ThereIs name) facts i (same_itself name))
-  fact_holds (ThereIsNo name) i h p = none_of (get G.groups name) (λ g. true≢false (sym (group_in_S name g) ∙ ap is_some h))
-  fact_holds (Asks name ask) i h p = if_same_name (Meets (numbers G name)) name ask (all_part (Meets (numbers G name)) (asks_in name) (Asks name ask) facts i (meets name p))
-  fact_holds (IdAt name n id) i h p = id_holds name n id i p h
-  fact_holds (TextIs what id lines) i h p = text_holds what id lines i h
-  fact_holds (NoArticle id) i h p = none_of (get G.articles id) (λ g.
-      let denied : IsSome (get S.articles id) → ⊥ = λ t. true≢false (sym t ∙ ap is_some h) in
+  -- what was said holds of G
+  fact_holds : (fact : Fact) → In fact facts → IsFitting profile fact → Placed facts fact → Holds G fact
+  fact_holds (ThereIs name) i f p = (s.given.groups name).1 (any_in (shows_group name) (ThereIs name) facts i (same_itself name))
+  fact_holds (ThereIsNo name) i f p = none_of (get G.groups name) (λ g. true≢false (sym (same_itself name) ∙ not_denied_group name (ThereIsNo name) i g))
+  fact_holds (Asks name ask) i f p = if_same_name (Meets (numbers G name)) name ask (all_part (Meets (numbers G name)) (asks_in name) (Asks name ask) facts i (meets name (group_there name p)))
+  fact_holds (IdAt name n id) i f p = id_holds name n id i (group_there name p)
+  fact_holds (TextIs what id lines) i f p = text_holds what id lines i f
+  fact_holds (NoArticle id) i f p = none_of (get G.articles id) (λ g.
       elim ((s.given.articles id).0 g) [
         | inl used ↦ elim (id_cases used.0 used.1 id used.2) [
-          | inl shown ↦ denied (s.spool.ids_have_articles used.0 used.1 id shown.1)
+          | inl shown ↦ (let at = shown_at used.0 used.1 id shown in not_denied id at.fact at.there at.article i)
           | inr new ↦ true≢false (sym (any_in (mentions id) (NoArticle id) facts i (same_itself id)) ∙ new.1.3)
         ]
-        | inr sent ↦ denied (sent_has_article id sent)
+        | inr sent ↦ (let f = found_in (gives_article id) facts sent in not_denied id f.0 f.1 (given_shows id f.0 f.2) i)
       ])
-  fact_holds (GroupsAre p lines) i h g = lines_hold p lines i h
+    where
+      given_shows : (id : Id) (fact : Fact) → gives_article id fact ≡ true → shows_article id fact ≡ true
+      given_shows id (TextIs what other lines) t = t
+      given_shows id fact t = cc
+  fact_holds (GroupsAre p lines) i f g = lines_hold p lines i f
 
   -- all that is said holds of G
   pub all_hold : AllByRecursion (Holds G) facts
-  all_hold = all_from (Holds G) facts (λ fact i. fact_holds fact i (all_at (Holds S) fact facts s.holds i) (all_at (Placed G) fact facts s.placed i))
-
-  -- an id that is shown for a number is mentioned
-  pub shown_mentioned : (name : Name) (n : ℕ) (id : Id) → id_shown facts name n ≡ Some id → IsTrue (is_mentioned facts id)
-  shown_mentioned name n id e =
-      let f = first_found (id_in name n) facts id e in
-      any_in (mentions id) f.0 facts f.1 (by f.0 f.2)
-    where
-      one : (g : Name) (m : ℕ) (other : Id) (b : Bool) → cond b (Some other) None ≡ Some id → is_same other id ≡ true
-      one g m other true e = subst (λ x. is_same other x ≡ true) (let same : other ≡ id = cc in same) (same_itself other)
-      one g m other false e = cc
-
-      by : (fact : Fact) → id_in name n fact ≡ Some id → mentions id fact ≡ true
-      by (IdAt g m other) e = one g m other (is_same g name && m == n) e
-      by fact e = cc
+  all_hold = all_from (Holds G) facts (λ fact i. fact_holds fact i (all_at (IsFitting profile) fact facts s.fitting i) (all_at (Placed facts) fact facts s.placed i))

@@ -1,20 +1,25 @@
 -- The spool that is given is a spool.
-use Rattle.std.proofs.Common.{◌≡◌, ℕ, ◌≤◌, IsTrue, List, [], ◌++◌, Option, None, Some, is_some, IsSome, inl, inr, refl, sym, ap, subst, ◌∙◌, arith}
+use Rattle.std.proofs.Common.{◌≡◌, ℕ, ◌≤◌, Bool, true, false, cond, ◌&&◌, IsTrue, List, [], ◌∷◌, ◌++◌, Option, None, Some, is_some, IsSome, inl, inr, refl, sym, ap, subst, ◌∙◌}
 use Rattle.std.specs.Prelude.{unwrap_or}
-use Rattle.std.specs.List.{AllByRecursion}
+use Rattle.std.specs.List.{AllByRecursion, list_any}
+use Rattle.std.specs.Option.{option_map_or}
 use Rattle.std.specs.FinMap.{get}
-use Rattle.std.proofs.lemmas.Bool.{true≢false}
-use Rattle.std.proofs.lemmas.List.Elements.{recursion_from_All, All-from_recursion}
-use Rattle.nntp_article.specs.Article.{is_head, said_id, Id, Line}
+use Rattle.std.specs.Cmp.Lexicographic.{same_text}
+use Rattle.std.proofs.lemmas.Bool.{true≢false, and_parts}
+use Rattle.std.proofs.lemmas.List.Elements.{All-from_recursion}
+use Rattle.nntp_article.specs.Article.{is_empty, is_head, said_id, head_part, body_part, Id, Line}
 use Rattle.nntp_article.specs.Spool.{Spool, Text, IsNumber, IsGroup, numbers, IsSpool, Name, is_line, Profile}
-use Rattle.nntp_facts.specs.Facts.{Fact}
-use Rattle.nntp_facts.specs.Given.{asks_of, first_given, head_in, body_in, plain_head}
-use Rattle.nntp_facts.proofs.Members.{all_front, all_back, all_both}
+use Rattle.nntp_article.specs.Machine.{is_same, says_own_id}
+use Rattle.nntp_facts.specs.Facts.{Fact, ThereIs, TextIs, GroupsAre}
+use Rattle.nntp_facts.specs.Given.{shows_group, mentions, is_mentioned, gives_article, id_shown, first_given, head_in, body_in, plain_head}
+use Rattle.nntp_facts.specs.Together.{IsWellFormed, number_in}
+use Rattle.nntp_facts.proofs.Members.{In, all_at, all_both, any_in, found_in, first_found}
 use Rattle.nntp_facts.proofs.PlainHead.{plain_says, plain_is_head, plain_is_clean}
-use Rattle.nntp_facts.proofs.GivenNumbers.{shown_are_numbers, more_is_low, number_there}
-use Rattle.nntp_facts.proofs.GivenSession.{met_by_facts}
-use Rattle.nntp_facts.proofs.GivenHolds.{Setting, group_of_number, group_in_S, id_cases, unshown_once, sent_has_article, head_in_S, body_in_S, shown_mentioned}
-use Rattle.nntp_wire.specs.Name.{IsMessageId}
+use Rattle.nntp_facts.proofs.Fitting.{IsFitting}
+use Rattle.nntp_facts.proofs.Limits.{free_in_limit, shown_in_limit}
+use Rattle.nntp_facts.proofs.GivenHolds.{Setting, one_given, group_of_number, id_cases, shown_at, unshown_once}
+use Rattle.nntp_wire.specs.Name.{IsGroupName, IsMessageId}
+use Rattle.nntp_wire.specs.declared.command.What.TheVariants.{Article, Head, Body}
 
 -- a head for an id, without lines that hold NUL, CR or LF, and it says no other id
 record IsHeadOf (id : Id) (head : List Line) : Type 0 where
@@ -22,35 +27,71 @@ record IsHeadOf (id : Id) (head : List Line) : Type 0 where
   is_clean : AllByRecursion (λ line. IsTrue (is_line line)) head
   own : (said : Id) → said_id head ≡ Some said → said ≡ id
 
-module _ (profile : Profile) (B : ℕ) (S G : Spool) (facts : List Fact) (s : Setting profile B S G facts) where
+-- what holds of lines holds of those of the head
+head_lines : (P : Line → Type 0) (lines : List Line) → AllByRecursion P lines → AllByRecursion P (head_part lines)
+head_lines P [] h = tt
+head_lines P ([] ∷ lines) h = tt
+head_lines P ((c ∷ cs) ∷ lines) h = (h.0, head_lines P lines h.1)
+
+-- and of the body
+body_lines : (P : Line → Type 0) (lines : List Line) → AllByRecursion P lines → AllByRecursion P (body_part lines)
+body_lines P [] h = tt
+body_lines P ([] ∷ lines) h = h.1
+body_lines P ((c ∷ cs) ∷ lines) h = body_lines P lines h.1
+
+-- a head that says its own id, or none, says no other
+own_id : (id : Id) (head : List Line) → says_own_id id head ≡ true → (said : Id) → said_id head ≡ Some said → said ≡ id
+own_id id head t said e = same_text said id (sym (subst (λ o. option_map_or (λ said. is_same said id) o true ≡ true) e t))
+
+module _ (profile : Profile) (B : ℕ) (G : Spool) (facts : List Fact) (s : Setting profile B G facts) where
+  -- a fact fits and is well formed
+  fitting : (fact : Fact) → In fact facts → IsFitting profile fact
+  fitting fact i = all_at (IsFitting profile) fact facts s.fitting i
+
+  formed : (fact : Fact) → In fact facts → IsWellFormed fact
+  formed fact i = all_at IsWellFormed fact facts s.together.well_formed i
+
+  -- names of groups are such
+  name_is : (name : Name) → IsGroup G name → IsGroupName name
+  name_is name i = let f = found_in (shows_group name) facts ((s.given.groups name).0 i) in by f.0 (formed f.0 f.1) f.2
+    where
+      by : (fact : Fact) → IsWellFormed fact → shows_group name fact ≡ true → IsGroupName name
+      by (ThereIs g) h t = subst IsGroupName (same_text g name (sym t)) h
+      by (GroupsAre p lines) h t =
+          let f = found_in (λ line. is_same line.name name) lines t in
+          subst IsGroupName (same_text f.0.name name (sym f.2)) (all_at (λ line. IsGroupName line.name) f.0 lines h f.1)
+      by fact h t = cc
+
   -- the numbers are within the profile
   in_limit : (name : Name) (n : ℕ) → IsNumber (numbers G name) n → (1 ≤ n) × (n ≤ profile.limit)
   in_limit name n i =
       let g = group_of_number G name n i in
       let group : IsGroup G name = ap is_some g.1 in
-      let met = met_by_facts S name facts s.holds in
-      let within = λ (m : ℕ) (j : IsNumber (numbers S name) m). s.spool.numbers_in_limit name m j in
-      let given = s.given.numbers_given name group in
-      elim ((given n).0 i) [
-        | inl shown ↦ within n (shown_are_numbers (numbers S name) (asks_of name facts) n met shown)
-        | inr more ↦
-            let c = number_there (asks_of name facts) (numbers S name) met n more in
-            let le = more_is_low (asks_of name facts) (numbers S name) met (λ m j. (within m j).0) n c.0 more c.1 in
-            let most = (within c.0 c.1).1 in
-            (more.positive, omega arith)
+      elim ((s.given.numbers_given name group n).0 i) [
+        | inl shown ↦ shown_in_limit profile facts s.fitting s.placed name n shown
+        | inr more ↦ (more.positive, free_in_limit profile facts s.fitting s.placed name ((s.given.groups name).0 group) n more.not_denied)
       ]
+
+  -- an id that is shown is mentioned
+  shown_mentioned : (name : Name) (n : ℕ) (id : Id) → id_shown facts name n ≡ Some id → IsTrue (is_mentioned facts id)
+  shown_mentioned name n id e = let at = shown_at profile B G facts s name n id e in any_in (mentions id) at.fact facts at.there at.mentioned
 
   -- within a group an id has one number
   one_number : (name : Name) (n m : ℕ) (id : Id) → get (numbers G name) n ≡ Some id → get (numbers G name) m ≡ Some id → n ≡ m
   one_number name n m id e f =
-      elim (id_cases profile B S G facts s name n id e) [
-        | inl a ↦ elim (id_cases profile B S G facts s name m id f) [
-          | inl b ↦ s.spool.one_to_one name n m id a.1 b.1
-          | inr b ↦ absurd (true≢false (sym (shown_mentioned profile B S G facts s name n id a.0) ∙ b.1.3))
+      elim (id_cases profile B G facts s name n id e) [
+        | inl a ↦ elim (id_cases profile B G facts s name m id f) [
+          | inl b ↦
+              let at = shown_at profile B G facts s name n id a in
+              let too = shown_at profile B G facts s name m id b in
+              let one = one_given (number_in name id) facts (s.together.ids_once name id) in
+              let same : Some n ≡ Some m = sym (one at.fact at.there n at.number) ∙ one too.fact too.there m too.number in
+              cc
+          | inr b ↦ absurd (true≢false (sym (shown_mentioned name n id a) ∙ b.1.3))
         ]
-        | inr a ↦ elim (id_cases profile B S G facts s name m id f) [
-          | inl b ↦ absurd (true≢false (sym (shown_mentioned profile B S G facts s name m id b.0) ∙ a.1.3))
-          | inr b ↦ unshown_once profile B S G facts s name n m id e f a.0 b.0
+        | inr a ↦ elim (id_cases profile B G facts s name m id f) [
+          | inl b ↦ absurd (true≢false (sym (shown_mentioned name m id b) ∙ a.1.3))
+          | inr b ↦ unshown_once profile B G facts s name n m id e f a.0 b.0
         ]
       ]
 
@@ -58,14 +99,54 @@ module _ (profile : Profile) (B : ℕ) (S G : Spool) (facts : List Fact) (s : Se
   is_id : (id : Id) → IsSome (get G.articles id) → IsMessageId id
   is_id id i =
       elim ((s.given.articles id).0 i) [
-        | inl used ↦ elim (id_cases profile B S G facts s used.0 used.1 id used.2) [
-          | inl shown ↦ s.spool.ids id (s.spool.ids_have_articles used.0 used.1 id shown.1)
+        | inl used ↦ elim (id_cases profile B G facts s used.0 used.1 id used.2) [
+          | inl shown ↦ (let at = shown_at profile B G facts s used.0 used.1 id shown in at.formed (formed at.fact at.there))
           | inr new ↦ subst (λ id. IsMessageId id) (sym new.1.2) (s.ids new.1.0 new.1.1)
         ]
-        | inr sent ↦ s.spool.ids id (sent_has_article profile B S G facts s id sent)
+        | inr sent ↦ (let f = found_in (gives_article id) facts sent in by f.0 (formed f.0 f.1) f.2)
       ]
+    where
+      by : (fact : Fact) → IsWellFormed fact → gives_article id fact ≡ true → IsMessageId id
+      by (TextIs what other lines) h t = subst IsMessageId (same_text other id (sym t)) h.0
+      by fact h t = cc
 
-  -- a head of S, or the plain one
+  -- a head that was sent is one
+  sent_head : (id : Id) (lines : List Line) (fact : Fact) → IsFitting profile fact → IsWellFormed fact → head_in id fact ≡ Some lines → IsHeadOf id lines
+  sent_head id lines (TextIs Article other (Some ls)) f h e = by (is_same other id) refl e
+    where
+      whole : IsHeadOf other (head_part ls)
+      whole =
+          let p = and_parts (list_any is_empty ls && is_head (head_part ls)) _ f in
+          record { is_a_head = (and_parts (list_any is_empty ls) _ p.0).1; is_clean = head_lines (λ line. IsTrue (is_line line)) ls h.1; own = own_id other (head_part ls) p.1 }
+
+      by : (b : Bool) → is_same other id ≡ b → cond b (Some (head_part ls)) None ≡ Some lines → IsHeadOf id lines
+      by true is e = subst (λ id. IsHeadOf id lines) (same_text other id (sym is)) (subst (IsHeadOf other) (let q : head_part ls ≡ lines = cc in q) whole)
+      by false is e = cc
+  sent_head id lines (TextIs Head other (Some ls)) f h e = by (is_same other id) refl e
+    where
+      whole : IsHeadOf other ls
+      whole = let p = and_parts (is_head ls) _ f in record { is_a_head = p.0; is_clean = h.1; own = own_id other ls p.1 }
+
+      by : (b : Bool) → is_same other id ≡ b → cond b (Some ls) None ≡ Some lines → IsHeadOf id lines
+      by true is e = subst (λ id. IsHeadOf id lines) (same_text other id (sym is)) (subst (IsHeadOf other) (let q : ls ≡ lines = cc in q) whole)
+      by false is e = cc
+  sent_head id lines fact f h e = cc
+
+  -- and a body that was sent has lines
+  sent_body : (id : Id) (lines : List Line) (fact : Fact) → IsWellFormed fact → body_in id fact ≡ Some lines → AllByRecursion (λ line. IsTrue (is_line line)) lines
+  sent_body id lines (TextIs Article other (Some ls)) h e = by (is_same other id) e
+    where
+      by : (b : Bool) → cond b (Some (body_part ls)) None ≡ Some lines → AllByRecursion (λ line. IsTrue (is_line line)) lines
+      by true e = subst (AllByRecursion (λ line. IsTrue (is_line line))) (let q : body_part ls ≡ lines = cc in q) (body_lines (λ line. IsTrue (is_line line)) ls h.1)
+      by false e = cc
+  sent_body id lines (TextIs Body other (Some ls)) h e = by (is_same other id) e
+    where
+      by : (b : Bool) → cond b (Some ls) None ≡ Some lines → AllByRecursion (λ line. IsTrue (is_line line)) lines
+      by true e = subst (AllByRecursion (λ line. IsTrue (is_line line))) (let q : ls ≡ lines = cc in q) h.1
+      by false e = cc
+  sent_body id lines fact h e = cc
+
+  -- the head of an id is one
   head_is : (id : Id) (t : Text) → get G.articles id ≡ Some t → IsHeadOf id t.head
   head_is id t e = subst (IsHeadOf id) (sym (s.given.heads id t e)) (by (first_given (head_in id) facts) refl)
     where
@@ -73,31 +154,20 @@ module _ (profile : Profile) (B : ℕ) (S G : Spool) (facts : List Fact) (s : Se
       by None is =
           let good = is_id id (ap is_some e) in
           record { is_a_head = plain_is_head id; is_clean = plain_is_clean id good; own = λ said says. let same : Some said ≡ Some id = sym says ∙ plain_says id good in cc }
-      by (Some lines) is =
-          let h = head_in_S profile B S G facts s id lines is in
-          let good = s.spool.heads id h.0 h.1 in
-          subst (IsHeadOf id) h.2 (record {
-            is_a_head = good.0;
-            is_clean = all_front (λ line. IsTrue (is_line line)) h.0.head h.0.body (recursion_from_All (λ line. IsTrue (is_line line)) (h.0.head ++ h.0.body) good.1);
-            own = λ said says. s.spool.own_ids id said h.0 h.1 says;
-          })
+      by (Some lines) is = let f = first_found (head_in id) facts lines is in sent_head id lines f.0 (fitting f.0 f.1) (formed f.0 f.1) f.2
 
-  -- a body of S, or none
+  -- a body that was sent, or none
   body_is : (id : Id) (t : Text) → get G.articles id ≡ Some t → AllByRecursion (λ line. IsTrue (is_line line)) t.body
   body_is id t e = subst (AllByRecursion (λ line. IsTrue (is_line line))) (sym (s.given.bodies id t e)) (by (first_given (body_in id) facts) refl)
     where
       by : (o : Option (List Line)) → first_given (body_in id) facts ≡ o → AllByRecursion (λ line. IsTrue (is_line line)) (unwrap_or o [])
       by None is = tt
-      by (Some lines) is =
-          let h = body_in_S profile B S G facts s id lines is in
-          let good = s.spool.heads id h.0 h.1 in
-          subst (AllByRecursion (λ line. IsTrue (is_line line))) h.2
-          (all_back (λ line. IsTrue (is_line line)) h.0.head h.0.body (recursion_from_All (λ line. IsTrue (is_line line)) (h.0.head ++ h.0.body) good.1))
+      by (Some lines) is = let f = first_found (body_in id) facts lines is in sent_body id lines f.0 (formed f.0 f.1) f.2
 
   -- the given spool is a spool
   pub given_is_spool : IsSpool profile G
   given_is_spool = record {
-    names = λ name i. s.spool.names name (group_in_S profile B S G facts s name i);
+    names = name_is;
     numbers_in_limit = in_limit;
     one_to_one = one_number;
     ids_have_articles = λ name n id e. (s.given.articles id).1 (inl (name, n, e));

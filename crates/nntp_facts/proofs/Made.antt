@@ -14,7 +14,8 @@ use Rattle.nntp_facts.specs.Facts.{Fact, TextIs}
 use Rattle.nntp_facts.specs.Given.{is_shown, IsOneMore, HasGivenNumbers, asks_of, is_shown_group, first_given, id_shown, gives_article, is_sent, head_in, body_in, plain_head, is_mentioned, invented, unshown_in, unshown_ids, IsUsed, AreInvented, IsGiven}
 use Rattle.nntp_facts.proofs.Members.{In, in_front, in_back, in_cases, in_map, from_map, to_flat, from_flat, any_in, found_in}
 use Rattle.nntp_facts.proofs.Few.{names_of, shown_name, name_shown}
-use Rattle.nntp_facts.proofs.GivenHolds.{same_itself, group_of_number}
+use Rattle.nntp_facts.proofs.Stand.{same_itself}
+use Rattle.nntp_facts.proofs.GivenHolds.{group_of_number}
 use Rattle.nntp_facts.proofs.Invented.{number_of}
 use Rattle.nntp_facts.proofs.Fresh.{mentioned, any_back, counted}
 use Rattle.nntp_facts.proofs.OneMore.{shown_list, in_shown_list, from_shown_list, free, free_is, free_none, more, more_is, more_found}
@@ -331,10 +332,10 @@ module _ (limit : ℕ) (B : ℕ) (facts : List Fact) where
         (λ few. groups_invented (keys name_map) 0 [] (λ i l. absurd (omega arith)) (omega arith)) few
 
     -- what is made is the given spool, where each group has a free number within the limit
-    pub made_is_given : ((name : Name) (e : ℕ) → IsOneMore (asks_of name facts) e → e ≤ limit) → length (mentioned facts) + length (unshown_ids facts made) < B → IsGiven facts made
+    pub made_is_given : ((name : Name) → IsTrue (is_shown_group facts name) → (e : ℕ) → IsOneMore (asks_of name facts) e → e ≤ limit) → length (mentioned facts) + length (unshown_ids facts made) < B → IsGiven facts made
     made_is_given low few = record {
       groups = made_group;
-      numbers_given = λ name i. made_given name (low name) i;
+      numbers_given = λ name i. made_given name (low name ((made_group name).0 i)) i;
       ids_shown = made_ids_shown;
       ids_invented = made_invented few;
       articles = made_article;

@@ -90,7 +90,7 @@ module _ (w : AreSpellings) where
       (b ++ r.0, r.1, (b, r.0, s, r.2, refl), whole ∙ ap (λ t. b ++ t) r.3 ∙ sym (append_assoc b r.0 r.1), λ l. r.4 (omega arith))
 
   -- answers weigh no more than their octets
-  light : (ps : List Asked) (answers : List Response) (sp : List ℕ) → Spelled ps answers sp → weight answers ≤ length sp
+  pub light : (ps : List Asked) (answers : List Response) (sp : List ℕ) → Spelled ps answers sp → weight answers ≤ length sp
   light ps [] sp s = omega arith
   light [] (a ∷ answers) sp s = absurd s
   light (p ∷ ps) (a ∷ answers) sp (b, tail, s, ss, whole) =

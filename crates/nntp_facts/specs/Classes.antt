@@ -4,6 +4,7 @@ use Rattle.nntp_wire.specs.Answer.{Asked, Response, Spells}
 use Rattle.nntp_wire.specs.Session.{prompts_of, Spelled}
 use Rattle.nntp_article.specs.Spool.{Profile}
 use Rattle.nntp_article.specs.Machine.{Visible, start, fits, visible_after}
+use Rattle.nntp_facts.specs.Asks.{Position, position_after}
 use Rattle.nntp_pair.specs.Pairing.{IsCut, IsMalformed}
 use Rattle.nntp_pair.specs.declared.class.PairClass.{PairClass}
 use Rattle.nntp_pair.specs.declared.class.PairClass.TheVariants.{Surplus as PairSurplus, Cut as PairCut, Malformed as PairMalformed}
@@ -17,6 +18,12 @@ abbrev pub visible_from : Visible → List Asked → List Response → Visible
 visible_from v ps [] = v
 visible_from v [] (response ∷ more) = v
 visible_from v (asked ∷ ps) (response ∷ more) = visible_from (visible_after v asked response) ps more
+
+-- where answers leave the session
+abbrev pub position_from : Position → List Asked → List Response → Position
+position_from at ps [] = at
+position_from at [] (response ∷ more) = at
+position_from at (asked ∷ ps) (response ∷ more) = position_from (position_after at asked response) ps more
 
 -- what is asked behind the answers, if anything is
 abbrev pub asked_next : List Asked → List Response → Option Asked

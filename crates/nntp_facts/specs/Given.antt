@@ -46,35 +46,59 @@ is_shown asks n = list_any (λ ask. shows ask n) asks
 abbrev pub is_denied : List Ask → ℕ → Bool
 is_denied asks n = list_any (λ ask. denies ask n) asks
 
--- NEXT led from the first number, which wasn't seen, to m
-abbrev pub steps_from_first_to : Ask → ℕ → Bool
-steps_from_first_to (StepsUp First m) n = m == n
-steps_from_first_to ask n = false
+-- what is said of the first number of a group where it isn't seen
+pub data Demand : Type 0 where
+  NoDemand : Demand  -- nothing
+  NotEmpty : Demand  -- there is one
+  OnlyOne : Demand  -- it is the only number
+  SecondIs : (number : ℕ) → Demand  -- there is one, and the next one up is this
+  Impossible : Demand  -- what can't be
 
--- the first number was told to have none above it, or none below it
-abbrev pub tells_of_first : Ask → Bool
-tells_of_first (IsTop First) = true
-tells_of_first (IsBottom First) = true
-tells_of_first ask = false
+-- what the ask says of it
+abbrev pub demand_in : Ask → Demand
+demand_in (IsBottom First) = NotEmpty
+demand_in (IsTop First) = OnlyOne
+demand_in (StepsUp First m) = SecondIs m
+demand_in ask = NoDemand
 
--- one more number is needed, below m: NEXT led from the unseen first number to m, and none below m is shown
-abbrev pub NeedsOneBelow : List Ask → ℕ → Type 0
-NeedsOneBelow asks m = IsTrue (list_any (λ ask. steps_from_first_to ask m) asks) × ((n : ℕ) → IsTrue (is_shown asks n) → m ≤ n)
+-- two demands as one
+abbrev pub join : Demand → Demand → Demand
+join NoDemand e = e
+join Impossible e = Impossible
+join d NoDemand = d
+join NotEmpty e = e
+join d NotEmpty = d
+join OnlyOne OnlyOne = OnlyOne
+join (SecondIs m) (SecondIs k) = if m == k then SecondIs m else Impossible
+join d e = Impossible
 
--- one more number is needed, since there is one and none is shown
-abbrev pub NeedsOne : List Ask → Type 0
-NeedsOne asks = IsTrue (list_any tells_of_first asks) × ((n : ℕ) → IsFalse (is_shown asks n))
+-- the demand of all that is asked
+abbrev pub demand : List Ask → Demand
+demand [] = NoDemand
+demand (ask ∷ asks) = join (demand_in ask) (demand asks)
 
--- n is the one more number: the least from 1 on that isn't denied
+-- n would do as the first number
+abbrev pub wants : Demand → ℕ → Bool
+wants NotEmpty n = true
+wants OnlyOne n = true
+wants (SecondIs m) n = nat_lt n m
+wants d n = false
+
+-- n is the one more number: where no number is shown that the demand wants, the least from 1 on that isn't denied, if the demand wants it
 pub record IsOneMore (asks : List Ask) (n : ℕ) : Type 0 where
-  pub needed : ((m : ℕ) × NeedsOneBelow asks m) ⊎ NeedsOne asks
+  pub needed : (m : ℕ) → IsTrue (is_shown asks m) → IsFalse (wants (demand asks) m)
+  pub wanted : IsTrue (wants (demand asks) n)
   pub positive : 1 ≤ n
   pub not_denied : IsFalse (is_denied asks n)
   pub is_least : (m : ℕ) → 1 ≤ m → m < n → IsTrue (is_denied asks m)
 
+-- the number is given: it is shown, or it is the one more
+abbrev pub IsGivenNumber : List Ask → ℕ → Type 0
+IsGivenNumber asks n = IsTrue (is_shown asks n) ⊎ IsOneMore asks n
+
 -- N has the numbers that are given
 abbrev pub HasGivenNumbers : List Ask → Numbers → Type 0
-HasGivenNumbers asks N = (n : ℕ) → IsNumber N n ↔ (IsTrue (is_shown asks n) ⊎ IsOneMore asks n)
+HasGivenNumbers asks N = (n : ℕ) → IsNumber N n ↔ IsGivenNumber asks n
 
 -- ---- the whole spool
 

@@ -1,18 +1,20 @@
 //! Laws of the definitions alone.
-ghost use Rattle.std.specs.Prelude.{◌≡◌, ℕ, ◌↔◌, ◌≤◌, ◌<◌, ◌^◌, ◌⊎◌, false, List, [], ◌∷◌, ◌++◌, length};
-ghost use Rattle.std.specs.List.{AllByRecursion};
-ghost use Rattle.nntp_article.specs.Spool.{Spool, Numbers, IsSpool, Name, Profile};
-ghost use Rattle.nntp_article.specs.Machine.{Run, start, fits};
-ghost use Rattle.nntp_facts.specs.Asks.{RunsAt, Nowhere, Meets};
-ghost use Rattle.nntp_facts.specs.Facts.{FitsAll, Holds, Fact, facts_from};
-ghost use Rattle.nntp_facts.specs.Given.{asks_of, HasGivenNumbers, IsGiven, facts_of_session, size, weight, HasAtLeast};
-ghost use Rattle.nntp_facts.specs.Permits.{SomePermits, IsBadAnswer};
+ghost use Rattle.std.specs.Prelude.{◌≡◌, ℕ, ◌↔◌, ◌≤◌, ◌<◌, ◌+◌, ◌^◌, ◌⊎◌, false, List, [], ◌∷◌, ◌++◌, length, IsTrue, Some, nat_lt};
+ghost use Rattle.std.specs.List.{AllByRecursion, list_all};
+ghost use Rattle.std.specs.FinMap.{insert, len};
+ghost use Rattle.nntp_article.specs.Spool.{Spool, Numbers, IsNumber, IsSpool, Name, Profile};
+ghost use Rattle.nntp_article.specs.Machine.{Run, start, fits, Visible, visible_after};
+ghost use Rattle.nntp_facts.specs.Asks.{RunsAt, Nowhere, Meets, Ask, Position, position_after};
+ghost use Rattle.nntp_facts.specs.Facts.{FitsAll, Holds, Fact, facts_of, facts_from};
+ghost use Rattle.nntp_facts.specs.Given.{asks_of, is_shown, demand, join, IsOneMore, IsGivenNumber, HasGivenNumbers, IsGiven, facts_of_session, size, weight, HasAtLeast};
+ghost use Rattle.nntp_facts.specs.Together.{MeetsDemand, IsWellFormed, Together, Joins, JoinInTurn};
+ghost use Rattle.nntp_facts.specs.Permits.{SomePermits, IsBadAnswer, asked_of};
 ghost use Rattle.nntp_article.specs.Explains.{Explains, ExplainsUpTo, Bad};
-ghost use Rattle.nntp_wire.specs.Session.{prompts_of};
-ghost use Rattle.nntp_facts.specs.Classes.{Class, HasClass, IsSettled, class_of, class_by, visible_from};
+ghost use Rattle.nntp_wire.specs.Session.{prompts_of, Spelled};
+ghost use Rattle.nntp_facts.specs.Classes.{Class, HasClass, IsSettled, class_of, class_by, visible_from, position_from, asked_next};
 ghost use Rattle.nntp_pair.specs.Pairing.{Paired, Unpaired, IsNext, AreNext, IsBad, Ending, end, bad, IsPairing, HasPairs, responses_of, asked_at, streams};
 ghost use Rattle.nntp_pair.specs.declared.class.PairClass.{PairClass};
-ghost use Rattle.nntp_wire.specs.Answer.{Asked, Response};
+ghost use Rattle.nntp_wire.specs.Answer.{Asked, Response, Spells};
 
 /// A spool permits a session exactly if it permits each answer with the current article read off
 /// the session.
@@ -35,6 +37,19 @@ pub fn given_numbers_meet_what_is_asked()
         → AllByRecursion (Meets G) (asks_of name facts) }
 {}
 
+/// The given numbers of a group are those that are shown, and the one more if there is one; then the
+/// demand is met, and else if those that are shown meet it.
+pub fn given_numbers_are_counted()
+    ensures demand_met { (asks : List Ask) (e : ℕ) → IsOneMore asks e → MeetsDemand (demand asks) (IsGivenNumber asks) }
+    ensures demand_of_shown { (asks : List Ask) → ((e : ℕ) → IsOneMore asks e → ⊥)
+        → MeetsDemand (demand asks) (IsGivenNumber asks) ↔ MeetsDemand (demand asks) (λ n. IsTrue (is_shown asks n)) }
+    ensures none_more { (asks : List Ask) (M : Numbers) → ((n : ℕ) → IsNumber M n ↔ IsTrue (is_shown asks n))
+        → ((e : ℕ) → IsOneMore asks e → ⊥) → HasGivenNumbers asks M }
+    ensures one_more { (asks : List Ask) (M : Numbers) (e : ℕ) → ((n : ℕ) → IsNumber M n ↔ IsTrue (is_shown asks n)) → IsOneMore asks e
+        → HasGivenNumbers asks (insert M e []) × (len (insert M e []) ≡ len M + 1) }
+    ensures as_many { (asks : List Ask) (N M : Numbers) → HasGivenNumbers asks N → HasGivenNumbers asks M → len N ≡ len M }
+{}
+
 /// There is one given spool at most.
 pub fn given_spool_is_one()
     ensures { (facts : List Fact) (G H : Spool) → IsGiven facts G → IsGiven facts H → G ≡ H }
@@ -43,6 +58,58 @@ pub fn given_spool_is_one()
 /// What a session says is bounded by its answers and their lines.
 pub fn size_is_bounded()
     ensures { (prompts : List Asked) (answers : List Response) → size (facts_of_session prompts answers) ≤ weight answers }
+{}
+
+/// What a session says is bounded by the octets that spell its answers, and so by those of the server.
+pub fn size_is_bounded_by_octets()
+    ensures spelled { (prompts : List Asked) (answers : List Response) (octets : List ℕ)
+        → Spelled prompts answers octets → size (facts_of_session prompts answers) ≤ length octets }
+    ensures paired { (client server : List ℕ) (pairs : List Paired) (left : Unpaired)
+        → AreNext (streams client server) pairs left → size (facts_of_session (asked_of pairs) (responses_of pairs)) ≤ length server }
+{}
+
+/// One answer more says what it says behind those before, and it fits if it fits what they leave.
+pub fn answers_add_up()
+    ensures facts { (v : Visible) (at : Position) (prompts : List Asked) (answers : List Response) (asked : Asked) (response : Response)
+        → asked_next prompts answers ≡ Some asked
+        → facts_from v at prompts (answers ++ response ∷ []) ≡ facts_from v at prompts answers ++ facts_of (visible_from v prompts answers) (position_from at prompts answers) asked response }
+    ensures fitting { (profile : Profile) (v : Visible) (prompts : List Asked) (answers : List Response) (asked : Asked) (response : Response)
+        → asked_next prompts answers ≡ Some asked
+        → FitsAll profile v prompts (answers ++ response ∷ [])
+        ↔ (FitsAll profile v prompts answers × ((visible_from v prompts answers).closed ≡ false) × IsTrue (fits profile (visible_from v prompts answers) asked response)) }
+    ensures visible { (v : Visible) (prompts : List Asked) (answers : List Response) (asked : Asked) (response : Response)
+        → asked_next prompts answers ≡ Some asked
+        → visible_from v prompts (answers ++ response ∷ []) ≡ visible_after (visible_from v prompts answers) asked response }
+    ensures position { (at : Position) (prompts : List Asked) (answers : List Response) (asked : Asked) (response : Response)
+        → asked_next prompts answers ≡ Some asked
+        → position_from at prompts (answers ++ response ∷ []) ≡ position_after (position_from at prompts answers) asked response }
+{}
+
+/// What octets spell is well formed.
+pub fn spelled_answers_are_well_formed()
+    ensures { (v : Visible) (at : Position) (asked : Asked) (response : Response) (octets : List ℕ)
+        → Spells asked response octets → IsTrue (list_all (λ c. nat_lt c 256) octets) → AllByRecursion IsWellFormed (facts_of v at asked response) }
+{}
+
+/// Only the prompts that are answered matter: those of the lines of the pairs, where answers are paired.
+pub fn answered_prompts_matter()
+    ensures permitted { (profile : Profile) (prompts more : List Asked) (answers : List Response) → length prompts ≡ length answers
+        → SomePermits profile (prompts ++ more) answers ↔ SomePermits profile prompts answers }
+    ensures facts { (v : Visible) (at : Position) (prompts more : List Asked) (answers : List Response) → length prompts ≡ length answers
+        → facts_from v at (prompts ++ more) answers ≡ facts_from v at prompts answers }
+    ensures visible { (v : Visible) (prompts more : List Asked) (answers : List Response) → length prompts ≡ length answers
+        → visible_from v (prompts ++ more) answers ≡ visible_from v prompts answers }
+    ensures next { (prompts more : List Asked) (asked : Asked) (answers : List Response) → length prompts ≡ length answers
+        → asked_next (prompts ++ asked ∷ more) answers ≡ Some asked }
+    ensures paired { (client server : List ℕ) (pairs : List Paired) (left : Unpaired) → AreNext (streams client server) pairs left
+        → (more : List Asked) × (prompts_of client ≡ asked_of pairs ++ more) }
+    ensures pairs_permitted { (profile : Profile) (client server : List ℕ) (pairs : List Paired) (left : Unpaired) → AreNext (streams client server) pairs left
+        → SomePermits profile (prompts_of client) (responses_of pairs) ↔ SomePermits profile (asked_of pairs) (responses_of pairs) }
+{}
+
+/// Some spool permits no answers.
+pub fn no_answers_are_permitted()
+    ensures { (profile : Profile) (prompts : List Asked) → SomePermits profile prompts [] }
 {}
 
 /// If a spool permits a session, then so does the given spool.
@@ -65,6 +132,32 @@ pub fn given_spool_exists()
     ensures { (profile : Profile) (S : Spool) (prompts : List Asked) (answers : List Response)
         → IsSpool profile S → Run profile S start prompts answers → size (facts_of_session prompts answers) < 2 ^ 210
         → (G : Spool) × IsGiven (facts_of_session prompts answers) G }
+{}
+
+/// Some spool permits a session exactly if each answer fits and what the answers say stands together.
+pub fn permitted_where_all_stands_together()
+    ensures of_spool { (profile : Profile) (S : Spool) (facts : List Fact) → IsSpool profile S → AllByRecursion (Holds S) facts → Together facts }
+    ensures only_if { (profile : Profile) (prompts : List Asked) (answers : List Response)
+        → SomePermits profile prompts answers → FitsAll profile start.visible prompts answers × Together (facts_of_session prompts answers) }
+    ensures exactly_if { (profile : Profile) (prompts : List Asked) (answers : List Response) → size (facts_of_session prompts answers) < 2 ^ 210
+        → SomePermits profile prompts answers ↔ (FitsAll profile start.visible prompts answers × Together (facts_of_session prompts answers)) }
+    ensures given_exists { (profile : Profile) (prompts : List Asked) (answers : List Response)
+        → FitsAll profile start.visible prompts answers → size (facts_of_session prompts answers) < 2 ^ 210 → (G : Spool) × IsGiven (facts_of_session prompts answers) G }
+    ensures given_permits { (profile : Profile) (G : Spool) (prompts : List Asked) (answers : List Response)
+        → FitsAll profile start.visible prompts answers → Together (facts_of_session prompts answers) → size (facts_of_session prompts answers) < 2 ^ 210
+        → IsGiven (facts_of_session prompts answers) G → IsSpool profile G × Run profile G start prompts answers }
+{}
+
+/// Behind answers that some spool permits, some spool permits one more exactly if it fits and what it
+/// says joins what was said, fact by fact.
+pub fn next_answer_is_permitted_where_it_joins()
+    ensures demand { (asks more : List Ask) → demand (asks ++ more) ≡ join (demand asks) (demand more) }
+    ensures fact { (facts : List Fact) (fact : Fact) → Together facts → Together (facts ++ fact ∷ []) ↔ Joins facts fact }
+    ensures answer { (profile : Profile) (prompts : List Asked) (answers : List Response) (asked : Asked) (response : Response)
+        → asked_next prompts answers ≡ Some asked → size (facts_of_session prompts (answers ++ response ∷ [])) < 2 ^ 210 → SomePermits profile prompts answers
+        → SomePermits profile prompts (answers ++ response ∷ [])
+        ↔ (((visible_from start.visible prompts answers).closed ≡ false) × IsTrue (fits profile (visible_from start.visible prompts answers) asked response)
+        × JoinInTurn (facts_of_session prompts answers) (facts_of (visible_from start.visible prompts answers) (position_from Nowhere prompts answers) asked response)) }
 {}
 
 /// Some spool permits a session, or none does.

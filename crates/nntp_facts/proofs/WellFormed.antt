@@ -1,0 +1,166 @@
+-- What octets spell is well formed.
+use Rattle.std.proofs.Common.{◌≡◌, ℕ, Bool, true, false, cond, ◌==◌, IsTrue, List, [], ◌∷◌, ◌++◌, ◌⊎◌, inl, inr, Option, None, Some, refl, sym, ap, subst, ◌∙◌}
+use Rattle.std.specs.Prelude.{IfSome, ⊤, nat_lt}
+use Rattle.std.specs.List.{AllByRecursion, list_all, cons_option}
+use Rattle.std.proofs.lemmas.Bool.{and_parts, and_from}
+use Rattle.std.proofs.lemmas.List.Folds.{list_all-append}
+use Rattle.std.proofs.lemmas.List.Elements.{recursion_from_All}
+use Rattle.nntp_wire.specs.Octets.{crlf, dot, is_clean}
+use Rattle.nntp_wire.specs.Name.{IsGroupName, IsMessageId}
+use Rattle.nntp_wire.specs.Block.{stuffed, sent, dot_line, AreClean}
+use Rattle.nntp_wire.specs.Listing.{IsActiveLine}
+use Rattle.nntp_wire.specs.Answer.{Asked, Response, to, group_is, numbers_are, sends, active_are, plain, Spells, Says, SaysByLines, SaysGroup, SaysNumbers, SaysArticle, SaysActive, SaysCapabilities, SaysCode, success_code, greeting, block_octets, IsCleanBlock, kind_of}
+use Rattle.nntp_wire.specs.Command.{Request, capabilities, mode_reader, quit, opaque, ill_formed, by_id, by_number, current, group, list_group, next, last, retrieve, list_active}
+use Rattle.nntp_article.specs.Spool.{is_line}
+use Rattle.nntp_article.specs.Listed.{active_groups}
+use Rattle.nntp_article.specs.Machine.{Visible}
+use Rattle.nntp_article.proofs.ListedLemmas.{active_of-lists}
+use Rattle.nntp_facts.specs.Asks.{Position}
+use Rattle.nntp_facts.specs.Facts.{Fact, on, facts_of_code, facts_of}
+use Rattle.nntp_facts.specs.Together.{IsWellFormed}
+use Rattle.nntp_facts.proofs.Members.{all_both}
+
+-- octets below 256
+abbrev pub are_octets : List ℕ → Bool
+are_octets bytes = list_all (λ c. nat_lt c 256) bytes
+
+-- those of both parts are
+parts : (xs ys : List ℕ) → are_octets (xs ++ ys) ≡ true → (are_octets xs ≡ true) × (are_octets ys ≡ true)
+parts xs ys h = and_parts (are_octets xs) (are_octets ys) (sym (list_all-append (λ c. nat_lt c 256) xs ys) ∙ h)
+
+-- a line without the dot in front
+unstuffed_octets : (line : List ℕ) → are_octets (stuffed line) ≡ true → are_octets line ≡ true
+unstuffed_octets [] h = refl
+unstuffed_octets (b ∷ bs) h = by (b == dot) h
+  where
+    by : (c : Bool) → are_octets (cond c (dot ∷ b ∷ bs) (b ∷ bs)) ≡ true → are_octets (b ∷ bs) ≡ true
+    by true h = h
+    by false h = h
+
+-- the lines of octets that send them are lines
+sent_lines : (lines : List (List ℕ)) → AreClean lines → are_octets (sent lines) ≡ true → AllByRecursion (λ line. IsTrue (is_line line)) lines
+sent_lines [] clean h = tt
+sent_lines (line ∷ lines) clean h =
+    let p = parts (stuffed line ++ crlf) (sent lines) h in
+    (and_from (is_clean line) (are_octets line) clean.0 (unstuffed_octets line (parts (stuffed line) crlf p.0).0), sent_lines lines clean.1 p.1)
+
+-- and so those of a block
+block_lines : (block : Option (List (List ℕ))) → IsCleanBlock block → are_octets (block_octets block) ≡ true → IfSome block (λ lines. AllByRecursion (λ line. IsTrue (is_line line)) lines)
+block_lines None clean h = tt
+block_lines (Some lines) clean h = sent_lines lines clean (parts (sent lines) dot_line h).0
+
+-- groups that are listed have names
+listed_names : (lines : List (List ℕ)) → AllByRecursion IsActiveLine lines → AllByRecursion (λ line. IsGroupName line.name) (active_groups lines)
+listed_names [] h = tt
+listed_names (line ∷ lines) h =
+    subst (λ o. AllByRecursion (λ line. IsGroupName line.name) (cons_option o (active_groups lines))) (sym (active_of-lists line h.0.0 h.0.1)) (h.0.1.is_name, listed_names lines h.1)
+
+-- names, ids and lines of the response are such
+IsProper : Response → Type 0
+IsProper (group_is m name) = IsGroupName name
+IsProper (numbers_are m name lines) = IsGroupName name
+IsProper (sends s) = IsMessageId s.id × IfSome s.block (λ lines. AllByRecursion (λ line. IsTrue (is_line line)) lines)
+IsProper (active_are lines) = AllByRecursion (λ line. IsGroupName line.name) (active_groups lines)
+IsProper (plain code) = ⊤
+
+-- so are those of one that names a group
+group_proper : (bytes : List ℕ) (response : Response) → SaysGroup bytes response → IsProper response
+unfolding IsProper
+group_proper bytes (group_is m name) h = h.is_name
+group_proper bytes response h = absurd h
+
+-- or lists numbers
+numbers_proper : (bytes : List ℕ) (block : Option (List (List ℕ))) (response : Response) → SaysByLines (SaysNumbers bytes) block response → IsProper response
+unfolding IsProper
+numbers_proper bytes None response h = absurd h
+numbers_proper bytes (Some lines) (numbers_are m name listed) h = h.0.is_name
+numbers_proper bytes (Some lines) response h = absurd h
+
+-- or sends an article
+article_proper : (code : ℕ) (bytes : List ℕ) (block : Option (List (List ℕ))) (response : Response) → IfSome block (λ lines. AllByRecursion (λ line. IsTrue (is_line line)) lines) → SaysArticle code bytes block response → IsProper response
+unfolding IsProper
+article_proper code bytes block (sends s) lines h = (h.1.is_id, subst (λ o. IfSome o (λ lines. AllByRecursion (λ line. IsTrue (is_line line)) lines)) (sym h.2) lines)
+article_proper code bytes block response lines h = absurd h
+
+-- or lists groups
+active_proper : (block : Option (List (List ℕ))) (response : Response) → SaysByLines SaysActive block response → IsProper response
+unfolding IsProper
+active_proper None response h = absurd h
+active_proper (Some lines) (active_are listed) h = subst (λ ls. AllByRecursion (λ line. IsGroupName line.name) (active_groups ls)) (sym h.1) (listed_names lines (recursion_from_All IsActiveLine lines h.0))
+active_proper (Some lines) response h = absurd h
+
+-- or is a code
+code_proper : (code : ℕ) (response : Response) → SaysCode code response → IsProper response
+unfolding IsProper
+code_proper code (plain c) h = tt
+code_proper code response h = absurd h
+
+capabilities_proper : (code : ℕ) (block : Option (List (List ℕ))) (response : Response) → SaysByLines (SaysCapabilities code) block response → IsProper response
+capabilities_proper code None response h = absurd h
+capabilities_proper code (Some lines) response h = code_proper code response h.1
+
+-- one of two, by a test
+one_of : {K : Type 0} (P : K → Type 0) (b : Bool) (x y : K) → P (cond b x y) → P x ⊎ P y
+one_of P true x y h = inl h
+one_of P false x y h = inr h
+
+-- and so are those of one that octets say under a prompt
+said_proper : (asked : Asked) (code : ℕ) (bytes : List ℕ) (block : Option (List (List ℕ))) (response : Response) → IfSome block (λ lines. AllByRecursion (λ line. IsTrue (is_line line)) lines) → Says (kind_of asked code) code bytes block response → IsProper response
+said_proper greeting code bytes block response lines h = code_proper code response h
+said_proper (to request) code bytes block response lines h = by request h
+  where
+    by : (request : Request) → Says (kind_of (to request) code) code bytes block response → IsProper response
+    by (group name) h = elim (one_of (λ k. Says k code bytes block response) (code == 211) _ _ h) [ inl p ↦ group_proper bytes response p | inr p ↦ code_proper code response p ]
+    by (list_group name range) h = elim (one_of (λ k. Says k code bytes block response) (code == 211) _ _ h) [ inl p ↦ numbers_proper bytes block response p | inr p ↦ code_proper code response p ]
+    by (retrieve what target) h = elim (one_of (λ k. Says k code bytes block response) (code == success_code what) _ _ h) [ inl p ↦ article_proper code bytes block response lines p | inr p ↦ code_proper code response p ]
+    by next h = elim (one_of (λ k. Says k code bytes block response) (code == 223) _ _ h) [ inl p ↦ article_proper code bytes block response lines p | inr p ↦ code_proper code response p ]
+    by last h = elim (one_of (λ k. Says k code bytes block response) (code == 223) _ _ h) [ inl p ↦ article_proper code bytes block response lines p | inr p ↦ code_proper code response p ]
+    by (list_active wildmat) h = elim (one_of (λ k. Says k code bytes block response) (code == 215) _ _ h) [ inl p ↦ active_proper block response p | inr p ↦ code_proper code response p ]
+    by capabilities h = elim (one_of (λ k. Says k code bytes block response) (code == 101) _ _ h) [ inl p ↦ capabilities_proper code block response p | inr p ↦ code_proper code response p ]
+    by mode_reader h = code_proper code response h
+    by quit h = code_proper code response h
+    by opaque h = code_proper code response h
+    by ill_formed h = code_proper code response h
+
+-- and of one that they spell
+spelled_proper : (asked : Asked) (response : Response) (bytes : List ℕ) → Spells asked response bytes → are_octets bytes ≡ true → IsProper response
+spelled_proper asked response bytes s h =
+    said_proper asked s.code _ s.block response (block_lines s.block s.clean (parts (s.line ++ crlf) (block_octets s.block) (sym (ap are_octets s.whole) ∙ h)).1) s.says
+
+-- a fact under a test
+on_formed : (b : Bool) (fact : Fact) → IsWellFormed fact → AllByRecursion IsWellFormed (cond b (fact ∷ []) [])
+on_formed true fact h = (h, tt)
+on_formed false fact h = tt
+
+unless_formed : (b : Bool) (fact : Fact) → IsWellFormed fact → AllByRecursion IsWellFormed (cond b [] (fact ∷ []))
+unless_formed true fact h = tt
+unless_formed false fact h = (h, tt)
+
+-- what a code alone says
+code_formed : (v : Visible) (at : Position) (command : Request) (code : ℕ) → AllByRecursion IsWellFormed (facts_of_code v at command code)
+code_formed v at (group word) code = on_formed (code == 411) _ tt
+code_formed v at (list_group (Some word) range) code = on_formed (code == 411) _ tt
+code_formed v at next code = all_both IsWellFormed (on code 420 _) (on code 421 _) (on_formed (code == 420) _ tt) (on_formed (code == 421) _ tt)
+code_formed v at last code = all_both IsWellFormed (on code 420 _) (on code 422 _) (on_formed (code == 420) _ tt) (on_formed (code == 422) _ tt)
+code_formed v at (retrieve what (by_id word)) code = on_formed (code == 430) _ tt
+code_formed v at (retrieve what (by_number (Some n))) code = on_formed (code == 423) _ tt
+code_formed v at (retrieve what current) code = on_formed (code == 420) _ tt
+code_formed v at command code = tt
+
+-- what a response says
+proper_formed : (v : Visible) (at : Position) (asked : Asked) (response : Response) → IsProper response → AllByRecursion IsWellFormed (facts_of v at asked response)
+unfolding IsProper
+proper_formed v at (to (group word)) (group_is m name) h = (h, (tt, tt))
+proper_formed v at (to (list_group word range)) (numbers_are m name lines) h = (h, (tt, (tt, tt)))
+proper_formed v at (to next) (sends sent) h = (tt, (h.0, tt))
+proper_formed v at (to last) (sends sent) h = (tt, (h.0, tt))
+proper_formed v at (to (retrieve what (by_id word))) (sends sent) h = (h, unless_formed (sent.number == 0) _ h.0)
+proper_formed v at (to (retrieve what (by_number n))) (sends sent) h = (h, (h.0, tt))
+proper_formed v at (to (retrieve what current)) (sends sent) h = (h, (tt, (h.0, tt)))
+proper_formed v at (to (list_active p)) (active_are lines) h = (h, tt)
+proper_formed v at (to command) (plain code) h = code_formed v at command code
+proper_formed v at asked response h = tt
+
+-- what octets spell says well-formed facts
+pub spelled_formed : (v : Visible) (at : Position) (asked : Asked) (response : Response) (bytes : List ℕ) → Spells asked response bytes → IsTrue (list_all (λ c. nat_lt c 256) bytes) → AllByRecursion IsWellFormed (facts_of v at asked response)
+spelled_formed v at asked response bytes s h = proper_formed v at asked response (spelled_proper asked response bytes s h)
