@@ -1,0 +1,4 @@
+pub mod LookUps
+pub mod LastUpTo
+pub mod Joins
+pub mod Meets

@@ -1,0 +1,148 @@
+//! The set, and what it answers.
+ghost use Rattle.std.specs.Prelude.{◌≡◌, ℕ, ◌||◌, ◌↔◌, [], if◌then◌else◌, IsSome, IsTrue, OnOk, OnErr, MatchOption};
+ghost use Rattle.std.specs.Ordering.{nat_cmp};
+ghost use Rattle.std.specs.BTreeMap.{get, IsOrdered};
+ghost use Rattle.nntp_intervals.specs.Intervals.{holds, is_between, IsLeastFree, IsFullFrom, Meets};
+ghost use Rattle.nntp_intervals.specs.Neighbours.{IsLastUpTo, IsFreeUpTo, IsFirstJoined, IsLastJoined, is_within};
+
+use std::alloc::{AllocError, Allocator, Global};
+use std::collections::BTreeMap;
+use std::marker::Model;
+use std::ops::Bound;
+
+/// A set of numbers, as few intervals: between two of them there is a number that is not in the set.
+///
+/// Each operation takes time logarithmic in the number of intervals; `insert` does so on average over
+/// the insertions so far, since it may join intervals that these added.
+#[derive(Drop)]
+pub struct IntervalSet<A: Allocator = Global> {
+    /// The last number of each interval, by the first.
+    lasts: BTreeMap<u64, u64, A>,
+}
+
+impl<A: Allocator> Model for IntervalSet<A> {
+    ghost use Rattle.std.specs.Prelude.{List, ℕ};
+
+    ghost Value = { List (ℕ × ℕ) };
+
+    ghost view = { λ a. a.lasts.entries };
+
+    ghost use Rattle.nntp_intervals.specs.Intervals.{AreApart};
+
+    ghost invariant = { λ a. AreApart a.lasts.entries };
+}
+
+impl<A: Allocator + Copy> IntervalSet<A> {
+    /// The empty set.
+    pub fn new(alloc: A) -> IntervalSet<A>
+        ensures { result ≡ [] }
+    {
+        IntervalSet {
+            lasts: BTreeMap::new(alloc),
+        }
+    }
+
+    /// Adds the numbers from `first` to `last`: none, where `last` is below `first`.
+    pub fn insert(&mut self, first: u64, last: u64) -> Result<(), AllocError>
+        ensures ok { OnOk result ((n : ℕ) → holds self.new n ≡ (holds self.old n || is_between first last n)) }
+        ensures err { OnErr result (self.new ≡ self.old) }
+    {
+        if last < first {
+            return Ok(());
+        }
+        let start = self.first_joined(first);
+        let end = self.last_joined(last);
+        self.lasts.insert(start, end)?;
+        remove_within(&mut self.lasts, start, end);
+        Ok(())
+    }
+}
+
+impl<A: Allocator> IntervalSet<A> {
+    /// Whether a number is in the set.
+    pub fn contains(&self, n: u64) -> bool
+        ensures { result ≡ holds self.now n }
+    {
+        match self.last_up_to(n) {
+            Some((_, last)) => n <= last,
+            None => false,
+        }
+    }
+
+    /// The least number that is not in the set, from `n` on.
+    pub fn least_free_from(&self, n: u64) -> Option<u64>
+        ensures { MatchOption result (IsFullFrom self.now n) (IsLeastFree self.now n) }
+    {
+        match self.last_up_to(n) {
+            Some((_, last)) if n <= last => last.checked_add(1),
+            _ => Some(n),
+        }
+    }
+
+    /// Whether some number from `first` to `last` is in the set.
+    pub fn meets(&self, first: u64, last: u64) -> bool
+        ensures { IsTrue result ↔ Meets self.now first last }
+    {
+        match self.last_up_to(last) {
+            Some((_, end)) => first <= last && first <= end,
+            None => false,
+        }
+    }
+
+    /// The last interval that begins at `n` or before it.
+    fn last_up_to(&self, n: u64) -> Option<(u64, u64)>
+        ensures { MatchOption result (IsFreeUpTo self.now n) (λ i. IsLastUpTo self.now n i.0 i.1) }
+    {
+        match self
+            .lasts
+            .range((Bound::Unbounded, Bound::Included(n)))
+            .next_back()
+        {
+            Some((first, last)) => Some((*first, *last)),
+            None => None,
+        }
+    }
+
+    /// Where the interval begins that one from `first` on becomes a part of.
+    fn first_joined(&self, first: u64) -> u64
+        ensures { IsFirstJoined self.now first result }
+    {
+        match self.last_up_to(first) {
+            Some((start, end)) if first <= end.saturating_add(1) => start,
+            _ => first,
+        }
+    }
+
+    /// Where the interval ends that one up to `last` becomes a part of.
+    fn last_joined(&self, last: u64) -> u64
+        ensures { IsLastJoined self.now last result }
+    {
+        match self.last_up_to(last.saturating_add(1)) {
+            Some((_, end)) if last < end => end,
+            _ => last,
+        }
+    }
+}
+
+/// Removes the intervals that begin behind `start` and not behind `end`.
+fn remove_within<A: Allocator>(lasts: &mut BTreeMap<u64, u64, A>, start: u64, end: u64)
+    ensures gone { (n : ℕ) → get nat_cmp lasts.new n ≡ (if is_within start end n then None else get nat_cmp lasts.old n) }
+    ensures ordered { IsOrdered nat_cmp lasts.old → IsOrdered nat_cmp lasts.new }
+{
+    while let Some(first) = first_within(lasts, start, end) {
+        lasts.remove(&first);
+    }
+}
+
+/// The first interval that begins behind `start`, if it does not begin behind `end`.
+fn first_within<A: Allocator>(lasts: &BTreeMap<u64, u64, A>, start: u64, end: u64) -> Option<u64>
+    ensures { MatchOption result ((n : ℕ) → IsTrue (is_within start end n) → get nat_cmp lasts.now n ≡ None) (λ n. IsTrue (is_within start end n) × IsSome (get nat_cmp lasts.now n)) }
+{
+    match lasts
+        .range((Bound::Excluded(start), Bound::Unbounded))
+        .next()
+    {
+        Some((first, _)) if *first <= end => Some(*first),
+        _ => None,
+    }
+}
