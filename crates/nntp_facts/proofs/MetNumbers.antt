@@ -196,7 +196,7 @@ wants_less (SecondIs k) n m le t = lt-ltb m k (let l = ltb-true n k t in omega a
 wants_less d n m le t = cc
 
 -- where a number is wanted, one that is wanted meets the demand
-wanted_there : (P : ℕ → Type 0) (d : Demand) (n : ℕ) → MeetsDemand d P → wants d n ≡ true → (c : ℕ) × P c × (wants d c ≡ true)
+pub wanted_there : (P : ℕ → Type 0) (d : Demand) (n : ℕ) → MeetsDemand d P → wants d n ≡ true → (c : ℕ) × P c × (wants d c ≡ true)
 wanted_there P NotEmpty n h t = (h.0, h.1, refl)
 wanted_there P OnlyOne n h t = (h.0, h.1, refl)
 wanted_there P (SecondIs k) n h t = (h.1, h.3, lt-ltb h.1 k h.2)

@@ -1,0 +1,46 @@
+-- What stands together did so before the last asks.
+use Rattle.std.proofs.Common.{ℕ, ◌≤◌, IsTrue, List, ◌++◌, inl, inr, refl}
+use Rattle.std.specs.Ordering.{nat_cmp}
+use Rattle.std.specs.Cmp.{nat_cmp_total}
+use Rattle.std.specs.FinMap.{len, nat_cmp-IsAntisymmetric}
+use Rattle.nntp_article.specs.Spool.{Numbers}
+use Rattle.nntp_facts.specs.Asks.{Ask, Meets}
+use Rattle.nntp_facts.specs.Given.{is_shown, HasGivenNumbers}
+use Rattle.nntp_facts.specs.Together.{AsksStand}
+use Rattle.nntp_facts.specs.Summary.{AreCounted}
+use Rattle.nntp_facts.proofs.Members.{all_front}
+use Rattle.nntp_facts.proofs.MetNumbers.{key_in, key_is, asks_stand}
+use Rattle.nntp_facts.proofs.OneMore.{shown_list, in_shown_list, from_shown_list}
+use Rattle.nntp_facts.proofs.Maps.{key_map, in_key_map, of_key_map}
+use Rattle.nntp_facts.proofs.GivenNumbers.{given_meet}
+use Rattle.nntp_facts.proofs.Settled.{ways, ByShown, ByMore, no_more, given_of_shown, given_of_more}
+
+shown_map : List Ask → Numbers
+shown_map asks = key_map nat_cmp nat_cmp_total nat_cmp-IsAntisymmetric (shown_list asks)
+
+-- what is shown can be counted
+counted : (asks : List Ask) → AreCounted (is_shown asks) (len (shown_map asks))
+unfolding shown_map
+counted asks = (
+  shown_map asks,
+  λ n. (
+    λ i. from_shown_list asks n (of_key_map nat_cmp nat_cmp_total nat_cmp-IsAntisymmetric (shown_list asks) n (key_in (shown_map asks) n i)),
+    λ t. key_is (shown_map asks) n (in_key_map nat_cmp nat_cmp_total nat_cmp-IsAntisymmetric (shown_list asks) n (in_shown_list asks n t)),
+  ),
+  refl,
+)
+
+-- the given numbers of what stands together
+given_map : (asks : List Ask) → AsksStand asks → (N : Numbers) × HasGivenNumbers asks N
+given_map asks stand =
+    elim (ways asks (len (shown_map asks)) (counted asks) stand) [
+      | ByShown met few ↦ given_of_shown asks (len (shown_map asks)) (counted asks) (no_more asks met)
+      | ByMore e x few ↦ given_of_more asks (len (shown_map asks)) e (counted asks) x
+    ]
+
+-- where shown numbers begin with 1, asks that stand together with more stand together
+pub front_stands : (xs ys : List Ask) → ((n : ℕ) → IsTrue (is_shown (xs ++ ys) n) → 1 ≤ n) → AsksStand (xs ++ ys) → AsksStand xs
+front_stands xs ys positive stand =
+    let given = given_map (xs ++ ys) stand in
+    asks_stand xs given.0 (all_front (Meets given.0) xs ys (given_meet (xs ++ ys) given.0 stand given.1))
+    (λ n i. elim ((given.1 n).0 i) [ inl s ↦ positive n s | inr x ↦ x.positive ])
