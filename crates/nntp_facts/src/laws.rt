@@ -7,7 +7,7 @@ ghost use Rattle.nntp_article.specs.Machine.{Run, start, fits, Visible, visible_
 ghost use Rattle.nntp_facts.specs.Asks.{RunsAt, Nowhere, Meets, Ask, Position, position_after};
 ghost use Rattle.nntp_facts.specs.Facts.{FitsAll, Holds, Fact, facts_of, facts_from};
 ghost use Rattle.nntp_facts.specs.Given.{asks_of, is_shown, demand, join, IsOneMore, IsGivenNumber, HasGivenNumbers, IsGiven, facts_of_session, size, weight, HasAtLeast};
-ghost use Rattle.nntp_facts.specs.Together.{MeetsDemand, IsWellFormed, Together, Joins, JoinInTurn};
+ghost use Rattle.nntp_facts.specs.Together.{MeetsDemand, IsWellFormed, Together, AgreeWithin, Join};
 ghost use Rattle.nntp_facts.specs.Permits.{SomePermits, IsBadAnswer, asked_of};
 ghost use Rattle.nntp_article.specs.Explains.{Explains, ExplainsUpTo, Bad};
 ghost use Rattle.nntp_wire.specs.Session.{prompts_of, Spelled};
@@ -149,15 +149,16 @@ pub fn permitted_where_all_stands_together()
 {}
 
 /// Behind answers that some spool permits, some spool permits one more exactly if it fits and what it
-/// says joins what was said, fact by fact.
+/// says joins what was said.
 pub fn next_answer_is_permitted_where_it_joins()
     ensures demand { (asks more : List Ask) → demand (asks ++ more) ≡ join (demand asks) (demand more) }
-    ensures fact { (facts : List Fact) (fact : Fact) → Together facts → Together (facts ++ fact ∷ []) ↔ Joins facts fact }
+    ensures facts { (facts more : List Fact) → Together facts → AgreeWithin more → Together (facts ++ more) ↔ Join facts more }
+    ensures within { (v : Visible) (at : Position) (asked : Asked) (response : Response) → AgreeWithin (facts_of v at asked response) }
     ensures answer { (profile : Profile) (prompts : List Asked) (answers : List Response) (asked : Asked) (response : Response)
         → asked_next prompts answers ≡ Some asked → size (facts_of_session prompts (answers ++ response ∷ [])) < 2 ^ 210 → SomePermits profile prompts answers
         → SomePermits profile prompts (answers ++ response ∷ [])
         ↔ (((visible_from start.visible prompts answers).closed ≡ false) × IsTrue (fits profile (visible_from start.visible prompts answers) asked response)
-        × JoinInTurn (facts_of_session prompts answers) (facts_of (visible_from start.visible prompts answers) (position_from Nowhere prompts answers) asked response)) }
+        × Join (facts_of_session prompts answers) (facts_of (visible_from start.visible prompts answers) (position_from Nowhere prompts answers) asked response)) }
 {}
 
 /// Some spool permits a session, or none does.
