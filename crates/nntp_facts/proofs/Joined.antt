@@ -38,25 +38,31 @@ pub together_more : (facts more : List Fact) → Together facts → AgreeWithin 
 together_more facts more t w = (
   λ h. record {
     well_formed = all_back IsWellFormed facts more h.well_formed;
-    groups = λ name. apart_shown (shows_group name) (denies_group name) facts more (h.groups name);
-    no_groups = λ name. apart_denied (shows_group name) (denies_group name) facts more (h.groups name);
+    names = record {
+      groups = λ name. apart_shown (shows_group name) (denies_group name) facts more (h.groups name);
+      no_groups = λ name. apart_denied (shows_group name) (denies_group name) facts more (h.groups name);
+    };
     numbers = λ name. subst AsksStand (asks_append name facts more) (h.numbers name);
-    ids = λ name n. give_same_of_both (id_in name n) facts more (h.ids name n);
-    ids_once = λ name id. give_same_of_both (number_in name id) facts more (h.ids_once name id);
-    articles = λ id. apart_shown (shows_article id) (denies_article id) facts more (h.articles id);
-    no_articles = λ id. apart_denied (shows_article id) (denies_article id) facts more (h.articles id);
-    heads = λ id. give_same_of_both (head_in id) facts more (h.heads id);
-    bodies = λ id. give_same_of_both (body_in id) facts more (h.bodies id);
+    ids = record {
+      ids = λ name n. give_same_of_both (id_in name n) facts more (h.ids name n);
+      ids_once = λ name id. give_same_of_both (number_in name id) facts more (h.ids_once name id);
+    };
+    articles = record {
+      articles = λ id. apart_shown (shows_article id) (denies_article id) facts more (h.articles id);
+      no_articles = λ id. apart_denied (shows_article id) (denies_article id) facts more (h.articles id);
+      heads = λ id. give_same_of_both (head_in id) facts more (h.heads id);
+      bodies = λ id. give_same_of_both (body_in id) facts more (h.bodies id);
+    };
   },
   λ j. record {
     well_formed = all_both IsWellFormed facts more t.well_formed j.well_formed;
-    groups = λ name. apart_both (shows_group name) (denies_group name) facts more (t.groups name) (w.groups name) (j.groups name) (j.no_groups name);
+    groups = λ name. apart_both (shows_group name) (denies_group name) facts more (t.groups name) (w.groups name) (j.names.groups name) (j.names.no_groups name);
     numbers = λ name. subst AsksStand (sym (asks_append name facts more)) (j.numbers name);
-    ids = λ name n. give_one_both (id_in name n) facts more (t.ids name n) (w.ids name n) (j.ids name n);
-    ids_once = λ name id. give_one_both (number_in name id) facts more (t.ids_once name id) (w.ids_once name id) (j.ids_once name id);
-    articles = λ id. apart_both (shows_article id) (denies_article id) facts more (t.articles id) (w.articles id) (j.articles id) (j.no_articles id);
-    heads = λ id. give_one_both (head_in id) facts more (t.heads id) (w.heads id) (j.heads id);
-    bodies = λ id. give_one_both (body_in id) facts more (t.bodies id) (w.bodies id) (j.bodies id);
+    ids = λ name n. give_one_both (id_in name n) facts more (t.ids name n) (w.ids name n) (j.ids.ids name n);
+    ids_once = λ name id. give_one_both (number_in name id) facts more (t.ids_once name id) (w.ids_once name id) (j.ids.ids_once name id);
+    articles = λ id. apart_both (shows_article id) (denies_article id) facts more (t.articles id) (w.articles id) (j.articles.articles id) (j.articles.no_articles id);
+    heads = λ id. give_one_both (head_in id) facts more (t.heads id) (w.heads id) (j.articles.heads id);
+    bodies = λ id. give_one_both (body_in id) facts more (t.bodies id) (w.bodies id) (j.articles.bodies id);
   },
 )
 

@@ -110,15 +110,31 @@ pub record AgreeWithin (facts : List Fact) : Type 0 where
 abbrev pub GiveSame : {A : Type 0} → (Fact → Option A) → List Fact → List Fact → Type 0
 GiveSame f facts more = IfSome (first_given f more) (λ x. IfSome (first_given f facts) (λ y. x ≡ y))
 
--- more facts join those before: what they show isn't denied, what they deny isn't shown, what they ask stands together with what was asked, and what they give was given alike
-pub record Join (facts more : List Fact) : Type 0 where
-  pub well_formed : AllByRecursion IsWellFormed more
+-- the groups that more facts show aren't denied, and those that they deny aren't shown
+pub record JoinNames (facts more : List Fact) : Type 0 where
   pub groups : (name : Name) → IsTrue (is_shown_group more name) → IsFalse (list_any (denies_group name) facts)
   pub no_groups : (name : Name) → IsTrue (list_any (denies_group name) more) → IsFalse (is_shown_group facts name)
-  pub numbers : (name : Name) → AsksStand (asks_of name facts ++ asks_of name more)
+
+-- what more facts ask of each group stands together with what was asked
+abbrev pub JoinNumbers : List Fact → List Fact → Type 0
+JoinNumbers facts more = (name : Name) → AsksStand (asks_of name facts ++ asks_of name more)
+
+-- the ids that more facts give at numbers, and the numbers of ids, were given alike
+pub record JoinIds (facts more : List Fact) : Type 0 where
   pub ids : (name : Name) (n : ℕ) → GiveSame (id_in name n) facts more
   pub ids_once : (name : Name) (id : Id) → GiveSame (number_in name id) facts more
+
+-- the articles that more facts show aren't denied, those that they deny aren't shown, and the heads and bodies that they send were sent alike
+pub record JoinArticles (facts more : List Fact) : Type 0 where
   pub articles : (id : Id) → IsTrue (list_any (shows_article id) more) → IsFalse (list_any (denies_article id) facts)
   pub no_articles : (id : Id) → IsTrue (list_any (denies_article id) more) → IsFalse (list_any (shows_article id) facts)
   pub heads : (id : Id) → GiveSame (head_in id) facts more
   pub bodies : (id : Id) → GiveSame (body_in id) facts more
+
+-- more facts join those before
+pub record Join (facts more : List Fact) : Type 0 where
+  pub well_formed : AllByRecursion IsWellFormed more
+  pub names : JoinNames facts more
+  pub numbers : JoinNumbers facts more
+  pub ids : JoinIds facts more
+  pub articles : JoinArticles facts more
