@@ -94,7 +94,8 @@ flip_number k n = elim (cases_eq n k) [
   | inr ne ↦ unsigned_tied k n ∙ ne_eqb k n (λ e. ne (sym e)) ∙ sym (ne_eqb n k ne)
 ]
 
-flip_text : (i id : Id) → eq_by_cmp (slice_cmp nat_cmp) i id ≡ is_same id i
+-- the same octets, either way
+pub flip_text : (i id : Id) → eq_by_cmp (slice_cmp nat_cmp) i id ≡ is_same id i
 flip_text i id = sym (texts_ties i id) ∙ nat_list_eq_equiv.symm i id
 
 -- a group that was shown is
