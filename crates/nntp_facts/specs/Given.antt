@@ -8,7 +8,8 @@ use Rattle.nntp_article.specs.Spool.{Spool, Text, Numbers, IsNumber, IsGroup, nu
 use Rattle.nntp_article.specs.Machine.{is_in_range, is_same, start}
 use Rattle.nntp_facts.specs.Asks.{Nowhere, Ask, First, Known, Estimates, Bounds, ListsIn, Has, Lacks, StandsAt, StandsNowhere, StepsUp, StepsDown, IsTop, IsBottom}
 use Rattle.nntp_facts.specs.Facts.{Fact, ThereIs, Asks, IdAt, TextIs, NoArticle, GroupsAre, facts_from}
-use Rattle.nntp_wire.specs.Answer.{Asked, Response, numbers_are, active_are}
+use Rattle.nntp_wire.specs.Answer.{Asked, Response}
+use Rattle.nntp_pair.specs.Pairing.{lines_in}
 use Rattle.nntp_wire.specs.declared.command.What.TheVariants.{Article, Head, Body}
 
 -- the ask shows the number
@@ -233,12 +234,6 @@ size (fact ∷ facts) = size_in fact + size facts
 -- what a session says
 abbrev pub facts_of_session : List Asked → List Response → List Fact
 facts_of_session prompts answers = facts_from start.visible Nowhere prompts answers
-
--- how many lines with a name or a number an answer has
-abbrev pub lines_in : Response → ℕ
-lines_in (numbers_are m name lines) = length lines
-lines_in (active_are lines) = length lines
-lines_in a = 0
 
 -- a bound on what answers say: three for each, and one for each of its lines
 abbrev pub weight : List Response → ℕ
