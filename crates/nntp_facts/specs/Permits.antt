@@ -9,5 +9,5 @@ abbrev pub SomePermits : Profile → List Asked → List Response → Type 0
 SomePermits profile prompts answers = (S : Spool) × IsSpool profile S × Run profile S start prompts answers
 
 -- some spool permits the answers before k, and none those up to k
-abbrev pub IsBadAnswer : Profile → List Asked → List Response → ℕ → Type 0
-IsBadAnswer profile prompts answers k = (k < length answers) × SomePermits profile prompts (take k answers) × (SomePermits profile prompts (take (k + 1) answers) → ⊥)
+abbrev pub IsFirstUnpermitted : Profile → List Asked → List Response → ℕ → Type 0
+IsFirstUnpermitted profile prompts answers k = (k < length answers) × SomePermits profile prompts (take k answers) × (SomePermits profile prompts (take (k + 1) answers) → ⊥)
