@@ -6,13 +6,13 @@ use Rattle.nntp_facts.specs.Asks.{Position, Nowhere, position_after}
 use Rattle.nntp_facts.specs.Facts.{facts_of, facts_from, FitsAll}
 use Rattle.nntp_facts.specs.Given.{facts_of_session, size}
 use Rattle.nntp_facts.specs.Classes.{visible_from, position_from, asked_next}
-use Rattle.nntp_facts.specs.Permits.{SomePermits, asked_of}
+use Rattle.nntp_facts.specs.Permits.{SomePermits}
 use Rattle.nntp_facts.proofs.Size.{session_size}
 use Rattle.nntp_facts.proofs.Octets.{light}
 use Rattle.nntp_facts.proofs.Spellings.{are_spellings}
 use Rattle.nntp_wire.specs.Answer.{Asked, Response}
 use Rattle.nntp_wire.specs.Session.{prompts_of, Spelled}
-use Rattle.nntp_pair.specs.Pairing.{Paired, Unpaired, AreNext, responses_of, asked_at, streams}
+use Rattle.nntp_pair.specs.Pairing.{Paired, Unpaired, AreNext, responses_of, asked_of, asked_at, streams}
 use Rattle.nntp_pair.proofs.SpelledLemmas.{places-prompts, pairs-spelled}
 
 -- ---- one answer more

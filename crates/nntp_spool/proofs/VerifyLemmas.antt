@@ -50,7 +50,7 @@ says-listing (to request) code bytes block lines s = by request s
     by ill_formed s = absurd s
 
 pub spelled-listing : (place : Option (List ℕ)) (initial : List ℕ) (response : Response) → IsSpelled place initial response → IsListing response
-spelled-listing place initial (active_are lines) (block, s) = says-listing (asked_at place) s.code _ s.block lines s.says
+spelled-listing place initial (active_are lines) s = says-listing (asked_at place) s.spells.code _ s.spells.block lines s.spells.says
 spelled-listing place initial (group_is m name) s = tt
 spelled-listing place initial (numbers_are m name lines) s = tt
 spelled-listing place initial (sends sent) s = tt
