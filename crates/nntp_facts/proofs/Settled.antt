@@ -9,8 +9,8 @@ use Rattle.nntp_facts.specs.Asks.{Ask, Estimates}
 use Rattle.nntp_facts.specs.Given.{is_shown, is_denied, Demand, NoDemand, NotEmpty, OnlyOne, SecondIs, Impossible, demand, wants, IsOneMore, IsGivenNumber, HasGivenNumbers}
 use Rattle.nntp_facts.specs.Together.{is_possible, MeetsDemand, IsFewFor, AsksStand}
 use Rattle.nntp_facts.specs.Summary.{estimate_in, is_within, is_within_all, Finds, IsFirstFree, FirstFree, has_room, is_settled, Looks}
-use Rattle.nntp_facts.specs.declared.group.Found.{Found}
-use Rattle.nntp_facts.specs.declared.group.Found.TheVariants.{Absent, Single, Several}
+use Rattle.nntp_facts.specs.declared.shown.Found.{Found}
+use Rattle.nntp_facts.specs.declared.shown.Found.TheVariants.{Absent, Single, Several}
 use Rattle.nntp_facts.proofs.Counted.{none_more, one_more_given, one_more_counted, as_many_given, more_meets}
 use Rattle.nntp_facts.proofs.GivenNumbers.{same_demand}
 use Rattle.nntp_facts.proofs.MetNumbers.{second_shown, wanted_there}

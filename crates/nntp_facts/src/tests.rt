@@ -1,32 +1,82 @@
-//! A group, and what may be said of it.
-use crate::group::Group;
+//! The numbers of a group, and what may be said of them.
+use crate::ask::{Ask, Position};
+use crate::listing::Listing;
+use crate::numbers::Numbers;
+use crate::part::Part;
+use nntp_wire::Range;
+use std::alloc::Global;
 use std::process::Abort;
 use std::test::Fail;
 
+fn steps_up(n: u64) -> Part {
+    Part::of(Ask::StepsUp(Position::First, n))
+}
+
 #[test]
 fn a_demand_wants_a_number_that_is_free(rt: HostRuntime) -> Result<(), Fail> {
-    let mut group = Group::selected(rt.alloc(), 2, 1, 9)?;
-    assert_eq!(rt; group.may_lack(5), true);
-    assert_eq!(rt; group.may_have(10), false);
-    assert_eq!(rt; group.may_step_up_from_first(1), false);
-    assert_eq!(rt; group.may_step_up_from_first(2), true);
-    group.lack(1)?;
-    assert_eq!(rt; group.may_step_up_from_first(2), false);
-    assert_eq!(rt; group.may_step_up_from_first(3), true);
-    group.have(7)?;
-    assert_eq!(rt; group.may_have(1), false);
-    assert_eq!(rt; group.may_lack(7), false);
-    assert_eq!(rt; group.may_top_first(), true);
-    assert_eq!(rt; group.may_step_up_from_first(7), true);
-    assert_eq!(rt; group.may_step_up_from_first(3), false);
-    assert_eq!(rt; group.may_step_up_from_first(8), true);
-    group.have(6)?;
-    assert_eq!(rt; group.may_top_first(), false);
-    assert_eq!(rt; group.may_have(5), false);
-    assert_eq!(rt; group.may_estimate(1, 1, 9), false);
-    assert_eq!(rt; group.may_estimate(2, 6, 7), true);
-    assert_eq!(rt; group.may_step_up_from_first(6), false);
-    assert_eq!(rt; group.may_step_up_from_first(8), false);
-    assert_eq!(rt; group.may_step_up_from_first(7), true);
+    let mut numbers = Numbers::of_marks(rt.alloc(), 2, 1, 9)?;
+    let is_top = Part::of(Ask::IsTop(Position::First));
+    assert_eq!(rt; numbers.joins(&Part::of(Ask::Lacks(5))), true);
+    assert_eq!(rt; numbers.joins(&Part::of(Ask::Has(10))), false);
+    assert_eq!(rt; numbers.joins(&steps_up(1)), false);
+    assert_eq!(rt; numbers.joins(&steps_up(2)), true);
+    numbers.add(&Part::of(Ask::Lacks(1)))?;
+    assert_eq!(rt; numbers.joins(&steps_up(2)), false);
+    assert_eq!(rt; numbers.joins(&steps_up(3)), true);
+    numbers.add(&Part::of(Ask::Has(7)))?;
+    assert_eq!(rt; numbers.joins(&Part::of(Ask::Has(1))), false);
+    assert_eq!(rt; numbers.joins(&Part::of(Ask::Lacks(7))), false);
+    assert_eq!(rt; numbers.joins(&is_top), true);
+    assert_eq!(rt; numbers.joins(&steps_up(7)), true);
+    assert_eq!(rt; numbers.joins(&steps_up(3)), false);
+    assert_eq!(rt; numbers.joins(&steps_up(8)), true);
+    numbers.add(&Part::of(Ask::Has(6)))?;
+    assert_eq!(rt; numbers.joins(&is_top), false);
+    assert_eq!(rt; numbers.joins(&Part::of(Ask::Has(5))), false);
+    assert_eq!(rt; numbers.joins(&steps_up(6)), false);
+    assert_eq!(rt; numbers.joins(&steps_up(8)), false);
+    assert_eq!(rt; numbers.joins(&steps_up(7)), true);
+    Ok(())
+}
+
+fn listing(last: Option<u64>, numbers: &[u64]) -> Listing<'_> {
+    Listing::new(3, 1, u64::MAX, Range { first: 2, last }, numbers)
+}
+
+#[test]
+fn a_listing_denies_what_it_leaves_out(rt: HostRuntime) -> Result<(), Fail> {
+    let mut numbers = Numbers::of_marks(rt.alloc(), 3, 1, u64::MAX)?;
+    numbers.add(&Part::of(Ask::Has(4)))?;
+    numbers.add(&Part::of(Ask::Lacks(7)))?;
+    for (last, listed, joins) in [
+        (Some(9u64), &[4u64][..], true),
+        (Some(9), &[4, 9], true),
+        (Some(9), &[3, 4, 5], true),
+        (None, &[4, u64::MAX], true),
+        (Some(3), &[], true),
+        (Some(9), &[], false),
+        (Some(9), &[3, 5], false),
+        (Some(9), &[4, 7], false),
+        (Some(9), &[3, 4, 5, 6], false),
+        (None, &[u64::MAX], false),
+    ] {
+        assert_eq!(rt;
+            numbers.joins_listing(&listing(last, listed)),
+            joins,
+            "{listed:?}"
+        );
+    }
+    numbers.add_listing(&listing(Some(9), &[4, 9]))?;
+    for (n, joins) in [
+        (1u64, true),
+        (2, false),
+        (4, true),
+        (5, false),
+        (8, false),
+        (9, true),
+        (10, true),
+    ] {
+        assert_eq!(rt; numbers.joins(&Part::of(Ask::Has(n))), joins, "{n}");
+    }
     Ok(())
 }
