@@ -25,7 +25,7 @@ use Rattle.nntp_wire.specs.Answer.{Asked, Response}
 -- ---- two lists of facts
 
 -- what the first of both gives
-given_append : {A : Type 0} (f : Fact → Option A) (xs ys : List Fact) → first_given f (xs ++ ys) ≡ option_or (first_given f xs) (first_given f ys)
+pub given_append : {A : Type 0} (f : Fact → Option A) (xs ys : List Fact) → first_given f (xs ++ ys) ≡ option_or (first_given f xs) (first_given f ys)
 given_append f [] ys = refl
 given_append {A} f (x ∷ xs) ys = by (f x) (given_append f xs ys)
   where
@@ -38,7 +38,7 @@ pub asks_append : (name : Name) (facts : List Fact) (fact : Fact) → asks_of na
 asks_append name facts fact = flat_map-append (asks_in name) facts (fact ∷ []) ∙ ap (λ more. asks_of name facts ++ more) (append-nil (asks_in name fact))
 
 -- a test of one more
-any_more : (p : Fact → Bool) (facts : List Fact) (fact : Fact) → list_any p (facts ++ fact ∷ []) ≡ (list_any p facts || p fact)
+pub any_more : (p : Fact → Bool) (facts : List Fact) (fact : Fact) → list_any p (facts ++ fact ∷ []) ≡ (list_any p facts || p fact)
 any_more p facts fact = list_any-append p facts (fact ∷ []) ∙ ap (λ b. list_any p facts || b) (or_no (p fact))
   where
     or_no : (b : Bool) → (b || false) ≡ b

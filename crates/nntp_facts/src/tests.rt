@@ -1,4 +1,6 @@
 //! A group, and what may be said of it.
+mod articles;
+
 use crate::group::Group;
 use std::process::Abort;
 use std::test::Fail;
