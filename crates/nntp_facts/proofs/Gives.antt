@@ -20,6 +20,14 @@ any_silent p facts more none = list_any-append p facts more ∙ ap (λ b. list_a
     or_no true = refl
     or_no false = refl
 
+-- a test of one more
+pub any_more : (p : Fact → Bool) (facts : List Fact) (fact : Fact) → list_any p (facts ++ fact ∷ []) ≡ (list_any p facts || p fact)
+any_more p facts fact = list_any-append p facts (fact ∷ []) ∙ ap (λ b. list_any p facts || b) (or_no (p fact))
+  where
+    or_no : (b : Bool) → (b || false) ≡ b
+    or_no true = refl
+    or_no false = refl
+
 -- nothing is both shown and denied
 abbrev pub Apart : (shows denies : Fact → Bool) → List Fact → Type 0
 Apart shows denies facts = IsTrue (list_any shows facts) → IsFalse (list_any denies facts)

@@ -1,4 +1,6 @@
 //! The numbers of a group, and what may be said of them.
+mod articles;
+
 use crate::ask::{Ask, Position};
 use crate::listing::Listing;
 use crate::numbers::Numbers;

@@ -16,3 +16,4 @@ pub mod Keyword
 pub mod AnswerView
 pub mod Session
 pub mod Decided
+pub mod Held

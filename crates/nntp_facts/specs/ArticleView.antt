@@ -1,0 +1,29 @@
+-- What the code's values keep of articles.
+use Rattle.std.specs.Prelude.{ℕ, Bool, true, false, List, Vec, Option, None, option_map, refl}
+use Rattle.std.specs.Coded.{Coded, code_by, coded×, coded_ℕ, coded_list, coded_option, coded_bool}
+use Rattle.nntp_wire.specs.Held.{held}
+use Rattle.nntp_article.specs.Article.{Line}
+use Rattle.nntp_facts.specs.Kept.{KeptArticle}
+use Rattle.nntp_facts.specs.Articles.{denied}
+use Rattle.nntp_facts.specs.declared.articles.Known.{Known}
+use Rattle.nntp_facts.specs.declared.articles.Known.TheVariants.{Denied, There}
+use Rattle.nntp_facts.specs.declared.articles.Seen.{Seen}
+
+-- the octets of lines, where they are held
+abbrev pub lines_held : {A : Type 0} → Option (Vec (Vec ℕ A) A) → Option (List Line)
+lines_held lines = option_map (λ v. held v.items) lines
+
+-- what is kept of an article
+abbrev pub seen_value : {A : Type 0} → Seen A → KeptArticle
+seen_value s = record { is_denied = false; is_sent = s.is_sent; head = lines_held s.head; body = lines_held s.body }
+
+-- what is kept of an id
+abbrev pub known_value : {A : Type 0} → Known A → KeptArticle
+known_value Denied = denied
+known_value (There s) = seen_value s
+
+abbrev pub coded_kept : Coded KeptArticle
+coded_kept =
+    code_by _ (coded× (coded× coded_bool coded_bool) (coded× (coded_option (coded_list (coded_list coded_ℕ))) (coded_option (coded_list (coded_list coded_ℕ)))))
+    (λ a. ((a.is_denied, a.is_sent), (a.head, a.body)))
+    (λ p. record { is_denied = p.0.0; is_sent = p.0.1; head = p.1.0; body = p.1.1 }) (λ _. refl)
