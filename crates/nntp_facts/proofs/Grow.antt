@@ -126,6 +126,13 @@ pairs_permitted profile client server pairs left paired =
     let more = prompts_of_pairs client server pairs left paired in
     subst (λ ps. SomePermits profile ps (responses_of pairs) ↔ SomePermits profile (asked_of pairs) (responses_of pairs)) (sym more.1) (permitted_by_answered profile (asked_of pairs) more.0 (responses_of pairs) (as_many pairs))
 
+-- and what they say is said by these alone
+pub facts_by_pairs : (client server : List ℕ) (pairs : List Paired) (left : Unpaired) → AreNext (streams client server) pairs left
+    → facts_of_session (prompts_of client) (responses_of pairs) ≡ facts_of_session (asked_of pairs) (responses_of pairs)
+facts_by_pairs client server pairs left paired =
+    let more = prompts_of_pairs client server pairs left paired in
+    ap (λ ps. facts_of_session ps (responses_of pairs)) more.1 ∙ facts_by_answered start.visible Nowhere (asked_of pairs) more.0 (responses_of pairs) (as_many pairs)
+
 -- ---- octets
 
 -- what answers say is bounded by the octets that spell them
@@ -135,10 +142,8 @@ size_by_octets ps answers octets spelled = let a = session_size ps answers in le
 -- and what pairs say by the server's
 pub size_by_pairs : (client server : List ℕ) (pairs : List Paired) (left : Unpaired) → AreNext (streams client server) pairs left → size (facts_of_session (asked_of pairs) (responses_of pairs)) ≤ length server
 size_by_pairs client server pairs left paired =
-    let more = prompts_of_pairs client server pairs left paired in
     let spelled = (pairs-spelled client server pairs left paired).0 in
-    let same : facts_of_session (prompts_of client) (responses_of pairs) ≡ facts_of_session (asked_of pairs) (responses_of pairs) =
-    ap (λ ps. facts_of_session ps (responses_of pairs)) more.1 ∙ facts_by_answered start.visible Nowhere (asked_of pairs) more.0 (responses_of pairs) (as_many pairs) in
+    let same = facts_by_pairs client server pairs left paired in
     let most = size_by_octets (prompts_of client) (responses_of pairs) spelled.0 spelled.1 in
     let whole = ap length spelled.2 ∙ length-append spelled.0 left.server in
     let equal = ap size same in

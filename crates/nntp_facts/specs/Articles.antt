@@ -9,9 +9,13 @@ use Rattle.nntp_wire.specs.declared.command.What.{What}
 use Rattle.nntp_wire.specs.declared.command.What.TheVariants.{Article, Head, Body}
 use Rattle.nntp_article.specs.Article.{head_part, body_part, Id, Line}
 use Rattle.nntp_facts.specs.Facts.{Fact}
-use Rattle.nntp_facts.specs.Given.{head_in, body_in}
-use Rattle.nntp_facts.specs.Together.{shows_article, denies_article, GivesSame}
+use Rattle.nntp_facts.specs.Given.{first_given, head_in, body_in}
+use Rattle.nntp_facts.specs.Together.{shows_article, denies_article}
 use Rattle.nntp_facts.specs.Kept.{KeptArticle}
+
+-- what the fact gives is what was given before, if anything was
+abbrev pub GivesSame : {A : Type 0} → (Fact → Option A) → List Fact → Fact → Type 0
+GivesSame f facts fact = IfSome (f fact) (λ x. IfSome (first_given f facts) (λ y. x ≡ y))
 
 -- what the fact says of articles stands together with the facts before
 pub record ArticleJoins (facts : List Fact) (fact : Fact) : Type 0 where

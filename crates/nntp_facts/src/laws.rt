@@ -12,7 +12,8 @@ ghost use Rattle.nntp_facts.specs.Permits.{SomePermits, IsFirstUnpermitted};
 ghost use Rattle.nntp_article.specs.Explains.{Explains, ExplainsUpTo, Bad};
 ghost use Rattle.nntp_wire.specs.Octets.{are_octets};
 ghost use Rattle.nntp_wire.specs.Session.{prompts_of, Spelled};
-ghost use Rattle.nntp_facts.specs.Classes.{Class, HasClass, IsSettled, class_of, class_by, visible_from, position_from, asked_next};
+ghost use Rattle.nntp_facts.specs.Headline.{Headline, Yes, No, is_yes, IsHeadline};
+ghost use Rattle.nntp_facts.specs.Classes.{Class, OutOfPlace, HasClass, IsSettled, class_of, class_by, visible_from, position_from, asked_next};
 ghost use Rattle.nntp_pair.specs.Pairing.{Paired, Unpaired, IsNext, AreNext, IsBad, IsLasting, Ending, end, bad, IsPairing, HasPairs, responses_of, asked_of, asked_at, lines_in, streams};
 ghost use Rattle.nntp_pair.specs.declared.class.PairClass.{PairClass};
 ghost use Rattle.nntp_wire.specs.Answer.{Asked, Response, Spells};
@@ -264,4 +265,45 @@ pub fn explanation_is_by_all_pairs()
     ensures { (profile : Profile) (S : Spool) (client server : List ℕ) (n : ℕ) (pairs : List Paired) (ending : Ending)
         → IsPairing client server pairs ending → (explained : Explains profile S client server n)
         → (responses_of pairs ≡ explained.answers) × (unanswered : ℕ) × (ending ≡ end unanswered) }
+{}
+
+/// Two streams have one headline; it is a yes exactly if some spool explains them, and else a no.
+pub fn streams_have_one_headline()
+    ensures some { (profile : Profile) (client server : List ℕ) → length server < 2 ^ 210
+        → (headline : Headline) × IsHeadline profile client server headline }
+    ensures one { (profile : Profile) (client server : List ℕ) (headline other : Headline)
+        → IsHeadline profile client server headline → IsHeadline profile client server other → headline ≡ other }
+    ensures yes { (profile : Profile) (client server : List ℕ) (headline : Headline) → IsHeadline profile client server headline
+        → IsTrue (is_yes headline) ↔ ((S : Spool) × (n : ℕ) × Explains profile S client server n) }
+{}
+
+/// Where the pairing comes to the end of the server's octets, and some spool permits its responses,
+/// the headline is a yes with the given spool.
+pub fn headline_at_the_end()
+    ensures { (profile : Profile) (client server : List ℕ) (pairs : List Paired) (unanswered : ℕ) (G : Spool) → length server < 2 ^ 210
+        → IsPairing client server pairs (end unanswered) → SomePermits profile (asked_of pairs) (responses_of pairs)
+        → IsGiven (facts_of_session (asked_of pairs) (responses_of pairs)) G → IsHeadline profile client server (Yes G (length pairs)) }
+{}
+
+/// Where it ends at octets, and some spool permits its responses, the headline is a no there, of the
+/// class of that end.
+pub fn headline_at_octets()
+    ensures { (profile : Profile) (client server : List ℕ) (pairs : List Paired) (class : PairClass)
+        → IsPairing client server pairs (bad class) → SomePermits profile (asked_of pairs) (responses_of pairs)
+        → IsHeadline profile client server (No (length pairs) (class_of class)) }
+{}
+
+/// At a paired response that no spool permits behind those that some spool permits the headline is a
+/// no; one that doesn't fit is such a response, whatever the spools.
+pub fn headline_at_a_response()
+    ensures unpermitted { (profile : Profile) (client server : List ℕ) (pairs : List Paired) (pair : Paired) (before after : Unpaired)
+        → AreNext (streams client server) pairs before → IsNext before pair after
+        → SomePermits profile (asked_of pairs) (responses_of pairs)
+        → (SomePermits profile (asked_of (pairs ++ pair ∷ [])) (responses_of (pairs ++ pair ∷ [])) → ⊥)
+        → IsHeadline profile client server (No (length pairs) (class_by (fits profile (visible_from start.visible (asked_of pairs) (responses_of pairs)) (asked_at pair.line) pair.response))) }
+    ensures unfitting { (profile : Profile) (client server : List ℕ) (pairs : List Paired) (pair : Paired) (before after : Unpaired)
+        → AreNext (streams client server) pairs before → IsNext before pair after
+        → SomePermits profile (asked_of pairs) (responses_of pairs)
+        → fits profile (visible_from start.visible (asked_of pairs) (responses_of pairs)) (asked_at pair.line) pair.response ≡ false
+        → IsHeadline profile client server (No (length pairs) OutOfPlace) }
 {}
