@@ -1,5 +1,6 @@
 -- What is kept of all that a session says: of each group, of each id, and of the names that are no groups.
-use Rattle.std.specs.Prelude.{◌≡◌, ℕ, Bool, true, false, not, ◌||◌, List, [], Option, None, MatchOption, IsTrue}
+use Rattle.std.specs.Prelude.{◌≡◌, ℕ, Bool, true, false, not, ◌||◌, ◌==◌, if◌then◌else◌, List, [], ◌++◌, Option, None, Some, MatchOption, IsTrue}
+use Rattle.std.specs.Option.{option_or}
 use Rattle.std.specs.List.{list_any, AllByRecursion}
 use Rattle.std.specs.Ordering.{nat_cmp}
 use Rattle.std.specs.Cmp.Lexicographic.{slice_cmp}
@@ -58,6 +59,24 @@ AreKept tells groups = (name : Name) → MatchOption (get groups name) (IsUntold
 
 abbrev pub AreKeptGroups : List Fact → FinMap (slice_cmp nat_cmp) KeptGroup → Type 0
 AreKeptGroups facts groups = AreKept (told facts) groups
+
+-- what is told of a group once more is asked of its numbers
+abbrev pub with_asks : Told → List Ask → Told
+with_asks t asks = record { is_shown = true; asks = t.asks ++ asks; ids = t.ids; places = t.places }
+
+-- and once a number has an id as well
+abbrev pub with_id : Told → List Ask → ℕ → Id → Told
+with_id t asks n id = record {
+  is_shown = true;
+  asks = t.asks ++ asks;
+  ids = λ m. option_or (t.ids m) (if n == m then Some id else None);
+  places = λ other. option_or (t.places other) (if is_same id other then Some n else None);
+}
+
+-- this is told of one group then, and of others what was told before
+pub record Changes (before after : Name → Told) (name : Name) (t : Told) : Type 0 where
+  pub here : after name ≡ t
+  pub elsewhere : (other : Name) → is_same name other ≡ false → after other ≡ before other
 
 -- ---- names
 
