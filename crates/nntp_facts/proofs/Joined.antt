@@ -6,7 +6,8 @@ use Rattle.std.specs.Option.{option_map_or}
 use Rattle.std.proofs.lemmas.Bool.{true≢false, and_parts, false_from_ne_true, not-true}
 use Rattle.std.proofs.lemmas.Grind.{flat_map-append}
 use Rattle.nntp_article.specs.Article.{Id}
-use Rattle.nntp_article.specs.Spool.{Profile, Spool, IsSpool, Name}
+use Rattle.nntp_article.specs.Spool.{Spool, IsSpool, Name}
+use Rattle.nntp_article.specs.declared.profile.Profile.{Profile}
 use Rattle.nntp_article.specs.Machine.{Visible, start, fits, is_same}
 use Rattle.nntp_facts.specs.Asks.{Ask, Position, Nowhere, Estimates, ListsIn, StandsAt, StandsNowhere, StepsUp, StepsDown, IsTop, IsBottom, Lacks}
 use Rattle.nntp_facts.specs.Facts.{Fact, Holds, ThereIs, ThereIsNo, Asks, IdAt, TextIs, NoArticle, GroupsAre, on, here, facts_of_code, facts_of, FitsAll}
@@ -22,7 +23,7 @@ use Rattle.nntp_facts.proofs.Exists.{permitted_together}
 use Rattle.nntp_facts.proofs.Grow.{facts_grow, fitting_grows}
 use Rattle.nntp_wire.specs.Listing.{ActiveValue}
 use Rattle.nntp_wire.specs.Decided.{matches_name}
-use Rattle.nntp_article.specs.Listed.{listed_numbers, active_groups}
+use Rattle.nntp_wire.specs.Listing.{listed_numbers, active_groups}
 use Rattle.nntp_wire.specs.Answer.{Asked, Response, to, greeting, group_is, numbers_are, sends, active_are, plain}
 use Rattle.nntp_wire.specs.Command.{Request, Target, by_id, by_number, current, capabilities, mode_reader, next, last, quit, opaque, ill_formed, group, list_group, retrieve, list_active}
 use Rattle.nntp_wire.specs.declared.command.What.{What}

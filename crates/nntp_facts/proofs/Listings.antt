@@ -4,7 +4,7 @@ use Rattle.std.specs.Prelude.{◌↔◌, nat_lt, nat_le, unwrap_or}
 use Rattle.std.specs.List.{list_all}
 use Rattle.std.specs.Option.{option_map_or}
 use Rattle.std.proofs.lemmas.Bool.{true≢false, and_parts, and_from, or_left, or_right, or_cases, cases_lt, cases_eq, cases_order, false_from_ne_true, le-leb, leb-true, lt-ltb, ltb-true, eq-eqb, eqb-true, ne_eqb}
-use Rattle.nntp_wire.specs.Answer.{WaterMarks}
+use Rattle.nntp_wire.specs.declared.water_marks.WaterMarks.{WaterMarks}
 use Rattle.nntp_wire.specs.declared.range.Range.{Range}
 use Rattle.nntp_intervals.specs.Intervals.{holds, is_between}
 use Rattle.nntp_article.specs.Machine.{is_ascending, is_in_range}

@@ -1,6 +1,6 @@
 -- What the numbers that an answer to LISTGROUP lists say of a group (RFC 3977, section 6.1.2).
 use Rattle.std.specs.Prelude.{◌≡◌, ℕ, ◌+◌, ◌-◌, ◌^◌, ◌<◌, ◌≤◌, Bool, true, not, ◌&&◌, nat_lt, nat_le, if◌then◌else◌, IsTrue, List, [], ◌∷◌, Option, None, Some, unwrap_or}
-use Rattle.nntp_wire.specs.Answer.{WaterMarks}
+use Rattle.nntp_wire.specs.declared.water_marks.WaterMarks.{WaterMarks}
 use Rattle.nntp_wire.specs.declared.range.Range.{Range}
 use Rattle.nntp_intervals.specs.Intervals.{holds}
 use Rattle.nntp_article.specs.Machine.{is_in_range, is_ascending}

@@ -1,6 +1,6 @@
 -- What the values of src/listing.rt mean.
 use Rattle.std.specs.Prelude.{List, [], ◌∷◌}
-use Rattle.nntp_wire.specs.Answer.{WaterMarks}
+use Rattle.nntp_wire.specs.declared.water_marks.WaterMarks.{WaterMarks}
 use Rattle.nntp_facts.specs.Asks.{Ask, Estimates, ListsIn}
 use Rattle.nntp_facts.specs.declared.listing.Listing.{Listing}
 

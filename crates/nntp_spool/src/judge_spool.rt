@@ -3,12 +3,10 @@ ghost use Rattle.std.specs.Prelude.{◌≡◌, ◌↔◌, true, IsTrue};
 ghost use Rattle.nntp_wire.specs.View.{asked, request};
 ghost use Rattle.nntp_wire.specs.AnswerView.{response};
 ghost use Rattle.nntp_wire.specs.Answer.{to, plain, sends, group_is, numbers_are, active_are};
-ghost use Rattle.nntp_wire.specs.Listing.{AreActiveLines};
-ghost use Rattle.nntp_article.specs.Listed.{listed_numbers};
+ghost use Rattle.nntp_wire.specs.Listing.{listed_numbers};
 ghost use Rattle.nntp_article.specs.Machine.{fits, is_ascending, Agrees, Bound, Visible, State, selected_numbers};
 ghost use Rattle.nntp_article.specs.Spool.{IsSpool, IsGroup, Lists, numbers as numbers_of};
 ghost use Rattle.nntp_spool.specs.Limit.{narrow};
-ghost use Rattle.nntp_spool.specs.Listing.{IsListing};
 
 use crate::active::agrees_active;
 use crate::agrees::{agrees_code, agrees_marks, agrees_number, agrees_text};
@@ -27,7 +25,6 @@ impl<A: Allocator + Copy> Session<A> {
         answer: &Answer<'_>,
     ) -> bool
         requires spool { IsSpool narrow spool.now }
-        requires listing { IsListing (response answer.now) }
         requires fits { fits narrow self.now.visible (asked prompt.now) (response answer.now) ≡ true }
         ensures { IsTrue result ↔ Agrees spool.now self.now (asked prompt.now) (response answer.now) }
     {
@@ -270,7 +267,6 @@ fn lists<A: Allocator>(spool: &Content<A>, name: &[u8], range: Range, block: &Bl
 
 /// 215 to LIST ACTIVE.
 fn agrees_listing<A: Allocator>(spool: &Content<A>, prompt: &Prompt<'_>, block: &Block<'_>) -> bool
-    requires lines { AreActiveLines block.now }
     requires spool { IsSpool narrow spool.now }
     requires fits { (v : Visible) × (fits narrow v (asked prompt.now) (active_are block.now) ≡ true) }
     ensures { (s : State) → IsTrue result ↔ Agrees spool.now s (asked prompt.now) (active_are block.now) }
