@@ -88,7 +88,7 @@ grown {K} {X} {R} o m f facts more q k x b same had gives agrees =
     by false None same was gives agrees = (λ i. cond (same i) (Some x) (get m k)) ∙ had ∙ was ∙ sym ((λ i. option_or (was i) (gives i)))
     by false (Some y) same was gives agrees = (λ i. cond (same i) (Some x) (get m k)) ∙ had ∙ was ∙ sym (ap (λ o. option_or o (first_given f more)) was)
 
-flip_number : (k n : ℕ) → eq_by_cmp nat_cmp k n ≡ (n == k)
+pub flip_number : (k n : ℕ) → eq_by_cmp nat_cmp k n ≡ (n == k)
 flip_number k n = elim (cases_eq n k) [
   | inl e ↦ unsigned_tied k n ∙ eq-eqb k n (sym e) ∙ sym (eq-eqb n k e)
   | inr ne ↦ unsigned_tied k n ∙ ne_eqb k n (λ e. ne (sym e)) ∙ sym (ne_eqb n k ne)

@@ -1,6 +1,8 @@
 -- The codes of the values that the kept groups show.
 use Rattle.std.specs.Prelude.{ℕ, Option, None, Some, ◌≡◌, refl}
 use Rattle.std.specs.Coded.{Coded, code_by, coded×, coded_ℕ, coded_list, coded_option}
+use Rattle.std.specs.Ordering.{nat_cmp}
+use Rattle.std.specs.Cmp.Lexicographic.{slice_cmp}
 use Rattle.std.specs.FinMap as map
 use Rattle.nntp_facts.specs.Given.{Demand, NoDemand, NotEmpty, OnlyOne, SecondIs, Impossible}
 use Rattle.nntp_facts.specs.Summary.{Summary}
@@ -43,3 +45,6 @@ coded_group =
     code_by _ (coded× coded_summary (coded× (map.code coded_ℕ (coded_list coded_ℕ)) (map.code (coded_list coded_ℕ) coded_ℕ)))
     (λ g. (g.numbers, (g.ids, g.places)))
     (λ p. record { numbers = p.0; ids = p.1.0; places = p.1.1 }) (λ _. refl)
+
+abbrev pub coded_groups : Coded (map.FinMap (slice_cmp nat_cmp) KeptGroup)
+coded_groups = map.code (coded_list coded_ℕ) coded_group

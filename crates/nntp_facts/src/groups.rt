@@ -1,5 +1,5 @@
 //! What answers say of groups.
-ghost use Rattle.std.specs.Prelude.{◌≡◌, ℕ, ◌↔◌, true, List, [], ◌∷◌, ◌++◌, IsTrue, IfSome, MatchOption, OnOk, option_copied};
+ghost use Rattle.std.specs.Prelude.{◌≡◌, ℕ, ◌↔◌, true, List, [], ◌∷◌, ◌++◌, IsTrue, IfSome, IfOk, Option, OnOk, option_copied};
 ghost use Rattle.std.specs.FinMap as map;
 ghost use Rattle.nntp_article.specs.Spool.{Name};
 ghost use Rattle.nntp_facts.specs.Asks.{Ask, Estimates, Bounds};
@@ -7,14 +7,17 @@ ghost use Rattle.nntp_facts.specs.Together.{AsksStand};
 ghost use Rattle.nntp_facts.specs.Summary.{said, Says};
 ghost use Rattle.nntp_facts.specs.Listing.{AreListable};
 ghost use Rattle.nntp_facts.specs.ListingView.{asks_listed};
-ghost use Rattle.nntp_facts.specs.Kept.{KeptGroup, Told, AreKept, with_asks, with_id, Changes};
+ghost use Rattle.nntp_wire.specs.Listing.{active_groups};
+ghost use Rattle.nntp_facts.specs.Facts.{Fact, GroupsAre};
+ghost use Rattle.nntp_facts.specs.Kept.{Told, told, AreKept, with_asks, with_id, Changes};
 
 use crate::ask::Ask;
 use crate::group::Group;
 use crate::listing::Listing;
 use crate::part::Part;
+use nntp_wire::{Block, GroupName, Wildmat};
 use std::alloc::{AllocError, Allocator, Global};
-use std::collections::BTreeMap;
+use std::collections::{BTreeMap, BTreeSet};
 use std::marker::Model;
 
 /// The groups that are shown, by their names.
@@ -79,6 +82,116 @@ impl<A: Allocator + Copy> Groups<A> {
         }
         Ok(())
     }
+
+    /// Adds that there is such a group, with so many numbers at most, between the marks. After an error
+    /// the value says nothing of use.
+    pub(crate) fn select(
+        &mut self,
+        name: &[u8],
+        estimate: u64,
+        low: u64,
+        high: u64,
+    ) -> Result<(), AllocError>
+        ensures { OnOk result ((before after : Name → Told) → AreKept before self.old
+            → Changes before after name.now (with_asks (before name.now) (Estimates (record { estimate = estimate; low = low; high = high }) ∷ [])) → AreKept after self.new) }
+    {
+        match self.groups.get_mut(name) {
+            Some(group) => group.add(&Part::of(Ask::Estimates {
+                estimate,
+                low,
+                high,
+            })),
+            None => {
+                let group = Group::of_marks(self.alloc, estimate, low, high)?;
+                self.put(name, group)
+            }
+        }
+    }
+
+    /// Adds that there is such a group, with its numbers between the marks. After an error the value says
+    /// nothing of use.
+    fn bound(&mut self, name: &[u8], low: u64, high: u64) -> Result<(), AllocError>
+        ensures { OnOk result ((before after : Name → Told) → AreKept before self.old → Changes before after name.now (with_asks (before name.now) (Bounds low high ∷ [])) → AreKept after self.new) }
+    {
+        match self.groups.get_mut(name) {
+            Some(group) => group.add(&Part::of(Ask::Bounds { low, high })),
+            None => {
+                let group = Group::of_bounds(self.alloc, low, high)?;
+                self.put(name, group)
+            }
+        }
+    }
+
+    /// Adds that there is such a group, and what LISTGROUP says of it. After an error the value says
+    /// nothing of use.
+    pub(crate) fn list(&mut self, name: &[u8], listing: &Listing<'_>) -> Result<(), AllocError>
+        ensures { OnOk result ((before after : Name → Told) → AreKept before self.old → AreListable listing.now.range listing.now.numbers.now
+            → Changes before after name.now (with_asks (before name.now) (asks_listed listing.now)) → AreKept after self.new) }
+    {
+        match self.groups.get_mut(name) {
+            Some(group) => group.add_listing(listing),
+            None => {
+                let mut group =
+                    Group::of_marks(self.alloc, listing.estimate, listing.low, listing.high)?;
+                group.add_listing(listing)?;
+                self.put(name, group)
+            }
+        }
+    }
+
+    /// Adds a group, or puts it in the place of the one of its name.
+    fn put(&mut self, name: &[u8], group: Group<A>) -> Result<(), AllocError>
+        ensures { OnOk result (self.new ≡ map.insert self.old name.now group) }
+    {
+        self.groups.insert(Vec::from_slice(self.alloc, name)?, group)?;
+        Ok(())
+    }
+
+    /// Whether what LISTGROUP says of a group stands together with all before.
+    pub(crate) fn joins_listing(
+        &self,
+        name: &[u8],
+        listing: &Listing<'_>,
+    ) -> Result<bool, AllocError>
+        ensures { IfOk result (λ does. (tells : Name → Told) → AreKept tells self.now → AsksStand (tells name.now).asks → AreListable listing.now.range listing.now.numbers.now
+            → IsTrue does ↔ AsksStand ((tells name.now).asks ++ asks_listed listing.now)) }
+    {
+        match self.get(name) {
+            Some(group) => Ok(group.joins_listing(listing)),
+            None => {
+                let group =
+                    Group::of_marks(self.alloc, listing.estimate, listing.low, listing.high)?;
+                Ok(group.joins_listing(listing))
+            }
+        }
+    }
+
+    /// Adds that there are the groups of the block, each with its numbers between its marks. After an
+    /// error the value says nothing of use.
+    pub(crate) fn bound_all(&mut self, block: &Block<'_>) -> Result<(), AllocError>
+        ensures { OnOk result ((facts : List Fact) (wildmat : Option (List ℕ)) → AreKept (told facts) self.old → AreKept (told (facts ++ GroupsAre wildmat (active_groups block.now) ∷ [])) self.new) }
+    {
+        for group in block.groups() {
+            self.bound(group.name.as_slice(), group.low, group.high)?;
+        }
+        Ok(())
+    }
+
+    /// Whether each group that is shown and matches is one of the block's.
+    pub(crate) fn has_all_listed(
+        &self,
+        wildmat: &Option<Wildmat<'_>>,
+        block: &Block<'_>,
+    ) -> Result<bool, AllocError> {
+        let mut names = BTreeSet::new(self.alloc);
+        for group in block.groups() {
+            names.insert(group.name.as_slice())?;
+        }
+        Ok(self
+            .groups
+            .iter()
+            .all(|(name, _)| !matches(wildmat, name.as_slice()) || names.contains(name.as_slice())))
+    }
 }
 
 impl<A: Allocator> Groups<A> {
@@ -116,5 +229,14 @@ impl<A: Allocator> Groups<A> {
             Some(group) => group.may_have_id(number, id),
             None => false,
         }
+    }
+}
+
+/// Whether the name of a group matches the wildmat, if there is one.
+fn matches(wildmat: &Option<Wildmat<'_>>, name: &[u8]) -> bool {
+    match (wildmat, GroupName::parse(name)) {
+        (Some(wildmat), Some(name)) => wildmat.matches(&name),
+        (None, _) => true,
+        _ => false,
     }
 }

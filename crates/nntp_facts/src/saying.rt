@@ -12,7 +12,7 @@ ghost use Rattle.nntp_facts.specs.AskView.{position_of};
 ghost use Rattle.nntp_facts.specs.SayingView.{facts_said, IsSelectedShown, MaySay};
 
 use crate::ask::{Ask, Position};
-use nntp_wire::{Answer, Block, Command, GroupName, Prompt, Range, What, Which, Wildmat, listed_number};
+use nntp_wire::{Answer, Block, Command, GroupName, Prompt, Range, What, Which, Wildmat};
 use std::alloc::{AllocError, Allocator};
 
 /// What an answer says of the spool.
@@ -226,11 +226,8 @@ fn numbers_of<A: Allocator + Copy>(alloc: A, block: &Block<'_>) -> Result<Vec<u6
     ensures { IfOk result (λ numbers. numbers.items ≡ listed_numbers block.now) }
 {
     let mut numbers = Vec::new(alloc);
-    let mut lines = block.lines();
-    while let Some(line) = lines.next() {
-        if let Some(number) = listed_number(line) {
-            numbers.push(number)?;
-        }
+    for number in block.numbers() {
+        numbers.push(number)?;
     }
     Ok(numbers)
 }

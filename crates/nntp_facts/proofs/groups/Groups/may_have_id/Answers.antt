@@ -1,0 +1,10 @@
+use Rattle.std.proofs.Common.{sym, ap}
+use Rattle.std.specs.Prelude.{Some, None}
+use Rattle.nntp_facts.proofs.KeptGroups.{kept_of, not_missing}
+use Rattle.nntp_facts.proofs.groups.Groups.may_have_id.Goals as goal
+
+pub returns-in-Some : goal.returns-in-Some
+returns-in-Some g c tells kept shown = ?
+
+pub returns-in-None : goal.returns-in-None
+returns-in-None g c tells kept shown = ?
