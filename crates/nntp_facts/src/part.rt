@@ -82,6 +82,13 @@ impl Part {
         }
     }
 
+    /// What no ask says.
+    pub(crate) fn nothing() -> Part
+        ensures { Says (said result) [] }
+    {
+        NOTHING
+    }
+
     /// The same, and that the number is there; no other is shown.
     pub(crate) fn with_number(self, n: u64) -> Part
         ensures { SaysToo (said self) n (said result) }

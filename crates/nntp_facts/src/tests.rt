@@ -2,6 +2,7 @@
 mod articles;
 
 use crate::ask::{Ask, Position};
+use crate::group::Group;
 use crate::listing::Listing;
 use crate::numbers::Numbers;
 use crate::part::Part;
@@ -80,5 +81,39 @@ fn a_listing_denies_what_it_leaves_out(rt: HostRuntime) -> Result<(), Fail> {
     ] {
         assert_eq!(rt; numbers.joins(&Part::of(Ask::Has(n))), joins, "{n}");
     }
+    Ok(())
+}
+
+#[test]
+fn an_id_has_one_number_and_a_number_one_id(rt: HostRuntime) -> Result<(), Fail> {
+    let mut group = Group::of_bounds(rt.alloc(), 1, 9)?;
+    assert_eq!(rt; group.may_have_id(3, b"<a@x>"), true);
+    group.add(&Part::of(Ask::Has(3)))?;
+    group.identify(rt.alloc(), 3, b"<a@x>")?;
+    for (number, id, may) in [
+        (3u64, b"<a@x>", true),
+        (3, b"<b@x>", false),
+        (4, b"<a@x>", false),
+        (4, b"<b@x>", true),
+    ] {
+        assert_eq!(rt; group.may_have_id(number, id), may, "{number}");
+    }
+    assert_eq!(rt; group.id(3), Some(b"<a@x>".as_slice()));
+    assert_eq!(rt; group.id(4), None);
+    assert_eq!(rt; group.shown().len(), 1);
+    Ok(())
+}
+
+#[test]
+fn one_more_number_is_the_first_free_one(rt: HostRuntime) -> Result<(), Fail> {
+    let mut group = Group::of_marks(rt.alloc(), 2, 1, 9)?;
+    assert_eq!(rt; group.one_more(), None);
+    group.add(&Part::of(Ask::Lacks(1)))?;
+    group.add(&Part::of(Ask::IsBottom(Position::First)))?;
+    assert_eq!(rt; group.one_more(), Some(2));
+    group.add(&steps_up(7))?;
+    assert_eq!(rt; group.one_more(), Some(2));
+    group.add(&Part::of(Ask::Has(5)))?;
+    assert_eq!(rt; group.one_more(), None);
     Ok(())
 }
