@@ -1,6 +1,6 @@
 -- What is kept of groups, once more is told of one.
-use Rattle.std.proofs.Common.{◌≡◌, ℕ, Bool, true, false, ◌==◌, cond, IsTrue, List, [], ◌∷◌, ◌++◌, Option, None, Some, is_some, MatchOption, refl, sym, ap, subst, ◌∙◌}
-use Rattle.std.specs.Prelude.{◌↔◌, IfSome}
+use Rattle.std.proofs.Common.{◌≡◌, ℕ, Bool, true, false, ◌==◌, cond, IsTrue, List, [], ◌∷◌, ◌++◌, Option, None, Some, is_some, MatchOption, Result, Ok, Err, refl, sym, ap, subst, ◌∙◌}
+use Rattle.std.specs.Prelude.{OnOk}
 use Rattle.std.specs.Option.{option_or}
 use Rattle.std.specs.FinMap.{FinMap, get, insert, empty, get-insert, get-empty}
 use Rattle.std.specs.Ordering.{nat_cmp, eq_by_cmp}
@@ -12,7 +12,6 @@ use Rattle.nntp_article.specs.Article.{Id}
 use Rattle.nntp_article.specs.Spool.{Name}
 use Rattle.nntp_article.specs.Machine.{is_same}
 use Rattle.nntp_facts.specs.Asks.{Ask}
-use Rattle.nntp_facts.specs.Together.{AsksStand}
 use Rattle.nntp_facts.specs.Summary.{Summary, IsSummary}
 use Rattle.nntp_facts.specs.Kept.{KeptGroup, Told, IsKeptGroup, IsUntold, AreKept, with_asks, with_id, Changes}
 use Rattle.nntp_facts.proofs.OneGroup.{IsOr, flip_number, flip_text}
@@ -67,7 +66,7 @@ pub id_kept : (before after : Name → Told) (groups : Groups) (name : Name) (g 
     → AreKept after (insert groups name (record { numbers = h.numbers; ids = insert h.ids n id; places = insert h.places id n }))
 id_kept before after groups name g h asks n id kept is id_was n_was changes sum ids places =
     let was = kept_of before groups name (Some g) is kept in
-    let new = record { numbers = h.numbers; ids = insert h.ids n id; places = insert h.places id n } in
+    let new : KeptGroup = record { numbers = h.numbers; ids = insert h.ids n id; places = insert h.places id n } in
     kept_at before after groups name new kept changes.elsewhere (subst (λ t. IsKeptGroup t new) (sym changes.here) (record {
       shown = refl;
       numbers = sum;
@@ -87,3 +86,16 @@ new_kept before after groups name h asks kept none changes sum no_ids =
       ids = λ n. ap (λ m. get m n) no_ids.0 ∙ get-empty nat_cmp n ∙ sym (was.no_ids n);
       places = λ id. ap (λ m. get m id) no_ids.1 ∙ get-empty (slice_cmp nat_cmp) id ∙ sym (was.no_places id);
     }))
+
+-- a group that isn't shown isn't kept
+pub none_kept : (tells : Name → Told) (groups : Groups) (name : Name) → false ≡ (tells name).is_shown → AreKept tells groups → get groups name ≡ None
+none_kept tells groups name not_shown kept = by (get groups name) refl
+  where
+    by : (o : Option KeptGroup) → get groups name ≡ o → get groups name ≡ None
+    by None is = is
+    by (Some g) is = absurd (true≢false (sym (ap is_some is) ∙ shown_kept tells groups name kept ∙ sym not_shown))
+
+-- what follows where a call succeeds
+pub on_ok : {A E P Q : Type 0} (r : Result A E) → (P → Q) → OnOk r P → OnOk r Q
+on_ok (Ok x) f p = f p
+on_ok (Err e) f p = tt

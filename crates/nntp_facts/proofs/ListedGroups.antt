@@ -13,6 +13,7 @@ use Rattle.nntp_facts.specs.Asks.{Ask, Bounds}
 use Rattle.nntp_facts.specs.Facts.{Fact, GroupsAre}
 use Rattle.nntp_facts.specs.Given.{asks_of, shows_group, is_shown_group}
 use Rattle.nntp_facts.specs.Together.{IsWellFormed, AsksStand, denies_group, Together, Join}
+use Rattle.nntp_facts.specs.ListedGroups.{is_listed, LineJoins, NoneIsMissing}
 use Rattle.nntp_facts.proofs.Members.{In, all_at, all_from, any_in, found_in}
 use Rattle.nntp_facts.proofs.Silent.{GiveNoIds, ids_join, SayNoArticles, articles_join}
 use Rattle.nntp_facts.proofs.OneGroup.{same_self}
@@ -20,19 +21,6 @@ use Rattle.nntp_facts.proofs.OneGroup.{same_self}
 -- the bounds that the lines report for a group
 abbrev pub bounds_in : Name → List ActiveValue → List Ask
 bounds_in name lines = flat_map (λ line. cond (is_same line.name name) (Bounds line.low line.high ∷ []) []) lines
-
--- the group is listed
-abbrev pub is_listed : List ActiveValue → Name → Bool
-is_listed lines name = list_any (λ line. is_same line.name name) lines
-
--- a listed group joins: it isn't denied, and its bounds stand together with what was asked
-pub record LineJoins (facts : List Fact) (line : ActiveValue) : Type 0 where
-  pub free : IsFalse (list_any (denies_group line.name) facts)
-  pub bounds : AsksStand (asks_of line.name facts ++ Bounds line.low line.high ∷ [])
-
--- no group that is shown and matches is missing
-abbrev pub NoneIsMissing : List Fact → Option (List ℕ) → List ActiveValue → Type 0
-NoneIsMissing facts p lines = (name : Name) → is_shown_group facts name ≡ true → option_map_or (λ w. matches_name w name) p true ≡ true → is_listed lines name ≡ true
 
 -- where the group isn't listed, no bounds are reported for it
 pub no_bounds : (name : Name) (lines : List ActiveValue) → is_listed lines name ≡ false → bounds_in name lines ≡ []

@@ -73,5 +73,5 @@ pairs_weight [] few = omega arith
 pairs_weight (pair ∷ pairs) few = let rest = pairs_weight pairs few.1 in let here = few.0 in omega arith
 
 -- so what pairs say is small
-pub pairs_size : (pairs : List Paired) → AllByRecursion (λ pair. lines_in pair.response < 2 ^ 64) pairs → length pairs < 2 ^ 63 → size (facts_of_session (asked_of pairs) (responses_of pairs)) < 2 ^ 210
+pub pairs_size : (pairs : List Paired) → AllByRecursion (λ pair. lines_in pair.response < 2 ^ 64) pairs → length pairs < 2 ^ 64 → size (facts_of_session (asked_of pairs) (responses_of pairs)) < 2 ^ 210
 pairs_size pairs few short = let all = session_size (asked_of pairs) (responses_of pairs) in let weights = pairs_weight pairs few in omega arith

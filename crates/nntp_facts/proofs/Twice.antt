@@ -29,11 +29,11 @@ module _ (m : WaterMarks) (asks : List Ask) where
 
   one_more_once : (n : ℕ) → IsOneMore Both n → IsOneMore Once n
   one_more_once n x =
-      record { needed = x.needed; wanted = x.wanted; positive = x.positive; not_denied = sym (same_denied n) ∙ x.not_denied; is_least = λ k lo hi. sym (same_denied k) ∙ x.is_least k lo hi }
+      record { needed = x.needed; wanted = x.wanted; first = (x.first.0, sym (same_denied n) ∙ x.first.1, λ k lo hi. sym (same_denied k) ∙ x.first.2 k lo hi) }
 
   one_more_both : (n : ℕ) → IsOneMore Once n → IsOneMore Both n
   one_more_both n x =
-      record { needed = x.needed; wanted = x.wanted; positive = x.positive; not_denied = same_denied n ∙ x.not_denied; is_least = λ k lo hi. same_denied k ∙ x.is_least k lo hi }
+      record { needed = x.needed; wanted = x.wanted; first = (x.first.0, same_denied n ∙ x.first.1, λ k lo hi. same_denied k ∙ x.first.2 k lo hi) }
 
   given_once : (n : ℕ) → IsGivenNumber Both n → IsGivenNumber Once n
   given_once n g = elim g [ inl s ↦ inl s | inr x ↦ inr (one_more_once n x) ]

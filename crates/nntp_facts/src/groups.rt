@@ -1,23 +1,21 @@
 //! What answers say of groups.
-ghost use Rattle.std.specs.Prelude.{◌≡◌, ℕ, ◌↔◌, true, List, [], ◌∷◌, ◌++◌, IsTrue, IfSome, IfOk, Option, OnOk, option_copied};
+ghost use Rattle.std.specs.Prelude.{◌≡◌, ℕ, ◌↔◌, true, false, List, [], ◌∷◌, ◌++◌, IsTrue, IfSome, IfOk, Option, OnOk, option_copied};
 ghost use Rattle.std.specs.FinMap as map;
 ghost use Rattle.nntp_article.specs.Spool.{Name};
-ghost use Rattle.nntp_facts.specs.Asks.{Ask, Estimates, Bounds};
+ghost use Rattle.nntp_facts.specs.Asks as asks_said;
+ghost use Rattle.nntp_facts.specs.Asks.{Estimates, Bounds};
 ghost use Rattle.nntp_facts.specs.Together.{AsksStand};
 ghost use Rattle.nntp_facts.specs.Summary.{said, Says};
 ghost use Rattle.nntp_facts.specs.Listing.{AreListable};
 ghost use Rattle.nntp_facts.specs.ListingView.{asks_listed};
-ghost use Rattle.nntp_wire.specs.Listing.{active_groups};
-ghost use Rattle.nntp_facts.specs.Facts.{Fact, GroupsAre};
-ghost use Rattle.nntp_facts.specs.Kept.{Told, told, AreKept, with_asks, with_id, Changes};
+ghost use Rattle.nntp_facts.specs.Kept.{Told, AreKept, with_asks, with_id, Changes};
 
 use crate::ask::Ask;
 use crate::group::Group;
 use crate::listing::Listing;
 use crate::part::Part;
-use nntp_wire::{Block, GroupName, Wildmat};
 use std::alloc::{AllocError, Allocator, Global};
-use std::collections::{BTreeMap, BTreeSet};
+use std::collections::BTreeMap;
 use std::marker::Model;
 
 /// The groups that are shown, by their names.
@@ -54,7 +52,7 @@ impl<A: Allocator + Copy> Groups<A> {
 
     /// Adds what the part says of a group that is shown. After an error the value says nothing of use.
     pub(crate) fn add(&mut self, name: &[u8], part: &Part) -> Result<(), AllocError>
-        ensures { OnOk result ((before after : Name → Told) (asks : List Ask) → AreKept before self.old → (before name.now).is_shown ≡ true → Says (said part.now) asks
+        ensures { OnOk result ((before after : Name → Told) (asks : List asks_said.Ask) → AreKept before self.old → (before name.now).is_shown ≡ true → Says (said part.now) asks
             → Changes before after name.now (with_asks (before name.now) asks) → AreKept after self.new) }
     {
         if let Some(group) = self.groups.get_mut(name) {
@@ -72,13 +70,24 @@ impl<A: Allocator + Copy> Groups<A> {
         number: u64,
         id: &[u8],
     ) -> Result<(), AllocError>
-        ensures { OnOk result ((before after : Name → Told) (asks : List Ask) → AreKept before self.old → (before name.now).is_shown ≡ true → Says (said part.now) asks
+        ensures { OnOk result ((before after : Name → Told) (asks : List asks_said.Ask) → AreKept before self.old → (before name.now).is_shown ≡ true → Says (said part.now) asks
             → IfSome ((before name.now).ids number) (λ other. id.now ≡ other) → IfSome ((before name.now).places id.now) (λ other. number ≡ other)
             → Changes before after name.now (with_id (before name.now) asks number id.now) → AreKept after self.new) }
     {
         if let Some(group) = self.groups.get_mut(name) {
             group.add(part)?;
             group.identify(self.alloc, number, id)?;
+        }
+        Ok(())
+    }
+
+    /// Adds what LISTGROUP says of a group that is shown. After an error the value says nothing of use.
+    fn add_listing(&mut self, name: &[u8], listing: &Listing<'_>) -> Result<(), AllocError>
+        ensures { OnOk result ((before after : Name → Told) → AreKept before self.old → (before name.now).is_shown ≡ true → AreListable listing.now.range listing.now.numbers.now
+            → Changes before after name.now (with_asks (before name.now) (asks_listed listing.now)) → AreKept after self.new) }
+    {
+        if let Some(group) = self.groups.get_mut(name) {
+            group.add_listing(listing)?;
         }
         Ok(())
     }
@@ -95,17 +104,16 @@ impl<A: Allocator + Copy> Groups<A> {
         ensures { OnOk result ((before after : Name → Told) → AreKept before self.old
             → Changes before after name.now (with_asks (before name.now) (Estimates (record { estimate = estimate; low = low; high = high }) ∷ [])) → AreKept after self.new) }
     {
-        match self.groups.get_mut(name) {
-            Some(group) => group.add(&Part::of(Ask::Estimates {
+        if self.is_shown(name) {
+            let part = Part::of(Ask::Estimates {
                 estimate,
                 low,
                 high,
-            })),
-            None => {
-                let group = Group::of_marks(self.alloc, estimate, low, high)?;
-                self.put(name, group)
-            }
+            });
+            return self.add(name, &part);
         }
+        let group = Group::of_marks(self.alloc, estimate, low, high)?;
+        self.put(name, group)
     }
 
     /// Adds that there is such a group, with its numbers between the marks. After an error the value says
@@ -113,13 +121,11 @@ impl<A: Allocator + Copy> Groups<A> {
     fn bound(&mut self, name: &[u8], low: u64, high: u64) -> Result<(), AllocError>
         ensures { OnOk result ((before after : Name → Told) → AreKept before self.old → Changes before after name.now (with_asks (before name.now) (Bounds low high ∷ [])) → AreKept after self.new) }
     {
-        match self.groups.get_mut(name) {
-            Some(group) => group.add(&Part::of(Ask::Bounds { low, high })),
-            None => {
-                let group = Group::of_bounds(self.alloc, low, high)?;
-                self.put(name, group)
-            }
+        if self.is_shown(name) {
+            return self.add(name, &Part::of(Ask::Bounds { low, high }));
         }
+        let group = Group::of_bounds(self.alloc, low, high)?;
+        self.put(name, group)
     }
 
     /// Adds that there is such a group, and what LISTGROUP says of it. After an error the value says
@@ -128,15 +134,12 @@ impl<A: Allocator + Copy> Groups<A> {
         ensures { OnOk result ((before after : Name → Told) → AreKept before self.old → AreListable listing.now.range listing.now.numbers.now
             → Changes before after name.now (with_asks (before name.now) (asks_listed listing.now)) → AreKept after self.new) }
     {
-        match self.groups.get_mut(name) {
-            Some(group) => group.add_listing(listing),
-            None => {
-                let mut group =
-                    Group::of_marks(self.alloc, listing.estimate, listing.low, listing.high)?;
-                group.add_listing(listing)?;
-                self.put(name, group)
-            }
+        if self.is_shown(name) {
+            return self.add_listing(name, listing);
         }
+        let mut group = Group::of_marks(self.alloc, listing.estimate, listing.low, listing.high)?;
+        group.add_listing(listing)?;
+        self.put(name, group)
     }
 
     /// Adds a group, or puts it in the place of the one of its name.
@@ -165,33 +168,6 @@ impl<A: Allocator + Copy> Groups<A> {
             }
         }
     }
-
-    /// Adds that there are the groups of the block, each with its numbers between its marks. After an
-    /// error the value says nothing of use.
-    pub(crate) fn bound_all(&mut self, block: &Block<'_>) -> Result<(), AllocError>
-        ensures { OnOk result ((facts : List Fact) (wildmat : Option (List ℕ)) → AreKept (told facts) self.old → AreKept (told (facts ++ GroupsAre wildmat (active_groups block.now) ∷ [])) self.new) }
-    {
-        for group in block.groups() {
-            self.bound(group.name.as_slice(), group.low, group.high)?;
-        }
-        Ok(())
-    }
-
-    /// Whether each group that is shown and matches is one of the block's.
-    pub(crate) fn has_all_listed(
-        &self,
-        wildmat: &Option<Wildmat<'_>>,
-        block: &Block<'_>,
-    ) -> Result<bool, AllocError> {
-        let mut names = BTreeSet::new(self.alloc);
-        for group in block.groups() {
-            names.insert(group.name.as_slice())?;
-        }
-        Ok(self
-            .groups
-            .iter()
-            .all(|(name, _)| !matches(wildmat, name.as_slice()) || names.contains(name.as_slice())))
-    }
 }
 
 impl<A: Allocator> Groups<A> {
@@ -209,14 +185,15 @@ impl<A: Allocator> Groups<A> {
         self.groups.get(name)
     }
 
-    /// Whether what the part says of a group that is shown stands together with all before.
+    /// Whether what the part says of a group stands together with all before, and by itself where the
+    /// group isn't shown.
     pub(crate) fn joins(&self, name: &[u8], part: &Part) -> bool
-        ensures { (tells : Name → Told) (asks : List Ask) → AreKept tells self.now → (tells name.now).is_shown ≡ true → AsksStand (tells name.now).asks → Says (said part.now) asks
-            → IsTrue result ↔ AsksStand ((tells name.now).asks ++ asks) }
+        ensures { (tells : Name → Told) (asks : List asks_said.Ask) → AreKept tells self.now → AsksStand (tells name.now).asks → ((tells name.now).is_shown ≡ false → AsksStand asks)
+            → Says (said part.now) asks → IsTrue result ↔ AsksStand ((tells name.now).asks ++ asks) }
     {
         match self.get(name) {
             Some(group) => group.joins(part),
-            None => false,
+            None => true,
         }
     }
 
@@ -229,14 +206,5 @@ impl<A: Allocator> Groups<A> {
             Some(group) => group.may_have_id(number, id),
             None => false,
         }
-    }
-}
-
-/// Whether the name of a group matches the wildmat, if there is one.
-fn matches(wildmat: &Option<Wildmat<'_>>, name: &[u8]) -> bool {
-    match (wildmat, GroupName::parse(name)) {
-        (Some(wildmat), Some(name)) => wildmat.matches(&name),
-        (None, _) => true,
-        _ => false,
     }
 }

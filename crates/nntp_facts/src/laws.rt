@@ -62,7 +62,7 @@ pub fn given_spool_is_one()
 /// of fewer than 2^64 lines say.
 pub fn size_is_bounded()
     ensures answers { (prompts : List Asked) (answers : List Response) → size (facts_of_session prompts answers) ≤ weight answers }
-    ensures pairs { (pairs : List Paired) → AllByRecursion (λ pair. lines_in pair.response < 2 ^ 64) pairs → length pairs < 2 ^ 63
+    ensures pairs { (pairs : List Paired) → AllByRecursion (λ pair. lines_in pair.response < 2 ^ 64) pairs → length pairs < 2 ^ 64
         → size (facts_of_session (asked_of pairs) (responses_of pairs)) < 2 ^ 210 }
 {}
 
