@@ -1,7 +1,6 @@
 //! What answers say of articles.
-ghost use Rattle.std.specs.Prelude.{◌≡◌, ◌++◌, ◌∷◌, [], ◌↔◌, ℕ, false, IsTrue, List, OnOk, is_some, option_map};
+ghost use Rattle.std.specs.Prelude.{◌≡◌, ◌++◌, ◌∷◌, [], ◌↔◌, ℕ, IsTrue, List, OnOk, is_some, option_map};
 ghost use Rattle.std.specs.FinMap as map;
-ghost use Rattle.nntp_article.specs.Article.{Id};
 ghost use Rattle.nntp_article.specs.Spool.{Name};
 ghost use Rattle.nntp_article.specs.Machine.{head_fits};
 ghost use Rattle.nntp_facts.specs.Facts.{Fact, IdAt, TextIs, NoArticle};
