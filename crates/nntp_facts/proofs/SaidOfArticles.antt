@@ -179,7 +179,7 @@ still_kept facts fact old new kept same said = kept_where_said (facts ++ fact �
 
 -- ---- what says nothing of articles
 
--- the fact speaks of an article
+-- the fact mentions no id
 abbrev pub SaysOfNone : Fact → Type 0
 SaysOfNone fact = (id : Id) → mentions id fact ≡ false
 
