@@ -1,6 +1,6 @@
 -- How one more fact fits in with what is kept of articles.
-use Rattle.std.specs.Prelude.{◌≡◌, Bool, true, false, if◌then◌else◌, IsTrue, IsFalse, List, Option, None, Some, is_some, IfSome}
-use Rattle.std.specs.List.{list_any}
+use Rattle.std.specs.Prelude.{◌≡◌, Bool, true, false, not, if◌then◌else◌, IsTrue, IsFalse, List, Option, None, Some, is_some, IfSome}
+use Rattle.std.specs.List.{list_any, filter}
 use Rattle.std.specs.Option.{option_or}
 use Rattle.std.specs.Ordering.{nat_cmp}
 use Rattle.std.specs.Cmp.Lexicographic.{slice_cmp}
@@ -63,3 +63,7 @@ with_sent a head body = record { is_denied = a.is_denied; is_sent = true; head =
 -- a is kept of the id, if nothing is kept of it yet
 abbrev pub with_new : FinMap (slice_cmp nat_cmp) KeptArticle → Id → KeptArticle → FinMap (slice_cmp nat_cmp) KeptArticle
 with_new articles id a = if is_some (get articles id) then articles else insert articles id a
+
+-- the ids that have articles, of all that are kept
+abbrev pub articles_in : List (Id × KeptArticle) → List (Id × KeptArticle)
+articles_in entries = filter (λ e. not e.1.is_denied) entries

@@ -1,159 +1,23 @@
 //! What answers say of articles.
-ghost use Rattle.std.specs.Prelude.{◌≡◌, ◌++◌, ◌∷◌, [], ◌↔◌, ℕ, false, IsTrue, List, OnOk, is_some, option_map};
-ghost use Rattle.std.specs.Option.{option_or};
+ghost use Rattle.std.specs.Prelude.{◌≡◌, ◌++◌, ◌∷◌, [], ◌↔◌, ℕ, IsTrue, List, OnOk, is_some, option_map};
 ghost use Rattle.std.specs.FinMap as map;
-ghost use Rattle.nntp_article.specs.Article.{Id};
 ghost use Rattle.nntp_article.specs.Spool.{Name};
 ghost use Rattle.nntp_article.specs.Machine.{head_fits};
 ghost use Rattle.nntp_facts.specs.Facts.{Fact, IdAt, TextIs, NoArticle};
 ghost use Rattle.nntp_facts.specs.Given.{is_mentioned};
 ghost use Rattle.nntp_facts.specs.Kept.{AreKeptArticles};
-ghost use Rattle.nntp_facts.specs.Articles.{ArticleJoins, head_sent, body_sent, AreSame, MayBeSent, unsent, with_sent, with_new};
-ghost use Rattle.nntp_facts.specs.ArticleView.{lines_held, seen_value, known_value};
+ghost use Rattle.nntp_facts.specs.Articles.{ArticleJoins, unsent, with_new, articles_in};
+ghost use Rattle.nntp_facts.specs.ArticleView.{known_value};
 
-use nntp_article::Parts;
+mod iter;
+mod known;
+
+pub(crate) use iter::{Iter, SeenArticle};
+use known::{Known, Seen, Sent};
 use nntp_wire::{Block, What};
 use std::alloc::{AllocError, Allocator, Global};
 use std::collections::BTreeMap;
 use std::marker::Model;
-
-/// What is known of a message-id that is mentioned.
-#[derive(Drop)]
-enum Known<A: Allocator> {
-    /// It has no article.
-    Denied,
-    /// It has one.
-    There(Seen<A>),
-}
-
-/// What was seen of an article.
-#[derive(Drop)]
-struct Seen<A: Allocator> {
-    /// Whether a success named it.
-    is_sent: bool,
-    /// The lines of its head, where they were sent.
-    head: Option<Vec<Vec<u8, A>, A>>,
-    /// The lines of its body, where they were sent.
-    body: Option<Vec<Vec<u8, A>, A>>,
-}
-
-/// What a success sends of an article.
-#[derive(Drop)]
-struct Sent<'a> {
-    head: Option<Block<'a>>,
-    body: Option<Block<'a>>,
-}
-
-impl<'a> Sent<'a> {
-    fn of(what: What, block: &Option<Block<'a>>) -> Sent<'a>
-        ensures head { (id : Id) → IsTrue (head_fits what id block.now) → result.head ≡ head_sent what block.now }
-        ensures body { (id : Id) → IsTrue (head_fits what id block.now) → result.body ≡ body_sent what block.now }
-    {
-        match (what, block) {
-            (What::Article, Some(lines)) => Sent::parts(Parts::split(lines)),
-            (What::Head, Some(lines)) => Sent {
-                head: Some(lines.copy()),
-                body: None,
-            },
-            (What::Body, Some(lines)) => Sent {
-                head: None,
-                body: Some(lines.copy()),
-            },
-            _ => Sent {
-                head: None,
-                body: None,
-            },
-        }
-    }
-
-    fn parts(parts: Option<Parts<'a>>) -> Sent<'a>
-        ensures head { result.head ≡ option_map (λ p. p.head) parts.entry }
-        ensures body { result.body ≡ option_map (λ p. p.body) parts.entry }
-    {
-        match parts {
-            Some(parts) => Sent {
-                head: Some(parts.head),
-                body: Some(parts.body),
-            },
-            None => Sent {
-                head: None,
-                body: None,
-            },
-        }
-    }
-}
-
-/// Whether lines that are sent are those that are held, where both are there.
-fn are_same<A: Allocator>(sent: &Option<Block<'_>>, lines: &Option<Vec<Vec<u8, A>, A>>) -> bool
-    ensures { IsTrue result ↔ AreSame sent.now (lines_held lines.now) }
-{
-    match (sent, lines) {
-        (Some(sent), Some(lines)) => sent.is_same(lines),
-        _ => true,
-    }
-}
-
-/// Holds lines that are sent, where none are held yet.
-fn hold<A: Allocator + Copy>(
-    alloc: A,
-    lines: &mut Option<Vec<Vec<u8, A>, A>>,
-    sent: &Option<Block<'_>>,
-) -> Result<(), AllocError>
-    ensures { OnOk result (lines_held lines.new ≡ option_or (lines_held lines.old) sent.now) }
-{
-    if let (None, Some(sent)) = (&*lines, sent) {
-        *lines = Some(sent.to_vec(alloc)?);
-    }
-    Ok(())
-}
-
-impl<A: Allocator + Copy> Seen<A> {
-    /// Holds what a success sends.
-    fn send(&mut self, alloc: A, sent: &Sent<'_>) -> Result<(), AllocError>
-        ensures { OnOk result (seen_value self.new ≡ with_sent (seen_value self.old) sent.now.head sent.now.body) }
-    {
-        hold(alloc, &mut self.head, &sent.head)?;
-        hold(alloc, &mut self.body, &sent.body)?;
-        self.is_sent = true;
-        Ok(())
-    }
-}
-
-impl<A: Allocator> Known<A> {
-    /// Whether it has no article.
-    fn is_denied(&self) -> bool
-        ensures { result ≡ (known_value self.now).is_denied }
-    {
-        match self {
-            Known::Denied => true,
-            Known::There(_) => false,
-        }
-    }
-
-    /// Whether this may be sent of its article.
-    fn may_send(&self, sent: &Sent<'_>) -> bool
-        ensures { IsTrue result ↔ MayBeSent (known_value self.now) sent.now.head sent.now.body }
-    {
-        match self {
-            Known::There(seen) => {
-                are_same(&sent.head, &seen.head) && are_same(&sent.body, &seen.body)
-            }
-            Known::Denied => false,
-        }
-    }
-}
-
-impl<A: Allocator + Copy> Known<A> {
-    /// Holds what a success sends, where there is an article.
-    fn send(&mut self, alloc: A, sent: &Sent<'_>) -> Result<(), AllocError>
-        ensures { OnOk result ((known_value self.old).is_denied ≡ false → known_value self.new ≡ with_sent (known_value self.old) sent.now.head sent.now.body) }
-    {
-        match self {
-            Known::There(seen) => seen.send(alloc, sent),
-            Known::Denied => Ok(()),
-        }
-    }
-}
 
 /// What all answers so far say of articles, by message-id.
 #[derive(Drop)]
@@ -163,7 +27,7 @@ pub(crate) struct Articles<A: Allocator = Global> {
 }
 
 impl<A: Allocator> Model for Articles<A> {
-    ghost use Rattle.std.specs.Prelude.{map, List, ℕ};
+    ghost use Rattle.std.specs.Prelude.{List, ℕ};
     ghost use Rattle.std.specs.Coded.{coded_ℕ, coded_list};
     ghost use Rattle.std.specs.Ordering.{nat_cmp};
     ghost use Rattle.std.specs.Cmp.Lexicographic.{slice_cmp};
@@ -172,11 +36,11 @@ impl<A: Allocator> Model for Articles<A> {
 
     ghost Value = { FinMap (slice_cmp nat_cmp) KeptArticle };
 
-    ghost use Rattle.nntp_facts.specs.ArticleView.{known_value, coded_kept};
+    ghost use Rattle.nntp_facts.specs.ArticleView.{entries_value, coded_kept};
 
     ghost coded = { code (coded_list coded_ℕ) coded_kept };
 
-    ghost view = { λ a. from_entries (map (λ e. (e.0.items, known_value e.1)) a.known.entries) };
+    ghost view = { λ a. from_entries (entries_value a.known.entries) };
 }
 
 impl<A: Allocator> Articles<A> {
@@ -225,6 +89,15 @@ impl<A: Allocator> Articles<A> {
             Some(known) => known.is_denied(),
             None => true,
         }
+    }
+}
+
+impl<A: Allocator> Articles<A> {
+    /// The articles that are known, in byte order of their message-ids.
+    pub(crate) fn iter(&self) -> Iter<'_, A>
+        ensures { result ≡ articles_in (map.entries self.now) }
+    {
+        Iter::new(self.known.iter())
     }
 }
 

@@ -81,3 +81,50 @@ fn an_id_is_denied_or_shown(rt: HostRuntime) -> Result<(), Fail> {
     assert_eq!(rt; articles.may_lack(b"<3@x>"), false);
     Ok(())
 }
+
+#[test]
+fn articles_in_byte_order(rt: HostRuntime) -> Result<(), Fail> {
+    let head = block(b"222 0 <a@b>\r\nSubject: s\r\n.\r\n");
+    let body = block(b"222 0 <a@b>\r\n.\r\n");
+    let mut articles = Articles::new(rt.alloc());
+    articles.send(What::Body, b"<3@x>", &body)?;
+    articles.lack(b"<2@x>")?;
+    articles.stand(b"<10@x>")?;
+    articles.send(What::Head, b"<1@x>", &head)?;
+    let mut rest = articles.iter();
+    match rest.next() {
+        Some(article) => {
+            assert_eq!(rt; article.id, b"<10@x>".as_slice());
+            assert_eq!(rt; article.is_sent, false);
+            assert!(rt; article.head.is_none());
+            assert!(rt; article.body.is_none());
+        }
+        None => assert!(rt; false),
+    }
+    match rest.next() {
+        Some(article) => {
+            assert_eq!(rt; article.id, b"<1@x>".as_slice());
+            assert_eq!(rt; article.is_sent, true);
+            match article.head {
+                Some(lines) => {
+                    assert_eq!(rt; lines.len(), 1);
+                    assert_eq!(rt; lines[0].as_slice(), b"Subject: s".as_slice());
+                }
+                None => assert!(rt; false),
+            }
+            assert!(rt; article.body.is_none());
+        }
+        None => assert!(rt; false),
+    }
+    match rest.next() {
+        Some(article) => {
+            assert_eq!(rt; article.id, b"<3@x>".as_slice());
+            assert_eq!(rt; article.is_sent, true);
+            assert!(rt; article.head.is_none());
+            assert!(rt; article.body.is_some_and(|lines| lines.is_empty()));
+        }
+        None => assert!(rt; false),
+    }
+    assert!(rt; rest.next().is_none());
+    Ok(())
+}

@@ -4,7 +4,7 @@ use Rattle.std.specs.Cmp.Lexicographic.{slice_cmp, nat_list_cmp_total}
 use Rattle.std.specs.FinMap as map
 use Rattle.nntp_wire.proofs.ShownMaps.{get-shown, is_some-option_map}
 use Rattle.nntp_facts.specs.ArticleView.{known_value}
-use Rattle.nntp_facts.proofs.KeptArticles.{says}
+use Rattle.nntp_facts.proofs.SaidOfArticles.{says}
 use Rattle.nntp_facts.proofs.articles.Articles.mentions.Goals as goal
 
 pub returns-clause-is : goal.returns-clause-is
