@@ -1,6 +1,5 @@
 -- What is kept of groups, once more is told of one.
-use Rattle.std.proofs.Common.{◌≡◌, ℕ, Bool, true, false, ◌==◌, cond, IsTrue, List, [], ◌∷◌, ◌++◌, Option, None, Some, is_some, MatchOption, Result, Ok, Err, refl, sym, ap, subst, ◌∙◌}
-use Rattle.std.specs.Prelude.{OnOk}
+use Rattle.std.proofs.Common.{◌≡◌, ℕ, Bool, true, false, ◌==◌, cond, IsTrue, List, [], ◌∷◌, ◌++◌, Option, None, Some, is_some, MatchOption, refl, sym, ap, subst, ◌∙◌}
 use Rattle.std.specs.Option.{option_or}
 use Rattle.std.specs.FinMap.{FinMap, get, insert, empty, get-insert, get-empty}
 use Rattle.std.specs.Ordering.{nat_cmp, eq_by_cmp}
@@ -94,8 +93,3 @@ none_kept tells groups name not_shown kept = by (get groups name) refl
     by : (o : Option KeptGroup) → get groups name ≡ o → get groups name ≡ None
     by None is = is
     by (Some g) is = absurd (true≢false (sym (ap is_some is) ∙ shown_kept tells groups name kept ∙ sym not_shown))
-
--- what follows where a call succeeds
-pub on_ok : {A E P Q : Type 0} (r : Result A E) → (P → Q) → OnOk r P → OnOk r Q
-on_ok (Ok x) f p = f p
-on_ok (Err e) f p = tt

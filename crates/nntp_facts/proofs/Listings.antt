@@ -1,16 +1,15 @@
 -- The numbers that an answer to LISTGROUP lists, and the intervals that they leave.
-use Rattle.std.proofs.Common.{◌≡◌, ℕ, ◌+◌, ◌-◌, ◌^◌, ◌<◌, ◌≤◌, Bool, true, false, cond, not, ◌&&◌, ◌||◌, ◌==◌, IsTrue, List, [], ◌∷◌, ◌++◌, get_or, suc, Option, None, Some, inl, inr, refl, sym, ap, subst, ◌∙◌, arith}
+use Rattle.std.proofs.Common.{◌≡◌, ℕ, ◌+◌, ◌-◌, ◌^◌, ◌<◌, ◌≤◌, Bool, true, false, cond, not, ◌&&◌, ◌||◌, ◌==◌, IsTrue, List, [], ◌∷◌, get_or, suc, Option, None, Some, inl, inr, refl, sym, ap, subst, ◌∙◌, arith}
 use Rattle.std.specs.Prelude.{◌↔◌, nat_lt, nat_le, unwrap_or}
 use Rattle.std.specs.List.{list_all}
 use Rattle.std.specs.Option.{option_map_or}
-use Rattle.std.proofs.lemmas.Bool.{true≢false, and_parts, and_from, or_left, or_right, or_cases, cases_lt, cases_eq, cases_order, false_from_ne_true, le-leb, leb-true, lt-ltb, ltb-true, eq-eqb, eqb-true, ne_eqb}
+use Rattle.std.proofs.lemmas.Bool.{true≢false, and_parts, and_from, or_left, or_right, or_cases, cases_lt, cases_order, false_from_ne_true, le-leb, leb-true, lt-ltb, ltb-true, eq-eqb, eqb-true, ne_eqb}
 use Rattle.nntp_wire.specs.declared.water_marks.WaterMarks.{WaterMarks}
 use Rattle.nntp_wire.specs.declared.range.Range.{Range}
 use Rattle.nntp_intervals.specs.Intervals.{holds, is_between}
 use Rattle.nntp_article.specs.Machine.{is_ascending, is_in_range}
-use Rattle.nntp_facts.specs.Asks.{Ask, Estimates, ListsIn}
-use Rattle.nntp_facts.specs.Given.{is_shown, is_denied, Demand, NoDemand, join}
-use Rattle.nntp_facts.specs.Summary.{has, Says, is_one_of, list_denies, denied_after, AgreesWith, MayBeListed}
+use Rattle.nntp_facts.specs.Asks.{Estimates, ListsIn}
+use Rattle.nntp_facts.specs.Summary.{has, Says, is_one_of, list_denies, AgreesWith, MayBeListed}
 use Rattle.nntp_facts.specs.Listing.{last_in, gaps, number_behind, AreListable, AreSmall, is_open, said_listed}
 use Rattle.nntp_facts.proofs.Added.{same_bool, or_false}
 use Rattle.nntp_facts.proofs.FirstListed.{not_above}
@@ -131,6 +130,14 @@ and_true : (a : Bool) → a ≡ (a && true)
 and_true true = refl
 and_true false = refl
 
+pub or_or : (a b c : Bool) → ((a || b) || c) ≡ (a || (b || c))
+or_or true b c = refl
+or_or false b c = refl
+
+or_is_false : (a b : Bool) → (a || b) ≡ false → (a ≡ false) × (b ≡ false)
+or_is_false true b e = cc
+or_is_false false b e = (refl, e)
+
 -- a number that isn't listed is in an interval, and no other
 pub gaps_hold : (start last : ℕ) (ns : List ℕ) → IsTrue (is_ascending ns) → AreWithin start last ns → (m : ℕ) → m < 2 ^ 64 → holds (gaps (Some start) last ns) m ≡ (is_between start last m && not (is_one_of ns m))
 gaps_hold start last [] up within m small = sym (or_none (is_between start last m)) ∙ and_true (is_between start last m)
@@ -212,23 +219,11 @@ module _ (m : WaterMarks) (r : Range) (ns : List ℕ) (may : AreListable r ns) (
         (elim (cases_lt n m.low) [ inl l ↦ absurd (true≢false (sym (lt-ltb n m.low l) ∙ low.0)) | inr g ↦ le-leb m.low n g ])
         (elim (cases_lt m.high n) [ inl l ↦ absurd (true≢false (sym (lt-ltb m.high n l) ∙ low.1)) | inr g ↦ le-leb n m.high g ]))
         (ap not (or_is_false (holds denied n) (list_denies m.low m.high r.first (last_in r) ns n) free).0))
-      where
-        or_is_false : (a b : Bool) → (a || b) ≡ false → (a ≡ false) × (b ≡ false)
-        or_is_false true b e = cc
-        or_is_false false b e = (refl, e)
 
 -- the numbers of a slice are of 64 bits
 pub small_items : (ns : List ℕ) → ((i : ℕ) → get_or ns i 0 < 2 ^ 64) → AreSmall ns
 small_items [] fits n t = cc
 small_items (k ∷ ns) fits n t = elim (or_cases (n == k) (is_one_of ns n) t) [ inl e ↦ (let a = fits 0 in let b = eqb-true n k e in omega arith) | inr u ↦ small_items ns (λ i. fits (suc i)) n u ]
-
-pub or_or : (a b c : Bool) → ((a || b) || c) ≡ (a || (b || c))
-or_or true b c = refl
-or_or false b c = refl
-
-or_is_false : (a b : Bool) → (a || b) ≡ false → (a ≡ false) × (b ≡ false)
-or_is_false true b e = cc
-or_is_false false b e = (refl, e)
 
 -- where no shown number is outside the marks, none is denied exactly if none is in an interval
 pub none_denied : (m : WaterMarks) (r : Range) (ns : List ℕ) → AreListable r ns → AreSmall ns → (shown : List ℕ) (is : List (ℕ × ℕ)) (b : Bool) → m.high < 2 ^ 64 → is ≡ gaps (Some r.first) (last_in r) ns

@@ -1,10 +1,9 @@
 -- To say an estimate twice says no more.
 use Rattle.std.proofs.Common.{◌≡◌, ℕ, Bool, true, false, ◌&&◌, ◌||◌, List, ◌∷◌, Some, inl, inr, refl, sym, ◌∙◌}
 use Rattle.std.specs.Prelude.{◌↔◌, nat_lt}
-use Rattle.nntp_article.specs.Spool.{Numbers}
 use Rattle.nntp_wire.specs.declared.water_marks.WaterMarks.{WaterMarks}
 use Rattle.nntp_facts.specs.Asks.{Ask, Estimates}
-use Rattle.nntp_facts.specs.Given.{is_denied, demand, IsOneMore, IsGivenNumber, HasGivenNumbers}
+use Rattle.nntp_facts.specs.Given.{is_denied, demand, IsOneMore, IsGivenNumber}
 use Rattle.nntp_facts.specs.Together.{AsksStand}
 use Rattle.nntp_facts.specs.Summary.{is_within, is_within_all, Summary, IsSummary}
 use Rattle.nntp_facts.proofs.GivenNumbers.{same_demand}

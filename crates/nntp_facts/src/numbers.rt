@@ -1,14 +1,12 @@
 //! What all answers so far say of the numbers of one group.
-ghost use Rattle.std.specs.Prelude.{◌≡◌, ℕ, Bool, not, nat_lt, ◌^◌, ◌-◌, ◌<◌, ◌↔◌, true, false, ◌&&◌, ◌||◌, List, [], ◌∷◌, ◌++◌, IsTrue, OnOk, IfOk, ◌≤◌, MatchOption};
-ghost use Rattle.std.specs.Ordering.{nat_cmp};
-ghost use Rattle.std.specs.List.Sorted.{IsStrictlySortedBy};
-ghost use Rattle.nntp_intervals.specs.Intervals.{holds, is_between};
+ghost use Rattle.std.specs.Prelude.{◌≡◌, ℕ, not, nat_lt, ◌^◌, ◌-◌, ◌<◌, ◌↔◌, true, false, ◌&&◌, ◌||◌, List, [], ◌∷◌, ◌++◌, IsTrue, OnOk, IfOk, ◌≤◌, MatchOption};
+ghost use Rattle.nntp_intervals.specs.Intervals.{holds};
 ghost use Rattle.nntp_facts.specs.Asks.{Ask, Estimates, Bounds};
 ghost use Rattle.nntp_facts.specs.Given.{is_denied, IsOneMore};
 ghost use Rattle.nntp_facts.specs.Together.{AsksStand};
 ghost use Rattle.nntp_facts.specs.Listing.{AreListable};
 ghost use Rattle.nntp_facts.specs.ListingView.{asks_listed};
-ghost use Rattle.nntp_facts.specs.Summary.{demand_of, has, is_within, part_shows, part_denies, said, Says, shown_after, denied_after, FirstFreeBelow, AgreesWith, is_settled, IsSummary, Stands};
+ghost use Rattle.nntp_facts.specs.Summary.{demand_of, has, is_within, part_shows, part_denies, said, Says, denied_after, AgreesWith, is_settled, IsSummary, Stands};
 
 use crate::ask;
 use crate::free::free_after;

@@ -1,9 +1,8 @@
-use Rattle.std.proofs.Common.{Some, None, option_map, ap, sym, ◌∙◌}
+use Rattle.std.proofs.Common.{Some, option_map, ap, sym, ◌∙◌}
 use Rattle.std.specs.Ordering.{nat_cmp}
 use Rattle.std.specs.Cmp.{nat_cmp_total}
 use Rattle.std.specs.FinMap as map
 use Rattle.nntp_wire.proofs.ShownMaps.{get-shown}
-use Rattle.nntp_facts.specs.Kept.{KeptGroup}
 use Rattle.nntp_facts.proofs.group.Group.id.Goals as goal
 
 pub returns-in-Some : goal.returns-in-Some

@@ -3,7 +3,8 @@ use Rattle.nntp_facts.specs.Asks.{Estimates, ListsIn}
 use Rattle.nntp_facts.specs.Kept.{AreKept}
 use Rattle.nntp_facts.specs.ListingView.{asks_listed, marks_of}
 use Rattle.nntp_facts.proofs.Twice.{twice_kept}
-use Rattle.nntp_facts.proofs.KeptGroups.{new_kept, none_kept, on_ok}
+use Rattle.nntp_facts.proofs.KeptGroups.{new_kept, none_kept}
+use Rattle.nntp_facts.proofs.OkResults.{on_ok}
 use Rattle.nntp_facts.proofs.groups.Groups.list.Goals as goal
 
 pub returns : goal.returns

@@ -1,7 +1,8 @@
 use Rattle.std.proofs.Common.{[], ◌∷◌, sym, subst}
 use Rattle.nntp_facts.specs.Asks.{Estimates}
 use Rattle.nntp_facts.specs.Kept.{AreKept}
-use Rattle.nntp_facts.proofs.KeptGroups.{new_kept, none_kept, on_ok}
+use Rattle.nntp_facts.proofs.KeptGroups.{new_kept, none_kept}
+use Rattle.nntp_facts.proofs.OkResults.{on_ok}
 use Rattle.nntp_facts.proofs.groups.Groups.select.Goals as goal
 
 pub returns-then-is_shown : goal.returns-then-is_shown

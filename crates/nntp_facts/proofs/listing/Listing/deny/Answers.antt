@@ -1,4 +1,4 @@
-use Rattle.std.proofs.Common.{List, ℕ, ◌||◌, ap, ◌∙◌}
+use Rattle.std.proofs.Common.{◌||◌, ap, ◌∙◌}
 use Rattle.std.specs.Prelude.{nat_lt}
 use Rattle.nntp_intervals.specs.Intervals.{holds}
 use Rattle.nntp_facts.specs.ListingView.{marks_of}
