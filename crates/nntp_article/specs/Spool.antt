@@ -46,11 +46,11 @@ numbers S name = unwrap_or (get S.groups name) empty
 abbrev pub IsNumber : Numbers → ℕ → Type 0
 IsNumber N n = IsSome (get N n)
 
--- the first of the numbers
+-- the least number, or none where there is no number: the first of the keys, which ascend
 abbrev pub least : Numbers → Option ℕ
 least N = slice_get (keys N) 0
 
--- the least number, or none where there is no number
+-- first is none where there is no number, and else a number that none is below
 abbrev pub IsFirst : Numbers → Option ℕ → Type 0
 IsFirst N first = MatchOption first ((m : ℕ) → get N m ≡ None) (λ n. IsNumber N n × ((m : ℕ) → IsNumber N m → n ≤ m))
 

@@ -134,6 +134,17 @@ as_many (p ∷ ps) (x ∷ answers) (y ∷ others) sp tp rest more (b, tail, s, s
     let r = as_many ps answers others tail tail' rest more ss ts left (omega arith) in
     ((λ i. same.0 i ∷ r.0 i), r.1)
 
+-- so two streams begin with k answers in one way
+pub one_before : (client server : List ℕ) (k : ℕ) (b c : AnswersFirst client server k) → (b.answers ≡ c.answers) × (b.rest ≡ c.rest)
+one_before client server k b c =
+    let x = b.count in
+    let y = c.count in
+    as_many (prompts_of client) b.answers c.answers b.octets c.octets b.rest c.rest b.spelled c.spelled (sym b.whole ∙ c.whole) (omega arith)
+
+-- and are closed there, or not
+pub closed_before : (client server : List ℕ) (k : ℕ) (b c : AnswersFirst client server k) → (left_visible client server k b).closed ≡ (left_visible client server k c).closed
+closed_before client server k b c = ap (λ answers. (visible_from start.visible (prompts_of client) answers).closed) (one_before client server k b c).0
+
 -- ---- one class
 
 -- a spelling has a whole frame
@@ -206,9 +217,7 @@ one_class profile client server k ((S, rest, x, some), none) =
     same : (before : AnswersFirst client server k) (class : Class) → IsClass (left_visible client server k before).closed profile (left_visible client server k before) (asked_next (prompts_of client) before.answers) before.rest class
         → (other : Class) → HasClass profile client server k other → other ≡ class
     same before class is other h =
-        let a = h.before.count in
-        let b = before.count in
-        let both = as_many (prompts_of client) h.before.answers before.answers h.before.octets before.octets h.before.rest before.rest h.before.spelled before.spelled (sym h.before.whole ∙ before.whole) (omega arith) in
+        let both = one_before client server k h.before before in
         let v : List Response → Visible = λ answers. visible_from start.visible (prompts_of client) answers in
         class_once (v before.answers).closed profile (v before.answers) (asked_next (prompts_of client) before.answers) before.rest other class
         (subst (λ (x : List Response × List ℕ). IsClass (v x.0).closed profile (v x.0) (asked_next (prompts_of client) x.0) x.1 other) (λ i. (both.0 i, both.1 i)) h.is_class) is
@@ -243,8 +252,8 @@ settled Surplus closed = closed ≡ true
 settled Cut closed = ⊥
 settled class closed = IsTrue true
 
-settled_by : (profile : Profile) (client server : List ℕ) (k : ℕ) (class : Class) (h : HasClass profile client server k class) → IsSettled profile client server k class h → settled class (left_visible client server k h.before).closed
-settled_by profile client server k Surplus h s = s
+settled_by : (profile : Profile) (client server : List ℕ) (k : ℕ) (class : Class) (h : HasClass profile client server k class) → IsSettled client server k class → settled class (left_visible client server k h.before).closed
+settled_by profile client server k Surplus h s = closed_before client server k h.before s.before ∙ s.closed
 settled_by profile client server k Cut h s = absurd s
 settled_by profile client server k Malformed h s = refl
 settled_by profile client server k OutOfPlace h s = refl
@@ -271,7 +280,7 @@ class_longer false profile v ps qs answers octets more class s h = by (asked_nex
     by (Some asked) e h = subst (λ next. IsClass false profile v next (octets ++ more) class) (sym (asked_longer ps qs answers asked e)) (open_longer profile v asked octets more class s h)
 
 -- below, answer k is bad, of a settled class
-module _ (profile : Profile) (client server more_client more_server : List ℕ) (k : ℕ) (class : Class) (h : HasClass profile client server k class) (s : IsSettled profile client server k class h) where
+module _ (profile : Profile) (client server more_client more_server : List ℕ) (k : ℕ) (class : Class) (h : HasClass profile client server k class) (s : IsSettled client server k class) where
   -- the class is the same
   pub class_stays : HasClass profile (client ++ more_client) (server ++ more_server) k class
   unfolding before_longer

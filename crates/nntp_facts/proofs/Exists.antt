@@ -31,9 +31,9 @@ given_exists profile ps answers fits small =
     let G = made profile.limit (10 ^ 64) facts in
     let within = free_in_limit profile facts (session_fitting profile ps answers fits) (session_placed profile ps answers fits) in
     let group = made_group profile.limit (10 ^ 64) facts in
-    made_is_given profile.limit (10 ^ 64) facts number-invented (λ name shown e x. within name shown e x.not_denied)
+    made_is_given profile.limit (10 ^ 64) facts number-invented (λ name shown e x. within name shown e x.first.1)
     (few_enough facts (length (unshown_ids facts G)) small
-    (unshown_ids_few facts G (λ name. (group name).0) (λ name i. made_given profile.limit (10 ^ 64) facts name (λ e x. within name ((group name).0 i) e x.not_denied) i)))
+    (unshown_ids_few facts G (λ name. (group name).0) (λ name i. made_given profile.limit (10 ^ 64) facts name (λ e x. within name ((group name).0 i) e x.first.1) i)))
 
 -- some spool permits a session exactly if it fits and stands together
 pub permitted_together : (profile : Profile) (ps : List Asked) (answers : List Response) → size (facts_of_session ps answers) < 2 ^ 210 → SomePermits profile ps answers ↔ (FitsAll profile start.visible ps answers × Together (facts_of_session ps answers))

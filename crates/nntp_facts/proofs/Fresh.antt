@@ -63,7 +63,7 @@ module _ (B : ℕ) (small : (i : ℕ) → i < B → number_of (invented i) ≡ i
   -- the numbers from k on, behind those that were invented before
   numbered_from : (ids : List Id) (k : ℕ) (done : List ℕ) → ((i : ℕ) → i < k → list_any (eqb i) (done ++ mentioned facts) ≡ true) → length (mentioned facts) + length done + length ids < B → AreInvented facts k ids → Numbered k ids
   numbered_from [] k done below few h = tt
-  numbered_from (id ∷ ids) k done below few (j, from, is, free, passed, rest) =
+  numbered_from (id ∷ ids) k done below few (j, (from, free, passed), is, rest) =
       let used : (i : ℕ) → i < j → i < B → list_any (eqb i) (done ++ mentioned facts) ≡ true = λ i l s.
       elim (cases_lt i k) [ inl b ↦ below i b | inr g ↦ any_back (eqb i) done (mentioned facts) (counted i facts s (passed i g l)) ] in
       let count : length (done ++ mentioned facts) ≡ length done + length (mentioned facts) = length-append done (mentioned facts) in

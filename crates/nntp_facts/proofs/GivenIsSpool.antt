@@ -70,7 +70,7 @@ module _ (profile : Profile) (B : ℕ) (G : Spool) (facts : List Fact) (s : Sett
       let group : IsGroup G name = ap is_some g.1 in
       elim ((s.given.numbers_given name group n).0 i) [
         | inl shown ↦ shown_in_limit profile facts s.fitting s.placed name n shown
-        | inr more ↦ (more.positive, free_in_limit profile facts s.fitting s.placed name ((s.given.groups name).0 group) n more.not_denied)
+        | inr more ↦ (more.first.0, free_in_limit profile facts s.fitting s.placed name ((s.given.groups name).0 group) n more.first.1)
       ]
 
   -- an id that is shown is mentioned

@@ -10,20 +10,11 @@ use Rattle.std.proofs.lemmas.Bool.{cases_order, true≢false}
 use Rattle.nntp_article.specs.Spool.{Spool, Text, Numbers, IsNumber, IsGroup, numbers, Name}
 use Rattle.nntp_facts.specs.Facts.{Fact}
 use Rattle.nntp_facts.specs.Given.{id_shown, is_mentioned, invented, AreInvented, unshown_in, IsGiven}
+use Rattle.nntp_facts.proofs.FirstFree.{first_free_once}
 use Rattle.nntp_facts.proofs.Members.{In, in_map, from_map}
 use Rattle.nntp_facts.proofs.Maps.{sorted_as, get_in, in_get}
 use Rattle.nntp_facts.proofs.Made.{names_apart}
 use Rattle.nntp_article.specs.Article.{Id}
-
--- the least number from k on whose invented id isn't mentioned is one
-same_next : (facts : List Fact) (k i j : ℕ) → k ≤ i → k ≤ j → IsFalse (is_mentioned facts (invented i)) → IsFalse (is_mentioned facts (invented j))
-    → ((m : ℕ) → k ≤ m → m < i → IsTrue (is_mentioned facts (invented m))) → ((m : ℕ) → k ≤ m → m < j → IsTrue (is_mentioned facts (invented m))) → i ≡ j
-same_next facts k i j a b free free' passed passed' =
-    elim (cases_order i j) [
-      | inl same ↦ same
-      | inr (inl l) ↦ absurd (true≢false (sym (passed' i a l) ∙ free))
-      | inr (inr g) ↦ absurd (true≢false (sym (passed j b g) ∙ free'))
-    ]
 
 -- ids at numbers for which one is shown are those
 abbrev Agree : List Fact → Name → List (ℕ × Id) → Type 0
@@ -57,8 +48,8 @@ same_group facts name k (e ∷ es) (f ∷ fs) xs ys keys ag ag' h g =
         let a = ag e.0 e.1 id (inl refl) is in
         let b = ag' f.0 f.1 id (inl refl) (ap (id_shown facts name) (sym first_key) ∙ is) in
         (joined id (a ∙ sym b) r.0, r.1)
-    by None is rec (i, a, is_i, free, passed, h) (j, b, is_j, free', passed', g) =
-        let same = same_next facts k i j a b free free' passed passed' in
+    by None is rec (i, a, is_i, h) (j, b, is_j, g) =
+        let same = first_free_once (λ i. is_mentioned facts (invented i)) k i j a b in
         let r = rec (i + 1) h (subst (λ n. AreInvented facts (n + 1) (unshown_in facts name fs ++ ys)) (sym same) g) in
         (joined e.1 (is_i ∙ ap invented same ∙ sym is_j) r.0, r.1)
 

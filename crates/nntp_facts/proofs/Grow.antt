@@ -7,13 +7,13 @@ use Rattle.nntp_facts.specs.Asks.{Position, Nowhere, position_after}
 use Rattle.nntp_facts.specs.Facts.{facts_of, facts_from, FitsAll}
 use Rattle.nntp_facts.specs.Given.{facts_of_session, size}
 use Rattle.nntp_facts.specs.Classes.{visible_from, position_from, asked_next}
-use Rattle.nntp_facts.specs.Permits.{SomePermits, asked_of}
+use Rattle.nntp_facts.specs.Permits.{SomePermits}
 use Rattle.nntp_facts.proofs.Size.{session_size}
 use Rattle.nntp_facts.proofs.Octets.{light}
 use Rattle.nntp_facts.proofs.Spellings.{are_spellings}
 use Rattle.nntp_wire.specs.Answer.{Asked, Response}
 use Rattle.nntp_wire.specs.Session.{prompts_of, Spelled}
-use Rattle.nntp_pair.specs.Pairing.{Paired, Unpaired, AreNext, responses_of, asked_at, streams}
+use Rattle.nntp_pair.specs.Pairing.{Paired, Unpaired, AreNext, responses_of, asked_of, asked_at, streams}
 use Rattle.nntp_pair.proofs.SpelledLemmas.{places-prompts, pairs-spelled}
 
 -- ---- one answer more
@@ -127,6 +127,13 @@ pairs_permitted profile client server pairs left paired =
     let more = prompts_of_pairs client server pairs left paired in
     subst (λ ps. SomePermits profile ps (responses_of pairs) ↔ SomePermits profile (asked_of pairs) (responses_of pairs)) (sym more.1) (permitted_by_answered profile (asked_of pairs) more.0 (responses_of pairs) (as_many pairs))
 
+-- and what they say is said by these alone
+pub facts_by_pairs : (client server : List ℕ) (pairs : List Paired) (left : Unpaired) → AreNext (streams client server) pairs left
+    → facts_of_session (prompts_of client) (responses_of pairs) ≡ facts_of_session (asked_of pairs) (responses_of pairs)
+facts_by_pairs client server pairs left paired =
+    let more = prompts_of_pairs client server pairs left paired in
+    ap (λ ps. facts_of_session ps (responses_of pairs)) more.1 ∙ facts_by_answered start.visible Nowhere (asked_of pairs) more.0 (responses_of pairs) (as_many pairs)
+
 -- ---- octets
 
 -- what answers say is bounded by the octets that spell them
@@ -136,10 +143,8 @@ size_by_octets ps answers octets spelled = let a = session_size ps answers in le
 -- and what pairs say by the server's
 pub size_by_pairs : (client server : List ℕ) (pairs : List Paired) (left : Unpaired) → AreNext (streams client server) pairs left → size (facts_of_session (asked_of pairs) (responses_of pairs)) ≤ length server
 size_by_pairs client server pairs left paired =
-    let more = prompts_of_pairs client server pairs left paired in
     let spelled = (pairs-spelled client server pairs left paired).0 in
-    let same : facts_of_session (prompts_of client) (responses_of pairs) ≡ facts_of_session (asked_of pairs) (responses_of pairs) =
-    ap (λ ps. facts_of_session ps (responses_of pairs)) more.1 ∙ facts_by_answered start.visible Nowhere (asked_of pairs) more.0 (responses_of pairs) (as_many pairs) in
+    let same = facts_by_pairs client server pairs left paired in
     let most = size_by_octets (prompts_of client) (responses_of pairs) spelled.0 spelled.1 in
     let whole = ap length spelled.2 ∙ length-append spelled.0 left.server in
     let equal = ap size same in

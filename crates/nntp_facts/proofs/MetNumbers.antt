@@ -14,6 +14,7 @@ use Rattle.nntp_article.specs.Spool.{Numbers, IsNumber, least, IsNextAbove, IsNe
 use Rattle.nntp_article.specs.Machine.{is_in_range}
 use Rattle.nntp_facts.specs.Asks.{Nowhere, First, Known, current_in, Ask, Meets, Estimates, Bounds, ListsIn, Has, Lacks, StandsAt, StandsNowhere, StepsUp, StepsDown, IsTop, IsBottom}
 use Rattle.nntp_facts.specs.Given.{shows, denies, is_shown, is_denied, Demand, NoDemand, NotEmpty, OnlyOne, SecondIs, Impossible, demand_in, join, demand, wants, IsOneMore, IsGivenNumber, HasGivenNumbers}
+use Rattle.nntp_facts.proofs.FirstFree.{first_free_once, first_free}
 use Rattle.nntp_facts.specs.Together.{is_possible, MeetsDemand, IsFewFor, AsksStand}
 use Rattle.nntp_facts.proofs.Members.{In, all_at, all_from, any_in, found_in, contains_in, in_contains}
 use Rattle.nntp_facts.proofs.Firsts.{Empty, Begins, firsts, not_number, len_le}
@@ -247,26 +248,9 @@ len_replaced G d c there only =
     removed true e = refl
     removed false e = false_from_ne_true _ (λ i. true≢false (sym (unsigned_tied c d ∙ eq-eqb c d (only i)) ∙ e))
 
--- the least from 1 on that passes no test, where c does
-pub free_from : (p : ℕ → Bool) (c k n : ℕ) → IsFalse (p c) → 1 ≤ n → n ≤ c → c < n + k → ((m : ℕ) → 1 ≤ m → m < n → IsTrue (p m)) → (n : ℕ) × (1 ≤ n) × IsFalse (p n) × ((m : ℕ) → 1 ≤ m → m < n → IsTrue (p m))
-free_from p c zero n free one a b before = absurd (omega arith)
-free_from p c (suc k) n free one a b before =
-    elim (cases_Bool (p n)) [
-      | inr f ↦ (n, one, f, before)
-      | inl t ↦
-          let apart : n ≡ c → ⊥ = λ e. true≢false (sym t ∙ ap p e ∙ free) in
-          free_from p c k (n + 1) free (omega arith) (omega arith) (omega arith) (λ m x y.
-          elim (cases_eq m n) [ inl e ↦ ap p e ∙ t | inr ne ↦ before m x (omega arith) ])
-    ]
-
 -- there is one more number at most
 pub one_more_once : (asks : List Ask) (e d : ℕ) → IsOneMore asks e → IsOneMore asks d → e ≡ d
-one_more_once asks e d x y =
-    elim (cases_order e d) [
-      | inl same ↦ same
-      | inr (inl l) ↦ absurd (true≢false (sym (y.is_least e x.positive l) ∙ x.not_denied))
-      | inr (inr g) ↦ absurd (true≢false (sym (x.is_least d y.positive g) ∙ y.not_denied))
-    ]
+one_more_once asks e d x y = first_free_once (is_denied asks) 1 e d x.first y.first
 
 -- ---- numbers that meet what is asked
 
@@ -284,10 +268,8 @@ module _ (asks : List Ask) (N : Numbers) (met : AllByRecursion (Meets N) asks) (
   -- where no number is shown that is wanted, and one of N is wanted, there is one more
   one_more : (n : ℕ) → IsNumber N n → wants (demand asks) n ≡ true → ((m : ℕ) → IsTrue (is_shown asks m) → IsFalse (wants (demand asks) m)) → (e : ℕ) × IsOneMore asks e
   one_more n i t needed =
-      let one = positive n i in
-      let f = free_from (is_denied asks) n n 1 (free_in_N n i) (omega arith) one (omega arith) (λ m a b. absurd (omega arith)) in
-      let low : f.0 ≤ n = elim (cases_lt n f.0) [ inl l ↦ absurd (true≢false (sym (f.3 n one l) ∙ free_in_N n i)) | inr g ↦ g ] in
-      (f.0, record { needed = needed; wanted = wants_less (demand asks) n f.0 low t; positive = f.1; not_denied = f.2; is_least = f.3 })
+      let f = first_free (is_denied asks) 1 n (positive n i) (free_in_N n i) in
+      (f.0, record { needed = needed; wanted = wants_less (demand asks) n f.0 f.2 t; first = f.1 })
 
   -- where N has a number that is wanted, one is given
   given_wanted : (n : ℕ) → IsNumber N n → wants (demand asks) n ≡ true → (k : ℕ) × IsGivenNumber asks k × (wants (demand asks) k ≡ true)
@@ -362,7 +344,7 @@ module _ (asks : List Ask) (N : Numbers) (met : AllByRecursion (Meets N) asks) (
   pub asks_stand : AsksStand asks
   asks_stand = record {
     possible = all_from (λ ask. IsTrue (is_possible ask)) asks (λ ask i. possible_in N ask (all_at (Meets N) ask asks met i));
-    not_denied = λ n i. elim i [ inl s ↦ free_in_N n (shown_in_N n s) | inr x ↦ x.not_denied ];
+    not_denied = λ n i. elim i [ inl s ↦ free_in_N n (shown_in_N n s) | inr x ↦ x.first.1 ];
     demand_met = demand_given (demand asks) refl (demand_of N asks met);
     few = λ G given. all_from (IsFewFor G) asks (λ ask i. few_for G (as_few G given) ask (all_at (Meets N) ask asks met i));
   }

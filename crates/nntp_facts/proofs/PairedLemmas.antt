@@ -1,8 +1,8 @@
 -- Where the pairing of two streams ends at octets, they have the class of that end.
-use Rattle.std.proofs.Common.{◌≡◌, ℕ, suc, Bool, true, false, List, [], ◌∷◌, length, map, Option, None, Some, ⊎_elim, refl, sym, ap, subst, ◌∙◌}
+use Rattle.std.proofs.Common.{◌≡◌, ◌↔◌, ℕ, suc, Bool, true, false, List, [], ◌∷◌, length, map, Option, None, Some, ⊎_elim, refl, sym, ap, subst, ◌∙◌}
 use Rattle.nntp_wire.specs.Answer.{Asked}
 use Rattle.nntp_wire.specs.Session.{prompts_of}
-use Rattle.nntp_pair.specs.Pairing.{Paired, Unpaired, AreNext, IsBad, responses_of, asked_at, streams}
+use Rattle.nntp_pair.specs.Pairing.{Paired, Unpaired, AreNext, IsBad, IsLasting, responses_of, asked_at, streams}
 use Rattle.nntp_pair.proofs.SpelledLemmas.{places-prompts, pairs-spelled}
 use Rattle.nntp_pair.specs.declared.class.PairClass.{PairClass}
 use Rattle.nntp_pair.specs.declared.class.PairClass.TheVariants.{Surplus as surplus, Cut as cut, Malformed as malformed}
@@ -11,7 +11,8 @@ use Rattle.nntp_article.specs.declared.profile.Profile.{Profile}
 use Rattle.nntp_article.specs.Machine.{Visible, start, visible_after, Run}
 use Rattle.nntp_article.specs.Explains.{ExplainsUpTo}
 use Rattle.nntp_article.proofs.Closing.{after-closes}
-use Rattle.nntp_facts.specs.Classes.{visible_from, asked_next, IsClass, HasClass, class_of, Class}
+use Rattle.nntp_facts.specs.Classes.{visible_from, asked_next, AnswersFirst, IsClass, HasClass, IsSettled, class_of, Class}
+use Rattle.nntp_facts.proofs.ClassLemmas.{closed_before}
 
 -- what is asked at the first of the places
 abbrev pub first_asked : List (Option (List ℕ)) → Option Asked
@@ -64,26 +65,48 @@ pub count : (pairs : List Paired) → length (responses_of pairs) ≡ length pai
 count [] = refl
 count (pair ∷ pairs) = ap suc (count pairs)
 
+-- pairs are the first answers of both streams
+pub pairs_before : (client server : List ℕ) (pairs : List Paired) (left : Unpaired) → AreNext (streams client server) pairs left → AnswersFirst client server (length pairs)
+pairs_before client server pairs left paired =
+    let spelled = (pairs-spelled client server pairs left paired).0 in
+    record {
+      answers = responses_of pairs;
+      octets = spelled.0;
+      rest = left.server;
+      count = count pairs;
+      spelled = spelled.1;
+      whole = spelled.2;
+    }
+
+-- and leave the connection open or closed, as these do
+pub pairs_close : (client server : List ℕ) (pairs : List Paired) (left : Unpaired) → AreNext (streams client server) pairs left → left.is_closed ≡ (visible_from start.visible (prompts_of client) (responses_of pairs)).closed
+pairs_close client server pairs left paired =
+    (paired_up start.visible (streams client server) left pairs refl paired).closed ∙ ap (λ ps. (visible_from start.visible ps (responses_of pairs)).closed) (places-prompts client)
+
+-- so the octets that they leave are settled where the end of a pairing there stays
+pub settled_lasts : (client server : List ℕ) (pairs : List Paired) (left : Unpaired) (class : PairClass) → AreNext (streams client server) pairs left
+    → IsSettled client server (length pairs) (class_of class) ↔ IsLasting class left
+unfolding pairs_before
+settled_lasts client server pairs left surplus paired = (
+  λ s. pairs_close client server pairs left paired ∙ closed_before client server (length pairs) (pairs_before client server pairs left paired) s.before ∙ s.closed,
+  λ closed. record { before = pairs_before client server pairs left paired; closed = sym (pairs_close client server pairs left paired) ∙ closed },
+)
+settled_lasts client server pairs left cut paired = (λ s. s, λ l. l)
+settled_lasts client server pairs left malformed paired = (λ s. s, λ l. l)
+
 -- the octets that pairs leave have the class that they have where they stand
 pub has_class : (profile : Profile) (client server : List ℕ) (pairs : List Paired) (left : Unpaired) (class : Class) → AreNext (streams client server) pairs left
     → IsClass left.is_closed profile (visible_from start.visible (prompts_of client) (responses_of pairs)) (first_asked left.places) left.server class
     → HasClass profile client server (length pairs) class
+unfolding pairs_before
 has_class profile client server pairs left class paired h =
     let up = paired_up start.visible (streams client server) left pairs refl paired in
     let ps = places-prompts client in
-    let spelled = (pairs-spelled client server pairs left paired).0 in
     record {
-      before = record {
-        answers = responses_of pairs;
-        octets = spelled.0;
-        rest = left.server;
-        count = count pairs;
-        spelled = spelled.1;
-        whole = spelled.2;
-      };
+      before = pairs_before client server pairs left paired;
       is_class =
           let v = visible_from start.visible (prompts_of client) (responses_of pairs) in
-          let closed : left.is_closed ≡ v.closed = up.closed ∙ ap (λ ps. (visible_from start.visible ps (responses_of pairs)).closed) ps in
+          let closed = pairs_close client server pairs left paired in
           let next : first_asked left.places ≡ asked_next (prompts_of client) (responses_of pairs) = sym up.next ∙ ap (λ ps. asked_next ps (responses_of pairs)) ps in
           subst (λ (x : Bool × Option Asked). IsClass x.0 profile v x.1 left.server class) (λ i. (closed i, next i)) h;
     }

@@ -1,12 +1,14 @@
 -- What a session says is bounded by its answers.
-use Rattle.std.proofs.Common.{ℕ, ◌+◌, ◌≤◌, Bool, true, false, cond, ◌==◌, List, [], ◌∷◌, Option, None, Some, length, arith}
+use Rattle.std.proofs.Common.{ℕ, ◌+◌, ◌*◌, ◌<◌, ◌≤◌, ◌^◌, Bool, true, false, cond, ◌==◌, List, [], ◌∷◌, Option, None, Some, length, arith}
 use Rattle.nntp_article.specs.Machine.{Visible, visible_after, start}
 use Rattle.nntp_facts.specs.Asks.{Position, Nowhere, position_after, Lacks, StandsNowhere, IsTop, IsBottom}
 use Rattle.nntp_facts.specs.Facts.{Fact, ThereIsNo, NoArticle, Asks, IdAt, facts_of, facts_of_code, facts_from, on, here}
-use Rattle.nntp_facts.specs.Given.{size, size_in, lines_in, weight, facts_of_session}
+use Rattle.nntp_facts.specs.Given.{size, size_in, weight, facts_of_session}
+use Rattle.nntp_pair.specs.Pairing.{Paired, lines_in, asked_of, responses_of}
 use Rattle.nntp_facts.proofs.FirstBad.{size-append}
 use Rattle.nntp_wire.specs.Answer.{Asked, Response, to, group_is, numbers_are, sends, active_are, plain}
 use Rattle.nntp_wire.specs.Command.{Request, by_id, by_number, current, group, list_group, next, last, retrieve, list_active}
+use Rattle.std.specs.List.{AllByRecursion}
 use Rattle.nntp_wire.proofs.ListingLemmas.{listed_numbers-few, active_groups-few}
 
 -- at most one fact of size 1
@@ -64,3 +66,12 @@ from_size v at (p ∷ ps) (a ∷ more) =
 -- what a session says is bounded by its answers
 pub session_size : (ps : List Asked) (answers : List Response) → size (facts_of_session ps answers) ≤ weight answers
 session_size ps answers = from_size start.visible Nowhere ps answers
+
+-- answers of few lines weigh little
+pairs_weight : (pairs : List Paired) → AllByRecursion (λ pair. lines_in pair.response < 2 ^ 64) pairs → weight (responses_of pairs) ≤ (2 ^ 64 + 2) * length pairs
+pairs_weight [] few = omega arith
+pairs_weight (pair ∷ pairs) few = let rest = pairs_weight pairs few.1 in let here = few.0 in omega arith
+
+-- so what pairs say is small
+pub pairs_size : (pairs : List Paired) → AllByRecursion (λ pair. lines_in pair.response < 2 ^ 64) pairs → length pairs < 2 ^ 63 → size (facts_of_session (asked_of pairs) (responses_of pairs)) < 2 ^ 210
+pairs_size pairs few short = let all = session_size (asked_of pairs) (responses_of pairs) in let weights = pairs_weight pairs few in omega arith

@@ -1,8 +1,9 @@
 -- Spellings: one response at the front of octets, decided, and no shorter than its lines.
 use Rattle.std.proofs.Common.{◌≡◌, ℕ, ◌+◌, ◌≤◌, ◌⊎◌, List, ◌++◌, length}
-use Rattle.nntp_wire.specs.Answer.{Asked, Response, group_is, numbers_are, sends, active_are, plain, Spells}
-use Rattle.nntp_wire.proofs.SpellsDecided.{one-spelling, some-spelling, spelling-long}
-use Rattle.nntp_facts.specs.Given.{lines_in}
+use Rattle.nntp_wire.specs.Answer.{Asked, Response, Spells}
+use Rattle.nntp_wire.proofs.SpellsDecided.{one-spelling, some-spelling}
+use Rattle.nntp_pair.specs.Pairing.{lines_in}
+use Rattle.nntp_pair.proofs.PairLemmas.{lines-few}
 
 -- what is used of spellings: at most one answer is spelled in front, whether one is can be decided, and a spelling has three octets and one for each line
 pub record AreSpellings : Type 0 where
@@ -11,12 +12,5 @@ pub record AreSpellings : Type 0 where
       → ((a : Response) × (b : List ℕ) × (rest : List ℕ) × Spells p a b × (octets ≡ b ++ rest)) ⊎ ((a : Response) (b rest : List ℕ) → Spells p a b → octets ≡ b ++ rest → ⊥)
   pub long : (p : Asked) (a : Response) (b : List ℕ) → Spells p a b → lines_in a + 3 ≤ length b
 
-long : (p : Asked) (a : Response) (b : List ℕ) → Spells p a b → lines_in a + 3 ≤ length b
-long p (numbers_are m name lines) b s = spelling-long p (numbers_are m name lines) b s
-long p (active_are lines) b s = spelling-long p (active_are lines) b s
-long p (group_is m name) b s = spelling-long p (group_is m name) b s
-long p (sends sent) b s = spelling-long p (sends sent) b s
-long p (plain code) b s = spelling-long p (plain code) b s
-
 pub are_spellings : AreSpellings
-are_spellings = record { one = one-spelling; decided = some-spelling; long = long }
+are_spellings = record { one = one-spelling; decided = some-spelling; long = lines-few }

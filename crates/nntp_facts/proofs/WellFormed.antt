@@ -1,16 +1,16 @@
 -- What octets spell is well formed.
 use Rattle.std.proofs.Common.{◌≡◌, ℕ, Bool, true, false, cond, ◌==◌, IsTrue, List, [], ◌∷◌, ◌++◌, ◌⊎◌, inl, inr, Option, None, Some, refl, sym, ap, subst, ◌∙◌}
-use Rattle.std.specs.Prelude.{IfSome, ⊤, nat_lt}
-use Rattle.std.specs.List.{AllByRecursion, list_all, cons_option}
-use Rattle.std.proofs.lemmas.Bool.{and_parts, and_from}
-use Rattle.std.proofs.lemmas.List.Folds.{list_all-append}
+use Rattle.std.specs.Prelude.{IfSome, ⊤}
+use Rattle.std.specs.List.{AllByRecursion, cons_option}
+use Rattle.std.proofs.lemmas.Bool.{and_from}
 use Rattle.std.proofs.lemmas.List.Elements.{recursion_from_All}
-use Rattle.nntp_wire.specs.Octets.{crlf, dot, is_clean}
+use Rattle.nntp_wire.specs.Octets.{crlf, dot, is_clean, are_octets}
 use Rattle.nntp_wire.specs.Name.{IsGroupName, IsMessageId}
 use Rattle.nntp_wire.specs.Block.{stuffed, sent, dot_line, AreClean}
 use Rattle.nntp_wire.specs.Listing.{active_groups}
 use Rattle.nntp_wire.specs.Answer.{Asked, Response, to, group_is, numbers_are, sends, active_are, plain, Spells, Says, SaysByLines, SaysGroup, SaysNumbers, SaysArticle, SaysActive, SaysCapabilities, SaysCode, success_code, greeting, block_octets, IsCleanBlock, kind_of}
 use Rattle.nntp_wire.specs.Command.{Request, capabilities, mode_reader, quit, opaque, ill_formed, by_id, by_number, current, group, list_group, next, last, retrieve, list_active}
+use Rattle.nntp_wire.proofs.OctetLemmas.{octets-parts}
 use Rattle.nntp_article.specs.Spool.{is_line}
 use Rattle.nntp_article.specs.Machine.{Visible}
 use Rattle.nntp_wire.proofs.ListingLemmas.{active_groups-named}
@@ -18,14 +18,6 @@ use Rattle.nntp_facts.specs.Asks.{Position}
 use Rattle.nntp_facts.specs.Facts.{Fact, on, facts_of_code, facts_of}
 use Rattle.nntp_facts.specs.Together.{IsWellFormed}
 use Rattle.nntp_facts.proofs.Members.{all_both}
-
--- octets below 256
-abbrev pub are_octets : List ℕ → Bool
-are_octets bytes = list_all (λ c. nat_lt c 256) bytes
-
--- those of both parts are
-parts : (xs ys : List ℕ) → are_octets (xs ++ ys) ≡ true → (are_octets xs ≡ true) × (are_octets ys ≡ true)
-parts xs ys h = and_parts (are_octets xs) (are_octets ys) (sym (list_all-append (λ c. nat_lt c 256) xs ys) ∙ h)
 
 -- a line without the dot in front
 unstuffed_octets : (line : List ℕ) → are_octets (stuffed line) ≡ true → are_octets line ≡ true
@@ -40,13 +32,13 @@ unstuffed_octets (b ∷ bs) h = by (b == dot) h
 sent_lines : (lines : List (List ℕ)) → AreClean lines → are_octets (sent lines) ≡ true → AllByRecursion (λ line. IsTrue (is_line line)) lines
 sent_lines [] clean h = tt
 sent_lines (line ∷ lines) clean h =
-    let p = parts (stuffed line ++ crlf) (sent lines) h in
-    (and_from (is_clean line) (are_octets line) clean.0 (unstuffed_octets line (parts (stuffed line) crlf p.0).0), sent_lines lines clean.1 p.1)
+    let p = octets-parts (stuffed line ++ crlf) (sent lines) h in
+    (and_from (is_clean line) (are_octets line) clean.0 (unstuffed_octets line (octets-parts (stuffed line) crlf p.0).0), sent_lines lines clean.1 p.1)
 
 -- and so those of a block
 block_lines : (block : Option (List (List ℕ))) → IsCleanBlock block → are_octets (block_octets block) ≡ true → IfSome block (λ lines. AllByRecursion (λ line. IsTrue (is_line line)) lines)
 block_lines None clean h = tt
-block_lines (Some lines) clean h = sent_lines lines clean (parts (sent lines) dot_line h).0
+block_lines (Some lines) clean h = sent_lines lines clean (octets-parts (sent lines) dot_line h).0
 
 -- names, ids and lines of the response are such
 IsProper : Response → Type 0
@@ -118,7 +110,7 @@ said_proper (to request) code bytes block response lines h = by request h
 -- and of one that they spell
 spelled_proper : (asked : Asked) (response : Response) (bytes : List ℕ) → Spells asked response bytes → are_octets bytes ≡ true → IsProper response
 spelled_proper asked response bytes s h =
-    said_proper asked s.code _ s.block response (block_lines s.block s.clean (parts (s.line ++ crlf) (block_octets s.block) (sym (ap are_octets s.whole) ∙ h)).1) s.says
+    said_proper asked s.code _ s.block response (block_lines s.block s.clean (octets-parts (s.line ++ crlf) (block_octets s.block) (sym (ap are_octets s.whole) ∙ h)).1) s.says
 
 -- a fact under a test
 on_formed : (b : Bool) (fact : Fact) → IsWellFormed fact → AllByRecursion IsWellFormed (cond b (fact ∷ []) [])
@@ -155,5 +147,5 @@ proper_formed v at (to command) (plain code) h = code_formed v at command code
 proper_formed v at asked response h = tt
 
 -- what octets spell says well-formed facts
-pub spelled_formed : (v : Visible) (at : Position) (asked : Asked) (response : Response) (bytes : List ℕ) → Spells asked response bytes → IsTrue (list_all (λ c. nat_lt c 256) bytes) → AllByRecursion IsWellFormed (facts_of v at asked response)
+pub spelled_formed : (v : Visible) (at : Position) (asked : Asked) (response : Response) (bytes : List ℕ) → Spells asked response bytes → IsTrue (are_octets bytes) → AllByRecursion IsWellFormed (facts_of v at asked response)
 spelled_formed v at asked response bytes s h = proper_formed v at asked response (spelled_proper asked response bytes s h)
