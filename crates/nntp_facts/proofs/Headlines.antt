@@ -7,7 +7,8 @@ use Rattle.nntp_wire.specs.Session.{prompts_of}
 use Rattle.nntp_pair.specs.Pairing.{Paired, Unpaired, IsNext, AreNext, end, bad, IsPairing, responses_of, asked_of, asked_at, streams}
 use Rattle.nntp_pair.specs.declared.class.PairClass.{PairClass}
 use Rattle.nntp_pair.proofs.PairingLemmas.{one-run, AreNext-push}
-use Rattle.nntp_article.specs.Spool.{Profile, Spool}
+use Rattle.nntp_article.specs.Spool.{Spool}
+use Rattle.nntp_article.specs.declared.profile.Profile.{Profile}
 use Rattle.nntp_article.specs.Machine.{Run, start, fits, Visible}
 use Rattle.nntp_article.specs.Explains.{Explains}
 use Rattle.nntp_facts.specs.Given.{IsGiven, facts_of_session, size}
