@@ -1,5 +1,5 @@
 -- The code of what a session shows of its state.
-use Rattle.std.specs.Prelude.{ℕ, refl}
+use Rattle.std.specs.Prelude.{refl}
 use Rattle.std.specs.Coded.{Coded, code_by, coded×, coded_ℕ, coded_list, coded_option, coded_bool}
 use Rattle.std.specs.FinMap as map
 use Rattle.nntp_article.specs.Machine.{Visible}

@@ -1,5 +1,5 @@
 -- The machine over one spool: states, what may be answered in a state, and runs (RFC 3977, sections 3.2.1, 5, 6 and 7.6).
-use Rattle.std.specs.Prelude.{◌≡◌, ℕ, ◌+◌, ◌-◌, ◌≤◌, ◌↔◌, Bool, true, false, not, ◌&&◌, ◌||◌, ◌==◌, nat_lt, nat_le, if◌then◌else◌, IsTrue, IsFalse, List, [], ◌∷◌, Option, None, Some, is_some, is_none, MatchOption, IfSome, unwrap_or, Contains, All, map, ⊤}
+use Rattle.std.specs.Prelude.{◌≡◌, ℕ, ◌+◌, ◌-◌, ◌≤◌, ◌↔◌, ◌⊎◌, Bool, true, false, not, ◌&&◌, ◌||◌, ◌==◌, nat_lt, nat_le, if◌then◌else◌, IsTrue, IsFalse, List, [], ◌∷◌, Option, None, Some, is_some, is_none, MatchOption, IfSome, unwrap_or, Contains, All, map, ⊤}
 use Rattle.std.specs.List.{list_any, list_all}
 use Rattle.std.specs.Option.{option_map_or, option_or}
 use Rattle.std.specs.Cmp.Lexicographic.{slice_cmp, pointwise}
@@ -47,6 +47,14 @@ is_one_of codes code = list_any (λ c. c == code) codes
 -- the generic failures, which any command may be answered with
 abbrev pub is_generic : ℕ → Bool
 is_generic code = is_one_of (400 ∷ 401 ∷ 403 ∷ 480 ∷ 483 ∷ 500 ∷ 501 ∷ 502 ∷ 503 ∷ 504 ∷ []) code
+
+-- the codes of a greeting
+abbrev pub is_greeting : ℕ → Bool
+is_greeting code = is_one_of (200 ∷ 201 ∷ 400 ∷ 502 ∷ []) code
+
+-- the codes by which a command that isn't understood may be answered
+abbrev pub is_opaque : ℕ → Bool
+is_opaque code = code == 381 || nat_lt code 300 || nat_le 400 code
 
 -- an article number
 abbrev pub is_num : Profile → ℕ → Bool
@@ -116,12 +124,12 @@ code_fits v (retrieve what (by_id word)) code = code == 430
 code_fits v (retrieve what (by_number n)) code = (code == 412 && is_none v.selected) || (code == 423 && is_some v.selected)
 code_fits v (retrieve what current) code = (code == 412 && is_none v.selected) || (code == 420 && is_some v.selected)
 code_fits v (list_active p) code = false
-code_fits v opaque code = code == 381 || nat_lt code 300 || nat_le 400 code
+code_fits v opaque code = is_opaque code
 code_fits v ill_formed code = false
 
 -- the visible condition over an open state
 abbrev pub fits : Profile → Visible → Asked → Response → Bool
-fits profile v greeting (plain code) = is_one_of (200 ∷ 201 ∷ 400 ∷ 502 ∷ []) code
+fits profile v greeting (plain code) = is_greeting code
 fits profile v (to command) (plain code) = is_generic code || code_fits v command code
 fits profile v (to (group word)) (group_is m name) = is_same name word && marks_fit profile v name m
 fits profile v (to (list_group word range)) (numbers_are m name lines) =
@@ -144,24 +152,31 @@ selected_numbers S v = numbers S (unwrap_or v.selected [])
 abbrev pub Bound : Numbers → WaterMarks → Type 0
 Bound N m = (len N ≤ m.estimate) × ((n : ℕ) → IsNumber N n → (m.low ≤ n) × (n ≤ m.high))
 
--- the code, if it is the expected one, says this
-abbrev pub HasCode : ℕ → ℕ → Type 0 → Type 0
-HasCode code expected P = IsTrue (code == expected) → P
+-- the code is that of the row, and this holds
+abbrev pub Row : ℕ → ℕ → Type 0 → Type 0
+Row code expected P = IsTrue (code == expected) × P
 
--- what a code alone says of the spool
+-- what a code alone says of the spool, other than a generic failure, a row each
 abbrev pub CodeAgrees : Spool → State → Request → ℕ → Type 0
-CodeAgrees S s (group word) code = HasCode code 411 (get S.groups word ≡ None)
-CodeAgrees S s (list_group (Some word) range) code = HasCode code 411 (get S.groups word ≡ None)
+CodeAgrees S s capabilities code = Row code 101 ⊤
+CodeAgrees S s mode_reader code = Row code 200 ⊤ ⊎ Row code 201 ⊤
+CodeAgrees S s quit code = Row code 205 ⊤
+CodeAgrees S s (group word) code = Row code 411 (get S.groups word ≡ None)
+CodeAgrees S s (list_group None range) code = Row code 412 ⊤
+CodeAgrees S s (list_group (Some word) range) code = Row code 411 (get S.groups word ≡ None)
 CodeAgrees S s next code =
-    HasCode code 420 (s.current ≡ None)
-    × HasCode code 421 (MatchOption s.current ⊥ (NoneAbove (selected_numbers S s.visible)))
+    Row code 412 ⊤
+    ⊎ Row code 420 (s.current ≡ None)
+    ⊎ Row code 421 (MatchOption s.current ⊥ (NoneAbove (selected_numbers S s.visible)))
 CodeAgrees S s last code =
-    HasCode code 420 (s.current ≡ None)
-    × HasCode code 422 (MatchOption s.current ⊥ (NoneBelow (selected_numbers S s.visible)))
-CodeAgrees S s (retrieve what (by_id word)) code = HasCode code 430 (get S.articles word ≡ None)
-CodeAgrees S s (retrieve what (by_number n)) code = HasCode code 423 (MatchOption n ⊤ (λ n. get (selected_numbers S s.visible) n ≡ None))
-CodeAgrees S s (retrieve what current) code = HasCode code 420 (s.current ≡ None)
-CodeAgrees S s command code = ⊤
+    Row code 412 ⊤
+    ⊎ Row code 420 (s.current ≡ None)
+    ⊎ Row code 422 (MatchOption s.current ⊥ (NoneBelow (selected_numbers S s.visible)))
+CodeAgrees S s (retrieve what (by_id word)) code = Row code 430 (get S.articles word ≡ None)
+CodeAgrees S s (retrieve what (by_number n)) code = Row code 412 ⊤ ⊎ Row code 423 (MatchOption n ⊤ (λ n. get (selected_numbers S s.visible) n ≡ None))
+CodeAgrees S s (retrieve what current) code = Row code 412 ⊤ ⊎ Row code 420 (s.current ≡ None)
+CodeAgrees S s opaque code = IsTrue (is_opaque code)
+CodeAgrees S s command code = ⊥
 
 -- the number of a success is one of the selected group, with the id
 abbrev pub NumberAgrees : Spool → State → Target → Success → Type 0
@@ -175,18 +190,19 @@ ActivesAgree S p lines =
     ((name : Name) → Contains (map (λ line. line.name) lines) name ↔ (IsGroup S name × IfSome p (λ w. MatchesName w name)))
     × All (λ line. (n : ℕ) → IsNumber (numbers S line.name) n → (line.low ≤ n) × (n ≤ line.high)) lines
 
--- the condition over the spool, where the visible one holds
+-- the condition over the spool, a row each: what no row names agrees with no spool
 abbrev pub Agrees : Spool → State → Asked → Response → Type 0
-Agrees S s (to command) (plain code) = CodeAgrees S s command code
+Agrees S s greeting (plain code) = IsTrue (is_greeting code)
+Agrees S s (to command) (plain code) = IsTrue (is_generic code) ⊎ CodeAgrees S s command code
 Agrees S s (to (group word)) (group_is m name) = IsGroup S name × Bound (numbers S name) m
 Agrees S s (to (list_group word range)) (numbers_are m name lines) = IsGroup S name × Bound (numbers S name) m × Lists (numbers S name) range (listed_numbers lines)
 Agrees S s (to next) (sends sent) =
-    MatchOption s.current ⊥ (λ c. IsNextAbove (selected_numbers S s.visible) c sent.number) × (get (selected_numbers S s.visible) sent.number ≡ Some sent.id)
+    Row sent.code 223 (MatchOption s.current ⊥ (λ c. IsNextAbove (selected_numbers S s.visible) c sent.number) × (get (selected_numbers S s.visible) sent.number ≡ Some sent.id))
 Agrees S s (to last) (sends sent) =
-    MatchOption s.current ⊥ (λ c. IsNextBelow (selected_numbers S s.visible) c sent.number) × (get (selected_numbers S s.visible) sent.number ≡ Some sent.id)
-Agrees S s (to (retrieve what which)) (sends sent) = HasText S what sent.id sent.block × NumberAgrees S s which sent
+    Row sent.code 223 (MatchOption s.current ⊥ (λ c. IsNextBelow (selected_numbers S s.visible) c sent.number) × (get (selected_numbers S s.visible) sent.number ≡ Some sent.id))
+Agrees S s (to (retrieve what which)) (sends sent) = Row sent.code (success_code what) (HasText S what sent.id sent.block × NumberAgrees S s which sent)
 Agrees S s (to (list_active p)) (active_are lines) = ActivesAgree S p (active_groups lines)
-Agrees S s asked response = ⊤
+Agrees S s asked response = ⊥
 
 -- ---- the new state
 

@@ -1,9 +1,8 @@
 //! Laws of the definitions alone.
-ghost use Rattle.std.specs.Prelude.{◌≡◌, ℕ, IsTrue, Option, None, Some, MatchOption, IsSome, ◌≤◌, ◌⊎◌, List};
-ghost use Rattle.std.specs.FinMap.{get};
-ghost use Rattle.nntp_article.specs.Spool.{Spool, Numbers, IsNumber, least, IsFirst};
+ghost use Rattle.std.specs.Prelude.{◌≡◌, IsTrue, ◌⊎◌, List};
+ghost use Rattle.nntp_article.specs.Spool.{Spool, Numbers, least, IsFirst};
 ghost use Rattle.nntp_article.specs.declared.profile.Profile.{Profile};
-ghost use Rattle.nntp_article.specs.Machine.{Visible, State, fits, visible_after, Permits, Run};
+ghost use Rattle.nntp_article.specs.Machine.{State, fits, Permits, Run};
 ghost use Rattle.nntp_wire.specs.Answer.{Asked, Response};
 
 /// An answer that some spool permits meets the visible condition, and the visible state after it is

@@ -1,5 +1,5 @@
 -- The groups of lines, one after the other.
-use Rattle.std.proofs.Common.{◌≡◌, ℕ, zero, suc, ◌≤◌, Bool, true, false, IsTrue, length, List, [], ◌∷◌, Option, None, Some, MatchOption, map, refl, sym, ap, subst, arith}
+use Rattle.std.proofs.Common.{◌≡◌, ℕ, zero, suc, ◌≤◌, Bool, true, false, IsTrue, length, List, [], ◌∷◌, Option, None, Some, map, refl, sym, subst, arith}
 use Rattle.std.specs.Prelude.{◌↔◌, ◌||◌, Contains, IfSome}
 use Rattle.std.specs.List.{list_any, count_by, AllByRecursion}
 use Rattle.std.specs.Option.{option_map_or}

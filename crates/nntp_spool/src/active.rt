@@ -1,5 +1,5 @@
 //! Whether the groups of LIST ACTIVE fit and agree with a spool (RFC 3977, section 7.6.3).
-ghost use Rattle.std.specs.Prelude.{◌≡◌, ℕ, ◌≤◌, ◌==◌, ◌&&◌, ◌||◌, ◌+◌, nat_le, ◌↔◌, ◌∷◌, [], true, length, IsTrue, IfOk, IfSome, MatchOption};
+ghost use Rattle.std.specs.Prelude.{◌≡◌, ℕ, ◌≤◌, ◌==◌, ◌&&◌, ◌||◌, ◌+◌, nat_le, ◌↔◌, true, length, IsTrue, IfOk, IfSome};
 ghost use Rattle.std.specs.List.{list_all, count_by, AllByRecursion};
 ghost use Rattle.std.specs.Option.{option_map_or};
 ghost use Rattle.std.specs.BTreeMap.{IsOrdered};

@@ -11,6 +11,7 @@ ghost use Rattle.nntp_spool.specs.Limit.{narrow};
 use crate::active::agrees_active;
 use crate::agrees::{agrees_code, agrees_marks, agrees_number, agrees_text};
 use crate::content::Content;
+use crate::fits::{is_generic_code, is_success};
 use crate::numbers::Numbers;
 use crate::session::Session;
 use nntp_wire::{Answer, Block, Command, Prompt, Range};
@@ -121,8 +122,10 @@ fn agrees_plain<A: Allocator>(
         → IsTrue result ↔ Agrees spool.now (record { visible = v; current = current }) (asked prompt.now) (plain code) }
 {
     match prompt {
-        Prompt::Greeting => true,
-        Prompt::To(command) => agrees_code(spool, numbers, current, command, code),
+        Prompt::Greeting => matches!(code, 200 | 201 | 400 | 502),
+        Prompt::To(command) => {
+            is_generic_code(code) || agrees_code(spool, numbers, current, command, code)
+        }
     }
 }
 
@@ -141,21 +144,14 @@ fn agrees_sent<A: Allocator>(
         → IsTrue result ↔ Agrees spool.now (record { visible = v; current = current }) (asked prompt.now) (sends (record { code = code; number = number; id = id.now; block = block.now })) }
 {
     match prompt {
-        Prompt::To(Command::Next) => numbers.steps_up(current, number, id),
-        Prompt::To(Command::Last) => numbers.steps_down(current, number, id),
+        Prompt::To(Command::Next) => code == 223 && numbers.steps_up(current, number, id),
+        Prompt::To(Command::Last) => code == 223 && numbers.steps_down(current, number, id),
         Prompt::To(Command::Retrieve { what, which }) => {
-            agrees_text(spool, *what, id, block)
+            is_success(*what, code)
+                && agrees_text(spool, *what, id, block)
                 && agrees_number(numbers, current, which, number, id)
         }
-        Prompt::Greeting
-        | Prompt::To(Command::Capabilities)
-        | Prompt::To(Command::ModeReader)
-        | Prompt::To(Command::Group(_))
-        | Prompt::To(Command::ListGroup { .. })
-        | Prompt::To(Command::ListActive(_))
-        | Prompt::To(Command::Quit)
-        | Prompt::To(Command::Opaque)
-        | Prompt::To(Command::IllFormed) => true,
+        _ => false,
     }
 }
 
@@ -172,17 +168,7 @@ fn agrees_group<A: Allocator>(
 {
     match prompt {
         Prompt::To(Command::Group(_)) => agrees_marks(spool, name, estimate, low, high),
-        Prompt::Greeting
-        | Prompt::To(Command::Capabilities)
-        | Prompt::To(Command::ModeReader)
-        | Prompt::To(Command::ListGroup { .. })
-        | Prompt::To(Command::Next)
-        | Prompt::To(Command::Last)
-        | Prompt::To(Command::Retrieve { .. })
-        | Prompt::To(Command::ListActive(_))
-        | Prompt::To(Command::Quit)
-        | Prompt::To(Command::Opaque)
-        | Prompt::To(Command::IllFormed) => true,
+        _ => false,
     }
 }
 
@@ -200,7 +186,7 @@ fn agrees_numbers<A: Allocator>(
     ensures { (s : State) → IsTrue result ↔ Agrees spool.now s (asked prompt.now) (numbers_are (record { estimate = estimate; low = low; high = high }) name.now block.now) }
 {
     match prompt {
-        Prompt::Greeting => true,
+        Prompt::Greeting => false,
         Prompt::To(command) => {
             agrees_numbers_of(spool, command, estimate, low, high, name, block)
         }
@@ -223,16 +209,7 @@ fn agrees_numbers_of<A: Allocator>(
         Command::ListGroup { group: _, range } => {
             agrees_listed(spool, estimate, low, high, name, *range, block)
         }
-        Command::Capabilities
-        | Command::ModeReader
-        | Command::Group(_)
-        | Command::Next
-        | Command::Last
-        | Command::Retrieve { .. }
-        | Command::ListActive(_)
-        | Command::Quit
-        | Command::Opaque
-        | Command::IllFormed => true,
+        _ => false,
     }
 }
 
@@ -273,16 +250,6 @@ fn agrees_listing<A: Allocator>(spool: &Content<A>, prompt: &Prompt<'_>, block: 
 {
     match prompt {
         Prompt::To(Command::ListActive(wildmat)) => agrees_active(spool, wildmat, block),
-        Prompt::Greeting
-        | Prompt::To(Command::Capabilities)
-        | Prompt::To(Command::ModeReader)
-        | Prompt::To(Command::Group(_))
-        | Prompt::To(Command::ListGroup { .. })
-        | Prompt::To(Command::Next)
-        | Prompt::To(Command::Last)
-        | Prompt::To(Command::Retrieve { .. })
-        | Prompt::To(Command::Quit)
-        | Prompt::To(Command::Opaque)
-        | Prompt::To(Command::IllFormed) => true,
+        _ => false,
     }
 }
