@@ -1,16 +1,15 @@
 -- What facts say of articles, and what is kept of that.
-use Rattle.std.proofs.Common.{◌≡◌, ℕ, ◌↔◌, Bool, true, false, cond, ◌||◌, not, IsTrue, List, [], ◌∷◌, ◌++◌, Option, None, Some, is_some, refl, sym, ap, subst, ◌∙◌}
-use Rattle.std.specs.Prelude.{IsFalse, IfSome, MatchOption, ⊤, unwrap_or, option_and_then}
+use Rattle.std.proofs.Common.{◌≡◌, ℕ, Bool, true, false, cond, ◌||◌, not, IsTrue, List, [], ◌∷◌, ◌++◌, Option, None, Some, is_some, refl, sym, ap, subst, ◌∙◌}
+use Rattle.std.specs.Prelude.{MatchOption, option_and_then}
 use Rattle.std.specs.List.{list_any}
 use Rattle.std.specs.Option.{option_or, option_map_or}
-use Rattle.std.specs.Cmp.Lexicographic.{slice_cmp, same_text, nat_list_cmp_total}
-use Rattle.std.specs.Ordering.{nat_cmp, eq_by_cmp}
-use Rattle.std.specs.Cmp.{eq_by_cmp_equiv}
-use Rattle.std.specs.FinMap.{FinMap, get, insert, empty, get-empty, get-insert, slice_cmp-IsAntisymmetric, nat_cmp-IsAntisymmetric}
-use Rattle.std.proofs.lemmas.Bool.{true≢false, or_left, or_right, false_from_ne_true, not-true}
+use Rattle.std.specs.Cmp.Lexicographic.{slice_cmp}
+use Rattle.std.specs.Ordering.{nat_cmp}
+use Rattle.std.specs.FinMap.{FinMap, get, empty, get-empty}
+use Rattle.std.proofs.lemmas.Bool.{true≢false}
 use Rattle.nntp_wire.specs.declared.command.What.{What}
-use Rattle.nntp_wire.specs.declared.command.What.TheVariants.{Article, Head, Body, Stat}
-use Rattle.nntp_article.specs.Article.{Id, Line, head_part, body_part}
+use Rattle.nntp_wire.specs.declared.command.What.TheVariants.{Article, Head, Body}
+use Rattle.nntp_article.specs.Article.{Id, Line}
 use Rattle.nntp_article.specs.Spool.{Name}
 use Rattle.nntp_article.specs.Machine.{is_same}
 use Rattle.nntp_facts.specs.Asks.{Ask}
@@ -18,12 +17,9 @@ use Rattle.nntp_wire.specs.Listing.{ActiveValue}
 use Rattle.nntp_facts.specs.Facts.{Fact, ThereIs, ThereIsNo, Asks, IdAt, TextIs, NoArticle, GroupsAre}
 use Rattle.nntp_facts.specs.Given.{mentions, is_mentioned, gives_article, is_sent, first_given, head_in, body_in}
 use Rattle.nntp_facts.specs.Together.{shows_article, denies_article}
-use Rattle.nntp_facts.specs.Articles.{GivesSame}
 use Rattle.nntp_facts.specs.Kept.{KeptArticle, IsKeptArticle, AreKeptArticles}
-use Rattle.nntp_facts.specs.Articles.{ArticleJoins, head_sent, body_sent, AreSame, MayBeSent, denied, unsent, with_sent, with_new}
-use Rattle.nntp_wire.proofs.ShownMaps.{equal_is}
+use Rattle.nntp_facts.specs.Articles.{ArticleJoins, head_sent, body_sent, AreSame}
 use Rattle.nntp_facts.proofs.Members.{any_in, found_in}
-use Rattle.nntp_facts.proofs.Stand.{same_itself}
 use Rattle.nntp_facts.proofs.Gives.{any_more, given_append}
 
 -- ---- what one fact says of an id

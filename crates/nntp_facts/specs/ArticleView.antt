@@ -1,5 +1,5 @@
 -- What the code's values keep of articles.
-use Rattle.std.specs.Prelude.{ℕ, Bool, true, false, List, Vec, Option, None, option_map, map, refl}
+use Rattle.std.specs.Prelude.{ℕ, false, List, Vec, Option, option_map, map, refl}
 use Rattle.std.specs.Coded.{Coded, code_by, coded×, coded_ℕ, coded_list, coded_option, coded_bool}
 use Rattle.nntp_wire.specs.Held.{held}
 use Rattle.nntp_article.specs.Article.{Id, Line}

@@ -1,5 +1,5 @@
 -- How one more fact fits in with what is kept of articles.
-use Rattle.std.specs.Prelude.{◌≡◌, Bool, true, false, not, if◌then◌else◌, IsTrue, IsFalse, List, Option, None, Some, is_some, IfSome}
+use Rattle.std.specs.Prelude.{◌≡◌, true, false, not, if◌then◌else◌, IsTrue, IsFalse, List, Option, None, Some, is_some, IfSome}
 use Rattle.std.specs.List.{list_any, filter}
 use Rattle.std.specs.Option.{option_or}
 use Rattle.std.specs.Ordering.{nat_cmp}

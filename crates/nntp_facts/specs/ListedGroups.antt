@@ -1,5 +1,5 @@
 -- When a list of groups joins what was said (RFC 3977, section 7.6.3).
-use Rattle.std.specs.Prelude.{◌≡◌, Bool, true, IsFalse, List, [], ◌∷◌, ◌++◌, Option}
+use Rattle.std.specs.Prelude.{◌≡◌, ℕ, Bool, true, IsFalse, List, [], ◌∷◌, ◌++◌, Option}
 use Rattle.std.specs.List.{list_any}
 use Rattle.std.specs.Option.{option_map_or}
 use Rattle.nntp_wire.specs.Listing.{ActiveValue}

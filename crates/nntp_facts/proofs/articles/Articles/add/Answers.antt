@@ -1,4 +1,4 @@
-use Rattle.std.proofs.Common.{◌≡◌, cond, ap, sym, ◌∙◌}
+use Rattle.std.proofs.Common.{cond, ap, sym, ◌∙◌}
 use Rattle.std.specs.Ordering.{nat_cmp}
 use Rattle.std.specs.Cmp.Lexicographic.{slice_cmp, nat_list_cmp_total}
 use Rattle.std.specs.FinMap as map
