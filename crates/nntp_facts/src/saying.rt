@@ -1,5 +1,5 @@
 //! What an answer says of the spool (RFC 3977, sections 6 and 7.6.3).
-ghost use Rattle.std.specs.Prelude.{◌≡◌, IsTrue, List, IfOk};
+ghost use Rattle.std.specs.Prelude.{◌≡◌, ℕ, IsTrue, List, IfOk};
 ghost use Rattle.nntp_wire.specs.View.{asked, request, target};
 ghost use Rattle.nntp_wire.specs.AnswerView.{response};
 ghost use Rattle.nntp_wire.specs.Answer.{to, plain, sends};
@@ -141,13 +141,63 @@ impl<'s, A: Allocator + Copy> Saying<'s, A> {
                 id: id.as_slice(),
             }),
             (
-                Command::Retrieve { what, which },
+                Command::Retrieve {
+                    what,
+                    which: Which::Id(_),
+                },
                 Answer::Sent {
                     number, id, block, ..
                 },
-            ) => Ok(Saying::by_success(
-                at, *what, which, *number, id.as_slice(), block,
-            )),
+            ) if *number == 0 => Ok(Saying::Text {
+                what: *what,
+                id: id.as_slice(),
+                block,
+            }),
+            (
+                Command::Retrieve {
+                    what,
+                    which: Which::Id(_),
+                },
+                Answer::Sent {
+                    number, id, block, ..
+                },
+            ) => Ok(Saying::Placed {
+                what: *what,
+                id: id.as_slice(),
+                block,
+                ask: None,
+                number: *number,
+            }),
+            (
+                Command::Retrieve {
+                    what,
+                    which: Which::Number(_),
+                },
+                Answer::Sent {
+                    number, id, block, ..
+                },
+            ) => Ok(Saying::Placed {
+                what: *what,
+                id: id.as_slice(),
+                block,
+                ask: None,
+                number: *number,
+            }),
+            (
+                Command::Retrieve {
+                    what,
+                    which: Which::Current,
+                },
+                Answer::Sent {
+                    number, id, block, ..
+                },
+            ) => Ok(Saying::Placed {
+                what: *what,
+                id: id.as_slice(),
+                block,
+                ask: Some(Ask::StandsAt(at, *number)),
+                number: *number,
+            }),
             (Command::ListActive(wildmat), Answer::Active(block)) => Ok(Saying::Groups {
                 wildmat,
                 block,
@@ -188,35 +238,6 @@ impl<'s, A: Allocator + Copy> Saying<'s, A> {
             (Which::Number(Some(n)), 423) => Saying::Asks(Ask::Lacks(*n)),
             (Which::Current, 420) => Saying::Asks(Ask::StandsNowhere(at)),
             _ => Saying::Nothing,
-        }
-    }
-
-    /// What a success of ARTICLE, HEAD, BODY or STAT says.
-    fn by_success(
-        at: Position,
-        what: What,
-        which: &'s Which<'s>,
-        number: u64,
-        id: &'s [u8],
-        block: &'s Option<Block<'s>>,
-    ) -> Saying<'s, A>
-    {
-        match which {
-            Which::Id(_) if number == 0 => Saying::Text { what, id, block },
-            Which::Current => Saying::Placed {
-                what,
-                id,
-                block,
-                ask: Some(Ask::StandsAt(at, number)),
-                number,
-            },
-            _ => Saying::Placed {
-                what,
-                id,
-                block,
-                ask: None,
-                number,
-            },
         }
     }
 }
