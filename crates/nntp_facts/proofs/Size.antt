@@ -1,5 +1,5 @@
 -- What a session says is bounded by its answers.
-use Rattle.std.proofs.Common.{ℕ, ◌+◌, ◌*◌, ◌<◌, ◌≤◌, ◌^◌, Bool, true, false, cond, ◌==◌, List, [], ◌∷◌, Option, None, Some, length, arith}
+use Rattle.std.proofs.Common.{ℕ, ◌+◌, ◌*◌, ◌<◌, ◌≤◌, ◌^◌, Bool, true, false, cond, ◌==◌, List, [], ◌∷◌, Some, length, arith}
 use Rattle.nntp_article.specs.Machine.{Visible, visible_after, start}
 use Rattle.nntp_facts.specs.Asks.{Position, Nowhere, position_after, Lacks, StandsNowhere, IsTop, IsBottom}
 use Rattle.nntp_facts.specs.Facts.{Fact, ThereIsNo, NoArticle, Asks, IdAt, facts_of, facts_of_code, facts_from, on, here}
