@@ -7,7 +7,7 @@ use Rattle.std.proofs.lemmas.Bool.{and_from, and_parts}
 use Rattle.std.proofs.lemmas.Bool.Decides.{nat_tests}
 use Rattle.nntp_article.specs.Machine.{is_ascending}
 use Rattle.nntp_spool.specs.Fitting.{ascends_from}
-use Rattle.nntp_spool.proofs.TestLemmas.{same_test}
+use Rattle.nntp_spool.proofs.Booleans.{same_test}
 
 all_above : (m n : ℕ) (ns : List ℕ) → nat_lt m n ≡ true → list_all (λ k. nat_lt n k) ns ≡ true → list_all (λ k. nat_lt m k) ns ≡ true
 all_above m n [] lt h = refl

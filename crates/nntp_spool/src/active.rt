@@ -12,12 +12,12 @@ ghost use Rattle.nntp_wire.specs.Listing.{AreActiveLines};
 ghost use Rattle.nntp_article.specs.Listed.{active_groups};
 ghost use Rattle.nntp_article.specs.Spool.{IsSpool, IsGroup, IsNumber, numbers as numbers_of};
 ghost use Rattle.nntp_article.specs.Machine.{active_fits, names_differ, ActivesAgree};
-ghost use Rattle.nntp_spool.specs.Limit.{narrow};
+ghost use Rattle.nntp_spool.specs.Limit.{profile_31_bits};
 ghost use Rattle.nntp_spool.specs.Actives.{active_value, LineAgrees, is_asked};
 
-use crate::content::Content;
-use crate::limit::LIMIT;
-use crate::numbers::Numbers;
+use crate::value::content::Content;
+use crate::value::limit::LIMIT;
+use crate::value::numbers::Numbers;
 use nntp_article::laws::active_lines_are_read;
 use nntp_wire::laws::{group_names_are_decided, matching_is_decided};
 use nntp_wire::{ActiveLine, Block, GroupName, Lines, Wildmat, active_line};
@@ -74,7 +74,7 @@ fn are_marks(low: u64, high: u64) -> bool
 
 /// Whether a listed group fits the command.
 fn fits_group(wildmat: &Option<Wildmat<'_>>, group: &ActiveLine<'_>) -> bool
-    ensures { result ≡ active_fits narrow wildmat.now (active_value group.now) }
+    ensures { result ≡ active_fits profile_31_bits wildmat.now (active_value group.now) }
 {
     are_marks(group.low, group.high) && matches(wildmat, &group.name)
 }
@@ -82,7 +82,7 @@ fn fits_group(wildmat: &Option<Wildmat<'_>>, group: &ActiveLine<'_>) -> bool
 /// Whether each listed group fits the command.
 pub(crate) fn fit_groups(wildmat: &Option<Wildmat<'_>>, block: &Block<'_>) -> bool
     requires { AreActiveLines block.now }
-    ensures { result ≡ list_all (active_fits narrow wildmat.now) (active_groups block.now) }
+    ensures { result ≡ list_all (active_fits profile_31_bits wildmat.now) (active_groups block.now) }
 {
     let mut lines = block.lines();
     while let Some(group) = next_group(&mut lines) {
@@ -183,7 +183,7 @@ pub(crate) fn agrees_active<A: Allocator>(
 ) -> bool
     requires lines { AreActiveLines block.now }
     requires differ { names_differ (active_groups block.now) ≡ true }
-    requires spool { IsSpool narrow spool.now }
+    requires spool { IsSpool profile_31_bits spool.now }
     ensures { IsTrue result ↔ ActivesAgree spool.now wildmat.now (active_groups block.now) }
 {
     matching_is_decided();

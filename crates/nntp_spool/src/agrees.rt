@@ -4,9 +4,9 @@ ghost use Rattle.nntp_wire.specs.View.{request, target};
 ghost use Rattle.nntp_article.specs.Machine.{Bound, CodeAgrees, NumberAgrees, Visible, selected_numbers};
 ghost use Rattle.nntp_article.specs.Spool.{Spool, IsGroup, HasText, numbers as numbers_of};
 
-use crate::content::Content;
-use crate::numbers::Numbers;
 use crate::texts::has_text;
+use crate::value::content::Content;
+use crate::value::numbers::Numbers;
 use nntp_wire::{Block, Command, What, Which};
 use std::alloc::Allocator;
 

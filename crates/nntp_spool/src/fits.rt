@@ -9,9 +9,9 @@ ghost use Rattle.nntp_wire.specs.Answer.{success_code};
 ghost use Rattle.nntp_article.specs.Article.{is_head};
 ghost use Rattle.nntp_article.specs.Listed.{listed_numbers};
 ghost use Rattle.nntp_article.specs.Machine.{code_fits, is_generic, is_num, is_in_range, is_ascending, is_same, marks_fit, number_fits, head_fits, says_own_id, Visible};
-ghost use Rattle.nntp_spool.specs.Limit.{narrow};
+ghost use Rattle.nntp_spool.specs.Limit.{profile_31_bits};
 
-use crate::limit::LIMIT;
+use crate::value::limit::LIMIT;
 use nntp_article::{Head, Parts};
 use nntp_wire::{Block, Command, Range, What, Which, listed_number};
 
@@ -68,7 +68,7 @@ pub(crate) fn fits_code(is_selected: bool, command: &Command<'_>, code: u64) -> 
 /// Whether the marks of a 211 are well formed, within the limit, and not below an earlier low mark.
 pub(crate) fn fits_marks(earlier: Option<u64>, estimate: u64, low: u64, high: u64) -> bool
     ensures { (v : Visible) (name : List ℕ) → map.get v.lows name ≡ earlier
-        → result ≡ marks_fit narrow v name (record { estimate = estimate; low = low; high = high }) }
+        → result ≡ marks_fit profile_31_bits v name (record { estimate = estimate; low = low; high = high }) }
 {
     if estimate == 0 && low == 0 && high == 0 {
         return true;
@@ -82,7 +82,7 @@ pub(crate) fn fits_marks(earlier: Option<u64>, estimate: u64, low: u64, high: u6
 
 /// Whether the number is an article number.
 pub(crate) fn is_num(number: u64) -> bool
-    ensures { result ≡ is_num narrow number }
+    ensures { result ≡ is_num profile_31_bits number }
 {
     number >= 1 && number <= LIMIT
 }
@@ -99,7 +99,7 @@ fn is_in_range(range: Range, number: u64) -> bool
 
 /// Whether the number of a line, if it has one, is an article number within the range.
 fn is_line_in_range(range: Range, line: &[u8]) -> bool
-    ensures { result ≡ option_map_or (λ n. is_num narrow n && is_in_range range n) (listed_number_of line.now) true }
+    ensures { result ≡ option_map_or (λ n. is_num profile_31_bits n && is_in_range range n) (listed_number_of line.now) true }
 {
     match listed_number(line) {
         Some(number) => is_num(number) && is_in_range(range, number),
@@ -109,13 +109,13 @@ fn is_line_in_range(range: Range, line: &[u8]) -> bool
 
 /// Whether the listed numbers are article numbers within the range.
 pub(crate) fn are_in_range(range: Range, block: &Block<'_>) -> bool
-    ensures { result ≡ list_all (λ n. is_num narrow n && is_in_range range n) (listed_numbers block.now) }
+    ensures { result ≡ list_all (λ n. is_num profile_31_bits n && is_in_range range n) (listed_numbers block.now) }
 {
     are_lines_in_range(range, block)
 }
 
 fn are_lines_in_range(range: Range, block: &Block<'_>) -> bool
-    ensures { result ≡ list_all (λ line. option_map_or (λ n. is_num narrow n && is_in_range range n) (listed_number_of line) true) block.now }
+    ensures { result ≡ list_all (λ line. option_map_or (λ n. is_num profile_31_bits n && is_in_range range n) (listed_number_of line) true) block.now }
 {
     let mut lines = block.lines();
     lines.all(|line| is_line_in_range(range, line))
@@ -150,7 +150,7 @@ pub(crate) fn is_ascending(block: &Block<'_>) -> bool
 /// Whether the number of a success fits what was asked.
 pub(crate) fn fits_number(is_selected: bool, which: &Which<'_>, number: u64, id: &[u8]) -> bool
     ensures { (v : Visible) (code : ℕ) (block : Option (List (List ℕ))) → is_some v.selected ≡ is_selected
-        → result ≡ number_fits narrow v (target which.now) (record { code = code; number = number; id = id.now; block = block }) }
+        → result ≡ number_fits profile_31_bits v (target which.now) (record { code = code; number = number; id = id.now; block = block }) }
 {
     match which {
         Which::Id(word) => is_same(id, *word) && (number == 0 || (is_selected && is_num(number))),

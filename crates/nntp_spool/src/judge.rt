@@ -6,16 +6,16 @@ ghost use Rattle.nntp_wire.specs.Answer.{plain, sends, group_is, numbers_are, ac
 ghost use Rattle.nntp_wire.specs.Listing.{AreActiveLines};
 ghost use Rattle.nntp_article.specs.Machine.{fits, MayAnswer, Visible};
 ghost use Rattle.nntp_article.specs.Spool.{IsSpool};
-ghost use Rattle.nntp_spool.specs.Limit.{narrow};
+ghost use Rattle.nntp_spool.specs.Limit.{profile_31_bits};
 ghost use Rattle.nntp_spool.specs.Listing.{IsListing};
 
 use crate::active::{fit_groups, names_differ};
-use crate::content::Content;
 use crate::fits::{
     are_in_range, fits_code, fits_head, fits_marks, fits_number, is_ascending, is_generic_code,
     is_num, is_same, is_success,
 };
 use crate::session::Session;
+use crate::value::content::Content;
 use nntp_wire::{Answer, Block, Command, Prompt};
 use std::alloc::{AllocError, Allocator};
 
@@ -27,9 +27,9 @@ impl<A: Allocator + Copy> Session<A> {
         prompt: &Prompt<'_>,
         answer: &Answer<'_>,
     ) -> Result<bool, AllocError>
-        requires spool { IsSpool narrow spool.now }
+        requires spool { IsSpool profile_31_bits spool.now }
         requires listing { IsListing (response answer.now) }
-        ensures { IfOk result (λ may. IsTrue may ↔ MayAnswer narrow spool.now self.now (asked prompt.now) (response answer.now)) }
+        ensures { IfOk result (λ may. IsTrue may ↔ MayAnswer profile_31_bits spool.now self.now (asked prompt.now) (response answer.now)) }
     {
         if self.is_closed() || !self.fits(prompt, answer)? {
             return Ok(false);
@@ -40,7 +40,7 @@ impl<A: Allocator + Copy> Session<A> {
     /// Whether the visible condition holds.
     fn fits(&self, prompt: &Prompt<'_>, answer: &Answer<'_>) -> Result<bool, AllocError>
         requires { IsListing (response answer.now) }
-        ensures { IfOk result (λ does. does ≡ fits narrow self.now.visible (asked prompt.now) (response answer.now)) }
+        ensures { IfOk result (λ does. does ≡ fits profile_31_bits self.now.visible (asked prompt.now) (response answer.now)) }
     {
         match answer {
             Answer::Plain { code } => Ok(self.fits_plain(prompt, *code)),
@@ -68,7 +68,7 @@ impl<A: Allocator + Copy> Session<A> {
     }
 
     fn fits_plain(&self, prompt: &Prompt<'_>, code: u64) -> bool
-        ensures { result ≡ fits narrow self.now.visible (asked prompt.now) (plain code) }
+        ensures { result ≡ fits profile_31_bits self.now.visible (asked prompt.now) (plain code) }
     {
         match prompt {
             Prompt::Greeting => matches!(code, 200 | 201 | 400 | 502),
@@ -86,7 +86,7 @@ impl<A: Allocator + Copy> Session<A> {
         high: u64,
         name: &[u8],
     ) -> bool
-        ensures { result ≡ fits narrow self.now.visible (asked prompt.now) (group_is (record { estimate = estimate; low = low; high = high }) name.now) }
+        ensures { result ≡ fits profile_31_bits self.now.visible (asked prompt.now) (group_is (record { estimate = estimate; low = low; high = high }) name.now) }
     {
         match prompt {
             Prompt::To(Command::Group(word)) => {
@@ -115,7 +115,7 @@ impl<A: Allocator + Copy> Session<A> {
         name: &[u8],
         block: &Block<'_>,
     ) -> bool
-        ensures { result ≡ fits narrow self.now.visible (asked prompt.now) (numbers_are (record { estimate = estimate; low = low; high = high }) name.now block.now) }
+        ensures { result ≡ fits profile_31_bits self.now.visible (asked prompt.now) (numbers_are (record { estimate = estimate; low = low; high = high }) name.now block.now) }
     {
         match prompt {
             Prompt::To(Command::ListGroup { group, range }) => {
@@ -146,7 +146,7 @@ impl<A: Allocator + Copy> Session<A> {
         id: &[u8],
         block: &Option<Block<'_>>,
     ) -> bool
-        ensures { result ≡ fits narrow self.now.visible (asked prompt.now) (sends (record { code = code; number = number; id = id.now; block = block.now })) }
+        ensures { result ≡ fits profile_31_bits self.now.visible (asked prompt.now) (sends (record { code = code; number = number; id = id.now; block = block.now })) }
     {
         match prompt {
             Prompt::To(Command::Next) | Prompt::To(Command::Last) => {
@@ -176,7 +176,7 @@ fn fits_active<A: Allocator + Copy>(
     block: &Block<'_>,
 ) -> Result<bool, AllocError>
     requires { AreActiveLines block.now }
-    ensures { IfOk result (λ does. (v : Visible) → does ≡ fits narrow v (asked prompt.now) (active_are block.now)) }
+    ensures { IfOk result (λ does. (v : Visible) → does ≡ fits profile_31_bits v (asked prompt.now) (active_are block.now)) }
 {
     match prompt {
         Prompt::To(Command::ListActive(wildmat)) => {

@@ -7,14 +7,14 @@ ghost use Rattle.nntp_wire.specs.Listing.{AreActiveLines};
 ghost use Rattle.nntp_article.specs.Listed.{listed_numbers};
 ghost use Rattle.nntp_article.specs.Machine.{fits, is_ascending, Agrees, Bound, Visible, State, selected_numbers};
 ghost use Rattle.nntp_article.specs.Spool.{IsSpool, IsGroup, Lists, numbers as numbers_of};
-ghost use Rattle.nntp_spool.specs.Limit.{narrow};
+ghost use Rattle.nntp_spool.specs.Limit.{profile_31_bits};
 ghost use Rattle.nntp_spool.specs.Listing.{IsListing};
 
 use crate::active::agrees_active;
 use crate::agrees::{agrees_code, agrees_marks, agrees_number, agrees_text};
-use crate::content::Content;
-use crate::numbers::Numbers;
 use crate::session::Session;
+use crate::value::content::Content;
+use crate::value::numbers::Numbers;
 use nntp_wire::{Answer, Block, Command, Prompt, Range};
 use std::alloc::Allocator;
 
@@ -26,9 +26,9 @@ impl<A: Allocator + Copy> Session<A> {
         prompt: &Prompt<'_>,
         answer: &Answer<'_>,
     ) -> bool
-        requires spool { IsSpool narrow spool.now }
+        requires spool { IsSpool profile_31_bits spool.now }
         requires listing { IsListing (response answer.now) }
-        requires fits { fits narrow self.now.visible (asked prompt.now) (response answer.now) ≡ true }
+        requires fits { fits profile_31_bits self.now.visible (asked prompt.now) (response answer.now) ≡ true }
         ensures { IsTrue result ↔ Agrees spool.now self.now (asked prompt.now) (response answer.now) }
     {
         match answer {
@@ -199,7 +199,7 @@ fn agrees_numbers<A: Allocator>(
     name: &[u8],
     block: &Block<'_>,
 ) -> bool
-    requires { (v : Visible) × (fits narrow v (asked prompt.now) (numbers_are (record { estimate = estimate; low = low; high = high }) name.now block.now) ≡ true) }
+    requires { (v : Visible) × (fits profile_31_bits v (asked prompt.now) (numbers_are (record { estimate = estimate; low = low; high = high }) name.now block.now) ≡ true) }
     ensures { (s : State) → IsTrue result ↔ Agrees spool.now s (asked prompt.now) (numbers_are (record { estimate = estimate; low = low; high = high }) name.now block.now) }
 {
     match prompt {
@@ -219,7 +219,7 @@ fn agrees_numbers_of<A: Allocator>(
     name: &[u8],
     block: &Block<'_>,
 ) -> bool
-    requires { (v : Visible) × (fits narrow v (to (request command.now)) (numbers_are (record { estimate = estimate; low = low; high = high }) name.now block.now) ≡ true) }
+    requires { (v : Visible) × (fits profile_31_bits v (to (request command.now)) (numbers_are (record { estimate = estimate; low = low; high = high }) name.now block.now) ≡ true) }
     ensures { (s : State) → IsTrue result ↔ Agrees spool.now s (to (request command.now)) (numbers_are (record { estimate = estimate; low = low; high = high }) name.now block.now) }
 {
     match command {
@@ -271,8 +271,8 @@ fn lists<A: Allocator>(spool: &Content<A>, name: &[u8], range: Range, block: &Bl
 /// 215 to LIST ACTIVE.
 fn agrees_listing<A: Allocator>(spool: &Content<A>, prompt: &Prompt<'_>, block: &Block<'_>) -> bool
     requires lines { AreActiveLines block.now }
-    requires spool { IsSpool narrow spool.now }
-    requires fits { (v : Visible) × (fits narrow v (asked prompt.now) (active_are block.now) ≡ true) }
+    requires spool { IsSpool profile_31_bits spool.now }
+    requires fits { (v : Visible) × (fits profile_31_bits v (asked prompt.now) (active_are block.now) ≡ true) }
     ensures { (s : State) → IsTrue result ↔ Agrees spool.now s (asked prompt.now) (active_are block.now) }
 {
     match prompt {

@@ -6,7 +6,7 @@ ghost use Rattle.nntp_article.specs.Machine.{Bound, is_ascending};
 ghost use Rattle.nntp_article.specs.Listed.{listed_numbers};
 ghost use Rattle.nntp_spool.specs.Walk.{IsNextFrom, IsAbove, ListsFrom};
 
-use crate::numbers::Numbers;
+use crate::value::numbers::Numbers;
 use nntp_wire::{Block, Lines, Range, listed_number};
 use std::alloc::Allocator;
 

@@ -8,9 +8,9 @@ ghost use Rattle.nntp_article.specs.Machine.{start, after, is_same, selects, are
 ghost use Rattle.nntp_article.specs.Spool.{least, numbers as numbers_of};
 ghost use Rattle.nntp_spool.specs.SessionView.{moved};
 
-use crate::content::Content;
 use crate::fits::is_same;
-use crate::numbers::Numbers;
+use crate::value::content::Content;
+use crate::value::numbers::Numbers;
 use nntp_article::laws::first_is_least;
 use nntp_wire::{Answer, Command, Prompt, Which};
 use std::alloc::{AllocError, Allocator};
@@ -32,7 +32,7 @@ impl<A: Allocator> Model for Session<A> {
     ghost use Rattle.std.specs.Prelude.{option_map, map};
     ghost use Rattle.std.specs.FinMap.{from_entries};
     ghost use Rattle.nntp_article.specs.Machine.{State};
-    ghost use Rattle.nntp_spool.specs.Coded.{coded_state};
+    ghost use Rattle.nntp_spool.specs.Codes.{coded_state};
 
     ghost Value = { State };
 

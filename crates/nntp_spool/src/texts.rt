@@ -1,9 +1,9 @@
 //! Whether what is sent of an article is the article's text.
 ghost use Rattle.std.specs.Prelude.{◌≡◌, ◌≢◌, ◌↔◌, ◌++◌, ◌∷◌, [], List, ℕ, IsTrue, MatchOption};
 ghost use Rattle.nntp_article.specs.Spool.{text_of};
-ghost use Rattle.nntp_spool.specs.Shown.{lines_of, text_of_article};
+ghost use Rattle.nntp_spool.specs.ArticleLines.{lines_of, text_of_article};
 
-use crate::article::Article;
+use crate::value::article::Article;
 use nntp_wire::{Block, Lines, What};
 use std::alloc::Allocator;
 

@@ -3,12 +3,12 @@ ghost use Rattle.std.specs.Prelude.{◌≡◌, OnOk, ◌↔◌, IsTrue, IfOk};
 ghost use Rattle.nntp_pair.specs.Pairing.{asked_at};
 ghost use Rattle.nntp_article.specs.Machine.{MayAnswer, after};
 ghost use Rattle.nntp_article.specs.Spool.{IsSpool};
-ghost use Rattle.nntp_spool.specs.Limit.{narrow};
+ghost use Rattle.nntp_spool.specs.Limit.{profile_31_bits};
 ghost use Rattle.nntp_spool.specs.Verifying.{IsVerified};
 
-use crate::content::Content;
 use crate::session::Session;
-use crate::spool::Spool;
+use crate::value::Spool;
+use crate::value::content::Content;
 use crate::verified::Verified;
 use nntp_pair::{Exchange, Pairs, Step};
 use std::alloc::{AllocError, Allocator};
@@ -16,8 +16,8 @@ use std::alloc::{AllocError, Allocator};
 impl<A: Allocator + Copy> Session<A> {
     /// Whether the exchange is permitted.
     fn permits(&self, spool: &Content<A>, exchange: &Exchange<'_>) -> Result<bool, AllocError>
-        requires { IsSpool narrow spool.now }
-        ensures { IfOk result (λ may. IsTrue may ↔ MayAnswer narrow spool.now self.now (asked_at exchange.now.line) exchange.now.response) }
+        requires { IsSpool profile_31_bits spool.now }
+        ensures { IfOk result (λ may. IsTrue may ↔ MayAnswer profile_31_bits spool.now self.now (asked_at exchange.now.line) exchange.now.response) }
     {
         self.may_answer(spool, exchange.prompt(), exchange.answer())
     }
@@ -38,7 +38,7 @@ pub fn verify<A: Allocator + Copy>(
     client: &[u8],
     server: &[u8],
 ) -> Result<Verified, AllocError>
-    ensures { IfOk result (λ verified. IsVerified narrow spool.now client.now server.now verified) }
+    ensures { IfOk result (λ verified. IsVerified profile_31_bits spool.now client.now server.now verified) }
 {
     let content = spool.content();
     let mut pairs = Pairs::new(client, server);

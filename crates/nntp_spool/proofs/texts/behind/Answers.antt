@@ -1,6 +1,6 @@
 use Rattle.std.proofs.Common.{◌≡◌, ℕ, ◌+◌, ◌<◌, length, ◌∷◌, ◌++◌, List, Vec, drop, get_or, sym, ap, ◌∙◌, drop-cons, add-one}
 use Rattle.std.proofs.lemmas.Bool.{true≢false}
-use Rattle.nntp_spool.specs.Shown.{lines_of}
+use Rattle.nntp_spool.specs.ArticleLines.{lines_of}
 use Rattle.nntp_spool.proofs.texts.behind.Given.{Over}
 use Rattle.nntp_spool.proofs.texts.behind.Goals as goal
 

@@ -1,6 +1,6 @@
 use Rattle.std.proofs.Common.{◌≡◌, ◌++◌, drop, List, ℕ}
 use Rattle.std.specs.Prelude.{◌↔◌}
-use Rattle.nntp_spool.specs.Shown.{lines_of}
+use Rattle.nntp_spool.specs.ArticleLines.{lines_of}
 use Rattle.nntp_spool.proofs.texts.behind.Given as goal
 
 abbrev pub invariant-loop-line : goal.invariant-loop-line

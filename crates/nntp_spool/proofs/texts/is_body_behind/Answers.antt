@@ -1,6 +1,6 @@
 use Rattle.std.proofs.Common.{◌∷◌, [], List, ℕ, refl, sym, ap, ◌∙◌}
 use Rattle.std.proofs.lemmas.Bool.{true≢false}
-use Rattle.nntp_spool.specs.Shown.{lines_of}
+use Rattle.nntp_spool.specs.ArticleLines.{lines_of}
 use Rattle.nntp_spool.proofs.texts.is_body_behind.Goals as goal
 
 pub returns-then-begins_with : goal.returns-then-begins_with

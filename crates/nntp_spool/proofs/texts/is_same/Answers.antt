@@ -1,7 +1,7 @@
 use Rattle.std.proofs.Common.{[], ◌++◌, List, ℕ, sym, ap, ◌∙◌}
 use Rattle.std.proofs.lemmas.Bool.{true≢false}
 use Rattle.std.proofs.lemmas.List.{append-nil, append_cancel_left}
-use Rattle.nntp_spool.specs.Shown.{lines_of}
+use Rattle.nntp_spool.specs.ArticleLines.{lines_of}
 use Rattle.nntp_spool.proofs.texts.is_same.Goals as goal
 
 pub returns-in-Some : goal.returns-in-Some

@@ -2,7 +2,7 @@ use Rattle.std.proofs.Common.{sym, ap, ◌∙◌}
 use Rattle.std.specs.Ordering.{nat_cmp}
 use Rattle.std.specs.Cmp.Lexicographic.{slice_cmp, nat_list_cmp_total}
 use Rattle.std.specs.FinMap as map
-use Rattle.nntp_spool.proofs.Shown.{get-shown, option_map_id}
+use Rattle.nntp_spool.proofs.ShownMaps.{get-shown, option_map_id}
 use Rattle.nntp_spool.proofs.session.Session.low.Goals as goal
 
 pub returns : goal.returns

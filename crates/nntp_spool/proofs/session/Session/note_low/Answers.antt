@@ -2,7 +2,7 @@ use Rattle.std.proofs.Common.{ap, ◌∙◌}
 use Rattle.std.specs.Ordering.{nat_cmp}
 use Rattle.std.specs.Cmp.Lexicographic.{slice_cmp, nat_list_cmp_total}
 use Rattle.std.specs.FinMap as map
-use Rattle.nntp_spool.proofs.Shown.{insert-shown}
+use Rattle.nntp_spool.proofs.ShownMaps.{insert-shown}
 use Rattle.nntp_spool.proofs.session.Session.note_low.Goals as goal
 
 pub returns : goal.returns
