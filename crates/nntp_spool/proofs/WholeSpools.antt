@@ -120,17 +120,25 @@ read_is_text profile octets S le e = let read = text_takes profile octets S le e
 pub text_is_read : (profile : Profile) (S : Spool) → profile.limit < 2 ^ 64 → IsSpool profile S → HasCounts S → spool_at profile (spool_text S) ≡ Ok S
 text_is_read profile S le is sizes = text_again profile S le (content_of_spool profile S is) sizes (spool_knows profile S is)
 
+-- octets in memory that are the text of a spool
+pub memory_is_read : (profile : Profile) (S : Spool) → profile.limit < 2 ^ 64 → IsSpool profile S → length (spool_text S) < 2 ^ 64 → spool_at profile (spool_text S) ≡ Ok S
+memory_is_read profile S le is lt = text_is_read profile S le is (counted S lt)
+
 pub written_is_read : (profile : Profile) (S : Spool) → profile.limit < 2 ^ 64 → IsWritten profile S → spool_at profile (spool_text S) ≡ Ok S
 written_is_read profile S le is = text_is_read profile S le is.is_spool (record { counts = is.counts; lines = is.lines })
 
 pub same_text : (profile : Profile) (S T : Spool) → profile.limit < 2 ^ 64 → IsWritten profile S → IsWritten profile T → spool_text S ≡ spool_text T → S ≡ T
 same_text profile S T le s t e = ok_is S T (sym (written_is_read profile S le s) ∙ ap (spool_at profile) e ∙ written_is_read profile T le t)
 
+-- what was read is the spool whose text the octets are
+pub read_is_same : (profile : Profile) (octets : List ℕ) (T S : Spool) → profile.limit < 2 ^ 64 → length octets < 2 ^ 64 → spool_at profile octets ≡ Ok T → IsSpool profile S → octets ≡ spool_text S → T ≡ S
+read_is_same profile octets T S le lt e is same =
+    ok_is T S (sym e ∙ ap (spool_at profile) same ∙ memory_is_read profile S le is (subst (λ (os : List ℕ). length os < 2 ^ 64) same lt))
+
 -- octets with a fault are no text
 pub fault_is_no_text : (profile : Profile) (octets : List ℕ) (fault : ReadFault) → profile.limit < 2 ^ 64 → length octets < 2 ^ 64 → spool_at profile octets ≡ Err fault → (S : Spool) → IsSpool profile S → octets ≡ spool_text S → ⊥
 fault_is_no_text profile octets fault le lt e S is same =
-    let sizes = counted S (subst (λ (os : List ℕ). length os < 2 ^ 64) same lt) in
-    not_both S fault (sym (text_is_read profile S le is sizes) ∙ ap (spool_at profile) (sym same) ∙ e)
+    not_both S fault (sym (memory_is_read profile S le is (subst (λ (os : List ℕ). length os < 2 ^ 64) same lt)) ∙ ap (spool_at profile) (sym same) ∙ e)
   where
     not_both : (S : Spool) (fault : ReadFault) → done S ≡ Err fault → ⊥
     not_both S fault e = cc

@@ -20,6 +20,12 @@ pub fn each_text_is_read()
     ensures { (profile : Profile) (S : Spool) → profile.limit < 2 ^ 64 → IsWritten profile S → spool_at profile (spool_text S) ≡ Ok S }
 {}
 
+/// The text of a spool, where memory holds it, is read as this spool. So what `write` writes of a spool
+/// is read as the same spool.
+pub fn text_in_memory_is_read()
+    ensures { (profile : Profile) (S : Spool) → profile.limit < 2 ^ 64 → IsSpool profile S → length (spool_text S) < 2 ^ 64 → spool_at profile (spool_text S) ≡ Ok S }
+{}
+
 /// Different spools have different texts.
 pub fn texts_differ()
     ensures { (profile : Profile) (S T : Spool) → profile.limit < 2 ^ 64 → IsWritten profile S → IsWritten profile T

@@ -5,6 +5,7 @@ ghost use Rattle.nntp_spool.specs.Reading.{Gives, parts_of, is_end, content_at, 
 ghost use Rattle.nntp_spool.specs.Fields.{End};
 ghost use Rattle.nntp_spool.specs.ReadingView.{place_shown, turn_shown};
 ghost use Rattle.nntp_spool.specs.ArticleLines.{lines_of};
+ghost use Rattle.nntp_article.specs.Spool.{Spool as SpoolValue, IsSpool};
 ghost use Rattle.nntp_spool.specs.Text.{spool_text};
 ghost use Rattle.nntp_spool.specs.Faults.{IsFault};
 
@@ -267,6 +268,7 @@ impl<A: Allocator + Copy> Spool<A> {
     /// the word of a count alone.
     pub fn read(alloc: A, octets: &[u8]) -> Result<Spool<A>, ReadFault>
         ensures spool { IfOk result (λ spool. octets.now ≡ spool_text spool) }
+        ensures same { (S : SpoolValue) → IsSpool profile_31_bits S → octets.now ≡ spool_text S → IfOk result (λ spool. spool ≡ S) }
         ensures fault { IfErr result (λ fault. IsFault profile_31_bits octets.now fault) }
     {
         match content_of_text(alloc, octets) {

@@ -62,6 +62,7 @@ impl<A: Allocator> Spool<A> {
         ensures groups { result.groups ≡ len self.now.groups }
         ensures numbers { result.numbers ≡ numbers_in self.now }
         ensures articles { result.articles ≡ len self.now.articles }
+        ensures is_spool { IsSpool profile_31_bits self.now }
     {
         Counts {
             groups: self.content.count_groups(),
