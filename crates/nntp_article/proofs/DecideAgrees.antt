@@ -11,15 +11,16 @@ use Rattle.std.proofs.lemmas.Map.Lookups.{exact_unsigned, exact_bytes, CmpEqualI
 use Rattle.std.proofs.lemmas.List.Elements.{recursion_from_All, All-from_recursion}
 use Rattle.std.specs.declared.cmp.Ordering.{Ordering}
 use Rattle.std.specs.Cmp.Lexicographic.{nat_list_cmp_total}
-use Rattle.nntp_article.specs.Spool.{Spool, Numbers, IsNumber, numbers, IsNextAbove, IsNextBelow, NoneAbove, NoneBelow, Lists, IsInRange, text_of, Profile}
+use Rattle.nntp_article.specs.Spool.{Spool, Numbers, IsNumber, numbers, IsNextAbove, IsNextBelow, NoneAbove, NoneBelow, Lists, IsInRange, text_of}
+use Rattle.nntp_article.specs.declared.profile.Profile.{Profile}
 use Rattle.nntp_article.specs.Machine.{State, selected_numbers, Bound, CodeAgrees, NumberAgrees, Agrees, ActivesAgree, MayAnswer, Run, fits, after}
 use Rattle.nntp_article.proofs.Decide.{Dec, dec_true, dec_le, dec_both, dec_three, dec_if, dec_by, dec_none, dec_some_text, each_key, dec_some, dec_option, dec_lists, dec_unless, dec_to, passes, fails, dec_all}
-use Rattle.nntp_wire.specs.Answer.{WaterMarks, Success, Asked, Response, to, group_is, numbers_are, sends, active_are, plain}
+use Rattle.nntp_wire.specs.Answer.{Success, Asked, Response, to, group_is, numbers_are, sends, active_are, plain}
+use Rattle.nntp_wire.specs.declared.water_marks.WaterMarks.{WaterMarks}
 use Rattle.nntp_wire.specs.declared.range.Range.{Range}
-use Rattle.nntp_wire.specs.Listing.{ActiveValue}
+use Rattle.nntp_wire.specs.Listing.{ActiveValue, listed_numbers, active_groups}
 use Rattle.nntp_wire.specs.Wildmat.{MatchesName}
 use Rattle.nntp_wire.specs.Decided.{matches_name}
-use Rattle.nntp_article.specs.Listed.{listed_numbers, active_groups}
 use Rattle.nntp_wire.proofs.DecidedLemmas.{matches_name-iff}
 use Rattle.nntp_wire.specs.Command.{Target, Request, by_id, by_number, current, group, list_group, next, last, retrieve, list_active}
 

@@ -6,17 +6,18 @@ use Rattle.std.specs.Cmp.Lexicographic.{slice_cmp, pointwise}
 use Rattle.std.specs.Ordering.{nat_cmp}
 use Rattle.std.specs.FinMap.{FinMap, get, insert, len, empty}
 use Rattle.nntp_wire.specs.Command.{Target, by_id, by_number, current, Request, capabilities, mode_reader, next, last, quit, opaque, ill_formed, group, list_group, retrieve, list_active}
-use Rattle.nntp_wire.specs.Answer.{Asked, greeting, to, WaterMarks, Success, Response, group_is, numbers_are, sends, active_are, plain, success_code}
-use Rattle.nntp_wire.specs.Listing.{ActiveValue}
+use Rattle.nntp_wire.specs.Answer.{Asked, greeting, to, Success, Response, group_is, numbers_are, sends, active_are, plain, success_code}
+use Rattle.nntp_wire.specs.declared.water_marks.WaterMarks.{WaterMarks}
+use Rattle.nntp_wire.specs.Listing.{ActiveValue, listed_numbers, active_groups}
 use Rattle.nntp_wire.specs.Session.{closes}
 use Rattle.nntp_wire.specs.Wildmat.{MatchesName}
 use Rattle.nntp_wire.specs.declared.range.Range.{Range}
 use Rattle.nntp_wire.specs.declared.command.What.{What}
 use Rattle.nntp_wire.specs.declared.command.What.TheVariants.{Article, Head, Body, Stat}
 use Rattle.nntp_wire.specs.Decided.{matches_name}
-use Rattle.nntp_article.specs.Listed.{listed_numbers, active_groups}
 use Rattle.nntp_article.specs.Article.{Line, Id, is_empty, is_head, said_id, head_part}
-use Rattle.nntp_article.specs.Spool.{Profile, Name, Spool, Numbers, IsGroup, IsNumber, numbers, least, IsNextAbove, IsNextBelow, NoneAbove, NoneBelow, Lists, HasText}
+use Rattle.nntp_article.specs.Spool.{Name, Spool, Numbers, IsGroup, IsNumber, numbers, least, IsNextAbove, IsNextBelow, NoneAbove, NoneBelow, Lists, HasText}
+use Rattle.nntp_article.specs.declared.profile.Profile.{Profile}
 
 -- what a session shows of its state, whatever the spool
 pub record Visible : Type 0 where
@@ -94,12 +95,12 @@ abbrev pub names_differ : List ActiveValue → Bool
 names_differ [] = true
 names_differ (line ∷ lines) = list_all (λ other. not (is_same line.name other.name)) lines && names_differ lines
 
--- a number of a success, by what was asked
-abbrev pub number_fits : Profile → Visible → Target → Success → Bool
-number_fits profile v (by_id word) sent = is_same sent.id word && (sent.number == 0 || (is_some v.selected && is_num profile sent.number))
-number_fits profile v (by_number None) sent = false
-number_fits profile v (by_number (Some n)) sent = is_some v.selected && sent.number == n && is_num profile n
-number_fits profile v current sent = is_some v.selected && is_num profile sent.number
+-- the number and the id of a success, by what was asked
+abbrev pub number_fits : Profile → Visible → Target → ℕ → Id → Bool
+number_fits profile v (by_id word) number id = is_same id word && (number == 0 || (is_some v.selected && is_num profile number))
+number_fits profile v (by_number None) number id = false
+number_fits profile v (by_number (Some n)) number id = is_some v.selected && number == n && is_num profile n
+number_fits profile v current number id = is_some v.selected && is_num profile number
 
 -- an answer of a code alone, other than a generic failure
 abbrev pub code_fits : Visible → Request → ℕ → Bool
@@ -129,7 +130,7 @@ fits profile v (to (list_group word range)) (numbers_are m name lines) =
 fits profile v (to next) (sends sent) = sent.code == 223 && is_some v.selected && is_num profile sent.number
 fits profile v (to last) (sends sent) = sent.code == 223 && is_some v.selected && is_num profile sent.number
 fits profile v (to (retrieve what which)) (sends sent) =
-    sent.code == success_code what && number_fits profile v which sent && head_fits what sent.id sent.block
+    sent.code == success_code what && number_fits profile v which sent.number sent.id && head_fits what sent.id sent.block
 fits profile v (to (list_active p)) (active_are lines) = list_all (active_fits profile p) (active_groups lines) && names_differ (active_groups lines)
 fits profile v asked response = false
 

@@ -9,11 +9,8 @@ use Rattle.nntp_wire.specs.Name.{IsGroupName, IsMessageId}
 use Rattle.nntp_wire.specs.declared.range.Range.{Range}
 use Rattle.nntp_wire.specs.declared.command.What.{What}
 use Rattle.nntp_wire.specs.declared.command.What.TheVariants.{Article, Head, Body, Stat}
+use Rattle.nntp_article.specs.declared.profile.Profile.{Profile}
 use Rattle.nntp_article.specs.Article.{Line, Id, is_head, said_id}
-
--- what may vary between sessions: the greatest article number
-pub record Profile : Type 0 where
-  pub limit : ℕ
 
 -- the name of a group
 abbrev pub Name : Type 0

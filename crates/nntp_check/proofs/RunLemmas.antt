@@ -7,7 +7,7 @@ use Rattle.nntp_spool.specs.Limit.{profile_31_bits}
 use Rattle.nntp_spool.specs.Text.{spool_text}
 use Rattle.nntp_spool.specs.Verifying.{IsVerified}
 use Rattle.nntp_spool.specs.Writing.{Wrote}
-use Rattle.nntp_spool.specs.declared.verified.Verified.{Verified}
+use Rattle.nntp_spool.specs.declared.verification.verified.Verified.{Verified}
 use Rattle.nntp_check.specs.Report.{verified_report, is_permitted}
 use Rattle.nntp_check.specs.Run.{VerifyReports}
 

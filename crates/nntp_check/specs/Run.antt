@@ -8,7 +8,7 @@ use Rattle.nntp_spool.specs.Text.{spool_text}
 use Rattle.nntp_spool.specs.Verifying.{IsVerified}
 use Rattle.nntp_spool.specs.Writing.{Wrote}
 use Rattle.nntp_spool.specs.declared.text.read_fault.ReadFault.{ReadFault}
-use Rattle.nntp_spool.specs.declared.verified.Verified.{Verified}
+use Rattle.nntp_spool.specs.declared.verification.verified.Verified.{Verified}
 use Rattle.nntp_check.specs.Capture.{AreStreams, IsBadPiece}
 use Rattle.nntp_check.specs.Judging.{IsPlaced}
 use Rattle.nntp_check.specs.Report.{report_of, verified_report, is_permitted}

@@ -15,7 +15,7 @@ use Rattle.std.proofs.lemmas.Map.Views.{tells_apart}
 use Rattle.std.proofs.lemmas.Map.Lookups.{exact_unsigned}
 use Rattle.nntp_intervals.specs.Intervals.{holds}
 use Rattle.nntp_article.specs.Spool.{Numbers, IsNumber}
-use Rattle.nntp_wire.specs.Answer.{WaterMarks}
+use Rattle.nntp_wire.specs.declared.water_marks.WaterMarks.{WaterMarks}
 use Rattle.nntp_facts.specs.Asks.{Ask, Estimates, Bounds}
 use Rattle.nntp_facts.specs.Given.{shows, denies, is_shown, is_denied, Demand, NoDemand, demand, join, wants}
 use Rattle.nntp_facts.specs.Together.{is_possible, MeetsDemand, AsksStand}

@@ -11,7 +11,8 @@ use Rattle.nntp_wire.proofs.SpellLemmas.{spelling-frame, one-frame}
 use Rattle.nntp_wire.proofs.SpellsDecided.{one-spelling, dec_spelling}
 use Rattle.nntp_wire.proofs.FramesDecided.{dec_frame, frame-longer}
 use Rattle.nntp_wire.proofs.StreamLemmas.{lines-joined}
-use Rattle.nntp_article.specs.Spool.{Profile, Spool}
+use Rattle.nntp_article.specs.Spool.{Spool}
+use Rattle.nntp_article.specs.declared.profile.Profile.{Profile}
 use Rattle.nntp_article.specs.Machine.{Visible, State, Run, start, fits, visible_after}
 use Rattle.nntp_article.specs.Explains.{ExplainsFirst, Bad}
 use Rattle.nntp_pair.specs.Pairing.{IsCut, IsMalformed}

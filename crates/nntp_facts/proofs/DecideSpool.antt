@@ -10,7 +10,8 @@ use Rattle.std.specs.FinMap.{FinMap, get, entries, empty, IsAntisymmetric, nat_c
 use Rattle.std.proofs.lemmas.List.Elements.{recursion_from_All, All-from_recursion}
 use Rattle.nntp_article.proofs.Decide.{Dec, dec_true, dec_le, dec_both, dec_three, dec_by, dec_to, dec_texts}
 use Rattle.nntp_article.specs.Article.{is_head, said_id, Id}
-use Rattle.nntp_article.specs.Spool.{Spool, Text, Numbers, numbers, IsSpool, Name, is_line, Profile}
+use Rattle.nntp_article.specs.Spool.{Spool, Text, Numbers, numbers, IsSpool, Name, is_line}
+use Rattle.nntp_article.specs.declared.profile.Profile.{Profile}
 use Rattle.nntp_facts.proofs.Members.{all_at, all_from}
 use Rattle.nntp_facts.proofs.GivenHolds.{group_of_number, some_is}
 use Rattle.nntp_facts.proofs.OneMore.{dec_each_in}

@@ -3,7 +3,8 @@ use Rattle.std.proofs.Common.{◌≡◌, ℕ, ◌<◌, ◌≤◌, true, false, I
 use Rattle.std.specs.Prelude.{codes}
 use Rattle.std.proofs.lemmas.Bool.{cases_eq, eqb-true, le-ltb, or_cases}
 use Rattle.std.proofs.lemmas.Fmt.{decimal_digit}
-use Rattle.nntp_wire.specs.Answer.{Response, WaterMarks, greeting, to, group_is, numbers_are, sends, plain}
+use Rattle.nntp_wire.specs.Answer.{Response, greeting, to, group_is, numbers_are, sends, plain}
+use Rattle.nntp_wire.specs.declared.water_marks.WaterMarks.{WaterMarks}
 use Rattle.nntp_wire.specs.declared.command.What.TheVariants.{Head, Stat}
 use Rattle.nntp_wire.specs.Command.{Request, by_id, by_number, current, group, list_group, from_one, next, last, retrieve}
 use Rattle.nntp_facts.specs.Asks.{First, Known, Ask, Estimates, StepsUp, StepsDown, StandsAt, IsTop, IsBottom, Has, Lacks}

@@ -2,7 +2,8 @@
 use Rattle.std.proofs.Common.{◌<◌, ◌^◌, ◌⊎◌, ◌↔◌, List, length, inl, inr}
 use Rattle.nntp_article.proofs.Decide.{Dec, dec_both}
 use Rattle.nntp_article.proofs.DecideAgrees.{dec_run}
-use Rattle.nntp_article.specs.Spool.{Spool, IsSpool, Profile}
+use Rattle.nntp_article.specs.Spool.{Spool, IsSpool}
+use Rattle.nntp_article.specs.declared.profile.Profile.{Profile}
 use Rattle.nntp_article.specs.Machine.{Run, start}
 use Rattle.nntp_facts.specs.Facts.{FitsAll}
 use Rattle.nntp_facts.specs.Given.{IsGiven, facts_of_session, unshown_ids, size}

@@ -2,7 +2,8 @@
 use Rattle.std.proofs.Common.{ℕ, Bool, true, false, cond, ◌==◌, ◌↔◌, IsTrue, List, [], ◌∷◌, ◌++◌, None, Some, refl}
 use Rattle.std.specs.Prelude.{IsFalse}
 use Rattle.std.specs.List.{AllByRecursion}
-use Rattle.nntp_article.specs.Spool.{Spool, Profile}
+use Rattle.nntp_article.specs.Spool.{Spool}
+use Rattle.nntp_article.specs.declared.profile.Profile.{Profile}
 use Rattle.nntp_article.specs.Machine.{Visible, Agrees, visible_after, CodeAgrees}
 use Rattle.nntp_facts.specs.Asks.{Position, state_at, position_after, RunsAt}
 use Rattle.nntp_facts.specs.Facts.{Fact, Holds, facts_of, facts_of_code, facts_from, on, FitsAll}

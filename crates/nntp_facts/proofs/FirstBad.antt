@@ -6,7 +6,8 @@ use Rattle.std.specs.Cmp.Lexicographic.{slice_cmp}
 use Rattle.std.specs.FinMap.{get, empty, get-empty}
 use Rattle.std.proofs.Math.Seq.{take-length}
 use Rattle.std.proofs.lemmas.Bool.{cases_order, true≢false}
-use Rattle.nntp_article.specs.Spool.{Spool, Numbers, IsSpool, numbers, Name, Profile}
+use Rattle.nntp_article.specs.Spool.{Spool, Numbers, IsSpool, numbers, Name}
+use Rattle.nntp_article.specs.declared.profile.Profile.{Profile}
 use Rattle.nntp_article.specs.Machine.{State, Visible, Run, start, visible_after}
 use Rattle.nntp_facts.specs.Asks.{Position, Nowhere, position_after}
 use Rattle.nntp_facts.specs.Facts.{Fact, facts_of, facts_from}

@@ -11,7 +11,8 @@ use Rattle.std.specs.FinMap.{get, find, empty, entries, get-entries, get-empty, 
 use Rattle.std.proofs.lemmas.Bool.{true≢false, and_parts, and_from, and_cases, false_from_ne_true, not-false, eqb-true, eq-eqb}
 use Rattle.std.proofs.lemmas.List.Elements.{All-from_recursion}
 use Rattle.nntp_article.specs.Article.{head_part, body_part, is_empty, is_head, Id, Line}
-use Rattle.nntp_article.specs.Spool.{Spool, Text, Numbers, IsNumber, IsGroup, numbers, HasText, text_of, Name, Profile}
+use Rattle.nntp_article.specs.Spool.{Spool, Text, Numbers, IsNumber, IsGroup, numbers, HasText, text_of, Name}
+use Rattle.nntp_article.specs.declared.profile.Profile.{Profile}
 use Rattle.nntp_article.specs.Machine.{is_same, head_fits, active_fits, ActivesAgree}
 use Rattle.nntp_facts.specs.Asks.{Ask, Meets, Has, Bounds}
 use Rattle.nntp_facts.specs.Facts.{Fact, Holds, ThereIs, ThereIsNo, Asks, IdAt, TextIs, NoArticle, GroupsAre}

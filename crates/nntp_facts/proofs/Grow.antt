@@ -1,6 +1,7 @@
 -- Answers one by one: what one more says, and which prompts matter.
 use Rattle.std.proofs.Common.{◌≡◌, ℕ, ◌≤◌, ◌↔◌, suc, false, IsTrue, List, [], ◌∷◌, ◌++◌, map, length, Some, refl, sym, ap, subst, ◌∙◌, arith, append_assoc, append-nil, length-append}
-use Rattle.nntp_article.specs.Spool.{Profile, Spool}
+use Rattle.nntp_article.specs.Spool.{Spool}
+use Rattle.nntp_article.specs.declared.profile.Profile.{Profile}
 use Rattle.nntp_article.specs.Machine.{Visible, State, Run, start, fits, visible_after}
 use Rattle.nntp_facts.specs.Asks.{Position, Nowhere, position_after}
 use Rattle.nntp_facts.specs.Facts.{facts_of, facts_from, FitsAll}

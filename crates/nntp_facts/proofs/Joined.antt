@@ -7,7 +7,8 @@ use Rattle.std.proofs.lemmas.Bool.{true≢false, or_left, or_right, or_cases, an
 use Rattle.std.proofs.lemmas.List.Folds.{list_any-append}
 use Rattle.std.proofs.lemmas.Grind.{flat_map-append}
 use Rattle.nntp_article.specs.Article.{Id}
-use Rattle.nntp_article.specs.Spool.{Profile, Spool, IsSpool, Name}
+use Rattle.nntp_article.specs.Spool.{Spool, IsSpool, Name}
+use Rattle.nntp_article.specs.declared.profile.Profile.{Profile}
 use Rattle.nntp_article.specs.Machine.{start, fits, is_same}
 use Rattle.nntp_facts.specs.Asks.{Nowhere}
 use Rattle.nntp_facts.specs.Facts.{Fact, Holds, ThereIs, IdAt, TextIs, GroupsAre, facts_of, FitsAll}

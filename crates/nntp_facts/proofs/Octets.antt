@@ -3,7 +3,8 @@ use Rattle.std.proofs.Common.{◌≡◌, ℕ, zero, suc, ◌+◌, ◌<◌, ◌�
 use Rattle.std.proofs.Math.Seq.{take-length}
 use Rattle.std.proofs.lemmas.Bool.{cases_lt, cases_order}
 use Rattle.std.proofs.lemmas.List.{append_cancel_left, length-take}
-use Rattle.nntp_article.specs.Spool.{Spool, IsSpool, Profile}
+use Rattle.nntp_article.specs.Spool.{Spool, IsSpool}
+use Rattle.nntp_article.specs.declared.profile.Profile.{Profile}
 use Rattle.nntp_article.specs.Machine.{Run, start}
 use Rattle.nntp_wire.specs.Session.{Spelled, prompts_of}
 use Rattle.nntp_article.specs.Explains.{ExplainsUpTo, Explains, ExplainsFirst, Bad}

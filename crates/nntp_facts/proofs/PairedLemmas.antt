@@ -6,7 +6,8 @@ use Rattle.nntp_pair.specs.Pairing.{Paired, Unpaired, AreNext, IsBad, responses_
 use Rattle.nntp_pair.proofs.SpelledLemmas.{places-prompts, pairs-spelled}
 use Rattle.nntp_pair.specs.declared.class.PairClass.{PairClass}
 use Rattle.nntp_pair.specs.declared.class.PairClass.TheVariants.{Surplus as surplus, Cut as cut, Malformed as malformed}
-use Rattle.nntp_article.specs.Spool.{Profile, Spool, IsSpool}
+use Rattle.nntp_article.specs.Spool.{Spool, IsSpool}
+use Rattle.nntp_article.specs.declared.profile.Profile.{Profile}
 use Rattle.nntp_article.specs.Machine.{Visible, start, visible_after, Run}
 use Rattle.nntp_article.specs.Explains.{ExplainsUpTo}
 use Rattle.nntp_article.proofs.Closing.{after-closes}

@@ -1,6 +1,7 @@
 -- The current article of a session can be read off the session.
 use Rattle.std.proofs.Common.{◌≡◌, List, [], ◌∷◌, refl, sym, subst, ◌∙◌}
-use Rattle.nntp_article.specs.Spool.{Spool, Profile}
+use Rattle.nntp_article.specs.Spool.{Spool}
+use Rattle.nntp_article.specs.declared.profile.Profile.{Profile}
 use Rattle.nntp_article.specs.Machine.{Visible, Agrees, Run, after, visible_after}
 use Rattle.nntp_facts.specs.Asks.{RunsAt, Position, position_after, state_at}
 use Rattle.nntp_wire.specs.Answer.{Asked, Response, to, group_is, numbers_are, sends, active_are, plain}

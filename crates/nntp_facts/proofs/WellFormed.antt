@@ -8,13 +8,12 @@ use Rattle.std.proofs.lemmas.List.Elements.{recursion_from_All}
 use Rattle.nntp_wire.specs.Octets.{crlf, dot, is_clean}
 use Rattle.nntp_wire.specs.Name.{IsGroupName, IsMessageId}
 use Rattle.nntp_wire.specs.Block.{stuffed, sent, dot_line, AreClean}
-use Rattle.nntp_wire.specs.Listing.{IsActiveLine}
+use Rattle.nntp_wire.specs.Listing.{active_groups}
 use Rattle.nntp_wire.specs.Answer.{Asked, Response, to, group_is, numbers_are, sends, active_are, plain, Spells, Says, SaysByLines, SaysGroup, SaysNumbers, SaysArticle, SaysActive, SaysCapabilities, SaysCode, success_code, greeting, block_octets, IsCleanBlock, kind_of}
 use Rattle.nntp_wire.specs.Command.{Request, capabilities, mode_reader, quit, opaque, ill_formed, by_id, by_number, current, group, list_group, next, last, retrieve, list_active}
 use Rattle.nntp_article.specs.Spool.{is_line}
-use Rattle.nntp_article.specs.Listed.{active_groups}
 use Rattle.nntp_article.specs.Machine.{Visible}
-use Rattle.nntp_article.proofs.ListedLemmas.{active_of-lists}
+use Rattle.nntp_wire.proofs.ListingLemmas.{active_groups-named}
 use Rattle.nntp_facts.specs.Asks.{Position}
 use Rattle.nntp_facts.specs.Facts.{Fact, on, facts_of_code, facts_of}
 use Rattle.nntp_facts.specs.Together.{IsWellFormed}
@@ -49,12 +48,6 @@ block_lines : (block : Option (List (List ℕ))) → IsCleanBlock block → are_
 block_lines None clean h = tt
 block_lines (Some lines) clean h = sent_lines lines clean (parts (sent lines) dot_line h).0
 
--- groups that are listed have names
-listed_names : (lines : List (List ℕ)) → AllByRecursion IsActiveLine lines → AllByRecursion (λ line. IsGroupName line.name) (active_groups lines)
-listed_names [] h = tt
-listed_names (line ∷ lines) h =
-    subst (λ o. AllByRecursion (λ line. IsGroupName line.name) (cons_option o (active_groups lines))) (sym (active_of-lists line h.0.0 h.0.1)) (h.0.1.is_name, listed_names lines h.1)
-
 -- names, ids and lines of the response are such
 IsProper : Response → Type 0
 IsProper (group_is m name) = IsGroupName name
@@ -86,7 +79,7 @@ article_proper code bytes block response lines h = absurd h
 active_proper : (block : Option (List (List ℕ))) (response : Response) → SaysByLines SaysActive block response → IsProper response
 unfolding IsProper
 active_proper None response h = absurd h
-active_proper (Some lines) (active_are listed) h = subst (λ ls. AllByRecursion (λ line. IsGroupName line.name) (active_groups ls)) (sym h.1) (listed_names lines (recursion_from_All IsActiveLine lines h.0))
+active_proper (Some lines) (active_are listed) h = subst (λ ls. AllByRecursion (λ line. IsGroupName line.name) (active_groups ls)) (sym h.1) (active_groups-named lines)
 active_proper (Some lines) response h = absurd h
 
 -- or is a code

@@ -1,6 +1,7 @@
 -- Whether some spool permits a session, and the first answer from which on none does.
 use Rattle.std.specs.Prelude.{ℕ, ◌+◌, ◌<◌, List, length, take, map}
-use Rattle.nntp_article.specs.Spool.{Spool, IsSpool, Profile}
+use Rattle.nntp_article.specs.Spool.{Spool, IsSpool}
+use Rattle.nntp_article.specs.declared.profile.Profile.{Profile}
 use Rattle.nntp_article.specs.Machine.{Run, start}
 use Rattle.nntp_wire.specs.Answer.{Asked, Response}
 use Rattle.nntp_pair.specs.Pairing.{Paired, asked_at}

@@ -2,7 +2,8 @@
 ghost use Rattle.std.specs.Prelude.{◌≡◌, ℕ, ◌↔◌, ◌≤◌, ◌<◌, ◌+◌, ◌^◌, ◌⊎◌, false, List, [], ◌∷◌, ◌++◌, length, IsTrue, Some, nat_lt};
 ghost use Rattle.std.specs.List.{AllByRecursion, list_all};
 ghost use Rattle.std.specs.FinMap.{insert, len};
-ghost use Rattle.nntp_article.specs.Spool.{Spool, Numbers, IsNumber, IsSpool, Name, Profile};
+ghost use Rattle.nntp_article.specs.Spool.{Spool, Numbers, IsNumber, IsSpool, Name};
+ghost use Rattle.nntp_article.specs.declared.profile.Profile.{Profile};
 ghost use Rattle.nntp_article.specs.Machine.{Run, start, fits, Visible, visible_after};
 ghost use Rattle.nntp_facts.specs.Asks.{RunsAt, Nowhere, Meets, Ask, Position, position_after};
 ghost use Rattle.nntp_facts.specs.Facts.{FitsAll, Holds, Fact, facts_of, facts_from};

@@ -33,11 +33,6 @@ some_is x y e = cc
 some_none : {A : Type 0} (x : A) → some x ≡ None → ⊥
 some_none x e = cc
 
--- a test that decides a conditional
-by_test : {A : Type 0} (P : A → Type 0) (b : Bool) (x y : A) → (b ≡ true → P x) → (b ≡ false → P y) → P (cond b x y)
-by_test P true x y t f = t refl
-by_test P false x y t f = f refl
-
 module _ {K : Type 0} {R : K → K → Ordering} (o : IsTotalOrder R) where
   pub tied_itself : (x : K) → eq_by_cmp R x x ≡ true
   tied_itself x = (eq_by_cmp_equiv o).refl x

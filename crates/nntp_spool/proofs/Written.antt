@@ -1,7 +1,7 @@
 -- What a writer took after several calls.
 use Rattle.std.proofs.Common.{◌≡◌, ℕ, ◌<◌, ◌+◌, List, [], ◌∷◌, ◌++◌, Option, None, Some, Result, Ok, Err, length, get_or, take, drop, drop-cons, add-one, subst, refl, sym, ap, ◌∙◌, append_assoc}
 use Rattle.std.proofs.lemmas.List.{append-nil, take-append-drop}
-use Rattle.std.specs.Io.KnownBytes.{Appends, Keeps}
+use Rattle.std.specs.Io.KnownBytes.{Appends}
 use Rattle.nntp_spool.specs.Writing.{Wrote, Writes}
 
 Appends-nil : (a : Option (List ℕ)) → Appends a a []
@@ -13,11 +13,6 @@ Appends-then None b c x y h g = tt
 Appends-then (Some xs) None c x y h g = absurd h
 Appends-then (Some xs) (Some ys) None x y h g = absurd g
 Appends-then (Some xs) (Some ys) (Some zs) x y h g = g ∙ ap (λ (t : List ℕ). t ++ y) h ∙ append_assoc xs x y
-
-Appends-keeps : (a b : Option (List ℕ)) → Keeps a b → Appends a b []
-Appends-keeps None b h = tt
-Appends-keeps (Some xs) None h = absurd h
-Appends-keeps (Some xs) (Some ys) h = h ∙ sym (append-nil xs)
 
 pub Wrote-start : (a : Option (List ℕ)) (whole : List ℕ) → Wrote a a whole whole
 Wrote-start a whole = ([], refl, Appends-nil a)
@@ -36,9 +31,6 @@ Wrote-take a b c whole rest n h g = (
   h.1 ∙ ap (λ (t : List ℕ). h.0 ++ t) (sym (take-append-drop n rest)) ∙ sym (append_assoc h.0 (take n rest) (drop n rest)),
   Appends-then a b c h.0 (take n rest) h.2 g,
 )
-
-pub Wrote-keeps : (a b c : Option (List ℕ)) (whole rest : List ℕ) → Wrote a b whole rest → Keeps b c → Wrote a c whole rest
-Wrote-keeps a b c whole rest h g = (h.0 ++ [], ap (λ (t : List ℕ). t) (h.1 ∙ ap (λ (t : List ℕ). t ++ rest) (sym (append-nil h.0))), Appends-then a b c h.0 [] h.2 (Appends-keeps b c g))
 
 -- one more of items whose texts stand one after the other
 module _ {X : Type 0} (T : List X → List ℕ) (f : X → List ℕ) (law : (x : X) (xs : List X) → T (x ∷ xs) ≡ f x ++ T xs) where

@@ -14,9 +14,6 @@ pub mod Counts
 pub mod Faults
 pub mod Building
 pub mod Sessions
-pub mod SessionView
-pub mod Fitting
-pub mod Walk
-pub mod Actives
-pub mod Listing
+pub mod ListedNumbers
+pub mod ListedGroups
 pub mod Verifying

@@ -4,7 +4,8 @@ use Rattle.std.specs.List.{slice_split}
 use Rattle.std.specs.FinMap.{insert, empty}
 use Rattle.nntp_wire.specs.Decided.{is_group_name, is_message_id}
 use Rattle.nntp_article.specs.Article.{Line, Id, is_empty}
-use Rattle.nntp_article.specs.Spool.{Profile, Name, Spool, Numbers}
+use Rattle.nntp_article.specs.Spool.{Name, Spool, Numbers}
+use Rattle.nntp_article.specs.declared.profile.Profile.{Profile}
 use Rattle.nntp_article.specs.Machine.{is_num}
 use Rattle.nntp_spool.specs.declared.text.read_fault.Kind.{Kind}
 use Rattle.nntp_spool.specs.declared.text.read_fault.Kind.TheVariants as kinds

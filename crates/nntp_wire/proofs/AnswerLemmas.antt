@@ -13,18 +13,19 @@ use Rattle.nntp_wire.proofs.ResponseLemmas.{one-sent}
 use Rattle.nntp_wire.specs.Octets.{crlf}
 use Rattle.nntp_wire.specs.Lines.{HasNoCrlf}
 use Rattle.nntp_wire.specs.Block.{sent, dot_line}
+use Rattle.nntp_wire.specs.declared.water_marks.WaterMarks.{WaterMarks}
 use Rattle.nntp_wire.specs.Argument.{HasArticle, HasGroup}
 use Rattle.nntp_wire.specs.Answer.{Asked, Response, group_is, numbers_are, sends, SaysGroup, SaysNumbers, SaysArticle, Says, Spells, has_code, status_of, kind_of, is_block_due, block_octets, IsCleanBlock}
 use Rattle.nntp_wire.specs.AnswerView.{Answers, Reads, IsBlock, SendsBlock}
 use Rattle.nntp_wire.specs.Frame.{frame_octets, framed, IsBeforeDotLine}
 
 -- no group, no response
-pub no-group : (bytes : List ℕ) → ((e l h : ℕ) (name : List ℕ) → ¬ (HasGroup bytes e l h name)) → (r : Response) → SaysGroup bytes r → ⊥
-no-group bytes none (group_is m name) says = none m.estimate m.low m.high name says
+pub no-group : (bytes : List ℕ) → ((m : WaterMarks) (name : List ℕ) → ¬ (HasGroup bytes m name)) → (r : Response) → SaysGroup bytes r → ⊥
+no-group bytes none (group_is m name) says = none m name says
 no-group bytes none r says = absurd says
 
-pub no-numbers : (bytes : List ℕ) (lines : List (List ℕ)) → ((e l h : ℕ) (name : List ℕ) → ¬ (HasGroup bytes e l h name)) → (r : Response) → SaysNumbers bytes lines r → ⊥
-no-numbers bytes lines none (numbers_are m name listed) says = none m.estimate m.low m.high name says.0
+pub no-numbers : (bytes : List ℕ) (lines : List (List ℕ)) → ((m : WaterMarks) (name : List ℕ) → ¬ (HasGroup bytes m name)) → (r : Response) → SaysNumbers bytes lines r → ⊥
+no-numbers bytes lines none (numbers_are m name listed) says = none m name says.0
 no-numbers bytes lines none r says = absurd says
 
 -- no article, no response

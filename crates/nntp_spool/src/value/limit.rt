@@ -1,4 +1,6 @@
-//! The greatest article number.
+//! What sessions and spools are judged by.
+pub use nntp_article::LIMIT;
+use nntp_article::Profile;
 
-/// The greatest article number (RFC 3977, section 6).
-pub const LIMIT: u64 = 2_147_483_647;
+/// Article numbers of 31 bits.
+pub(crate) const PROFILE: Profile = Profile { limit: LIMIT };

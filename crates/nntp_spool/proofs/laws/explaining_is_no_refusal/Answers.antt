@@ -1,4 +1,4 @@
-use Rattle.nntp_spool.proofs.SessionLaws.{explained-unrefused}
+use Rattle.nntp_spool.proofs.PermittedPairs.{explained-unrefused}
 use Rattle.nntp_spool.proofs.laws.explaining_is_no_refusal.Goals as goal
 
 pub returns : goal.returns

@@ -1,6 +1,6 @@
 use Rattle.std.proofs.Common.{length}
 use Rattle.nntp_spool.specs.Limit.{profile_31_bits}
-use Rattle.nntp_spool.proofs.VerifyLemmas.{Permitted}
+use Rattle.nntp_spool.proofs.VerifiedPairs.{Permitted}
 use Rattle.nntp_spool.proofs.verification.verify.Given as goal
 
 abbrev pub invariant-loop-exchange : goal.invariant-loop-exchange

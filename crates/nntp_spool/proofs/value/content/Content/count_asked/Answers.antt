@@ -5,7 +5,7 @@ use Rattle.std.specs.FinMap as map
 use Rattle.std.specs.List.{count_by}
 use Rattle.std.proofs.lemmas.List.Folds.{fold-map}
 use Rattle.nntp_article.specs.Spool.{Name, Numbers}
-use Rattle.nntp_spool.specs.Actives.{is_asked}
+use Rattle.nntp_spool.specs.ListedGroups.{is_asked}
 use Rattle.nntp_spool.proofs.ShownMaps.{entries-shown}
 use Rattle.nntp_spool.proofs.ItemsOfText.{octet_keys}
 use Rattle.nntp_spool.proofs.value.content.Content.count_asked.Goals as goal

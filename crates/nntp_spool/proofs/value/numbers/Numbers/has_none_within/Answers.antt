@@ -1,5 +1,5 @@
 use Rattle.std.proofs.Common.{None, Some, refl}
-use Rattle.nntp_spool.proofs.Walks.{none_left}
+use Rattle.nntp_spool.proofs.ListedNumbers.{none_left}
 use Rattle.nntp_spool.proofs.value.numbers.Numbers.has_none_within.Goals as goal
 
 pub returns-in-Some : goal.returns-in-Some
