@@ -17,7 +17,7 @@ use Rattle.nntp_spool.specs.Ascending.{is_last}
 use Rattle.nntp_spool.proofs.MapEntries.{less_is, got_all, all_got, all_found}
 use Rattle.nntp_spool.proofs.NumbersInOrder.{all_passed}
 use Rattle.nntp_spool.proofs.WholeSpools.{passed_all}
-use Rattle.nntp_spool.proofs.ShownMaps.{shown, shown_entry, get-shown}
+use Rattle.nntp_article.proofs.ShownMaps.{shown, shown_entry, get-shown}
 
 module _ {K : Type 0} {R : K → K → Ordering} (o : IsTotalOrder R) where
   -- what is not above the greatest is below what the greatest is below

@@ -9,7 +9,7 @@ use Rattle.std.specs.declared.ops.Bound.TheVariants.{Excluded, Unbounded}
 use Rattle.std.specs.BTreeMap.{BTreeMap, get, IsLowerBound, IsUpperBound}
 use Rattle.std.proofs.lemmas.Bool.Decides.{nat_tests}
 use Rattle.nntp_article.specs.Spool.{Numbers, IsNumber, IsFirst, IsNextAbove, IsNextBelow, NoneAbove, NoneBelow}
-use Rattle.nntp_spool.proofs.ShownMaps.{shown, get-shown}
+use Rattle.nntp_article.proofs.ShownMaps.{shown, get-shown}
 
 abbrev pub IsLastOf : Numbers → Option ℕ → Type 0
 IsLastOf N last = MatchOption last ((m : ℕ) → map.get N m ≡ None) (λ n. IsNumber N n × ((m : ℕ) → IsNumber N m → m ≤ n))

@@ -2,7 +2,7 @@ use Rattle.std.proofs.Common.{ap, sym, ◌∙◌}
 use Rattle.std.specs.Ordering.{nat_cmp}
 use Rattle.std.specs.Cmp.Lexicographic.{slice_cmp, nat_list_cmp_total}
 use Rattle.std.specs.FinMap as map
-use Rattle.nntp_spool.proofs.ShownMaps.{get-shown, option_map_id}
+use Rattle.nntp_article.proofs.ShownMaps.{get-shown, option_map_id}
 use Rattle.nntp_spool.proofs.value.content.Content.group.Goals as goal
 
 pub returns : goal.returns

@@ -3,7 +3,8 @@ use Rattle.std.specs.Ordering.{nat_cmp}
 use Rattle.std.specs.Cmp.Lexicographic.{slice_cmp, nat_list_cmp_total}
 use Rattle.std.specs.FinMap as map
 use Rattle.nntp_spool.specs.ArticleLines.{text_of_article}
-use Rattle.nntp_spool.proofs.ShownMaps.{insert-shown, spool_is}
+use Rattle.nntp_article.proofs.ShownMaps.{insert-shown}
+use Rattle.nntp_spool.proofs.ShownMaps.{spool_is}
 use Rattle.nntp_spool.proofs.value.content.Content.put_article.Goals as goal
 
 pub returns-clause-ok : goal.returns-clause-ok

@@ -5,7 +5,7 @@ use Rattle.std.specs.FinMap as map
 use Rattle.nntp_spool.specs.Numbers.{has_id}
 use Rattle.nntp_spool.specs.Numbers.{AreIdsOf}
 use Rattle.nntp_spool.proofs.NumberIds.{none_found, free_number, one_id_more, id_taken_back}
-use Rattle.nntp_spool.proofs.ShownMaps.{insert-shown, shown}
+use Rattle.nntp_article.proofs.ShownMaps.{insert-shown, shown}
 use Rattle.nntp_spool.proofs.value.numbers.Numbers.insert.Goals as goal
 
 pub invariant_of-self-in-Ok : goal.invariant_of-self-in-Ok

@@ -1,7 +1,7 @@
 use Rattle.std.proofs.Common.{ap}
 use Rattle.std.specs.Ordering.{nat_cmp}
 use Rattle.nntp_spool.proofs.NumberIds.{no_ids}
-use Rattle.nntp_spool.proofs.ShownMaps.{shown}
+use Rattle.nntp_article.proofs.ShownMaps.{shown}
 use Rattle.nntp_spool.proofs.value.numbers.Numbers.new.Goals as goal
 
 pub invariant_of-result : goal.invariant_of-result
