@@ -26,8 +26,6 @@ mod tests;
 mod text;
 mod texts;
 mod verification;
-#[cfg(test)]
-mod verification_tests;
 mod verified;
 mod watched;
 mod write;

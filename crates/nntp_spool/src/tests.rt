@@ -17,11 +17,6 @@ fn told(line: u64, kind: Kind) -> Option<ReadFault> {
 }
 
 #[test]
-fn a_text_has_its_octets(rt: HostRuntime) {
-    assert_eq!(rt; TWO_NUMBERS.len(), 160);
-}
-
-#[test]
 fn texts_are_read_and_written_again(rt: HostRuntime) -> Result<(), Fail> {
     for text in [TWO_NUMBERS, DOTTED_BODY, b"spool 1\nend\n".as_slice()] {
         let spool = Spool::read(rt.alloc(), text)?;

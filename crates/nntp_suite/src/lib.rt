@@ -14,3 +14,5 @@ mod memory;
 mod runs;
 #[cfg(test)]
 mod sessions;
+#[cfg(test)]
+mod verdicts;
