@@ -23,13 +23,10 @@ use Rattle.nntp_wire.specs.Wildmat.{MatchesName}
 use Rattle.nntp_wire.specs.Decided.{matches_name}
 use Rattle.nntp_wire.proofs.DecidedLemmas.{matches_name-iff}
 use Rattle.nntp_wire.specs.Command.{Target, Request, by_id, by_number, current, capabilities, mode_reader, quit, opaque, ill_formed, group, list_group, next, last, retrieve, list_active}
+use Rattle.nntp_wire.proofs.OptionLemmas.{none_of}
 
 each_number : (N : Numbers) (p : ℕ → Bool) → Dec ((n : ℕ) → IsNumber N n → IsTrue (p n))
 each_number N p = each_key nat_cmp_total nat_cmp-IsAntisymmetric p N
-
-none_of : {A : Type 0} (o : Option A) → (IsSome o → ⊥) → o ≡ None
-none_of None h = refl
-none_of (Some x) h = absurd (h refl)
 
 not_some : {A : Type 0} (o : Option A) → o ≡ None → IsSome o → ⊥
 not_some o e h = true≢false (sym h ∙ ap is_some e)

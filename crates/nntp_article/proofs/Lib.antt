@@ -14,6 +14,5 @@ pub mod MissingLemmas
 pub mod Closing
 pub mod HeadParts
 pub mod ArticleLaws
-pub mod ShownMaps
 pub mod Ascends
 pub mod Names

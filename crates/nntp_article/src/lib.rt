@@ -27,4 +27,4 @@ pub use parts::Parts;
 pub use profile::{LIMIT, Profile};
 pub use required_headers::missing;
 pub use said_id::lines_say;
-pub use visible::Visible;
+pub use visible::{Visible, is_generic_failure, is_success};

@@ -15,6 +15,7 @@ mod numbers;
 #[cfg(test)]
 mod tests;
 
+pub use codes::{is_generic_failure, is_success};
 use marks::are_zeros;
 use nntp_wire::{Answer, Prompt, WaterMarks};
 use std::alloc::{AllocError, Allocator, Global};

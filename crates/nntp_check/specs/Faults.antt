@@ -1,7 +1,7 @@
 -- The fault of a run that a fault of its parts is.
-use Rattle.nntp_spool.specs.declared.read_fault.Kind.{Kind}
-use Rattle.nntp_spool.specs.declared.read_fault.Kind.TheVariants as kinds
-use Rattle.nntp_spool.specs.declared.read_fault.ReadFault.{ReadFault}
+use Rattle.nntp_spool.specs.declared.text.read_fault.Kind.{Kind}
+use Rattle.nntp_spool.specs.declared.text.read_fault.Kind.TheVariants as kinds
+use Rattle.nntp_spool.specs.declared.text.read_fault.ReadFault.{ReadFault}
 use Rattle.nntp_check.specs.declared.capture.CaptureFault.{CaptureFault}
 use Rattle.nntp_check.specs.declared.capture.CaptureFault.TheVariants as pieces
 use Rattle.nntp_check.specs.declared.run_fault.RunFault.{RunFault}

@@ -5,8 +5,8 @@ use Rattle.std.specs.List.{flat_map}
 use Rattle.std.specs.FinMap.{len}
 use Rattle.nntp_spool.specs.Counts.{numbers_in}
 use Rattle.nntp_spool.specs.Text.{spool_text}
-use Rattle.nntp_spool.specs.declared.verified.Verified.{Verified}
-use Rattle.nntp_spool.specs.declared.verified.Verified.TheVariants.{Permits, Refuses}
+use Rattle.nntp_spool.specs.declared.verification.verified.Verified.{Verified}
+use Rattle.nntp_spool.specs.declared.verification.verified.Verified.TheVariants.{Permits, Refuses}
 use Rattle.nntp_check.specs.Verdict.{Judgement, consistent, bad}
 use Rattle.nntp_check.specs.declared.verdict.Class.{Class}
 use Rattle.nntp_check.specs.declared.verdict.Class.TheVariants.{Surplus, Cut, Malformed, Unsupported, OutOfPlace, Contradiction}

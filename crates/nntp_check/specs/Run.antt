@@ -3,13 +3,13 @@ use Rattle.std.specs.Prelude.{◌≡◌, ℕ, ◌≤◌, ◌<◌, Bool, List, le
 use Rattle.std.specs.Io.KnownBytes.{Appends, Consumes, IsAtEnd}
 use Rattle.nntp_article.specs.Spool.{Spool, IsSpool}
 use Rattle.nntp_spool.specs.Faults.{IsFirstFault}
-use Rattle.nntp_spool.specs.Limit.{narrow}
+use Rattle.nntp_spool.specs.Limit.{profile_31_bits}
 use Rattle.nntp_spool.specs.Text.{spool_text}
 use Rattle.nntp_spool.specs.Verifying.{IsVerified}
 use Rattle.nntp_spool.specs.Watched.{inner_of}
 use Rattle.nntp_spool.specs.Writing.{Wrote}
-use Rattle.nntp_spool.specs.declared.read_fault.ReadFault.{ReadFault}
-use Rattle.nntp_spool.specs.declared.verified.Verified.{Verified}
+use Rattle.nntp_spool.specs.declared.text.read_fault.ReadFault.{ReadFault}
+use Rattle.nntp_spool.specs.declared.verification.verified.Verified.{Verified}
 use Rattle.nntp_spool.specs.declared.watched.Watched.{Watched}
 use Rattle.nntp_check.specs.Capture.{AreStreams, IsBadPiece}
 use Rattle.nntp_check.specs.Judging.{IsPlaced}
@@ -80,10 +80,10 @@ pub record CheckReports (client server spool text : List ℕ) (answer : Bool) : 
 -- the report of `verify` on them and on a spool's text, and its answer
 pub record VerifyReports (client server spool text : List ℕ) (answer : Bool) : Type 0 where
   pub value : Spool
-  pub is_spool : IsSpool narrow value
+  pub is_spool : IsSpool profile_31_bits value
   pub spool_is : spool ≡ spool_text value
   pub verified : Verified
-  pub exact : IsVerified narrow value client server verified
+  pub exact : IsVerified profile_31_bits value client server verified
   pub text_is : text ≡ verified_report verified
   pub answer_is : answer ≡ is_permitted verified
 
@@ -115,7 +115,7 @@ pub record ReadsNoSpool (input : Input) (fault : ReadFault) : Type 0 where
   pub server : List ℕ
   pub spool : List ℕ
   pub capture : ReadsCapture input client server spool
-  pub first : IsFirstFault narrow spool fault
+  pub first : IsFirstFault profile_31_bits spool fault
 
 -- why `check` gives no answer: a fault of the input, or a report that is cut short
 abbrev pub IsCheckFault : Input → Output → RunFault → Type 0

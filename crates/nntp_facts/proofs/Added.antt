@@ -22,9 +22,8 @@ use Rattle.nntp_facts.specs.Together.{is_possible, MeetsDemand, AsksStand}
 use Rattle.nntp_facts.specs.Summary.{estimate_in, is_within, is_within_all, Summary, has, IsSummary, Stands, part_shows, Said, Says, Finds, FirstFree, is_settled, AreCounted, Looks, shown_after, denied_after, count_after, FirstFreeBelow, AgreesWith, LooksAfter}
 use Rattle.nntp_facts.specs.declared.shown.Found.{Found}
 use Rattle.nntp_facts.proofs.Members.{In, any_in, found_in, all_both, all_back}
-use Rattle.nntp_facts.proofs.Firsts.{sorted_keys}
 use Rattle.nntp_facts.proofs.MetNumbers.{key_in, key_is}
-use Rattle.nntp_facts.proofs.Maps.{key_map, in_key_map, of_key_map}
+use Rattle.nntp_facts.proofs.Maps.{key_map, in_key_map, of_key_map, sorted_keys}
 use Rattle.nntp_facts.proofs.Demands.{demand_append}
 use Rattle.nntp_facts.proofs.Settled.{settled, stands, ByShown, ArePossible, AreApart}
 

@@ -1,67 +1,20 @@
 -- The class of a bad answer: there is one, and octets that follow leave it where it is settled.
-use Rattle.std.proofs.Common.{◌≡◌, ℕ, ◌+◌, ◌≤◌, Bool, true, false, IsTrue, List, [], ◌∷◌, ◌++◌, length, map, Option, None, Some, inl, inr, refl, sym, ap, subst, ◌∙◌, arith, append_assoc, length-append, ◌⊎◌}
-use Rattle.std.proofs.lemmas.List.{append_cancel_left, map-append, append-nil}
+use Rattle.std.proofs.Common.{◌≡◌, ℕ, ◌+◌, Bool, true, false, IsTrue, List, [], ◌∷◌, ◌++◌, length, Option, None, Some, inl, inr, refl, sym, ap, subst, ◌∙◌, arith, append_assoc, length-append, ◌⊎◌}
+use Rattle.std.proofs.lemmas.List.{append_cancel_left, append-nil}
 use Rattle.std.proofs.lemmas.Bool.{cases_Bool, true≢false}
-use Rattle.nntp_wire.specs.Command.{request_of}
-use Rattle.nntp_wire.specs.Lines.{lines_of_stream}
-use Rattle.nntp_wire.specs.Answer.{Asked, Response, greeting, to, Spells}
+use Rattle.nntp_wire.specs.Answer.{Asked, Response, Spells}
 use Rattle.nntp_wire.specs.Frame.{HasFrame, frame_octets}
 use Rattle.nntp_wire.specs.Session.{prompts_of, Spelled}
 use Rattle.nntp_wire.proofs.SpellLemmas.{spelling-frame, one-frame}
 use Rattle.nntp_wire.proofs.SpellsDecided.{one-spelling, dec_spelling}
 use Rattle.nntp_wire.proofs.FramesDecided.{dec_frame, frame-longer}
-use Rattle.nntp_wire.proofs.StreamLemmas.{lines-joined}
 use Rattle.nntp_article.specs.Spool.{Spool}
 use Rattle.nntp_article.specs.declared.profile.Profile.{Profile}
-use Rattle.nntp_article.specs.Machine.{Visible, State, Run, start, fits, visible_after}
+use Rattle.nntp_article.specs.Machine.{Visible, State, Run, start, fits}
 use Rattle.nntp_article.specs.Explains.{ExplainsFirst, Bad}
 use Rattle.nntp_pair.specs.Pairing.{IsCut, IsMalformed}
+use Rattle.nntp_facts.proofs.Prompts.{prompts_joined, spelled_longer, run_longer, run_shorter, spelled_count, visible_longer, asked_longer, asked_count}
 use Rattle.nntp_facts.specs.Classes.{Class, Surplus, Cut, Malformed, OutOfPlace, Contradiction, visible_from, asked_next, AnswersFirst, BeginsWithAnswer, IsOpenClass, IsClass, left_visible, HasClass, IsSettled}
-
--- ---- more prompts
-
--- octets behind the client's leave its prompts
-prompts_joined : (client more : List ℕ) → (later : List Asked) × (prompts_of (client ++ more) ≡ prompts_of client ++ later)
-prompts_joined client more =
-    let l = lines-joined client more in (
-      map (λ line. to (request_of line)) l.0,
-      ap (λ lines. greeting ∷ map (λ line. to (request_of line)) lines) l.1 ∙ ap (λ ps. greeting ∷ ps) (map-append (λ line. to (request_of line)) (lines_of_stream client) l.0),
-    )
-
-spelled_longer : (ps qs : List Asked) (answers : List Response) (octets : List ℕ) → Spelled ps answers octets → Spelled (ps ++ qs) answers octets
-spelled_longer ps qs [] octets s = s
-spelled_longer [] qs (a ∷ more) octets s = absurd s
-spelled_longer (p ∷ ps) qs (a ∷ more) octets (b, rest, s, tail, whole) = (b, rest, s, spelled_longer ps qs more rest tail, whole)
-
-run_longer : (profile : Profile) (S : Spool) (s : State) (ps qs : List Asked) (answers : List Response) → Run profile S s ps answers → Run profile S s (ps ++ qs) answers
-run_longer profile S s ps qs [] r = tt
-run_longer profile S s [] qs (a ∷ more) r = absurd r
-run_longer profile S s (p ∷ ps) qs (a ∷ more) (new, permits, rest) = (new, permits, run_longer profile S new ps qs more rest)
-
-run_shorter : (profile : Profile) (S : Spool) (s : State) (ps qs : List Asked) (answers : List Response) → length answers ≤ length ps → Run profile S s (ps ++ qs) answers → Run profile S s ps answers
-run_shorter profile S s ps qs [] le r = tt
-run_shorter profile S s [] qs (a ∷ more) le r = absurd (omega arith)
-run_shorter profile S s (p ∷ ps) qs (a ∷ more) le (new, permits, rest) = (new, permits, run_shorter profile S new ps qs more (omega arith) rest)
-
-spelled_count : (ps : List Asked) (answers : List Response) (octets : List ℕ) → Spelled ps answers octets → length answers ≤ length ps
-spelled_count ps [] octets s = omega arith
-spelled_count [] (a ∷ more) octets s = absurd s
-spelled_count (p ∷ ps) (a ∷ more) octets (b, rest, s, tail, whole) = let le = spelled_count ps more rest tail in omega arith
-
-visible_longer : (v : Visible) (ps qs : List Asked) (answers : List Response) → length answers ≤ length ps → visible_from v (ps ++ qs) answers ≡ visible_from v ps answers
-visible_longer v ps qs [] le = refl
-visible_longer v [] qs (a ∷ more) le = absurd (omega arith)
-visible_longer v (p ∷ ps) qs (a ∷ more) le = visible_longer (visible_after v p a) ps qs more (omega arith)
-
-asked_longer : (ps qs : List Asked) (answers : List Response) (asked : Asked) → asked_next ps answers ≡ Some asked → asked_next (ps ++ qs) answers ≡ Some asked
-asked_longer [] qs answers asked e = cc
-asked_longer (p ∷ ps) qs [] asked e = e
-asked_longer (p ∷ ps) qs (a ∷ more) asked e = asked_longer ps qs more asked e
-
-asked_count : (ps : List Asked) (answers : List Response) (asked : Asked) → asked_next ps answers ≡ Some asked → length answers + 1 ≤ length ps
-asked_count [] answers asked e = cc
-asked_count (p ∷ ps) [] asked e = omega arith
-asked_count (p ∷ ps) (a ∷ more) asked e = let le = asked_count ps more asked e in omega arith
 
 -- ---- one answer more
 

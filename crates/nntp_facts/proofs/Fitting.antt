@@ -11,8 +11,7 @@ use Rattle.nntp_wire.specs.Listing.{listed_numbers, active_groups}
 use Rattle.nntp_facts.specs.Asks.{Position, Nowhere, position_after, Estimates, ListsIn, Has, StandsAt, StepsUp, StepsDown}
 use Rattle.nntp_facts.specs.Facts.{Fact, Asks, IdAt, TextIs, GroupsAre, on, facts_of_code, facts_of, facts_from, FitsAll}
 use Rattle.nntp_facts.specs.Given.{facts_of_session}
-use Rattle.nntp_facts.proofs.Members.{all_both, all_from}
-use Rattle.nntp_facts.proofs.MetNumbers.{each_of}
+use Rattle.nntp_facts.proofs.Members.{all_both, all_from, each_of}
 use Rattle.nntp_wire.specs.Answer.{Asked, Response, Success, success_code, to, group_is, numbers_are, sends, active_are, plain}
 use Rattle.nntp_wire.specs.declared.water_marks.WaterMarks.{WaterMarks}
 use Rattle.nntp_wire.specs.Command.{Request, Target, by_id, by_number, current, group, list_group, next, last, retrieve, list_active}

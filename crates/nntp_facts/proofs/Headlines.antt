@@ -1,14 +1,13 @@
 -- Two streams have one headline; the ways in which a pairing leads to it.
-use Rattle.std.proofs.Common.{◌≡◌, ℕ, ◌+◌, ◌<◌, ◌≤◌, ◌^◌, ◌⊎◌, ◌↔◌, Bool, true, false, IsTrue, List, [], ◌∷◌, ◌++◌, length, inl, inr, refl, sym, ap, subst, ◌∙◌, arith, length-append}
+use Rattle.std.proofs.Common.{◌≡◌, ℕ, ◌<◌, ◌^◌, ◌↔◌, false, IsTrue, List, [], ◌∷◌, ◌++◌, length, inl, inr, refl, sym, ap, subst, ◌∙◌, arith, length-append}
 use Rattle.std.proofs.lemmas.Bool.{true≢false}
 use Rattle.std.proofs.lemmas.List.{map-append}
-use Rattle.nntp_wire.specs.Answer.{Response}
 use Rattle.nntp_wire.specs.Session.{prompts_of}
 use Rattle.nntp_pair.specs.Pairing.{Paired, Unpaired, IsNext, AreNext, end, bad, IsPairing, responses_of, asked_of, asked_at, streams}
 use Rattle.nntp_pair.specs.declared.class.PairClass.{PairClass}
 use Rattle.nntp_pair.proofs.PairingLemmas.{one-run, AreNext-push}
-use Rattle.nntp_article.specs.Spool.{Spool}
 use Rattle.nntp_article.specs.declared.profile.Profile.{Profile}
+use Rattle.nntp_article.specs.Spool.{Spool}
 use Rattle.nntp_article.specs.Machine.{Run, start, fits, Visible}
 use Rattle.nntp_article.specs.Explains.{Explains}
 use Rattle.nntp_facts.specs.Given.{IsGiven, facts_of_session, size}
@@ -20,10 +19,10 @@ use Rattle.nntp_facts.proofs.ExplainedPairs.{by_pairs, by_all_pairs}
 use Rattle.nntp_facts.proofs.Exists.{made_for, given_exists}
 use Rattle.nntp_facts.proofs.GivenOnce.{given_once}
 use Rattle.nntp_facts.proofs.GivenPermits.{stands, given_permits, given_is_least}
-use Rattle.nntp_facts.proofs.Grow.{size_by_octets, facts_by_pairs, pairs_permitted, prompts_of_pairs, visible_by_answered, as_many}
+use Rattle.nntp_facts.proofs.Grow.{size_by_octets, facts_by_pairs, pairs_permitted, prompts_of_pairs, as_few}
+use Rattle.nntp_facts.proofs.Prompts.{visible_longer}
 use Rattle.nntp_facts.proofs.Octets.{explained_or_bad, explained_not_bad, bad_once}
 use Rattle.nntp_facts.proofs.PairedBad.{explained_end, bad_end, bad_answer, answer_has_class, unfitting}
-use Rattle.nntp_facts.proofs.Spellings.{are_spellings}
 
 -- ---- one headline
 
@@ -64,17 +63,17 @@ one_headline profile client server (Yes S n) (Yes T m) x y =
     let spool : S ≡ T =
     given_once (facts_of_session (prompts_of client) y.explains.answers) S T (subst (λ answers. IsGiven (facts_of_session (prompts_of client) answers) S) answers x.given) y.given in
     λ i. Yes (spool i) (count i)
-one_headline profile client server (Yes S n) (No k class) x y = absurd (explained_not_bad are_spellings profile S client server n k x.explains y.0)
-one_headline profile client server (No k class) (Yes S n) x y = absurd (explained_not_bad are_spellings profile S client server n k y.explains x.0)
+one_headline profile client server (Yes S n) (No k class) x y = absurd (explained_not_bad profile S client server n k x.explains y.0)
+one_headline profile client server (No k class) (Yes S n) x y = absurd (explained_not_bad profile S client server n k y.explains x.0)
 one_headline profile client server (No k c) (No j d) x y =
-    let place = bad_once are_spellings profile client server k j x.0 y.0 in
+    let place = bad_once profile client server k j x.0 y.0 in
     let one = one_class profile client server j y.0 in
     let class : c ≡ d = one.2 c (subst (λ k. HasClass profile client server k c) place x.1) ∙ sym (one.2 d y.1) in
     λ i. No (place i) (class i)
 
 -- and they have one
 pub some_headline : (profile : Profile) (client server : List ℕ) → length server < 2 ^ 210 → (h : Headline) × IsHeadline profile client server h
-some_headline profile client server small = elim (explained_or_bad are_spellings profile client server small) [
+some_headline profile client server small = elim (explained_or_bad profile client server small) [
   | inl (S, n, x) ↦
       let G = made_for profile (prompts_of client) x.answers in
       let given = given_exists profile (prompts_of client) x.answers (stands profile S (prompts_of client) x.answers x.is_spool x.run).0 (few_facts profile S client server n x small) in
@@ -85,7 +84,7 @@ some_headline profile client server small = elim (explained_or_bad are_spellings
 -- it is a yes exactly if some spool explains the streams
 pub yes_explained : (profile : Profile) (client server : List ℕ) (h : Headline) → IsHeadline profile client server h → IsTrue (is_yes h) ↔ ((S : Spool) × (n : ℕ) × Explains profile S client server n)
 yes_explained profile client server (Yes S n) x = (λ t. (S, n, x.explains), λ e. refl)
-yes_explained profile client server (No k class) x = (λ t. absurd (true≢false (sym t)), λ e. absurd (explained_not_bad are_spellings profile e.0 client server e.1 k e.2 x.0))
+yes_explained profile client server (No k class) x = (λ t. absurd (true≢false (sym t)), λ e. absurd (explained_not_bad profile e.0 client server e.1 k e.2 x.0))
 
 -- ---- the ways to it
 
@@ -116,7 +115,7 @@ module _ (profile : Profile) (client server : List ℕ) (pairs : List Paired) (p
   same_visible : visible_from start.visible (prompts_of client) (responses_of pairs) ≡ v
   same_visible =
       let more = prompts_of_pairs client server pairs before paired in
-      ap (λ ps. visible_from start.visible ps (responses_of pairs)) more.1 ∙ visible_by_answered start.visible (asked_of pairs) more.0 (responses_of pairs) (as_many pairs)
+      ap (λ ps. visible_from start.visible ps (responses_of pairs)) more.1 ∙ visible_longer start.visible (asked_of pairs) more.0 (responses_of pairs) (as_few pairs)
 
   -- at a response that no spool permits behind them
   pub headline_at_response : (SomePermits profile (asked_of (pairs ++ pair ∷ [])) (responses_of (pairs ++ pair ∷ [])) → ⊥) → IsHeadline profile client server (No (length pairs) (class_by (fits profile v (asked_at pair.line) pair.response)))

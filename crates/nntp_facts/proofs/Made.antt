@@ -1,6 +1,6 @@
 -- A construction of the spool that is given.
 use Rattle.std.proofs.Common.{◌≡◌, ℕ, ◌+◌, ◌<◌, ◌≤◌, ◌↔◌, ◌⊎◌, true, cond, eqb, IsTrue, List, [], ◌∷◌, ◌++◌, map, length, Option, None, Some, is_some, IsSome, inl, inr, refl, sym, ap, subst, ◌∙◌, arith, length-append}
-use Rattle.std.specs.Prelude.{IsFalse, unwrap_or, option_to_list}
+use Rattle.std.specs.Prelude.{unwrap_or, option_to_list}
 use Rattle.std.specs.List.{list_any, flat_map}
 use Rattle.std.specs.Ordering.{nat_cmp}
 use Rattle.std.proofs.lemmas.Bool.{cases_lt, or_left, or_right, eq-eqb}
@@ -12,12 +12,12 @@ use Rattle.nntp_article.specs.Spool.{Spool, Text, Numbers, IsNumber, IsGroup, nu
 use Rattle.nntp_article.specs.Machine.{is_same}
 use Rattle.nntp_facts.specs.Facts.{Fact, TextIs}
 use Rattle.nntp_facts.specs.Given.{is_shown, IsOneMore, HasGivenNumbers, asks_of, is_shown_group, first_given, id_shown, gives_article, is_sent, head_in, body_in, plain_head, is_mentioned, invented, unshown_in, unshown_ids, IsUsed, IsFirstFree, AreInvented, IsGiven}
-use Rattle.nntp_facts.proofs.Members.{In, in_front, in_back, in_cases, in_map, from_map, to_flat, from_flat, any_in, found_in}
+use Rattle.nntp_facts.proofs.Members.{In, in_front, in_back, in_cases, in_map, from_map, to_flat, from_flat, any_in, found_in, any_back}
 use Rattle.nntp_facts.proofs.Few.{names_of, shown_name, name_shown}
 use Rattle.nntp_facts.proofs.Stand.{same_itself}
 use Rattle.nntp_facts.proofs.GivenHolds.{group_of_number}
-use Rattle.nntp_facts.proofs.Invented.{number_of}
-use Rattle.nntp_facts.proofs.Fresh.{mentioned, any_back, counted}
+use Rattle.nntp_facts.proofs.Invented.{invented_number}
+use Rattle.nntp_facts.proofs.Fresh.{mentioned, counted}
 use Rattle.nntp_facts.proofs.FirstFree.{free, free_is, free_none}
 use Rattle.nntp_facts.proofs.OneMore.{shown_list, in_shown_list, from_shown_list, more, more_is, more_found}
 use Rattle.nntp_facts.proofs.Maps.{sorted_as, get_in, in_get, key_of, of_key, made_of, get-made_of, in-made_of, key_map, in_key_map, of_key_map}
@@ -262,7 +262,7 @@ module _ (limit : ℕ) (B : ℕ) (facts : List Fact) where
 
   -- ---- invented ids
 
-  module _ (small : (i : ℕ) → i < B → number_of (invented i) ≡ i) where
+  module _ (small : (i : ℕ) → i < B → invented_number (invented i) ≡ i) where
     -- each number below k is that of an id that is mentioned or was invented
     abbrev Used : ℕ → List ℕ → Type 0
     Used k done = (i : ℕ) → i < k → list_any (eqb i) (done ++ mentioned facts) ≡ true

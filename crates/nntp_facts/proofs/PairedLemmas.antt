@@ -1,5 +1,6 @@
 -- Where the pairing of two streams ends at octets, they have the class of that end.
-use Rattle.std.proofs.Common.{◌≡◌, ◌↔◌, ℕ, suc, Bool, true, false, List, [], ◌∷◌, length, map, Option, None, Some, ⊎_elim, refl, sym, ap, subst, ◌∙◌}
+use Rattle.std.proofs.Common.{◌≡◌, ◌↔◌, ℕ, Bool, true, false, List, [], ◌∷◌, length, map, Option, None, Some, ⊎_elim, refl, sym, ap, subst, ◌∙◌}
+use Rattle.std.proofs.lemmas.List.{length-map}
 use Rattle.nntp_wire.specs.Answer.{Asked}
 use Rattle.nntp_wire.specs.Session.{prompts_of}
 use Rattle.nntp_pair.specs.Pairing.{Paired, Unpaired, AreNext, IsBad, IsLasting, responses_of, asked_at, streams}
@@ -61,9 +62,9 @@ end_class malformed profile v left (place, awaits, m) =
     subst (λ (x : Bool × List (Option (List ℕ))). IsClass x.0 profile v (first_asked x.1) left.server (class_of malformed)) (λ i. (sym awaits.is_open i, sym awaits.first i))
     m
 
+-- there is a response for each
 pub count : (pairs : List Paired) → length (responses_of pairs) ≡ length pairs
-count [] = refl
-count (pair ∷ pairs) = ap suc (count pairs)
+count pairs = length-map pairs (λ pair. pair.response)
 
 -- pairs are the first answers of both streams
 pub pairs_before : (client server : List ℕ) (pairs : List Paired) (left : Unpaired) → AreNext (streams client server) pairs left → AnswersFirst client server (length pairs)
@@ -119,14 +120,7 @@ end_has_class profile client server pairs left class paired h =
 -- who permits the responses of the pairs explains them
 pub explained_pairs : (profile : Profile) (S : Spool) (client server : List ℕ) (pairs : List Paired) (left : Unpaired) → AreNext (streams client server) pairs left
     → IsSpool profile S → Run profile S start (prompts_of client) (responses_of pairs) → ExplainsUpTo profile S client server (length pairs) left.server
+unfolding pairs_before
 explained_pairs profile S client server pairs left paired spool run =
-    let spelled = (pairs-spelled client server pairs left paired).0 in
-    record {
-      is_spool = spool;
-      answers = responses_of pairs;
-      octets = spelled.0;
-      count = count pairs;
-      run = run;
-      spelled = spelled.1;
-      whole = spelled.2;
-    }
+    let before = pairs_before client server pairs left paired in
+    record { is_spool = spool; answers = before.answers; octets = before.octets; count = before.count; run = run; spelled = before.spelled; whole = before.whole }

@@ -7,8 +7,9 @@ use Rattle.nntp_wire.specs.Octets.{crlf, dot, is_clean, are_octets}
 use Rattle.nntp_wire.specs.Name.{IsGroupName, IsMessageId}
 use Rattle.nntp_wire.specs.Block.{stuffed, sent, dot_line, AreClean}
 use Rattle.nntp_wire.specs.Listing.{active_groups}
-use Rattle.nntp_wire.specs.Answer.{Asked, Response, to, group_is, numbers_are, sends, active_are, plain, Spells, Says, SaysByLines, SaysGroup, SaysNumbers, SaysArticle, SaysActive, SaysCapabilities, SaysCode, success_code, greeting, block_octets, IsCleanBlock, kind_of}
-use Rattle.nntp_wire.specs.Command.{Request, capabilities, mode_reader, quit, opaque, ill_formed, by_id, by_number, current, group, list_group, next, last, retrieve, list_active}
+use Rattle.nntp_wire.specs.Answer.{Asked, Response, to, group_is, numbers_are, sends, active_are, plain, Spells, SaysByLines, SaysGroup, SaysNumbers, SaysArticle, SaysActive, SaysCapabilities, SaysCode, block_octets, IsCleanBlock, kind_of}
+use Rattle.nntp_wire.specs.Command.{Request, by_id, by_number, current, group, list_group, next, last, retrieve, list_active}
+use Rattle.nntp_wire.proofs.AnswerLemmas.{says-ways}
 use Rattle.nntp_wire.proofs.OctetLemmas.{octets-parts}
 use Rattle.nntp_article.specs.Spool.{is_line}
 use Rattle.nntp_article.specs.Machine.{Visible}
@@ -83,33 +84,21 @@ capabilities_proper : (code : ℕ) (block : Option (List (List ℕ))) (response 
 capabilities_proper code None response h = absurd h
 capabilities_proper code (Some lines) response h = code_proper code response h.1
 
--- one of two, by a test
-one_of : {K : Type 0} (P : K → Type 0) (b : Bool) (x y : K) → P (cond b x y) → P x ⊎ P y
-one_of P true x y h = inl h
-one_of P false x y h = inr h
-
--- and so are those of one that octets say under a prompt
-said_proper : (asked : Asked) (code : ℕ) (bytes : List ℕ) (block : Option (List (List ℕ))) (response : Response) → IfSome block (λ lines. AllByRecursion (λ line. IsTrue (is_line line)) lines) → Says (kind_of asked code) code bytes block response → IsProper response
-said_proper greeting code bytes block response lines h = code_proper code response h
-said_proper (to request) code bytes block response lines h = by request h
-  where
-    by : (request : Request) → Says (kind_of (to request) code) code bytes block response → IsProper response
-    by (group name) h = elim (one_of (λ k. Says k code bytes block response) (code == 211) _ _ h) [ inl p ↦ group_proper bytes response p | inr p ↦ code_proper code response p ]
-    by (list_group name range) h = elim (one_of (λ k. Says k code bytes block response) (code == 211) _ _ h) [ inl p ↦ numbers_proper bytes block response p | inr p ↦ code_proper code response p ]
-    by (retrieve what target) h = elim (one_of (λ k. Says k code bytes block response) (code == success_code what) _ _ h) [ inl p ↦ article_proper code bytes block response lines p | inr p ↦ code_proper code response p ]
-    by next h = elim (one_of (λ k. Says k code bytes block response) (code == 223) _ _ h) [ inl p ↦ article_proper code bytes block response lines p | inr p ↦ code_proper code response p ]
-    by last h = elim (one_of (λ k. Says k code bytes block response) (code == 223) _ _ h) [ inl p ↦ article_proper code bytes block response lines p | inr p ↦ code_proper code response p ]
-    by (list_active wildmat) h = elim (one_of (λ k. Says k code bytes block response) (code == 215) _ _ h) [ inl p ↦ active_proper block response p | inr p ↦ code_proper code response p ]
-    by capabilities h = elim (one_of (λ k. Says k code bytes block response) (code == 101) _ _ h) [ inl p ↦ capabilities_proper code block response p | inr p ↦ code_proper code response p ]
-    by mode_reader h = code_proper code response h
-    by quit h = code_proper code response h
-    by opaque h = code_proper code response h
-    by ill_formed h = code_proper code response h
+-- and so are those of one that octets and a block say, in whatever way
+said_proper : (code : ℕ) (bytes : List ℕ) (block : Option (List (List ℕ))) (response : Response) → IfSome block (λ lines. AllByRecursion (λ line. IsTrue (is_line line)) lines)
+    → SaysGroup bytes response ⊎ (SaysByLines (SaysNumbers bytes) block response ⊎ (SaysArticle code bytes block response ⊎ (SaysByLines SaysActive block response ⊎ (SaysByLines (SaysCapabilities code) block response ⊎ SaysCode code response))))
+    → IsProper response
+said_proper code bytes block response lines (inl s) = group_proper bytes response s
+said_proper code bytes block response lines (inr (inl s)) = numbers_proper bytes block response s
+said_proper code bytes block response lines (inr (inr (inl s))) = article_proper code bytes block response lines s
+said_proper code bytes block response lines (inr (inr (inr (inl s)))) = active_proper block response s
+said_proper code bytes block response lines (inr (inr (inr (inr (inl s))))) = capabilities_proper code block response s
+said_proper code bytes block response lines (inr (inr (inr (inr (inr s))))) = code_proper code response s
 
 -- and of one that they spell
 spelled_proper : (asked : Asked) (response : Response) (bytes : List ℕ) → Spells asked response bytes → are_octets bytes ≡ true → IsProper response
 spelled_proper asked response bytes s h =
-    said_proper asked s.code _ s.block response (block_lines s.block s.clean (octets-parts (s.line ++ crlf) (block_octets s.block) (sym (ap are_octets s.whole) ∙ h)).1) s.says
+    said_proper s.code _ s.block response (block_lines s.block s.clean (octets-parts (s.line ++ crlf) (block_octets s.block) (sym (ap are_octets s.whole) ∙ h)).1) (says-ways (kind_of asked s.code) s.code _ s.block response s.says)
 
 -- a fact under a test
 on_formed : (b : Bool) (fact : Fact) → IsWellFormed fact → AllByRecursion IsWellFormed (cond b (fact ∷ []) [])

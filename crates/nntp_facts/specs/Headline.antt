@@ -1,8 +1,8 @@
 -- What yes and no say of two streams.
 use Rattle.std.specs.Prelude.{ℕ, Bool, true, false, List}
 use Rattle.nntp_wire.specs.Session.{prompts_of}
-use Rattle.nntp_article.specs.Spool.{Spool}
 use Rattle.nntp_article.specs.declared.profile.Profile.{Profile}
+use Rattle.nntp_article.specs.Spool.{Spool}
 use Rattle.nntp_article.specs.Explains.{Explains, Bad}
 use Rattle.nntp_facts.specs.Given.{IsGiven, HasAtLeast, facts_of_session}
 use Rattle.nntp_facts.specs.Classes.{Class, HasClass}

@@ -271,15 +271,3 @@ fn what_an_exchange_holds(rt: HostRuntime) {
     assert!(rt; matches!(refusal.answer(), Answer::Plain { code: 502 }));
     assert!(rt; refusal.closes());
 }
-
-#[test]
-fn words_of_classes(rt: HostRuntime) {
-    for (class, word) in [
-        (PairClass::Surplus, "Surplus"),
-        (PairClass::Cut, "Cut"),
-        (PairClass::Malformed, "Malformed"),
-    ] {
-        let shown = format!(in rt.alloc(); "{class}").expect(&rt, "memory");
-        assert_eq!(rt; shown.as_str(), word);
-    }
-}

@@ -1,28 +1,10 @@
--- The numbers of a group, each behind those before it.
-use Rattle.std.specs.Prelude.{◌≡◌, ℕ, true, false, List, [], ◌∷◌, map}
-use Rattle.std.specs.FinMap.{insert}
-use Rattle.nntp_wire.specs.Decided.{is_message_id}
-use Rattle.nntp_article.specs.Spool.{Numbers}
-use Rattle.nntp_article.specs.declared.profile.Profile.{Profile}
-use Rattle.nntp_article.specs.Machine.{is_num}
-use Rattle.nntp_spool.specs.Text.{number_line}
-use Rattle.nntp_spool.specs.Reading.{is_last, has_id}
+-- Keys that come in ascending order.
+use Rattle.std.specs.Prelude.{Bool}
+use Rattle.std.specs.List.{list_all}
+use Rattle.std.specs.Ordering.{is_lt}
+use Rattle.std.specs.declared.cmp.Ordering.{Ordering}
+use Rattle.std.specs.FinMap.{FinMap, entries}
 
--- a number that may stand behind others
-pub record Follows (profile : Profile) (N : Numbers) (n : ℕ) (id : List ℕ) : Type 0 where
-  pub num : is_num profile n ≡ true
-  pub is_id : is_message_id id ≡ true
-  pub last : is_last N n ≡ true
-  pub fresh : has_id N id ≡ false
-
-abbrev pub number_lines : List (ℕ × List ℕ) → List (List ℕ)
-number_lines es = map (λ e. number_line e.0 e.1) es
-
--- each may stand behind those before it
-abbrev pub AllFollow : Profile → Numbers → List (ℕ × List ℕ) → Type 0
-AllFollow profile N [] = Unit {0}
-AllFollow profile N (e ∷ es) = Follows profile N e.0 e.1 × AllFollow profile (insert N e.0 e.1) es
-
-abbrev pub with_all : Numbers → List (ℕ × List ℕ) → Numbers
-with_all N [] = N
-with_all N (e ∷ es) = with_all (insert N e.0 e.1) es
+-- the key is greater than each one before it
+abbrev pub is_last : {K X : Type 0} {R : K → K → Ordering} → FinMap R X → K → Bool
+is_last {R = R} m k = list_all (λ e. is_lt (R e.0 k)) (entries m)

@@ -9,10 +9,11 @@ use Rattle.nntp_article.specs.Article.{Id}
 use Rattle.nntp_article.specs.Spool.{Name, Spool, Text, numbers, is_line}
 use Rattle.nntp_article.specs.declared.profile.Profile.{Profile}
 use Rattle.nntp_article.specs.Machine.{is_num}
-use Rattle.nntp_spool.specs.declared.spool_fault.SpoolFault.{SpoolFault}
-use Rattle.nntp_spool.specs.declared.spool_fault.SpoolFault.TheVariants as faults
-use Rattle.nntp_spool.specs.Coded.{coded_spool}
-use Rattle.nntp_spool.specs.Reading.{has_id, fits_head, ids_have_articles}
+use Rattle.nntp_spool.specs.declared.value.spool_fault.SpoolFault.{SpoolFault}
+use Rattle.nntp_spool.specs.declared.value.spool_fault.SpoolFault.TheVariants as faults
+use Rattle.nntp_spool.specs.Codes.{coded_spool}
+use Rattle.nntp_spool.specs.Numbers.{has_id}
+use Rattle.nntp_spool.specs.Content.{is_head_of, ids_have_articles}
 
 -- a builder's content, and whether it failed
 pub record Building : Type 0 where
@@ -38,7 +39,7 @@ number_fault profile S name n id =
 abbrev pub article_fault : Spool → Id → Text → Option SpoolFault
 article_fault S id text =
     if not (is_message_id id) then Some faults.BadId
-    else (if not (list_all is_line text.head && fits_head id text.head) then Some faults.BadHead
+    else (if not (list_all is_line text.head && is_head_of id text.head) then Some faults.BadHead
     else (if not (list_all is_line text.body) then Some faults.BadBody
     else (if is_some (get S.articles id) then Some faults.DuplicateId else None)))
 
@@ -48,14 +49,13 @@ finished b =
     if b.failed then Err faults.Failed
     else (if not (ids_have_articles b.spool) then Err faults.UnknownId else Ok b.spool)
 
--- A call on a builder: Failed where it failed before. Else the fault that is there, and the builder as before;
--- or the new content; or want of memory, and the builder fails from then on.
-abbrev pub BuildsWith : Option SpoolFault → Spool → Result (Unit {0}) SpoolFault → Building → Type 0
-BuildsWith (Some fault) made r new = r ≡ Err fault
-BuildsWith None made (Ok x) new = new ≡ record { spool = made; failed = false }
-BuildsWith None made (Err e) new = (e ≡ faults.Memory) × (new.failed ≡ true)
+-- A call on a builder: it failed before; there is a fault; it is done; memory was refused.
+abbrev pub BuildsBy : Bool → Option SpoolFault → Spool → Result (Unit {0}) SpoolFault → Building → Building → Type 0
+BuildsBy true fault made r old new = (r ≡ Err faults.Failed) × (new ≡ old)
+BuildsBy false (Some fault) made r old new = (r ≡ Err fault) × (new ≡ old)
+BuildsBy false None made (Ok x) old new = new ≡ record { spool = made; failed = false }
+BuildsBy false None made (Err e) old new = (e ≡ faults.Memory) × (new.failed ≡ true)
 
-pub record Builds (fault : Option SpoolFault) (made : Spool) (r : Result (Unit {0}) SpoolFault) (old new : Building) : Type 0 where
-  pub failed : OnTrue old.failed ((r ≡ Err faults.Failed) × (new ≡ old))
-  pub does : OnFalse old.failed (BuildsWith fault made r new)
-  pub stays : OnTrue (is_some fault) (new ≡ old)
+-- where the fault, if there is one, and the new content are these
+abbrev pub Builds : Option SpoolFault → Spool → Result (Unit {0}) SpoolFault → Building → Building → Type 0
+Builds fault made r old new = BuildsBy old.failed fault made r old new

@@ -1,13 +1,34 @@
 -- Groups and articles that a spool may hold, whether each id has its article or not.
-use Rattle.std.specs.Prelude.{◌≡◌, ℕ, true, Some}
+use Rattle.std.specs.Prelude.{◌≡◌, ℕ, Bool, true, ◌&&◌, List, Some, is_some}
 use Rattle.std.specs.List.{list_all}
-use Rattle.std.specs.FinMap.{get}
+use Rattle.std.specs.FinMap.{get, insert, empty, entries}
 use Rattle.nntp_wire.specs.Decided.{is_group_name, is_message_id}
-use Rattle.nntp_article.specs.Article.{Id}
+use Rattle.nntp_article.specs.Article.{Line, Id, is_clean_head}
 use Rattle.nntp_article.specs.Spool.{Name, Spool, Numbers, Text, is_line}
 use Rattle.nntp_article.specs.declared.profile.Profile.{Profile}
-use Rattle.nntp_article.specs.Machine.{is_num}
-use Rattle.nntp_spool.specs.Reading.{fits_head}
+use Rattle.nntp_article.specs.Machine.{is_num, says_own_id}
+
+-- no group and no article
+abbrev pub no_spool : Spool
+no_spool = record { groups = empty; articles = empty }
+
+abbrev pub with_group : Spool → Name → Numbers → Spool
+with_group S name N = record S { groups = insert S.groups name N }
+
+abbrev pub with_article : Spool → Id → Text → Spool
+with_article S id text = record S { articles = insert S.articles id text }
+
+-- the lines are a head, and the id that it says, if it says one, is this id
+abbrev pub is_head_of : Id → List Line → Bool
+is_head_of id lines = is_clean_head lines && says_own_id id lines
+
+-- each id of these numbers has an article
+abbrev pub all_known : Spool → Numbers → Bool
+all_known S N = list_all (λ e. is_some (get S.articles e.1)) (entries N)
+
+-- each id of a number has an article
+abbrev pub ids_have_articles : Spool → Bool
+ids_have_articles S = list_all (λ g. all_known S g.1) (entries S.groups)
 
 -- the numbers of a group: 1 to the limit, each with an id of its own
 pub record AreNumbers (profile : Profile) (N : Numbers) : Type 0 where
@@ -22,7 +43,7 @@ pub record IsNamed (profile : Profile) (name : Name) (N : Numbers) : Type 0 wher
 -- the article of an id
 pub record IsArticle (id : Id) (t : Text) : Type 0 where
   pub is_id : is_message_id id ≡ true
-  pub head : fits_head id t.head ≡ true
+  pub head : is_head_of id t.head ≡ true
   pub head_lines : list_all is_line t.head ≡ true
   pub body_lines : list_all is_line t.body ≡ true
 

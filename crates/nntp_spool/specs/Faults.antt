@@ -2,8 +2,8 @@
 use Rattle.std.specs.Prelude.{◌≡◌, ◌≢◌, ◌⊎◌, ℕ, List, Err}
 use Rattle.nntp_article.specs.Spool.{Spool, IsSpool}
 use Rattle.nntp_article.specs.declared.profile.Profile.{Profile}
-use Rattle.nntp_spool.specs.declared.read_fault.Kind.TheVariants.{Memory}
-use Rattle.nntp_spool.specs.declared.read_fault.ReadFault.{ReadFault}
+use Rattle.nntp_spool.specs.declared.text.read_fault.Kind.TheVariants.{Memory}
+use Rattle.nntp_spool.specs.declared.text.read_fault.ReadFault.{ReadFault}
 use Rattle.nntp_spool.specs.Text.{spool_text}
 use Rattle.nntp_spool.specs.Reading.{spool_at}
 

@@ -1,21 +1,21 @@
 -- Reading a spool's text line by line, with the first fault that is met.
-use Rattle.std.specs.Prelude.{◌≡◌, ℕ, zero, suc, ◌+◌, ◌^◌, Bool, true, false, not, ◌&&◌, ◌||◌, ◌==◌, nat_lt, if◌then◌else◌, List, [], ◌∷◌, ◌++◌, Option, None, Some, Result, Ok, Err, length, codes, is_some, bytes_eq}
-use Rattle.std.specs.List.{slice_split, list_any, list_all}
-use Rattle.std.specs.Char.{is_ascii_digit}
-use Rattle.std.specs.Str.Parse.{digits_value}
-use Rattle.std.specs.Ordering.{is_lt}
-use Rattle.std.specs.declared.cmp.Ordering.{Ordering}
-use Rattle.std.specs.FinMap.{FinMap, get, insert, empty, entries}
+use Rattle.std.specs.Prelude.{◌≡◌, ℕ, zero, suc, ◌+◌, Bool, true, false, not, ◌&&◌, ◌==◌, if◌then◌else◌, List, [], ◌∷◌, ◌++◌, Option, None, Some, Result, Ok, Err, length, codes, bytes_eq}
+use Rattle.std.specs.List.{slice_split}
+use Rattle.std.specs.FinMap.{insert, empty}
 use Rattle.nntp_wire.specs.Decided.{is_group_name, is_message_id}
-use Rattle.nntp_article.specs.Article.{Line, Id, is_empty, is_clean_head}
-use Rattle.nntp_article.specs.Spool.{Name, Spool, Numbers, Text, is_line}
+use Rattle.nntp_article.specs.Article.{Line, Id, is_empty}
+use Rattle.nntp_article.specs.Spool.{Name, Spool, Numbers}
 use Rattle.nntp_article.specs.declared.profile.Profile.{Profile}
-use Rattle.nntp_article.specs.Machine.{is_num, says_own_id}
-use Rattle.nntp_spool.specs.declared.read_fault.Kind.{Kind}
-use Rattle.nntp_spool.specs.declared.read_fault.Kind.TheVariants as kinds
-use Rattle.nntp_spool.specs.declared.read_fault.ReadFault.{ReadFault}
-use Rattle.nntp_spool.specs.declared.read_fault.ReadError.{ReadError}
-use Rattle.nntp_spool.specs.declared.read_fault.ReadError.TheVariants as errors
+use Rattle.nntp_article.specs.Machine.{is_num}
+use Rattle.nntp_spool.specs.declared.text.read_fault.Kind.{Kind}
+use Rattle.nntp_spool.specs.declared.text.read_fault.Kind.TheVariants as kinds
+use Rattle.nntp_spool.specs.declared.text.read_fault.ReadFault.{ReadFault}
+use Rattle.nntp_spool.specs.declared.text.read_fault.ReadError.{ReadError}
+use Rattle.nntp_spool.specs.declared.text.read_fault.ReadError.TheVariants as errors
+use Rattle.nntp_spool.specs.Ascending.{is_last}
+use Rattle.nntp_spool.specs.Numbers.{has_id}
+use Rattle.nntp_spool.specs.Content.{no_spool, with_group, with_article, is_head_of, ids_have_articles}
+use Rattle.nntp_spool.specs.Fields.{fields_of, Item, Group, Article, End, item_of, number_and_id, content_of}
 
 infixl 10 ◌>>=◌
 abbrev pub ◌>>=◌ : {A B : Type 0} → Result A ReadFault → (A → Result B ReadFault) → Result B ReadFault
@@ -53,59 +53,11 @@ next_line line (part ∷ next ∷ parts) = Ok (part, record { line = line + 1; p
 abbrev pub line_at : Place → Result (Line × Place) ReadFault
 line_at p = next_line p.line p.parts
 
--- ---- words of a line
-
-abbrev pub words_of : Line → List (List ℕ)
-words_of line = slice_split (λ c. c == 32) line
-
-abbrev pub are_digits : List ℕ → Bool
-are_digits word = list_all is_ascii_digit word
-
--- a number without leading zeros
-abbrev pub is_decimal : List ℕ → Bool
-is_decimal [] = false
-is_decimal (d ∷ ds) = are_digits (d ∷ ds) && (not (d == 48) || is_empty ds)
-
-abbrev pub value_of : List ℕ → ℕ
-value_of digits = digits_value 10 digits
-
-abbrev pub is_count : List ℕ → Bool
-is_count word = is_decimal word && nat_lt (value_of word) (2 ^ 64)
-
--- the lines that may begin an item
-pub data Item : Type 0 where
-  Group : (name : Name) → (count : ℕ) → Item
-  Article : (id : Id) → (heads : ℕ) → (bodies : ℕ) → Item
-  End : Item
-
-abbrev pub item_of : List (List ℕ) → Option Item
-item_of (word ∷ []) = if bytes_eq word (codes "end") then Some End else None
-item_of (word ∷ name ∷ count ∷ []) =
-    if bytes_eq word (codes "group") && not (is_empty name) && is_count count then Some (Group name (value_of count)) else None
-item_of (word ∷ id ∷ heads ∷ bodies ∷ []) =
-    if bytes_eq word (codes "article") && not (is_empty id) && is_count heads && is_count bodies then Some (Article id (value_of heads) (value_of bodies)) else None
-item_of words = None
-
-abbrev pub number_of : List (List ℕ) → Option (ℕ × Id)
-number_of (number ∷ id ∷ []) = if is_decimal number && not (is_empty id) then Some (value_of number, id) else None
-number_of words = None
-
-abbrev pub content_of : Line → Option Line
-content_of [] = None
-content_of (c ∷ line) = if c == 124 && is_line line then Some line else None
-
 abbrev pub shaped : {A : Type 0} → ℕ → Option A → Result A ReadFault
 shaped line None = fault line kinds.Shape
 shaped line (Some x) = Ok x
 
 -- ---- lists
-
--- the key is greater than each one before it
-abbrev pub is_last : {K X : Type 0} {R : K → K → Ordering} → FinMap R X → K → Bool
-is_last {R = R} m k = list_all (λ e. is_lt (R e.0 k)) (entries m)
-
-abbrev pub has_id : Numbers → Id → Bool
-has_id N id = list_any (λ e. bytes_eq e.1 id) (entries N)
 
 -- so many steps, each from where the one before led
 abbrev pub repeat : {S : Type 0} → (S → Result S ReadFault) → ℕ → S → Result S ReadFault
@@ -115,7 +67,7 @@ repeat step (suc count) s = step s >>= repeat step count
 -- the number and the id of a line
 unfoldable pub number_in : Profile → ℕ → Line → Result (ℕ × Id) ReadFault
 number_in profile line l = do
-  e ← shaped line (number_of (words_of l))
+  e ← shaped line (number_and_id (fields_of l))
   if not (is_num profile e.0) then fault line kinds.Number
       else (if not (is_message_id e.1) then fault line kinds.Id else Ok e)
 
@@ -142,12 +94,6 @@ contents_at count p = repeat content_at count ([], p)
 
 -- ---- items
 
-abbrev pub with_group : Spool → Name → Numbers → Spool
-with_group S name N = record S { groups = insert S.groups name N }
-
-abbrev pub with_article : Spool → Id → Text → Spool
-with_article S id text = record S { articles = insert S.articles id text }
-
 -- the numbers of a group, whose line is the one given
 unfoldable pub group_at : Profile → ℕ → Name → ℕ → Spool → Place → Result (Spool × Place) ReadFault
 group_at profile line name count S p =
@@ -155,23 +101,13 @@ group_at profile line name count S p =
     else (if not (is_last S.groups name) then fault line kinds.Order
     else (numbers_at profile count p >>= λ N. Ok (with_group S name N.0, N.1)))
 
--- the lines are a head, and the id that it says, if it says one, is this id
-abbrev pub fits_head : Id → List Line → Bool
-fits_head id lines = is_clean_head lines && says_own_id id lines
-
 -- the lines of an article, whose line is the one given
 unfoldable pub article_at : ℕ → Id → ℕ → ℕ → Spool → Place → Result (Spool × Place) ReadFault
 article_at line id heads bodies S p =
     if not (is_message_id id) then fault line kinds.Id
     else (if not (is_last S.articles id) then fault line kinds.Order
     else (contents_at heads p >>= λ head. contents_at bodies head.1 >>= λ body.
-    if fits_head id head.0 then Ok (with_article S id (record { head = head.0; body = body.0 }), body.1) else fault line kinds.Head))
-
-abbrev pub all_known : Spool → Numbers → Bool
-all_known S N = list_all (λ e. is_some (get S.articles e.1)) (entries N)
-
-abbrev pub ids_have_articles : Spool → Bool
-ids_have_articles S = list_all (λ g. all_known S g.1) (entries S.groups)
+    if is_head_of id head.0 then Ok (with_article S id (record { head = head.0; body = body.0 }), body.1) else fault line kinds.Head))
 
 -- where an item leads: on, behind an article or not, or to the end
 pub data Turn : Type 0 where
@@ -188,7 +124,7 @@ item_then profile line articles S p End = if ids_have_articles S then Ok (Done S
 unfoldable pub item_at : Profile → Bool → Spool → Place → Result Turn ReadFault
 item_at profile articles S p = do
   l ← line_at p
-  item ← shaped p.line (item_of (words_of l.0))
+  item ← shaped p.line (item_of (fields_of l.0))
   item_then profile p.line articles S l.1 item
 
 abbrev pub turn_then : (Bool → Spool → Place → Result (Spool × Place) ReadFault) → Turn → Result (Spool × Place) ReadFault
@@ -199,9 +135,6 @@ turn_then more (Done S p) = Ok (S, p)
 abbrev pub items_at : Profile → ℕ → Bool → Spool → Place → Result (Spool × Place) ReadFault
 items_at profile zero articles S p = fault p.line kinds.Shape
 items_at profile (suc most) articles S p = item_at profile articles S p >>= turn_then (items_at profile most)
-
-abbrev pub no_spool : Spool
-no_spool = record { groups = empty; articles = empty }
 
 -- nothing is left behind the last line
 abbrev pub is_end : List Line → Bool

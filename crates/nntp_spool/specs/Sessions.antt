@@ -1,10 +1,18 @@
 -- Pairs of a session that a spool permits, and the answers that it refuses (RFC 3977, section 3.5).
-use Rattle.std.specs.Prelude.{◌≢◌, ℕ, List, [], ◌∷◌, ⊤}
+use Rattle.std.specs.Prelude.{Bool, true, ◌≢◌, ℕ, List, [], ◌∷◌, ⊤}
+use Rattle.nntp_wire.specs.Answer.{Response, numbers_are, active_are}
+use Rattle.nntp_wire.specs.Listing.{listed_numbers, active_groups}
 use Rattle.nntp_pair.specs.Pairing.{Paired, asked_at}
 use Rattle.nntp_article.specs.Spool.{Spool}
 use Rattle.nntp_article.specs.declared.profile.Profile.{Profile}
-use Rattle.nntp_article.specs.Machine.{State, MayAnswer, after}
+use Rattle.nntp_article.specs.Machine.{State, is_ascending, names_differ, MayAnswer, after}
 use Rattle.nntp_article.specs.Explains.{ExplainsUpTo, ExplainsFirst}
+
+-- listed numbers ascend, and no group is listed twice
+abbrev pub is_in_order : Response → Bool
+is_in_order (numbers_are m name lines) = is_ascending (listed_numbers lines)
+is_in_order (active_are lines) = names_differ (active_groups lines)
+is_in_order response = true
 
 -- the state that the responses of pairs lead to
 abbrev pub state_after : Spool → State → List Paired → State

@@ -35,11 +35,11 @@ abbrev pub spool_lines : Spool → List Line
 spool_lines S = codes "spool 1" ∷ (flat_map group_lines (entries S.groups) ++ (flat_map article_lines (entries S.articles) ++ codes "end" ∷ []))
 
 -- each line with its end
-abbrev pub ended : List Line → List ℕ
-ended lines = flat_map (λ line. line ++ 10 ∷ []) lines
+abbrev pub with_line_ends : List Line → List ℕ
+with_line_ends lines = flat_map (λ line. line ++ 10 ∷ []) lines
 
 abbrev pub spool_text : Spool → List ℕ
-spool_text S = ended (spool_lines S)
+spool_text S = with_line_ends (spool_lines S)
 
 -- a spool whose counts fit 64 bits, as those of each spool in memory do
 pub record IsWritten (profile : Profile) (S : Spool) : Type 0 where

@@ -3,8 +3,8 @@ use Rattle.std.specs.Prelude.{ℕ, List}
 use Rattle.nntp_article.specs.Spool.{Spool}
 use Rattle.nntp_article.specs.declared.profile.Profile.{Profile}
 use Rattle.nntp_article.specs.Explains.{Explains}
-use Rattle.nntp_spool.specs.declared.verified.Verified.{Verified}
-use Rattle.nntp_spool.specs.declared.verified.Verified.TheVariants.{Permits, Refuses}
+use Rattle.nntp_spool.specs.declared.verification.verified.Verified.{Verified}
+use Rattle.nntp_spool.specs.declared.verification.verified.Verified.TheVariants.{Permits, Refuses}
 use Rattle.nntp_spool.specs.Sessions.{RefusesAt}
 
 -- the spool explains both streams, with so many answers; or this answer is the first that it doesn't explain

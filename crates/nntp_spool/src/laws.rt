@@ -3,7 +3,7 @@ ghost use Rattle.std.specs.Prelude.{◌≡◌, ℕ, ◌<◌, ◌^◌, List, Ok, 
 ghost use Rattle.nntp_pair.specs.declared.class.PairClass.{PairClass};
 ghost use Rattle.nntp_pair.specs.Pairing.{Paired, Unpaired, IsNext, AreNext, Ends, bad, asked_at, streams};
 ghost use Rattle.nntp_article.specs.Machine.{start, MayAnswer};
-ghost use Rattle.nntp_article.specs.Explains.{ExplainsUpTo};
+ghost use Rattle.nntp_article.specs.Explains.{Explains, ExplainsUpTo};
 ghost use Rattle.nntp_spool.specs.Sessions.{state_after, MayAnswerAll, RefusesAt};
 ghost use Rattle.nntp_article.specs.Spool.{Spool, IsSpool};
 ghost use Rattle.nntp_article.specs.declared.profile.Profile.{Profile};
@@ -19,6 +19,12 @@ pub fn what_is_read_is_a_text()
 /// The text of a spool is read as this spool.
 pub fn each_text_is_read()
     ensures { (profile : Profile) (S : Spool) → profile.limit < 2 ^ 64 → IsWritten profile S → spool_at profile (spool_text S) ≡ Ok S }
+{}
+
+/// The text of a spool, where memory holds it, is read as this spool. So what `write` writes of a spool
+/// is read as the same spool.
+pub fn text_in_memory_is_read()
+    ensures { (profile : Profile) (S : Spool) → profile.limit < 2 ^ 64 → IsSpool profile S → length (spool_text S) < 2 ^ 64 → spool_at profile (spool_text S) ≡ Ok S }
 {}
 
 /// Different spools have different texts.
@@ -46,4 +52,10 @@ pub fn what_is_not_permitted_is_refused()
 pub fn what_answers_nothing_is_refused()
     ensures { (profile : Profile) (S : Spool) (client server : List ℕ) (pairs : List Paired) (left : Unpaired) (class : PairClass) → IsSpool profile S
         → AreNext (streams client server) pairs left → MayAnswerAll profile S start pairs → Ends left (bad class) → RefusesAt profile S client server (length pairs) }
+{}
+
+/// What a spool explains isn't refused. So `verify` answers `Permits` exactly if the spool explains both streams.
+pub fn explaining_is_no_refusal()
+    ensures { (profile : Profile) (S : Spool) (client server : List ℕ) (n k : ℕ)
+        → Explains profile S client server n → ¬ (RefusesAt profile S client server k) }
 {}

@@ -1,34 +1,21 @@
 //! Whether a given spool explains a session.
-ghost use Rattle.std.specs.Prelude.{◌≡◌, OnOk, ◌↔◌, IsTrue, IfOk};
-ghost use Rattle.nntp_pair.specs.Pairing.{asked_at};
-ghost use Rattle.nntp_article.specs.Machine.{MayAnswer, after};
-ghost use Rattle.nntp_article.specs.Spool.{IsSpool};
-ghost use Rattle.nntp_spool.specs.Limit.{narrow};
+ghost use Rattle.std.specs.Prelude.{◌≡◌, IfOk};
+ghost use Rattle.nntp_spool.specs.Limit.{profile_31_bits};
 ghost use Rattle.nntp_spool.specs.Verifying.{IsVerified};
 
-use crate::content::Content;
-use crate::session::Session;
-use crate::spool::Spool;
-use crate::verified::Verified;
-use nntp_pair::{Exchange, Pairs, Step};
+mod agreement;
+mod listed_groups;
+mod lookups;
+mod sent_lines;
+mod session;
+mod verified;
+
+use crate::value::Spool;
+use crate::value::limit::PROFILE;
+use nntp_pair::{Pairs, Step};
+use session::Session;
 use std::alloc::{AllocError, Allocator};
-
-impl<A: Allocator + Copy> Session<A> {
-    /// Whether the exchange is permitted.
-    fn permits(&self, spool: &Content<A>, exchange: &Exchange<'_>) -> Result<bool, AllocError>
-        requires { IsSpool narrow spool.now }
-        ensures { IfOk result (λ may. IsTrue may ↔ MayAnswer narrow spool.now self.now (asked_at exchange.now.line) exchange.now.response) }
-    {
-        self.may_answer(spool, exchange.prompt(), exchange.answer())
-    }
-
-    /// The state that the exchange leaves.
-    fn pass(&mut self, spool: &Content<A>, exchange: &Exchange<'_>) -> Result<(), AllocError>
-        ensures { OnOk result (self.new ≡ after spool.now self.old (asked_at exchange.now.line) exchange.now.response) }
-    {
-        self.advance(spool, exchange.prompt(), exchange.answer())
-    }
-}
+pub use verified::Verified;
 
 /// Whether the spool explains both streams of a session; and if not, which answer is the first that
 /// it doesn't explain together with those before it. `Err` says that memory was refused.
@@ -38,7 +25,7 @@ pub fn verify<A: Allocator + Copy>(
     client: &[u8],
     server: &[u8],
 ) -> Result<Verified, AllocError>
-    ensures { IfOk result (λ verified. IsVerified narrow spool.now client.now server.now verified) }
+    ensures { IfOk result (λ verified. IsVerified profile_31_bits spool.now client.now server.now verified) }
 {
     let content = spool.content();
     let mut pairs = Pairs::new(client, server);
@@ -47,10 +34,10 @@ pub fn verify<A: Allocator + Copy>(
     loop {
         match pairs.next() {
             Step::Exchange(exchange) => {
-                if !session.permits(content, &exchange)? {
+                if !session.may_answer(PROFILE, content, &exchange)? {
                     return Ok(Verified::Refuses { index: answers });
                 }
-                session.pass(content, &exchange)?;
+                session.advance(content, &exchange)?;
                 answers = exchange.index() + 1;
             }
             Step::Bad { .. } => return Ok(Verified::Refuses { index: answers }),

@@ -1,68 +1,80 @@
-//! Runs of `verify`: a session, the text of a spool, and whether the spool explains the session.
+//! Spools that are put to worked sessions: their texts, `verify`, and its runs.
 use crate::fakes::{Full, reader, writer};
-use crate::sessions;
-use crate::sessions::{Row, capture};
-use nntp_check::{Failure, Kind, ReadFault, RunFault, run_verify, status};
+use crate::sessions::{TABLES, capture, verified_report, with_spool};
+use nntp_check::{Failure, Kind, ReadFault, RunFault, Watched, run_verify, status};
+use nntp_spool::{Spool, Verified, verify};
 use std::alloc::Global;
 use std::process::Abort;
 use std::test::Fail;
 
-/// GROUP, and then NEXT, which gives the group's second number.
-pub(crate) const SESSION: &str =
-    "client 15\nGROUP g\r\nNEXT\r\nserver 34\n200 hi\r\n211 3 1 5 g\r\n223 4 <b@x>\r\n";
-
-/// A spool that explains it, of 160 octets.
-const SPOOL: &str =
-    "spool 1\ngroup g 2\n1 <w0@invented.invalid>\n4 <b@x>\narticle <b@x> 1 0\n|Message-ID: <b@x>\narticle <w0@invented.invalid> 1 0\n|Message-ID: <w0@invented.invalid>\nend\n";
-
-/// Spools by name: their texts, and what a run over the session answers and writes of each.
-pub(crate) const ROWS: [(&str, &str, bool, &[u8]); 3] = [
-    (
-        "a spool that explains the session",
-        SPOOL,
-        true,
-        b"permits answers=3\n",
-    ),
-    (
-        "another first number",
-        "spool 1\ngroup g 2\n2 <w0@invented.invalid>\n4 <b@x>\narticle <b@x> 1 0\n|Message-ID: <b@x>\narticle <w0@invented.invalid> 1 0\n|Message-ID: <w0@invented.invalid>\nend\n",
-        true,
-        b"permits answers=3\n",
-    ),
-    (
-        "another id at the second number",
-        "spool 1\ngroup g 2\n1 <w0@invented.invalid>\n4 <c@x>\narticle <c@x> 1 0\n|Message-ID: <c@x>\narticle <w0@invented.invalid> 1 0\n|Message-ID: <w0@invented.invalid>\nend\n",
-        false,
-        b"refuses answer 2\n",
-    ),
-];
-
-/// What a run over the session and these pieces answers and writes.
-fn verified(rt: &HostRuntime, spool: &str) -> Result<(bool, Vec<u8>), Fail> {
-    let capture = format!(in rt.alloc(); "{SESSION}{spool}")?;
-    let mut input = reader(capture.as_bytes(), 4096, 0);
-    let mut output = writer(rt.alloc(), 1000, 1000, Full::Fails);
-    let answer = run_verify(rt.alloc(), &mut input, &mut output, 1 << 30)?;
-    Ok((answer, output.into_inner().held))
+/// Reads the text of a spool, which has to be written as it was read, and puts the spool to a session.
+fn put(alloc: Global, text: &str, client: &str, server: &str) -> Result<Verified, Fail> {
+    let spool = Spool::read(alloc, text.as_bytes())?;
+    let mut output = Watched::new(Vec::new(alloc));
+    spool.write(&mut output)?;
+    if output.into_inner().as_slice() != text.as_bytes() {
+        return Err("another text is written than was read".into());
+    }
+    Ok(verify(alloc, &spool, client.as_bytes(), server.as_bytes())?)
 }
 
 #[test]
-fn spools_that_explain_a_session_and_one_that_does_not(rt: HostRuntime) -> Result<(), Fail> {
-    for (name, text, answer, report) in ROWS {
-        let pieces = format!(in rt.alloc(); "spool {}\n{text}", text.len())?;
-        let (answered, written) = verified(&rt, pieces.as_str())?;
-        assert_eq!(rt; written.as_slice(), report, "{name}");
-        assert_eq!(rt; answered, answer, "{name}");
+fn spools_of_worked_sessions(rt: HostRuntime) -> Result<(), Fail> {
+    for table in TABLES {
+        for session in table {
+            let name = session.name;
+            let (text, wanted) = session.given;
+            let verified = put(rt.alloc(), text, session.client, session.server)?;
+            assert_eq!(rt; verified, wanted, "{name}");
+            for (text, wanted) in session.others {
+                let verified = put(rt.alloc(), *text, session.client, session.server)?;
+                assert_eq!(rt; verified, *wanted, "{name}, and {text}");
+            }
+        }
     }
     Ok(())
 }
 
+/// What a run over a capture and a spool's text in one piece answers and writes.
+fn run(alloc: Global, capture: &str, text: &str) -> Result<(bool, Vec<u8>), Fail> {
+    let capture = with_spool(alloc, capture, text)?;
+    let mut input = reader(capture.as_bytes(), 4096, 0);
+    let mut output = writer(alloc, 1000, 1000, Full::Fails);
+    let answer = run_verify(alloc, &mut input, &mut output, 1 << 30)?;
+    Ok((answer, output.into_inner().held))
+}
+
+#[test]
+fn runs_of_worked_sessions(rt: HostRuntime) -> Result<(), Fail> {
+    for table in TABLES {
+        for session in table {
+            let name = session.name;
+            let capture = session.capture(rt.alloc())?;
+            let (text, verified) = session.given;
+            let (answer, written) = run(rt.alloc(), capture.as_str(), text)?;
+            let wanted = verified_report(rt.alloc(), verified)?;
+            assert_eq!(rt; written.as_slice(), wanted.as_bytes(), "{name}");
+            assert_eq!(rt; answer, session.is_consistent(), "{name}");
+        }
+    }
+    Ok(())
+}
+
+/// The streams of a session whose second answer gives an id.
+const CLIENT: &str = "GROUP g\r\nNEXT\r\n";
+
+const SERVER: &str = "200 hi\r\n211 3 1 5 g\r\n223 4 <b@x>\r\n";
+
+/// A spool that explains it.
+const SPOOL: &str =
+    "spool 1\ngroup g 2\n1 <a@x>\n4 <b@x>\narticle <a@x> 1 0\n|Subject: a\narticle <b@x> 1 0\n|Subject: b\nend\n";
+
 #[test]
 fn the_text_of_a_spool_in_two_pieces(rt: HostRuntime) -> Result<(), Fail> {
-    assert_eq!(rt; SPOOL.len(), 160);
+    let capture = capture(rt.alloc(), CLIENT, SERVER)?;
     let (front, rest) = SPOOL.split_at(50);
-    let pieces = format!(in rt.alloc(); "spool 50\n{front}spool 110\n{rest}")?;
-    let (answer, written) = verified(&rt, pieces.as_str())?;
+    let first = with_spool(rt.alloc(), capture.as_str(), front)?;
+    let (answer, written) = run(rt.alloc(), first.as_str(), rest)?;
     assert_eq!(rt; written.as_slice(), b"permits answers=3\n".as_slice());
     assert!(rt; answer);
     Ok(())
@@ -83,8 +95,9 @@ fn texts_of_no_spool(rt: HostRuntime) -> Result<(), Fail> {
         ),
         ("spool 12\nspool 1\nend\nspool 4\nend\n", 3, Kind::Shape),
     ];
+    let session = capture(rt.alloc(), CLIENT, SERVER)?;
     for (pieces, line, kind) in rows {
-        let capture = format!(in rt.alloc(); "{SESSION}{pieces}")?;
+        let capture = format!(in rt.alloc(); "{session}{pieces}")?;
         let mut input = reader(capture.as_bytes(), 4096, 0);
         let mut output = writer(rt.alloc(), 1000, 1000, Full::Fails);
         let outcome = run_verify(rt.alloc(), &mut input, &mut output, 1 << 30);
@@ -96,39 +109,5 @@ fn texts_of_no_spool(rt: HostRuntime) -> Result<(), Fail> {
         assert!(rt; output.into_inner().held.is_empty());
         assert_eq!(rt; status(&outcome.map_err(Failure::Run)), 3);
     }
-    Ok(())
-}
-
-/// The answers of a report on a consistent session, as `answers=A`, and its spool's text.
-fn given(report: &str) -> Option<(&str, &str)> {
-    let (line, text) = report.split_once('\n')?;
-    let (answers, _) = line.strip_prefix("consistent ")?.split_once(' ')?;
-    Some((answers, text))
-}
-
-/// Whether a run permits the spool of the row's report, if there is one.
-fn is_permitted(alloc: Global, row: Row) -> Result<Option<bool>, Fail> {
-    let Some((answers, text)) = given(row.report) else {
-        return Ok(None);
-    };
-    let session = capture(alloc, row.client, row.server)?;
-    let capture = format!(in alloc; "{session}spool {}\n{text}", text.len())?;
-    let mut input = reader(capture.as_bytes(), 4096, 0);
-    let mut output = writer(alloc, 1000, 1000, Full::Fails);
-    let answer = run_verify(alloc, &mut input, &mut output, 1 << 30)?;
-    let report = format!(in alloc; "permits {answers}\n")?;
-    Ok(Some(answer && output.into_inner().held.as_slice() == report.as_bytes()))
-}
-
-#[test]
-fn spools_that_check_gives_explain_their_sessions(rt: HostRuntime) -> Result<(), Fail> {
-    let mut count = 0u64;
-    for row in sessions::ROWS {
-        if let Some(answer) = is_permitted(rt.alloc(), row)? {
-            assert!(rt; answer, "{}", row.name);
-            count = count.saturating_add(1);
-        }
-    }
-    assert_eq!(rt; count, 8);
     Ok(())
 }

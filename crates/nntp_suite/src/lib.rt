@@ -11,6 +11,14 @@ mod given_spools;
 #[cfg(test)]
 mod memory;
 #[cfg(test)]
+mod random;
+#[cfg(test)]
 mod runs;
 #[cfg(test)]
 mod sessions;
+#[cfg(test)]
+mod slow_judge;
+#[cfg(test)]
+mod slowly_judged;
+#[cfg(test)]
+mod verdicts;

@@ -1,6 +1,6 @@
 //! Runs over captures, by readers and writers that give and take a little or fail.
 use crate::fakes::{EndlessReader, Full, reader, writer};
-use nntp_check::{Failure, RunFault, Task, Verdict, Watched, check, run_check, run_verify, status};
+use nntp_check::{Failure, RunFault, Task, Watched, run_check, run_verify, status};
 use std::alloc::Global;
 use std::io::{Read, Write};
 use std::process::Abort;
@@ -172,27 +172,4 @@ fn failing_writes_leave_a_front_of_the_report(rt: HostRuntime) {
             }
         }
     }
-}
-
-#[test]
-fn verdicts_show_at_most_512_octets(rt: HostRuntime) -> Result<(), Fail> {
-    let mut client = [b'x'; 602];
-    client[600] = b'\r';
-    client[601] = b'\n';
-    let mut server = [b'y'; 608];
-    server[..8].copy_from_slice(b"200 hi\r\n");
-    let verdict = check(rt.alloc(), &client, &server)?;
-    match &verdict {
-        Verdict::Bad {
-            answer: 1,
-            command: Some(command),
-            reply,
-            ..
-        } => {
-            assert_eq!(rt; command.as_slice(), &client[..512]);
-            assert_eq!(rt; reply.as_slice(), &server[8..520]);
-        }
-        _ => assert!(rt; false, "nothing answers the line"),
-    }
-    Ok(())
 }

@@ -11,7 +11,7 @@ use std::alloc::Allocator;
 
 /// Whether the code is a generic failure, which any command may be answered with (RFC 3977, section
 /// 3.2.1).
-fn is_generic(code: u64) -> bool
+pub fn is_generic_failure(code: u64) -> bool
     ensures { result ≡ is_generic code }
 {
     matches!(
@@ -20,8 +20,8 @@ fn is_generic(code: u64) -> bool
     )
 }
 
-/// Whether the code is the one by which the command succeeds.
-pub(crate) fn is_success(what: What, code: u64) -> bool
+/// Whether the code is the one by which ARTICLE, HEAD, BODY or STAT succeeds (RFC 3977, section 6.2).
+pub fn is_success(what: What, code: u64) -> bool
     ensures { result ≡ (code == success_code what) }
 {
     match what {
@@ -39,7 +39,7 @@ impl<A: Allocator> Visible<A> {
     {
         match prompt {
             Prompt::Greeting => matches!(code, 200 | 201 | 400 | 502),
-            Prompt::To(command) => is_generic(code) || self.fits_code(command, code),
+            Prompt::To(command) => is_generic_failure(code) || self.fits_code(command, code),
         }
     }
 

@@ -1,10 +1,9 @@
 //! Want of memory in a run: nothing is written, and the exit status is 3.
 use super::{Ended, refuse_each, right_if};
 use crate::fakes::{FakeWriter, Full, reader, writer};
-use crate::given_spools;
-use crate::given_spools::SESSION;
 use crate::runs::{CAPTURE, REPORT};
-use crate::sessions::{ROWS, capture};
+use crate::sessions::{Session, TABLES, capture, verified_report, with_spool};
+use crate::verdicts::is_judged;
 use nntp_check::{Failure, Kind, ReadFault, RunFault, Task, run_check, run_verify, status};
 use nntp_refusing::Refusing;
 use std::alloc::Global;
@@ -83,63 +82,80 @@ fn runs_over_captures(rt: HostRuntime) {
     }
 }
 
-/// Refuses each request of a run over the session and this text of a spool.
-fn verify_with(
-    rt: &impl Abort,
-    alloc: Global,
-    name: &str,
-    text: &str,
-    answer: Result<bool, RunFault>,
-    report: &[u8],
-) -> Result<(), Fail> {
-    let capture = format!(in alloc; "{SESSION}spool {}\n{text}", text.len())?;
+#[test]
+fn runs_over_a_text_of_no_spool(rt: HostRuntime) -> Result<(), Fail> {
+    let session = capture(rt.alloc(), "QUIT\r\n", "200 hi\r\n205 bye\r\n")?;
+    let capture = with_spool(rt.alloc(), session.as_str(), "spool 1\ngroup a,b 0\nend\n")?;
     let run = Run {
-        name,
+        name: "a text of no spool",
         task: Task::Verify,
         input: capture.as_bytes(),
         most: 1 << 30,
-        answer,
-        report,
+        answer: Err(RunFault::Spool(ReadFault {
+            line: 2,
+            kind: Kind::Name,
+        })),
+        report: b"",
     };
-    let refused = refuse_each(rt, alloc, name, |heap| run.end(alloc, heap));
+    refuse(&rt, rt.alloc(), run);
+    Ok(())
+}
+
+/// Refuses each request of a run that makes more than a few.
+fn refuse(rt: &impl Abort, alloc: Global, run: Run<'_>) {
+    let refused = refuse_each(rt, alloc, run.name, |heap| run.end(alloc, heap));
     assert!(rt; refused > 3, "{refused}");
+}
+
+/// Refuses each request of a run of `check` over the session.
+fn refuse_check(rt: &impl Abort, alloc: Global, session: &Session) -> Result<(), Fail> {
+    let capture = session.capture(alloc)?;
+    let report = session.report(alloc)?;
+    refuse(
+        rt,
+        alloc,
+        Run {
+            name: session.name,
+            task: Task::Check,
+            input: capture.as_bytes(),
+            most: 1 << 30,
+            answer: Ok(session.is_consistent()),
+            report: report.as_bytes(),
+        },
+    );
+    Ok(())
+}
+
+/// Refuses each request of a run of `verify` over the session and its spool.
+fn refuse_verify(rt: &impl Abort, alloc: Global, session: &Session) -> Result<(), Fail> {
+    let (text, verified) = session.given;
+    let streams = session.capture(alloc)?;
+    let capture = with_spool(alloc, streams.as_str(), text)?;
+    let report = verified_report(alloc, verified)?;
+    refuse(
+        rt,
+        alloc,
+        Run {
+            name: session.name,
+            task: Task::Verify,
+            input: capture.as_bytes(),
+            most: 1 << 30,
+            answer: Ok(session.is_consistent()),
+            report: report.as_bytes(),
+        },
+    );
     Ok(())
 }
 
 #[test]
-fn runs_over_captures_with_a_spool(rt: HostRuntime) -> Result<(), Fail> {
-    for (name, text, answer, report) in given_spools::ROWS {
-        verify_with(&rt, rt.alloc(), name, text, Ok(answer), report)?;
-    }
-    let fault = ReadFault {
-        line: 2,
-        kind: Kind::Name,
-    };
-    let text = "spool 1\ngroup a,b 0\nend\n";
-    verify_with(
-        &rt,
-        rt.alloc(),
-        "a text of no spool",
-        text,
-        Err(RunFault::Spool(fault)),
-        b"",
-    )
-}
-
-#[test]
 fn runs_over_worked_sessions(rt: HostRuntime) -> Result<(), Fail> {
-    for row in ROWS {
-        let capture = capture(rt.alloc(), row.client, row.server)?;
-        let run = Run {
-            name: row.name,
-            task: Task::Check,
-            input: capture.as_bytes(),
-            most: 1 << 30,
-            answer: Ok(row.report.starts_with("consistent")),
-            report: row.report.as_bytes(),
-        };
-        let refused = refuse_each(&rt, rt.alloc(), run.name, |heap| run.end(rt.alloc(), heap));
-        assert!(rt; refused > 3, "{refused}");
+    for table in TABLES {
+        for session in table {
+            if is_judged(rt.alloc(), session)? {
+                refuse_check(&rt, rt.alloc(), session)?;
+            }
+            refuse_verify(&rt, rt.alloc(), session)?;
+        }
     }
     Ok(())
 }

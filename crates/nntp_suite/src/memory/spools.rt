@@ -1,5 +1,6 @@
 //! Want of memory while a spool is built, read and put to a session.
 use super::{Ended, refuse_each, right_if};
+use crate::sessions::{Session, TABLES};
 use nntp_check::Watched;
 use nntp_refusing::Refusing;
 use nntp_spool::{
@@ -9,18 +10,6 @@ use std::alloc::{AllocError, Global};
 use std::process::Abort;
 
 type Heap<'a> = &'a Refusing<Global>;
-
-/// A group with the numbers 1 and 4.
-const TWO_NUMBERS: &[u8] =
-    b"spool 1\ngroup g 2\n1 <w0@invented.invalid>\n4 <b@x>\narticle <b@x> 1 0\n|Message-ID: <b@x>\narticle <w0@invented.invalid> 1 0\n|Message-ID: <w0@invented.invalid>\nend\n";
-
-/// The same with the number 2 in the place of 1.
-const TWO_AND_FOUR: &[u8] =
-    b"spool 1\ngroup g 2\n2 <w0@invented.invalid>\n4 <b@x>\narticle <b@x> 1 0\n|Message-ID: <b@x>\narticle <w0@invented.invalid> 1 0\n|Message-ID: <w0@invented.invalid>\nend\n";
-
-/// The same with another id at 4.
-const OTHER_ID: &[u8] =
-    b"spool 1\ngroup g 2\n1 <w0@invented.invalid>\n4 <c@x>\narticle <c@x> 1 0\n|Message-ID: <c@x>\narticle <w0@invented.invalid> 1 0\n|Message-ID: <w0@invented.invalid>\nend\n";
 
 /// A call on a builder.
 #[derive(Clone, Copy)]
@@ -177,69 +166,80 @@ fn read(alloc: Global, heap: Heap<'_>, text: &[u8], wanted: Option<ReadFault>) -
 }
 
 #[test]
-fn spools_that_are_read(rt: HostRuntime) {
-    let fault = |line, kind| Some(ReadFault { line, kind });
-    let rows: [(&str, &[u8], Option<ReadFault>, u64); 7] = [
-        ("two numbers", TWO_NUMBERS, None, 10),
-        ("two and four", TWO_AND_FOUR, None, 10),
-        ("another id", OTHER_ID, None, 10),
+fn spools_of_worked_sessions_are_read(rt: HostRuntime) {
+    for table in TABLES {
+        for session in table {
+            let (text, _) = session.given;
+            refuse_each(&rt, rt.alloc(), session.name, |heap| {
+                read(rt.alloc(), heap, text.as_bytes(), None)
+            });
+        }
+    }
+}
+
+#[test]
+fn texts_of_no_spool_are_read(rt: HostRuntime) {
+    let rows: [(&str, &[u8], u64, Kind); 4] = [
         (
             "a number that begins with 0",
             b"spool 1\ngroup g 1\n01 <a@b>\nend\n",
-            fault(3, Kind::Shape),
-            0,
+            3,
+            Kind::Shape,
         ),
         (
             "groups in another order",
             b"spool 1\ngroup h 0\ngroup g 0\nend\n",
-            fault(3, Kind::Order),
-            1,
+            3,
+            Kind::Order,
         ),
         (
             "an id without its article",
             b"spool 1\ngroup g 1\n1 <a@b>\nend\n",
-            fault(4, Kind::UnknownId),
-            2,
+            4,
+            Kind::UnknownId,
         ),
-        ("no octets", b"", fault(1, Kind::Shape), 0),
+        ("no octets", b"", 1, Kind::Shape),
     ];
-    for (name, text, wanted, least) in rows {
-        let refused = refuse_each(&rt, rt.alloc(), name, |heap| {
-            read(rt.alloc(), heap, text, wanted)
+    for (name, text, line, kind) in rows {
+        let fault = Some(ReadFault { line, kind });
+        refuse_each(&rt, rt.alloc(), name, |heap| {
+            read(rt.alloc(), heap, text, fault)
         });
-        assert!(rt; refused >= least, "{name}, {refused}");
     }
 }
 
-/// Puts the spool of a text, which is made of `ample` memory, to a session that steps to number 4.
-fn put<'a>(heap: Heap<'a>, ample: Heap<'a>, text: &[u8], wanted: Verified) -> Ended {
-    let client = b"GROUP g\r\nNEXT\r\n";
-    let server = b"200 hi\r\n211 3 1 5 g\r\n223 4 <b@x>\r\n";
-    let Ok(spool) = Spool::read(ample, text) else {
+/// Puts the spool of a text, which is made of `ample` memory, to a session.
+fn put<'a>(
+    heap: Heap<'a>,
+    ample: Heap<'a>,
+    session: &Session,
+    (text, wanted): (&str, Verified),
+) -> Ended {
+    let Ok(spool) = Spool::read(ample, text.as_bytes()) else {
         return Ended::Wrong;
     };
-    match verify(heap, &spool, client, server) {
+    match verify(
+        heap,
+        &spool,
+        session.client.as_bytes(),
+        session.server.as_bytes(),
+    ) {
         Ok(verified) => right_if(verified == wanted),
         Err(AllocError) => Ended::Memory,
     }
 }
 
 #[test]
-fn spools_that_are_put_to_a_session(rt: HostRuntime) {
-    let rows: [(&str, &[u8], Verified); 3] = [
-        ("two numbers", TWO_NUMBERS, Verified::Permits { answers: 3 }),
-        (
-            "two and four",
-            TWO_AND_FOUR,
-            Verified::Permits { answers: 3 },
-        ),
-        ("another id", OTHER_ID, Verified::Refuses { index: 2 }),
-    ];
+fn spools_that_are_put_to_worked_sessions(rt: HostRuntime) {
     let ample = Refusing::new(rt.alloc(), 0);
-    for (name, text, wanted) in rows {
-        let refused = refuse_each(&rt, rt.alloc(), name, |heap| {
-            put(heap, &ample, text, wanted)
-        });
-        assert!(rt; refused >= 3, "{name}, {refused}");
+    let mut most = 0;
+    for table in TABLES {
+        for session in table {
+            let refused = refuse_each(&rt, rt.alloc(), session.name, |heap| {
+                put(heap, &ample, session, session.given)
+            });
+            most = refused.max(most);
+        }
     }
+    assert!(rt; most > 3, "{most}");
 }

@@ -1,7 +1,7 @@
 use Rattle.std.proofs.Common.{ℕ, List, refl, subst}
 use Rattle.std.proofs.lemmas.Result.{err_from_is_err_and}
 use Rattle.nntp_article.specs.Spool.{Spool, IsSpool}
-use Rattle.nntp_spool.specs.Limit.{narrow}
+use Rattle.nntp_spool.specs.Limit.{profile_31_bits}
 use Rattle.nntp_spool.specs.Writing.{Wrote}
 use Rattle.nntp_check.specs.Report.{is_permitted}
 use Rattle.nntp_check.proofs.RunLemmas.{verify-reports, wrote-all}
@@ -19,7 +19,7 @@ returns-in_err-print-clause-err g c =
       capture = c.in_ok-streams.ensures.ok;
       text = c.in_ok-text.text.items;
       answer = is_permitted verified;
-      reports = verify-reports c.in_ok-spool.spool (subst (λ (T : Spool). IsSpool narrow T) c.spool.view_is c.spool.invariant) streams.client.items streams.server.items streams.spool.items
+      reports = verify-reports c.in_ok-spool.spool (subst (λ (T : Spool). IsSpool profile_31_bits T) c.spool.view_is c.spool.invariant) streams.client.items streams.server.items streams.spool.items
           c.deref-2.result.now c.deref-3.result.now c.deref.result.now c.deref-2.ensures.value c.deref-3.ensures.value c.deref.ensures.value
           c.in_ok-spool.ensures.spool verified c.in_ok-verified.ensures c.in_ok-text.text.items c.in_ok-text.ensures (is_permitted verified) refl;
       left = c.in_err-print.ensures.text.0;
@@ -35,7 +35,7 @@ returns-clause-ok g c =
       spool = streams.spool.items;
       capture = c.in_ok-streams.ensures.ok;
       text = c.in_ok-text.text.items;
-      reports = verify-reports c.in_ok-spool.spool (subst (λ (T : Spool). IsSpool narrow T) c.spool.view_is c.spool.invariant) streams.client.items streams.server.items streams.spool.items
+      reports = verify-reports c.in_ok-spool.spool (subst (λ (T : Spool). IsSpool profile_31_bits T) c.spool.view_is c.spool.invariant) streams.client.items streams.server.items streams.spool.items
           c.deref-2.result.now c.deref-3.result.now c.deref.result.now c.deref-2.ensures.value c.deref-3.ensures.value c.deref.ensures.value
           c.in_ok-spool.ensures.spool c.in_ok-verified.verified c.in_ok-verified.ensures c.in_ok-text.text.items c.in_ok-text.ensures c.is_permitted.result c.is_permitted.ensures;
       whole = wrote-all (g.W.Write.contents c.args.output.now.inner) (g.W.Write.contents c.print.new.output.inner) c.in_ok-text.text.items c.deref-4.result.now c.deref-4.ensures.value c.in_ok-print.ensures.text;

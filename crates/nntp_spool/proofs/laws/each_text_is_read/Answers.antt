@@ -1,4 +1,4 @@
-use Rattle.nntp_spool.proofs.SpoolHolds.{written_is_read}
+use Rattle.nntp_spool.proofs.WholeSpools.{written_is_read}
 use Rattle.nntp_spool.proofs.laws.each_text_is_read.Goals as goal
 
 pub returns : goal.returns

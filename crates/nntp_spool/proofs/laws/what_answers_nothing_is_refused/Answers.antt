@@ -1,4 +1,4 @@
-use Rattle.nntp_spool.proofs.SessionLaws.{bad-refused}
+use Rattle.nntp_spool.proofs.PermittedPairs.{bad-refused}
 use Rattle.nntp_spool.proofs.laws.what_answers_nothing_is_refused.Goals as goal
 
 pub returns : goal.returns

@@ -1,4 +1,4 @@
-use Rattle.nntp_spool.proofs.SessionLaws.{unpermitted-refused}
+use Rattle.nntp_spool.proofs.PermittedPairs.{unpermitted-refused}
 use Rattle.nntp_spool.proofs.laws.what_is_not_permitted_is_refused.Goals as goal
 
 pub returns : goal.returns

@@ -1,4 +1,4 @@
-use Rattle.nntp_spool.proofs.SessionLaws.{permitted-explained}
+use Rattle.nntp_spool.proofs.PermittedPairs.{permitted-explained}
 use Rattle.nntp_spool.proofs.laws.what_is_permitted_is_explained.Goals as goal
 
 pub returns : goal.returns

@@ -1,4 +1,4 @@
-use Rattle.nntp_spool.proofs.SpoolHolds.{read_is_text}
+use Rattle.nntp_spool.proofs.WholeSpools.{read_is_text}
 use Rattle.nntp_spool.proofs.laws.what_is_read_is_a_text.Goals as goal
 
 pub returns : goal.returns

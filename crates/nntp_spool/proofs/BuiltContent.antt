@@ -1,0 +1,89 @@
+-- What a builder adds leaves groups and articles that a spool may hold.
+use Rattle.std.proofs.Common.{◌≡◌, ◌⊎◌, inl, inr, ℕ, Bool, true, false, cond, not, Option, None, Some, is_some, is_none, refl, sym, ap, subst, ◌∙◌}
+use Rattle.std.specs.Prelude.{◌&&◌, unwrap_or}
+use Rattle.std.specs.List.{list_all}
+use Rattle.std.specs.Ordering.{nat_cmp}
+use Rattle.std.specs.Cmp.Lexicographic.{slice_cmp, nat_list_cmp_total}
+use Rattle.std.specs.FinMap.{get, insert, empty, get-empty}
+use Rattle.std.proofs.lemmas.Bool.{true≢false, and_parts}
+use Rattle.nntp_wire.specs.Decided.{is_group_name, is_message_id}
+use Rattle.nntp_article.specs.Article.{Id}
+use Rattle.nntp_article.specs.Machine.{is_num}
+use Rattle.nntp_article.specs.Spool.{Name, Spool, Numbers, Text, numbers, is_line}
+use Rattle.nntp_article.specs.declared.profile.Profile.{Profile}
+use Rattle.nntp_spool.specs.declared.value.spool_fault.SpoolFault.TheVariants as faults
+use Rattle.nntp_spool.specs.Numbers.{has_id}
+use Rattle.nntp_spool.specs.Content.{is_head_of, with_group, with_article, no_spool}
+use Rattle.nntp_spool.specs.Numbers.{with_number}
+use Rattle.nntp_spool.specs.Building.{group_fault, number_fault, article_fault}
+use Rattle.nntp_spool.specs.Content.{AreNumbers, IsNamed, IsArticle, IsContent}
+use Rattle.nntp_spool.proofs.MapEntries.{got_more}
+use Rattle.nntp_spool.proofs.NumbersInOrder.{no_numbers, one_more}
+use Rattle.nntp_spool.proofs.ItemsOfText.{octet_keys}
+use Rattle.nntp_spool.proofs.NumberIds.{free_number}
+
+-- a test that found no fault
+no_fault : {A : Type 0} (b : Bool) (x : A) (o : Option A) → cond b (Some x) o ≡ None → (b ≡ false) × (o ≡ None)
+no_fault true x o e = absurd cc
+no_fault false x o e = (refl, e)
+
+not_not : (b : Bool) → not b ≡ false → b ≡ true
+not_not true e = refl
+not_not false e = absurd (true≢false e)
+
+none : {A : Type 0} (x : A) → None ≡ Some x → ⊥
+none x e = cc
+
+none_there : {A : Type 0} (o : Option A) → is_some o ≡ false → o ≡ None
+none_there None e = refl
+none_there (Some x) e = absurd (true≢false e)
+
+pub nothing : (profile : Profile) → IsContent profile no_spool
+nothing profile = record {
+  groups = λ name N g. absurd (none N (sym (get-empty (slice_cmp nat_cmp) name) ∙ g));
+  articles = λ id t g. absurd (none t (sym (get-empty (slice_cmp nat_cmp) id) ∙ g));
+}
+
+module _ (profile : Profile) (S : Spool) (content : IsContent profile S) where
+  with_named : (name : Name) (N : Numbers) → IsNamed profile name N → IsContent profile (with_group S name N)
+  with_named name N named = record { groups = λ q M g. by q M (got_more nat_list_cmp_total octet_keys S.groups name N q M g); articles = content.articles }
+    where
+      by : (q : Name) (M : Numbers) → ((q ≡ name) × (M ≡ N)) ⊎ (get S.groups q ≡ Some M) → IsNamed profile q M
+      by q M (inl e) = record { is_name = ap is_group_name e.0 ∙ named.is_name; numbers = subst (AreNumbers profile) (sym e.1) named.numbers }
+      by q M (inr g) = content.groups q M g
+
+  pub group_added : (name : Name) → group_fault S name ≡ None → IsContent profile (with_group S name empty)
+  group_added name e =
+      let a = no_fault (not (is_group_name name)) faults.BadName _ e in
+      with_named name empty (record { is_name = not_not (is_group_name name) a.0; numbers = no_numbers profile })
+
+  pub number_added : (name : Name) (n : ℕ) (id : Id) → number_fault profile S name n id ≡ None → IsContent profile (with_group S name (with_number (numbers S name) n id))
+  number_added name n id e =
+      let a = no_fault (is_none (get S.groups name)) faults.UnknownGroup _ e in
+      let b = no_fault (not (is_num profile n)) faults.BadNumber _ a.1 in
+      let c = no_fault (not (is_message_id id)) faults.BadId _ b.1 in
+      let d = no_fault (is_some (get (numbers S name) n)) faults.DuplicateNumber _ c.1 in
+      let f = no_fault (has_id (numbers S name) id) faults.DuplicateId None d.1 in
+      let is = free_number (numbers S name) n id (none_there (get (numbers S name) n) d.0) f.0 in
+      subst (λ N. IsContent profile (with_group S name N)) (sym is) (by (get S.groups name) refl a.0 (not_not (is_num profile n) b.0) (not_not (is_message_id id) c.0) f.0)
+    where
+      by : (o : Option Numbers) → get S.groups name ≡ o → is_none (get S.groups name) ≡ false → is_num profile n ≡ true → is_message_id id ≡ true → has_id (numbers S name) id ≡ false
+          → IsContent profile (with_group S name (insert (numbers S name) n id))
+      by None g some num is_id fresh = absurd (true≢false (sym (ap is_none g) ∙ some))
+      by (Some N) g some num is_id fresh =
+          let named = content.groups name N g in
+          let same : numbers S name ≡ N = ap (λ o. unwrap_or o empty) g in
+          with_named name (insert (numbers S name) n id) (record { is_name = named.is_name; numbers = one_more profile (numbers S name) n id (subst (AreNumbers profile) (sym same) named.numbers) num is_id fresh })
+
+  pub article_added : (id : Id) (t : Text) → article_fault S id t ≡ None → IsContent profile (with_article S id t)
+  article_added id t e =
+      let a = no_fault (not (is_message_id id)) faults.BadId _ e in
+      let b = no_fault (not (list_all is_line t.head && is_head_of id t.head)) faults.BadHead _ a.1 in
+      let c = no_fault (not (list_all is_line t.body)) faults.BadBody _ b.1 in
+      let head = and_parts (list_all is_line t.head) (is_head_of id t.head) (not_not (list_all is_line t.head && is_head_of id t.head) b.0) in
+      let is : IsArticle id t = record { is_id = not_not (is_message_id id) a.0; head = head.1; head_lines = head.0; body_lines = not_not (list_all is_line t.body) c.0 } in
+      record { groups = content.groups; articles = λ q u g. by is q u (got_more nat_list_cmp_total octet_keys S.articles id t q u g) }
+    where
+      by : IsArticle id t → (q : Id) (u : Text) → ((q ≡ id) × (u ≡ t)) ⊎ (get S.articles q ≡ Some u) → IsArticle q u
+      by is q u (inl e) = subst (λ (v : Text). IsArticle q v) (sym e.1) (subst (λ (k : Id). IsArticle k t) (sym e.0) is)
+      by is q u (inr g) = content.articles q u g

@@ -1,0 +1,215 @@
+-- Words of a line, and the one spelling of a number.
+use Rattle.std.proofs.Common.{◌≡◌, ℕ, zero, suc, ◌^◌, ◌<◌, Bool, true, false, not, cond, eqb, List, [], ◌∷◌, ◌++◌, Option, None, Some, length, get_or, refl, sym, ap, subst, ◌∙◌, arith}
+use Rattle.std.specs.Prelude.{◌&&◌, ◌||◌, ◌==◌, nat_lt, bytes_eq, codes}
+use Rattle.std.proofs.lemmas.Slice.Eq.{bytes_eq-Decides}
+use Rattle.std.specs.List.{list_all, join_with_byte}
+use Rattle.std.specs.Char.{is_ascii_digit}
+use Rattle.std.specs.Fmt.{decimal}
+use Rattle.std.proofs.lemmas.Bool.{true≢false, and_from, and_parts}
+use Rattle.std.proofs.lemmas.Bool.Decides.{nat_tests}
+use Rattle.std.proofs.lemmas.List.Splits.{join_with_byte-slice_split}
+use Rattle.std.proofs.lemmas.Fmt.{digits_decimal, digits_value-decimal, decimal-digits_value, decimal_nonempty, first_decimal, decimal_digit}
+use Rattle.nntp_article.specs.Article.{is_empty}
+use Rattle.nntp_spool.specs.Text.{number_line, group_line, article_line}
+use Rattle.nntp_spool.specs.Fields.{fields_of, are_digits, is_decimal, is_count, value_of, number_and_id, item_of, Item, Group, Article, End}
+use Rattle.nntp_spool.proofs.SplitLines.{parts_at}
+use Rattle.nntp_spool.proofs.Decimals.{own}
+
+-- ---- octets that are not there
+
+abbrev pub lacks : ℕ → List ℕ → Bool
+lacks c xs = list_all (λ x. not (eqb x c)) xs
+
+is_not : (b : Bool) → not b ≡ true → b ≡ false
+is_not true e = cc
+is_not false e = refl
+
+pub list_all_weaken : {X : Type 0} (p q : X → Bool) → ((x : X) → p x ≡ true → q x ≡ true) → (xs : List X) → list_all p xs ≡ true → list_all q xs ≡ true
+list_all_weaken p q imp [] h = refl
+list_all_weaken p q imp (x ∷ xs) h = let both = and_parts (p x) (list_all p xs) h in and_from (q x) (list_all q xs) (imp x both.0) (list_all_weaken p q imp xs both.1)
+
+pub lacks_from : (c : ℕ) (xs : List ℕ) → ((k : ℕ) → k < length xs → get_or xs k 0 ≡ c → ⊥) → lacks c xs ≡ true
+lacks_from c [] h = refl
+lacks_from c (x ∷ xs) h =
+    let first : (x ≡ c → ⊥) = h 0 (omega arith) in
+    let other : eqb x c ≡ false = grind (arith, nat_tests) in
+    and_from (not (eqb x c)) (lacks c xs) (ap not other) (lacks_from c xs (λ k lt. h (suc k) (omega arith)))
+
+pub lacks-append : (c : ℕ) (xs ys : List ℕ) → lacks c xs ≡ true → lacks c ys ≡ true → lacks c (xs ++ ys) ≡ true
+lacks-append c [] ys h g = g
+lacks-append c (x ∷ xs) ys h g = let both = and_parts (not (eqb x c)) (lacks c xs) h in and_from (not (eqb x c)) (lacks c (xs ++ ys)) both.0 (lacks-append c xs ys both.1 g)
+
+pub lacks-digits : (c : ℕ) (xs : List ℕ) → c < 48 → are_digits xs ≡ true → lacks c xs ≡ true
+lacks-digits c xs lt h = list_all_weaken is_ascii_digit (λ x. not (eqb x c)) (λ x d. grind (arith, nat_tests)) xs h
+
+pub parts_front : (c : ℕ) (xs ys : List ℕ) → lacks c xs ≡ true → parts_at c (xs ++ c ∷ ys) ≡ xs ∷ parts_at c ys
+parts_front c [] ys h = let same : eqb c c ≡ true = grind (arith, nat_tests) in rw same refl
+parts_front c (x ∷ xs) ys h =
+    let both = and_parts (not (eqb x c)) (lacks c xs) h in
+    let other : eqb x c ≡ false = is_not (eqb x c) both.0 in
+    rw (other, parts_front c xs ys both.1) refl
+
+pub parts_one : (c : ℕ) (xs : List ℕ) → lacks c xs ≡ true → parts_at c xs ≡ xs ∷ []
+parts_one c [] h = refl
+parts_one c (x ∷ xs) h =
+    let both = and_parts (not (eqb x c)) (lacks c xs) h in
+    let other : eqb x c ≡ false = is_not (eqb x c) both.0 in
+    rw (other, parts_one c xs both.1) refl
+
+-- ---- numbers
+
+pub are_digits-decimal : (n : ℕ) → n < 2 ^ 64 → are_digits (decimal n) ≡ true
+are_digits-decimal n lt = digits_decimal own n lt
+
+pub value_of-decimal : (n : ℕ) → n < 2 ^ 64 → value_of (decimal n) ≡ n
+value_of-decimal n lt = digits_value-decimal own n lt
+
+or-true : (b : Bool) → (b || true) ≡ true
+or-true true = refl
+or-true false = refl
+
+decimal_if : (ds : List ℕ) → are_digits ds ≡ true → 0 < length ds → (get_or ds 0 0 ≡ 48 → length ds ≡ 1) → is_decimal ds ≡ true
+decimal_if [] all some one = absurd (omega arith)
+decimal_if (d ∷ []) all some one = and_from (are_digits (d ∷ [])) (not (d == 48) || true) all (or-true (not (d == 48)))
+decimal_if (d ∷ e ∷ ds) all some one =
+    let other : (d ≡ 48 → ⊥) = λ e48. let two = one e48 in absurd (omega arith) in
+    let first : (d == 48) ≡ false = grind (arith, nat_tests) in
+    and_from (are_digits (d ∷ e ∷ ds)) (not (d == 48) || false) all (rw first refl)
+
+one_digit : (n : ℕ) → n < 2 ^ 64 → get_or (decimal n) 0 0 ≡ 48 → length (decimal n) ≡ 1
+one_digit zero lt e = ap length (decimal_digit 0 (omega arith))
+one_digit (suc n) lt e = let above = first_decimal (suc n) (omega arith) lt in absurd (omega arith)
+
+decimal_parts : (ds : List ℕ) → is_decimal ds ≡ true → (are_digits ds ≡ true) × (0 < length ds) × (get_or ds 0 0 ≡ 48 → length ds ≡ 1)
+decimal_parts [] h = absurd (true≢false (sym h))
+decimal_parts (d ∷ []) h = ((and_parts (are_digits (d ∷ [])) (not (d == 48) || true) h).0, omega arith, λ e. refl)
+decimal_parts (d ∷ e ∷ ds) h =
+    let both = and_parts (are_digits (d ∷ e ∷ ds)) (not (d == 48) || false) h in (
+      both.0,
+      omega arith,
+      λ e48. let zero_first : (d == 48) ≡ true = grind (arith, nat_tests) in let no = rw zero_first at both.1 in absurd (true≢false (sym no)),
+    )
+
+pub is_decimal-decimal : (n : ℕ) → n < 2 ^ 64 → is_decimal (decimal n) ≡ true
+is_decimal-decimal n lt = decimal_if (decimal n) (are_digits-decimal n lt) (decimal_nonempty n lt) (λ e. one_digit n lt e)
+
+pub decimal-value_of : (ds : List ℕ) → is_decimal ds ≡ true → value_of ds < 2 ^ 64 → decimal (value_of ds) ≡ ds
+decimal-value_of ds h lt = decimal-digits_value own ds (decimal_parts ds h).0 (decimal_parts ds h).1 (decimal_parts ds h).2 lt
+
+abbrev some_pair : ℕ → List ℕ → Option (ℕ × List ℕ)
+some_pair n id = Some (n, id)
+
+same_some : (p q : ℕ × List ℕ) → some_pair p.0 p.1 ≡ some_pair q.0 q.1 → p ≡ q
+same_some p q e = cc
+
+-- ---- the line of a number
+
+pub words-number_line : (n : ℕ) (id : List ℕ) → n < 2 ^ 64 → lacks 32 id ≡ true → fields_of (number_line n id) ≡ decimal n ∷ id ∷ []
+words-number_line n id lt word =
+    parts_front 32 (decimal n) id (lacks-digits 32 (decimal n) (omega arith) (are_digits-decimal n lt)) ∙ ap (λ ws. decimal n ∷ ws) (parts_one 32 id word)
+
+pub number_and_id-number_line : (n : ℕ) (id : List ℕ) → n < 2 ^ 64 → lacks 32 id ≡ true → is_empty id ≡ false → number_and_id (fields_of (number_line n id)) ≡ Some (n, id)
+number_and_id-number_line n id lt word some = rw (words-number_line n id lt word, is_decimal-decimal n lt, some, value_of-decimal n lt) refl
+
+-- a line of which a number and an id are read
+number_words : (words : List (List ℕ)) (n : ℕ) (id : List ℕ) → number_and_id words ≡ Some (n, id) → (word : List ℕ) × (words ≡ word ∷ id ∷ []) × (is_decimal word ≡ true) × (value_of word ≡ n)
+number_words [] n id e = absurd cc
+number_words (word ∷ []) n id e = absurd cc
+number_words (word ∷ x ∷ y ∷ more) n id e = absurd cc
+number_words (word ∷ x ∷ []) n id e = chosen_number (is_decimal word) (is_empty x) word x n id refl e
+  where
+    chosen_number : (b d : Bool) (word x : List ℕ) (n : ℕ) (id : List ℕ) → is_decimal word ≡ b → (cond (b && not d) (some_pair (value_of word) x) None) ≡ Some (n, id) → (w : List ℕ) × (word ∷ x ∷ [] ≡ w ∷ id ∷ []) × (is_decimal w ≡ true) × (value_of w ≡ n)
+    chosen_number true true word x n id is e = absurd cc
+    chosen_number false d word x n id is e = absurd cc
+    chosen_number true false word x n id is e =
+        let pair : ◌≡◌ {A = ℕ × List ℕ} (value_of word, x) (n, id) = same_some _ _ e in
+        (word, ap (λ (p : ℕ × List ℕ). word ∷ p.1 ∷ []) pair, is, ap (λ (p : ℕ × List ℕ). p.0) pair)
+
+pub number_line-number_and_id : (l : List ℕ) (n : ℕ) (id : List ℕ) → n < 2 ^ 64 → number_and_id (fields_of l) ≡ Some (n, id) → l ≡ number_line n id
+number_line-number_and_id l n id lt e =
+    let w = number_words (fields_of l) n id e in
+    let text : decimal n ≡ w.0 = ap decimal (sym w.3) ∙ decimal-value_of w.0 w.2 (subst (λ k. k < 2 ^ 64) (sym w.3) lt) in
+    sym (join_with_byte-slice_split 32 l) ∙ ap (join_with_byte 32) w.1 ∙ ap (λ t. t ++ 32 ∷ id) (sym text)
+
+-- ---- the lines that begin a group or an article, and the last one
+
+chosen : {A : Type 0} (t : Bool) (x y : A) → cond t (Some x) None ≡ Some y → (t ≡ true) × (x ≡ y)
+chosen true x y e = (refl, cc)
+chosen false x y e = absurd cc
+
+same_bytes : (xs ys : List ℕ) → bytes_eq xs ys ≡ true → xs ≡ ys
+same_bytes xs ys h = (bytes_eq-Decides xs ys).0 h
+
+count_parts : (word : List ℕ) → is_count word ≡ true → (value_of word < 2 ^ 64) × (word ≡ decimal (value_of word))
+count_parts word h =
+    let both = and_parts (is_decimal word) (nat_lt (value_of word) (2 ^ 64)) h in
+    let small : value_of word < 2 ^ 64 = grind (arith, nat_tests) in
+    (small, sym (decimal-value_of word both.0 small))
+
+pub is_count-decimal : (n : ℕ) → n < 2 ^ 64 → is_count (decimal n) ≡ true
+is_count-decimal n lt =
+    let small : nat_lt n (2 ^ 64) ≡ true = grind (arith, nat_tests) in
+    and_from (is_decimal (decimal n)) (nat_lt (value_of (decimal n)) (2 ^ 64)) (is_decimal-decimal n lt) (ap (λ v. nat_lt v (2 ^ 64)) (value_of-decimal n lt) ∙ small)
+
+group_is : (name word : List ℕ) → is_empty name ≡ false → is_count word ≡ true → item_of (codes "group" ∷ name ∷ word ∷ []) ≡ Some (Group name (value_of word))
+group_is name word some count = rw (some, count) refl
+
+article_is : (id heads bodies : List ℕ) → is_empty id ≡ false → is_count heads ≡ true → is_count bodies ≡ true → item_of (codes "article" ∷ id ∷ heads ∷ bodies ∷ []) ≡ Some (Article id (value_of heads) (value_of bodies))
+article_is id heads bodies some h b = rw (some, h, b) refl
+
+pub item-group_line : (name : List ℕ) (count : ℕ) → lacks 32 name ≡ true → is_empty name ≡ false → count < 2 ^ 64 → item_of (fields_of (group_line name count)) ≡ Some (Group name count)
+item-group_line name count word some lt =
+    ap item_of (parts_front 32 (codes "group") (name ++ 32 ∷ decimal count) refl ∙ ap (λ ws. codes "group" ∷ ws) (parts_front 32 name (decimal count) word ∙ ap (λ ws. name ∷ ws) (parts_one 32 (decimal count) (lacks-digits 32 (decimal count) (omega arith) (are_digits-decimal count lt)))))
+    ∙ group_is name (decimal count) some (is_count-decimal count lt) ∙ ap (λ v. Some (Group name v)) (value_of-decimal count lt)
+
+pub item-article_line : (id : List ℕ) (heads bodies : ℕ) → lacks 32 id ≡ true → is_empty id ≡ false → heads < 2 ^ 64 → bodies < 2 ^ 64 → item_of (fields_of (article_line id heads bodies)) ≡ Some (Article id heads bodies)
+item-article_line id heads bodies word some h b =
+    ap item_of (parts_front 32 (codes "article") (id ++ 32 ∷ (decimal heads ++ 32 ∷ decimal bodies)) refl ∙ ap (λ ws. codes "article" ∷ ws) (parts_front 32 id (decimal heads ++ 32 ∷ decimal bodies) word ∙ ap (λ ws. id ∷ ws)
+    (parts_front 32 (decimal heads) (decimal bodies) (lacks-digits 32 (decimal heads) (omega arith) (are_digits-decimal heads h)) ∙ ap (λ ws. decimal heads ∷ ws) (parts_one 32 (decimal bodies) (lacks-digits 32 (decimal bodies) (omega arith) (are_digits-decimal bodies b))))))
+    ∙ article_is id (decimal heads) (decimal bodies) some (is_count-decimal heads h) (is_count-decimal bodies b)
+    ∙ ap (λ v. Some (Article id v (value_of (decimal bodies)))) (value_of-decimal heads h) ∙ ap (λ v. Some (Article id heads v)) (value_of-decimal bodies b)
+
+-- the words of which an item is read
+abbrev ItemWords : Item → List (List ℕ) → Type 0
+ItemWords (Group name count) words = (count < 2 ^ 64) × (words ≡ codes "group" ∷ name ∷ decimal count ∷ [])
+ItemWords (Article id heads bodies) words = (heads < 2 ^ 64) × (bodies < 2 ^ 64) × (words ≡ codes "article" ∷ id ∷ decimal heads ∷ decimal bodies ∷ [])
+ItemWords End words = words ≡ codes "end" ∷ []
+
+item_words : (words : List (List ℕ)) (item : Item) → item_of words ≡ Some item → ItemWords item words
+item_words [] item e = absurd cc
+item_words (w ∷ []) item e =
+    let c = chosen (bytes_eq w (codes "end")) End item e in
+    subst (λ (i : Item). ItemWords i (w ∷ [])) c.1 (ap (λ (t : List ℕ). t ∷ []) (same_bytes w (codes "end") c.0))
+item_words (w ∷ x ∷ []) item e = absurd cc
+item_words (w ∷ x ∷ y ∷ []) item e =
+    let c = chosen (bytes_eq w (codes "group") && not (is_empty x) && is_count y) (Group x (value_of y)) item e in
+    let all = and_parts (bytes_eq w (codes "group") && not (is_empty x)) (is_count y) c.0 in
+    let word = same_bytes w (codes "group") (and_parts (bytes_eq w (codes "group")) (not (is_empty x)) all.0).0 in
+    let count = count_parts y all.1 in
+    subst (λ (i : Item). ItemWords i (w ∷ x ∷ y ∷ [])) c.1 (count.0, ap (λ (t : List ℕ). t ∷ x ∷ y ∷ []) word ∙ ap (λ (t : List ℕ). codes "group" ∷ x ∷ t ∷ []) count.1)
+item_words (w ∷ x ∷ y ∷ z ∷ []) item e =
+    let c = chosen (bytes_eq w (codes "article") && not (is_empty x) && is_count y && is_count z) (Article x (value_of y) (value_of z)) item e in
+    let all = and_parts (bytes_eq w (codes "article") && not (is_empty x) && is_count y) (is_count z) c.0 in
+    let front = and_parts (bytes_eq w (codes "article") && not (is_empty x)) (is_count y) all.0 in
+    let word = same_bytes w (codes "article") (and_parts (bytes_eq w (codes "article")) (not (is_empty x)) front.0).0 in
+    let heads = count_parts y front.1 in
+    let bodies = count_parts z all.1 in
+    subst (λ (i : Item). ItemWords i (w ∷ x ∷ y ∷ z ∷ [])) c.1 (heads.0, bodies.0, ap (λ (t : List ℕ). t ∷ x ∷ y ∷ z ∷ []) word ∙ ap (λ (t : List ℕ). codes "article" ∷ x ∷ t ∷ z ∷ []) heads.1 ∙ ap (λ (t : List ℕ). codes "article" ∷ x ∷ decimal (value_of y) ∷ t ∷ []) bodies.1)
+item_words (w ∷ x ∷ y ∷ z ∷ u ∷ more) item e = absurd cc
+
+line_is : (l : List ℕ) (words : List (List ℕ)) → fields_of l ≡ words → l ≡ join_with_byte 32 words
+line_is l words e = sym (join_with_byte-slice_split 32 l) ∙ ap (join_with_byte 32) e
+
+-- the line of which an item is read
+abbrev pub ItemLine : Item → List ℕ → Type 0
+ItemLine (Group name count) l = (count < 2 ^ 64) × (l ≡ group_line name count)
+ItemLine (Article id heads bodies) l = (heads < 2 ^ 64) × (bodies < 2 ^ 64) × (l ≡ article_line id heads bodies)
+ItemLine End l = l ≡ codes "end"
+
+pub item_line : (l : List ℕ) (item : Item) → item_of (fields_of l) ≡ Some item → ItemLine item l
+item_line l item e = from item (item_words (fields_of l) item e)
+  where
+    from : (item : Item) → ItemWords item (fields_of l) → ItemLine item l
+    from (Group name count) w = (w.0, line_is l _ w.1)
+    from (Article id heads bodies) w = (w.0, w.1, line_is l _ w.2)
+    from End w = line_is l _ w

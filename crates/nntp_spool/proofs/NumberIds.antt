@@ -1,0 +1,113 @@
+-- The ids of a group's numbers, and one more.
+use Rattle.std.proofs.Common.{◌≡◌, ℕ, Bool, true, false, cond, List, [], ◌∷◌, Option, None, Some, is_some, option_map, refl, sym, ap, ◌∙◌}
+use Rattle.std.specs.declared.cmp.Ordering.{Ordering}
+use Rattle.std.specs.declared.cmp.Ordering.TheVariants.{Less, Equal, Greater}
+use Rattle.std.specs.Prelude.{◌||◌, ◌&&◌, not, is_none, Vec, bytes_eq}
+use Rattle.std.specs.Ordering.{nat_cmp, is_eq, is_lt, match_ordering}
+use Rattle.std.specs.Cmp.Lexicographic.{slice_cmp}
+use Rattle.std.specs.List.{list_any}
+use Rattle.std.specs.Set.{remove_key}
+use Rattle.std.specs.BTreeSet.{insert_key}
+use Rattle.std.specs.FinMap.{get, insert, empty, entries, find, put, entries-insert, get-entries, nat_cmp-IsAntisymmetric}
+use Rattle.std.specs.FinMap.Entries.{by_order}
+use Rattle.std.specs.Cmp.{nat_cmp_total}
+use Rattle.std.proofs.lemmas.Bool.{true≢false}
+use Rattle.std.proofs.lemmas.Bool.Decides.{same_from_decides}
+use Rattle.std.proofs.lemmas.Map.Text.{is_eq-slice_cmp}
+use Rattle.std.proofs.lemmas.Slice.Eq.{bytes_eq-Decides}
+use Rattle.nntp_article.specs.Spool.{Numbers}
+use Rattle.nntp_spool.specs.Ascending.{is_last}
+use Rattle.nntp_spool.specs.Numbers.{has_id}
+use Rattle.nntp_spool.specs.Numbers.{is_free, with_number, AreIdsOf}
+use Rattle.nntp_spool.proofs.SetKeys.{or_swap, any-insert_key}
+use Rattle.nntp_spool.proofs.MapEntries.{tied_itself, apart, all_got}
+use Rattle.nntp_spool.proofs.NumbersInOrder.{either_false, all_passed, entries-empty}
+use Rattle.nntp_spool.proofs.ItemsOfText.{octet_keys}
+
+some_none : {A : Type 0} (x : A) → Some x ≡ None → ⊥
+some_none x e = cc
+
+-- a test over entries, once one was put at a key that was not there
+any-put : {K X : Type 0} (R : K → K → Ordering) (t : K × X → Bool) (k : K) (v : X) (es : List (K × X)) → find R k es ≡ None → list_any t (put R k v es) ≡ (t (k, v) || list_any t es)
+any-put R t k v [] absent = refl
+any-put R t k v (e ∷ es) absent = by (R k e.0) absent (any-put R t k v es)
+  where
+    by : (r : Ordering) → cond (is_eq r) (Some e.1) (find R k es) ≡ None → (find R k es ≡ None → list_any t (put R k v es) ≡ (t (k, v) || list_any t es))
+        → list_any t (by_order r ((k, v) ∷ e ∷ es) ((e.0, v) ∷ es) (e ∷ put R k v es)) ≡ (t (k, v) || (t e || list_any t es))
+    by Less absent more = refl
+    by Equal absent more = absurd (some_none e.1 absent)
+    by Greater absent more = ap (λ b. t e || b) (more absent) ∙ or_swap (t e) (t (k, v)) (list_any t es)
+
+-- no value is there where none is found
+pub none_found : {V X : Type 0} (view : V → X) (found : Option V) (o : Option X) (b : Bool) → option_map view found ≡ o → b ≡ is_some found → b ≡ false → o ≡ None
+none_found view None o b is e f = sym is
+none_found view (Some v) o b is e f = absurd (true≢false (sym e ∙ f))
+
+pub has_id-insert : (N : Numbers) (n : ℕ) (new id : List ℕ) → get N n ≡ None → has_id (insert N n new) id ≡ (bytes_eq new id || has_id N id)
+has_id-insert N n new id absent =
+    ap (list_any (λ e. bytes_eq e.1 id)) (entries-insert nat_cmp_total N n new)
+    ∙ any-put nat_cmp (λ e. bytes_eq e.1 id) n new (entries N) (sym (get-entries N n) ∙ absent)
+
+-- a number above all others is not there, so an id stands in the way of it
+pub id_in_the_way : (N : Numbers) (n : ℕ) (id : List ℕ) → is_last N n ≡ true → is_free N n id ≡ false → has_id N id ≡ true
+id_in_the_way N n id last taken = by (get N n) (has_id N id) refl taken
+  where
+    by : (o : Option (List ℕ)) (b : Bool) → get N n ≡ o → (is_none o && not b) ≡ false → b ≡ true
+    by None true g e = refl
+    by None false g e = absurd (true≢false e)
+    by (Some v) b g e =
+        let below = all_got nat_cmp_total nat_cmp-IsAntisymmetric (λ k w. is_lt (nat_cmp k n) ≡ true) N (all_passed (λ f. is_lt (nat_cmp f.0 n)) (entries N) last) n v g in
+        absurd (true≢false (sym (tied_itself nat_cmp_total n) ∙ apart nat_cmp_total n n below))
+
+-- a number that may be added is added
+pub free_number : (N : Numbers) (n : ℕ) (id : List ℕ) → get N n ≡ None → has_id N id ≡ false → with_number N n id ≡ insert N n id
+free_number N n id absent fresh = rw (absent, fresh) refl
+
+pub same_ids : {A : Type 0} (ids new : List (Vec ℕ A)) (N M : Numbers) → new ≡ ids → N ≡ M → AreIdsOf ids M → AreIdsOf new N
+same_ids ids new N M e d are id = ap (list_any (λ known. bytes_eq id known.items)) e ∙ are id ∙ sym (ap (λ m. has_id m id) d)
+
+pub no_ids : {A : Type 0} (ids : List (Vec ℕ A)) (N : Numbers) → ids ≡ [] → N ≡ empty → AreIdsOf ids N
+no_ids ids N e d id = ap (list_any (λ known. bytes_eq id known.items)) e ∙ sym (ap (list_any (λ e. bytes_eq e.1 id)) (entries-empty N d))
+
+either_way : (a b : List ℕ) → bytes_eq a b ≡ bytes_eq b a
+either_way a b = let back = bytes_eq-Decides b a in same_from_decides (bytes_eq a b) (bytes_eq b a) (bytes_eq-Decides a b) (λ t. sym (back.0 t), λ e. back.1 (sym e))
+
+module _ {A : Type 0} where
+  abbrev octets_cmp : Vec ℕ A → Vec ℕ A → Ordering
+  octets_cmp a b = slice_cmp nat_cmp a.items b.items
+
+  abbrev is_of : List ℕ → Vec ℕ A → Bool
+  is_of id known = is_eq (slice_cmp nat_cmp id known.items)
+
+  -- what a set answers of an id
+  pub any_known : (id : List ℕ) (ids : List (Vec ℕ A)) → list_any (is_of id) ids ≡ list_any (λ known. bytes_eq id known.items) ids
+  any_known id [] = refl
+  any_known id (k ∷ ids) = rw (is_eq-slice_cmp id k.items) (ap (λ b. bytes_eq id k.items || b) (any_known id ids))
+
+  is_of_itself : (id : List ℕ) (k : Vec ℕ A) → k.items ≡ id → is_of id k ≡ true
+  is_of_itself id k is = is_eq-slice_cmp id k.items ∙ (bytes_eq-Decides id k.items).1 (sym is)
+
+  -- what was put among keys is taken out again
+  remove-insert : (id : List ℕ) (k : Vec ℕ A) (ks : List (Vec ℕ A)) → k.items ≡ id → list_any (λ known. bytes_eq id known.items) ks ≡ false → remove_key (is_of id) (insert_key octets_cmp ks k) ≡ ks
+  remove-insert id k [] is absent = rw (is_of_itself id k is) refl
+  remove-insert id k (x ∷ ks) is absent =
+      let both = either_false (bytes_eq id x.items) (list_any (λ known. bytes_eq id known.items) ks) absent in
+      by (slice_cmp nat_cmp k.items x.items) (ap (λ (i : List ℕ). slice_cmp nat_cmp i x.items) is) (is_eq-slice_cmp id x.items ∙ both.0) (remove-insert id k ks is both.1)
+    where
+      by : (r : Ordering) → r ≡ slice_cmp nat_cmp id x.items → is_of id x ≡ false → remove_key (is_of id) (insert_key octets_cmp ks k) ≡ ks
+          → remove_key (is_of id) (match_ordering r (k ∷ x ∷ ks) (x ∷ ks) (x ∷ insert_key octets_cmp ks k)) ≡ x ∷ ks
+      by Less e other more = rw (is_of_itself id k is) refl
+      by Equal e other more = absurd (true≢false (ap is_eq e ∙ other))
+      by Greater e other more = rw other (ap (λ (rest : List (Vec ℕ A)). x ∷ rest) more)
+
+  -- an id more, at a number that was not there
+  pub one_id_more : (ids new : List (Vec ℕ A)) (N : Numbers) (n : ℕ) (id : List ℕ) (k : Vec ℕ A) → AreIdsOf ids N → get N n ≡ None → k.items ≡ id → new ≡ insert_key octets_cmp ids k → AreIdsOf new (insert N n id)
+  one_id_more ids new N n id k are absent is e q =
+      ap (list_any (λ known. bytes_eq q known.items)) e
+      ∙ any-insert_key octets_cmp (λ known. bytes_eq q known.items) k ids (λ x tied. ap (bytes_eq q) (sym (octet_keys k.items x.items tied)))
+      ∙ ap (λ b. bytes_eq q k.items || b) (are q) ∙ ap (λ b. b || has_id N q) (either_way q k.items ∙ ap (λ i. bytes_eq i q) is)
+      ∙ sym (has_id-insert N n id q absent)
+
+  -- an id that was put among others, and taken out again
+  pub id_taken_back : (ids more new : List (Vec ℕ A)) (N M : Numbers) (id : List ℕ) (k : Vec ℕ A) → AreIdsOf ids N → has_id N id ≡ false → k.items ≡ id → more ≡ insert_key octets_cmp ids k → new ≡ remove_key (is_of id) more → M ≡ N → AreIdsOf new M
+  id_taken_back ids more new N M id k are fresh is put taken same = same_ids ids new M N (taken ∙ ap (remove_key (is_of id)) put ∙ remove-insert id k ids is (are id ∙ fresh)) same are

@@ -1,0 +1,106 @@
+-- Numbers that follow one another are numbers of a group, and the other way round.
+use Rattle.std.proofs.Common.{◌≡◌, ◌⊎◌, inl, inr, ℕ, Bool, true, false, List, [], ◌∷◌, ◌++◌, None, Some, refl, sym, ap, ◌∙◌, append_assoc}
+use Rattle.std.specs.Prelude.{◌||◌, bytes_eq}
+use Rattle.std.specs.List.{list_all, list_any, AllByRecursion}
+use Rattle.std.specs.Ordering.{nat_cmp, is_lt, eq_by_cmp}
+use Rattle.std.specs.Cmp.{nat_cmp_total}
+use Rattle.std.specs.FinMap.{get, insert, empty, entries, len, find, is_sorted, entries_sorted, get-entries, get-empty, len-empty, len-entries, same_entries_map, nat_cmp-IsAntisymmetric}
+use Rattle.std.proofs.lemmas.Bool.{true≢false, and_parts}
+use Rattle.std.proofs.lemmas.List.{nil_from_length}
+use Rattle.std.proofs.lemmas.Slice.Eq.{bytes_eq-Decides}
+use Rattle.nntp_wire.specs.Decided.{is_message_id}
+use Rattle.nntp_article.specs.Machine.{is_num}
+use Rattle.nntp_article.specs.Spool.{Numbers}
+use Rattle.nntp_article.specs.declared.profile.Profile.{Profile}
+use Rattle.nntp_spool.specs.Numbers.{has_id}
+use Rattle.nntp_spool.specs.Ascending.{is_last}
+use Rattle.nntp_spool.proofs.FollowingNumbers.{AllFollow, with_all}
+use Rattle.nntp_spool.specs.Content.{AreNumbers}
+use Rattle.nntp_spool.proofs.MapEntries.{is_passed, less_before, find_middle, find_front, got_all, all_got, entries-insert_last, apart, tied_itself, got_more}
+use Rattle.nntp_spool.proofs.NumbersRead.{entries-with_all}
+
+pub either_false : (a b : Bool) → (a || b) ≡ false → (a ≡ false) × (b ≡ false)
+either_false true b e = absurd (true≢false e)
+either_false false b e = (refl, e)
+
+pub any_none : {X : Type 0} (p : X → Bool) (xs : List X) → AllByRecursion (λ x. p x ≡ false) xs → list_any p xs ≡ false
+any_none p [] h = refl
+any_none p (x ∷ xs) h = rw h.0 (any_none p xs h.1)
+
+pub none_any : {X : Type 0} (p : X → Bool) (xs : List X) → list_any p xs ≡ false → AllByRecursion (λ x. p x ≡ false) xs
+none_any p [] h = tt
+none_any p (x ∷ xs) h = let both = either_false (p x) (list_any p xs) h in (both.0, none_any p xs both.1)
+
+pub all_passed : {X : Type 0} (p : X → Bool) (xs : List X) → list_all p xs ≡ true → AllByRecursion (λ x. p x ≡ true) xs
+all_passed p [] h = tt
+all_passed p (x ∷ xs) h = let both = and_parts (p x) (list_all p xs) h in (both.0, all_passed p xs both.1)
+
+pub entries-empty : (N : Numbers) → N ≡ empty → entries N ≡ []
+entries-empty N e = nil_from_length (entries N) (sym (len-entries N) ∙ ap len e ∙ len-empty nat_cmp (List ℕ))
+
+pub no_numbers : (profile : Profile) → AreNumbers profile empty
+no_numbers profile = record {
+  each = λ n id g. absurd (none id (sym (get-empty nat_cmp n) ∙ g));
+  one_to_one = λ n m id g h. absurd (none id (sym (get-empty nat_cmp n) ∙ g));
+}
+  where
+    none : (id : List ℕ) → None ≡ Some id → ⊥
+    none id e = cc
+
+-- no number has an id that isn't there
+pub fresh_id : (N : Numbers) (id : List ℕ) → has_id N id ≡ false → (q : ℕ) → get N q ≡ Some id → ⊥
+fresh_id N id fresh q g =
+    let other : bytes_eq id id ≡ false = all_got nat_cmp_total nat_cmp-IsAntisymmetric (λ k v. bytes_eq v id ≡ false) N (none_any (λ e. bytes_eq e.1 id) (entries N) fresh) q id g in
+    true≢false (sym ((bytes_eq-Decides id id).1 refl) ∙ other)
+
+pub one_more : (profile : Profile) (N : Numbers) (n : ℕ) (id : List ℕ) → AreNumbers profile N → is_num profile n ≡ true → is_message_id id ≡ true → has_id N id ≡ false → AreNumbers profile (insert N n id)
+one_more profile N n id a num is_id fresh =
+    let before = got_more nat_cmp_total nat_cmp-IsAntisymmetric N n id in
+    record {
+      each = λ q x g. each_is q x (before q x g);
+      one_to_one = λ q m x g h. one_is q m x (before q x g) (before m x h);
+    }
+  where
+    each_is : (q : ℕ) (x : List ℕ) → ((q ≡ n) × (x ≡ id)) ⊎ (get N q ≡ Some x) → (is_num profile q ≡ true) × (is_message_id x ≡ true)
+    each_is q x (inl e) = (ap (is_num profile) e.0 ∙ num, ap is_message_id e.1 ∙ is_id)
+    each_is q x (inr g) = a.each q x g
+
+    one_is : (q m : ℕ) (x : List ℕ) → ((q ≡ n) × (x ≡ id)) ⊎ (get N q ≡ Some x) → ((m ≡ n) × (x ≡ id)) ⊎ (get N m ≡ Some x) → q ≡ m
+    one_is q m x (inl e) (inl d) = e.0 ∙ sym d.0
+    one_is q m x (inl e) (inr h) = absurd (fresh_id N id fresh m (h ∙ ap Some e.1))
+    one_is q m x (inr g) (inl d) = absurd (fresh_id N id fresh q (g ∙ ap Some d.1))
+    one_is q m x (inr g) (inr h) = a.one_to_one q m x g h
+
+pub all_more : (profile : Profile) (N : Numbers) (es : List (ℕ × List ℕ)) → AreNumbers profile N → AllFollow profile N es → AreNumbers profile (with_all N es)
+all_more profile N [] a h = a
+all_more profile N (e ∷ es) a h = all_more profile (insert N e.0 e.1) es (one_more profile N e.0 e.1 a h.0.num h.0.is_id h.0.fresh) h.1
+
+pub numbers_follow : (profile : Profile) (N M : Numbers) (es : List (ℕ × List ℕ)) → entries M ≡ entries N ++ es → AreNumbers profile M → AllFollow profile N es
+numbers_follow profile N M [] e a = tt
+numbers_follow profile N M (x ∷ es) e a = (record { num = (a.each x.0 x.1 here).0; is_id = (a.each x.0 x.1 here).1; last = last; fresh = fresh }, numbers_follow profile (insert N x.0 x.1) M es behind a)
+  where
+    last : is_last N x.0 ≡ true
+    last = less_before nat_cmp_total (entries N) x es (ap (is_sorted nat_cmp) (sym e) ∙ is_passed _ (entries_sorted M))
+
+    here : get M x.0 ≡ Some x.1
+    here = get-entries M x.0 ∙ ap (find nat_cmp x.0) e ∙ find_middle nat_cmp_total (entries N) x es last
+
+    other : (k : ℕ) (v : List ℕ) (b : Bool) → get N k ≡ Some v → bytes_eq v x.1 ≡ b → b ≡ false
+    other k v false g t = refl
+    other k v true g t =
+        let there : get M k ≡ Some v = get-entries M k ∙ ap (find nat_cmp k) e ∙ find_front nat_cmp_total k v (entries N) (x ∷ es) (sym (get-entries N k) ∙ g) in
+        let same : k ≡ x.0 = a.one_to_one k x.0 x.1 (there ∙ ap Some ((bytes_eq-Decides v x.1).0 t)) here in
+        let less = all_got nat_cmp_total nat_cmp-IsAntisymmetric (λ q w. is_lt (nat_cmp q x.0) ≡ true) N (all_passed (λ f. is_lt (nat_cmp f.0 x.0)) (entries N) last) k v g in
+        absurd (true≢false (sym (tied_itself nat_cmp_total k) ∙ ap (λ q. eq_by_cmp nat_cmp q k) same ∙ apart nat_cmp_total k x.0 less))
+
+    fresh : has_id N x.1 ≡ false
+    fresh = any_none (λ f. bytes_eq f.1 x.1) (entries N) (got_all nat_cmp_total nat_cmp-IsAntisymmetric (λ k v. bytes_eq v x.1 ≡ false) N (λ k v g. other k v (bytes_eq v x.1) g refl))
+
+    behind : entries M ≡ entries (insert N x.0 x.1) ++ es
+    behind = (e ∙ sym (append_assoc (entries N) (x ∷ []) es) ∙ ap (λ fs. fs ++ es) (sym (entries-insert_last nat_cmp_total N x.0 x.1 last)))
+
+-- a group's numbers, put in one after the other
+pub with_all-entries : (profile : Profile) (N : Numbers) → AreNumbers profile N → AllFollow profile empty (entries N) × (with_all empty (entries N) ≡ N)
+with_all-entries profile N a =
+    let follow = numbers_follow profile empty N (entries N) (ap (λ es. es ++ entries N) (sym (entries-empty empty refl))) a in
+    (follow, same_entries_map _ N (entries-with_all profile empty (entries N) follow ∙ ap (λ es. es ++ entries N) (entries-empty empty refl)))

@@ -1,0 +1,128 @@
+-- The numbers of a group that are read are those that are written, and those that are written are read.
+use Rattle.std.proofs.Common.{◌≡◌, ℕ, zero, suc, ◌+◌, ◌^◌, ◌<◌, Bool, true, false, not, cond, List, [], ◌∷◌, ◌++◌, Option, None, Some, Result, Ok, Err, length, refl, sym, ap, subst, ◌∙◌, append_assoc, arith}
+use Rattle.std.specs.Cmp.{nat_cmp_total}
+use Rattle.std.specs.FinMap.{entries, insert}
+use Rattle.std.proofs.lemmas.Bool.{and_parts}
+use Rattle.std.proofs.lemmas.Bool.Decides.{nat_tests}
+use Rattle.std.proofs.lemmas.List.{append-nil}
+use Rattle.nntp_wire.specs.Decided.{is_message_id}
+use Rattle.nntp_article.specs.Spool.{Numbers}
+use Rattle.nntp_article.specs.declared.profile.Profile.{Profile}
+use Rattle.nntp_article.specs.Machine.{is_num}
+use Rattle.nntp_spool.specs.declared.text.read_fault.ReadFault.{ReadFault}
+use Rattle.nntp_spool.specs.declared.text.read_fault.Kind.TheVariants as kinds
+use Rattle.nntp_spool.specs.Text.{number_line}
+use Rattle.nntp_spool.specs.Reading.{◌>>=◌, fault, shaped, Place, line_at, next_line, number_in, number_at, repeat}
+use Rattle.nntp_spool.specs.Fields.{fields_of, number_and_id}
+use Rattle.nntp_spool.specs.Ascending.{is_last}
+use Rattle.nntp_spool.specs.Numbers.{has_id}
+use Rattle.nntp_spool.proofs.FollowingNumbers.{Follows, AllFollow, number_lines, with_all}
+use Rattle.nntp_spool.proofs.MapEntries.{entries-insert_last}
+use Rattle.nntp_spool.proofs.NameOctets.{id-lacks, id-some}
+use Rattle.nntp_spool.proofs.LineFields.{number_and_id-number_line, number_line-number_and_id}
+
+-- the value of a step that did not fail
+pub bind_ok : {A B : Type 0} (r : Result A ReadFault) (f : A → Result B ReadFault) (y : B) → (r >>= f) ≡ Ok y → (x : A) × (r ≡ Ok x) × (f x ≡ Ok y)
+bind_ok (Ok x) f y e = (x, refl, e)
+bind_ok (Err d) f y e = absurd cc
+
+-- tests that did not fail
+pub unless_ok : {A : Type 0} (b : Bool) (d : ReadFault) (r : Result A ReadFault) (y : A) → cond (not b) (Err d) r ≡ Ok y → (b ≡ true) × (r ≡ Ok y)
+unless_ok true d r y e = (refl, e)
+unless_ok false d r y e = absurd cc
+
+pub guard_ok : {A : Type 0} (b : Bool) (d : ReadFault) (r : Result A ReadFault) (y : A) → cond b (Err d) r ≡ Ok y → (b ≡ false) × (r ≡ Ok y)
+guard_ok true d r y e = absurd cc
+guard_ok false d r y e = (refl, e)
+
+pub shaped_ok : {A : Type 0} (line : ℕ) (o : Option A) (x : A) → shaped line o ≡ Ok x → o ≡ Some x
+shaped_ok line None x e = absurd cc
+shaped_ok line (Some y) x e = cc
+
+abbrev pub done : {A : Type 0} → A → Result A ReadFault
+done x = Ok x
+
+pub ok_is : {A : Type 0} (x y : A) → done x ≡ done y → x ≡ y
+ok_is x y e = cc
+
+pub line_takes : (p : Place) (x : List ℕ × Place) → line_at p ≡ Ok x → p.parts ≡ x.0 ∷ x.1.parts
+line_takes p x e = takes p.line p.parts x e
+  where
+    takes : (line : ℕ) (parts : List (List ℕ)) (x : List ℕ × Place) → next_line line parts ≡ Ok x → parts ≡ x.0 ∷ x.1.parts
+    takes line [] x e = absurd cc
+    takes line (part ∷ []) x e = absurd cc
+    takes line (part ∷ next ∷ parts) x e = ap (λ (y : List ℕ × Place). y.0 ∷ y.1.parts) (ok_is (part, record { line = line + 1; parts = next ∷ parts }) x e)
+
+-- ---- one number
+
+num_below : (profile : Profile) (n : ℕ) → profile.limit < 2 ^ 64 → is_num profile n ≡ true → n < 2 ^ 64
+num_below profile n le h = grind (arith, nat_tests, and_parts)
+
+pub number_in_again : (profile : Profile) (line n : ℕ) (id : List ℕ) → profile.limit < 2 ^ 64 → is_num profile n ≡ true → is_message_id id ≡ true → number_in profile line (number_line n id) ≡ Ok (n, id)
+unfolding number_in
+number_in_again profile line n id le num is_id =
+    rw (number_and_id-number_line n id (num_below profile n le num) (id-lacks 32 id (omega arith) is_id) (id-some id is_id), num, is_id) refl
+
+pub number_in_takes : (profile : Profile) (line : ℕ) (l : List ℕ) (x : ℕ × List ℕ) → profile.limit < 2 ^ 64 → number_in profile line l ≡ Ok x → (l ≡ number_line x.0 x.1) × (is_num profile x.0 ≡ true) × (is_message_id x.1 ≡ true)
+unfolding number_in
+number_in_takes profile line l x le e =
+    let a = bind_ok (shaped line (number_and_id (fields_of l))) (λ v. cond (not (is_num profile v.0)) (fault line kinds.Number) (cond (not (is_message_id v.1)) (fault line kinds.Id) (Ok v))) x e in
+    let b = unless_ok (is_num profile a.0.0) (record { line = line; kind = kinds.Number }) _ x a.2 in
+    let c = unless_ok (is_message_id a.0.1) (record { line = line; kind = kinds.Id }) (Ok a.0) x b.1 in
+    let text = number_line-number_and_id l a.0.0 a.0.1 (num_below profile a.0.0 le b.0) (shaped_ok line _ a.0 a.1) in
+    subst (λ (y : ℕ × List ℕ). (l ≡ number_line y.0 y.1) × (is_num profile y.0 ≡ true) × (is_message_id y.1 ≡ true)) (ok_is a.0 x c.1) (text, b.0, c.0)
+
+pub number_at_again : (profile : Profile) (line n : ℕ) (id next : List ℕ) (parts : List (List ℕ)) (N : Numbers) → profile.limit < 2 ^ 64 → Follows profile N n id
+    → number_at profile (N, record { line = line; parts = number_line n id ∷ next ∷ parts }) ≡ Ok (insert N n id, record { line = line + 1; parts = next ∷ parts })
+unfolding number_at
+number_at_again profile line n id next parts N le f = rw (number_in_again profile line n id le f.num f.is_id, f.last, f.fresh) refl
+
+pub number_at_takes : (profile : Profile) (N : Numbers) (p : Place) (x : Numbers × Place) → profile.limit < 2 ^ 64 → number_at profile (N, p) ≡ Ok x
+    → (n : ℕ) × (id : List ℕ) × Follows profile N n id × (x.0 ≡ insert N n id) × (p.parts ≡ number_line n id ∷ x.1.parts)
+unfolding number_at
+number_at_takes profile N p x le e =
+    let rest = λ (l : List ℕ × Place) (v : ℕ × List ℕ). cond (not (is_last N v.0)) (fault p.line kinds.Order) (cond (has_id N v.1) (fault p.line kinds.DuplicateId) (done (insert N v.0 v.1, l.1))) in
+    let a = bind_ok (line_at p) (λ l. number_in profile p.line l.0 >>= rest l) x e in
+    let b = bind_ok (number_in profile p.line a.0.0) (rest a.0) x a.2 in
+    let c = unless_ok (is_last N b.0.0) (record { line = p.line; kind = kinds.Order }) _ x b.2 in
+    let d = guard_ok (has_id N b.0.1) (record { line = p.line; kind = kinds.DuplicateId }) (done (insert N b.0.0 b.0.1, a.0.1)) x c.1 in
+    let same : ◌≡◌ {A = Numbers × Place} (insert N b.0.0 b.0.1, a.0.1) x = ok_is _ _ d.1 in
+    let one = number_in_takes profile p.line a.0.0 b.0 le b.1 in
+    let parts = line_takes p a.0 a.1 in (
+      b.0.0,
+      b.0.1,
+      record { num = one.1; is_id = one.2; last = c.0; fresh = d.0 },
+      sym (ap (λ (y : Numbers × Place). y.0) same),
+      parts ∙ ap (λ (t : List ℕ). t ∷ a.0.1.parts) one.0 ∙ ap (λ (y : Numbers × Place). number_line b.0.0 b.0.1 ∷ y.1.parts) same,
+    )
+
+-- ---- the numbers of a group
+
+pub entries-with_all : (profile : Profile) (N : Numbers) (es : List (ℕ × List ℕ)) → AllFollow profile N es → entries (with_all N es) ≡ entries N ++ es
+entries-with_all profile N [] h = sym (append-nil (entries N))
+entries-with_all profile N (e ∷ es) h =
+    entries-with_all profile (insert N e.0 e.1) es h.1 ∙ ap (λ (fs : List (ℕ × List ℕ)). fs ++ es) (entries-insert_last nat_cmp_total N e.0 e.1 h.0.last) ∙ append_assoc (entries N) (e ∷ []) es
+
+pub numbers_take : (profile : Profile) (count : ℕ) (N : Numbers) (p : Place) (x : Numbers × Place) → profile.limit < 2 ^ 64 → repeat (number_at profile) count (N, p) ≡ Ok x
+    → (es : List (ℕ × List ℕ)) × AllFollow profile N es × (length es ≡ count) × (x.0 ≡ with_all N es) × (p.parts ≡ number_lines es ++ x.1.parts)
+numbers_take profile zero N p x le e =
+    let same : ◌≡◌ {A = Numbers × Place} (N, p) x = ok_is _ _ e in
+    ([], tt, refl, sym (ap (λ (y : Numbers × Place). y.0) same), ap (λ (y : Numbers × Place). y.1.parts) same)
+numbers_take profile (suc count) N p x le e =
+    let a = bind_ok (number_at profile (N, p)) (repeat (number_at profile) count) x e in
+    let one = number_at_takes profile N p a.0 le a.1 in
+    let more = numbers_take profile count a.0.0 a.0.1 x le a.2 in (
+      (one.0, one.1) ∷ more.0,
+      (one.2, subst (λ (M : Numbers). AllFollow profile M more.0) one.3 more.1),
+      ap suc more.2,
+      more.3 ∙ ap (λ (M : Numbers). with_all M more.0) one.3,
+      one.4 ∙ ap (λ (t : List (List ℕ)). number_line one.0 one.1 ∷ t) more.4,
+    )
+
+pub numbers_again : (profile : Profile) (line : ℕ) (es : List (ℕ × List ℕ)) (next : List ℕ) (parts : List (List ℕ)) (N : Numbers) → profile.limit < 2 ^ 64 → AllFollow profile N es
+    → (end : ℕ) × (repeat (number_at profile) (length es) (N, record { line = line; parts = number_lines es ++ next ∷ parts }) ≡ Ok (with_all N es, record { line = end; parts = next ∷ parts }))
+numbers_again profile line [] next parts N le h = (line, refl)
+numbers_again profile line (e ∷ []) next parts N le h = (line + 1, rw (number_at_again profile line e.0 e.1 next parts N le h.0) refl)
+numbers_again profile line (e ∷ f ∷ es) next parts N le h =
+    let more = numbers_again profile (line + 1) (f ∷ es) next parts (insert N e.0 e.1) le h.1 in
+    (more.0, rw (number_at_again profile line e.0 e.1 (number_line f.0 f.1) (number_lines es ++ next ∷ parts) N le h.0) more.1)

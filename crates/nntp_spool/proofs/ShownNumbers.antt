@@ -1,0 +1,67 @@
+-- The least number of what a `BTreeMap` shows, from what std says of its first entry and of a range.
+use Rattle.std.proofs.Common.{◌≡◌, ℕ, ◌≤◌, Option, None, Some, MatchOption, is_some, option_map, List, [], ◌∷◌, ◌++◌, refl, sym, ap, subst, ◌∙◌, arith}
+use Rattle.std.specs.Ordering.{nat_cmp, is_eq}
+use Rattle.std.specs.Cmp.{nat_cmp_total}
+use Rattle.std.specs.FinMap as map
+use Rattle.std.specs.Map.{lookup}
+use Rattle.std.specs.BTreeMap.Range.{IsRangeOf}
+use Rattle.std.specs.declared.ops.Bound.TheVariants.{Excluded, Unbounded}
+use Rattle.std.specs.BTreeMap.{BTreeMap, get, IsLowerBound, IsUpperBound}
+use Rattle.std.proofs.lemmas.Bool.Decides.{nat_tests}
+use Rattle.nntp_article.specs.Spool.{Numbers, IsNumber, IsFirst, IsNextAbove, IsNextBelow, NoneAbove, NoneBelow}
+use Rattle.nntp_wire.proofs.ShownMaps.{shown, get-shown}
+
+abbrev pub IsLastOf : Numbers → Option ℕ → Type 0
+IsLastOf N last = MatchOption last ((m : ℕ) → map.get N m ≡ None) (λ n. IsNumber N n × ((m : ℕ) → IsNumber N m → m ≤ n))
+
+module _ {V : Type 0} (value : V → List ℕ) where
+  abbrev pub as_numbers : BTreeMap ℕ V → Numbers
+  as_numbers m = shown nat_cmp (λ k. k) value m.entries
+
+  is_some-option_map : (o : Option V) → is_some (option_map value o) ≡ is_some o
+  is_some-option_map None = refl
+  is_some-option_map (Some v) = refl
+
+  none-option_map : (o : Option V) → o ≡ None → option_map value o ≡ None
+  none-option_map o e = ap (option_map value) e
+
+  -- a number of what is shown is a key
+  pub is_number-shown : (m : BTreeMap ℕ V) (q : ℕ) → is_some (map.get (as_numbers m) q) ≡ is_some (get nat_cmp m q)
+  is_number-shown m q = ap is_some (get-shown nat_cmp (λ k. k) value nat_cmp_total m.entries q) ∙ is_some-option_map _
+
+  pub none-shown : (m : BTreeMap ℕ V) (q : ℕ) → get nat_cmp m q ≡ None → map.get (as_numbers m) q ≡ None
+  none-shown m q e = get-shown nat_cmp (λ k. k) value nat_cmp_total m.entries q ∙ none-option_map _ e
+
+  pub first_from_bound : (m : BTreeMap ℕ V) (n : ℕ) (v : V) → get nat_cmp m n ≡ Some v → IsLowerBound nat_cmp m n → IsFirst (as_numbers m) (Some n)
+  first_from_bound m n v here least = (is_number-shown m n ∙ ap is_some here, λ q s. let below = least q (sym (is_number-shown m q) ∙ s) in grind (arith, nat_tests))
+
+  pub next_above_from_range : (m : BTreeMap ℕ V) (n k : ℕ) (v : V) (r rest : List (ℕ × V)) → IsRangeOf nat_cmp (Excluded n) Unbounded m r → r ≡ (k, v) ∷ rest → IsNextAbove (as_numbers m) n k
+  next_above_from_range m n k v r rest is e =
+      let at : IsRangeOf nat_cmp (Excluded n) Unbounded m ((k, v) ∷ rest) = subst (IsRangeOf nat_cmp (Excluded n) Unbounded m) e is in (
+        grind (arith, nat_tests, at.1.0.0),
+        is_number-shown m k ∙ ap is_some at.1.1,
+        λ q h s. let below = at.2 q (grind (arith, nat_tests), tt) (sym (is_number-shown m q) ∙ s) in grind (arith, nat_tests),
+      )
+
+  pub none_above_from_range : (m : BTreeMap ℕ V) (n : ℕ) (r : List (ℕ × V)) → IsRangeOf nat_cmp (Excluded n) Unbounded m r → r ≡ [] → NoneAbove (as_numbers m) n
+  none_above_from_range m n r is e q h = none-shown m q (is.5 e q (grind (arith, nat_tests), tt))
+
+  pub next_below_from_range : (m : BTreeMap ℕ V) (n k : ℕ) (v : V) (r rest : List (ℕ × V)) → IsRangeOf nat_cmp Unbounded (Excluded n) m r → r ≡ rest ++ (k, v) ∷ [] → IsNextBelow (as_numbers m) n k
+  next_below_from_range m n k v r rest is e =
+      let here = is.3 (k, v) rest e in (
+        grind (arith, nat_tests, here.0.1),
+        is_number-shown m k ∙ ap is_some here.1,
+        λ q h s. let below = is.4 (k, v) rest e q (tt, grind (arith, nat_tests)) (sym (is_number-shown m q) ∙ s) in grind (arith, nat_tests),
+      )
+
+  pub none_below_from_range : (m : BTreeMap ℕ V) (n : ℕ) (r : List (ℕ × V)) → IsRangeOf nat_cmp Unbounded (Excluded n) m r → r ≡ [] → NoneBelow (as_numbers m) n
+  none_below_from_range m n r is e q h = none-shown m q (is.5 e q (tt, grind (arith, nat_tests)))
+
+  pub first_from_none : (m : BTreeMap ℕ V) → m.entries ≡ [] → IsFirst (as_numbers m) None
+  first_from_none m e q = none-shown m q (ap (lookup (λ k. is_eq (nat_cmp q k))) e)
+
+  pub last_from_bound : (m : BTreeMap ℕ V) (n : ℕ) (v : V) → get nat_cmp m n ≡ Some v → IsUpperBound nat_cmp m n → IsLastOf (as_numbers m) (Some n)
+  last_from_bound m n v here greatest = (is_number-shown m n ∙ ap is_some here, λ q s. let above = greatest q (sym (is_number-shown m q) ∙ s) in grind (arith, nat_tests))
+
+  pub last_from_none : (m : BTreeMap ℕ V) → m.entries ≡ [] → IsLastOf (as_numbers m) None
+  last_from_none m e q = none-shown m q (ap (lookup (λ k. is_eq (nat_cmp q k))) e)

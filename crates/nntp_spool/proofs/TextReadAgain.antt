@@ -1,0 +1,143 @@
+-- The text of a whole spool is read as this spool.
+use Rattle.std.proofs.Common.{◌≡◌, ℕ, ◌+◌, ◌^◌, ◌<◌, ◌≤◌, Bool, true, false, eqb, List, [], ◌∷◌, ◌++◌, Ok, length, map, refl, sym, ap, ◌∙◌, append_assoc, arith, length-append}
+use Rattle.std.specs.Prelude.{codes, ◌||◌, not, nat_lt}
+use Rattle.std.specs.Fmt.{decimal}
+use Rattle.std.specs.Ordering.{nat_cmp}
+use Rattle.std.specs.Cmp.{nat_cmp_total}
+use Rattle.std.specs.Cmp.Lexicographic.{slice_cmp, nat_list_cmp_total}
+use Rattle.std.specs.List.{list_all, flat_map, AllByRecursion}
+use Rattle.std.specs.FinMap.{entries, len, len-entries, nat_cmp-IsAntisymmetric}
+use Rattle.std.proofs.lemmas.Bool.{and_from, and_parts}
+use Rattle.std.proofs.lemmas.Bool.Decides.{nat_tests}
+use Rattle.std.proofs.lemmas.List.{length-map}
+use Rattle.std.proofs.lemmas.List.Folds.{list_all-append}
+use Rattle.nntp_wire.specs.Octets.{is_clean, is_line_breaking}
+use Rattle.nntp_article.specs.Article.{Line, Id}
+use Rattle.nntp_article.specs.Spool.{Name, Spool, Numbers, Text, is_line}
+use Rattle.nntp_article.specs.declared.profile.Profile.{Profile}
+use Rattle.nntp_article.specs.Machine.{is_num}
+use Rattle.nntp_spool.specs.Text.{number_line, group_line, article_line, barred, group_lines, article_lines, spool_lines, spool_text, with_line_ends}
+use Rattle.nntp_spool.specs.Reading.{line_at, next_line, parts_of, spool_at}
+use Rattle.nntp_spool.specs.Content.{no_spool, ids_have_articles}
+use Rattle.nntp_spool.specs.Content.{IsNamed, IsArticle, IsContent}
+use Rattle.nntp_spool.proofs.MapEntries.{all_got, got_all}
+use Rattle.nntp_spool.proofs.LineFields.{lacks, lacks-append, lacks-digits, are_digits-decimal, parts_front, list_all_weaken}
+use Rattle.nntp_spool.proofs.NameOctets.{name-lacks, id-lacks}
+use Rattle.nntp_spool.proofs.ItemsOfText.{octet_keys, no_entries, HasCounts, groups_again, first_lines, tail_lines}
+
+-- ---- lines have no line feed inside
+
+abbrev clean : List Line → Bool
+clean lines = list_all (lacks 10) lines
+
+clean-append : (xs ys : List Line) → clean xs ≡ true → clean ys ≡ true → clean (xs ++ ys) ≡ true
+clean-append xs ys h g = list_all-append (lacks 10) xs ys ∙ and_from (clean xs) (clean ys) h g
+
+clean-flat : {X : Type 0} (f : X → List Line) (xs : List X) → AllByRecursion (λ x. clean (f x) ≡ true) xs → clean (flat_map f xs) ≡ true
+clean-flat f [] h = refl
+clean-flat f (x ∷ xs) h = clean-append (f x) (flat_map f xs) h.0 (clean-flat f xs h.1)
+
+clean-map : {X : Type 0} (f : X → Line) (xs : List X) → AllByRecursion (λ x. lacks 10 (f x) ≡ true) xs → clean (map f xs) ≡ true
+clean-map f [] h = refl
+clean-map f (x ∷ xs) h = and_from (lacks 10 (f x)) (clean (map f xs)) h.0 (clean-map f xs h.1)
+
+spaced-lacks : (xs ys : List ℕ) → lacks 10 xs ≡ true → lacks 10 ys ≡ true → lacks 10 (xs ++ 32 ∷ ys) ≡ true
+spaced-lacks xs ys h g = lacks-append 10 xs (32 ∷ ys) h g
+
+decimal-lacks : (n : ℕ) → n < 2 ^ 64 → lacks 10 (decimal n) ≡ true
+decimal-lacks n lt = lacks-digits 10 (decimal n) (omega arith) (are_digits-decimal n lt)
+
+num-small : (profile : Profile) (n : ℕ) → profile.limit < 2 ^ 64 → is_num profile n ≡ true → n < 2 ^ 64
+num-small profile n le h = grind (arith, nat_tests, and_parts)
+
+clean-group : (profile : Profile) (name : Name) (N : Numbers) → profile.limit < 2 ^ 64 → len N < 2 ^ 64 → IsNamed profile name N → clean (group_lines (name, N)) ≡ true
+clean-group profile name N le small named =
+    let first = spaced-lacks (codes "group") (name ++ 32 ∷ decimal (len N)) refl (spaced-lacks name (decimal (len N)) (name-lacks 10 name (omega arith) refl named.is_name) (decimal-lacks (len N) small)) in
+    let each = got_all nat_cmp_total nat_cmp-IsAntisymmetric (λ n id. lacks 10 (number_line n id) ≡ true) N (λ n id g.
+    let is = named.numbers.each n id g in spaced-lacks (decimal n) id (decimal-lacks n (num-small profile n le is.0)) (id-lacks 10 id (omega arith) is.1)) in
+    and_from (lacks 10 (group_line name (len N))) (clean (map (λ e. number_line e.0 e.1) (entries N))) first (clean-map (λ e. number_line e.0 e.1) (entries N) each)
+
+line-lacks : (l : Line) → is_line l ≡ true → lacks 10 l ≡ true
+line-lacks l h = let both = and_parts (is_clean l) (list_all (λ c. nat_lt c 256) l) h in list_all_weaken (λ c. not (is_line_breaking c)) (λ c. not (eqb c 10)) (λ c passes. no_line_feed c (eqb c 0) (eqb c 13) (eqb c 10) passes) l both.0
+  where
+    no_line_feed : (c : ℕ) (a b d : Bool) → not (a || b || d) ≡ true → not d ≡ true
+    no_line_feed c a b false h = refl
+    no_line_feed c true b true h = h
+    no_line_feed c false true true h = h
+    no_line_feed c false false true h = h
+
+clean-article : (id : Id) (t : Text) → length t.head < 2 ^ 64 → length t.body < 2 ^ 64 → IsArticle id t → clean (article_lines (id, t)) ≡ true
+clean-article id t h b is =
+    let first = spaced-lacks (codes "article") (id ++ 32 ∷ (decimal (length t.head) ++ 32 ∷ decimal (length t.body))) refl (spaced-lacks id (decimal (length t.head) ++ 32 ∷ decimal (length t.body)) (id-lacks 10 id (omega arith) is.is_id)
+    (spaced-lacks (decimal (length t.head)) (decimal (length t.body)) (decimal-lacks (length t.head) h) (decimal-lacks (length t.body) b))) in
+    and_from (lacks 10 (article_line id (length t.head) (length t.body))) (clean (barred t.head ++ barred t.body)) first (clean-append (barred t.head) (barred t.body) (barred-clean t.head is.head_lines) (barred-clean t.body is.body_lines))
+  where
+    barred-clean : (lines : List Line) → list_all is_line lines ≡ true → clean (barred lines) ≡ true
+    barred-clean [] h = refl
+    barred-clean (l ∷ lines) h = let both = and_parts (is_line l) (list_all is_line lines) h in and_from (lacks 10 (124 ∷ l)) (clean (barred lines)) (line-lacks l both.0) (barred-clean lines both.1)
+
+clean-text : (profile : Profile) (F : Spool) → profile.limit < 2 ^ 64 → IsContent profile F → HasCounts F → clean (spool_lines F) ≡ true
+clean-text profile F le content sizes =
+    let groups = clean-flat group_lines (entries F.groups) (got_all nat_list_cmp_total octet_keys (λ name N. clean (group_lines (name, N)) ≡ true) F.groups (λ name N g. clean-group profile name N le (sizes.counts name N g) (content.groups name N g))) in
+    let articles = clean-flat article_lines (entries F.articles) (got_all nat_list_cmp_total octet_keys (λ id t. clean (article_lines (id, t)) ≡ true) F.articles (λ id t g. let s = sizes.lines id t g in clean-article id t s.0 s.1 (content.articles id t g))) in
+    clean-append (flat_map group_lines (entries F.groups)) (flat_map article_lines (entries F.articles) ++ codes "end" ∷ []) groups (clean-append (flat_map article_lines (entries F.articles)) (codes "end" ∷ []) articles refl)
+
+parts_of-with_line_ends : (lines : List Line) → clean lines ≡ true → parts_of (with_line_ends lines) ≡ lines ++ [] ∷ []
+parts_of-with_line_ends [] h = refl
+parts_of-with_line_ends (l ∷ lines) h =
+    let both = and_parts (lacks 10 l) (clean lines) h in
+    ap parts_of (append_assoc l (10 ∷ []) (with_line_ends lines)) ∙ parts_front 10 l (with_line_ends lines) both.0 ∙ ap (λ (ps : List Line). l ∷ ps) (parts_of-with_line_ends lines both.1)
+
+-- ---- sizes
+
+length-with_line_ends : (lines : List Line) → length lines ≤ length (with_line_ends lines)
+length-with_line_ends [] = omega arith
+length-with_line_ends (l ∷ lines) = omega (arith, length-with_line_ends lines, length-append (l ++ 10 ∷ []) (with_line_ends lines), length-append l (10 ∷ []))
+
+within : {X : Type 0} (f : X → List Line) (xs : List X) (most : ℕ) → length (flat_map f xs) ≤ most → AllByRecursion (λ x. length (f x) ≤ most) xs
+within f [] most h = tt
+within f (x ∷ xs) most h = (omega (arith, length-append (f x) (flat_map f xs)), within f xs most (omega (arith, length-append (f x) (flat_map f xs))))
+
+enough : {X : Type 0} (f : X → List Line) (xs : List X) → ((x : X) → 1 ≤ length (f x)) → length xs ≤ length (flat_map f xs)
+enough f [] h = omega arith
+enough f (x ∷ xs) h = omega (arith, length-append (f x) (flat_map f xs), h x, enough f xs h)
+
+length-text : (F : Spool) → length (flat_map group_lines (entries F.groups)) + length (flat_map article_lines (entries F.articles)) + 2 ≤ length (spool_text F)
+length-text F =
+    let groups = flat_map group_lines (entries F.groups) in
+    let articles = flat_map article_lines (entries F.articles) in
+    omega (arith, length-with_line_ends (spool_lines F), length-append groups (articles ++ codes "end" ∷ []), length-append articles (codes "end" ∷ []))
+
+pub counted : (F : Spool) → length (spool_text F) < 2 ^ 64 → HasCounts F
+counted F lt =
+    let whole = length-text F in
+    record {
+      counts = λ name N g.
+          let fits = all_got nat_list_cmp_total octet_keys (λ name N. length (group_lines (name, N)) ≤ length (spool_text F)) F.groups (within group_lines (entries F.groups) (length (spool_text F)) (omega arith)) name N g in
+          let lines = length-map (entries N) (λ e. number_line e.0 e.1) in
+          omega (arith, len-entries N);
+      lines = λ id t g.
+          let fits = all_got nat_list_cmp_total octet_keys (λ id t. length (article_lines (id, t)) ≤ length (spool_text F)) F.articles (within article_lines (entries F.articles) (length (spool_text F)) (omega arith)) id t g in
+          let both = length-append (barred t.head) (barred t.body) in
+          let heads = length-map t.head (λ line. 124 ∷ line) in
+          let bodies = length-map t.body (λ line. 124 ∷ line) in
+          (omega arith, omega arith);
+    }
+
+-- ---- the whole
+
+pub text_again : (profile : Profile) (F : Spool) → profile.limit < 2 ^ 64 → IsContent profile F → HasCounts F → ids_have_articles F ≡ true → spool_at profile (spool_text F) ≡ Ok F
+unfolding spool_at
+text_again profile F le content sizes known =
+    let groups = entries F.groups in
+    let texts = entries F.articles in
+    let lines : parts_of (spool_text F) ≡ codes "spool 1" ∷ (flat_map group_lines groups ++ tail_lines texts) =
+    parts_of-with_line_ends (spool_lines F) (clean-text profile F le content sizes)
+    ∙ ap (λ (ps : List Line). codes "spool 1" ∷ ps) (append_assoc (flat_map group_lines groups) (flat_map article_lines texts ++ codes "end" ∷ []) ([] ∷ []) ∙ ap (λ (ps : List Line). flat_map group_lines groups ++ ps) (append_assoc (flat_map article_lines texts) (codes "end" ∷ []) ([] ∷ []))) in
+    let front = first_lines groups texts in
+    let most : length groups + length texts < length (spool_text F) =
+    omega (arith, length-text F, enough group_lines groups (λ g. omega arith), enough article_lines texts (λ a. omega arith)) in
+    let again = groups_again profile F le content sizes known (length (spool_text F)) 2 no_spool groups texts (ap (λ (es : List (Name × Numbers)). es ++ groups) (sym (no_entries (slice_cmp nat_cmp)))) (ap (λ (es : List (Id × Text)). es ++ texts) (sym (no_entries (slice_cmp nat_cmp)))) most in
+    let line : line_at (record { line = 1; parts = parts_of (spool_text F) }) ≡ Ok (codes "spool 1", record { line = 2; parts = flat_map group_lines groups ++ tail_lines texts }) =
+    ap (next_line 1) lines ∙ ap (λ (ps : List Line). next_line 1 (codes "spool 1" ∷ ps)) front.2 ∙ ap (λ (ps : List Line). Ok (codes "spool 1", record { line = 2; parts = ps })) (sym front.2) in
+    rw (line, again.1) refl

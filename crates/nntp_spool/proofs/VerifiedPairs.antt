@@ -1,0 +1,42 @@
+-- A session, exchange by exchange.
+use Rattle.std.proofs.Common.{◌≡◌, ℕ, ◌+◌, List, [], ◌∷◌, ◌++◌, length, refl, sym, ap, subst, ◌∙◌, length-append}
+use Rattle.nntp_pair.specs.Pairing.{Paired, Unpaired, IsNext, AreNext, Ends, bad, asked_at, streams}
+use Rattle.nntp_pair.specs.declared.class.PairClass.{PairClass}
+use Rattle.nntp_pair.proofs.PairingLemmas.{AreNext-push, index-counts}
+use Rattle.nntp_article.specs.Spool.{Spool, IsSpool}
+use Rattle.nntp_article.specs.declared.profile.Profile.{Profile}
+use Rattle.nntp_article.specs.Explains.{Explains, ExplainsUpTo}
+use Rattle.nntp_article.specs.Machine.{State, start, MayAnswer, after}
+use Rattle.nntp_spool.specs.Sessions.{state_after, MayAnswerAll, RefusesAt}
+use Rattle.nntp_spool.proofs.PermittedPairs.{state-more, all-more, permitted-explained, unpermitted-refused, bad-refused}
+
+-- so far the exchanges are permitted
+pub record Permitted (profile : Profile) (S : Spool) (client server : List ℕ) (left : Unpaired) (s : State) (count : ℕ) : Type 0 where
+  pub pairs : List Paired
+  pub next : AreNext (streams client server) pairs left
+  pub may : MayAnswerAll profile S start pairs
+  pub state : s ≡ state_after S start pairs
+  pub counted : count ≡ length pairs
+
+pub one_more_pair : (profile : Profile) (S : Spool) (client server : List ℕ) (left behind : Unpaired) (s new : State) (count : ℕ) (x : Paired) → Permitted profile S client server left s count → IsNext left x behind
+    → MayAnswer profile S s (asked_at x.line) x.response → new ≡ after S s (asked_at x.line) x.response → Permitted profile S client server behind new (x.index + 1)
+one_more_pair profile S client server left behind s new count x p is may leads = record {
+  pairs = p.pairs ++ x ∷ [];
+  next = AreNext-push p.pairs (streams client server) left behind x p.next is;
+  may = all-more profile S start p.pairs x p.may (subst (λ (t : State). MayAnswer profile S t (asked_at x.line) x.response) p.state may);
+  state = leads ∙ ap (λ (t : State). after S t (asked_at x.line) x.response) p.state ∙ sym (state-more S start p.pairs x);
+  counted = ap (λ n. n + 1) (is.index ∙ index-counts client server p.pairs left p.next) ∙ sym (length-append p.pairs (x ∷ []));
+}
+
+module _ (profile : Profile) (S : Spool) (is : IsSpool profile S) (client server : List ℕ) (left : Unpaired) (s : State) (count : ℕ) (p : Permitted profile S client server left s count) where
+  pub not_permitted : (behind : Unpaired) (x : Paired) → IsNext left x behind → (MayAnswer profile S s (asked_at x.line) x.response → ⊥) → RefusesAt profile S client server count
+  not_permitted behind x is_next never =
+      subst (RefusesAt profile S client server) (sym p.counted) (unpermitted-refused profile S is client server p.pairs left behind x p.next p.may is_next (λ may. never (subst (λ (t : State). MayAnswer profile S t (asked_at x.line) x.response) (sym p.state) may)))
+
+  pub answers_nothing : (class : PairClass) → Ends left (bad class) → RefusesAt profile S client server count
+  answers_nothing class ends = subst (RefusesAt profile S client server) (sym p.counted) (bad-refused profile S is client server p.pairs left class p.next p.may ends)
+
+  pub all_permitted : left.server ≡ [] → Explains profile S client server count
+  all_permitted none =
+      let upto = permitted-explained profile S is client server p.pairs left p.next p.may in
+      subst (λ (n : ℕ). ExplainsUpTo profile S client server n []) (sym p.counted) (subst (λ (rest : List ℕ). ExplainsUpTo profile S client server (length p.pairs) rest) none upto)

@@ -1,0 +1,34 @@
+-- What a writer took of lines.
+use Rattle.std.proofs.Common.{◌≡◌, ℕ, List, [], ◌∷◌, ◌++◌, Option, map, subst, refl, sym, ap}
+use Rattle.std.proofs.lemmas.List.{append-nil}
+use Rattle.std.proofs.lemmas.List.Concat.{flat_map-append}
+use Rattle.nntp_spool.specs.Text.{with_line_ends, group_line, article_line}
+use Rattle.nntp_spool.specs.Writing.{Wrote}
+use Rattle.nntp_spool.proofs.Written.{Wrote-on, Wrote-first}
+
+pub with_line_ends-cons : (line : List ℕ) (lines : List (List ℕ)) → with_line_ends (line ∷ lines) ≡ with_line_ends (line ∷ []) ++ with_line_ends lines
+with_line_ends-cons line lines = ap (λ (t : List ℕ). t ++ with_line_ends lines) (sym (append-nil (line ++ 10 ∷ [])))
+
+pub with_line_ends-append : (xs ys : List (List ℕ)) → with_line_ends (xs ++ ys) ≡ with_line_ends xs ++ with_line_ends ys
+with_line_ends-append xs ys = flat_map-append (λ line. line ++ 10 ∷ []) xs ys
+
+-- the same for lines
+pub Lines-first : (a b : Option (List ℕ)) (xs ys : List (List ℕ)) (rest : List ℕ) → Wrote a b (with_line_ends xs) rest → Wrote a b (with_line_ends (xs ++ ys)) (rest ++ with_line_ends ys)
+Lines-first a b xs ys rest g = subst (λ (t : List ℕ). Wrote a b t (rest ++ with_line_ends ys)) (sym (with_line_ends-append xs ys)) (Wrote-first a b (with_line_ends xs) (with_line_ends ys) rest g)
+
+pub Lines-next : (a b c : Option (List ℕ)) (whole : List ℕ) (xs ys : List (List ℕ)) (rest : List ℕ) → Wrote a b whole (with_line_ends (xs ++ ys)) → Wrote b c (with_line_ends xs) rest → Wrote a c whole (rest ++ with_line_ends ys)
+Lines-next a b c whole xs ys rest h g = Wrote-on a b c whole (with_line_ends xs) (with_line_ends ys) rest (subst (Wrote a b whole) (with_line_ends-append xs ys) h) g
+
+pub map-map : {X Y Z : Type 0} (f : X → Y) (g : Y → Z) (xs : List X) → map g (map f xs) ≡ map (λ x. g (f x)) xs
+map-map f g [] = refl
+map-map f g (x ∷ xs) = ap (λ ys. g (f x) ∷ ys) (map-map f g xs)
+
+-- the first line of a group, and of an article
+pub Group-first : (a b : Option (List ℕ)) (name : List ℕ) (n count : ℕ) (more : List (List ℕ)) (rest : List ℕ) → n ≡ count
+    → Wrote a b (with_line_ends (group_line name n ∷ [])) rest → Wrote a b (with_line_ends (group_line name count ∷ more)) (rest ++ with_line_ends more)
+Group-first a b name n count more rest e g = Lines-first a b (group_line name count ∷ []) more rest (subst (λ (k : ℕ). Wrote a b (with_line_ends (group_line name k ∷ [])) rest) e g)
+
+pub Article-first : (a b : Option (List ℕ)) (id : List ℕ) (m heads n bodies : ℕ) (more : List (List ℕ)) (rest : List ℕ) → m ≡ heads → n ≡ bodies
+    → Wrote a b (with_line_ends (article_line id m n ∷ [])) rest → Wrote a b (with_line_ends (article_line id heads bodies ∷ more)) (rest ++ with_line_ends more)
+Article-first a b id m heads n bodies more rest e f g =
+    Lines-first a b (article_line id heads bodies ∷ []) more rest (subst (λ (k : ℕ). Wrote a b (with_line_ends (article_line id k bodies ∷ [])) rest) e (subst (λ (k : ℕ). Wrote a b (with_line_ends (article_line id m k ∷ [])) rest) f g))

@@ -1,8 +1,0 @@
-use Rattle.std.proofs.Common.{subst, sym, ◌∙◌}
-use Rattle.nntp_spool.specs.Limit.{narrow}
-use Rattle.nntp_spool.specs.Content.{IsContent}
-use Rattle.nntp_spool.proofs.ContentHolds.{number_added}
-use Rattle.nntp_spool.proofs.builder.SpoolBuilder.number.Goals as goal
-
-pub invariant_of-self : goal.invariant_of-self
-invariant_of-self g c = subst (IsContent narrow) (sym c.in-Ok.ensures.ok) (number_added narrow c.self.inside.content c.self.invariant c.args.name.now c.args.number c.args.id.now (sym c.number_fault.ensures ∙ c.in_default.is))

@@ -1,8 +1,0 @@
-use Rattle.std.proofs.Common.{ap}
-use Rattle.std.specs.Ordering.{nat_cmp}
-use Rattle.nntp_spool.proofs.Ids.{no_ids}
-use Rattle.nntp_spool.proofs.Shown.{shown}
-use Rattle.nntp_spool.proofs.numbers.Numbers.new.Goals as goal
-
-pub invariant_of-result : goal.invariant_of-result
-invariant_of-result g c = no_ids c.new-2.result.keys _ c.new-2.ensures.empty (ap (shown nat_cmp (λ k. k) (λ v. v.items)) c.new.ensures.empty)

@@ -1,8 +1,0 @@
-use Rattle.std.proofs.Common.{◌≡◌, ◌-◌, false}
-use Rattle.nntp_spool.specs.Reading.{items_at}
-use Rattle.nntp_spool.specs.Limit.{narrow}
-use Rattle.nntp_spool.specs.Places.{place_shown}
-use Rattle.nntp_spool.proofs.read.items_at.Given as goal
-
-abbrev pub invariant-loop : goal.invariant-loop
-invariant-loop g l = items_at narrow (l.most - l.counter) l.articles l.content (place_shown l.rest) ≡ items_at narrow l.most false l.fn.content (place_shown l.place)

@@ -1,8 +1,0 @@
-use Rattle.std.proofs.Common.{◌≡◌, ◌-◌}
-use Rattle.nntp_spool.specs.Reading.{numbers_at, number_at, repeat}
-use Rattle.nntp_spool.specs.Limit.{narrow}
-use Rattle.nntp_spool.specs.Places.{place_shown}
-use Rattle.nntp_spool.proofs.read.numbers_at.Given as goal
-
-abbrev pub invariant-loop : goal.invariant-loop
-invariant-loop g l = repeat (number_at narrow) (l.count - l.counter) (l.numbers, place_shown l.rest) ≡ numbers_at narrow l.count (place_shown l.place)

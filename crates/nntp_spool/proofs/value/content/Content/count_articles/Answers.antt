@@ -1,0 +1,11 @@
+use Rattle.std.proofs.Common.{sym, ap, ◌∙◌}
+use Rattle.std.specs.Ordering.{nat_cmp}
+use Rattle.std.specs.Cmp.Lexicographic.{slice_cmp, nat_list_cmp_total}
+use Rattle.std.specs.FinMap as map
+use Rattle.nntp_spool.specs.ArticleLines.{text_of_article}
+use Rattle.nntp_spool.proofs.ShownMaps.{len-shown}
+use Rattle.nntp_spool.proofs.value.content.Content.count_articles.Goals as goal
+
+pub returns : goal.returns
+returns g c =
+    c.len.ensures.len ∙ sym (len-shown (slice_cmp nat_cmp) (λ k. k.items) text_of_article nat_list_cmp_total (map.slice_cmp-IsAntisymmetric map.nat_cmp-IsAntisymmetric) _ c.len.ensures.ordered) ∙ ap (λ s. map.len s.articles) c.self.view_is

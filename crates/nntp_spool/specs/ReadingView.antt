@@ -1,0 +1,28 @@
+-- What values of the reader show.
+use Rattle.std.specs.Prelude.{ℕ, List, [], Option, None, Some}
+use Rattle.std.specs.Borrow.{Bor}
+use Rattle.nntp_spool.specs.declared.text.place.Place.{Place as PlaceInCode}
+use Rattle.nntp_spool.specs.declared.text.place.Item.{Item as ItemInCode}
+use Rattle.nntp_spool.specs.declared.text.place.Item.TheVariants as InCode
+use Rattle.nntp_spool.specs.declared.text.place.Turn.{Turn as TurnInCode}
+use Rattle.nntp_spool.specs.declared.text.place.Turn.TheVariants as turns
+use Rattle.nntp_article.specs.Spool.{Spool}
+use Rattle.nntp_spool.specs.Reading.{Place, Turn, On, Done, parts_of}
+use Rattle.nntp_spool.specs.Fields.{Item, Group, Article, End, fields_of}
+
+abbrev pub place_shown : PlaceInCode → Place
+place_shown p = record { line = p.line; parts = parts_of p.rest.now }
+
+-- the words of what stands behind a space, if one does
+abbrev pub words_from : Option (Bor (List ℕ)) → List (List ℕ)
+words_from None = []
+words_from (Some rest) = fields_of rest.now
+
+abbrev pub item_shown : ItemInCode → Item
+item_shown (InCode.Group name count) = Group name.now count
+item_shown (InCode.Article id heads bodies) = Article id.now heads bodies
+item_shown InCode.End = End
+
+abbrev pub turn_shown : Spool → TurnInCode → Turn
+turn_shown S (turns.On articles place) = On articles S (place_shown place)
+turn_shown S (turns.Done place) = Done S (place_shown place)

@@ -1,0 +1,214 @@
+//! The lines of a text and their fields.
+ghost use Rattle.std.specs.Prelude.{◌≡◌, ◌≤◌, ◌^◌, ◌∷◌, [], Some, None, true, option_map, option_copied, position, ◌==◌, MatchOption, if◌then◌else◌, IfSome};
+ghost use Rattle.nntp_spool.specs.Reading.{Gives, line_at};
+ghost use Rattle.nntp_spool.specs.Fields.{fields_of, are_digits, is_decimal, is_count, value_of, item_of, number_and_id, content_of};
+ghost use Rattle.nntp_article.specs.Machine.{is_num};
+ghost use Rattle.nntp_spool.specs.Limit.{profile_31_bits};
+ghost use Rattle.nntp_spool.specs.ReadingView.{place_shown, item_shown, words_from};
+
+use crate::text::place::{Item, Place};
+use crate::text::read_fault::{Kind, ReadError, ReadFault};
+use crate::value::limit::LIMIT;
+use crate::value::well_formed::is_line;
+
+pub(crate) fn fault(line: u64, kind: Kind) -> ReadError
+    ensures { result ≡ ReadError.Fault (record { line = line; kind = kind }) }
+{
+    ReadError::Fault(ReadFault { line, kind })
+}
+
+fn first_place(octets: &[u8], octet: u8) -> Option<usize>
+    ensures { result ≡ position (λ c. c == octet) octets.now }
+{
+    octets.iter().position(|c| *c == octet)
+}
+
+/// The next line, and the place behind it.
+pub(crate) fn next_line(place: Place<'_>) -> Result<(&[u8], Place<'_>), ReadError>
+    ensures { Gives (λ x. (x.0.now, place_shown x.1)) result (line_at (place_shown place.entry)) }
+{
+    match first_place(place.rest, b'\n') {
+        None => Err(fault(place.line, Kind::Shape)),
+        Some(at) => {
+            let (line, behind) = place.rest.split_at(at);
+            let (_, rest) = behind.split_at(1);
+            Ok((
+                line,
+                Place {
+                    line: place.line + 1,
+                    rest,
+                },
+            ))
+        }
+    }
+}
+
+/// The first field of a line, and what stands behind the space after it.
+fn cut(line: &[u8]) -> (&[u8], Option<&[u8]>)
+    ensures { fields_of line.now ≡ result.0.now ∷ words_from result.1 }
+{
+    match first_place(line, b' ') {
+        None => (line, None),
+        Some(at) => {
+            let (word, rest) = line.split_at(at);
+            let (_, rest) = rest.split_at(1);
+            (word, Some(rest))
+        }
+    }
+}
+
+fn is_digits(word: &[u8]) -> bool
+    ensures { result ≡ are_digits word.now }
+{
+    word.iter().all(|c| c.is_ascii_digit())
+}
+
+/// Whether the field is a number without leading zeros.
+fn is_decimal_word(word: &[u8]) -> bool
+    ensures { result ≡ is_decimal word.now }
+{
+    match word {
+        [] => false,
+        [first, rest @ ..] => is_digits(word) && (*first != b'0' || rest.is_empty()),
+    }
+}
+
+/// The value of digits, if 64 bits hold it.
+fn value(digits: &[u8]) -> Option<u64>
+    requires { are_digits digits.now ≡ true }
+    ensures { MatchOption result (2 ^ 64 ≤ value_of digits.now) (λ v. v ≡ value_of digits.now) }
+{
+    let mut value = 0u64;
+    for digit in digits {
+        let Some(tens) = value.checked_mul(10) else {
+            return None;
+        };
+        let Some(sum) = tens.checked_add((*digit - b'0') as u64) else {
+            return None;
+        };
+        value = sum;
+    }
+    Some(value)
+}
+
+fn count_of(word: &[u8]) -> Option<u64>
+    ensures { result ≡ (if is_count word.now then Some (value_of word.now) else None) }
+{
+    if is_decimal_word(word) {
+        value(word)
+    } else {
+        None
+    }
+}
+
+fn group_item<'a>(word: &[u8], name: &'a [u8], count: &[u8]) -> Option<Item<'a>>
+    ensures { option_map item_shown result ≡ item_of (word.now ∷ name.now ∷ count.now ∷ []) }
+{
+    if word != b"group".as_slice() || name.is_empty() {
+        return None;
+    }
+    match count_of(count) {
+        Some(count) => Some(Item::Group { name, count }),
+        None => None,
+    }
+}
+
+fn article_item<'a>(word: &[u8], id: &'a [u8], heads: &[u8], bodies: &[u8]) -> Option<Item<'a>>
+    ensures { option_map item_shown result ≡ item_of (word.now ∷ id.now ∷ heads.now ∷ bodies.now ∷ []) }
+{
+    if word != b"article".as_slice() || id.is_empty() {
+        return None;
+    }
+    match (count_of(heads), count_of(bodies)) {
+        (Some(heads), Some(bodies)) => Some(Item::Article { id, heads, bodies }),
+        _ => None,
+    }
+}
+
+/// The item that a line begins.
+pub(crate) fn item_of(line: &[u8]) -> Option<Item<'_>>
+    ensures { option_map item_shown result ≡ item_of (fields_of line.now) }
+{
+    let (word, rest) = cut(line);
+    let Some(rest) = rest else {
+        return if word == b"end".as_slice() {
+            Some(Item::End)
+        } else {
+            None
+        };
+    };
+    let (first, rest) = cut(rest);
+    let Some(rest) = rest else {
+        return None;
+    };
+    let (second, rest) = cut(rest);
+    let Some(rest) = rest else {
+        return group_item(word, first, second);
+    };
+    let (third, rest) = cut(rest);
+    match rest {
+        None => article_item(word, first, second, third),
+        Some(_) => None,
+    }
+}
+
+/// The digits of a number, and an id, if the two fields are such.
+fn number_item<'a>(word: &'a [u8], id: &'a [u8]) -> Option<(&'a [u8], &'a [u8])>
+    ensures value { option_map (λ e. (value_of e.0.now, e.1.now)) result ≡ number_and_id (word.now ∷ id.now ∷ []) }
+    ensures digits { IfSome result (λ e. is_decimal e.0.now ≡ true) }
+{
+    if is_decimal_word(word) && !id.is_empty() {
+        Some((word, id))
+    } else {
+        None
+    }
+}
+
+/// The digits of the number that a line has, and the id.
+pub(crate) fn number_and_id(line: &[u8]) -> Option<(&[u8], &[u8])>
+    ensures value { option_map (λ e. (value_of e.0.now, e.1.now)) result ≡ number_and_id (fields_of line.now) }
+    ensures digits { IfSome result (λ e. is_decimal e.0.now ≡ true) }
+{
+    let (word, rest) = cut(line);
+    let Some(rest) = rest else {
+        return None;
+    };
+    let (id, rest) = cut(rest);
+    match rest {
+        None => number_item(word, id),
+        Some(_) => None,
+    }
+}
+
+/// The article number that has these digits.
+pub(crate) fn article_number(digits: &[u8]) -> Option<u64>
+    requires { is_decimal digits.now ≡ true }
+    ensures { result ≡ (if is_num profile_31_bits (value_of digits.now) then Some (value_of digits.now) else None) }
+{
+    match value(digits) {
+        Some(number) => {
+            if number < 1 || number > LIMIT {
+                None
+            } else {
+                Some(number)
+            }
+        }
+        None => None,
+    }
+}
+
+/// A line of an article, without the `|` in front.
+pub(crate) fn content_of(line: &[u8]) -> Option<&[u8]>
+    ensures { option_copied result ≡ content_of line.now }
+{
+    match line.split_first() {
+        Some((first, rest)) => {
+            if *first == b'|' && is_line(rest) {
+                Some(rest)
+            } else {
+                None
+            }
+        }
+        None => None,
+    }
+}

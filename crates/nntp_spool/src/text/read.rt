@@ -1,0 +1,283 @@
+//! The parts of a spool's text, read line by line.
+ghost use Rattle.std.specs.Prelude.{◌≡◌, ℕ, true, length, false, IfOk, IfErr};
+ghost use Rattle.nntp_spool.specs.Limit.{profile_31_bits};
+ghost use Rattle.nntp_spool.specs.Reading.{Gives, parts_of, is_end, content_at, contents_at, number_in, number_at, numbers_at, group_at, article_at, item_at, items_at, item_then, spool_at};
+ghost use Rattle.nntp_spool.specs.Fields.{End};
+ghost use Rattle.nntp_spool.specs.ReadingView.{place_shown, turn_shown};
+ghost use Rattle.nntp_spool.specs.ArticleLines.{lines_of};
+ghost use Rattle.nntp_article.specs.Spool.{Spool as SpoolValue, IsSpool};
+ghost use Rattle.nntp_spool.specs.Text.{spool_text};
+ghost use Rattle.nntp_spool.specs.Faults.{IsFault};
+
+use crate::text::fields::{article_number, content_of, fault, item_of, next_line, number_and_id};
+use crate::text::place::{Item, Place, Turn};
+use crate::text::read_fault::{Kind, ReadError, ReadFault};
+use crate::value::Spool;
+use crate::value::article::Article;
+use crate::value::content::Content;
+use crate::value::numbers::Numbers;
+use crate::value::well_formed::{is_head_of, is_id, is_name};
+use std::alloc::Allocator;
+
+/// One more line of an article.
+#[tactic(auto, unfolding(crate::specs::Reading::content_at))]
+fn content_at<'a, A: Allocator + Copy>(
+    alloc: A,
+    lines: &mut Vec<Vec<u8, A>, A>,
+    place: Place<'a>,
+) -> Result<Place<'a>, ReadError>
+    ensures { Gives (λ next. (lines_of lines.new.items, place_shown next)) result (content_at (lines_of lines.old.items, place_shown place.entry)) }
+{
+    let (line, next) = next_line(place)?;
+    let Some(content) = content_of(line) else {
+        return Err(fault(place.line, Kind::Shape));
+    };
+    lines.push(Vec::from_slice(alloc, content)?)?;
+    Ok(next)
+}
+
+/// So many lines of an article.
+fn contents_at<A: Allocator + Copy>(
+    alloc: A,
+    count: u64,
+    place: Place<'_>,
+) -> Result<(Vec<Vec<u8, A>, A>, Place<'_>), ReadError>
+    ensures { Gives (λ x. (lines_of x.0.items, place_shown x.1)) result (contents_at count (place_shown place.entry)) }
+{
+    let mut lines = Vec::new(alloc);
+    let mut rest = place;
+    for _ in 0..count {
+        rest = content_at(alloc, &mut lines, rest)?;
+    }
+    Ok((lines, rest))
+}
+
+/// The number and the id of a line.
+#[tactic(auto, unfolding(crate::specs::Reading::number_in))]
+fn number_in(at: u64, line: &[u8]) -> Result<(u64, &[u8]), ReadError>
+    ensures { Gives (λ x. (x.0, x.1.now)) result (number_in profile_31_bits at line.now) }
+{
+    let Some((digits, id)) = number_and_id(line) else {
+        return Err(fault(at, Kind::Shape));
+    };
+    let Some(number) = article_number(digits) else {
+        return Err(fault(at, Kind::Number));
+    };
+    if !is_id(id) {
+        return Err(fault(at, Kind::Id));
+    }
+    Ok((number, id))
+}
+
+/// One more number of a group.
+#[tactic(auto, using(crate::proofs::NumberIds::id_in_the_way), unfolding(crate::specs::Reading::number_at))]
+fn number_at<'a, A: Allocator + Copy>(
+    alloc: A,
+    numbers: &mut Numbers<A>,
+    place: Place<'a>,
+) -> Result<Place<'a>, ReadError>
+    ensures { Gives (λ next. (numbers.new, place_shown next)) result (number_at profile_31_bits (numbers.old, place_shown place.entry)) }
+{
+    let (line, next) = next_line(place)?;
+    let (number, id) = number_in(place.line, line)?;
+    if !numbers.is_after(number) {
+        return Err(fault(place.line, Kind::Order));
+    }
+    if !numbers.insert(alloc, number, id)? {
+        return Err(fault(place.line, Kind::DuplicateId));
+    }
+    Ok(next)
+}
+
+/// The numbers of a group.
+fn numbers_at<A: Allocator + Copy>(
+    alloc: A,
+    count: u64,
+    place: Place<'_>,
+) -> Result<(Numbers<A>, Place<'_>), ReadError>
+    ensures { Gives (λ x. (x.0, place_shown x.1)) result (numbers_at profile_31_bits count (place_shown place.entry)) }
+{
+    let mut numbers = Numbers::new(alloc);
+    let mut rest = place;
+    for _ in 0..count {
+        rest = number_at(alloc, &mut numbers, rest)?;
+    }
+    Ok((numbers, rest))
+}
+
+/// A group, behind its first line.
+#[tactic(auto, unfolding(crate::specs::Reading::group_at))]
+fn group_at<'a, A: Allocator + Copy>(
+    alloc: A,
+    line: u64,
+    name: &[u8],
+    count: u64,
+    content: &mut Content<A>,
+    place: Place<'a>,
+) -> Result<Place<'a>, ReadError>
+    ensures { Gives (λ next. (content.new, place_shown next)) result (group_at profile_31_bits line name.now count content.old (place_shown place.entry)) }
+{
+    if !is_name(name) {
+        return Err(fault(line, Kind::Name));
+    }
+    if !content.is_after_groups(name) {
+        return Err(fault(line, Kind::Order));
+    }
+    let (numbers, next) = numbers_at(alloc, count, place)?;
+    content.put_group(Vec::from_slice(alloc, name)?, numbers)?;
+    Ok(next)
+}
+
+/// An article, behind its first line.
+#[tactic(auto, unfolding(crate::specs::Reading::article_at))]
+fn article_at<'a, A: Allocator + Copy>(
+    alloc: A,
+    line: u64,
+    id: &[u8],
+    heads: u64,
+    bodies: u64,
+    content: &mut Content<A>,
+    place: Place<'a>,
+) -> Result<Place<'a>, ReadError>
+    ensures { Gives (λ next. (content.new, place_shown next)) result (article_at line id.now heads bodies content.old (place_shown place.entry)) }
+{
+    if !is_id(id) {
+        return Err(fault(line, Kind::Id));
+    }
+    if !content.is_after_articles(id) {
+        return Err(fault(line, Kind::Order));
+    }
+    let (head, next) = contents_at(alloc, heads, place)?;
+    let (body, next) = contents_at(alloc, bodies, next)?;
+    if !is_head_of(id, &head) {
+        return Err(fault(line, Kind::Head));
+    }
+    content.put_article(Vec::from_slice(alloc, id)?, Article { head, body })?;
+    Ok(next)
+}
+
+/// The end, behind its line.
+fn ends_at<'a, A: Allocator>(
+    line: u64,
+    content: &Content<A>,
+    place: Place<'a>,
+) -> Result<Turn<'a>, ReadError>
+    ensures { Gives (turn_shown content.now) result (item_then profile_31_bits line true content.now (place_shown place.entry) End) }
+{
+    if content.has_articles() {
+        Ok(Turn::Done { place })
+    } else {
+        Err(fault(line, Kind::UnknownId))
+    }
+}
+
+/// A group, an article or the end.
+#[tactic(auto, unfolding(crate::specs::Reading::item_at))]
+fn item_at<'a, A: Allocator + Copy>(
+    alloc: A,
+    articles: bool,
+    content: &mut Content<A>,
+    place: Place<'a>,
+) -> Result<Turn<'a>, ReadError>
+    ensures { Gives (turn_shown content.new) result (item_at profile_31_bits articles content.old (place_shown place.entry)) }
+{
+    let (line, next) = next_line(place)?;
+    let Some(item) = item_of(line) else {
+        return Err(fault(place.line, Kind::Shape));
+    };
+    match item {
+        Item::Group { name, count } => {
+            if articles {
+                return Err(fault(place.line, Kind::Shape));
+            }
+            let place = group_at(alloc, place.line, name, count, content, next)?;
+            Ok(Turn::On {
+                articles: false,
+                place,
+            })
+        }
+        Item::Article { id, heads, bodies } => {
+            let place = article_at(alloc, place.line, id, heads, bodies, content, next)?;
+            Ok(Turn::On {
+                articles: true,
+                place,
+            })
+        }
+        Item::End => ends_at(place.line, content, next),
+    }
+}
+
+/// All groups and articles, up to the end.
+fn items_at<'a, A: Allocator + Copy>(
+    alloc: A,
+    most: u64,
+    content: &mut Content<A>,
+    place: Place<'a>,
+) -> Result<Place<'a>, ReadError>
+    ensures { Gives (λ next. (content.new, place_shown next)) result (items_at profile_31_bits most false content.old (place_shown place.entry)) }
+{
+    let mut articles = false;
+    let mut rest = place;
+    for _ in 0..most {
+        match item_at(alloc, articles, content, rest)? {
+            Turn::On {
+                articles: behind,
+                place,
+            } => {
+                articles = behind;
+                rest = place;
+            }
+            Turn::Done { place } => return Ok(place),
+        }
+    }
+    Err(fault(rest.line, Kind::Shape))
+}
+
+fn is_at_end(octets: &[u8]) -> bool
+    ensures { result ≡ is_end (parts_of octets.now) }
+{
+    octets.is_empty()
+}
+
+/// A whole text.
+#[tactic(auto, unfolding(crate::specs::Reading::spool_at))]
+pub(crate) fn content_of_text<A: Allocator + Copy>(
+    alloc: A,
+    octets: &[u8],
+) -> Result<Content<A>, ReadError>
+    ensures { Gives (λ content. content) result (spool_at profile_31_bits octets.now) }
+{
+    let start = Place {
+        line: 1,
+        rest: octets,
+    };
+    let (first, rest) = next_line(start)?;
+    if first != b"spool 1".as_slice() {
+        return Err(fault(1, Kind::Shape));
+    }
+    let mut content = Content::new(alloc);
+    let end = items_at(alloc, octets.len() as u64, &mut content, rest)?;
+    if !is_at_end(end.rest) {
+        return Err(fault(end.line, Kind::Shape));
+    }
+    Ok(content)
+}
+
+impl<A: Allocator + Copy> Spool<A> {
+    /// The spool whose text the octets are, or the first fault of the octets. No memory is taken on
+    /// the word of a count alone.
+    pub fn read(alloc: A, octets: &[u8]) -> Result<Spool<A>, ReadFault>
+        ensures spool { IfOk result (λ spool. octets.now ≡ spool_text spool) }
+        ensures same { (S : SpoolValue) → IsSpool profile_31_bits S → octets.now ≡ spool_text S → IfOk result (λ spool. spool ≡ S) }
+        ensures fault { IfErr result (λ fault. IsFault profile_31_bits octets.now fault) }
+    {
+        match content_of_text(alloc, octets) {
+            Ok(content) => Ok(Spool::new(content)),
+            Err(ReadError::Fault(fault)) => Err(fault),
+            Err(ReadError::Memory) => Err(ReadFault {
+                line: 0,
+                kind: Kind::Memory,
+            }),
+        }
+    }
+}

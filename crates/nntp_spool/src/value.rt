@@ -1,0 +1,17 @@
+//! Groups, numbers and articles as they are held, and a spool that is built of them.
+pub(crate) mod article;
+mod builder;
+pub(crate) mod content;
+pub(crate) mod limit;
+pub(crate) mod numbers;
+mod spool;
+mod spool_fault;
+#[cfg(test)]
+mod tests;
+pub(crate) mod well_formed;
+
+pub use article::Article;
+pub use builder::SpoolBuilder;
+pub use limit::LIMIT;
+pub use spool::{Counts, Spool};
+pub use spool_fault::SpoolFault;

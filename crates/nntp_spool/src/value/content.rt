@@ -1,0 +1,204 @@
+//! Groups and articles, as they are taken in before all of a spool is there.
+ghost use Rattle.std.specs.Prelude.{◌≡◌, OnOk, OnErr, option_map, option_copied, is_some, map as list_map};
+ghost use Rattle.std.specs.FinMap as map;
+ghost use Rattle.nntp_article.specs.Spool.{IsGroup, numbers as numbers_of};
+ghost use Rattle.std.specs.List.{list_all};
+ghost use Rattle.std.specs.BTreeMap.{IsOrdered};
+ghost use Rattle.std.specs.Ordering.{nat_cmp};
+ghost use Rattle.std.specs.Cmp.Lexicographic.{slice_cmp};
+ghost use Rattle.nntp_spool.specs.Counts.{numbers_in};
+ghost use Rattle.std.specs.Prelude.{sum};
+ghost use Rattle.nntp_spool.specs.Ascending.{is_last};
+ghost use Rattle.nntp_spool.specs.Content.{with_group, with_article, all_known, ids_have_articles, no_spool};
+ghost use Rattle.nntp_spool.specs.Numbers.{with_number};
+ghost use Rattle.nntp_spool.specs.ArticleLines.{text_of_article};
+
+use crate::value::article::Article;
+use crate::value::numbers::Numbers;
+use std::alloc::{AllocError, Allocator, Global};
+use std::collections::BTreeMap;
+use std::marker::Model;
+
+/// Groups by their names, and articles by their ids.
+#[derive(Drop)]
+pub struct Content<A: Allocator = Global> {
+    pub(crate) groups: BTreeMap<Vec<u8, A>, Numbers<A>, A>,
+    pub(crate) articles: BTreeMap<Vec<u8, A>, Article<A>, A>,
+}
+
+impl<A: Allocator> Model for Content<A> {
+    ghost use Rattle.std.specs.Prelude.{map};
+    ghost use Rattle.std.specs.FinMap.{from_entries};
+    ghost use Rattle.nntp_article.specs.Spool.{Spool as SpoolValue};
+    ghost use Rattle.nntp_spool.specs.Codes.{coded_spool};
+
+    ghost Value = { SpoolValue };
+
+    ghost coded = { coded_spool };
+
+    ghost use Rattle.nntp_spool.specs.ArticleLines.{text_of_article};
+
+    ghost view = { λ a. record { groups = from_entries (map (λ e. (e.0.items, e.1)) a.groups.entries); articles = from_entries (map (λ e. (e.0.items, text_of_article e.1)) a.articles.entries) } };
+}
+
+impl<A: Allocator + Copy> Content<A> {
+    pub(crate) fn new(alloc: A) -> Content<A>
+        ensures { result ≡ no_spool }
+    {
+        Content {
+            groups: BTreeMap::new(alloc),
+            articles: BTreeMap::new(alloc),
+        }
+    }
+
+    /// Adds a group, or puts it in the place of the one of its name.
+    pub(crate) fn put_group(
+        &mut self,
+        name: Vec<u8, A>,
+        numbers: Numbers<A>,
+    ) -> Result<(), AllocError>
+        ensures ok { OnOk result (self.new ≡ with_group self.old name.items numbers) }
+        ensures err { OnErr result (self.new ≡ self.old) }
+    {
+        self.groups.insert(name, numbers)?;
+        Ok(())
+    }
+
+    /// Adds a number to a group that is there, unless the group has the number or the id already.
+    pub(crate) fn put_number(
+        &mut self,
+        alloc: A,
+        name: &[u8],
+        number: u64,
+        id: &[u8],
+    ) -> Result<(), AllocError>
+        requires { IsGroup self.old name.now }
+        ensures ok { OnOk result (self.new ≡ with_group self.old name.now (with_number (numbers_of self.old name.now) number id.now)) }
+        ensures err { OnErr result (self.new ≡ self.old) }
+    {
+        if let Some(group) = self.groups.get_mut(name) {
+            group.insert(alloc, number, id)?;
+        }
+        Ok(())
+    }
+
+    /// Adds an article, or puts it in the place of the one of its id.
+    pub(crate) fn put_article(
+        &mut self,
+        id: Vec<u8, A>,
+        article: Article<A>,
+    ) -> Result<(), AllocError>
+        ensures ok { OnOk result (self.new ≡ with_article self.old id.items (text_of_article article)) }
+        ensures err { OnErr result (self.new ≡ self.old) }
+    {
+        self.articles.insert(id, article)?;
+        Ok(())
+    }
+}
+
+impl<A: Allocator> Content<A> {
+    /// The numbers of a group.
+    pub(crate) fn group(&self, name: &[u8]) -> Option<&Numbers<A>>
+        ensures { option_copied result ≡ map.get self.now.groups name.now }
+    {
+        self.groups.get(name)
+    }
+
+    /// The article of an id.
+    pub(crate) fn article(&self, id: &[u8]) -> Option<&Article<A>>
+        ensures { option_map (λ a. text_of_article a.now) result ≡ map.get self.now.articles id.now }
+    {
+        self.articles.get(id)
+    }
+
+    /// Whether the id has an article.
+    pub(crate) fn has_article(&self, id: &[u8]) -> bool
+        ensures { result ≡ is_some (map.get self.now.articles id.now) }
+    {
+        self.articles.contains_key(id)
+    }
+
+    /// How many groups there are.
+    pub(crate) fn count_groups(&self) -> u64
+        ensures { result ≡ map.len self.now.groups }
+    {
+        self.groups.len() as u64
+    }
+
+    /// How many numbers there are in all groups.
+    pub(crate) fn count_numbers(&self) -> u128
+        ensures { result ≡ numbers_in self.now }
+    {
+        sum_of_lens(&self.groups)
+    }
+
+    /// How many articles there are.
+    pub(crate) fn count_articles(&self) -> u64
+        ensures { result ≡ map.len self.now.articles }
+    {
+        self.articles.len() as u64
+    }
+
+    /// Whether the name is greater than each group's.
+    pub(crate) fn is_after_groups(&self, name: &[u8]) -> bool
+        ensures { result ≡ is_last self.now.groups name.now }
+    {
+        match self.groups.last_key_value() {
+            Some((greatest, _)) => greatest.as_slice().cmp(name).is_lt(),
+            None => true,
+        }
+    }
+
+    /// Whether the id is greater than each article's.
+    pub(crate) fn is_after_articles(&self, id: &[u8]) -> bool
+        ensures { result ≡ is_last self.now.articles id.now }
+    {
+        match self.articles.last_key_value() {
+            Some((greatest, _)) => greatest.as_slice().cmp(id).is_lt(),
+            None => true,
+        }
+    }
+
+    /// Whether each id of the numbers has an article.
+    fn knows_all(&self, numbers: &Numbers<A>) -> bool
+        ensures { result ≡ all_known self.now numbers.now }
+    {
+        knows_ids(self, &numbers.ids)
+    }
+
+    /// Whether each id of a number has an article.
+    pub(crate) fn has_articles(&self) -> bool
+        ensures { result ≡ ids_have_articles self.now }
+    {
+        knows_groups(self, &self.groups)
+    }
+}
+
+fn knows_ids<A: Allocator>(content: &Content<A>, ids: &BTreeMap<u64, Vec<u8, A>, A>) -> bool
+    ensures is { result ≡ list_all (λ e. is_some (map.get content.now.articles e.1.items)) ids.now.entries }
+    ensures ordered { IsOrdered nat_cmp ids.now }
+{
+    ids.iter().all(|(_, id)| content.has_article(id.as_slice()))
+}
+
+fn knows_groups<A: Allocator>(
+    content: &Content<A>,
+    groups: &BTreeMap<Vec<u8, A>, Numbers<A>, A>,
+) -> bool
+    ensures is { result ≡ list_all (λ e. all_known content.now e.1) groups.now.entries }
+    ensures ordered { IsOrdered (λ a b. slice_cmp nat_cmp a.items b.items) groups.now }
+{
+    groups.iter().all(|(_, numbers)| content.knows_all(numbers))
+}
+
+fn sum_of_lens<A: Allocator>(groups: &BTreeMap<Vec<u8, A>, Numbers<A>, A>) -> u128
+    ensures sum { result ≡ sum (list_map (λ e. map.len e.1) groups.now.entries) }
+    ensures ordered { IsOrdered (λ a b. slice_cmp nat_cmp a.items b.items) groups.now }
+{
+    let mut total = 0u128;
+    let mut entries = groups.iter();
+    while let Some((_, numbers)) = entries.next() {
+        total += numbers.len() as u128;
+    }
+    total
+}

@@ -1,0 +1,150 @@
+//! The numbers of one group, with the id at each.
+ghost use Rattle.std.specs.Prelude.{◌≡◌, ℕ, OnOk, OnErr, IfOk, option_map, MatchOption, ◌≤◌};
+ghost use Rattle.std.specs.FinMap as map;
+ghost use Rattle.nntp_article.specs.Spool.{IsFirst, IsNextAbove, IsNextBelow, NoneAbove, NoneBelow, IsNumber};
+ghost use Rattle.nntp_spool.specs.Ascending.{is_last};
+ghost use Rattle.nntp_spool.specs.Numbers.{has_id};
+ghost use Rattle.nntp_spool.specs.Numbers.{is_free, with_number};
+
+use std::alloc::{AllocError, Allocator, Global};
+use std::collections::{BTreeMap, BTreeSet};
+use std::marker::Model;
+use std::ops::Bound;
+
+/// The numbers of a group, ascending, and the id at each.
+#[derive(Drop)]
+pub struct Numbers<A: Allocator = Global> {
+    pub(crate) ids: BTreeMap<u64, Vec<u8, A>, A>,
+    /// Copies of the ids, by which one is looked up.
+    known: BTreeSet<Vec<u8, A>, A>,
+}
+
+impl<A: Allocator> Model for Numbers<A> {
+    ghost use Rattle.std.specs.Prelude.{List, ℕ, map as list_map};
+    ghost use Rattle.std.specs.Ordering.{nat_cmp};
+    ghost use Rattle.std.specs.Coded.{coded_ℕ, coded_list};
+    ghost use Rattle.std.specs.FinMap as map;
+
+    ghost Value = { map.FinMap nat_cmp (List ℕ) };
+
+    ghost coded = { map.code coded_ℕ (coded_list coded_ℕ) };
+
+    ghost view = { λ a. map.from_entries (list_map (λ e. (e.0, e.1.items)) a.ids.entries) };
+
+    ghost use Rattle.nntp_spool.specs.Numbers.{AreIdsOf};
+
+    ghost invariant = { λ a. AreIdsOf a.known.keys (map.from_entries (list_map (λ e. (e.0, e.1.items)) a.ids.entries)) };
+}
+
+impl<A: Allocator + Copy> Numbers<A> {
+    pub(crate) fn new(alloc: A) -> Numbers<A>
+        ensures { result ≡ map.empty }
+    {
+        Numbers {
+            ids: BTreeMap::new(alloc),
+            known: BTreeSet::new(alloc),
+        }
+    }
+
+    /// Adds a number with its id, and answers true. Where the number or the id is there already, it
+    /// answers false and adds nothing.
+    pub(crate) fn insert(&mut self, alloc: A, number: u64, id: &[u8]) -> Result<bool, AllocError>
+        ensures added { IfOk result (λ added. added ≡ is_free self.old number id.now) }
+        ensures ok { OnOk result (self.new ≡ with_number self.old number id.now) }
+        ensures err { OnErr result (self.new ≡ self.old) }
+    {
+        if self.id(number).is_some() || self.has_some_id(id) {
+            return Ok(false);
+        }
+        let held = Vec::from_slice(alloc, id)?;
+        self.known.insert(Vec::from_slice(alloc, id)?)?;
+        match self.ids.insert(number, held) {
+            Ok(_) => Ok(true),
+            Err(_) => {
+                self.known.remove(id);
+                Err(AllocError)
+            }
+        }
+    }
+}
+
+impl<A: Allocator> Numbers<A> {
+    /// How many numbers there are.
+    pub(crate) fn len(&self) -> usize
+        ensures { result ≡ map.len self.now }
+    {
+        self.ids.len()
+    }
+
+    /// The id at a number.
+    pub(crate) fn id(&self, number: u64) -> Option<&Vec<u8, A>>
+        ensures { option_map (λ id. id.now.items) result ≡ map.get self.now number }
+    {
+        self.ids.get(&number)
+    }
+
+    /// The least number.
+    pub(crate) fn least(&self) -> Option<u64>
+        ensures { IsFirst self.now result }
+    {
+        match self.ids.first_key_value() {
+            Some((number, _)) => Some(*number),
+            None => None,
+        }
+    }
+
+    /// The greatest number.
+    pub(crate) fn greatest(&self) -> Option<u64>
+        ensures { MatchOption result ((m : ℕ) → map.get self.now m ≡ None) (λ n. IsNumber self.now n × ((m : ℕ) → IsNumber self.now m → m ≤ n)) }
+    {
+        match self.ids.last_key_value() {
+            Some((number, _)) => Some(*number),
+            None => None,
+        }
+    }
+
+    /// The least number above this one.
+    pub(crate) fn next_above(&self, number: u64) -> Option<u64>
+        ensures { MatchOption result (NoneAbove self.now number) (IsNextAbove self.now number) }
+    {
+        match self
+            .ids
+            .range((Bound::Excluded(number), Bound::Unbounded))
+            .next()
+        {
+            Some((next, _)) => Some(*next),
+            None => None,
+        }
+    }
+
+    /// The greatest number below this one.
+    pub(crate) fn next_below(&self, number: u64) -> Option<u64>
+        ensures { MatchOption result (NoneBelow self.now number) (IsNextBelow self.now number) }
+    {
+        match self
+            .ids
+            .range((Bound::Unbounded, Bound::Excluded(number)))
+            .next_back()
+        {
+            Some((next, _)) => Some(*next),
+            None => None,
+        }
+    }
+
+    /// Whether the number is greater than each one here.
+    pub(crate) fn is_after(&self, number: u64) -> bool
+        ensures { result ≡ is_last self.now number }
+    {
+        match self.greatest() {
+            Some(greatest) => greatest < number,
+            None => true,
+        }
+    }
+
+    /// Whether some number has the id.
+    pub(crate) fn has_some_id(&self, id: &[u8]) -> bool
+        ensures { result ≡ has_id self.now id.now }
+    {
+        self.known.contains(id)
+    }
+}

@@ -1,0 +1,145 @@
+//! What the machine looks up in the numbers of a group.
+ghost use Rattle.std.specs.Prelude.{◌≡◌, ℕ, ◌≤◌, ◌↔◌, [], true, IsTrue, MatchOption, IfSome, Some};
+ghost use Rattle.std.specs.FinMap as map;
+ghost use Rattle.nntp_article.specs.Spool.{IsNumber, IsNextAbove, IsNextBelow, NoneAbove, NoneBelow, Lists};
+ghost use Rattle.nntp_article.specs.Machine.{Bound, is_ascending};
+ghost use Rattle.nntp_wire.specs.Listing.{listed_numbers};
+ghost use Rattle.nntp_spool.specs.ListedNumbers.{IsNextFrom, IsAbove, ListsFrom};
+
+use crate::value::numbers::Numbers;
+use nntp_wire::{Block, Range, WaterMarks};
+use std::alloc::Allocator;
+
+impl<A: Allocator> Numbers<A> {
+    /// Whether a number has this id.
+    pub(crate) fn has_id(&self, number: u64, id: &[u8]) -> bool
+        ensures { IsTrue result ↔ (map.get self.now number ≡ Some id.now) }
+    {
+        match self.id(number) {
+            Some(found) => found.as_slice() == id,
+            None => false,
+        }
+    }
+
+    /// Whether a step up from the current article leads to this number with this id.
+    pub(crate) fn steps_up(&self, current: Option<u64>, number: u64, id: &[u8]) -> bool
+        ensures { IsTrue result ↔ (MatchOption current ⊥ (λ c. IsNextAbove self.now c number) × (map.get self.now number ≡ Some id.now)) }
+    {
+        match current {
+            Some(current) => self.next_above(current) == Some(number) && self.has_id(number, id),
+            None => false,
+        }
+    }
+
+    /// Whether a step down from the current article leads to this number with this id.
+    pub(crate) fn steps_down(&self, current: Option<u64>, number: u64, id: &[u8]) -> bool
+        ensures { IsTrue result ↔ (MatchOption current ⊥ (λ c. IsNextBelow self.now c number) × (map.get self.now number ≡ Some id.now)) }
+    {
+        match current {
+            Some(current) => self.next_below(current) == Some(number) && self.has_id(number, id),
+            None => false,
+        }
+    }
+
+    /// Whether the current article is a number that has none above it.
+    pub(crate) fn is_at_top(&self, current: Option<u64>) -> bool
+        ensures { IsTrue result ↔ MatchOption current ⊥ (NoneAbove self.now) }
+    {
+        match current {
+            Some(current) => self.next_above(current).is_none(),
+            None => false,
+        }
+    }
+
+    /// Whether the current article is a number that has none below it.
+    pub(crate) fn is_at_bottom(&self, current: Option<u64>) -> bool
+        ensures { IsTrue result ↔ MatchOption current ⊥ (NoneBelow self.now) }
+    {
+        match current {
+            Some(current) => self.next_below(current).is_none(),
+            None => false,
+        }
+    }
+
+    /// Whether there are at most as many numbers as estimated, all between the marks.
+    pub(crate) fn is_bound(&self, marks: WaterMarks) -> bool
+        ensures { IsTrue result ↔ Bound self.now marks }
+    {
+        self.len() as u64 <= marks.estimate && self.is_between(marks.low, marks.high)
+    }
+
+    /// Whether each number is between the marks.
+    pub(crate) fn is_between(&self, low: u64, high: u64) -> bool
+        ensures { IsTrue result ↔ ((n : ℕ) → IsNumber self.now n → (low ≤ n) × (n ≤ high)) }
+    {
+        match (self.least(), self.greatest()) {
+            (Some(least), Some(greatest)) => low <= least && greatest <= high,
+            _ => true,
+        }
+    }
+
+    /// The least number above this one, or the least of all.
+    fn next_from(&self, before: Option<u64>) -> Option<u64>
+        ensures { IsNextFrom self.now before result }
+    {
+        match before {
+            Some(number) => self.next_above(number),
+            None => self.least(),
+        }
+    }
+
+    /// Whether the numbers within the range are the listed ones.
+    pub(crate) fn lists(&self, range: Range, block: &Block<'_>) -> bool
+        requires { is_ascending (listed_numbers block.now) ≡ true }
+        ensures { IsTrue result ↔ Lists self.now range (listed_numbers block.now) }
+    {
+        let mut numbers = block.numbers();
+        let mut before = before(range.first);
+        while let Some(number) = numbers.next() {
+            if !self.is_next_within(range, before, number) {
+                return false;
+            }
+            before = Some(number);
+        }
+        self.has_none_within(range, before)
+    }
+
+    /// Whether the number is the next one, and not above the range.
+    fn is_next_within(&self, range: Range, before: Option<u64>, number: u64) -> bool
+        ensures { IsTrue result ↔ (IsNextFrom self.now before (Some number) × IfSome range.last (λ last. number ≤ last)) }
+    {
+        self.next_from(before) == Some(number) && is_up_to(range.last, number)
+    }
+
+    /// Whether the next number, if there is one, is above the range.
+    fn has_none_within(&self, range: Range, before: Option<u64>) -> bool
+        ensures { IsTrue result ↔ ListsFrom self.now range before [] }
+    {
+        match self.next_from(before) {
+            Some(number) => is_beyond(range.last, number),
+            None => true,
+        }
+    }
+}
+
+fn is_up_to(last: Option<u64>, number: u64) -> bool
+    ensures { IsTrue result ↔ IfSome last (λ last. number ≤ last) }
+{
+    match last {
+        Some(last) => number <= last,
+        None => true,
+    }
+}
+
+fn is_beyond(last: Option<u64>, number: u64) -> bool
+    ensures { IsTrue result ↔ (IfSome last (λ last. number ≤ last) → ⊥) }
+{
+    !is_up_to(last, number)
+}
+
+/// The number before this one: none before 0.
+fn before(number: u64) -> Option<u64>
+    ensures { (n : ℕ) → IsAbove result n ↔ (number ≤ n) }
+{
+    if number == 0 { None } else { Some(number - 1) }
+}

@@ -1,0 +1,157 @@
+//! The state of a session over a spool, exchange by exchange.
+ghost use Rattle.std.specs.Prelude.{◌≡◌, ◌↔◌, IsTrue, IfOk, OnOk};
+ghost use Rattle.nntp_wire.specs.View.{asked};
+ghost use Rattle.nntp_wire.specs.AnswerView.{response};
+ghost use Rattle.nntp_pair.specs.Pairing.{asked_at};
+ghost use Rattle.nntp_article.specs.Machine.{start, MayAnswer, after, current_after, selected_numbers};
+ghost use Rattle.nntp_article.specs.Spool.{IsSpool, least, numbers as numbers_of};
+ghost use Rattle.std.specs.FinMap as map;
+
+use crate::value::content::Content;
+use crate::value::numbers::Numbers;
+use nntp_article::laws::first_is_least;
+use nntp_article::{Profile, Visible};
+use nntp_pair::Exchange;
+use nntp_wire::{Answer, Command, Prompt, Which};
+use std::alloc::{AllocError, Allocator};
+use std::marker::Model;
+
+/// The state of a session: what it shows, and the current article.
+#[derive(Drop)]
+pub(crate) struct Session<A: Allocator> {
+    alloc: A,
+    visible: Visible<A>,
+    current: Option<u64>,
+}
+
+impl<A: Allocator> Model for Session<A> {
+    ghost use Rattle.nntp_article.specs.Machine.{State};
+    ghost use Rattle.nntp_spool.specs.Codes.{coded_state};
+
+    ghost Value = { State };
+
+    ghost coded = { coded_state };
+
+    ghost view = { λ a. record { visible = a.visible; current = a.current } };
+}
+
+impl<A: Allocator + Copy> Session<A> {
+    /// The state before the greeting.
+    pub(crate) fn new(alloc: A) -> Session<A>
+        ensures { result ≡ start }
+    {
+        Session {
+            alloc,
+            visible: Visible::new(alloc),
+            current: None,
+        }
+    }
+
+    /// Whether the exchange is permitted.
+    pub(crate) fn may_answer(
+        &self,
+        profile: Profile,
+        spool: &Content<A>,
+        exchange: &Exchange<'_>,
+    ) -> Result<bool, AllocError>
+        requires { IsSpool profile spool.now }
+        ensures { IfOk result (λ may. IsTrue may ↔ MayAnswer profile spool.now self.now (asked_at exchange.now.line) exchange.now.response) }
+    {
+        let prompt = exchange.prompt();
+        let answer = exchange.answer();
+        if self.visible.is_closed() || !self.visible.fits(profile, prompt, answer)? {
+            return Ok(false);
+        }
+        Ok(self.agrees(spool, prompt, answer))
+    }
+
+    /// Goes on to the state that the exchange leaves.
+    pub(crate) fn advance(
+        &mut self,
+        spool: &Content<A>,
+        exchange: &Exchange<'_>,
+    ) -> Result<(), AllocError>
+        ensures { OnOk result (self.new ≡ after spool.now self.old (asked_at exchange.now.line) exchange.now.response) }
+    {
+        let prompt = exchange.prompt();
+        let answer = exchange.answer();
+        let current = self.current_after(spool, prompt, answer);
+        self.visible.advance(prompt, answer)?;
+        self.current = current;
+        Ok(())
+    }
+
+    /// The numbers of the selected group, or those of no group, which are `none`.
+    pub(crate) fn selected_numbers<'n>(
+        &self,
+        spool: &'n Content<A>,
+        none: &'n Numbers<A>,
+    ) -> &'n Numbers<A>
+        requires { none.now ≡ map.empty }
+        ensures { result.now ≡ selected_numbers spool.now self.now.visible }
+    {
+        match spool.group(self.visible.selected_name()) {
+            Some(numbers) => numbers,
+            None => none,
+        }
+    }
+
+    /// The numbers of no group.
+    pub(crate) fn no_numbers(&self) -> Numbers<A>
+        ensures { result ≡ map.empty }
+    {
+        Numbers::new(self.alloc)
+    }
+}
+
+impl<A: Allocator> Session<A> {
+    /// The current article.
+    pub(crate) fn current(&self) -> Option<u64>
+        ensures { result ≡ self.now.current }
+    {
+        self.current
+    }
+
+    /// The current article after the answer: the first of a group that was selected, or the one that a
+    /// step or a number named.
+    fn current_after(
+        &self,
+        spool: &Content<A>,
+        prompt: &Prompt<'_>,
+        answer: &Answer<'_>,
+    ) -> Option<u64>
+        ensures { result ≡ current_after spool.now self.now (asked prompt.now) (response answer.now) }
+    {
+        match answer {
+            Answer::Group { name, .. } => first_of(spool, name.as_slice()),
+            Answer::Numbers { name, .. } => first_of(spool, name.as_slice()),
+            Answer::Sent { number, .. } => match prompt {
+                Prompt::To(Command::Next) | Prompt::To(Command::Last) => Some(*number),
+                Prompt::To(Command::Retrieve { which, .. }) => match which {
+                    Which::Number(_) => Some(*number),
+                    _ => self.current(),
+                },
+                _ => self.current(),
+            },
+            _ => self.current(),
+        }
+    }
+}
+
+/// The least number of a group.
+fn first_of<A: Allocator>(spool: &Content<A>, name: &[u8]) -> Option<u64>
+    ensures { result ≡ least (numbers_of spool.now name.now) }
+{
+    first_is_least();
+    match spool.group(name) {
+        Some(numbers) => least_of(numbers),
+        None => None,
+    }
+}
+
+fn least_of<A: Allocator>(numbers: &Numbers<A>) -> Option<u64>
+    ensures { result ≡ least numbers.now }
+{
+    first_is_least();
+    numbers.least()
+}

@@ -1,0 +1,102 @@
+//! A slow judge of sessions, by plain lists. It works out anew from all answers what is shown and what
+//! is denied, makes the spool that is given for them, and asks `verify` of it.
+mod given;
+mod numbers;
+mod said;
+mod visible;
+
+use given::given_spool;
+use nntp_check::Watched;
+use nntp_pair::{Exchange, Pairs, Step};
+use nntp_spool::{Verified, verify};
+use said::Said;
+use std::alloc::{AllocError, Global};
+use visible::Visible;
+
+/// An exchange, and how many octets the server has sent up to its end.
+#[derive(Drop)]
+pub(crate) struct Answered<'a> {
+    pub(crate) exchange: Exchange<'a>,
+    pub(crate) end: usize,
+}
+
+/// All exchanges of two streams, in order.
+pub(crate) fn exchanges<'a>(
+    alloc: Global,
+    client: &'a [u8],
+    server: &'a [u8],
+) -> Result<Vec<Answered<'a>>, AllocError> {
+    let mut answered = Vec::new(alloc);
+    let mut pairs = Pairs::new(client, server);
+    for _ in 0..server.len() {
+        let Step::Exchange(exchange) = pairs.next() else {
+            break;
+        };
+        let end = server.len().saturating_sub(pairs.ahead().rest.len());
+        answered.push(Answered { exchange, end })?;
+    }
+    Ok(answered)
+}
+
+/// What is said of an answer behind those before it.
+#[derive(Clone, Copy, Debug, PartialEq, Eq)]
+pub(crate) enum Judged {
+    Consistent,
+    OutOfPlace,
+    Contradiction,
+}
+
+/// What is said of the last of these exchanges, where some spool explains those before it; and the text
+/// of the spool that is given for all of them, where that one explains them.
+pub(crate) fn judge(
+    alloc: Global,
+    client: &[u8],
+    server: &[u8],
+    exchanges: &[Answered<'_>],
+) -> Result<(Judged, Vec<u8>), AllocError> {
+    if !fits(alloc, exchanges)? {
+        return Ok((Judged::OutOfPlace, Vec::new(alloc)));
+    }
+    let mut said = Said::new(alloc);
+    let mut end = 0;
+    for answered in exchanges {
+        said.hear(&answered.exchange)?;
+        end = answered.end;
+    }
+    let (front, _) = server.split_at(end.min(server.len()));
+    match explaining_text(alloc, &said, client, front)? {
+        Some(text) => Ok((Judged::Consistent, text)),
+        None => Ok((Judged::Contradiction, Vec::new(alloc))),
+    }
+}
+
+/// Whether the last exchange fits the visible state that those before it leave.
+fn fits(alloc: Global, exchanges: &[Answered<'_>]) -> Result<bool, AllocError> {
+    let mut visible = Visible::new(alloc);
+    let mut fits = true;
+    for answered in exchanges {
+        fits = visible.fits(&answered.exchange);
+        visible.pass(&answered.exchange)?;
+    }
+    Ok(fits)
+}
+
+/// The text of the spool that is given for what was said, if it explains both streams.
+fn explaining_text(
+    alloc: Global,
+    said: &Said<'_>,
+    client: &[u8],
+    server: &[u8],
+) -> Result<Option<Vec<u8>>, AllocError> {
+    let Some(spool) = given_spool(alloc, said)? else {
+        return Ok(None);
+    };
+    if let Verified::Refuses { .. } = verify(alloc, &spool, client, server)? {
+        return Ok(None);
+    }
+    let mut output = Watched::new(Vec::new(alloc));
+    match spool.write(&mut output) {
+        Ok(()) => Ok(Some(output.into_inner())),
+        Err(_) => Err(AllocError),
+    }
+}

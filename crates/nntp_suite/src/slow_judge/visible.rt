@@ -1,0 +1,239 @@
+//! Which answers fit the visible state of a session, whatever the spool is.
+use nntp_article::{Head, Parts};
+use nntp_pair::Exchange;
+use nntp_wire::{
+    Answer, Block, Command, MessageId, Prompt, Range, What, Which, Wildmat, active_line,
+    listed_number,
+};
+use std::alloc::{AllocError, Global};
+
+/// The greatest article number.
+const LIMIT: u64 = 2_147_483_647;
+
+/// The selected group, and the low marks that were reported.
+#[derive(Drop)]
+pub(crate) struct Visible<'a> {
+    alloc: Global,
+    selected: Option<&'a [u8]>,
+    lows: Vec<(&'a [u8], u64)>,
+}
+
+fn is_number(number: u64) -> bool {
+    1 <= number && number <= LIMIT
+}
+
+fn is_generic(code: u64) -> bool {
+    matches!(
+        code,
+        400 | 401 | 403 | 480 | 483 | 500 | 501 | 502 | 503 | 504
+    )
+}
+
+/// Whether marks without an estimate are well formed.
+fn are_marks(low: u64, high: u64) -> bool {
+    (low == 0 && high == 0) || (1 <= low && low <= high.saturating_add(1) && high <= LIMIT)
+}
+
+impl<'a> Visible<'a> {
+    pub(crate) fn new(alloc: Global) -> Visible<'a> {
+        Visible {
+            alloc,
+            selected: None,
+            lows: Vec::new(alloc),
+        }
+    }
+
+    /// The state behind an answer.
+    pub(crate) fn pass(&mut self, exchange: &Exchange<'a>) -> Result<(), AllocError> {
+        let (low, high, name) = match exchange.answer() {
+            Answer::Group {
+                low,
+                high,
+                name,
+                ..
+            } => (*low, *high, name.as_slice()),
+            Answer::Numbers {
+                low,
+                high,
+                name,
+                ..
+            } => (*low, *high, name.as_slice()),
+            _ => return Ok(()),
+        };
+        self.selected = Some(name);
+        if low != 0 || high != 0 {
+            self.lows.push((name, low))?;
+        }
+        Ok(())
+    }
+
+    pub(crate) fn fits(&self, exchange: &Exchange<'_>) -> bool {
+        match (exchange.prompt(), exchange.answer()) {
+            (Prompt::Greeting, Answer::Plain { code }) => matches!(*code, 200 | 201 | 400 | 502),
+            (Prompt::To(command), Answer::Plain { code }) => {
+                is_generic(*code) || self.code_fits(command, *code)
+            }
+            (Prompt::To(command), answer) => self.answer_fits(command, answer),
+            _ => false,
+        }
+    }
+
+    fn code_fits(&self, command: &Command<'_>, code: u64) -> bool {
+        let is_selected = self.selected.is_some();
+        match command {
+            Command::Capabilities => code == 101,
+            Command::ModeReader => code == 200 || code == 201,
+            Command::Quit => code == 205,
+            Command::Group(_) => code == 411,
+            Command::ListGroup { group: Some(_), .. } => code == 411,
+            Command::ListGroup { group: None, .. } => code == 412 && !is_selected,
+            Command::Next => match code {
+                412 => !is_selected,
+                420 | 421 => is_selected,
+                _ => false,
+            },
+            Command::Last => match code {
+                412 => !is_selected,
+                420 | 422 => is_selected,
+                _ => false,
+            },
+            Command::Retrieve { which, .. } => match (which, code) {
+                (Which::Id(_), 430) => true,
+                (Which::Number(_) | Which::Current, 412) => !is_selected,
+                (Which::Number(_), 423) => is_selected,
+                (Which::Current, 420) => is_selected,
+                _ => false,
+            },
+            Command::Opaque => code == 381 || code < 300 || 399 < code,
+            Command::ListActive(_) | Command::IllFormed => false,
+        }
+    }
+
+    fn answer_fits(&self, command: &Command<'_>, answer: &Answer<'_>) -> bool {
+        match (command, answer) {
+            (
+                Command::Group(word),
+                Answer::Group {
+                    estimate,
+                    low,
+                    high,
+                    name,
+                },
+            ) => name.as_slice() == *word && self.marks_fit(*estimate, *low, *high, *word),
+            (
+                Command::ListGroup { group, range },
+                Answer::Numbers {
+                    estimate,
+                    low,
+                    high,
+                    name,
+                    block,
+                },
+            ) => match group.or(self.selected) {
+                Some(wanted) => {
+                    name.as_slice() == wanted
+                        && self.marks_fit(*estimate, *low, *high, wanted)
+                        && list_fits(range, block)
+                }
+                None => false,
+            },
+            (Command::Next | Command::Last, Answer::Sent { number, .. }) => {
+                self.selected.is_some() && is_number(*number)
+            }
+            (
+                Command::Retrieve { what, which },
+                Answer::Sent {
+                    number,
+                    id,
+                    block,
+                    ..
+                },
+            ) => self.number_fits(which, *number, id) && head_fits(*what, id, block.as_ref()),
+            (Command::ListActive(wildmat), Answer::Active(block)) => {
+                self.groups_fit(wildmat.as_ref(), block)
+            }
+            _ => false,
+        }
+    }
+
+    fn marks_fit(&self, estimate: u64, low: u64, high: u64, name: &[u8]) -> bool {
+        if estimate == 0 && low == 0 && high == 0 {
+            return true;
+        }
+        let room = high.saturating_add(1).saturating_sub(low);
+        1 <= low
+            && are_marks(low, high)
+            && estimate <= room
+            && !self
+                .lows
+                .iter()
+                .any(|(other, least)| *other == name && low < *least)
+    }
+
+    fn number_fits(&self, which: &Which<'_>, number: u64, id: &MessageId<'_>) -> bool {
+        let is_there = self.selected.is_some() && is_number(number);
+        match which {
+            Which::Id(word) => id.as_slice() == *word && (number == 0 || is_there),
+            Which::Number(wanted) => *wanted == Some(number) && is_there,
+            Which::Current => is_there,
+        }
+    }
+
+    fn groups_fit(&self, wildmat: Option<&Wildmat<'_>>, block: &Block<'_>) -> bool {
+        for (index, line) in block.lines().enumerate() {
+            let Some(active) = active_line(line) else {
+                return false;
+            };
+            let matches = match wildmat {
+                Some(wildmat) => wildmat.matches(&active.name),
+                None => true,
+            };
+            if !matches || !are_marks(active.low, active.high) {
+                return false;
+            }
+            let name = active.name.as_slice();
+            for other in block.lines().take(index) {
+                if active_line(other).is_some_and(|other| other.name.as_slice() == name) {
+                    return false;
+                }
+            }
+        }
+        true
+    }
+}
+
+/// Whether the listed numbers ascend and are numbers of the range.
+fn list_fits(range: &Range, block: &Block<'_>) -> bool {
+    let mut before = 0;
+    for line in block.lines() {
+        let Some(number) = listed_number(line) else {
+            return false;
+        };
+        let last = range.last.unwrap_or(LIMIT);
+        if number <= before || !is_number(number) || number < range.first || last < number {
+            return false;
+        }
+        before = number;
+    }
+    true
+}
+
+/// Whether a head is sent where one is due, and says no other id.
+fn head_fits(what: What, id: &MessageId<'_>, block: Option<&Block<'_>>) -> bool {
+    let head = match (what, block) {
+        (What::Body | What::Stat, _) => return true,
+        (_, None) => return false,
+        (What::Head, Some(block)) => Head::parse(block),
+        (What::Article, Some(block)) => match Parts::split(block) {
+            Some(parts) => Head::parse(&parts.head),
+            None => None,
+        },
+    };
+    match head {
+        Some(head) => match head.message_id() {
+            Some(said) => said.as_slice() == id.as_slice(),
+            None => true,
+        },
+        None => false,
+    }
+}

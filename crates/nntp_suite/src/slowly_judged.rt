@@ -1,0 +1,224 @@
+//! Sessions that the slow judge judges too, answer by answer.
+use crate::random::Random;
+use crate::sessions::{Session, TABLES};
+use crate::slow_judge::{Answered, Judged, exchanges, judge};
+use crate::verdicts::shown;
+use nntp_check::{Class, Verdict, check};
+use std::alloc::{AllocError, Global};
+use std::process::Abort;
+use std::test::Fail;
+
+/// What the slow judge says of a session: how many answers are consistent with all before them, what it
+/// says of the next, if there is one, and the spool's text.
+#[derive(Drop)]
+struct Slow {
+    good: usize,
+    judged: Judged,
+    text: Vec<u8>,
+}
+
+impl Slow {
+    /// Judges one exchange more. `good` is the number of those before it.
+    fn next(
+        alloc: Global,
+        (client, server): (&[u8], &[u8]),
+        exchanges: &[Answered<'_>],
+    ) -> Result<Slow, AllocError> {
+        let (judged, text) = judge(alloc, client, server, exchanges)?;
+        let good = match judged {
+            Judged::Consistent => exchanges.len(),
+            _ => exchanges.len().saturating_sub(1),
+        };
+        Ok(Slow { good, judged, text })
+    }
+
+    /// Judges one exchange after the other.
+    fn all(
+        alloc: Global,
+        streams: (&[u8], &[u8]),
+        exchanges: &[Answered<'_>],
+    ) -> Result<Slow, AllocError> {
+        let mut slow = Slow::next(alloc, streams, &[])?;
+        for count in 1..=exchanges.len() {
+            if slow.judged == Judged::Consistent {
+                let (front, _) = exchanges.split_at(count);
+                slow = Slow::next(alloc, streams, front)?;
+            }
+        }
+        Ok(slow)
+    }
+
+    /// The first line of the report on the session, as far as the slow judge tells it. Octets that are no
+    /// whole answer may follow.
+    fn first_line(&self, alloc: Global, is_whole: bool) -> Result<String, AllocError> {
+        let good = self.good;
+        let judged = self.judged;
+        match judged {
+            Judged::Consistent if is_whole => format!(in alloc; "consistent answers={good} "),
+            Judged::Consistent => format!(in alloc; "bad answer {good} "),
+            _ => format!(in alloc; "bad answer {good} {judged:?}\n"),
+        }
+    }
+
+    /// Compares `check` of two streams, which end behind the last exchange, with it.
+    fn compare(
+        &self,
+        rt: &impl Abort,
+        alloc: Global,
+        name: &str,
+        (client, server): (&[u8], &[u8]),
+    ) -> Result<(), Fail> {
+        let verdict = check(alloc, client, server)?;
+        if let Verdict::Bad {
+            class: Class::Unsupported,
+            ..
+        } = verdict
+        {
+            return Ok(());
+        }
+        let shown = shown(alloc, &verdict)?;
+        let first = self.first_line(alloc, true)?;
+        assert!(rt; shown.starts_with(first.as_bytes()), "{name}: {first}");
+        assert!(rt; shown.ends_with(&self.text), "{name}: {first}, the spool");
+        Ok(())
+    }
+}
+
+/// A report begins with this line.
+fn begins(rt: &impl Abort, name: &str, report: &[u8], first: &str) {
+    assert!(rt; report.starts_with(first.as_bytes()), "{name}: {first}");
+}
+
+/// What the slow judge says of two streams, and the text of the spool that is given for the answers that
+/// are consistent.
+fn judge_streams(
+    alloc: Global,
+    client: &[u8],
+    server: &[u8],
+) -> Result<(Slow, Vec<u8>), AllocError> {
+    let exchanges = exchanges(alloc, client, server)?;
+    let slow = Slow::all(alloc, (client, server), &exchanges)?;
+    let (front, _) = exchanges.split_at(slow.good.min(exchanges.len()));
+    let (_, text) = judge(alloc, client, server, front)?;
+    Ok((slow, text))
+}
+
+/// The verdict on a worked session is that of the slow judge, as is the spool.
+fn judge_worked(rt: &impl Abort, alloc: Global, session: &Session) -> Result<(), Fail> {
+    let name = session.name;
+    let (slow, text) = judge_streams(alloc, session.client.as_bytes(), session.server.as_bytes())?;
+    let first = slow.first_line(alloc, session.is_consistent())?;
+    begins(rt, name, session.verdict.as_bytes(), first.as_str());
+    assert_eq!(rt; text.as_slice(), session.given.0.as_bytes(), "{name}");
+    Ok(())
+}
+
+#[test]
+fn worked_sessions(rt: HostRuntime) -> Result<(), Fail> {
+    for table in TABLES {
+        for session in table {
+            judge_worked(&rt, rt.alloc(), session)?;
+        }
+    }
+    Ok(())
+}
+
+/// Judges each front of a session that ends behind an answer.
+fn judge_fronts(rt: &impl Abort, alloc: Global, session: &Session) -> Result<(), Fail> {
+    let (client, server) = (session.client.as_bytes(), session.server.as_bytes());
+    let exchanges = exchanges(alloc, client, server)?;
+    for count in 0..=exchanges.len() {
+        let (front, _) = exchanges.split_at(count);
+        let end = front.last().map_or(0, |answered| answered.end);
+        let (server, _) = server.split_at(end.min(server.len()));
+        let slow = Slow::all(alloc, (client, server), front)?;
+        slow.compare(rt, alloc, session.name, (client, server))?;
+    }
+    Ok(())
+}
+
+#[test]
+fn fronts_of_worked_sessions(rt: HostRuntime) -> Result<(), Fail> {
+    for table in TABLES {
+        for session in table {
+            judge_fronts(&rt, rt.alloc(), session)?;
+        }
+    }
+    Ok(())
+}
+
+/// How often each was judged.
+#[derive(Clone, Copy)]
+struct Counts {
+    consistent: u64,
+    out_of_place: u64,
+    contradictions: u64,
+}
+
+impl Counts {
+    fn add(&mut self, judged: Judged) {
+        let count = match judged {
+            Judged::Consistent => &mut self.consistent,
+            Judged::OutOfPlace => &mut self.out_of_place,
+            Judged::Contradiction => &mut self.contradictions,
+        };
+        *count = count.saturating_add(1);
+    }
+}
+
+/// What both judges say of the last of so many exchanges, where those before it are consistent.
+fn judge_last(
+    rt: &impl Abort,
+    alloc: Global,
+    streams: (&[u8], &[u8]),
+    count: usize,
+) -> Result<Judged, Fail> {
+    let exchanges = exchanges(alloc, streams.0, streams.1)?;
+    assert_eq!(rt; exchanges.len(), count);
+    let slow = Slow::next(alloc, streams, &exchanges)?;
+    let name = format!(in alloc; "{}", streams.0.escape_ascii())?;
+    slow.compare(rt, alloc, name.as_str(), streams)?;
+    Ok(slow.judged)
+}
+
+/// Goes on with a session: each answer that isn't consistent with those before it is taken back.
+fn wander(
+    rt: &impl Abort,
+    alloc: Global,
+    random: &mut Random,
+    counts: &mut Counts,
+) -> Result<(), Fail> {
+    let mut client = Vec::new(alloc);
+    let mut server = Vec::from_slice(alloc, b"200 hi\r\n")?;
+    let mut count = 2usize;
+    for _ in 0..12 {
+        let (asked, answered) = (client.len(), server.len());
+        random.exchange(&mut client, &mut server)?;
+        let judged = judge_last(rt, alloc, (&client, &server), count)?;
+        counts.add(judged);
+        if judged == Judged::Consistent {
+            count = count.saturating_add(1);
+        } else {
+            client.truncate(asked);
+            server.truncate(answered);
+        }
+    }
+    Ok(())
+}
+
+#[test]
+fn random_sessions(rt: HostRuntime) -> Result<(), Fail> {
+    let mut random = Random::new(20_261_122);
+    let mut counts = Counts {
+        consistent: 0,
+        out_of_place: 0,
+        contradictions: 0,
+    };
+    for _ in 0..300 {
+        wander(&rt, rt.alloc(), &mut random, &mut counts)?;
+    }
+    assert!(rt; counts.consistent > 500, "{}", counts.consistent);
+    assert!(rt; counts.out_of_place > 100, "{}", counts.out_of_place);
+    assert!(rt; counts.contradictions > 100, "{}", counts.contradictions);
+    Ok(())
+}

@@ -1,0 +1,151 @@
+//! The verdicts of `check`, and the reports of its runs.
+use crate::fakes::{Full, reader, writer};
+use crate::sessions::{Session, TABLES, capture};
+use nntp_check::{Class, Verdict, Watched, check, run_check};
+use std::alloc::{AllocError, Allocator, Global};
+use std::process::Abort;
+use std::test::Fail;
+
+/// Writes the first line of the report on a bad answer, and the answer with nothing escaped.
+fn show_bad<A: Allocator>(
+    shown: &mut Vec<u8>,
+    first: &str,
+    command: Option<&Vec<u8, A>>,
+    reply: &[u8],
+) -> Result<(), AllocError> {
+    shown.extend_from_slice(first.as_bytes())?;
+    match command {
+        Some(line) => {
+            shown.extend_from_slice(b"command ")?;
+            shown.extend_from_slice(line)?;
+        }
+        None => shown.extend_from_slice(b"no command")?,
+    }
+    shown.extend_from_slice(b"\nanswer ")?;
+    shown.extend_from_slice(reply)?;
+    shown.extend_from_slice(b"\n")
+}
+
+/// The report on a verdict, with nothing escaped.
+pub(crate) fn shown<A: Allocator>(
+    alloc: Global,
+    verdict: &Verdict<A>,
+) -> Result<Vec<u8>, AllocError> {
+    match verdict {
+        Verdict::Consistent { spool, answers } => {
+            let counts = spool.counts();
+            let first = format!(in alloc;
+                "consistent answers={answers} groups={} numbers={} articles={}\n",
+                counts.groups, counts.numbers, counts.articles
+            )?;
+            let mut output = Watched::new(first.into_bytes());
+            match spool.write(&mut output) {
+                Ok(()) => Ok(output.into_inner()),
+                Err(_) => Err(AllocError),
+            }
+        }
+        Verdict::Bad {
+            answer,
+            class,
+            command,
+            reply,
+        } => {
+            let mut shown = Vec::new(alloc);
+            let first = format!(in alloc; "bad answer {answer} {class}\n")?;
+            show_bad(&mut shown, first.as_str(), command.as_ref(), reply)?;
+            Ok(shown)
+        }
+    }
+}
+
+/// Whether `check` judges the session; commands that it doesn't judge yet are Unsupported.
+pub(crate) fn is_judged(alloc: Global, session: &Session) -> Result<bool, Fail> {
+    let verdict = check(alloc, session.client.as_bytes(), session.server.as_bytes())?;
+    Ok(!matches!(
+        verdict,
+        Verdict::Bad {
+            class: Class::Unsupported,
+            ..
+        }
+    ))
+}
+
+#[test]
+fn verdicts_on_worked_sessions(rt: HostRuntime) -> Result<(), Fail> {
+    for table in TABLES {
+        for session in table {
+            let verdict = check(
+                rt.alloc(),
+                session.client.as_bytes(),
+                session.server.as_bytes(),
+            )?;
+            if is_judged(rt.alloc(), session)? {
+                let name = session.name;
+                let wanted = session.report(rt.alloc())?;
+                assert_eq!(rt;
+                    shown(rt.alloc(), &verdict)?.as_slice(),
+                    wanted.as_bytes(),
+                    "{name}"
+                );
+            }
+        }
+    }
+    Ok(())
+}
+
+/// What a run answers and writes.
+fn run(alloc: Global, capture: &str) -> Result<(bool, Vec<u8>), Fail> {
+    let mut input = reader(capture.as_bytes(), 4096, 0);
+    let mut output = writer(alloc, 10000, 10000, Full::Fails);
+    let answer = run_check(alloc, &mut input, &mut output, 1 << 30)?;
+    Ok((answer, output.into_inner().held))
+}
+
+#[test]
+fn reports_on_worked_sessions(rt: HostRuntime) -> Result<(), Fail> {
+    for table in TABLES {
+        for session in table {
+            if is_judged(rt.alloc(), session)? {
+                let name = session.name;
+                let (answer, written) = run(rt.alloc(), session.capture(rt.alloc())?.as_str())?;
+                let wanted = session.report(rt.alloc())?;
+                assert_eq!(rt; written.as_slice(), wanted.as_bytes(), "{name}");
+                assert_eq!(rt; answer, session.is_consistent(), "{name}");
+            }
+        }
+    }
+    Ok(())
+}
+
+#[test]
+fn octets_that_are_not_printed(rt: HostRuntime) -> Result<(), Fail> {
+    let capture = capture(rt.alloc(), "GROUP \\\t\x01\r\n", "200 hi\r\n2\u{e9}\r\n")?;
+    let (answer, written) = run(rt.alloc(), capture.as_str())?;
+    let wanted = b"bad answer 1 Malformed\ncommand GROUP \\\\\\x09\\x01\nanswer 2\\xc3\\xa9\n";
+    assert_eq!(rt; written.as_slice(), wanted.as_slice());
+    assert!(rt; !answer);
+    Ok(())
+}
+
+#[test]
+fn verdicts_show_at_most_512_octets(rt: HostRuntime) -> Result<(), Fail> {
+    let mut client = [b'x'; 602];
+    client[600] = b'\r';
+    client[601] = b'\n';
+    let mut server = [b'y'; 608];
+    server[..8].copy_from_slice(b"200 hi\r\n");
+    let verdict = check(rt.alloc(), &client, &server)?;
+    match &verdict {
+        Verdict::Bad {
+            answer: 1,
+            command: Some(command),
+            reply,
+            ..
+        } => {
+            assert_eq!(rt; command.as_slice(), &client[..512]);
+            assert_eq!(rt; reply.as_slice(), &server[8..520]);
+        }
+        _ => assert!(rt; false, "nothing answers the line"),
+    }
+    Ok(())
+}
