@@ -12,7 +12,7 @@ use Rattle.nntp_wire.specs.Name.{IsGroupName}
 use Rattle.nntp_wire.specs.Wildmat.{MatchesName}
 use Rattle.nntp_wire.specs.Listing.{ActiveValue}
 use Rattle.nntp_wire.proofs.DecidedLemmas.{group_name-iff}
-use Rattle.nntp_article.specs.Spool.{Spool, Name, IsGroup, IsNumber, IsSpool, numbers}
+use Rattle.nntp_article.specs.Spool.{Spool, Name, IsGroup, IsNumber, numbers}
 use Rattle.nntp_article.specs.Machine.{is_same, names_differ, ActivesAgree}
 use Rattle.nntp_spool.specs.ListedGroups.{LineAgrees, is_asked}
 use Rattle.nntp_spool.proofs.MatchingGroups.{as_many, each_listed}

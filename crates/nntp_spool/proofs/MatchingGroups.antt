@@ -1,21 +1,17 @@
 -- The groups that match, and as many names that are listed.
 use Rattle.std.proofs.Common.{◌≡◌, ℕ, Bool, true, false, cond, not, None, is_some, List, [], ◌∷◌, map, length, refl, sym, ap, subst, ◌∙◌, arith}
-use Rattle.std.specs.Prelude.{◌&&◌, ◌||◌}
-use Rattle.std.specs.Borrow.{Bor}
-use Rattle.std.specs.declared.cmp.Ordering.{Ordering}
+use Rattle.std.specs.Prelude.{◌||◌}
 use Rattle.std.specs.declared.cmp.Ordering.TheVariants.{Less}
-use Rattle.std.specs.Ordering.{nat_cmp, is_lt, is_eq, eq_by_cmp}
+use Rattle.std.specs.Ordering.{nat_cmp, is_lt, eq_by_cmp}
 use Rattle.std.specs.Cmp.{eq_by_cmp_equiv}
 use Rattle.std.specs.Cmp.Lexicographic.{slice_cmp, nat_list_cmp_total}
 use Rattle.std.specs.List.{list_all, list_any, count_by, filter, AllByRecursion, IsDistinct}
 use Rattle.std.specs.List.Sorted.{IsStrictlySortedBy}
 use Rattle.std.specs.Map.{keys_of}
 use Rattle.std.specs.Set.{is_member}
-use Rattle.std.specs.BTreeSet.{insert_key}
 use Rattle.std.specs.FinMap.{FinMap, get, entries, find, is_sorted, entries_sorted, get-entries}
 use Rattle.std.specs.FinMap.Entries.{below_all, is_some-find, find-where_key}
 use Rattle.std.proofs.lemmas.Bool.{true≢false, and_parts}
-use Rattle.std.proofs.lemmas.Cmp.{nat_list_eq_equiv}
 use Rattle.std.proofs.lemmas.List.{length-map}
 use Rattle.std.proofs.lemmas.List.Sums.{length-filter}
 use Rattle.std.proofs.lemmas.Map.Entries.{length-keys_of}
@@ -25,7 +21,6 @@ use Rattle.std.proofs.lemmas.Map.Text.{is_eq-slice_cmp}
 use Rattle.nntp_wire.specs.Listing.{ActiveValue}
 use Rattle.nntp_article.specs.Spool.{Name}
 use Rattle.nntp_article.specs.Machine.{is_same, names_differ}
-use Rattle.nntp_spool.proofs.SetKeys.{any-insert_key}
 use Rattle.nntp_spool.proofs.MapEntries.{less_is, equal_is, is_passed}
 use Rattle.nntp_spool.proofs.ItemsOfText.{octet_keys}
 

@@ -1,7 +1,6 @@
 -- What a builder's calls do to its content: the first fault, or the content with what was handed in.
 use Rattle.std.specs.Prelude.{◌≡◌, ℕ, Bool, true, false, not, ◌&&◌, if◌then◌else◌, Option, None, Some, is_some, is_none, Result, Ok, Err, refl}
 use Rattle.std.specs.List.{list_all}
-use Rattle.std.specs.Bool.{OnTrue, OnFalse}
 use Rattle.std.specs.Coded.{Coded, code_by, coded×, coded_bool}
 use Rattle.std.specs.FinMap.{get}
 use Rattle.nntp_wire.specs.Decided.{is_group_name, is_message_id}
