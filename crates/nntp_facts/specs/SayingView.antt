@@ -25,17 +25,3 @@ facts_said here (say.Text what id block) = TextIs what id.now block.now ∷ []
 facts_said here (say.Placed what id block None number) = TextIs what id.now block.now ∷ IdAt here number id.now ∷ []
 facts_said here (say.Placed what id block (Some ask) number) = TextIs what id.now block.now ∷ Asks here (ask_of ask) ∷ IdAt here number id.now ∷ []
 facts_said here (say.Groups wildmat block) = GroupsAre wildmat.now (active_groups block.now) ∷ []
-
--- the selected group, if there is one, is shown
-abbrev pub IsSelectedShown : Visible → List Fact → Type 0
-IsSelectedShown v facts = IfSome v.selected (λ name. is_shown_group facts name ≡ true)
-
--- an answer that fits says it behind these facts: the selected group is shown where it speaks of it, listed numbers ascend in their range, a head is one, and no group is listed twice
-abbrev pub MaySay : {A : Type 0} → List Fact → Name → Saying A → Type 0
-MaySay facts here (say.Asks ask) = is_shown_group facts here ≡ true
-MaySay facts here (say.Numbers estimate low high name range numbers) = AreListable range numbers.items
-MaySay facts here (say.Step ask number id) = is_shown_group facts here ≡ true
-MaySay facts here (say.Text what id block) = IsTrue (head_fits what id.now block.now)
-MaySay facts here (say.Placed what id block ask number) = (is_shown_group facts here ≡ true) × IsTrue (head_fits what id.now block.now)
-MaySay facts here (say.Groups wildmat block) = names_differ (active_groups block.now) ≡ true
-MaySay facts here saying = ⊤

@@ -146,7 +146,8 @@ impl<A: Allocator + Copy> Groups<A> {
     fn put(&mut self, name: &[u8], group: Group<A>) -> Result<(), AllocError>
         ensures { OnOk result (self.new ≡ map.insert self.old name.now group) }
     {
-        self.groups.insert(Vec::from_slice(self.alloc, name)?, group)?;
+        self.groups
+            .insert(Vec::from_slice(self.alloc, name)?, group)?;
         Ok(())
     }
 
@@ -162,8 +163,12 @@ impl<A: Allocator + Copy> Groups<A> {
         match self.get(name) {
             Some(group) => Ok(group.joins_listing(listing)),
             None => {
-                let group =
-                    Group::of_marks(self.alloc, listing.estimate, listing.low, listing.high)?;
+                let group = Group::of_marks(
+                    self.alloc,
+                    listing.estimate,
+                    listing.low,
+                    listing.high,
+                )?;
                 Ok(group.joins_listing(listing))
             }
         }

@@ -56,11 +56,7 @@ impl<A: Allocator + Copy> Names<A> {
     }
 
     /// Adds that the groups that match, or all of them, were listed.
-    pub(crate) fn list(
-        &mut self,
-        alloc: A,
-        wildmat: &Option<Wildmat<'_>>,
-    ) -> Result<(), AllocError>
+    pub(crate) fn list(&mut self, alloc: A, wildmat: &Option<Wildmat<'_>>) -> Result<(), AllocError>
         ensures { OnOk result ((facts : List Fact) (lines : List ActiveValue) → AreKeptNames facts self.old → AreKeptNames (facts ++ GroupsAre wildmat.now lines ∷ []) self.new) }
     {
         match wildmat {

@@ -9,7 +9,7 @@ ghost use Rattle.nntp_article.specs.declared.profile.Profile.{Profile};
 ghost use Rattle.nntp_article.specs.Machine.{Visible, fits, code_fits};
 ghost use Rattle.nntp_facts.specs.Facts.{Fact, here, facts_of, facts_of_code};
 ghost use Rattle.nntp_facts.specs.AskView.{position_of};
-ghost use Rattle.nntp_facts.specs.SayingView.{facts_said, IsSelectedShown, MaySay};
+ghost use Rattle.nntp_facts.specs.SayingView.{facts_said};
 
 use crate::ask::{Ask, Position};
 use nntp_wire::{Answer, Block, Command, GroupName, Prompt, Range, What, Which, Wildmat};
@@ -76,9 +76,7 @@ impl<'s, A: Allocator + Copy> Saying<'s, A> {
         prompt: &'s Prompt<'s>,
         answer: &'s Answer<'s>,
     ) -> Result<Saying<'s, A>, AllocError>
-        ensures facts { IfOk result (λ saying. (v : Visible) → facts_said (here v) saying ≡ facts_of v (position_of at) (asked prompt.now) (response answer.now)) }
-        ensures fitting { IfOk result (λ saying. (profile : Profile) (v : Visible) (facts : List Fact) → IsTrue (fits profile v (asked prompt.now) (response answer.now))
-            → IsSelectedShown v facts → MaySay facts (here v) saying) }
+        ensures { IfOk result (λ saying. (v : Visible) → facts_said (here v) saying ≡ facts_of v (position_of at) (asked prompt.now) (response answer.now)) }
     {
         match prompt {
             Prompt::Greeting => Ok(Saying::Nothing),
@@ -93,9 +91,7 @@ impl<'s, A: Allocator + Copy> Saying<'s, A> {
         command: &'s Command<'s>,
         answer: &'s Answer<'s>,
     ) -> Result<Saying<'s, A>, AllocError>
-        ensures facts { IfOk result (λ saying. (v : Visible) → facts_said (here v) saying ≡ facts_of v (position_of at) (to (request command.now)) (response answer.now)) }
-        ensures fitting { IfOk result (λ saying. (profile : Profile) (v : Visible) (facts : List Fact) → IsTrue (fits profile v (to (request command.now)) (response answer.now))
-            → IsSelectedShown v facts → MaySay facts (here v) saying) }
+        ensures { IfOk result (λ saying. (v : Visible) → facts_said (here v) saying ≡ facts_of v (position_of at) (to (request command.now)) (response answer.now)) }
     {
         match (command, answer) {
             (_, Answer::Plain { code }) => Ok(Saying::by_code(at, command, *code)),
@@ -146,27 +142,25 @@ impl<'s, A: Allocator + Copy> Saying<'s, A> {
                     which: Which::Id(_),
                 },
                 Answer::Sent {
-                    number, id, block, ..
+                    number,
+                    id,
+                    block,
+                    ..
                 },
-            ) if *number == 0 => Ok(Saying::Text {
-                what: *what,
-                id: id.as_slice(),
-                block,
-            }),
-            (
-                Command::Retrieve {
-                    what,
-                    which: Which::Id(_),
-                },
-                Answer::Sent {
-                    number, id, block, ..
-                },
-            ) => Ok(Saying::Placed {
-                what: *what,
-                id: id.as_slice(),
-                block,
-                ask: None,
-                number: *number,
+            ) => Ok(if *number == 0 {
+                Saying::Text {
+                    what: *what,
+                    id: id.as_slice(),
+                    block,
+                }
+            } else {
+                Saying::Placed {
+                    what: *what,
+                    id: id.as_slice(),
+                    block,
+                    ask: None,
+                    number: *number,
+                }
             }),
             (
                 Command::Retrieve {
@@ -174,7 +168,10 @@ impl<'s, A: Allocator + Copy> Saying<'s, A> {
                     which: Which::Number(_),
                 },
                 Answer::Sent {
-                    number, id, block, ..
+                    number,
+                    id,
+                    block,
+                    ..
                 },
             ) => Ok(Saying::Placed {
                 what: *what,
@@ -189,7 +186,10 @@ impl<'s, A: Allocator + Copy> Saying<'s, A> {
                     which: Which::Current,
                 },
                 Answer::Sent {
-                    number, id, block, ..
+                    number,
+                    id,
+                    block,
+                    ..
                 },
             ) => Ok(Saying::Placed {
                 what: *what,
@@ -208,14 +208,14 @@ impl<'s, A: Allocator + Copy> Saying<'s, A> {
 
     /// What a code alone says.
     fn by_code(at: Position, command: &'s Command<'s>, code: u64) -> Saying<'s, A>
-        ensures facts { (v : Visible) → facts_said (here v) result ≡ facts_of_code v (position_of at) (request command.now) code }
-        ensures fitting { (profile : Profile) (v : Visible) (facts : List Fact) → IsTrue (fits profile v (to (request command.now)) (plain code)) → IsSelectedShown v facts → MaySay facts (here v) result }
+        ensures { (v : Visible) → facts_said (here v) result ≡ facts_of_code v (position_of at) (request command.now) code }
     {
         match (command, code) {
             (Command::Group(word), 411) => Saying::NoGroup(*word),
             (
                 Command::ListGroup {
-                    group: Some(word), ..
+                    group: Some(word),
+                    ..
                 },
                 411,
             ) => Saying::NoGroup(*word),
@@ -229,9 +229,7 @@ impl<'s, A: Allocator + Copy> Saying<'s, A> {
 
     /// What a failure of ARTICLE, HEAD, BODY or STAT says.
     fn by_failure(at: Position, which: &'s Which<'s>, code: u64) -> Saying<'s, A>
-        ensures facts { (v : Visible) (what : What) → facts_said (here v) result ≡ facts_of_code v (position_of at) (retrieve what (target which.now)) code }
-        ensures fitting { (profile : Profile) (v : Visible) (facts : List Fact) (what : What) → IsTrue (fits profile v (to (retrieve what (target which.now))) (plain code))
-            → IsSelectedShown v facts → MaySay facts (here v) result }
+        ensures { (v : Visible) (what : What) → facts_said (here v) result ≡ facts_of_code v (position_of at) (retrieve what (target which.now)) code }
     {
         match (which, code) {
             (Which::Id(word), 430) => Saying::NoArticle(*word),
