@@ -1,18 +1,18 @@
 -- More facts behind those that stand together.
-use Rattle.std.proofs.Common.{◌≡◌, ℕ, ◌<◌, ◌^◌, ◌↔◌, Bool, true, false, ◌||◌, ◌&&◌, ◌==◌, not, IsTrue, List, [], ◌∷◌, ◌++◌, Option, None, Some, refl, sym, subst, ◌∙◌}
-use Rattle.std.specs.Prelude.{IsFalse, if◌then◌else◌}
+use Rattle.std.proofs.Common.{◌≡◌, ℕ, ◌<◌, ◌^◌, ◌↔◌, Bool, true, false, ◌||◌, ◌==◌, not, IsTrue, List, [], ◌∷◌, ◌++◌, Option, Some, refl, sym, subst, ◌∙◌}
+use Rattle.std.specs.Prelude.{if◌then◌else◌}
 use Rattle.std.specs.List.{AllByRecursion, list_any}
 use Rattle.std.specs.Option.{option_map_or}
 use Rattle.std.proofs.lemmas.Bool.{true≢false, and_parts, false_from_ne_true, not-true}
 use Rattle.std.proofs.lemmas.Grind.{flat_map-append}
 use Rattle.nntp_article.specs.Article.{Id}
-use Rattle.nntp_article.specs.Spool.{Spool, IsSpool, Name}
+use Rattle.nntp_article.specs.Spool.{Name}
 use Rattle.nntp_article.specs.declared.profile.Profile.{Profile}
 use Rattle.nntp_article.specs.Machine.{Visible, start, fits, is_same}
 use Rattle.nntp_facts.specs.Asks.{Ask, Position, Nowhere, Estimates, ListsIn, StandsAt, StandsNowhere, StepsUp, StepsDown, IsTop, IsBottom, Lacks}
-use Rattle.nntp_facts.specs.Facts.{Fact, Holds, ThereIs, ThereIsNo, Asks, IdAt, TextIs, NoArticle, GroupsAre, on, here, facts_of_code, facts_of, FitsAll}
-use Rattle.nntp_facts.specs.Given.{asks_in, asks_of, shows_group, is_shown_group, first_given, id_in, head_in, body_in, facts_of_session, size}
-use Rattle.nntp_facts.specs.Together.{IsWellFormed, AsksStand, denies_group, number_in, shows_article, denies_article, GiveOne, Together, AgreeWithin, Join}
+use Rattle.nntp_facts.specs.Facts.{Fact, Holds, ThereIs, ThereIsNo, Asks, IdAt, TextIs, NoArticle, GroupsAre, here, facts_of_code, facts_of, FitsAll}
+use Rattle.nntp_facts.specs.Given.{asks_in, asks_of, shows_group, id_in, head_in, body_in, facts_of_session, size}
+use Rattle.nntp_facts.specs.Together.{IsWellFormed, AsksStand, denies_group, number_in, shows_article, denies_article, Together, AgreeWithin, Join}
 use Rattle.nntp_facts.specs.Classes.{visible_from, position_from, asked_next}
 use Rattle.nntp_facts.specs.Permits.{SomePermits}
 use Rattle.nntp_facts.proofs.Members.{all_both, all_back}
@@ -24,8 +24,8 @@ use Rattle.nntp_facts.proofs.Grow.{facts_grow, fitting_grows}
 use Rattle.nntp_wire.specs.Listing.{ActiveValue}
 use Rattle.nntp_wire.specs.Decided.{matches_name}
 use Rattle.nntp_wire.specs.Listing.{listed_numbers, active_groups}
-use Rattle.nntp_wire.specs.Answer.{Asked, Response, to, greeting, group_is, numbers_are, sends, active_are, plain}
-use Rattle.nntp_wire.specs.Command.{Request, Target, by_id, by_number, current, capabilities, mode_reader, next, last, quit, opaque, ill_formed, group, list_group, retrieve, list_active}
+use Rattle.nntp_wire.specs.Answer.{Asked, Response, to, group_is, numbers_are, sends, active_are, plain}
+use Rattle.nntp_wire.specs.Command.{Request, by_id, by_number, current, next, last, group, list_group, retrieve, list_active}
 use Rattle.nntp_wire.specs.declared.command.What.{What}
 
 -- what both ask of a group

@@ -1,5 +1,5 @@
 -- What is kept of groups, once more is told of one.
-use Rattle.std.proofs.Common.{◌≡◌, ℕ, Bool, true, false, ◌==◌, cond, IsTrue, List, [], ◌∷◌, ◌++◌, Option, None, Some, is_some, MatchOption, refl, sym, ap, subst, ◌∙◌}
+use Rattle.std.proofs.Common.{◌≡◌, ℕ, Bool, true, false, ◌==◌, cond, List, ◌++◌, Option, None, Some, is_some, MatchOption, refl, sym, ap, subst, ◌∙◌}
 use Rattle.std.specs.Option.{option_or}
 use Rattle.std.specs.FinMap.{FinMap, get, insert, empty, get-insert, get-empty}
 use Rattle.std.specs.Ordering.{nat_cmp, eq_by_cmp}
@@ -11,7 +11,7 @@ use Rattle.nntp_article.specs.Article.{Id}
 use Rattle.nntp_article.specs.Spool.{Name}
 use Rattle.nntp_article.specs.Machine.{is_same}
 use Rattle.nntp_facts.specs.Asks.{Ask}
-use Rattle.nntp_facts.specs.Summary.{Summary, IsSummary}
+use Rattle.nntp_facts.specs.Summary.{IsSummary}
 use Rattle.nntp_facts.specs.Kept.{KeptGroup, Told, IsKeptGroup, IsUntold, AreKept, with_asks, with_id, Changes}
 use Rattle.nntp_facts.proofs.OneGroup.{IsOr, flip_number, flip_text}
 use Rattle.nntp_facts.proofs.Silent.{kept_at}

@@ -1,21 +1,21 @@
 -- What a list of groups has to join.
-use Rattle.std.proofs.Common.{◌≡◌, ℕ, Bool, true, false, ◌||◌, ◌&&◌, cond, not, IsTrue, List, [], ◌∷◌, ◌++◌, Option, None, Some, inl, inr, refl, sym, ap, subst, ◌∙◌, append-nil}
+use Rattle.std.proofs.Common.{◌≡◌, ℕ, Bool, true, false, ◌||◌, cond, not, List, [], ◌∷◌, ◌++◌, Option, inl, inr, refl, sym, ap, subst, ◌∙◌, append-nil}
 use Rattle.std.specs.Prelude.{◌↔◌, IsFalse}
 use Rattle.std.specs.List.{AllByRecursion, list_any, list_all, flat_map}
 use Rattle.std.specs.Option.{option_map_or}
-use Rattle.std.proofs.lemmas.Bool.{true≢false, and_parts, and_from, or_left, or_right, or_cases, false_from_ne_true, not-true}
-use Rattle.std.specs.Cmp.Lexicographic.{same_text, nat_list_eq_equiv}
+use Rattle.std.proofs.lemmas.Bool.{true≢false, and_parts, and_from, or_left, false_from_ne_true, not-true}
+use Rattle.std.specs.Cmp.Lexicographic.{same_text}
 use Rattle.nntp_wire.specs.Listing.{ActiveValue}
 use Rattle.nntp_wire.specs.Decided.{matches_name}
 use Rattle.nntp_article.specs.Spool.{Name}
 use Rattle.nntp_article.specs.Machine.{is_same, names_differ}
 use Rattle.nntp_facts.specs.Asks.{Ask, Bounds}
 use Rattle.nntp_facts.specs.Facts.{Fact, GroupsAre}
-use Rattle.nntp_facts.specs.Given.{asks_of, shows_group, is_shown_group}
+use Rattle.nntp_facts.specs.Given.{asks_of, is_shown_group}
 use Rattle.nntp_facts.specs.Together.{IsWellFormed, AsksStand, denies_group, Together, Join}
 use Rattle.nntp_facts.specs.ListedGroups.{is_listed, LineJoins, NoneIsMissing}
 use Rattle.nntp_facts.proofs.Members.{In, all_at, all_from, any_in, found_in}
-use Rattle.nntp_facts.proofs.Silent.{GiveNoIds, ids_join, SayNoArticles, articles_join}
+use Rattle.nntp_facts.proofs.Silent.{ids_join, articles_join}
 use Rattle.nntp_facts.proofs.OneGroup.{same_self}
 
 -- the bounds that the lines report for a group

@@ -2,8 +2,8 @@
 use Rattle.std.proofs.Common.{◌≡◌, ℕ, Bool, true, false, ◌||◌, ◌&&◌, not, IsTrue, List, [], ◌∷◌, ◌++◌, map, Option, None, Some, refl, sym, ap, ◌∙◌}
 use Rattle.std.specs.declared.cmp.Ordering.{Ordering}
 use Rattle.std.specs.declared.cmp.Ordering.TheVariants.{Less, Equal, Greater}
-use Rattle.std.specs.Ordering.{nat_cmp, match_ordering, is_eq, eq_by_cmp}
-use Rattle.std.specs.Cmp.Lexicographic.{slice_cmp, same_text, texts_ties}
+use Rattle.std.specs.Ordering.{nat_cmp, match_ordering, is_eq}
+use Rattle.std.specs.Cmp.Lexicographic.{slice_cmp, same_text}
 use Rattle.std.specs.List.{AllByRecursion, list_any}
 use Rattle.std.specs.Option.{option_map_or}
 use Rattle.std.specs.BTreeSet.{insert_key}
@@ -17,7 +17,7 @@ use Rattle.nntp_article.specs.Machine.{is_same}
 use Rattle.nntp_facts.specs.Facts.{Fact, ThereIsNo, GroupsAre}
 use Rattle.nntp_facts.specs.Given.{shows_group, is_shown_group}
 use Rattle.nntp_facts.specs.Together.{denies_group}
-use Rattle.nntp_facts.specs.Kept.{KeptNames, is_denied_name, AreKeptNames}
+use Rattle.nntp_facts.specs.Kept.{KeptNames, AreKeptNames}
 use Rattle.nntp_facts.proofs.OneGroup.{flip_text}
 
 -- ---- keys of a set

@@ -1,14 +1,10 @@
 -- What the values of src/saying.rt say of the spool, and what is known of them where the answer fits.
-use Rattle.std.specs.Prelude.{◌≡◌, true, IsTrue, List, [], ◌∷◌, Option, None, Some, IfSome, ⊤}
-use Rattle.nntp_wire.specs.declared.water_marks.WaterMarks.{WaterMarks}
+use Rattle.std.specs.Prelude.{List, [], ◌∷◌, None, Some}
 use Rattle.nntp_article.specs.Spool.{Name}
 use Rattle.nntp_wire.specs.Listing.{active_groups}
-use Rattle.nntp_article.specs.Machine.{Visible, head_fits, names_differ}
 use Rattle.nntp_facts.specs.Asks.{Estimates, ListsIn}
 use Rattle.nntp_facts.specs.Facts.{Fact, ThereIs, ThereIsNo, Asks, IdAt, TextIs, NoArticle, GroupsAre}
-use Rattle.nntp_facts.specs.Given.{is_shown_group}
 use Rattle.nntp_facts.specs.AskView.{ask_of}
-use Rattle.nntp_facts.specs.Listing.{AreListable}
 use Rattle.nntp_facts.specs.declared.saying.Saying.{Saying}
 use Rattle.nntp_facts.specs.declared.saying.Saying.TheVariants as say
 

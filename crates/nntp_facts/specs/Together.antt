@@ -1,5 +1,5 @@
 -- What is said stands together: conditions on single groups, ids and names, under which the spool that is given permits it.
-use Rattle.std.specs.Prelude.{◌≡◌, ℕ, ◌<◌, ◌≤◌, Bool, true, false, not, ◌&&◌, ◌==◌, nat_lt, if◌then◌else◌, IsTrue, IsFalse, List, [], ◌∷◌, ◌++◌, Option, None, Some, IfSome, ⊤}
+use Rattle.std.specs.Prelude.{◌≡◌, ℕ, ◌<◌, ◌≤◌, Bool, true, false, not, ◌&&◌, ◌==◌, nat_lt, if◌then◌else◌, IsTrue, IsFalse, List, ◌++◌, Option, None, Some, IfSome, ⊤}
 use Rattle.std.specs.List.{AllByRecursion, list_any, list_all}
 use Rattle.std.specs.Option.{option_map_or}
 use Rattle.std.specs.FinMap.{len}
@@ -10,7 +10,7 @@ use Rattle.nntp_article.specs.Spool.{Name, Numbers, is_line}
 use Rattle.nntp_article.specs.Machine.{is_in_range, is_same}
 use Rattle.nntp_facts.specs.Asks.{Nowhere, Ask, Known, Estimates, ListsIn, StandsAt, StandsNowhere, StepsUp, StepsDown, IsTop, IsBottom}
 use Rattle.nntp_facts.specs.Facts.{Fact, ThereIs, ThereIsNo, IdAt, TextIs, NoArticle, GroupsAre}
-use Rattle.nntp_facts.specs.Given.{Demand, NoDemand, NotEmpty, OnlyOne, SecondIs, Impossible, demand, is_denied, IsGivenNumber, HasGivenNumbers, asks_of, shows_group, is_shown_group, first_given, id_in, head_in, body_in}
+use Rattle.nntp_facts.specs.Given.{Demand, NoDemand, NotEmpty, OnlyOne, SecondIs, Impossible, demand, is_denied, IsGivenNumber, HasGivenNumbers, asks_of, is_shown_group, first_given, id_in, head_in, body_in}
 
 -- ---- the numbers of one group
 

@@ -1,4 +1,4 @@
-use Rattle.std.proofs.Common.{[], ◌∷◌, sym, subst, ap, ◌∙◌}
+use Rattle.std.proofs.Common.{[], ◌∷◌, sym, subst, ◌∙◌}
 use Rattle.nntp_facts.specs.Asks.{Estimates, ListsIn}
 use Rattle.nntp_facts.specs.Kept.{AreKept}
 use Rattle.nntp_facts.specs.ListingView.{asks_listed, marks_of}

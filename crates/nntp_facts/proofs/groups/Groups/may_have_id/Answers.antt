@@ -1,5 +1,5 @@
 use Rattle.std.proofs.Common.{◌≡◌, ℕ, List, Option, IsTrue, sym, subst}
-use Rattle.std.specs.Prelude.{◌↔◌, Some, None, IfSome}
+use Rattle.std.specs.Prelude.{◌↔◌, Some, IfSome}
 use Rattle.std.specs.FinMap.{get}
 use Rattle.nntp_facts.proofs.KeptGroups.{kept_of, not_missing}
 use Rattle.nntp_facts.proofs.groups.Groups.may_have_id.Goals as goal

@@ -1,7 +1,6 @@
-use Rattle.std.proofs.Common.{◌≡◌, ◌++◌, ◌∷◌, [], sym, refl, ap, subst, ◌∙◌}
+use Rattle.std.proofs.Common.{◌≡◌, sym, refl, subst, ◌∙◌}
 use Rattle.std.specs.Prelude.{IsTrue, Some}
 use Rattle.nntp_wire.specs.Wildmat.{is_wildmat}
-use Rattle.nntp_facts.specs.Facts.{GroupsAre}
 use Rattle.nntp_facts.specs.Kept.{AreKeptNames}
 use Rattle.nntp_facts.proofs.NamesKept.{wildmat_listed}
 use Rattle.nntp_facts.proofs.names.Names.list.Goals as goal
