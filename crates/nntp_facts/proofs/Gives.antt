@@ -84,11 +84,6 @@ one_gives_one {A} f fact = by (f fact)
     by None = tt
     by (Some x) = refl
 
--- what a fact of a list gives, where the list gives one
-given_of : {A : Type 0} (f : Fact → Option A) (more : List Fact) (o : Option A) (x : A) → o ≡ Some x → IfSome o (λ x. first_given f more ≡ Some x) → first_given f more ≡ Some x
-given_of f more None x e h = cc
-given_of f more (Some y) x e h = h ∙ (let q : Some y ≡ Some x = e in q)
-
 -- two lists that each give one thing, and the same, give one thing
 pub give_one_both : {A : Type 0} (f : Fact → Option A) (facts more : List Fact) → GiveOne f facts → GiveOne f more → GiveSame f facts more → GiveOne f (facts ++ more)
 give_one_both {A} f facts more one within same =
