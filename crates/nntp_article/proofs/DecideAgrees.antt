@@ -11,24 +11,22 @@ use Rattle.std.proofs.lemmas.Map.Lookups.{exact_unsigned, exact_bytes, CmpEqualI
 use Rattle.std.proofs.lemmas.List.Elements.{recursion_from_All, All-from_recursion}
 use Rattle.std.specs.declared.cmp.Ordering.{Ordering}
 use Rattle.std.specs.Cmp.Lexicographic.{nat_list_cmp_total}
-use Rattle.nntp_article.specs.Spool.{Spool, Numbers, IsNumber, numbers, IsNextAbove, IsNextBelow, NoneAbove, NoneBelow, Lists, IsInRange, text_of, Profile}
-use Rattle.nntp_article.specs.Machine.{State, selected_numbers, Bound, CodeAgrees, NumberAgrees, Agrees, ActivesAgree, MayAnswer, Run, fits, after}
-use Rattle.nntp_article.proofs.Decide.{Dec, dec_true, dec_le, dec_both, dec_three, dec_if, dec_by, dec_none, dec_some_text, each_key, dec_some, dec_option, dec_lists, dec_unless, dec_to, passes, fails, dec_all}
-use Rattle.nntp_wire.specs.Answer.{WaterMarks, Success, Asked, Response, to, group_is, numbers_are, sends, active_are, plain}
+use Rattle.nntp_article.specs.Spool.{Spool, Numbers, IsNumber, numbers, IsNextAbove, IsNextBelow, NoneAbove, NoneBelow, Lists, IsInRange, text_of}
+use Rattle.nntp_article.specs.declared.profile.Profile.{Profile}
+use Rattle.nntp_article.specs.Machine.{State, selected_numbers, Bound, Row, is_opaque, is_greeting, is_generic, CodeAgrees, NumberAgrees, Agrees, ActivesAgree, MayAnswer, Run, fits, after}
+use Rattle.nntp_article.proofs.Decide.{Dec, dec_true, dec_le, dec_both, dec_three, dec_or, dec_by, dec_none, dec_some_text, each_key, dec_some, dec_option, dec_lists, dec_unless, dec_to, passes, fails, dec_all}
+use Rattle.nntp_wire.specs.Answer.{Success, Asked, Response, success_code, greeting, to, group_is, numbers_are, sends, active_are, plain}
+use Rattle.nntp_wire.specs.declared.water_marks.WaterMarks.{WaterMarks}
 use Rattle.nntp_wire.specs.declared.range.Range.{Range}
-use Rattle.nntp_wire.specs.Listing.{ActiveValue}
+use Rattle.nntp_wire.specs.Listing.{ActiveValue, listed_numbers, active_groups}
 use Rattle.nntp_wire.specs.Wildmat.{MatchesName}
 use Rattle.nntp_wire.specs.Decided.{matches_name}
-use Rattle.nntp_article.specs.Listed.{listed_numbers, active_groups}
 use Rattle.nntp_wire.proofs.DecidedLemmas.{matches_name-iff}
-use Rattle.nntp_wire.specs.Command.{Target, Request, by_id, by_number, current, group, list_group, next, last, retrieve, list_active}
+use Rattle.nntp_wire.specs.Command.{Target, Request, by_id, by_number, current, capabilities, mode_reader, quit, opaque, ill_formed, group, list_group, next, last, retrieve, list_active}
+use Rattle.nntp_wire.proofs.OptionLemmas.{none_of}
 
 each_number : (N : Numbers) (p : ℕ → Bool) → Dec ((n : ℕ) → IsNumber N n → IsTrue (p n))
 each_number N p = each_key nat_cmp_total nat_cmp-IsAntisymmetric p N
-
-none_of : {A : Type 0} (o : Option A) → (IsSome o → ⊥) → o ≡ None
-none_of None h = refl
-none_of (Some x) h = absurd (h refl)
 
 not_some : {A : Type 0} (o : Option A) → o ≡ None → IsSome o → ⊥
 not_some o e h = true≢false (sym h ∙ ap is_some e)
@@ -141,28 +139,47 @@ dec_number S s (by_id word) sent = dec_unless (sent.number == 0) (dec_some_text 
 dec_number S s (by_number n) sent = dec_some_text (get (selected_numbers S s.visible) sent.number) sent.id
 dec_number S s current sent = dec_both (dec_current s.current sent.number) (dec_some_text (get (selected_numbers S s.visible) sent.number) sent.id)
 
-pub dec_code : (S : Spool) (s : State) (command : Request) (code : ℕ) → Dec (CodeAgrees S s command code)
-dec_code S s (group word) code = dec_if (code == 411) (dec_none (get S.groups word))
-dec_code S s (list_group None range) code = inl tt
-dec_code S s (list_group (Some word) range) code = dec_if (code == 411) (dec_none (get S.groups word))
-dec_code S s next code = dec_both (dec_if (code == 420) (dec_none s.current)) (dec_if (code == 421) (dec_match s.current _ (dec_none_above (selected_numbers S s.visible))))
-dec_code S s last code = dec_both (dec_if (code == 420) (dec_none s.current)) (dec_if (code == 422) (dec_match s.current _ (dec_none_below (selected_numbers S s.visible))))
-dec_code S s (retrieve what (by_id word)) code = dec_if (code == 430) (dec_none (get S.articles word))
-dec_code S s (retrieve what (by_number None)) code = dec_if (code == 423) (inl tt)
-dec_code S s (retrieve what (by_number (Some n))) code = dec_if (code == 423) (dec_none (get (selected_numbers S s.visible) n))
-dec_code S s (retrieve what current) code = dec_if (code == 420) (dec_none s.current)
-dec_code S s command code = inl tt
+dec_row : (code expected : ℕ) {P : Type 0} → Dec P → Dec (Row code expected P)
+dec_row code expected d = dec_both (dec_true (code == expected)) d
+
+dec_code : (S : Spool) (s : State) (command : Request) (code : ℕ) → Dec (CodeAgrees S s command code)
+dec_code S s capabilities code = dec_row code 101 (inl tt)
+dec_code S s mode_reader code = dec_or (dec_row code 200 (inl tt)) (dec_row code 201 (inl tt))
+dec_code S s quit code = dec_row code 205 (inl tt)
+dec_code S s (group word) code = dec_row code 411 (dec_none (get S.groups word))
+dec_code S s (list_group None range) code = dec_row code 412 (inl tt)
+dec_code S s (list_group (Some word) range) code = dec_row code 411 (dec_none (get S.groups word))
+dec_code S s next code =
+    dec_or (dec_row code 412 (inl tt))
+    (dec_or (dec_row code 420 (dec_none s.current)) (dec_row code 421 (dec_match s.current _ (dec_none_above (selected_numbers S s.visible)))))
+dec_code S s last code =
+    dec_or (dec_row code 412 (inl tt))
+    (dec_or (dec_row code 420 (dec_none s.current)) (dec_row code 422 (dec_match s.current _ (dec_none_below (selected_numbers S s.visible)))))
+dec_code S s (retrieve what (by_id word)) code = dec_row code 430 (dec_none (get S.articles word))
+dec_code S s (retrieve what (by_number None)) code = dec_or (dec_row code 412 (inl tt)) (dec_row code 423 (inl tt))
+dec_code S s (retrieve what (by_number (Some n))) code = dec_or (dec_row code 412 (inl tt)) (dec_row code 423 (dec_none (get (selected_numbers S s.visible) n)))
+dec_code S s (retrieve what current) code = dec_or (dec_row code 412 (inl tt)) (dec_row code 420 (dec_none s.current))
+dec_code S s opaque code = dec_true (is_opaque code)
+dec_code S s (list_active p) code = inr (λ h. h)
+dec_code S s ill_formed code = inr (λ h. h)
 
 -- whether an answer agrees with a spool
-pub dec_agrees : (S : Spool) (s : State) (p : Asked) (a : Response) → Dec (Agrees S s p a)
-dec_agrees S s (to command) (plain code) = dec_code S s command code
+dec_agrees : (S : Spool) (s : State) (p : Asked) (a : Response) → Dec (Agrees S s p a)
+dec_agrees S s greeting (plain code) = dec_true (is_greeting code)
+dec_agrees S s (to command) (plain code) = dec_or (dec_true (is_generic code)) (dec_code S s command code)
 dec_agrees S s (to (group word)) (group_is m name) = dec_both (dec_true (is_some (get S.groups name))) (dec_bound (numbers S name) m)
 dec_agrees S s (to (list_group word range)) (numbers_are m name lines) = dec_three (dec_true (is_some (get S.groups name))) (dec_bound (numbers S name) m) (dec_listing (numbers S name) range (listed_numbers lines))
-dec_agrees S s (to next) (sends sent) = dec_both (dec_match s.current _ (λ c. dec_next_above (selected_numbers S s.visible) c sent.number)) (dec_some_text (get (selected_numbers S s.visible) sent.number) sent.id)
-dec_agrees S s (to last) (sends sent) = dec_both (dec_match s.current _ (λ c. dec_next_below (selected_numbers S s.visible) c sent.number)) (dec_some_text (get (selected_numbers S s.visible) sent.number) sent.id)
-dec_agrees S s (to (retrieve what which)) (sends sent) = dec_both (dec_some (dec_option dec_lists) (option_map (text_of what) (get S.articles sent.id)) sent.block) (dec_number S s which sent)
+dec_agrees S s (to next) (sends sent) =
+    dec_row sent.code 223 (dec_both (dec_match s.current _ (λ c. dec_next_above (selected_numbers S s.visible) c sent.number)) (dec_some_text (get (selected_numbers S s.visible) sent.number) sent.id))
+dec_agrees S s (to last) (sends sent) =
+    dec_row sent.code 223 (dec_both (dec_match s.current _ (λ c. dec_next_below (selected_numbers S s.visible) c sent.number)) (dec_some_text (get (selected_numbers S s.visible) sent.number) sent.id))
+dec_agrees S s (to (retrieve what which)) (sends sent) =
+    dec_row sent.code (success_code what) (dec_both (dec_some (dec_option dec_lists) (option_map (text_of what) (get S.articles sent.id)) sent.block) (dec_number S s which sent))
 dec_agrees S s (to (list_active p)) (active_are lines) = dec_actives S p (active_groups lines)
-dec_agrees S s p a = inl tt
+dec_agrees S s p (group_is m name) = inr (λ h. h)
+dec_agrees S s p (numbers_are m name lines) = inr (λ h. h)
+dec_agrees S s p (sends sent) = inr (λ h. h)
+dec_agrees S s p (active_are lines) = inr (λ h. h)
 
 -- whether an answer is permitted
 pub dec_may_answer : (profile : Profile) (S : Spool) (s : State) (p : Asked) (a : Response) → Dec (MayAnswer profile S s p a)

@@ -4,13 +4,14 @@ use Rattle.std.specs.Prelude.{codes, nat_le, unwrap_or}
 use Rattle.std.specs.Cmp.Lexicographic.{slice_cmp}
 use Rattle.std.specs.Ordering.{nat_cmp}
 use Rattle.std.specs.FinMap.{FinMap, empty, get, insert}
-use Rattle.std.specs.Str.{chars}
+use Rattle.std.specs.Char.{encode_utf8}
+use Rattle.std.specs.Str.{chars, is_utf8}
 use Rattle.nntp_wire.specs.Command.{by_id, by_number, current, quit, opaque, ill_formed, group, list_group, retrieve, list_active, mode_reader, next, from_one}
 use Rattle.nntp_wire.specs.Answer.{Asked, greeting, to, Response, group_is, numbers_are, sends, active_are, plain}
 use Rattle.nntp_wire.specs.declared.command.What.TheVariants.{Article, Head, Body, Stat}
 use Rattle.nntp_article.specs.Article.{Line}
 use Rattle.nntp_wire.specs.Decided.{matches_name}
-use Rattle.nntp_article.specs.Spool.{Profile}
+use Rattle.nntp_article.specs.declared.profile.Profile.{Profile}
 use Rattle.nntp_article.specs.Machine.{Visible, start, fits, visible_after}
 
 abbrev reader : Profile
@@ -200,23 +201,27 @@ no_group_listed : list None [] ≡ true
 no_group_listed = refl
 
 empty_group_listed : list None (codes "g 0 1 y" ∷ codes "h 0 0 n" ∷ []) ≡ true
+unfolding chars is_utf8 encode_utf8
 empty_group_listed = refl
 
 low_past_high : list None (codes "g 3 5 y" ∷ []) ≡ false
+unfolding chars is_utf8 encode_utf8
 low_past_high = refl
 
 zero_low_alone : list None (codes "g 3 0 y" ∷ []) ≡ false
+unfolding chars is_utf8 encode_utf8
 zero_low_alone = refl
 
 group_listed_twice : list None (codes "g 5 1 y" ∷ codes "g 6 1 y" ∷ []) ≡ false
+unfolding chars is_utf8 encode_utf8
 group_listed_twice = refl
 
 matching_group_listed : list (Some (codes "a*,!ab")) (codes "ac 5 1 y" ∷ []) ≡ true
-unfolding chars
+unfolding chars is_utf8 encode_utf8
 matching_group_listed = refl
 
 other_group_listed : list (Some (codes "a*,!ab")) (codes "ab 5 1 y" ∷ []) ≡ false
-unfolding chars
+unfolding chars is_utf8 encode_utf8
 other_group_listed = refl
 
 last_pattern_decides : matches_name (codes "a*,!ab,*b") (codes "ab") ≡ true

@@ -2,7 +2,6 @@ pub mod Firsts
 pub mod Decide
 pub mod DecideAgrees
 mod Examples
-pub mod ListedLemmas
 pub mod LineLemmas
 pub mod HeadLemmas
 pub mod WordLemmas
@@ -15,3 +14,6 @@ pub mod MissingLemmas
 pub mod Closing
 pub mod HeadParts
 pub mod ArticleLaws
+pub mod ShownMaps
+pub mod Ascends
+pub mod Names

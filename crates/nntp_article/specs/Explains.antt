@@ -2,7 +2,8 @@
 use Rattle.std.specs.Prelude.{◌≡◌, ◌≢◌, ℕ, ◌+◌, List, [], ◌++◌, length}
 use Rattle.nntp_wire.specs.Answer.{Response}
 use Rattle.nntp_wire.specs.Session.{prompts_of, Spelled}
-use Rattle.nntp_article.specs.Spool.{Profile, Spool, IsSpool}
+use Rattle.nntp_article.specs.Spool.{Spool, IsSpool}
+use Rattle.nntp_article.specs.declared.profile.Profile.{Profile}
 use Rattle.nntp_article.specs.Machine.{Run, start}
 
 -- the spool permits the first n answers, and the server's octets go on with the rest

@@ -1,8 +1,9 @@
 pub mod Article
-pub mod Listed
 pub mod Spool
 pub mod Machine
 pub mod Explains
+pub mod Coded
+pub mod Fitting
 pub mod Control
 pub mod Required
 pub mod SaidId

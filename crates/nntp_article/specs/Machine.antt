@@ -1,22 +1,23 @@
 -- The machine over one spool: states, what may be answered in a state, and runs (RFC 3977, sections 3.2.1, 5, 6 and 7.6).
-use Rattle.std.specs.Prelude.{◌≡◌, ℕ, ◌+◌, ◌-◌, ◌≤◌, ◌↔◌, Bool, true, false, not, ◌&&◌, ◌||◌, ◌==◌, nat_lt, nat_le, if◌then◌else◌, IsTrue, IsFalse, List, [], ◌∷◌, Option, None, Some, is_some, is_none, MatchOption, IfSome, unwrap_or, Contains, All, map, ⊤}
+use Rattle.std.specs.Prelude.{◌≡◌, ℕ, ◌+◌, ◌-◌, ◌≤◌, ◌↔◌, ◌⊎◌, Bool, true, false, not, ◌&&◌, ◌||◌, ◌==◌, nat_lt, nat_le, if◌then◌else◌, IsTrue, IsFalse, List, [], ◌∷◌, Option, None, Some, is_some, is_none, MatchOption, IfSome, unwrap_or, Contains, All, map, ⊤}
 use Rattle.std.specs.List.{list_any, list_all}
 use Rattle.std.specs.Option.{option_map_or, option_or}
 use Rattle.std.specs.Cmp.Lexicographic.{slice_cmp, pointwise}
 use Rattle.std.specs.Ordering.{nat_cmp}
 use Rattle.std.specs.FinMap.{FinMap, get, insert, len, empty}
 use Rattle.nntp_wire.specs.Command.{Target, by_id, by_number, current, Request, capabilities, mode_reader, next, last, quit, opaque, ill_formed, group, list_group, retrieve, list_active}
-use Rattle.nntp_wire.specs.Answer.{Asked, greeting, to, WaterMarks, Success, Response, group_is, numbers_are, sends, active_are, plain, success_code}
-use Rattle.nntp_wire.specs.Listing.{ActiveValue}
+use Rattle.nntp_wire.specs.Answer.{Asked, greeting, to, Success, Response, group_is, numbers_are, sends, active_are, plain, success_code}
+use Rattle.nntp_wire.specs.declared.water_marks.WaterMarks.{WaterMarks}
+use Rattle.nntp_wire.specs.Listing.{ActiveValue, listed_numbers, active_groups}
 use Rattle.nntp_wire.specs.Session.{closes}
 use Rattle.nntp_wire.specs.Wildmat.{MatchesName}
 use Rattle.nntp_wire.specs.declared.range.Range.{Range}
 use Rattle.nntp_wire.specs.declared.command.What.{What}
 use Rattle.nntp_wire.specs.declared.command.What.TheVariants.{Article, Head, Body, Stat}
 use Rattle.nntp_wire.specs.Decided.{matches_name}
-use Rattle.nntp_article.specs.Listed.{listed_numbers, active_groups}
 use Rattle.nntp_article.specs.Article.{Line, Id, is_empty, is_head, said_id, head_part}
-use Rattle.nntp_article.specs.Spool.{Profile, Name, Spool, Numbers, IsGroup, IsNumber, numbers, least, IsNextAbove, IsNextBelow, NoneAbove, NoneBelow, Lists, HasText}
+use Rattle.nntp_article.specs.Spool.{Name, Spool, Numbers, IsGroup, IsNumber, numbers, least, IsNextAbove, IsNextBelow, NoneAbove, NoneBelow, Lists, HasText}
+use Rattle.nntp_article.specs.declared.profile.Profile.{Profile}
 
 -- what a session shows of its state, whatever the spool
 pub record Visible : Type 0 where
@@ -46,6 +47,14 @@ is_one_of codes code = list_any (λ c. c == code) codes
 -- the generic failures, which any command may be answered with
 abbrev pub is_generic : ℕ → Bool
 is_generic code = is_one_of (400 ∷ 401 ∷ 403 ∷ 480 ∷ 483 ∷ 500 ∷ 501 ∷ 502 ∷ 503 ∷ 504 ∷ []) code
+
+-- the codes of a greeting
+abbrev pub is_greeting : ℕ → Bool
+is_greeting code = is_one_of (200 ∷ 201 ∷ 400 ∷ 502 ∷ []) code
+
+-- the codes by which a command that isn't understood may be answered
+abbrev pub is_opaque : ℕ → Bool
+is_opaque code = code == 381 || nat_lt code 300 || nat_le 400 code
 
 -- an article number
 abbrev pub is_num : Profile → ℕ → Bool
@@ -94,12 +103,12 @@ abbrev pub names_differ : List ActiveValue → Bool
 names_differ [] = true
 names_differ (line ∷ lines) = list_all (λ other. not (is_same line.name other.name)) lines && names_differ lines
 
--- a number of a success, by what was asked
-abbrev pub number_fits : Profile → Visible → Target → Success → Bool
-number_fits profile v (by_id word) sent = is_same sent.id word && (sent.number == 0 || (is_some v.selected && is_num profile sent.number))
-number_fits profile v (by_number None) sent = false
-number_fits profile v (by_number (Some n)) sent = is_some v.selected && sent.number == n && is_num profile n
-number_fits profile v current sent = is_some v.selected && is_num profile sent.number
+-- the number and the id of a success, by what was asked
+abbrev pub number_fits : Profile → Visible → Target → ℕ → Id → Bool
+number_fits profile v (by_id word) number id = is_same id word && (number == 0 || (is_some v.selected && is_num profile number))
+number_fits profile v (by_number None) number id = false
+number_fits profile v (by_number (Some n)) number id = is_some v.selected && number == n && is_num profile n
+number_fits profile v current number id = is_some v.selected && is_num profile number
 
 -- an answer of a code alone, other than a generic failure
 abbrev pub code_fits : Visible → Request → ℕ → Bool
@@ -115,12 +124,12 @@ code_fits v (retrieve what (by_id word)) code = code == 430
 code_fits v (retrieve what (by_number n)) code = (code == 412 && is_none v.selected) || (code == 423 && is_some v.selected)
 code_fits v (retrieve what current) code = (code == 412 && is_none v.selected) || (code == 420 && is_some v.selected)
 code_fits v (list_active p) code = false
-code_fits v opaque code = code == 381 || nat_lt code 300 || nat_le 400 code
+code_fits v opaque code = is_opaque code
 code_fits v ill_formed code = false
 
 -- the visible condition over an open state
 abbrev pub fits : Profile → Visible → Asked → Response → Bool
-fits profile v greeting (plain code) = is_one_of (200 ∷ 201 ∷ 400 ∷ 502 ∷ []) code
+fits profile v greeting (plain code) = is_greeting code
 fits profile v (to command) (plain code) = is_generic code || code_fits v command code
 fits profile v (to (group word)) (group_is m name) = is_same name word && marks_fit profile v name m
 fits profile v (to (list_group word range)) (numbers_are m name lines) =
@@ -129,7 +138,7 @@ fits profile v (to (list_group word range)) (numbers_are m name lines) =
 fits profile v (to next) (sends sent) = sent.code == 223 && is_some v.selected && is_num profile sent.number
 fits profile v (to last) (sends sent) = sent.code == 223 && is_some v.selected && is_num profile sent.number
 fits profile v (to (retrieve what which)) (sends sent) =
-    sent.code == success_code what && number_fits profile v which sent && head_fits what sent.id sent.block
+    sent.code == success_code what && number_fits profile v which sent.number sent.id && head_fits what sent.id sent.block
 fits profile v (to (list_active p)) (active_are lines) = list_all (active_fits profile p) (active_groups lines) && names_differ (active_groups lines)
 fits profile v asked response = false
 
@@ -143,24 +152,31 @@ selected_numbers S v = numbers S (unwrap_or v.selected [])
 abbrev pub Bound : Numbers → WaterMarks → Type 0
 Bound N m = (len N ≤ m.estimate) × ((n : ℕ) → IsNumber N n → (m.low ≤ n) × (n ≤ m.high))
 
--- the code, if it is the expected one, says this
-abbrev pub HasCode : ℕ → ℕ → Type 0 → Type 0
-HasCode code expected P = IsTrue (code == expected) → P
+-- the code is that of the row, and this holds
+abbrev pub Row : ℕ → ℕ → Type 0 → Type 0
+Row code expected P = IsTrue (code == expected) × P
 
--- what a code alone says of the spool
+-- what a code alone says of the spool, other than a generic failure, a row each
 abbrev pub CodeAgrees : Spool → State → Request → ℕ → Type 0
-CodeAgrees S s (group word) code = HasCode code 411 (get S.groups word ≡ None)
-CodeAgrees S s (list_group (Some word) range) code = HasCode code 411 (get S.groups word ≡ None)
+CodeAgrees S s capabilities code = Row code 101 ⊤
+CodeAgrees S s mode_reader code = Row code 200 ⊤ ⊎ Row code 201 ⊤
+CodeAgrees S s quit code = Row code 205 ⊤
+CodeAgrees S s (group word) code = Row code 411 (get S.groups word ≡ None)
+CodeAgrees S s (list_group None range) code = Row code 412 ⊤
+CodeAgrees S s (list_group (Some word) range) code = Row code 411 (get S.groups word ≡ None)
 CodeAgrees S s next code =
-    HasCode code 420 (s.current ≡ None)
-    × HasCode code 421 (MatchOption s.current ⊥ (NoneAbove (selected_numbers S s.visible)))
+    Row code 412 ⊤
+    ⊎ Row code 420 (s.current ≡ None)
+    ⊎ Row code 421 (MatchOption s.current ⊥ (NoneAbove (selected_numbers S s.visible)))
 CodeAgrees S s last code =
-    HasCode code 420 (s.current ≡ None)
-    × HasCode code 422 (MatchOption s.current ⊥ (NoneBelow (selected_numbers S s.visible)))
-CodeAgrees S s (retrieve what (by_id word)) code = HasCode code 430 (get S.articles word ≡ None)
-CodeAgrees S s (retrieve what (by_number n)) code = HasCode code 423 (MatchOption n ⊤ (λ n. get (selected_numbers S s.visible) n ≡ None))
-CodeAgrees S s (retrieve what current) code = HasCode code 420 (s.current ≡ None)
-CodeAgrees S s command code = ⊤
+    Row code 412 ⊤
+    ⊎ Row code 420 (s.current ≡ None)
+    ⊎ Row code 422 (MatchOption s.current ⊥ (NoneBelow (selected_numbers S s.visible)))
+CodeAgrees S s (retrieve what (by_id word)) code = Row code 430 (get S.articles word ≡ None)
+CodeAgrees S s (retrieve what (by_number n)) code = Row code 412 ⊤ ⊎ Row code 423 (MatchOption n ⊤ (λ n. get (selected_numbers S s.visible) n ≡ None))
+CodeAgrees S s (retrieve what current) code = Row code 412 ⊤ ⊎ Row code 420 (s.current ≡ None)
+CodeAgrees S s opaque code = IsTrue (is_opaque code)
+CodeAgrees S s command code = ⊥
 
 -- the number of a success is one of the selected group, with the id
 abbrev pub NumberAgrees : Spool → State → Target → Success → Type 0
@@ -174,18 +190,19 @@ ActivesAgree S p lines =
     ((name : Name) → Contains (map (λ line. line.name) lines) name ↔ (IsGroup S name × IfSome p (λ w. MatchesName w name)))
     × All (λ line. (n : ℕ) → IsNumber (numbers S line.name) n → (line.low ≤ n) × (n ≤ line.high)) lines
 
--- the condition over the spool, where the visible one holds
+-- the condition over the spool, a row each: what no row names agrees with no spool
 abbrev pub Agrees : Spool → State → Asked → Response → Type 0
-Agrees S s (to command) (plain code) = CodeAgrees S s command code
+Agrees S s greeting (plain code) = IsTrue (is_greeting code)
+Agrees S s (to command) (plain code) = IsTrue (is_generic code) ⊎ CodeAgrees S s command code
 Agrees S s (to (group word)) (group_is m name) = IsGroup S name × Bound (numbers S name) m
 Agrees S s (to (list_group word range)) (numbers_are m name lines) = IsGroup S name × Bound (numbers S name) m × Lists (numbers S name) range (listed_numbers lines)
 Agrees S s (to next) (sends sent) =
-    MatchOption s.current ⊥ (λ c. IsNextAbove (selected_numbers S s.visible) c sent.number) × (get (selected_numbers S s.visible) sent.number ≡ Some sent.id)
+    Row sent.code 223 (MatchOption s.current ⊥ (λ c. IsNextAbove (selected_numbers S s.visible) c sent.number) × (get (selected_numbers S s.visible) sent.number ≡ Some sent.id))
 Agrees S s (to last) (sends sent) =
-    MatchOption s.current ⊥ (λ c. IsNextBelow (selected_numbers S s.visible) c sent.number) × (get (selected_numbers S s.visible) sent.number ≡ Some sent.id)
-Agrees S s (to (retrieve what which)) (sends sent) = HasText S what sent.id sent.block × NumberAgrees S s which sent
+    Row sent.code 223 (MatchOption s.current ⊥ (λ c. IsNextBelow (selected_numbers S s.visible) c sent.number) × (get (selected_numbers S s.visible) sent.number ≡ Some sent.id))
+Agrees S s (to (retrieve what which)) (sends sent) = Row sent.code (success_code what) (HasText S what sent.id sent.block × NumberAgrees S s which sent)
 Agrees S s (to (list_active p)) (active_are lines) = ActivesAgree S p (active_groups lines)
-Agrees S s asked response = ⊤
+Agrees S s asked response = ⊥
 
 -- ---- the new state
 

@@ -9,11 +9,8 @@ use Rattle.nntp_wire.specs.Name.{IsGroupName, IsMessageId}
 use Rattle.nntp_wire.specs.declared.range.Range.{Range}
 use Rattle.nntp_wire.specs.declared.command.What.{What}
 use Rattle.nntp_wire.specs.declared.command.What.TheVariants.{Article, Head, Body, Stat}
+use Rattle.nntp_article.specs.declared.profile.Profile.{Profile}
 use Rattle.nntp_article.specs.Article.{Line, Id, is_head, said_id}
-
--- what may vary between sessions: the greatest article number
-pub record Profile : Type 0 where
-  pub limit : ℕ
 
 -- the name of a group
 abbrev pub Name : Type 0
@@ -49,11 +46,11 @@ numbers S name = unwrap_or (get S.groups name) empty
 abbrev pub IsNumber : Numbers → ℕ → Type 0
 IsNumber N n = IsSome (get N n)
 
--- the first of the numbers
+-- the least number, or none where there is no number: the first of the keys, which ascend
 abbrev pub least : Numbers → Option ℕ
 least N = slice_get (keys N) 0
 
--- the least number, or none where there is no number
+-- first is none where there is no number, and else a number that none is below
 abbrev pub IsFirst : Numbers → Option ℕ → Type 0
 IsFirst N first = MatchOption first ((m : ℕ) → get N m ≡ None) (λ n. IsNumber N n × ((m : ℕ) → IsNumber N m → n ≤ m))
 

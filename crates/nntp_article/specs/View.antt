@@ -1,6 +1,4 @@
 -- What the types of src/ mean: their values without where these lie in memory.
-use Rattle.std.specs.Prelude.{ℕ, List, map, Vec}
-use Rattle.nntp_article.specs.Article.{Line}
 use Rattle.nntp_article.specs.Control.{ControlValue, cancel, new_group, rm_group, other}
 use Rattle.nntp_article.specs.declared.control_message.Control.{Control}
 use Rattle.nntp_article.specs.declared.control_message.Control.TheVariants.{Cancel, NewGroup, RmGroup, Other}
@@ -11,7 +9,3 @@ control_value (Cancel id) = cancel id.items
 control_value (NewGroup name moderated) = new_group name.items moderated
 control_value (RmGroup name) = rm_group name.items
 control_value (Other content) = other content.items
-
--- the octets of lines that are held
-abbrev pub held : {A : Type 0} → List (Vec ℕ A) → List Line
-held lines = map (λ line. line.items) lines

@@ -1,11 +1,9 @@
 //! Laws of the definitions alone.
-ghost use Rattle.std.specs.Prelude.{◌≡◌, ℕ, IsTrue, Option, None, Some, MatchOption, IsSome, ◌≤◌, ◌⊎◌, List};
-ghost use Rattle.std.specs.FinMap.{get};
-ghost use Rattle.nntp_article.specs.Spool.{Spool, Numbers, IsNumber, least, IsFirst, Profile};
-ghost use Rattle.nntp_article.specs.Machine.{Visible, State, fits, visible_after, Permits, Run};
+ghost use Rattle.std.specs.Prelude.{◌≡◌, IsTrue, ◌⊎◌, List};
+ghost use Rattle.nntp_article.specs.Spool.{Spool, Numbers, least, IsFirst};
+ghost use Rattle.nntp_article.specs.declared.profile.Profile.{Profile};
+ghost use Rattle.nntp_article.specs.Machine.{State, fits, Permits, Run};
 ghost use Rattle.nntp_wire.specs.Answer.{Asked, Response};
-ghost use Rattle.nntp_wire.specs.Listing.{ActiveValue, ListsGroup};
-ghost use Rattle.nntp_article.specs.Listed.{active_of};
 
 /// An answer that some spool permits meets the visible condition, and the visible state after it is
 /// the same whatever the spool.
@@ -32,9 +30,4 @@ pub fn first_is_least()
 pub fn permitting_is_decided()
     ensures { (profile : Profile) (S : Spool) (s : State) (prompts : List Asked) (answers : List Response)
         → Run profile S s prompts answers ⊎ (Run profile S s prompts answers → ⊥) }
-{}
-
-/// A line of LIST ACTIVE is read as the group that it lists.
-pub fn active_lines_are_read()
-    ensures { (line : List ℕ) (value : ActiveValue) → ListsGroup line value → active_of line ≡ Some value }
 {}

@@ -11,10 +11,12 @@ mod header;
 pub mod laws;
 mod missing_headers;
 mod parts;
+mod profile;
 mod required_headers;
 mod said_id;
 #[cfg(test)]
 mod tests;
+mod visible;
 
 pub use control_headers::control;
 pub use control_message::Control;
@@ -22,5 +24,7 @@ pub use head::Head;
 pub use header::{Header, Headers, content};
 pub use missing_headers::Missing;
 pub use parts::Parts;
+pub use profile::{LIMIT, Profile};
 pub use required_headers::missing;
 pub use said_id::lines_say;
+pub use visible::Visible;

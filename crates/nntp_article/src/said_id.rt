@@ -5,11 +5,11 @@
 ghost use Rattle.std.specs.Prelude.{◌≡◌, ◌++◌, ◌∷◌, false, IsTrue, List, [], ℕ};
 ghost use Rattle.std.specs.List.{list_all};
 ghost use Rattle.std.specs.Option.{SomeIff};
+ghost use Rattle.nntp_wire.specs.Held.{held};
 ghost use Rattle.nntp_wire.specs.Octets.{is_clean};
 ghost use Rattle.nntp_wire.specs.Words.{words_of};
 ghost use Rattle.nntp_article.specs.Article.{Line, Header, is_continuation, is_head, is_clean_head, is_head_line, said_id};
 ghost use Rattle.nntp_article.specs.SaidId.{id_with, id_by};
-ghost use Rattle.nntp_article.specs.View.{held};
 
 use crate::head_line::{
     begins_header, is_clean, is_continuation, is_head_line, is_same, split_at_colon,

@@ -10,7 +10,7 @@ use Rattle.nntp_pair.specs.declared.class.PairClass.TheVariants as pair
 use Rattle.nntp_pair.proofs.PairingLemmas.{AreNext-push, index-counts}
 use Rattle.nntp_check.specs.declared.verdict.Class.{Class}
 use Rattle.nntp_check.specs.declared.verdict.Verdict.{Verdict}
-use Rattle.nntp_check.specs.Judging.{IsFirstLine, IsBadAnswer, IsPlaced, HasNext, StandsAt, shown, pair_class_of}
+use Rattle.nntp_check.specs.Judging.{IsFirstLine, StopsAt, IsPlaced, HasNext, SuitsClass, shown, pair_class_of}
 use Rattle.nntp_check.specs.Verdict.{bad, class_of_pair, verdict_shown}
 
 -- so many exchanges have passed, and then this is left
@@ -36,7 +36,7 @@ frame-first server initial rest block whole = whole ∙ append_assoc (initial ++
 -- a bad exchange
 pub at-exchange : (client server : List ℕ) (left behind : Unpaired) (answers : ℕ) (x : Paired) (class : Class) → Passed client server left answers → IsNext left x behind → pair_class_of class ≡ None
     → (k : ℕ) → k ≡ x.index → (line : Option (List ℕ)) → line ≡ x.line → (initial : List ℕ) → initial ≡ x.initial
-    → IsBadAnswer client server k class (option_map shown line) (shown initial)
+    → StopsAt client server k class (option_map shown line) (shown initial)
 at-exchange client server left behind answers x class p next judged k at line line-is initial initial-is =
     let frame = next.answered.frame in
     let first = frame-first left.server x.initial behind.server next.answered.block frame.whole in
@@ -46,14 +46,14 @@ at-exchange client server left behind answers x class p next judged k at line li
       before = p.before;
       place = at ∙ next.index ∙ index-counts client server p.pairs left p.before;
       some = λ none. some-octets x.initial _ (sym first ∙ none);
-      stands = subst (λ o. MatchOption o (HasNext left) (λ c. IsBad c left)) (sym judged) (x, behind, next);
+      suits = subst (λ o. MatchOption o (HasNext left) (λ c. IsBad c left)) (sym judged) (x, behind, next);
       command_is = ap (λ places. option_map shown places) (line-is ∙ sym (ap line_ahead next.place));
       line = x.initial;
       first = (frame.is_line, inr (_, first));
       reply_is = ap shown initial-is;
     }
 
-of-pair : (class : PairClass) (left : Unpaired) → IsBad class left → StandsAt (class_of_pair class) left
+of-pair : (class : PairClass) (left : Unpaired) → IsBad class left → SuitsClass (class_of_pair class) left
 of-pair pair.Surplus left is = is
 of-pair pair.Cut left is = is
 of-pair pair.Malformed left is = is
@@ -61,14 +61,14 @@ of-pair pair.Malformed left is = is
 -- octets that answer nothing
 pub at-octets : (client server : List ℕ) (left : Unpaired) (answers : ℕ) (class : PairClass) → Passed client server left answers → Ends left (pair_end class)
     → (k : ℕ) → k ≡ left.index → (of : Class) → of ≡ class_of_pair class → (line : Option (List ℕ)) → line ≡ line_ahead left.places → (octets first : List ℕ) → octets ≡ left.server → IsFirstLine octets first
-    → IsBadAnswer client server k of (option_map shown line) (shown first)
+    → StopsAt client server k of (option_map shown line) (shown first)
 at-octets client server left answers class p ends k at of of-is line line-is octets first octets-are is-first = record {
   pairs = p.pairs;
   left = left;
   before = p.before;
   place = at ∙ index-counts client server p.pairs left p.before;
   some = ends.0;
-  stands = subst (λ c. StandsAt c left) (sym of-is) (of-pair class left ends.1);
+  suits = subst (λ c. SuitsClass c left) (sym of-is) (of-pair class left ends.1);
   command_is = ap (option_map shown) line-is;
   line = first;
   first = subst (λ o. IsFirstLine o first) octets-are is-first;
@@ -77,6 +77,6 @@ at-octets client server left answers class p ends k at of of-is line line-is oct
 
 -- a verdict that shows such an answer
 pub placed : {A E : Type 0} (r : Result (Verdict A) E) (client server : List ℕ) (k : ℕ) (class : Class) (command : Option (List ℕ)) (reply : List ℕ)
-    → IsBadAnswer client server k class command reply → IfOk r (λ v. verdict_shown v ≡ bad k class command reply) → IfOk r (λ v. IsPlaced client server (verdict_shown v))
+    → StopsAt client server k class command reply → IfOk r (λ v. verdict_shown v ≡ bad k class command reply) → IfOk r (λ v. IsPlaced client server (verdict_shown v))
 placed (Ok v) client server k class command reply is ok = subst (IsPlaced client server) (sym ok) is
 placed (Err e) client server k class command reply is ok = ok

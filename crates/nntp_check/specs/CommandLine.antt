@@ -13,10 +13,10 @@ words_status OutOfMemory = 3
 words_status _ = 2
 
 -- 0 for yes, for help and for the version, 1 for no, 2 for words that are refused, 3 for a fault
-abbrev pub status_of : Result Bool Failure → ℕ
-status_of (Ok true) = 0
-status_of (Ok false) = 1
-status_of (Err (Words error)) = words_status (kind_of error)
-status_of (Err NotText) = 2
-status_of (Err Help) = 3
-status_of (Err (Run _)) = 3
+abbrev pub exit_status : Result Bool Failure → ℕ
+exit_status (Ok true) = 0
+exit_status (Ok false) = 1
+exit_status (Err (Words error)) = words_status (kind_of error)
+exit_status (Err NotText) = 2
+exit_status (Err Help) = 3
+exit_status (Err (Run _)) = 3

@@ -31,18 +31,18 @@ pair_class_of Unsupported = None
 pair_class_of OutOfPlace = None
 pair_class_of Contradiction = None
 
--- what stands at a bad answer: octets that answer nothing, or an exchange
-abbrev pub StandsAt : Class → Unpaired → Type 0
-StandsAt class left = MatchOption (pair_class_of class) (HasNext left) (λ c. IsBad c left)
+-- what is left suits the class of a bad answer: octets that answer nothing, or an exchange
+abbrev pub SuitsClass : Class → Unpaired → Type 0
+SuitsClass class left = MatchOption (pair_class_of class) (HasNext left) (λ c. IsBad c left)
 
 -- behind so many exchanges octets are left, and the verdict shows the command and the reply there
-pub record IsBadAnswer (client server : List ℕ) (answer : ℕ) (class : Class) (command : Option (List ℕ)) (reply : List ℕ) : Type 0 where
+pub record StopsAt (client server : List ℕ) (answer : ℕ) (class : Class) (command : Option (List ℕ)) (reply : List ℕ) : Type 0 where
   pub pairs : List Paired
   pub left : Unpaired
   pub before : AreNext (streams client server) pairs left
   pub place : answer ≡ length pairs
   pub some : left.server ≢ []
-  pub stands : StandsAt class left
+  pub suits : SuitsClass class left
   pub command_is : command ≡ option_map shown (line_ahead left.places)
   pub line : List ℕ
   pub first : IsFirstLine left.server line
@@ -58,4 +58,4 @@ pub record IsAnsweredThroughout (client server : List ℕ) (answers : ℕ) : Typ
 -- a verdict stands where the pairing of both streams says
 abbrev pub IsPlaced : List ℕ → List ℕ → Judgement → Type 0
 IsPlaced client server (consistent spool answers) = IsAnsweredThroughout client server answers
-IsPlaced client server (bad answer class command reply) = IsBadAnswer client server answer class command reply
+IsPlaced client server (bad answer class command reply) = StopsAt client server answer class command reply

@@ -6,9 +6,11 @@ use Rattle.nntp_spool.specs.Faults.{IsFirstFault}
 use Rattle.nntp_spool.specs.Limit.{narrow}
 use Rattle.nntp_spool.specs.Text.{spool_text}
 use Rattle.nntp_spool.specs.Verifying.{IsVerified}
+use Rattle.nntp_spool.specs.Watched.{inner_of}
 use Rattle.nntp_spool.specs.Writing.{Wrote}
 use Rattle.nntp_spool.specs.declared.read_fault.ReadFault.{ReadFault}
 use Rattle.nntp_spool.specs.declared.verified.Verified.{Verified}
+use Rattle.nntp_spool.specs.declared.watched.Watched.{Watched}
 use Rattle.nntp_check.specs.Capture.{AreStreams, IsBadPiece}
 use Rattle.nntp_check.specs.Judging.{IsPlaced}
 use Rattle.nntp_check.specs.Report.{report_of, verified_report, is_permitted}
@@ -16,38 +18,57 @@ use Rattle.nntp_check.specs.Verdict.{Judgement, is_consistent}
 use Rattle.nntp_check.specs.declared.run_fault.RunFault.{RunFault}
 use Rattle.nntp_check.specs.declared.run_fault.RunFault.TheVariants as faults
 
--- these octets, at most so many, were read, and no more are left
-pub record ReadsAll (old new : Option (List ℕ)) (most : ℕ) (octets : List ℕ) : Type 0 where
-  pub read : Consumes old new octets
-  pub end : IsAtEnd new
-  pub few : length octets ≤ most
+-- what a run read: what the reader had before and what it has after, and how many octets may be read
+pub record Input : Type 0 where
+  pub before : Option (List ℕ)
+  pub after : Option (List ℕ)
+  pub most : ℕ
 
--- more octets came than so many
-pub record ReadsMore (old new : Option (List ℕ)) (most : ℕ) : Type 0 where
+-- what a run wrote: what the writer had before and what it has after
+pub record Output : Type 0 where
+  pub before : Option (List ℕ)
+  pub after : Option (List ℕ)
+
+-- what was read, by the octets that a reader tells
+abbrev pub read_by : {R : Type 0} → (R → Option (List ℕ)) → Watched R → Watched R → ℕ → Input
+read_by octets before after most = record { before = octets (inner_of before); after = octets (inner_of after); most = most }
+
+-- what was written, by the octets that a writer tells
+abbrev pub written_by : {W : Type 0} → (W → Option (List ℕ)) → Watched W → Watched W → Output
+written_by octets before after = record { before = octets (inner_of before); after = octets (inner_of after) }
+
+-- these octets were read, no more than may be, and no more are left
+pub record ReadsAll (input : Input) (octets : List ℕ) : Type 0 where
+  pub consumed : Consumes input.before input.after octets
+  pub end : IsAtEnd input.after
+  pub few : length octets ≤ input.most
+
+-- more octets came than may be read
+pub record ReadsMore (input : Input) : Type 0 where
   pub octets : List ℕ
-  pub read : Consumes old new octets
-  pub many : most < length octets
+  pub consumed : Consumes input.before input.after octets
+  pub many : input.most < length octets
 
 -- what was read is a capture of these streams
-pub record ReadsCapture (old new : Option (List ℕ)) (most : ℕ) (client server spool : List ℕ) : Type 0 where
+pub record ReadsCapture (input : Input) (client server spool : List ℕ) : Type 0 where
   pub octets : List ℕ
-  pub read : ReadsAll old new most octets
+  pub all : ReadsAll input octets
   pub capture : AreStreams octets client server spool
 
 -- what was read is no capture: this piece of it is the first that is none
-pub record ReadsBadPiece (old new : Option (List ℕ)) (most piece : ℕ) : Type 0 where
+pub record ReadsBadPiece (input : Input) (piece : ℕ) : Type 0 where
   pub octets : List ℕ
-  pub read : ReadsAll old new most octets
+  pub all : ReadsAll input octets
   pub bad : IsBadPiece octets piece
 
 -- why no capture was read
-abbrev pub IsInputFault : Option (List ℕ) → Option (List ℕ) → ℕ → RunFault → Type 0
-IsInputFault old new most faults.Read = ⊤
-IsInputFault old new most faults.TooLong = ReadsMore old new most
-IsInputFault old new most (faults.Capture piece) = ReadsBadPiece old new most piece
-IsInputFault old new most (faults.Spool fault) = ⊥
-IsInputFault old new most faults.Memory = ⊤
-IsInputFault old new most faults.Write = ⊥
+abbrev pub IsInputFault : Input → RunFault → Type 0
+IsInputFault input faults.Read = ⊤
+IsInputFault input faults.TooLong = ReadsMore input
+IsInputFault input (faults.Capture piece) = ReadsBadPiece input piece
+IsInputFault input (faults.Spool fault) = ⊥
+IsInputFault input faults.Memory = ⊤
+IsInputFault input faults.Write = ⊥
 
 -- the report of `check` on a client's and a server's octets, and its answer
 pub record CheckReports (client server spool text : List ℕ) (answer : Bool) : Type 0 where
@@ -67,42 +88,42 @@ pub record VerifyReports (client server spool text : List ℕ) (answer : Bool) :
   pub answer_is : answer ≡ is_permitted verified
 
 -- what was read is a capture, and what was written is the report on it
-pub record IsReported (Reports : List ℕ → List ℕ → List ℕ → List ℕ → Bool → Type 0) (in_old in_new out_old out_new : Option (List ℕ)) (most : ℕ) (answer : Bool) : Type 0 where
+pub record IsReported (Reports : List ℕ → List ℕ → List ℕ → List ℕ → Bool → Type 0) (input : Input) (output : Output) (answer : Bool) : Type 0 where
   pub client : List ℕ
   pub server : List ℕ
   pub spool : List ℕ
-  pub read : ReadsCapture in_old in_new most client server spool
+  pub capture : ReadsCapture input client server spool
   pub text : List ℕ
   pub reports : Reports client server spool text answer
-  pub written : Appends out_old out_new text
+  pub whole : Appends output.before output.after text
 
 -- the writer took a front of the report
-pub record IsCutShort (Reports : List ℕ → List ℕ → List ℕ → List ℕ → Bool → Type 0) (in_old in_new out_old out_new : Option (List ℕ)) (most : ℕ) : Type 0 where
+pub record IsCutShort (Reports : List ℕ → List ℕ → List ℕ → List ℕ → Bool → Type 0) (input : Input) (output : Output) : Type 0 where
   pub client : List ℕ
   pub server : List ℕ
   pub spool : List ℕ
-  pub read : ReadsCapture in_old in_new most client server spool
+  pub capture : ReadsCapture input client server spool
   pub text : List ℕ
   pub answer : Bool
   pub reports : Reports client server spool text answer
   pub left : List ℕ
-  pub written : Wrote out_old out_new text left
+  pub front : Wrote output.before output.after text left
 
 -- what was read is a capture, and its spool pieces are the text of no spool, by this fault
-pub record ReadsNoSpool (old new : Option (List ℕ)) (most : ℕ) (fault : ReadFault) : Type 0 where
+pub record ReadsNoSpool (input : Input) (fault : ReadFault) : Type 0 where
   pub client : List ℕ
   pub server : List ℕ
   pub spool : List ℕ
-  pub read : ReadsCapture old new most client server spool
+  pub capture : ReadsCapture input client server spool
   pub first : IsFirstFault narrow spool fault
 
 -- why `check` gives no answer: a fault of the input, or a report that is cut short
-abbrev pub IsCheckFault : Option (List ℕ) → Option (List ℕ) → Option (List ℕ) → Option (List ℕ) → ℕ → RunFault → Type 0
-IsCheckFault in_old in_new out_old out_new most faults.Write = IsCutShort CheckReports in_old in_new out_old out_new most
-IsCheckFault in_old in_new out_old out_new most fault = IsInputFault in_old in_new most fault
+abbrev pub IsCheckFault : Input → Output → RunFault → Type 0
+IsCheckFault input output faults.Write = IsCutShort CheckReports input output
+IsCheckFault input output fault = IsInputFault input fault
 
 -- why `verify` gives no answer: the same, or the text of no spool
-abbrev pub IsVerifyFault : Option (List ℕ) → Option (List ℕ) → Option (List ℕ) → Option (List ℕ) → ℕ → RunFault → Type 0
-IsVerifyFault in_old in_new out_old out_new most faults.Write = IsCutShort VerifyReports in_old in_new out_old out_new most
-IsVerifyFault in_old in_new out_old out_new most (faults.Spool fault) = ReadsNoSpool in_old in_new most fault
-IsVerifyFault in_old in_new out_old out_new most fault = IsInputFault in_old in_new most fault
+abbrev pub IsVerifyFault : Input → Output → RunFault → Type 0
+IsVerifyFault input output faults.Write = IsCutShort VerifyReports input output
+IsVerifyFault input output (faults.Spool fault) = ReadsNoSpool input fault
+IsVerifyFault input output fault = IsInputFault input fault

@@ -1,6 +1,6 @@
 //! What the command line asks for, and how the process ends.
 ghost use Rattle.std.specs.Prelude.{◌≡◌};
-ghost use Rattle.nntp_check.specs.CommandLine.{status_of};
+ghost use Rattle.nntp_check.specs.CommandLine.{exit_status};
 
 use crate::run_fault::RunFault;
 use clap::Command;
@@ -58,7 +58,7 @@ pub fn job(alloc: Global, words: &[String]) -> Result<Task, clap::Error> {
 
 /// The status that the process ends with: 0 yes and help, 1 no, 2 words that were refused, 3 a fault.
 pub fn status(outcome: &Result<bool, Failure>) -> u8
-    ensures { result ≡ status_of outcome.now }
+    ensures { result ≡ exit_status outcome.now }
 {
     match outcome {
         Ok(true) => 0,

@@ -1,7 +1,7 @@
 //! What a run reads: a capture, to its end.
 ghost use Rattle.std.specs.Prelude.{◌≡◌, ◌↔◌, false, true, IfOk, IfErr, IsErrOf};
-ghost use Rattle.nntp_spool.specs.Watched.{inner_of, has_failed_of};
-ghost use Rattle.nntp_check.specs.Run.{ReadsAll, ReadsCapture, IsInputFault};
+ghost use Rattle.nntp_spool.specs.Watched.{has_failed_of};
+ghost use Rattle.nntp_check.specs.Run.{read_by, ReadsAll, ReadsCapture, IsInputFault};
 
 use crate::capture::{Streams, split};
 use crate::run_fault::RunFault;
@@ -15,8 +15,8 @@ fn read_all<A: Allocator + Copy, R: Read>(
     input: &mut Watched<R>,
     most: u64,
 ) -> Result<Vec<u8, A>, RunFault>
-    ensures ok { IfOk result (λ bytes. ReadsAll (R.remaining (inner_of input.old)) (R.remaining (inner_of input.new)) most bytes.items) }
-    ensures err { IfErr result (IsInputFault (R.remaining (inner_of input.old)) (R.remaining (inner_of input.new)) most) }
+    ensures ok { IfOk result (λ bytes. ReadsAll (read_by R.remaining input.old input.new most) bytes.items) }
+    ensures err { IfErr result (IsInputFault (read_by R.remaining input.old input.new most)) }
     ensures failed { has_failed_of input.old ≡ false → (IsErrOf result RunFault.Read ↔ (has_failed_of input.new ≡ true)) }
 {
     let mut bytes = Vec::new(alloc);
@@ -41,8 +41,8 @@ pub(crate) fn read_streams<A: Allocator + Copy, R: Read>(
     input: &mut Watched<R>,
     most: u64,
 ) -> Result<Streams<A>, RunFault>
-    ensures ok { IfOk result (λ s. ReadsCapture (R.remaining (inner_of input.old)) (R.remaining (inner_of input.new)) most s.client.items s.server.items s.spool.items) }
-    ensures err { IfErr result (IsInputFault (R.remaining (inner_of input.old)) (R.remaining (inner_of input.new)) most) }
+    ensures ok { IfOk result (λ s. ReadsCapture (read_by R.remaining input.old input.new most) s.client.items s.server.items s.spool.items) }
+    ensures err { IfErr result (IsInputFault (read_by R.remaining input.old input.new most)) }
     ensures failed { has_failed_of input.old ≡ false → (IsErrOf result RunFault.Read ↔ (has_failed_of input.new ≡ true)) }
 {
     let bytes = read_all(alloc, input, most)?;

@@ -3,7 +3,7 @@ ghost use Rattle.std.specs.Prelude.{◌≡◌, ◌≢◌, ◌↔◌, ◌||◌, f
 ghost use Rattle.nntp_spool.specs.Watched.{inner_of, has_failed_of};
 ghost use Rattle.nntp_spool.specs.Writing.{Writes};
 ghost use Rattle.nntp_check.specs.Report.{is_permitted};
-ghost use Rattle.nntp_check.specs.Run.{CheckReports, VerifyReports, IsReported, IsCheckFault, IsVerifyFault};
+ghost use Rattle.nntp_check.specs.Run.{read_by, written_by, CheckReports, VerifyReports, IsReported, IsCheckFault, IsVerifyFault};
 
 use crate::input::read_streams;
 use crate::judge::check;
@@ -46,11 +46,9 @@ pub fn run_check<A: Allocator + Copy, R: Read, W: Write>(
     most: u64,
 ) -> Result<bool, RunFault>
     // What was read is a capture, and what was written is the report on its streams.
-    ensures ok { IfOk result (IsReported CheckReports (R.remaining (inner_of input.old)) (R.remaining (inner_of input.new))
-        (W.contents (inner_of output.old)) (W.contents (inner_of output.new)) most) }
+    ensures ok { IfOk result (IsReported CheckReports (read_by R.remaining input.old input.new most) (written_by W.contents output.old output.new)) }
     // Which fault it is, by what was read and written.
-    ensures err { IfErr result (IsCheckFault (R.remaining (inner_of input.old)) (R.remaining (inner_of input.new))
-        (W.contents (inner_of output.old)) (W.contents (inner_of output.new)) most) }
+    ensures err { IfErr result (IsCheckFault (read_by R.remaining input.old input.new most) (written_by W.contents output.old output.new)) }
     // Before the report is whole, the writer isn't touched.
     ensures unwritten { IfErr result (λ e. e ≢ RunFault.Write → output.new ≡ output.old) }
 
@@ -74,11 +72,9 @@ pub fn run_verify<A: Allocator + Copy, R: Read, W: Write>(
     most: u64,
 ) -> Result<bool, RunFault>
     // What was read is a capture, and what was written is the report on its streams and its spool.
-    ensures ok { IfOk result (IsReported VerifyReports (R.remaining (inner_of input.old)) (R.remaining (inner_of input.new))
-        (W.contents (inner_of output.old)) (W.contents (inner_of output.new)) most) }
+    ensures ok { IfOk result (IsReported VerifyReports (read_by R.remaining input.old input.new most) (written_by W.contents output.old output.new)) }
     // Which fault it is, by what was read and written.
-    ensures err { IfErr result (IsVerifyFault (R.remaining (inner_of input.old)) (R.remaining (inner_of input.new))
-        (W.contents (inner_of output.old)) (W.contents (inner_of output.new)) most) }
+    ensures err { IfErr result (IsVerifyFault (read_by R.remaining input.old input.new most) (written_by W.contents output.old output.new)) }
     // Before the report is whole, the writer isn't touched.
     ensures unwritten { IfErr result (λ e. e ≢ RunFault.Write → output.new ≡ output.old) }
 

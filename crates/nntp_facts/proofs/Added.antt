@@ -15,16 +15,15 @@ use Rattle.std.proofs.lemmas.Map.Views.{tells_apart}
 use Rattle.std.proofs.lemmas.Map.Lookups.{exact_unsigned}
 use Rattle.nntp_intervals.specs.Intervals.{holds}
 use Rattle.nntp_article.specs.Spool.{Numbers, IsNumber}
-use Rattle.nntp_wire.specs.Answer.{WaterMarks}
+use Rattle.nntp_wire.specs.declared.water_marks.WaterMarks.{WaterMarks}
 use Rattle.nntp_facts.specs.Asks.{Ask, Estimates, Bounds}
-use Rattle.nntp_facts.specs.Given.{shows, denies, is_shown, is_denied, Demand, NoDemand, demand, join, wants}
+use Rattle.nntp_facts.specs.Given.{shows, denies, is_shown, is_denied, Demand, NoDemand, NotEmpty, OnlyOne, SecondIs, Impossible, demand, join, wants}
 use Rattle.nntp_facts.specs.Together.{is_possible, MeetsDemand, AsksStand}
 use Rattle.nntp_facts.specs.Summary.{estimate_in, is_within, is_within_all, Summary, has, IsSummary, Stands, part_shows, Said, Says, Finds, FirstFree, is_settled, AreCounted, Looks, shown_after, denied_after, count_after, FirstFreeBelow, AgreesWith, LooksAfter}
-use Rattle.nntp_facts.specs.declared.group.Found.{Found}
+use Rattle.nntp_facts.specs.declared.shown.Found.{Found}
 use Rattle.nntp_facts.proofs.Members.{In, any_in, found_in, all_both, all_back}
-use Rattle.nntp_facts.proofs.Firsts.{sorted_keys}
 use Rattle.nntp_facts.proofs.MetNumbers.{key_in, key_is}
-use Rattle.nntp_facts.proofs.Maps.{key_map, in_key_map, of_key_map}
+use Rattle.nntp_facts.proofs.Maps.{key_map, in_key_map, of_key_map, sorted_keys}
 use Rattle.nntp_facts.proofs.Demands.{demand_append}
 use Rattle.nntp_facts.proofs.Settled.{settled, stands, ByShown, ArePossible, AreApart}
 
@@ -160,6 +159,14 @@ module _ (s : Summary) (p : Said) (asks more : List Ask) (sum : IsSummary s asks
       → IsTrue (is_settled d w f c e) ↔ AsksStand (asks ++ more)
   settles stand agrees d w f c e l =
       settled (asks ++ more) d w f c e (looks d w f c e l) (all_both (λ ask. IsTrue (is_possible ask)) asks more stand.possible (are_possible more (sym says.possibly ∙ agrees.can_be))) (apart stand agrees)
+
+-- to demand nothing changes nothing
+pub join_nothing : (d : Demand) → d ≡ join d NoDemand
+join_nothing NoDemand = refl
+join_nothing NotEmpty = refl
+join_nothing OnlyOne = refl
+join_nothing (SecondIs k) = refl
+join_nothing Impossible = refl
 
 -- ---- for the code
 

@@ -1,66 +1,20 @@
 -- The class of a bad answer: there is one, and octets that follow leave it where it is settled.
-use Rattle.std.proofs.Common.{◌≡◌, ℕ, ◌+◌, ◌≤◌, Bool, true, false, IsTrue, List, [], ◌∷◌, ◌++◌, length, map, Option, None, Some, inl, inr, refl, sym, ap, subst, ◌∙◌, arith, append_assoc, length-append, ◌⊎◌}
-use Rattle.std.proofs.lemmas.List.{append_cancel_left, map-append, append-nil}
+use Rattle.std.proofs.Common.{◌≡◌, ℕ, ◌+◌, Bool, true, false, IsTrue, List, [], ◌∷◌, ◌++◌, length, Option, None, Some, inl, inr, refl, sym, ap, subst, ◌∙◌, arith, append_assoc, length-append, ◌⊎◌}
+use Rattle.std.proofs.lemmas.List.{append_cancel_left, append-nil}
 use Rattle.std.proofs.lemmas.Bool.{cases_Bool, true≢false}
-use Rattle.nntp_wire.specs.Command.{request_of}
-use Rattle.nntp_wire.specs.Lines.{lines_of_stream}
-use Rattle.nntp_wire.specs.Answer.{Asked, Response, greeting, to, Spells}
+use Rattle.nntp_wire.specs.Answer.{Asked, Response, Spells}
 use Rattle.nntp_wire.specs.Frame.{HasFrame, frame_octets}
 use Rattle.nntp_wire.specs.Session.{prompts_of, Spelled}
 use Rattle.nntp_wire.proofs.SpellLemmas.{spelling-frame, one-frame}
 use Rattle.nntp_wire.proofs.SpellsDecided.{one-spelling, dec_spelling}
 use Rattle.nntp_wire.proofs.FramesDecided.{dec_frame, frame-longer}
-use Rattle.nntp_wire.proofs.StreamLemmas.{lines-joined}
-use Rattle.nntp_article.specs.Spool.{Profile, Spool}
-use Rattle.nntp_article.specs.Machine.{Visible, State, Run, start, fits, visible_after}
+use Rattle.nntp_article.specs.Spool.{Spool}
+use Rattle.nntp_article.specs.declared.profile.Profile.{Profile}
+use Rattle.nntp_article.specs.Machine.{Visible, State, Run, start, fits}
 use Rattle.nntp_article.specs.Explains.{ExplainsFirst, Bad}
 use Rattle.nntp_pair.specs.Pairing.{IsCut, IsMalformed}
+use Rattle.nntp_facts.proofs.Prompts.{prompts_joined, spelled_longer, run_longer, run_shorter, spelled_count, visible_longer, asked_longer, asked_count}
 use Rattle.nntp_facts.specs.Classes.{Class, Surplus, Cut, Malformed, OutOfPlace, Contradiction, visible_from, asked_next, AnswersFirst, BeginsWithAnswer, IsOpenClass, IsClass, left_visible, HasClass, IsSettled}
-
--- ---- more prompts
-
--- octets behind the client's leave its prompts
-prompts_joined : (client more : List ℕ) → (later : List Asked) × (prompts_of (client ++ more) ≡ prompts_of client ++ later)
-prompts_joined client more =
-    let l = lines-joined client more in (
-      map (λ line. to (request_of line)) l.0,
-      ap (λ lines. greeting ∷ map (λ line. to (request_of line)) lines) l.1 ∙ ap (λ ps. greeting ∷ ps) (map-append (λ line. to (request_of line)) (lines_of_stream client) l.0),
-    )
-
-spelled_longer : (ps qs : List Asked) (answers : List Response) (octets : List ℕ) → Spelled ps answers octets → Spelled (ps ++ qs) answers octets
-spelled_longer ps qs [] octets s = s
-spelled_longer [] qs (a ∷ more) octets s = absurd s
-spelled_longer (p ∷ ps) qs (a ∷ more) octets (b, rest, s, tail, whole) = (b, rest, s, spelled_longer ps qs more rest tail, whole)
-
-run_longer : (profile : Profile) (S : Spool) (s : State) (ps qs : List Asked) (answers : List Response) → Run profile S s ps answers → Run profile S s (ps ++ qs) answers
-run_longer profile S s ps qs [] r = tt
-run_longer profile S s [] qs (a ∷ more) r = absurd r
-run_longer profile S s (p ∷ ps) qs (a ∷ more) (new, permits, rest) = (new, permits, run_longer profile S new ps qs more rest)
-
-run_shorter : (profile : Profile) (S : Spool) (s : State) (ps qs : List Asked) (answers : List Response) → length answers ≤ length ps → Run profile S s (ps ++ qs) answers → Run profile S s ps answers
-run_shorter profile S s ps qs [] le r = tt
-run_shorter profile S s [] qs (a ∷ more) le r = absurd (omega arith)
-run_shorter profile S s (p ∷ ps) qs (a ∷ more) le (new, permits, rest) = (new, permits, run_shorter profile S new ps qs more (omega arith) rest)
-
-spelled_count : (ps : List Asked) (answers : List Response) (octets : List ℕ) → Spelled ps answers octets → length answers ≤ length ps
-spelled_count ps [] octets s = omega arith
-spelled_count [] (a ∷ more) octets s = absurd s
-spelled_count (p ∷ ps) (a ∷ more) octets (b, rest, s, tail, whole) = let le = spelled_count ps more rest tail in omega arith
-
-visible_longer : (v : Visible) (ps qs : List Asked) (answers : List Response) → length answers ≤ length ps → visible_from v (ps ++ qs) answers ≡ visible_from v ps answers
-visible_longer v ps qs [] le = refl
-visible_longer v [] qs (a ∷ more) le = absurd (omega arith)
-visible_longer v (p ∷ ps) qs (a ∷ more) le = visible_longer (visible_after v p a) ps qs more (omega arith)
-
-asked_longer : (ps qs : List Asked) (answers : List Response) (asked : Asked) → asked_next ps answers ≡ Some asked → asked_next (ps ++ qs) answers ≡ Some asked
-asked_longer [] qs answers asked e = cc
-asked_longer (p ∷ ps) qs [] asked e = e
-asked_longer (p ∷ ps) qs (a ∷ more) asked e = asked_longer ps qs more asked e
-
-asked_count : (ps : List Asked) (answers : List Response) (asked : Asked) → asked_next ps answers ≡ Some asked → length answers + 1 ≤ length ps
-asked_count [] answers asked e = cc
-asked_count (p ∷ ps) [] asked e = omega arith
-asked_count (p ∷ ps) (a ∷ more) asked e = let le = asked_count ps more asked e in omega arith
 
 -- ---- one answer more
 
@@ -132,6 +86,17 @@ as_many (p ∷ ps) (x ∷ answers) (y ∷ others) sp tp rest more (b, tail, s, s
     let left = append_cancel_left b (tail ++ rest) (tail' ++ more) (split ∙ ap (λ d. d ++ (tail' ++ more)) (sym same.1)) in
     let r = as_many ps answers others tail tail' rest more ss ts left (omega arith) in
     ((λ i. same.0 i ∷ r.0 i), r.1)
+
+-- so two streams begin with k answers in one way
+pub one_before : (client server : List ℕ) (k : ℕ) (b c : AnswersFirst client server k) → (b.answers ≡ c.answers) × (b.rest ≡ c.rest)
+one_before client server k b c =
+    let x = b.count in
+    let y = c.count in
+    as_many (prompts_of client) b.answers c.answers b.octets c.octets b.rest c.rest b.spelled c.spelled (sym b.whole ∙ c.whole) (omega arith)
+
+-- and are closed there, or not
+pub closed_before : (client server : List ℕ) (k : ℕ) (b c : AnswersFirst client server k) → (left_visible client server k b).closed ≡ (left_visible client server k c).closed
+closed_before client server k b c = ap (λ answers. (visible_from start.visible (prompts_of client) answers).closed) (one_before client server k b c).0
 
 -- ---- one class
 
@@ -205,9 +170,7 @@ one_class profile client server k ((S, rest, x, some), none) =
     same : (before : AnswersFirst client server k) (class : Class) → IsClass (left_visible client server k before).closed profile (left_visible client server k before) (asked_next (prompts_of client) before.answers) before.rest class
         → (other : Class) → HasClass profile client server k other → other ≡ class
     same before class is other h =
-        let a = h.before.count in
-        let b = before.count in
-        let both = as_many (prompts_of client) h.before.answers before.answers h.before.octets before.octets h.before.rest before.rest h.before.spelled before.spelled (sym h.before.whole ∙ before.whole) (omega arith) in
+        let both = one_before client server k h.before before in
         let v : List Response → Visible = λ answers. visible_from start.visible (prompts_of client) answers in
         class_once (v before.answers).closed profile (v before.answers) (asked_next (prompts_of client) before.answers) before.rest other class
         (subst (λ (x : List Response × List ℕ). IsClass (v x.0).closed profile (v x.0) (asked_next (prompts_of client) x.0) x.1 other) (λ i. (both.0 i, both.1 i)) h.is_class) is
@@ -242,8 +205,8 @@ settled Surplus closed = closed ≡ true
 settled Cut closed = ⊥
 settled class closed = IsTrue true
 
-settled_by : (profile : Profile) (client server : List ℕ) (k : ℕ) (class : Class) (h : HasClass profile client server k class) → IsSettled profile client server k class h → settled class (left_visible client server k h.before).closed
-settled_by profile client server k Surplus h s = s
+settled_by : (profile : Profile) (client server : List ℕ) (k : ℕ) (class : Class) (h : HasClass profile client server k class) → IsSettled client server k class → settled class (left_visible client server k h.before).closed
+settled_by profile client server k Surplus h s = closed_before client server k h.before s.before ∙ s.closed
 settled_by profile client server k Cut h s = absurd s
 settled_by profile client server k Malformed h s = refl
 settled_by profile client server k OutOfPlace h s = refl
@@ -270,7 +233,7 @@ class_longer false profile v ps qs answers octets more class s h = by (asked_nex
     by (Some asked) e h = subst (λ next. IsClass false profile v next (octets ++ more) class) (sym (asked_longer ps qs answers asked e)) (open_longer profile v asked octets more class s h)
 
 -- below, answer k is bad, of a settled class
-module _ (profile : Profile) (client server more_client more_server : List ℕ) (k : ℕ) (class : Class) (h : HasClass profile client server k class) (s : IsSettled profile client server k class h) where
+module _ (profile : Profile) (client server more_client more_server : List ℕ) (k : ℕ) (class : Class) (h : HasClass profile client server k class) (s : IsSettled client server k class) where
   -- the class is the same
   pub class_stays : HasClass profile (client ++ more_client) (server ++ more_server) k class
   unfolding before_longer

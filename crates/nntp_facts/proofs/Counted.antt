@@ -7,10 +7,10 @@ use Rattle.std.proofs.lemmas.Bool.{true≢false, cases_eq, eq-eqb, ne_eqb, false
 use Rattle.nntp_article.specs.Spool.{Numbers, IsNumber}
 use Rattle.nntp_facts.specs.Asks.{Ask}
 use Rattle.nntp_facts.specs.Given.{is_shown, Demand, NoDemand, NotEmpty, OnlyOne, SecondIs, Impossible, demand, wants, IsOneMore, IsGivenNumber, HasGivenNumbers}
-use Rattle.nntp_facts.proofs.Firsts.{len_le}
 use Rattle.nntp_facts.proofs.MetNumbers.{one_more_once, second_shown}
 use Rattle.nntp_facts.proofs.GivenNumbers.{same_demand}
 use Rattle.nntp_facts.specs.Together.{MeetsDemand}
+use Rattle.nntp_facts.proofs.Maps.{len_le}
 
 -- the one more isn't shown
 more_unshown : (asks : List Ask) (e : ℕ) → IsOneMore asks e → IsTrue (is_shown asks e) → ⊥
@@ -43,8 +43,8 @@ module _ (asks : List Ask) (M : Numbers) (shown : (n : ℕ) → IsNumber M n ↔
 -- there are as many in all maps that have them
 pub as_many_given : (asks : List Ask) (N M : Numbers) → HasGivenNumbers asks N → HasGivenNumbers asks M → len N ≡ len M
 as_many_given asks N M g h =
-    let a = len_le N M (λ n i. (h n).1 ((g n).0 i)) in
-    let b = len_le M N (λ n i. (g n).1 ((h n).0 i)) in
+    let a = len_le nat_cmp_total N M (λ n i. (h n).1 ((g n).0 i)) in
+    let b = len_le nat_cmp_total M N (λ n i. (g n).1 ((h n).0 i)) in
     omega arith
 
 -- ---- the demand

@@ -10,15 +10,16 @@ use Rattle.std.specs.FinMap.{FinMap, get, entries, empty, IsAntisymmetric, nat_c
 use Rattle.std.proofs.lemmas.List.Elements.{recursion_from_All, All-from_recursion}
 use Rattle.nntp_article.proofs.Decide.{Dec, dec_true, dec_le, dec_both, dec_three, dec_by, dec_to, dec_texts}
 use Rattle.nntp_article.specs.Article.{is_head, said_id, Id}
-use Rattle.nntp_article.specs.Spool.{Spool, Text, Numbers, numbers, IsSpool, Name, is_line, Profile}
-use Rattle.nntp_facts.proofs.Members.{all_at, all_from}
-use Rattle.nntp_facts.proofs.GivenHolds.{group_of_number, some_is}
-use Rattle.nntp_facts.proofs.OneMore.{dec_each_in}
+use Rattle.nntp_article.specs.Spool.{Spool, Text, Numbers, numbers, IsSpool, Name, is_line}
+use Rattle.nntp_article.specs.declared.profile.Profile.{Profile}
+use Rattle.nntp_facts.proofs.Members.{all_at, all_from, dec_each_in}
+use Rattle.nntp_facts.proofs.GivenHolds.{group_of_number}
 use Rattle.nntp_facts.proofs.Maps.{get_in, in_get}
 use Rattle.nntp_facts.proofs.Made.{names_apart}
 use Rattle.nntp_wire.specs.Decided.{is_group_name, is_message_id}
 use Rattle.nntp_wire.specs.Name.{IsMessageId, IsGroupName}
 use Rattle.nntp_wire.proofs.DecidedLemmas.{message_id-iff, group_name-iff}
+use Rattle.nntp_wire.proofs.OptionLemmas.{some_is}
 
 -- what can be decided of each entry of a map
 dec_entries : {K X : Type 0} {R : K → K → Ordering} (o : IsTotalOrder R) (same : IsAntisymmetric R) (P : K → X → Type 0) → ((k : K) (x : X) → Dec (P k x)) → (m : FinMap R X) → Dec ((k : K) (x : X) → get m k ≡ Some x → P k x)

@@ -3,7 +3,8 @@ use Rattle.std.proofs.Common.{◌≡◌, ℕ, ◌<◌, ◌≤◌, true, false, I
 use Rattle.std.specs.Prelude.{codes}
 use Rattle.std.proofs.lemmas.Bool.{cases_eq, eqb-true, le-ltb, or_cases}
 use Rattle.std.proofs.lemmas.Fmt.{decimal_digit}
-use Rattle.nntp_wire.specs.Answer.{Response, WaterMarks, greeting, to, group_is, numbers_are, sends, plain}
+use Rattle.nntp_wire.specs.Answer.{Response, greeting, to, group_is, numbers_are, sends, plain}
+use Rattle.nntp_wire.specs.declared.water_marks.WaterMarks.{WaterMarks}
 use Rattle.nntp_wire.specs.declared.command.What.TheVariants.{Head, Stat}
 use Rattle.nntp_wire.specs.Command.{Request, by_id, by_number, current, group, list_group, from_one, next, last, retrieve}
 use Rattle.nntp_facts.specs.Asks.{First, Known, Ask, Estimates, StepsUp, StepsDown, StandsAt, IsTop, IsBottom, Has, Lacks}
@@ -64,7 +65,7 @@ stepped_demands : demand (asks_of (codes "g") stepped) ≡ SecondIs 4
 stepped_demands = refl
 
 one_is_given : IsOneMore (asks_of (codes "g") stepped) 1
-one_is_given = record { needed = λ n t. le-ltb n 4 (four_is_least n t); wanted = refl; positive = omega arith; not_denied = refl; is_least = λ m some low. absurd (omega arith) }
+one_is_given = record { needed = λ n t. le-ltb n 4 (four_is_least n t); wanted = refl; first = (omega arith, refl, λ m some low. absurd (omega arith)) }
 
 -- ---- then 1 and 2 are denied
 
@@ -93,7 +94,7 @@ below_three m some low = elim (cases_eq m 1) [
 ]
 
 three_is_given : IsOneMore denied 3
-three_is_given = record { needed = λ n t. le-ltb n 4 (still_least n t); wanted = refl; positive = omega arith; not_denied = refl; is_least = below_three }
+three_is_given = record { needed = λ n t. le-ltb n 4 (still_least n t); wanted = refl; first = (omega arith, refl, below_three) }
 
 -- and where 3 is denied too, no number is left below 4
 all_denied : is_denied (asks (group (codes "g") ∷ next ∷ stat 1 ∷ stat 2 ∷ stat 3 ∷ []) (selected 3 1 5 ∷ found 4 (codes "<b@x>") ∷ plain 423 ∷ plain 423 ∷ plain 423 ∷ [])) 3 ≡ true
@@ -139,7 +140,7 @@ emptied_falls h = by h.demand_met.0 h.demand_met.1
   where
     by : (n : ℕ) → IsGivenNumber emptied n → ⊥
     by n (inl s) = cc
-    by n (inr x) = let free = x.not_denied in grind (arith, nat_tests)
+    by n (inr x) = let free = x.first.1 in grind (arith, nat_tests)
 
 -- before LAST was answered no number was needed: the group has none
 unasked_needs_none : (n : ℕ) → IsOneMore (asks (group (codes "g") ∷ stat 5 ∷ []) (selected 1 5 5 ∷ plain 423 ∷ [])) n → ⊥
@@ -178,7 +179,7 @@ invented_one : invented 1 ≡ codes "<w1@invented.invalid>"
 invented_one = ap (λ digits. codes "<w" ++ digits ++ codes "@invented.invalid>") (decimal_digit 1 (omega arith))
 
 one_is_invented : AreInvented absent 0 (codes "<w1@invented.invalid>" ∷ [])
-one_is_invented = (1, omega arith, sym invented_one, ap (is_mentioned absent) invented_one, passed, tt)
+one_is_invented = (1, (omega arith, ap (is_mentioned absent) invented_one, passed), sym invented_one, tt)
   where
     passed : (i : ℕ) → 0 ≤ i → i < 1 → IsTrue (is_mentioned absent (invented i))
     passed i some low = subst (λ i. is_mentioned absent (invented i) ≡ true) (let e : 0 ≡ i = omega arith in e) (ap (is_mentioned absent) invented_zero)

@@ -2,7 +2,8 @@
 use Rattle.std.proofs.Common.{◌<◌, ◌^◌, ◌⊎◌, ◌↔◌, List, length, inl, inr}
 use Rattle.nntp_article.proofs.Decide.{Dec, dec_both}
 use Rattle.nntp_article.proofs.DecideAgrees.{dec_run}
-use Rattle.nntp_article.specs.Spool.{Spool, IsSpool, Profile}
+use Rattle.nntp_article.specs.Spool.{Spool, IsSpool}
+use Rattle.nntp_article.specs.declared.profile.Profile.{Profile}
 use Rattle.nntp_article.specs.Machine.{Run, start}
 use Rattle.nntp_facts.specs.Facts.{FitsAll}
 use Rattle.nntp_facts.specs.Given.{IsGiven, facts_of_session, unshown_ids, size}
@@ -30,9 +31,9 @@ given_exists profile ps answers fits small =
     let G = made profile.limit (10 ^ 64) facts in
     let within = free_in_limit profile facts (session_fitting profile ps answers fits) (session_placed profile ps answers fits) in
     let group = made_group profile.limit (10 ^ 64) facts in
-    made_is_given profile.limit (10 ^ 64) facts number-invented (λ name shown e x. within name shown e x.not_denied)
+    made_is_given profile.limit (10 ^ 64) facts number-invented (λ name shown e x. within name shown e x.first.1)
     (few_enough facts (length (unshown_ids facts G)) small
-    (unshown_ids_few facts G (λ name. (group name).0) (λ name i. made_given profile.limit (10 ^ 64) facts name (λ e x. within name ((group name).0 i) e x.not_denied) i)))
+    (unshown_ids_few facts G (λ name. (group name).0) (λ name i. made_given profile.limit (10 ^ 64) facts name (λ e x. within name ((group name).0 i) e x.first.1) i)))
 
 -- some spool permits a session exactly if it fits and stands together
 pub permitted_together : (profile : Profile) (ps : List Asked) (answers : List Response) → size (facts_of_session ps answers) < 2 ^ 210 → SomePermits profile ps answers ↔ (FitsAll profile start.visible ps answers × Together (facts_of_session ps answers))

@@ -3,7 +3,8 @@ use Rattle.std.proofs.Common.{◌≡◌, ℕ, List, []}
 use Rattle.nntp_wire.specs.Session.{prompts_of, AreSpelled, StaysOpen}
 use Rattle.nntp_pair.specs.Pairing.{Paired, Ending, end, IsPairing, HasPairs, responses_of, streams}
 use Rattle.nntp_pair.proofs.SpelledLemmas.{spelled-pairs, spelled-whole}
-use Rattle.nntp_article.specs.Spool.{Profile, Spool}
+use Rattle.nntp_article.specs.Spool.{Spool}
+use Rattle.nntp_article.specs.declared.profile.Profile.{Profile}
 use Rattle.nntp_article.specs.Machine.{start}
 use Rattle.nntp_article.specs.Explains.{ExplainsUpTo, Explains}
 use Rattle.nntp_article.proofs.Closing.{run-stays-open}

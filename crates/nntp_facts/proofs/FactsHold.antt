@@ -1,13 +1,17 @@
 -- A spool permits a session exactly if each answer fits and all that the answers say holds of it.
-use Rattle.std.proofs.Common.{ℕ, Bool, true, false, cond, ◌==◌, ◌↔◌, IsTrue, List, [], ◌∷◌, ◌++◌, None, Some, refl}
-use Rattle.std.specs.Prelude.{IsFalse}
+use Rattle.std.proofs.Common.{◌≡◌, ◌≢◌, ℕ, Bool, true, false, cond, ◌==◌, ◌&&◌, ◌||◌, ◌↔◌, ◌⊎◌, inl, inr, IsTrue, List, [], ◌∷◌, ◌++◌, None, Some, is_some, refl, sym, subst, ◌∙◌, arith}
+use Rattle.std.specs.Prelude.{IsFalse, is_none}
 use Rattle.std.specs.List.{AllByRecursion}
-use Rattle.nntp_article.specs.Spool.{Spool, Profile}
-use Rattle.nntp_article.specs.Machine.{Visible, Agrees, visible_after, CodeAgrees}
+use Rattle.std.proofs.lemmas.Bool.{and_parts, or_cases, eqb-true, true≢false, false≢true}
+use Rattle.std.proofs.lemmas.Bool.Decides.{nat_tests}
+use Rattle.nntp_article.specs.Spool.{Spool}
+use Rattle.nntp_article.specs.declared.profile.Profile.{Profile}
+use Rattle.nntp_article.specs.Machine.{Visible, Agrees, visible_after, Row, CodeAgrees, is_generic, is_one_of, is_num, code_fits, number_fits, head_fits, fits}
 use Rattle.nntp_facts.specs.Asks.{Position, state_at, position_after, RunsAt}
 use Rattle.nntp_facts.specs.Facts.{Fact, Holds, facts_of, facts_of_code, facts_from, on, FitsAll}
-use Rattle.nntp_wire.specs.Answer.{Asked, Response, greeting, to, group_is, numbers_are, sends, active_are, plain}
-use Rattle.nntp_wire.specs.Command.{Request, by_id, by_number, current, group, list_group, next, last, retrieve, list_active}
+use Rattle.nntp_wire.specs.Answer.{Asked, Response, Success, success_code, greeting, to, group_is, numbers_are, sends, active_are, plain}
+use Rattle.nntp_wire.specs.Command.{Request, Target, by_id, by_number, current, capabilities, mode_reader, quit, opaque, ill_formed, group, list_group, next, last, retrieve, list_active}
+use Rattle.nntp_wire.specs.declared.command.What.{What}
 
 both : (S : Spool) (xs ys : List Fact) → AllByRecursion (Holds S) xs → AllByRecursion (Holds S) ys → AllByRecursion (Holds S) (xs ++ ys)
 both S [] ys h g = g
@@ -37,62 +41,139 @@ off_to : (S : Spool) (b : Bool) (fact : Fact) → AllByRecursion (Holds S) (cond
 off_to S true fact h t = cc
 off_to S false fact h t = h.0
 
-code_holds : (S : Spool) (v : Visible) (at : Position) (command : Request) (code : ℕ) → CodeAgrees S (state_at S v at) command code → AllByRecursion (Holds S) (facts_of_code v at command code)
-code_holds S v at (group word) code h = on_from S (code == 411) _ h
-code_holds S v at (list_group (Some word) range) code h = on_from S (code == 411) _ h
-code_holds S v at next code h = both S (on code 420 _) (on code 421 _) (on_from S (code == 420) _ h.0) (on_from S (code == 421) _ h.1)
-code_holds S v at last code h = both S (on code 420 _) (on code 422 _) (on_from S (code == 420) _ h.0) (on_from S (code == 422) _ h.1)
-code_holds S v at (retrieve what (by_id word)) code h = on_from S (code == 430) _ h
-code_holds S v at (retrieve what (by_number (Some n))) code h = on_from S (code == 423) _ h
-code_holds S v at (retrieve what current) code h = on_from S (code == 420) _ h
+-- ---- codes, a row each
+
+-- another code is none
+other_code : (code a b : ℕ) → (a == b) ≡ false → IsTrue (code == a) → IsTrue (code == b) → ⊥
+other_code code a b other s t = true≢false (sym (subst (λ n. (n == b) ≡ true) (eqb-true code a s) t) ∙ other)
+
+generic_code : (code b : ℕ) → is_generic b ≡ false → IsTrue (is_generic code) → IsTrue (code == b) → ⊥
+generic_code code b other g t = true≢false (sym (subst (λ n. is_generic n ≡ true) (eqb-true code b t) g) ∙ other)
+
+-- the code is that of the first row, or not
+first : (code a b : ℕ) {P Q : Type 0} → (b == a) ≡ false → IsTrue (code == a) → Row code a P ⊎ Row code b Q → P
+first code a b other t (inl row) = row.1
+first code a b other t (inr row) = absurd (other_code code b a other row.0 t)
+
+past : (code a b : ℕ) {P X : Type 0} → (a == b) ≡ false → IsTrue (code == b) → Row code a P ⊎ X → X
+past code a b other t (inl row) = absurd (other_code code a b other row.0 t)
+past code a b other t (inr x) = x
+
+past_generic : (code b : ℕ) {X : Type 0} → is_generic b ≡ false → IsTrue (code == b) → IsTrue (is_generic code) ⊎ X → X
+past_generic code b other t (inl g) = absurd (generic_code code b other g t)
+past_generic code b other t (inr x) = x
+
+-- one of two codes
+same_code : (a b : ℕ) → IsTrue (a == b) → IsTrue (b == a)
+same_code a b t = grind (arith, nat_tests)
+
+one_of_two : (a b code : ℕ) → IsTrue (is_one_of (a ∷ b ∷ []) code) → IsTrue (code == a) ⊎ IsTrue (code == b)
+one_of_two a b code t = elim (or_cases (a == code) ((b == code) || false) t) [
+  | inl e ↦ inl (same_code a code e)
+  | inr r ↦ elim (or_cases (b == code) false r) [ inl e ↦ inr (same_code b code e) | inr f ↦ absurd (false≢true f) ]
+]
+
+code_holds : (S : Spool) (v : Visible) (at : Position) (command : Request) (code : ℕ) → Agrees S (state_at S v at) (to command) (plain code) → AllByRecursion (Holds S) (facts_of_code v at command code)
+code_holds S v at (group word) code h = on_from S (code == 411) _ (λ t. (past_generic code 411 refl t h).1)
+code_holds S v at (list_group (Some word) range) code h = on_from S (code == 411) _ (λ t. (past_generic code 411 refl t h).1)
+code_holds S v at next code h =
+    both S (on code 420 _) (on code 421 _) (on_from S (code == 420) _ (λ t. first code 420 421 refl t (past code 412 420 refl t (past_generic code 420 refl t h))))
+    (on_from S (code == 421) _ (λ t. (past code 420 421 refl t (past code 412 421 refl t (past_generic code 421 refl t h))).1))
+code_holds S v at last code h =
+    both S (on code 420 _) (on code 422 _) (on_from S (code == 420) _ (λ t. first code 420 422 refl t (past code 412 420 refl t (past_generic code 420 refl t h))))
+    (on_from S (code == 422) _ (λ t. (past code 420 422 refl t (past code 412 422 refl t (past_generic code 422 refl t h))).1))
+code_holds S v at (retrieve what (by_id word)) code h = on_from S (code == 430) _ (λ t. (past_generic code 430 refl t h).1)
+code_holds S v at (retrieve what (by_number (Some n))) code h = on_from S (code == 423) _ (λ t. (past code 412 423 refl t (past_generic code 423 refl t h)).1)
+code_holds S v at (retrieve what current) code h = on_from S (code == 420) _ (λ t. (past code 412 420 refl t (past_generic code 420 refl t h)).1)
 code_holds S v at command code h = tt
 
-code_from : (S : Spool) (v : Visible) (at : Position) (command : Request) (code : ℕ) → AllByRecursion (Holds S) (facts_of_code v at command code) → CodeAgrees S (state_at S v at) command code
-code_from S v at (group word) code h = on_to S (code == 411) _ h
-code_from S v at (list_group (Some word) range) code h = on_to S (code == 411) _ h
-code_from S v at next code h = (on_to S (code == 420) _ (front S (on code 420 _) _ h), on_to S (code == 421) _ (back S (on code 420 _) _ h))
-code_from S v at last code h = (on_to S (code == 420) _ (front S (on code 420 _) _ h), on_to S (code == 422) _ (back S (on code 420 _) _ h))
-code_from S v at (retrieve what (by_id word)) code h = on_to S (code == 430) _ h
-code_from S v at (retrieve what (by_number (Some n))) code h = on_to S (code == 423) _ h
-code_from S v at (retrieve what current) code h = on_to S (code == 420) _ h
-code_from S v at (retrieve what (by_number None)) code h = λ _. tt
-code_from S v at command code h = tt
+-- the row of a code that fits
+row_from : (S : Spool) (v : Visible) (at : Position) (command : Request) (code : ℕ) → IsTrue (code_fits v command code) → AllByRecursion (Holds S) (facts_of_code v at command code) → CodeAgrees S (state_at S v at) command code
+row_from S v at capabilities code f h = (f, tt)
+row_from S v at mode_reader code f h = elim (one_of_two 200 201 code f) [ inl t ↦ inl (t, tt) | inr t ↦ inr (t, tt) ]
+row_from S v at quit code f h = (f, tt)
+row_from S v at (group word) code f h = (f, on_to S (code == 411) _ h f)
+row_from S v at (list_group None range) code f h = ((and_parts (code == 412) (is_none v.selected) f).0, tt)
+row_from S v at (list_group (Some word) range) code f h = (f, on_to S (code == 411) _ h f)
+row_from S v at next code f h = elim (or_cases (code == 412 && is_none v.selected) (is_one_of (420 ∷ 421 ∷ []) code && is_some v.selected) f) [
+  | inl a ↦ inl ((and_parts (code == 412) (is_none v.selected) a).0, tt)
+  | inr b ↦ elim (one_of_two 420 421 code (and_parts (is_one_of (420 ∷ 421 ∷ []) code) (is_some v.selected) b).0) [
+    | inl t ↦ inr (inl (t, on_to S (code == 420) _ (front S (on code 420 _) _ h) t))
+    | inr t ↦ inr (inr (t, on_to S (code == 421) _ (back S (on code 420 _) _ h) t))
+  ]
+]
+row_from S v at last code f h = elim (or_cases (code == 412 && is_none v.selected) (is_one_of (420 ∷ 422 ∷ []) code && is_some v.selected) f) [
+  | inl a ↦ inl ((and_parts (code == 412) (is_none v.selected) a).0, tt)
+  | inr b ↦ elim (one_of_two 420 422 code (and_parts (is_one_of (420 ∷ 422 ∷ []) code) (is_some v.selected) b).0) [
+    | inl t ↦ inr (inl (t, on_to S (code == 420) _ (front S (on code 420 _) _ h) t))
+    | inr t ↦ inr (inr (t, on_to S (code == 422) _ (back S (on code 420 _) _ h) t))
+  ]
+]
+row_from S v at (retrieve what (by_id word)) code f h = (f, on_to S (code == 430) _ h f)
+row_from S v at (retrieve what (by_number None)) code f h = elim (or_cases (code == 412 && is_none v.selected) (code == 423 && is_some v.selected) f) [
+  | inl a ↦ inl ((and_parts (code == 412) (is_none v.selected) a).0, tt)
+  | inr b ↦ inr ((and_parts (code == 423) (is_some v.selected) b).0, tt)
+]
+row_from S v at (retrieve what (by_number (Some n))) code f h = elim (or_cases (code == 412 && is_none v.selected) (code == 423 && is_some v.selected) f) [
+  | inl a ↦ inl ((and_parts (code == 412) (is_none v.selected) a).0, tt)
+  | inr b ↦ (let t = (and_parts (code == 423) (is_some v.selected) b).0 in inr (t, on_to S (code == 423) _ h t))
+]
+row_from S v at (retrieve what current) code f h = elim (or_cases (code == 412 && is_none v.selected) (code == 420 && is_some v.selected) f) [
+  | inl a ↦ inl ((and_parts (code == 412) (is_none v.selected) a).0, tt)
+  | inr b ↦ (let t = (and_parts (code == 420) (is_some v.selected) b).0 in inr (t, on_to S (code == 420) _ h t))
+]
+row_from S v at opaque code f h = f
+row_from S v at (list_active p) code f h = absurd (false≢true f)
+row_from S v at ill_formed code f h = absurd (false≢true f)
 
--- what an answer says, from that it agrees
+-- ---- the codes of successes
+
+stepped : (profile : Profile) (v : Visible) (sent : Success) → IsTrue (sent.code == 223 && is_some v.selected && is_num profile sent.number) → IsTrue (sent.code == 223)
+stepped profile v sent f = (and_parts (sent.code == 223) (is_some v.selected) (and_parts (sent.code == 223 && is_some v.selected) (is_num profile sent.number) f).0).0
+
+succeeded : (profile : Profile) (v : Visible) (what : What) (which : Target) (sent : Success) → IsTrue (fits profile v (to (retrieve what which)) (sends sent)) → IsTrue (sent.code == success_code what)
+succeeded profile v what which sent f =
+    let code = sent.code == success_code what in
+    let number = number_fits profile v which sent.number sent.id in
+    (and_parts code number (and_parts (code && number) (head_fits what sent.id sent.block) f).0).0
+
+-- ---- what an answer says
+
+-- from that it agrees
 facts_hold : (S : Spool) (v : Visible) (at : Position) (p : Asked) (a : Response) → Agrees S (state_at S v at) p a → AllByRecursion (Holds S) (facts_of v at p a)
 facts_hold S v at (to (group word)) (group_is m name) h = (h.0, (h.1, tt))
 facts_hold S v at (to (list_group word range)) (numbers_are m name lines) h = (h.0, (h.1, (h.2, tt)))
-facts_hold S v at (to next) (sends sent) h = (h.0, (h.1, tt))
-facts_hold S v at (to last) (sends sent) h = (h.0, (h.1, tt))
-facts_hold S v at (to (retrieve what (by_id word))) (sends sent) h = (h.0, off_from S (sent.number == 0) _ h.1)
-facts_hold S v at (to (retrieve what (by_number n))) (sends sent) h = (h.0, (h.1, tt))
-facts_hold S v at (to (retrieve what current)) (sends sent) h = (h.0, (h.1.0, (h.1.1, tt)))
+facts_hold S v at (to next) (sends sent) h = (h.1.0, (h.1.1, tt))
+facts_hold S v at (to last) (sends sent) h = (h.1.0, (h.1.1, tt))
+facts_hold S v at (to (retrieve what (by_id word))) (sends sent) h = (h.1.0, off_from S (sent.number == 0) _ h.1.1)
+facts_hold S v at (to (retrieve what (by_number n))) (sends sent) h = (h.1.0, (h.1.1, tt))
+facts_hold S v at (to (retrieve what current)) (sends sent) h = (h.1.0, (h.1.1.0, (h.1.1.1, tt)))
 facts_hold S v at (to (list_active p)) (active_are lines) h = (h, tt)
 facts_hold S v at (to command) (plain code) h = code_holds S v at command code h
 facts_hold S v at p a h = tt
 
--- and back
-agrees_from : (S : Spool) (v : Visible) (at : Position) (p : Asked) (a : Response) → AllByRecursion (Holds S) (facts_of v at p a) → Agrees S (state_at S v at) p a
-agrees_from S v at (to (group word)) (group_is m name) h = (h.0, h.1.0)
-agrees_from S v at (to (list_group word range)) (numbers_are m name lines) h = (h.0, h.1.0, h.1.1.0)
-agrees_from S v at (to next) (sends sent) h = (h.0, h.1.0)
-agrees_from S v at (to last) (sends sent) h = (h.0, h.1.0)
-agrees_from S v at (to (retrieve what (by_id word))) (sends sent) h = (h.0, off_to S (sent.number == 0) _ h.1)
-agrees_from S v at (to (retrieve what (by_number n))) (sends sent) h = (h.0, h.1.0)
-agrees_from S v at (to (retrieve what current)) (sends sent) h = (h.0, (h.1.0, h.1.1.0))
-agrees_from S v at (to (list_active p)) (active_are lines) h = h.0
-agrees_from S v at (to command) (plain code) h = code_from S v at command code h
-agrees_from S v at greeting (plain code) h = tt
-agrees_from S v at p (group_is m name) h = tt
-agrees_from S v at p (numbers_are m name lines) h = tt
-agrees_from S v at p (sends sent) h = tt
-agrees_from S v at p (active_are lines) h = tt
+-- and back, where it fits
+agrees_from : (profile : Profile) (S : Spool) (v : Visible) (at : Position) (p : Asked) (a : Response) → IsTrue (fits profile v p a) → AllByRecursion (Holds S) (facts_of v at p a) → Agrees S (state_at S v at) p a
+agrees_from profile S v at greeting (plain code) f h = f
+agrees_from profile S v at (to command) (plain code) f h = elim (or_cases (is_generic code) (code_fits v command code) f) [ inl g ↦ inl g | inr c ↦ inr (row_from S v at command code c h) ]
+agrees_from profile S v at (to (group word)) (group_is m name) f h = (h.0, h.1.0)
+agrees_from profile S v at (to (list_group word range)) (numbers_are m name lines) f h = (h.0, h.1.0, h.1.1.0)
+agrees_from profile S v at (to next) (sends sent) f h = (stepped profile v sent f, (h.0, h.1.0))
+agrees_from profile S v at (to last) (sends sent) f h = (stepped profile v sent f, (h.0, h.1.0))
+agrees_from profile S v at (to (retrieve what (by_id word))) (sends sent) f h = (succeeded profile v what (by_id word) sent f, (h.0, off_to S (sent.number == 0) _ h.1))
+agrees_from profile S v at (to (retrieve what (by_number n))) (sends sent) f h = (succeeded profile v what (by_number n) sent f, (h.0, h.1.0))
+agrees_from profile S v at (to (retrieve what current)) (sends sent) f h = (succeeded profile v what current sent f, (h.0, (h.1.0, h.1.1.0)))
+agrees_from profile S v at (to (list_active p)) (active_are lines) f h = h.0
+agrees_from profile S v at p (group_is m name) f h = absurd (false≢true f)
+agrees_from profile S v at p (numbers_are m name lines) f h = absurd (false≢true f)
+agrees_from profile S v at p (sends sent) f h = absurd (false≢true f)
+agrees_from profile S v at p (active_are lines) f h = absurd (false≢true f)
 
 pub run_of_facts : (profile : Profile) (S : Spool) (v : Visible) (at : Position) (ps : List Asked) (answers : List Response) → FitsAll profile v ps answers → AllByRecursion (Holds S) (facts_from v at ps answers) → RunsAt profile S v at ps answers
 run_of_facts profile S v at ps [] f h = tt
 run_of_facts profile S v at [] (a ∷ more) f h = f
 run_of_facts profile S v at (p ∷ ps) (a ∷ more) f h = (
-  record { is_open = f.0; fits_visible = f.1; agrees = agrees_from S v at p a (front S (facts_of v at p a) _ h) },
+  record { is_open = f.0; fits_visible = f.1; agrees = agrees_from profile S v at p a f.1 (front S (facts_of v at p a) _ h) },
   run_of_facts profile S (visible_after v p a) (position_after at p a) ps more f.2 (back S (facts_of v at p a) (facts_from (visible_after v p a) (position_after at p a) ps more) h),
 )
 

@@ -1,49 +1,25 @@
 -- A session that says little is given a small spool.
-use Rattle.std.proofs.Common.{◌≡◌, ℕ, ◌+◌, ◌<◌, ◌≤◌, ◌^◌, Bool, true, false, cond, not, ◌==◌, IsTrue, List, [], ◌∷◌, ◌++◌, map, length, Some, is_some, IsSome, inl, inr, refl, sym, ap, subst, ◌∙◌, arith, length-append}
+use Rattle.std.proofs.Common.{◌≡◌, ℕ, ◌+◌, ◌<◌, ◌≤◌, ◌^◌, Bool, true, false, cond, not, ◌==◌, IsTrue, List, [], ◌∷◌, ◌++◌, map, length, Some, is_some, inl, inr, refl, sym, ap, subst, ◌∙◌, arith, length-append}
 use Rattle.std.specs.Prelude.{unwrap_or}
-use Rattle.std.proofs.Common.{T}
 use Rattle.std.specs.List.{list_any, flat_map, IsDistinct, AllByRecursion}
-use Rattle.std.specs.declared.cmp.Ordering.{Ordering}
 use Rattle.std.specs.Ordering.{nat_cmp, eq_by_cmp}
-use Rattle.std.specs.Cmp.{IsTotalOrder, nat_cmp_total, eq_by_cmp_equiv}
+use Rattle.std.specs.Cmp.{nat_cmp_total, eq_by_cmp_equiv}
 use Rattle.std.specs.Cmp.Lexicographic.{slice_cmp, same_text, nat_list_cmp_total, nat_list_eq_equiv}
-use Rattle.std.specs.FinMap.{FinMap, get, find, is_sorted, empty, get-entries, keys, entries, entries_sorted, contains_key-keys}
+use Rattle.std.specs.FinMap.{get, empty, get-entries, keys, entries, entries_sorted}
 use Rattle.std.proofs.lemmas.Bool.{cases_Bool, eqb-true, not-true, true≢false}
 use Rattle.std.proofs.lemmas.List.{length-map}
 use Rattle.std.proofs.lemmas.Map.Keys.{IsDistinct-from_sorted}
-use Rattle.std.proofs.lemmas.Map.Made.{length-le_from_is_member}
 use Rattle.nntp_article.specs.Spool.{Spool, Numbers, IsNumber, IsGroup, numbers, Name}
 use Rattle.nntp_article.specs.Machine.{is_same}
 use Rattle.nntp_facts.specs.Asks.{First, Ask, Estimates, Bounds, ListsIn, Has, Lacks, StandsAt, StandsNowhere, StepsUp, StepsDown, IsTop, IsBottom}
 use Rattle.nntp_facts.specs.Facts.{Fact, ThereIs, ThereIsNo, Asks, IdAt, TextIs, NoArticle, GroupsAre}
 use Rattle.nntp_facts.specs.Given.{shows, is_shown, IsOneMore, HasGivenNumbers, asks_in, asks_of, shows_group, is_shown_group, id_shown, unshown_in, unshown_ids, size_in, size}
-use Rattle.nntp_facts.proofs.Members.{In, all_at, any_in, found_in, in_map, from_map, to_flat, from_flat}
-use Rattle.nntp_facts.proofs.Firsts.{sorted_keys}
+use Rattle.nntp_facts.proofs.Members.{In, any_in, found_in, in_map, from_map, to_flat, from_flat, parts_few}
 use Rattle.nntp_facts.proofs.MetNumbers.{one_more_once, any_unshown, key_in, key_is}
 use Rattle.nntp_article.specs.Article.{Id}
 use Rattle.nntp_wire.specs.Listing.{ActiveValue}
 use Rattle.nntp_facts.proofs.Fresh.{mentioned}
-
--- a map whose keys stand in a list has no more keys than the list
-pub keys_among : {K X : Type 0} {R : K → K → Ordering} (o : IsTotalOrder R) (m : FinMap R X) (xs : List K) → ((q : K) → IsSome (get m q) → In q xs) → length (entries m) ≤ length xs
-keys_among {R = R} o m xs among =
-    let le = length-le_from_is_member (eq_by_cmp_equiv o) (keys m) xs (IsDistinct-from_sorted R (keys m) (sorted_keys R (entries m) (entries_sorted m)))
-    (λ q i. any_in (eq_by_cmp R q) q xs (among q (contains_key-keys m q ∙ i)) ((eq_by_cmp_equiv o).refl q)) in
-    simp length-map at le
-
--- an entry is found where keys differ
-find_distinct : {K X : Type 0} {R : K → K → Ordering} (o : IsTotalOrder R) (k : K) (v : X) (es : List (K × X)) → IsDistinct (eq_by_cmp R) (map (λ e. e.0) es) → In (k, v) es → find R k es ≡ Some v
-unfolding IsDistinct
-find_distinct o k v [] d i = absurd i
-find_distinct {R = R} o k v (e ∷ es) d (inl same) =
-    ap (λ b. cond b (Some e.1) (find R k es)) (ap (λ e. eq_by_cmp R k e.0) same ∙ (eq_by_cmp_equiv o).refl k) ∙ ap (λ e. Some e.1) same
-find_distinct {R = R} o k v (e ∷ es) d (inr i) =
-    let apart = all_at (λ y. eq_by_cmp R e.0 y ≡ false) k (map (λ e. e.0) es) d.0 (in_map (λ e. e.0) (k, v) es i) in
-    ap (λ b. cond b (Some e.1) (find R k es)) ((eq_by_cmp_equiv o).symm k e.0 ∙ apart) ∙ find_distinct o k v es d.1 i
-
--- an entry of a map is found
-pub find_entry : {K X : Type 0} {R : K → K → Ordering} (o : IsTotalOrder R) (k : K) (v : X) (es : List (K × X)) → T (is_sorted R es) → In (k, v) es → find R k es ≡ Some v
-find_entry {R = R} o k v es h i = find_distinct o k v es (IsDistinct-from_sorted R (map (λ e. e.0) es) (sorted_keys R es h)) i
+use Rattle.nntp_facts.proofs.Maps.{sorted_keys, keys_among, find_entry}
 
 -- ---- the names and numbers that are shown, as lists
 
@@ -258,16 +234,6 @@ unshown_few facts name [] = omega arith
 unshown_few facts name (e ∷ es) =
     let rest = unshown_few facts name es in
     elim (is_some (id_shown facts name e.0)) as (λ b. length (cond b [] (e.1 ∷ []) ++ unshown_in facts name es) ≤ length (e ∷ es)) [ true ↦ omega arith | false ↦ omega arith ]
-
--- parts that are each at most one longer than others
-parts_few : {A B C : Type 0} (f : A → List B) (h : A → List C) (xs : List A) → ((x : A) → In x xs → length (f x) ≤ 1 + length (h x)) → length (flat_map f xs) ≤ length xs + length (flat_map h xs)
-parts_few f h [] le = omega arith
-parts_few f h (x ∷ xs) le =
-    let rest = parts_few f h xs (λ y i. le y (inr i)) in
-    let here = le x (inl refl) in
-    let parts = length-append (f x) (flat_map f xs) in
-    let others = length-append (h x) (flat_map h xs) in
-    omega arith
 
 -- the numbers of the entries are those of their names
 by_names : (facts : List Fact) (es : List (Name × Numbers)) → flat_map (λ (g : Name × Numbers). shown_numbers g.0 facts) es ≡ flat_map (λ name. shown_numbers name facts) (map (λ (g : Name × Numbers). g.0) es)

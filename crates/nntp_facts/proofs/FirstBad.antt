@@ -6,12 +6,13 @@ use Rattle.std.specs.Cmp.Lexicographic.{slice_cmp}
 use Rattle.std.specs.FinMap.{get, empty, get-empty}
 use Rattle.std.proofs.Math.Seq.{take-length}
 use Rattle.std.proofs.lemmas.Bool.{cases_order, true≢false}
-use Rattle.nntp_article.specs.Spool.{Spool, Numbers, IsSpool, numbers, Name, Profile}
+use Rattle.nntp_article.specs.Spool.{Spool, Numbers, IsSpool, numbers, Name}
+use Rattle.nntp_article.specs.declared.profile.Profile.{Profile}
 use Rattle.nntp_article.specs.Machine.{State, Visible, Run, start, visible_after}
 use Rattle.nntp_facts.specs.Asks.{Position, Nowhere, position_after}
 use Rattle.nntp_facts.specs.Facts.{Fact, facts_of, facts_from}
 use Rattle.nntp_facts.specs.Given.{facts_of_session, size}
-use Rattle.nntp_facts.specs.Permits.{SomePermits, IsBadAnswer}
+use Rattle.nntp_facts.specs.Permits.{SomePermits, IsFirstUnpermitted}
 use Rattle.nntp_facts.proofs.Exists.{some_or_none}
 use Rattle.nntp_article.specs.Article.{Id}
 use Rattle.nntp_wire.specs.Answer.{Asked, Response}
@@ -86,7 +87,7 @@ none_permitted profile ps answers = (no_spool, empty_is_spool profile, tt)
 -- ---- the first bad answer
 
 -- some spool permits the first m answers, or one of them is bad
-bad_before : (profile : Profile) (ps : List Asked) (answers : List Response) → size (facts_of_session ps answers) < 2 ^ 210 → (m : ℕ) → m ≤ length answers → SomePermits profile ps (take m answers) ⊎ ((k : ℕ) × IsBadAnswer profile ps answers k)
+bad_before : (profile : Profile) (ps : List Asked) (answers : List Response) → size (facts_of_session ps answers) < 2 ^ 210 → (m : ℕ) → m ≤ length answers → SomePermits profile ps (take m answers) ⊎ ((k : ℕ) × IsFirstUnpermitted profile ps answers k)
 bad_before profile ps answers small zero le = inl (none_permitted profile ps answers)
 bad_before profile ps answers small (suc m) le =
     let fits : size (facts_of_session ps (take (m + 1) answers)) < 2 ^ 210 = (let s = size_fewer start.visible Nowhere ps answers (m + 1) in omega arith) in
@@ -99,17 +100,17 @@ bad_before profile ps answers small (suc m) le =
     ]
 
 -- some spool permits the session, or an answer is bad
-pub permitted_or_bad : (profile : Profile) (ps : List Asked) (answers : List Response) → size (facts_of_session ps answers) < 2 ^ 210 → SomePermits profile ps answers ⊎ ((k : ℕ) × IsBadAnswer profile ps answers k)
-permitted_or_bad profile ps answers small = subst (λ all. SomePermits profile ps all ⊎ ((k : ℕ) × IsBadAnswer profile ps answers k)) (take-length answers) (bad_before profile ps answers small (length answers) (omega arith))
+pub permitted_or_bad : (profile : Profile) (ps : List Asked) (answers : List Response) → size (facts_of_session ps answers) < 2 ^ 210 → SomePermits profile ps answers ⊎ ((k : ℕ) × IsFirstUnpermitted profile ps answers k)
+permitted_or_bad profile ps answers small = subst (λ all. SomePermits profile ps all ⊎ ((k : ℕ) × IsFirstUnpermitted profile ps answers k)) (take-length answers) (bad_before profile ps answers small (length answers) (omega arith))
 
 -- and never both
-pub never_both : (profile : Profile) (ps : List Asked) (answers : List Response) (k : ℕ) → SomePermits profile ps answers → IsBadAnswer profile ps answers k → ⊥
+pub never_both : (profile : Profile) (ps : List Asked) (answers : List Response) (k : ℕ) → SomePermits profile ps answers → IsFirstUnpermitted profile ps answers k → ⊥
 never_both profile ps answers k h bad =
     let l = bad.0 in
     bad.2 (fewer_permitted profile ps answers (k + 1) (length answers) (omega arith) (subst (λ all. SomePermits profile ps all) (sym (take-length answers)) h))
 
 -- one answer is bad at most
-pub one_bad : (profile : Profile) (ps : List Asked) (answers : List Response) (k j : ℕ) → IsBadAnswer profile ps answers k → IsBadAnswer profile ps answers j → k ≡ j
+pub one_bad : (profile : Profile) (ps : List Asked) (answers : List Response) (k j : ℕ) → IsFirstUnpermitted profile ps answers k → IsFirstUnpermitted profile ps answers j → k ≡ j
 one_bad profile ps answers k j bad other =
     elim (cases_order k j) [
       | inl same ↦ same

@@ -13,7 +13,7 @@ head_is [] n e = cc
 head_is (x ∷ xs) n e = (xs, ap (λ x. x ∷ xs) (let same : x ≡ n = cc in same))
 
 -- a number below the first of ascending ones isn't one of them
-not_above : (m : ℕ) (xs : List ℕ) (n : ℕ) → list_all (λ k. nat_lt n k) xs ≡ true → m < n → is_one_of xs m ≡ true → ⊥
+pub not_above : (m : ℕ) (xs : List ℕ) (n : ℕ) → list_all (λ k. nat_lt n k) xs ≡ true → m < n → is_one_of xs m ≡ true → ⊥
 not_above m [] n up l t = cc
 not_above m (x ∷ xs) n up l t =
     let p = and_parts (nat_lt n x) (list_all (λ k. nat_lt n k) xs) up in

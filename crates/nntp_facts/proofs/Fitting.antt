@@ -4,15 +4,16 @@ use Rattle.std.specs.Prelude.{⊤, IsFalse, nat_le, ◌-◌}
 use Rattle.std.specs.List.{AllByRecursion, list_all}
 use Rattle.std.specs.Option.{option_map_or, option_or}
 use Rattle.std.proofs.lemmas.Bool.{and_parts, or_cases, true≢false, eqb-true, leb-true}
-use Rattle.nntp_article.specs.Spool.{Name, Profile}
+use Rattle.nntp_article.specs.Spool.{Name}
+use Rattle.nntp_article.specs.declared.profile.Profile.{Profile}
 use Rattle.nntp_article.specs.Machine.{Visible, visible_after, start, fits, marks_fit, are_zeros, is_ascending, is_same, is_num, is_in_range, number_fits, head_fits, active_fits}
-use Rattle.nntp_article.specs.Listed.{listed_numbers, active_groups}
+use Rattle.nntp_wire.specs.Listing.{listed_numbers, active_groups}
 use Rattle.nntp_facts.specs.Asks.{Position, Nowhere, position_after, Estimates, ListsIn, Has, StandsAt, StepsUp, StepsDown}
 use Rattle.nntp_facts.specs.Facts.{Fact, Asks, IdAt, TextIs, GroupsAre, on, facts_of_code, facts_of, facts_from, FitsAll}
 use Rattle.nntp_facts.specs.Given.{facts_of_session}
-use Rattle.nntp_facts.proofs.Members.{all_both, all_from}
-use Rattle.nntp_facts.proofs.MetNumbers.{each_of}
-use Rattle.nntp_wire.specs.Answer.{Asked, Response, WaterMarks, Success, success_code, to, group_is, numbers_are, sends, active_are, plain}
+use Rattle.nntp_facts.proofs.Members.{all_both, all_from, each_of}
+use Rattle.nntp_wire.specs.Answer.{Asked, Response, Success, success_code, to, group_is, numbers_are, sends, active_are, plain}
+use Rattle.nntp_wire.specs.declared.water_marks.WaterMarks.{WaterMarks}
 use Rattle.nntp_wire.specs.Command.{Request, Target, by_id, by_number, current, group, list_group, next, last, retrieve, list_active}
 use Rattle.nntp_wire.specs.declared.command.What.{What}
 
@@ -64,9 +65,9 @@ code_fitting profile v at (retrieve what current) code = on_fitting profile (cod
 code_fitting profile v at command code = tt
 
 -- the text and the number of a success
-success_fits : (profile : Profile) (v : Visible) (what : What) (which : Target) (sent : Success) → IsTrue (fits profile v (to (retrieve what which)) (sends sent)) → IsTrue (number_fits profile v which sent) × IsTrue (head_fits what sent.id sent.block)
+success_fits : (profile : Profile) (v : Visible) (what : What) (which : Target) (sent : Success) → IsTrue (fits profile v (to (retrieve what which)) (sends sent)) → IsTrue (number_fits profile v which sent.number sent.id) × IsTrue (head_fits what sent.id sent.block)
 success_fits profile v what which sent f =
-    let p = and_parts (sent.code == success_code what && number_fits profile v which sent) _ f in
+    let p = and_parts (sent.code == success_code what && number_fits profile v which sent.number sent.id) _ f in
     ((and_parts (sent.code == success_code what) _ p.0).1, p.1)
 
 -- what an answer that fits says

@@ -13,8 +13,8 @@ use Rattle.std.proofs.lemmas.Map.Views.{tells_apart, any-filter_same}
 use Rattle.std.proofs.lemmas.Map.Lookups.{exact_unsigned}
 use Rattle.nntp_facts.specs.Given.{wants, Demand}
 use Rattle.nntp_facts.specs.Summary.{has, Finds, one_more, shown_after, part_shows}
-use Rattle.nntp_facts.specs.declared.group.Found.{Found}
-use Rattle.nntp_facts.specs.declared.group.Found.TheVariants.{Absent, Single, Several}
+use Rattle.nntp_facts.specs.declared.shown.Found.{Found}
+use Rattle.nntp_facts.specs.declared.shown.Found.TheVariants.{Absent, Single, Several}
 
 -- two numbers in order differ
 apart : (a b : ℕ) → nat_cmp a b ≡ Less → a ≢ b

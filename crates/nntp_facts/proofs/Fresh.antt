@@ -1,5 +1,5 @@
 -- The numbers of invented ids: they are small, rise, and aren't those of ids that are mentioned.
-use Rattle.std.proofs.Common.{◌≡◌, ℕ, ◌+◌, ◌<◌, ◌≤◌, Bool, true, false, cond, eqb, List, [], ◌∷◌, ◌++◌, length, None, is_some, inl, inr, sym, ap, subst, ◌∙◌, arith, length-append}
+use Rattle.std.proofs.Common.{◌≡◌, ℕ, ◌+◌, ◌<◌, ◌≤◌, true, false, cond, eqb, List, [], ◌∷◌, ◌++◌, length, None, is_some, inl, inr, sym, ap, subst, ◌∙◌, arith, length-append}
 use Rattle.std.specs.Prelude.{IsFalse, ⊤}
 use Rattle.std.specs.List.{list_any, flat_map}
 use Rattle.std.specs.Cmp.Lexicographic.{same_text}
@@ -8,47 +8,37 @@ use Rattle.std.proofs.lemmas.Map.Steps.{le-length_from_below}
 use Rattle.nntp_article.specs.Machine.{is_same}
 use Rattle.nntp_facts.specs.Facts.{Fact, IdAt, TextIs, NoArticle}
 use Rattle.nntp_facts.specs.Given.{mentions, is_mentioned, invented, AreInvented, id_shown, unshown_in}
-use Rattle.nntp_facts.proofs.Invented.{number_of}
-use Rattle.nntp_facts.proofs.Members.{In, in_back}
+use Rattle.nntp_facts.proofs.Invented.{invented_number}
+use Rattle.nntp_facts.proofs.Members.{In, in_back, any_front, any_back}
 use Rattle.nntp_article.specs.Spool.{Name}
 use Rattle.nntp_article.specs.Article.{Id}
 
 -- the number of the id that a fact mentions, as if it were an invented one
-abbrev pub number_in : Fact → List ℕ
-number_in (IdAt name n id) = number_of id ∷ []
-number_in (TextIs what id lines) = number_of id ∷ []
-number_in (NoArticle id) = number_of id ∷ []
-number_in fact = []
+abbrev pub mentioned_number : Fact → List ℕ
+mentioned_number (IdAt name n id) = invented_number id ∷ []
+mentioned_number (TextIs what id lines) = invented_number id ∷ []
+mentioned_number (NoArticle id) = invented_number id ∷ []
+mentioned_number fact = []
 
 -- the numbers of the ids that are mentioned
 abbrev pub mentioned : List Fact → List ℕ
-mentioned facts = flat_map number_in facts
+mentioned facts = flat_map mentioned_number facts
 
--- what is found in the front is found
-any_front : (p : ℕ → Bool) (xs ys : List ℕ) → list_any p xs ≡ true → list_any p (xs ++ ys) ≡ true
-any_front p [] ys h = cc
-any_front p (x ∷ xs) ys h = elim (or_cases (p x) (list_any p xs) h) [ inl t ↦ or_left (p x) _ t | inr r ↦ or_right (p x) _ (any_front p xs ys r) ]
-
--- what is found in the back is found
-pub any_back : (p : ℕ → Bool) (xs ys : List ℕ) → list_any p ys ≡ true → list_any p (xs ++ ys) ≡ true
-any_back p [] ys h = h
-any_back p (x ∷ xs) ys h = or_right (p x) _ (any_back p xs ys h)
-
-module _ (B : ℕ) (small : (i : ℕ) → i < B → number_of (invented i) ≡ i) (facts : List Fact) where
+module _ (B : ℕ) (small : (i : ℕ) → i < B → invented_number (invented i) ≡ i) (facts : List Fact) where
   -- the ids are invented with rising numbers below B
   abbrev pub Numbered : ℕ → List Id → Type 0
   Numbered k [] = ⊤
   Numbered k (id ∷ ids) = (j : ℕ) × (k ≤ j) × (j < B) × (id ≡ invented j) × IsFalse (is_mentioned facts id) × Numbered (j + 1) ids
 
   -- an id that is an invented one has its number
-  same_number : (i : ℕ) (id : Id) → i < B → is_same id (invented i) ≡ true → eqb i (number_of id) ≡ true
-  same_number i id l e = eq-eqb i (number_of id) (sym (small i l) ∙ ap number_of (sym (same_text id (invented i) (sym e))))
+  same_number : (i : ℕ) (id : Id) → i < B → is_same id (invented i) ≡ true → eqb i (invented_number id) ≡ true
+  same_number i id l e = eq-eqb i (invented_number id) (sym (small i l) ∙ ap invented_number (sym (same_text id (invented i) (sym e))))
 
   -- a fact that mentions an invented id has its number
-  counted_in : (i : ℕ) (fact : Fact) → i < B → mentions (invented i) fact ≡ true → list_any (eqb i) (number_in fact) ≡ true
-  counted_in i (IdAt name n id) l e = or_left (eqb i (number_of id)) false (same_number i id l e)
-  counted_in i (TextIs what id lines) l e = or_left (eqb i (number_of id)) false (same_number i id l e)
-  counted_in i (NoArticle id) l e = or_left (eqb i (number_of id)) false (same_number i id l e)
+  counted_in : (i : ℕ) (fact : Fact) → i < B → mentions (invented i) fact ≡ true → list_any (eqb i) (mentioned_number fact) ≡ true
+  counted_in i (IdAt name n id) l e = or_left (eqb i (invented_number id)) false (same_number i id l e)
+  counted_in i (TextIs what id lines) l e = or_left (eqb i (invented_number id)) false (same_number i id l e)
+  counted_in i (NoArticle id) l e = or_left (eqb i (invented_number id)) false (same_number i id l e)
   counted_in i fact l e = cc
 
   -- and so one of the facts
@@ -56,14 +46,14 @@ module _ (B : ℕ) (small : (i : ℕ) → i < B → number_of (invented i) ≡ i
   counted i [] l e = cc
   counted i (fact ∷ facts) l e =
       elim (or_cases (mentions (invented i) fact) (is_mentioned facts (invented i)) e) [
-        | inl t ↦ any_front (eqb i) (number_in fact) (mentioned facts) (counted_in i fact l t)
-        | inr r ↦ any_back (eqb i) (number_in fact) (mentioned facts) (counted i facts l r)
+        | inl t ↦ any_front (eqb i) (mentioned_number fact) (mentioned facts) (counted_in i fact l t)
+        | inr r ↦ any_back (eqb i) (mentioned_number fact) (mentioned facts) (counted i facts l r)
       ]
 
   -- the numbers from k on, behind those that were invented before
   numbered_from : (ids : List Id) (k : ℕ) (done : List ℕ) → ((i : ℕ) → i < k → list_any (eqb i) (done ++ mentioned facts) ≡ true) → length (mentioned facts) + length done + length ids < B → AreInvented facts k ids → Numbered k ids
   numbered_from [] k done below few h = tt
-  numbered_from (id ∷ ids) k done below few (j, from, is, free, passed, rest) =
+  numbered_from (id ∷ ids) k done below few (j, (from, free, passed), is, rest) =
       let used : (i : ℕ) → i < j → i < B → list_any (eqb i) (done ++ mentioned facts) ≡ true = λ i l s.
       elim (cases_lt i k) [ inl b ↦ below i b | inr g ↦ any_back (eqb i) done (mentioned facts) (counted i facts s (passed i g l)) ] in
       let count : length (done ++ mentioned facts) ≡ length done + length (mentioned facts) = length-append done (mentioned facts) in
@@ -119,7 +109,7 @@ module _ (B : ℕ) (small : (i : ℕ) → i < B → number_of (invented i) ≡ i
       let a = small f.0 f.2 in
       let b = small later.0 later.2 in
       let l = later.1 in
-      let equal : f.0 ≡ later.0 = sym a ∙ ap number_of (sym f.3 ∙ ap (λ e. e.1) same ∙ later.3) ∙ b in
+      let equal : f.0 ≡ later.0 = sym a ∙ ap invented_number (sym f.3 ∙ ap (λ e. e.1) same ∙ later.3) ∙ b in
       omega arith
 
   -- no id is invented for two numbers of a group

@@ -43,4 +43,4 @@ pub front_stands : (xs ys : List Ask) → ((n : ℕ) → IsTrue (is_shown (xs ++
 front_stands xs ys positive stand =
     let given = given_map (xs ++ ys) stand in
     asks_stand xs given.0 (all_front (Meets given.0) xs ys (given_meet (xs ++ ys) given.0 stand given.1))
-    (λ n i. elim ((given.1 n).0 i) [ inl s ↦ positive n s | inr x ↦ x.positive ])
+    (λ n i. elim ((given.1 n).0 i) [ inl s ↦ positive n s | inr x ↦ x.first.0 ])

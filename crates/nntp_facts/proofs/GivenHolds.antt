@@ -1,29 +1,27 @@
 -- What stands together holds of the spool that is given for it.
-use Rattle.std.proofs.Common.{◌≡◌, ℕ, ◌+◌, ◌<◌, ◌⊎◌, Bool, true, false, cond, ◌&&◌, ◌==◌, IsTrue, List, [], ◌∷◌, ◌++◌, map, length, Option, None, Some, is_some, IsSome, option_map, inl, inr, refl, sym, ap, subst, ◌∙◌}
+use Rattle.std.proofs.Common.{◌≡◌, ℕ, ◌+◌, ◌<◌, ◌⊎◌, Bool, true, false, cond, ◌&&◌, ◌==◌, IsTrue, List, [], ◌∷◌, ◌++◌, map, length, Option, None, Some, is_some, option_map, inl, inr, refl, sym, ap, subst, ◌∙◌}
 use Rattle.std.specs.Prelude.{IsFalse, IfSome, unwrap_or}
-use Rattle.std.specs.declared.cmp.Ordering.{Ordering}
-use Rattle.std.specs.declared.cmp.Ordering.TheVariants.{Less, Equal, Greater}
 use Rattle.std.specs.List.{AllByRecursion, list_any}
 use Rattle.std.specs.Option.{option_map_or}
-use Rattle.std.specs.Ordering.{eq_by_cmp, is_eq}
 use Rattle.std.specs.Ordering.{nat_cmp}
-use Rattle.std.specs.FinMap.{get, find, empty, entries, get-entries, get-empty, IsAntisymmetric, nat_cmp-IsAntisymmetric, slice_cmp-IsAntisymmetric}
+use Rattle.std.specs.FinMap.{get, empty, entries, get-entries, get-empty, nat_cmp-IsAntisymmetric, slice_cmp-IsAntisymmetric}
 use Rattle.std.proofs.lemmas.Bool.{true≢false, and_parts, and_from, and_cases, false_from_ne_true, not-false, eqb-true, eq-eqb}
 use Rattle.std.proofs.lemmas.List.Elements.{All-from_recursion}
 use Rattle.nntp_article.specs.Article.{head_part, body_part, is_empty, is_head, Id, Line}
-use Rattle.nntp_article.specs.Spool.{Spool, Text, Numbers, IsNumber, IsGroup, numbers, HasText, text_of, Name, Profile}
+use Rattle.nntp_article.specs.Spool.{Spool, Text, Numbers, IsNumber, IsGroup, numbers, HasText, text_of, Name}
+use Rattle.nntp_article.specs.declared.profile.Profile.{Profile}
 use Rattle.nntp_article.specs.Machine.{is_same, head_fits, active_fits, ActivesAgree}
 use Rattle.nntp_facts.specs.Asks.{Ask, Meets, Has, Bounds}
 use Rattle.nntp_facts.specs.Facts.{Fact, Holds, ThereIs, ThereIsNo, Asks, IdAt, TextIs, NoArticle, GroupsAre}
 use Rattle.nntp_facts.specs.Given.{asks_in, asks_of, shows_group, id_in, id_shown, first_given, mentions, is_mentioned, gives_article, head_in, body_in, plain_head, invented, unshown_in, unshown_ids, IsGiven}
 use Rattle.nntp_facts.specs.Together.{IsWellFormed, denies_group, number_in, shows_article, denies_article, GiveOne, Together}
 use Rattle.nntp_facts.proofs.Members.{In, all_at, all_part, all_from, any_in, found_in, from_map, contains_in, in_contains, first_found}
-use Rattle.nntp_facts.proofs.Firsts.{none_of, not_number}
+use Rattle.nntp_facts.proofs.Firsts.{not_number}
 use Rattle.nntp_facts.proofs.GivenNumbers.{given_meet}
 use Rattle.nntp_facts.proofs.Stand.{same_itself, in_listed, matching}
 use Rattle.nntp_facts.proofs.Placed.{IsSelectable, Placed}
 use Rattle.nntp_facts.proofs.Fitting.{IsFitting}
-use Rattle.nntp_facts.proofs.Invented.{number_of}
+use Rattle.nntp_facts.proofs.Invented.{invented_number}
 use Rattle.nntp_facts.proofs.Fresh.{Numbered, numbered, of_numbered, part_numbered, unshown_there, unshown_apart, mentioned}
 use Rattle.nntp_wire.specs.Listing.{ActiveValue}
 use Rattle.nntp_wire.specs.declared.command.What.{What}
@@ -31,20 +29,8 @@ use Rattle.nntp_wire.specs.declared.command.What.TheVariants.{Article, Head, Bod
 use Rattle.nntp_wire.specs.Name.{IsMessageId}
 use Rattle.nntp_wire.specs.Wildmat.{MatchesName}
 use Rattle.nntp_wire.specs.Decided.{matches_name}
-
--- an entry that is found is one of the map's
-pub entry_in : {K X : Type 0} {R : K → K → Ordering} (same : IsAntisymmetric R) (q : K) (v : X) (es : List (K × X)) → find R q es ≡ Some v → In (q, v) es
-entry_in same q v [] e = cc
-entry_in {R = R} same q v (x ∷ es) e = by (eq_by_cmp R q x.0) refl (λ e. entry_in same q v es e) e
-  where
-    equal : (r : Ordering) → is_eq r ≡ true → r ≡ Equal
-    equal Less h = cc
-    equal Equal h = refl
-    equal Greater h = cc
-
-    by : (b : Bool) → eq_by_cmp R q x.0 ≡ b → (find R q es ≡ Some v → In (q, v) es) → cond b (Some x.1) (find R q es) ≡ Some v → In (q, v) (x ∷ es)
-    by true is rest e = inl (let k : q ≡ x.0 = same q x.0 (equal _ is) in let w : x.1 ≡ v = cc in λ i. (sym k i, w i))
-    by false is rest e = inr (rest e)
+use Rattle.nntp_facts.proofs.Maps.{entry_in}
+use Rattle.nntp_wire.proofs.OptionLemmas.{none_of, some_is}
 
 -- an id at a number is one of the entries
 pub entry_of_number : (N : Numbers) (n : ℕ) (id : Id) → get N n ≡ Some id → In (n, id) (entries N)
@@ -57,11 +43,6 @@ group_of_number S name n i = by (get S.groups name) refl i
     by : (o : Option Numbers) → get S.groups name ≡ o → IsNumber (unwrap_or o empty) n → (N : Numbers) × (get S.groups name ≡ Some N) × (unwrap_or (get S.groups name) empty ≡ N)
     by None e i = absurd (not_number empty n (get-empty nat_cmp n) i)
     by (Some N) e i = (N, e, ap (λ o. unwrap_or o empty) e)
-
--- what is there is something
-pub some_is : {A : Type 0} (o : Option A) → IsSome o → (x : A) × (o ≡ Some x)
-some_is None h = cc
-some_is (Some x) h = (x, refl)
 
 -- where there is an empty line, the parts make the whole
 pub parts_joined : (lines : List Line) → list_any is_empty lines ≡ true → lines ≡ head_part lines ++ [] ∷ body_part lines
@@ -84,7 +65,7 @@ pub record ShownAt (facts : List Fact) (name : Name) (n : ℕ) (id : Id) : Type 
 
 -- what is said stands together and fits, and G is given for it
 pub record Setting (profile : Profile) (B : ℕ) (G : Spool) (facts : List Fact) : Type 0 where
-  pub small : (i : ℕ) → i < B → number_of (invented i) ≡ i
+  pub small : (i : ℕ) → i < B → invented_number (invented i) ≡ i
   pub ids : (i : ℕ) → i < B → IsMessageId (invented i)
   pub fitting : AllByRecursion (IsFitting profile) facts
   pub placed : AllByRecursion (Placed facts) facts

@@ -8,7 +8,8 @@ use Rattle.std.specs.Cmp.Lexicographic.{same_text}
 use Rattle.std.proofs.lemmas.Bool.{true≢false, and_parts}
 use Rattle.std.proofs.lemmas.List.Elements.{All-from_recursion}
 use Rattle.nntp_article.specs.Article.{is_empty, is_head, said_id, head_part, body_part, Id, Line}
-use Rattle.nntp_article.specs.Spool.{Spool, Text, IsNumber, IsGroup, numbers, IsSpool, Name, is_line, Profile}
+use Rattle.nntp_article.specs.Spool.{Spool, Text, IsNumber, IsGroup, numbers, IsSpool, Name, is_line}
+use Rattle.nntp_article.specs.declared.profile.Profile.{Profile}
 use Rattle.nntp_article.specs.Machine.{is_same, says_own_id}
 use Rattle.nntp_facts.specs.Facts.{Fact, ThereIs, TextIs, GroupsAre}
 use Rattle.nntp_facts.specs.Given.{shows_group, mentions, is_mentioned, gives_article, id_shown, first_given, head_in, body_in, plain_head}
@@ -69,7 +70,7 @@ module _ (profile : Profile) (B : ℕ) (G : Spool) (facts : List Fact) (s : Sett
       let group : IsGroup G name = ap is_some g.1 in
       elim ((s.given.numbers_given name group n).0 i) [
         | inl shown ↦ shown_in_limit profile facts s.fitting s.placed name n shown
-        | inr more ↦ (more.positive, free_in_limit profile facts s.fitting s.placed name ((s.given.groups name).0 group) n more.not_denied)
+        | inr more ↦ (more.first.0, free_in_limit profile facts s.fitting s.placed name ((s.given.groups name).0 group) n more.first.1)
       ]
 
   -- an id that is shown is mentioned

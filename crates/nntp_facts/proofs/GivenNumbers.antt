@@ -10,9 +10,10 @@ use Rattle.nntp_article.specs.Machine.{is_in_range}
 use Rattle.nntp_facts.specs.Asks.{Nowhere, First, Known, Ask, Meets, Estimates, Bounds, ListsIn, Has, Lacks, StandsAt, StandsNowhere, StepsUp, StepsDown, IsTop, IsBottom}
 use Rattle.nntp_facts.specs.Given.{shows, denies, is_denied, Demand, NoDemand, NotEmpty, OnlyOne, SecondIs, Impossible, demand_in, join, demand, IsGivenNumber, HasGivenNumbers}
 use Rattle.nntp_facts.specs.Together.{is_possible, MeetsDemand, IsFewFor, AsksStand}
-use Rattle.nntp_facts.proofs.Members.{In, all_at, all_from, any_in, in_contains}
-use Rattle.nntp_facts.proofs.Firsts.{Empty, Begins, firsts, least_is, least_none, none_of}
-use Rattle.nntp_facts.proofs.MetNumbers.{of_first, listed_in, finds, in_range, in_range_back, each_of}
+use Rattle.nntp_facts.proofs.Members.{In, all_at, all_from, any_in, in_contains, each_of}
+use Rattle.nntp_facts.proofs.Firsts.{Empty, Begins, firsts, least_is, least_none}
+use Rattle.nntp_facts.proofs.MetNumbers.{of_first, listed_in, finds, in_range, in_range_back}
+use Rattle.nntp_wire.proofs.OptionLemmas.{none_of}
 
 -- numbers that meet two demands as one meet each
 parted : (P : ℕ → Type 0) (d e : Demand) → MeetsDemand (join d e) P → MeetsDemand d P × MeetsDemand e P

@@ -1,29 +1,19 @@
 -- There is one given spool at most.
-use Rattle.std.proofs.Common.{◌≡◌, ℕ, ◌+◌, ◌<◌, ◌≤◌, Bool, true, false, cond, IsTrue, List, [], ◌∷◌, ◌++◌, map, Option, None, Some, is_some, IsSome, inl, inr, refl, sym, ap, subst, ◌∙◌}
-use Rattle.std.specs.Prelude.{IsFalse, unwrap_or}
+use Rattle.std.proofs.Common.{◌≡◌, ℕ, ◌+◌, cond, List, [], ◌∷◌, ◌++◌, map, Option, None, Some, is_some, IsSome, inl, inr, refl, sym, ap, subst, ◌∙◌}
+use Rattle.std.specs.Prelude.{unwrap_or}
 use Rattle.std.specs.List.{flat_map}
-use Rattle.std.specs.declared.cmp.Ordering.{Ordering}
-use Rattle.std.specs.Cmp.{IsTotalOrder, nat_cmp_total}
+use Rattle.std.specs.Cmp.{nat_cmp_total}
 use Rattle.std.specs.Cmp.Lexicographic.{nat_list_cmp_total}
-use Rattle.std.specs.FinMap.{FinMap, get, keys, entries, empty, from_sorted, entries-from_sorted, same_entries_map, same_map, IsAntisymmetric, nat_cmp-IsAntisymmetric}
-use Rattle.std.proofs.lemmas.Bool.{cases_order, true≢false}
+use Rattle.std.specs.FinMap.{get, keys, entries, empty, same_entries_map, same_map, nat_cmp-IsAntisymmetric}
+use Rattle.std.proofs.lemmas.Bool.{true≢false}
 use Rattle.nntp_article.specs.Spool.{Spool, Text, Numbers, IsNumber, IsGroup, numbers, Name}
 use Rattle.nntp_facts.specs.Facts.{Fact}
 use Rattle.nntp_facts.specs.Given.{id_shown, is_mentioned, invented, AreInvented, unshown_in, IsGiven}
-use Rattle.nntp_facts.proofs.Members.{In, in_map, from_map}
-use Rattle.nntp_facts.proofs.Maps.{sorted_as, get_in, in_get}
+use Rattle.nntp_facts.proofs.FirstFree.{first_free_once}
+use Rattle.nntp_facts.proofs.Members.{In}
+use Rattle.nntp_facts.proofs.Maps.{same_keys, in_get}
 use Rattle.nntp_facts.proofs.Made.{names_apart}
 use Rattle.nntp_article.specs.Article.{Id}
-
--- the least number from k on whose invented id isn't mentioned is one
-same_next : (facts : List Fact) (k i j : ℕ) → k ≤ i → k ≤ j → IsFalse (is_mentioned facts (invented i)) → IsFalse (is_mentioned facts (invented j))
-    → ((m : ℕ) → k ≤ m → m < i → IsTrue (is_mentioned facts (invented m))) → ((m : ℕ) → k ≤ m → m < j → IsTrue (is_mentioned facts (invented m))) → i ≡ j
-same_next facts k i j a b free free' passed passed' =
-    elim (cases_order i j) [
-      | inl same ↦ same
-      | inr (inl l) ↦ absurd (true≢false (sym (passed' i a l) ∙ free))
-      | inr (inr g) ↦ absurd (true≢false (sym (passed j b g) ∙ free'))
-    ]
 
 -- ids at numbers for which one is shown are those
 abbrev Agree : List Fact → Name → List (ℕ × Id) → Type 0
@@ -57,59 +47,10 @@ same_group facts name k (e ∷ es) (f ∷ fs) xs ys keys ag ag' h g =
         let a = ag e.0 e.1 id (inl refl) is in
         let b = ag' f.0 f.1 id (inl refl) (ap (id_shown facts name) (sym first_key) ∙ is) in
         (joined id (a ∙ sym b) r.0, r.1)
-    by None is rec (i, a, is_i, free, passed, h) (j, b, is_j, free', passed', g) =
-        let same = same_next facts k i j a b free free' passed passed' in
+    by None is rec (i, a, is_i, h) (j, b, is_j, g) =
+        let same = first_free_once (λ i. is_mentioned facts (invented i)) k i j a b in
         let r = rec (i + 1) h (subst (λ n. AreInvented facts (n + 1) (unshown_in facts name fs ++ ys)) (sym same) g) in
         (joined e.1 (is_i ∙ ap invented same ∙ sym is_j) r.0, r.1)
-
--- ---- keys
-
--- two tests that follow from one another
-same_test : (a b : Bool) → (a ≡ true → b ≡ true) → (b ≡ true → a ≡ true) → a ≡ b
-same_test true b f g = sym (f refl)
-same_test false true f g = g refl
-same_test false false f g = refl
-
-module _ {K X : Type 0} {R : K → K → Ordering} (o : IsTotalOrder R) (same : IsAntisymmetric R) where
-  -- entries without their values
-  bare : List (K × X) → List (K × List ℕ)
-  bare es = map (λ e. (e.0, [])) es
-
-  -- they have the same keys
-  keys_bare : (es : List (K × X)) → map (λ e. e.0) (bare es) ≡ map (λ e. e.0) es
-  unfolding bare
-  keys_bare [] = refl
-  keys_bare (e ∷ es) = ap (λ ks. e.0 ∷ ks) (keys_bare es)
-
-  -- the keys of a map, as a map
-  key_part : FinMap R X → FinMap R (List ℕ)
-  key_part m = from_sorted (bare (entries m))
-
-  -- its entries
-  entries-key_part : (m : FinMap R X) → entries (key_part m) ≡ bare (entries m)
-  unfolding key_part
-  entries-key_part m = entries-from_sorted R (bare (entries m)) (sorted_as R m (bare (entries m)) (keys_bare (entries m)))
-
-  -- what is found in it
-  get-key_part : (m : FinMap R X) (q : K) → get (key_part m) q ≡ cond (is_some (get m q)) (Some []) None
-  unfolding bare
-  get-key_part m q = by (get (key_part m) q) refl (get m q) refl
-    where
-      by : (p : Option (List ℕ)) → get (key_part m) q ≡ p → (r : Option X) → get m q ≡ r → p ≡ cond (is_some r) (Some []) None
-      by (Some v) e r is =
-          let f = from_map (λ (e : K × X). (e.0, [])) (q, v) (entries m) (subst (In (q, v)) (entries-key_part m) (get_in o same (key_part m) q v e)) in
-          let there : is_some (get m q) ≡ true = ap is_some (in_get o same m q f.0.1 (subst (λ k. In (k, f.0.1) (entries m)) (ap (λ e. e.0) f.2) f.1)) in
-          ap Some (sym (ap (λ e. e.1) f.2)) ∙ ap (λ b. cond b (Some []) None) (sym there ∙ ap is_some is)
-      by None e None is = refl
-      by None e (Some x) is =
-          let there = in_get o same (key_part m) q [] (subst (In (q, [])) (sym (entries-key_part m)) (in_map (λ (e : K × X). (e.0, [])) (q, x) (entries m) (get_in o same m q x is))) in
-          let bad : None ≡ Some [] = sym e ∙ there in cc
-
-  -- maps that have the same keys list them alike
-  same_keys : (m n : FinMap R X) → ((q : K) → IsSome (get m q) → IsSome (get n q)) → ((q : K) → IsSome (get n q) → IsSome (get m q)) → keys m ≡ keys n
-  same_keys m n f g =
-      let parts : key_part m ≡ key_part n = same_map o same (key_part m) (key_part n) (λ q. get-key_part m q ∙ ap (λ b. cond b (Some []) None) (same_test (is_some (get m q)) (is_some (get n q)) (f q) (g q)) ∙ sym (get-key_part n q)) in
-      sym (keys_bare (entries m)) ∙ ap (map (λ e. e.0)) (sym (entries-key_part m) ∙ ap entries parts ∙ entries-key_part n) ∙ keys_bare (entries n)
 
 -- ---- groups
 

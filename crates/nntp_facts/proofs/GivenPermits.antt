@@ -1,7 +1,8 @@
 -- The spool that is given for a session permits it.
 use Rattle.std.proofs.Common.{◌<◌, ◌^◌, List, length}
 use Rattle.std.specs.List.{AllByRecursion}
-use Rattle.nntp_article.specs.Spool.{Spool, IsSpool, numbers, Name, Profile}
+use Rattle.nntp_article.specs.Spool.{Spool, IsSpool, numbers, Name}
+use Rattle.nntp_article.specs.declared.profile.Profile.{Profile}
 use Rattle.nntp_article.specs.Machine.{Run, start}
 use Rattle.nntp_facts.specs.Asks.{Nowhere, Meets}
 use Rattle.nntp_facts.specs.Facts.{Holds, FitsAll}

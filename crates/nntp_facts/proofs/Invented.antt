@@ -15,12 +15,12 @@ use Rattle.nntp_wire.specs.Name.{IsMessageId}
 use Rattle.nntp_wire.proofs.DecidedLemmas.{message_id-iff}
 
 -- the number of an invented id
-pub number_of : Id → ℕ
-number_of id = digits_value 10 (take (length (drop 2 id) - 18) (drop 2 id))
+pub invented_number : Id → ℕ
+invented_number id = digits_value 10 (take (length (drop 2 id) - 18) (drop 2 id))
 
 -- invented ids have different numbers
-pub number-invented : (k : ℕ) → k < 10 ^ 64 → number_of (invented k) ≡ k
-unfolding number_of
+pub number-invented : (k : ℕ) → k < 10 ^ 64 → invented_number (invented k) ≡ k
+unfolding invented_number
 number-invented k small =
     let long : length (decimal k ++ codes "@invented.invalid>") - 18 ≡ length (decimal k) = omega (arith, length-append (decimal k) (codes "@invented.invalid>")) in
     ap (λ n. digits_value 10 (take n (decimal k ++ codes "@invented.invalid>"))) long

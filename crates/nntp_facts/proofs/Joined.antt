@@ -1,179 +1,219 @@
--- What is said stands together fact by fact.
-use Rattle.std.proofs.Common.{◌≡◌, ◌<◌, ◌^◌, ◌↔◌, Bool, true, false, ◌||◌, not, IsTrue, List, [], ◌∷◌, ◌++◌, Option, None, Some, inl, inr, refl, sym, ap, subst, ◌∙◌, append-nil, append_assoc}
-use Rattle.std.specs.Prelude.{IsFalse, IfSome}
+-- More facts behind those that stand together.
+use Rattle.std.proofs.Common.{◌≡◌, ℕ, ◌<◌, ◌^◌, ◌↔◌, Bool, true, false, ◌||◌, ◌&&◌, ◌==◌, not, IsTrue, List, [], ◌∷◌, ◌++◌, Option, None, Some, refl, sym, subst, ◌∙◌}
+use Rattle.std.specs.Prelude.{IsFalse, if◌then◌else◌}
 use Rattle.std.specs.List.{AllByRecursion, list_any}
-use Rattle.std.specs.Option.{option_or, option_map_or}
-use Rattle.std.proofs.lemmas.Bool.{true≢false, or_left, or_right, or_cases, and_parts, false_from_ne_true, not-true}
-use Rattle.std.proofs.lemmas.List.Folds.{list_any-append}
+use Rattle.std.specs.Option.{option_map_or}
+use Rattle.std.proofs.lemmas.Bool.{true≢false, and_parts, false_from_ne_true, not-true}
 use Rattle.std.proofs.lemmas.Grind.{flat_map-append}
 use Rattle.nntp_article.specs.Article.{Id}
-use Rattle.nntp_article.specs.Spool.{Profile, Spool, IsSpool, Name}
-use Rattle.nntp_article.specs.Machine.{start, fits, is_same}
-use Rattle.nntp_facts.specs.Asks.{Nowhere}
-use Rattle.nntp_facts.specs.Facts.{Fact, Holds, ThereIs, IdAt, TextIs, GroupsAre, facts_of, FitsAll}
-use Rattle.nntp_facts.specs.Given.{asks_in, asks_of, shows_group, first_given, id_in, head_in, body_in, facts_of_session, size}
-use Rattle.nntp_facts.specs.Together.{IsWellFormed, AsksStand, denies_group, number_in, shows_article, denies_article, GiveOne, GivesSame, Together, Joins, JoinInTurn}
+use Rattle.nntp_article.specs.Spool.{Spool, IsSpool, Name}
+use Rattle.nntp_article.specs.declared.profile.Profile.{Profile}
+use Rattle.nntp_article.specs.Machine.{Visible, start, fits, is_same}
+use Rattle.nntp_facts.specs.Asks.{Ask, Position, Nowhere, Estimates, ListsIn, StandsAt, StandsNowhere, StepsUp, StepsDown, IsTop, IsBottom, Lacks}
+use Rattle.nntp_facts.specs.Facts.{Fact, Holds, ThereIs, ThereIsNo, Asks, IdAt, TextIs, NoArticle, GroupsAre, on, here, facts_of_code, facts_of, FitsAll}
+use Rattle.nntp_facts.specs.Given.{asks_in, asks_of, shows_group, is_shown_group, first_given, id_in, head_in, body_in, facts_of_session, size}
+use Rattle.nntp_facts.specs.Together.{IsWellFormed, AsksStand, denies_group, number_in, shows_article, denies_article, GiveOne, Together, AgreeWithin, Join}
 use Rattle.nntp_facts.specs.Classes.{visible_from, position_from, asked_next}
 use Rattle.nntp_facts.specs.Permits.{SomePermits}
-use Rattle.nntp_facts.proofs.Members.{all_both, all_front, all_back, all_from, all_at}
+use Rattle.nntp_facts.proofs.Members.{all_both, all_back}
+use Rattle.nntp_facts.proofs.Gives.{apart_both, apart_shown, apart_denied, one_gives_one, give_one_both, give_same_of_both}
 use Rattle.nntp_facts.proofs.Stand.{stand}
 use Rattle.nntp_facts.proofs.GivenPermits.{said}
 use Rattle.nntp_facts.proofs.Exists.{permitted_together}
 use Rattle.nntp_facts.proofs.Grow.{facts_grow, fitting_grows}
-use Rattle.nntp_wire.specs.Answer.{Asked, Response}
-
--- ---- two lists of facts
-
--- what the first of both gives
-given_append : {A : Type 0} (f : Fact → Option A) (xs ys : List Fact) → first_given f (xs ++ ys) ≡ option_or (first_given f xs) (first_given f ys)
-given_append f [] ys = refl
-given_append {A} f (x ∷ xs) ys = by (f x) (given_append f xs ys)
-  where
-    by : (o : Option A) → first_given f (xs ++ ys) ≡ option_or (first_given f xs) (first_given f ys) → option_or o (first_given f (xs ++ ys)) ≡ option_or (option_or o (first_given f xs)) (first_given f ys)
-    by None rest = rest
-    by (Some y) rest = refl
+use Rattle.nntp_wire.specs.Listing.{ActiveValue}
+use Rattle.nntp_wire.specs.Decided.{matches_name}
+use Rattle.nntp_wire.specs.Listing.{listed_numbers, active_groups}
+use Rattle.nntp_wire.specs.Answer.{Asked, Response, to, greeting, group_is, numbers_are, sends, active_are, plain}
+use Rattle.nntp_wire.specs.Command.{Request, Target, by_id, by_number, current, capabilities, mode_reader, next, last, quit, opaque, ill_formed, group, list_group, retrieve, list_active}
+use Rattle.nntp_wire.specs.declared.command.What.{What}
 
 -- what both ask of a group
-pub asks_append : (name : Name) (facts : List Fact) (fact : Fact) → asks_of name (facts ++ fact ∷ []) ≡ asks_of name facts ++ asks_in name fact
-asks_append name facts fact = flat_map-append (asks_in name) facts (fact ∷ []) ∙ ap (λ more. asks_of name facts ++ more) (append-nil (asks_in name fact))
+pub asks_append : (name : Name) (facts more : List Fact) → asks_of name (facts ++ more) ≡ asks_of name facts ++ asks_of name more
+asks_append name facts more = flat_map-append (asks_in name) facts more
 
--- a test of one more
-any_more : (p : Fact → Bool) (facts : List Fact) (fact : Fact) → list_any p (facts ++ fact ∷ []) ≡ (list_any p facts || p fact)
-any_more p facts fact = list_any-append p facts (fact ∷ []) ∙ ap (λ b. list_any p facts || b) (or_no (p fact))
-  where
-    or_no : (b : Bool) → (b || false) ≡ b
-    or_no true = refl
-    or_no false = refl
+-- ---- more facts
 
--- ---- one fact more
-
--- what is given before is given still
-one_more_gives : {A : Type 0} (f : Fact → Option A) (facts : List Fact) (fact : Fact) → GiveOne f facts → GivesSame f facts fact → GiveOne f (facts ++ fact ∷ [])
-one_more_gives {A} f facts fact one same =
-    all_both _ facts (fact ∷ [])
-    (all_from _ facts (λ x i. kept (f x) (all_at _ x facts one i)))
-    (by (f fact) (first_given f facts) refl refl same, tt)
-  where
-    kept : (o : Option A) → IfSome o (λ x. first_given f facts ≡ Some x) → IfSome o (λ x. first_given f (facts ++ fact ∷ []) ≡ Some x)
-    kept None h = tt
-    kept (Some x) h = given_append f facts (fact ∷ []) ∙ ap (λ o. option_or o (first_given f (fact ∷ []))) h
-
-    by : (o p : Option A) → f fact ≡ o → first_given f facts ≡ p → IfSome o (λ x. IfSome p (λ y. x ≡ y)) → IfSome o (λ x. first_given f (facts ++ fact ∷ []) ≡ Some x)
-    by None p e g h = tt
-    by (Some x) None e g h = given_append f facts (fact ∷ []) ∙ ap (λ o. option_or o (first_given f (fact ∷ []))) g ∙ ap (λ o. option_or o None) e
-    by (Some x) (Some y) e g h = given_append f facts (fact ∷ []) ∙ ap (λ o. option_or o (first_given f (fact ∷ []))) g ∙ ap Some (sym h)
-
--- and back
-one_more_given : {A : Type 0} (f : Fact → Option A) (facts : List Fact) (fact : Fact) → GiveOne f (facts ++ fact ∷ []) → GivesSame f facts fact
-one_more_given {A} f facts fact one = by (f fact) (first_given f facts) refl (all_back _ facts (fact ∷ []) one).0
-  where
-    by : (o p : Option A) → first_given f facts ≡ p → IfSome o (λ x. first_given f (facts ++ fact ∷ []) ≡ Some x) → IfSome o (λ x. IfSome p (λ y. x ≡ y))
-    by None p g h = tt
-    by (Some x) None g h = tt
-    by (Some x) (Some y) g h = let e : Some y ≡ Some x = sym (given_append f facts (fact ∷ []) ∙ ap (λ o. option_or o (first_given f (fact ∷ []))) g) ∙ h in cc
-
--- where nothing is shown and denied before, and one more fact fits in, nothing is
-apart_more : (shows denies : Fact → Bool) (facts : List Fact) (fact : Fact)
-    → (IsTrue (list_any shows facts) → IsFalse (list_any denies facts)) → (IsTrue (shows fact) → IsFalse (list_any denies facts)) → (IsTrue (denies fact) → IsFalse (list_any shows facts)) → (IsTrue (shows fact) → IsFalse (denies fact))
-    → IsTrue (list_any shows (facts ++ fact ∷ [])) → IsFalse (list_any denies (facts ++ fact ∷ []))
-apart_more shows denies facts fact before shown denied itself s =
-    false_from_ne_true _ (λ d. elim (or_cases (list_any shows facts) (shows fact) (sym (any_more shows facts fact) ∙ s)) [
-      | inl a ↦ elim (or_cases (list_any denies facts) (denies fact) (sym (any_more denies facts fact) ∙ d)) [
-        | inl b ↦ true≢false (sym b ∙ before a)
-        | inr b ↦ true≢false (sym a ∙ denied b)
-      ]
-      | inr a ↦ elim (or_cases (list_any denies facts) (denies fact) (sym (any_more denies facts fact) ∙ d)) [
-        | inl b ↦ true≢false (sym b ∙ shown a)
-        | inr b ↦ true≢false (sym b ∙ itself a)
-      ]
-    ])
-
--- and back
-apart_shown : (shows denies : Fact → Bool) (facts : List Fact) (fact : Fact) → (IsTrue (list_any shows (facts ++ fact ∷ [])) → IsFalse (list_any denies (facts ++ fact ∷ []))) → IsTrue (shows fact) → IsFalse (list_any denies facts)
-apart_shown shows denies facts fact apart s =
-    false_from_ne_true _ (λ d. true≢false (sym (any_more denies facts fact ∙ or_left _ (denies fact) d) ∙ apart (any_more shows facts fact ∙ or_right (list_any shows facts) _ s)))
-
-apart_denied : (shows denies : Fact → Bool) (facts : List Fact) (fact : Fact) → (IsTrue (list_any shows (facts ++ fact ∷ [])) → IsFalse (list_any denies (facts ++ fact ∷ []))) → IsTrue (denies fact) → IsFalse (list_any shows facts)
-apart_denied shows denies facts fact apart d =
-    false_from_ne_true _ (λ s. true≢false (sym (any_more denies facts fact ∙ or_right (list_any denies facts) _ d) ∙ apart (any_more shows facts fact ∙ or_left _ (shows fact) s)))
-
--- no fact denies a group that it shows
-group_itself : (name : Name) (fact : Fact) → IsTrue (shows_group name fact) → IsFalse (denies_group name fact)
-group_itself name (ThereIs g) s = refl
-group_itself name (GroupsAre p lines) s = false_from_ne_true _ (λ d. true≢false (sym s ∙ not-true _ (and_parts (option_map_or _ p true) (not (list_any (λ line. is_same line.name name) lines)) d).1))
-group_itself name fact s = cc
-
--- or an article
-article_itself : (id : Id) (fact : Fact) → IsTrue (shows_article id fact) → IsFalse (denies_article id fact)
-article_itself id (IdAt name n other) s = refl
-article_itself id (TextIs what other lines) s = refl
-article_itself id fact s = cc
-
--- where all stands together, one fact more does exactly if it joins
-pub together_more : (facts : List Fact) (fact : Fact) → Together facts → Together (facts ++ fact ∷ []) ↔ Joins facts fact
-together_more facts fact t = (
+-- where all stands together, more facts that agree with one another do exactly if they join
+pub together_more : (facts more : List Fact) → Together facts → AgreeWithin more → Together (facts ++ more) ↔ Join facts more
+together_more facts more t w = (
   λ h. record {
-    well_formed = (all_back IsWellFormed facts (fact ∷ []) h.well_formed).0;
-    groups = λ name. apart_shown (shows_group name) (denies_group name) facts fact (h.groups name);
-    no_groups = λ name. apart_denied (shows_group name) (denies_group name) facts fact (h.groups name);
-    numbers = λ name. subst AsksStand (asks_append name facts fact) (h.numbers name);
-    ids = λ name n. one_more_given (id_in name n) facts fact (h.ids name n);
-    ids_once = λ name id. one_more_given (number_in name id) facts fact (h.ids_once name id);
-    articles = λ id. apart_shown (shows_article id) (denies_article id) facts fact (h.articles id);
-    no_articles = λ id. apart_denied (shows_article id) (denies_article id) facts fact (h.articles id);
-    heads = λ id. one_more_given (head_in id) facts fact (h.heads id);
-    bodies = λ id. one_more_given (body_in id) facts fact (h.bodies id);
+    well_formed = all_back IsWellFormed facts more h.well_formed;
+    names = record {
+      groups = λ name. apart_shown (shows_group name) (denies_group name) facts more (h.groups name);
+      no_groups = λ name. apart_denied (shows_group name) (denies_group name) facts more (h.groups name);
+    };
+    numbers = λ name. subst AsksStand (asks_append name facts more) (h.numbers name);
+    ids = record {
+      ids = λ name n. give_same_of_both (id_in name n) facts more (h.ids name n);
+      ids_once = λ name id. give_same_of_both (number_in name id) facts more (h.ids_once name id);
+    };
+    articles = record {
+      articles = λ id. apart_shown (shows_article id) (denies_article id) facts more (h.articles id);
+      no_articles = λ id. apart_denied (shows_article id) (denies_article id) facts more (h.articles id);
+      heads = λ id. give_same_of_both (head_in id) facts more (h.heads id);
+      bodies = λ id. give_same_of_both (body_in id) facts more (h.bodies id);
+    };
   },
   λ j. record {
-    well_formed = all_both IsWellFormed facts (fact ∷ []) t.well_formed (j.well_formed, tt);
-    groups = λ name. apart_more (shows_group name) (denies_group name) facts fact (t.groups name) (j.groups name) (j.no_groups name) (group_itself name fact);
-    numbers = λ name. subst AsksStand (sym (asks_append name facts fact)) (j.numbers name);
-    ids = λ name n. one_more_gives (id_in name n) facts fact (t.ids name n) (j.ids name n);
-    ids_once = λ name id. one_more_gives (number_in name id) facts fact (t.ids_once name id) (j.ids_once name id);
-    articles = λ id. apart_more (shows_article id) (denies_article id) facts fact (t.articles id) (j.articles id) (j.no_articles id) (article_itself id fact);
-    heads = λ id. one_more_gives (head_in id) facts fact (t.heads id) (j.heads id);
-    bodies = λ id. one_more_gives (body_in id) facts fact (t.bodies id) (j.bodies id);
+    well_formed = all_both IsWellFormed facts more t.well_formed j.well_formed;
+    groups = λ name. apart_both (shows_group name) (denies_group name) facts more (t.groups name) (w.groups name) (j.names.groups name) (j.names.no_groups name);
+    numbers = λ name. subst AsksStand (sym (asks_append name facts more)) (j.numbers name);
+    ids = λ name n. give_one_both (id_in name n) facts more (t.ids name n) (w.ids name n) (j.ids.ids name n);
+    ids_once = λ name id. give_one_both (number_in name id) facts more (t.ids_once name id) (w.ids_once name id) (j.ids.ids_once name id);
+    articles = λ id. apart_both (shows_article id) (denies_article id) facts more (t.articles id) (w.articles id) (j.articles.articles id) (j.articles.no_articles id);
+    heads = λ id. give_one_both (head_in id) facts more (t.heads id) (w.heads id) (j.articles.heads id);
+    bodies = λ id. give_one_both (body_in id) facts more (t.bodies id) (w.bodies id) (j.articles.bodies id);
   },
 )
 
+-- ---- what an answer says agrees with itself
+
+none_agrees : AgreeWithin []
+none_agrees = record { groups = λ name s. refl; ids = λ name n. tt; ids_once = λ name id. tt; articles = λ id s. refl; heads = λ id. tt; bodies = λ id. tt }
+
+ask_agrees : (name : Name) (ask : Ask) → AgreeWithin (Asks name ask ∷ [])
+ask_agrees name ask = record { groups = λ g s. refl; ids = λ g n. (tt, tt); ids_once = λ g id. (tt, tt); articles = λ id s. refl; heads = λ id. (tt, tt); bodies = λ id. (tt, tt) }
+
+no_group_agrees : (name : Name) → AgreeWithin (ThereIsNo name ∷ [])
+no_group_agrees name = record { groups = λ g s. absurd (true≢false (sym s)); ids = λ g n. (tt, tt); ids_once = λ g id. (tt, tt); articles = λ id s. refl; heads = λ id. (tt, tt); bodies = λ id. (tt, tt) }
+
+no_article_agrees : (id : Id) → AgreeWithin (NoArticle id ∷ [])
+no_article_agrees id = record { groups = λ g s. refl; ids = λ g n. (tt, tt); ids_once = λ g i. (tt, tt); articles = λ i s. absurd (true≢false (sym s)); heads = λ i. (tt, tt); bodies = λ i. (tt, tt) }
+
+group_agrees : (name : Name) (ask : Ask) → AgreeWithin (ThereIs name ∷ Asks name ask ∷ [])
+group_agrees name ask = record { groups = λ g s. refl; ids = λ g n. (tt, (tt, tt)); ids_once = λ g id. (tt, (tt, tt)); articles = λ id s. refl; heads = λ id. (tt, (tt, tt)); bodies = λ id. (tt, (tt, tt)) }
+
+listing_agrees : (name : Name) (ask other : Ask) → AgreeWithin (ThereIs name ∷ Asks name ask ∷ Asks name other ∷ [])
+listing_agrees name ask other = record { groups = λ g s. refl; ids = λ g n. (tt, (tt, (tt, tt))); ids_once = λ g id. (tt, (tt, (tt, tt))); articles = λ id s. refl; heads = λ id. (tt, (tt, (tt, tt))); bodies = λ id. (tt, (tt, (tt, tt))) }
+
+step_agrees : (name : Name) (ask : Ask) (n : ℕ) (id : Id) → AgreeWithin (Asks name ask ∷ IdAt name n id ∷ [])
+step_agrees name ask n id = record {
+  groups = λ g s. refl;
+  ids = λ g m. (tt, (one_gives_one (id_in g m) (IdAt name n id), tt));
+  ids_once = λ g i. (tt, (one_gives_one (number_in g i) (IdAt name n id), tt));
+  articles = λ i s. refl;
+  heads = λ i. (tt, (tt, tt));
+  bodies = λ i. (tt, (tt, tt));
+}
+
+text_agrees : (what : What) (id : Id) (lines : Option (List (List ℕ))) → AgreeWithin (TextIs what id lines ∷ [])
+text_agrees what id lines = record {
+  groups = λ g s. refl;
+  ids = λ g n. (tt, tt);
+  ids_once = λ g i. (tt, tt);
+  articles = λ i s. refl;
+  heads = λ i. (one_gives_one (head_in i) (TextIs what id lines), tt);
+  bodies = λ i. (one_gives_one (body_in i) (TextIs what id lines), tt);
+}
+
+placed_agrees : (what : What) (id : Id) (lines : Option (List (List ℕ))) (name : Name) (n : ℕ) → AgreeWithin (TextIs what id lines ∷ IdAt name n id ∷ [])
+placed_agrees what id lines name n = record {
+  groups = λ g s. refl;
+  ids = λ g m. (tt, (one_gives_one (id_in g m) (IdAt name n id), tt));
+  ids_once = λ g i. (tt, (one_gives_one (number_in g i) (IdAt name n id), tt));
+  articles = λ i s. refl;
+  heads = λ i. (one_gives_one (head_in i) (TextIs what id lines), (tt, tt));
+  bodies = λ i. (one_gives_one (body_in i) (TextIs what id lines), (tt, tt));
+}
+
+current_agrees : (what : What) (id : Id) (lines : Option (List (List ℕ))) (name : Name) (ask : Ask) (n : ℕ) → AgreeWithin (TextIs what id lines ∷ Asks name ask ∷ IdAt name n id ∷ [])
+current_agrees what id lines name ask n = record {
+  groups = λ g s. refl;
+  ids = λ g m. (tt, (tt, (one_gives_one (id_in g m) (IdAt name n id), tt)));
+  ids_once = λ g i. (tt, (tt, (one_gives_one (number_in g i) (IdAt name n id), tt)));
+  articles = λ i s. refl;
+  heads = λ i. (one_gives_one (head_in i) (TextIs what id lines), (tt, (tt, tt)));
+  bodies = λ i. (one_gives_one (body_in i) (TextIs what id lines), (tt, (tt, tt)));
+}
+
+-- a list of groups denies none that it shows
+groups_agree : (p : Option (List ℕ)) (lines : List ActiveValue) → AgreeWithin (GroupsAre p lines ∷ [])
+groups_agree p lines = record {
+  groups = λ name s. false_from_ne_true _ (λ d.
+      let there = or_left_only (list_any (λ line. is_same line.name name) lines) s in
+      let denied = or_left_only (denies_group name (GroupsAre p lines)) d in
+      true≢false (sym there ∙ not-true _ (and_parts (option_map_or (λ w. matches_name w name) p true) (not (list_any (λ line. is_same line.name name) lines)) denied).1));
+  ids = λ g n. (tt, tt);
+  ids_once = λ g i. (tt, tt);
+  articles = λ i s. refl;
+  heads = λ i. (tt, tt);
+  bodies = λ i. (tt, tt);
+}
+  where
+    or_left_only : (b : Bool) → (b || false) ≡ true → b ≡ true
+    or_left_only true e = refl
+    or_left_only false e = e
+
+-- the facts of a code
+if_agrees : (b : Bool) (fact : Fact) → AgreeWithin (fact ∷ []) → AgreeWithin (if b then fact ∷ [] else [])
+if_agrees true fact h = h
+if_agrees false fact h = none_agrees
+
+asks_agree : (a b : Bool) (name : Name) (ask other : Ask) → AgreeWithin ((if a then Asks name ask ∷ [] else []) ++ (if b then Asks name other ∷ [] else []))
+asks_agree true true name ask other = record { groups = λ g s. refl; ids = λ g n. (tt, (tt, tt)); ids_once = λ g id. (tt, (tt, tt)); articles = λ id s. refl; heads = λ id. (tt, (tt, tt)); bodies = λ id. (tt, (tt, tt)) }
+asks_agree true false name ask other = ask_agrees name ask
+asks_agree false true name ask other = ask_agrees name other
+asks_agree false false name ask other = none_agrees
+
+code_agrees : (v : Visible) (at : Position) (command : Request) (code : ℕ) → AgreeWithin (facts_of_code v at command code)
+code_agrees v at (group word) code = if_agrees (code == 411) (ThereIsNo word) (no_group_agrees word)
+code_agrees v at (list_group (Some word) range) code = if_agrees (code == 411) (ThereIsNo word) (no_group_agrees word)
+code_agrees v at next code = asks_agree (code == 420) (code == 421) (here v) (StandsNowhere at) (IsTop at)
+code_agrees v at last code = asks_agree (code == 420) (code == 422) (here v) (StandsNowhere at) (IsBottom at)
+code_agrees v at (retrieve what (by_id word)) code = if_agrees (code == 430) (NoArticle word) (no_article_agrees word)
+code_agrees v at (retrieve what (by_number (Some n))) code = if_agrees (code == 423) (Asks (here v) (Lacks n)) (ask_agrees (here v) (Lacks n))
+code_agrees v at (retrieve what current) code = if_agrees (code == 420) (Asks (here v) (StandsNowhere at)) (ask_agrees (here v) (StandsNowhere at))
+code_agrees v at command code = none_agrees
+
+by_id_agrees : (b : Bool) (what : What) (id : Id) (lines : Option (List (List ℕ))) (name : Name) (n : ℕ) → AgreeWithin (TextIs what id lines ∷ (if b then [] else IdAt name n id ∷ []))
+by_id_agrees true what id lines name n = text_agrees what id lines
+by_id_agrees false what id lines name n = placed_agrees what id lines name n
+
+-- what an answer says agrees with itself
+pub answer_agrees : (v : Visible) (at : Position) (asked : Asked) (response : Response) → AgreeWithin (facts_of v at asked response)
+answer_agrees v at (to command) (plain code) = code_agrees v at command code
+answer_agrees v at (to (group word)) (group_is m name) = group_agrees name (Estimates m)
+answer_agrees v at (to (list_group word range)) (numbers_are m name lines) = listing_agrees name (Estimates m) (ListsIn range (listed_numbers lines))
+answer_agrees v at (to next) (sends sent) = step_agrees (here v) (StepsUp at sent.number) sent.number sent.id
+answer_agrees v at (to last) (sends sent) = step_agrees (here v) (StepsDown at sent.number) sent.number sent.id
+answer_agrees v at (to (retrieve what (by_id word))) (sends sent) = by_id_agrees (sent.number == 0) what sent.id sent.block (here v) sent.number
+answer_agrees v at (to (retrieve what (by_number n))) (sends sent) = placed_agrees what sent.id sent.block (here v) sent.number
+answer_agrees v at (to (retrieve what current)) (sends sent) = current_agrees what sent.id sent.block (here v) (StandsAt at sent.number) sent.number
+answer_agrees v at (to (list_active p)) (active_are lines) = groups_agree p (active_groups lines)
+answer_agrees v at asked (plain code) = none_agrees
+answer_agrees v at asked (group_is m name) = none_agrees
+answer_agrees v at asked (numbers_are m name lines) = none_agrees
+answer_agrees v at asked (sends sent) = none_agrees
+answer_agrees v at asked (active_are lines) = none_agrees
+
 -- ---- an answer more
-
--- facts that join in turn stand together with those before
-pub join_to : (facts more : List Fact) → Together facts → JoinInTurn facts more → Together (facts ++ more)
-join_to facts [] t h = subst Together (sym (append-nil facts)) t
-join_to facts (fact ∷ more) t h = subst Together (append_assoc facts (fact ∷ []) more) (join_to (facts ++ fact ∷ []) more ((together_more facts fact t).1 h.0) h.1)
-
--- and where a spool has them all, they join
-pub join_from : (profile : Profile) (S : Spool) (facts more : List Fact) → IsSpool profile S → AllByRecursion (Holds S) (facts ++ more) → JoinInTurn facts more
-join_from profile S facts [] spool holds = tt
-join_from profile S facts (fact ∷ more) spool holds =
-    let all = subst (AllByRecursion (Holds S)) (sym (append_assoc facts (fact ∷ []) more)) holds in
-    let before = all_front (Holds S) facts (fact ∷ more) holds in
-    let here = all_front (Holds S) (facts ++ fact ∷ []) more all in
-    ((together_more facts fact (stand profile S facts spool before)).0 (stand profile S (facts ++ fact ∷ []) spool here), join_from profile S (facts ++ fact ∷ []) more spool all)
 
 -- behind answers that some spool permits, some spool permits one more exactly if it fits and what it says joins
 pub permitted_more : (profile : Profile) (ps : List Asked) (answers : List Response) (asked : Asked) (response : Response) → asked_next ps answers ≡ Some asked
     → size (facts_of_session ps (answers ++ response ∷ [])) < 2 ^ 210 → SomePermits profile ps answers
     → SomePermits profile ps (answers ++ response ∷ [])
     ↔ (((visible_from start.visible ps answers).closed ≡ false) × IsTrue (fits profile (visible_from start.visible ps answers) asked response)
-    × JoinInTurn (facts_of_session ps answers) (facts_of (visible_from start.visible ps answers) (position_from Nowhere ps answers) asked response))
-permitted_more profile ps answers asked response next small (S, spool, run) = (
+    × Join (facts_of_session ps answers) (facts_of (visible_from start.visible ps answers) (position_from Nowhere ps answers) asked response))
+permitted_more profile ps answers asked response comes small (S, spool, run) = (
   λ h.
       let says = said profile h.0 ps (answers ++ response ∷ []) h.2 in
       let f = grown.0 says.0 in
-      (f.1, f.2, join_from profile h.0 (facts_of_session ps answers) new h.1 (subst (AllByRecursion (Holds h.0)) same says.1)),
-  λ h.
-      let says = said profile S ps answers run in
-      let together = join_to (facts_of_session ps answers) new (stand profile S (facts_of_session ps answers) spool says.1) h.2 in
-      (permitted_together profile ps (answers ++ response ∷ []) small).1 (grown.1 (says.0, h.0, h.1), subst Together (sym same) together),
+      (f.1, f.2, joins.0 (subst Together same (stand profile h.0 (facts_of_session ps (answers ++ response ∷ [])) h.1 says.1))),
+  λ h. (permitted_together profile ps (answers ++ response ∷ []) small).1 (grown.1 (before.0, h.0, h.1), subst Together (sym same) (joins.1 h.2)),
 )
   where
     new : List Fact
     new = facts_of (visible_from start.visible ps answers) (position_from Nowhere ps answers) asked response
 
     same : facts_of_session ps (answers ++ response ∷ []) ≡ facts_of_session ps answers ++ new
-    same = facts_grow start.visible Nowhere ps answers asked response next
+    same = facts_grow start.visible Nowhere ps answers asked response comes
+
+    before : FitsAll profile start.visible ps answers × AllByRecursion (Holds S) (facts_of_session ps answers)
+    before = said profile S ps answers run
+
+    joins : Together (facts_of_session ps answers ++ new) ↔ Join (facts_of_session ps answers) new
+    joins = together_more (facts_of_session ps answers) new (stand profile S (facts_of_session ps answers) spool before.1) (answer_agrees (visible_from start.visible ps answers) (position_from Nowhere ps answers) asked response)
 
     grown : FitsAll profile start.visible ps (answers ++ response ∷ []) ↔ (FitsAll profile start.visible ps answers × ((visible_from start.visible ps answers).closed ≡ false) × IsTrue (fits profile (visible_from start.visible ps answers) asked response))
-    grown = fitting_grows profile start.visible ps answers asked response next
+    grown = fitting_grows profile start.visible ps answers asked response comes

@@ -4,7 +4,8 @@ use Rattle.std.specs.Prelude.{IsFalse, nat_le, nat_lt}
 use Rattle.std.specs.List.{AllByRecursion}
 use Rattle.std.specs.Cmp.Lexicographic.{same_text}
 use Rattle.std.proofs.lemmas.Bool.{true≢false, and_parts, or_cases, or_right, eqb-true, leb-true, lt-ltb, cases_lt}
-use Rattle.nntp_article.specs.Spool.{Name, Profile}
+use Rattle.nntp_article.specs.Spool.{Name}
+use Rattle.nntp_article.specs.declared.profile.Profile.{Profile}
 use Rattle.nntp_article.specs.Machine.{is_same, is_num, active_fits}
 use Rattle.nntp_facts.specs.Asks.{Ask, Estimates, Bounds, ListsIn, Has, StandsAt, StepsUp, StepsDown, First}
 use Rattle.nntp_facts.specs.Facts.{Fact, ThereIs, Asks, IdAt, GroupsAre}

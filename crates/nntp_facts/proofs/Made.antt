@@ -1,6 +1,6 @@
 -- A construction of the spool that is given.
 use Rattle.std.proofs.Common.{◌≡◌, ℕ, ◌+◌, ◌<◌, ◌≤◌, ◌↔◌, ◌⊎◌, true, cond, eqb, IsTrue, List, [], ◌∷◌, ◌++◌, map, length, Option, None, Some, is_some, IsSome, inl, inr, refl, sym, ap, subst, ◌∙◌, arith, length-append}
-use Rattle.std.specs.Prelude.{IsFalse, unwrap_or, option_to_list}
+use Rattle.std.specs.Prelude.{unwrap_or, option_to_list}
 use Rattle.std.specs.List.{list_any, flat_map}
 use Rattle.std.specs.Ordering.{nat_cmp}
 use Rattle.std.proofs.lemmas.Bool.{cases_lt, or_left, or_right, eq-eqb}
@@ -11,14 +11,15 @@ use Rattle.std.specs.FinMap.{FinMap, get, empty, keys, entries, from_sorted, ent
 use Rattle.nntp_article.specs.Spool.{Spool, Text, Numbers, IsNumber, IsGroup, numbers, Name}
 use Rattle.nntp_article.specs.Machine.{is_same}
 use Rattle.nntp_facts.specs.Facts.{Fact, TextIs}
-use Rattle.nntp_facts.specs.Given.{is_shown, IsOneMore, HasGivenNumbers, asks_of, is_shown_group, first_given, id_shown, gives_article, is_sent, head_in, body_in, plain_head, is_mentioned, invented, unshown_in, unshown_ids, IsUsed, AreInvented, IsGiven}
-use Rattle.nntp_facts.proofs.Members.{In, in_front, in_back, in_cases, in_map, from_map, to_flat, from_flat, any_in, found_in}
+use Rattle.nntp_facts.specs.Given.{is_shown, IsOneMore, HasGivenNumbers, asks_of, is_shown_group, first_given, id_shown, gives_article, is_sent, head_in, body_in, plain_head, is_mentioned, invented, unshown_in, unshown_ids, IsUsed, IsFirstFree, AreInvented, IsGiven}
+use Rattle.nntp_facts.proofs.Members.{In, in_front, in_back, in_cases, in_map, from_map, to_flat, from_flat, any_in, found_in, any_back}
 use Rattle.nntp_facts.proofs.Few.{names_of, shown_name, name_shown}
 use Rattle.nntp_facts.proofs.Stand.{same_itself}
 use Rattle.nntp_facts.proofs.GivenHolds.{group_of_number}
-use Rattle.nntp_facts.proofs.Invented.{number_of}
-use Rattle.nntp_facts.proofs.Fresh.{mentioned, any_back, counted}
-use Rattle.nntp_facts.proofs.OneMore.{shown_list, in_shown_list, from_shown_list, free, free_is, free_none, more, more_is, more_found}
+use Rattle.nntp_facts.proofs.Invented.{invented_number}
+use Rattle.nntp_facts.proofs.Fresh.{mentioned, counted}
+use Rattle.nntp_facts.proofs.FirstFree.{free, free_is, free_none}
+use Rattle.nntp_facts.proofs.OneMore.{shown_list, in_shown_list, from_shown_list, more, more_is, more_found}
 use Rattle.nntp_facts.proofs.Maps.{sorted_as, get_in, in_get, key_of, of_key, made_of, get-made_of, in-made_of, key_map, in_key_map, of_key_map}
 use Rattle.nntp_article.specs.Article.{Id}
 
@@ -261,7 +262,7 @@ module _ (limit : ℕ) (B : ℕ) (facts : List Fact) where
 
   -- ---- invented ids
 
-  module _ (small : (i : ℕ) → i < B → number_of (invented i) ≡ i) where
+  module _ (small : (i : ℕ) → i < B → invented_number (invented i) ≡ i) where
     -- each number below k is that of an id that is mentioned or was invented
     abbrev Used : ℕ → List ℕ → Type 0
     Used k done = (i : ℕ) → i < k → list_any (eqb i) (done ++ mentioned facts) ≡ true
@@ -280,18 +281,18 @@ module _ (limit : ℕ) (B : ℕ) (facts : List Fact) where
 
     -- the next number isn't mentioned, and those before it are
     invents : (k : ℕ) (done : List ℕ) → Used k done → length (mentioned facts) + length done < B
-        → (k ≤ next k) × IsFalse (is_mentioned facts (invented (next k))) × ((i : ℕ) → k ≤ i → i < next k → IsTrue (is_mentioned facts (invented i))) × Used (next k + 1) (next k ∷ done)
+        → IsFirstFree (λ i. is_mentioned facts (invented i)) k (next k) × Used (next k + 1) (next k ∷ done)
     unfolding next
     invents k done used few = by (free (λ j. is_mentioned facts (invented j)) B k) refl
       where
         by : (o : Option ℕ) → free (λ j. is_mentioned facts (invented j)) B k ≡ o
-            → (k ≤ unwrap_or o k) × IsFalse (is_mentioned facts (invented (unwrap_or o k))) × ((i : ℕ) → k ≤ i → i < unwrap_or o k → IsTrue (is_mentioned facts (invented i))) × Used (unwrap_or o k + 1) (unwrap_or o k ∷ done)
+            → IsFirstFree (λ i. is_mentioned facts (invented i)) k (unwrap_or o k) × Used (unwrap_or o k + 1) (unwrap_or o k ∷ done)
         by None e = absurd (not_all_used done few (λ i l. used_before k (k + B) done used (free_none (λ j. is_mentioned facts (invented j)) B k e) i (omega arith) l))
         by (Some j) e =
             let f = free_is (λ j. is_mentioned facts (invented j)) B k j e in
             let before = used_before k j done used f.2 in
             let lt : j < B = elim (cases_lt j B) [ inl l ↦ l | inr g ↦ absurd (not_all_used done few (λ i l. before i (omega arith) l)) ] in
-            (f.0, f.1, f.2, λ i l. elim (cases_lt i j) [ inl b ↦ or_right (eqb i j) _ (before i b (omega arith)) | inr g ↦ or_left (eqb i j) _ (eq-eqb i j (omega arith)) ])
+            (f, λ i l. elim (cases_lt i j) [ inl b ↦ or_right (eqb i j) _ (before i b (omega arith)) | inr g ↦ or_left (eqb i j) _ (eq-eqb i j (omega arith)) ])
 
     -- the ids of a group are invented in turn
     ids_invented : (name : Name) (ns : List ℕ) (k : ℕ) (done : List ℕ) (rest : List Id) → Used k done → length (mentioned facts) + length done + length (unshown_in facts name (numbered_ids name k ns) ++ rest) < B
@@ -311,7 +312,7 @@ module _ (limit : ℕ) (B : ℕ) (facts : List Fact) where
         by (Some id) rec few then = rec k done used few then
         by None rec few then =
             let v = invents k done used (omega arith) in
-            (next k, v.0, refl, v.1, v.2, rec (next k + 1) (next k ∷ done) v.3 (omega arith) then)
+            (next k, v.0, refl, rec (next k + 1) (next k ∷ done) v.1 (omega arith) then)
 
     -- and so those of all groups
     groups_invented : (gs : List Name) (k : ℕ) (done : List ℕ) → Used k done → length (mentioned facts) + length done + length (flat_map (λ (g : Name × Numbers). unshown_in facts g.0 (entries g.1)) (groups_from k gs)) < B

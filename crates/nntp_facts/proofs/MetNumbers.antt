@@ -1,11 +1,11 @@
 -- What numbers meet stands together.
-use Rattle.std.proofs.Common.{◌≡◌, ℕ, zero, suc, ◌+◌, ◌<◌, ◌≤◌, ◌⊎◌, Bool, true, false, ◌==◌, not, IsTrue, List, [], ◌∷◌, Option, None, Some, is_some, MatchOption, inl, inr, refl, sym, ap, subst, ◌∙◌, arith, ◌&&◌}
+use Rattle.std.proofs.Common.{◌≡◌, ℕ, ◌+◌, ◌<◌, ◌≤◌, ◌⊎◌, Bool, true, false, ◌==◌, not, IsTrue, List, [], ◌∷◌, Option, None, Some, is_some, MatchOption, inl, inr, refl, sym, ap, subst, ◌∙◌, arith, ◌&&◌}
 use Rattle.std.specs.Prelude.{IsFalse, nat_le, nat_lt, IfSome, Contains, cond, ◌-◌}
-use Rattle.std.specs.List.{AllByRecursion, list_any, list_all}
+use Rattle.std.specs.List.{AllByRecursion, list_any}
 use Rattle.std.specs.Ordering.{nat_cmp, eq_by_cmp}
 use Rattle.std.specs.Cmp.{nat_cmp_total, unsigned_tied, nat_eq_equiv, eq_by_cmp_equiv}
 use Rattle.std.specs.FinMap.{get, len, keys, insert, remove, get-insert, get-remove, len-insert, len-remove, empty_of_len, get-empty, contains_key-keys}
-use Rattle.std.proofs.lemmas.Bool.{true≢false, or_left, or_right, or_cases, and_parts, false_from_ne_true, eqb-true, ltb-true, cases_Bool, not-true, cases_lt, cases_eq, cases_order, eq-eqb, and_from, le-leb, lt-ltb, ne_eqb}
+use Rattle.std.proofs.lemmas.Bool.{true≢false, or_left, or_right, or_cases, and_parts, false_from_ne_true, eqb-true, ltb-true, cases_Bool, not-true, cases_eq, cases_order, eq-eqb, and_from, le-leb, lt-ltb, ne_eqb}
 use Rattle.std.proofs.lemmas.Map.Views.{Contains-from_any, list_any-from_Contains, tells_apart}
 use Rattle.std.proofs.lemmas.Map.Lookups.{exact_unsigned}
 use Rattle.std.specs.Option.{option_map_or}
@@ -14,10 +14,12 @@ use Rattle.nntp_article.specs.Spool.{Numbers, IsNumber, least, IsNextAbove, IsNe
 use Rattle.nntp_article.specs.Machine.{is_in_range}
 use Rattle.nntp_facts.specs.Asks.{Nowhere, First, Known, current_in, Ask, Meets, Estimates, Bounds, ListsIn, Has, Lacks, StandsAt, StandsNowhere, StepsUp, StepsDown, IsTop, IsBottom}
 use Rattle.nntp_facts.specs.Given.{shows, denies, is_shown, is_denied, Demand, NoDemand, NotEmpty, OnlyOne, SecondIs, Impossible, demand_in, join, demand, wants, IsOneMore, IsGivenNumber, HasGivenNumbers}
+use Rattle.nntp_facts.proofs.FirstFree.{first_free_once, first_free}
 use Rattle.nntp_facts.specs.Together.{is_possible, MeetsDemand, IsFewFor, AsksStand}
-use Rattle.nntp_facts.proofs.Members.{In, all_at, all_from, any_in, found_in, contains_in, in_contains}
-use Rattle.nntp_facts.proofs.Firsts.{Empty, Begins, firsts, not_number, len_le}
+use Rattle.nntp_facts.proofs.Members.{In, all_at, all_from, any_in, found_in, contains_in, in_contains, every}
+use Rattle.nntp_facts.proofs.Firsts.{Empty, Begins, firsts, not_number}
 use Rattle.nntp_wire.specs.declared.range.Range.{Range}
+use Rattle.nntp_facts.proofs.Maps.{len_le}
 
 pub at_some : (o : Option ℕ) (c : ℕ) (Q : ℕ → Type 0) → o ≡ Some c → MatchOption o ⊥ Q → Q c
 at_some o c Q e h = subst (λ o. MatchOption o ⊥ Q) e h
@@ -53,17 +55,6 @@ last_up_to n (Some last) h = le-leb n last h
 
 pub in_range_back : (r : Range) (n : ℕ) → IsInRange r n → IsTrue (is_in_range r n)
 in_range_back r n h = and_from _ _ (le-leb r.first n h.0) (last_up_to n r.last h.1)
-
--- a list where each passes
-pub every : {A : Type 0} (p : A → Bool) (xs : List A) → ((x : A) → In x xs → IsTrue (p x)) → IsTrue (list_all p xs)
-every p [] h = refl
-every p (x ∷ xs) h = and_from (p x) (list_all p xs) (h x (inl refl)) (every p xs (λ y i. h y (inr i)))
-
--- each of them passes
-pub each_of : {A : Type 0} (p : A → Bool) (xs : List A) (x : A) → IsTrue (list_all p xs) → In x xs → IsTrue (p x)
-each_of p [] x h i = absurd i
-each_of p (y ∷ ys) x h (inl e) = subst (λ y. IsTrue (p y)) e (and_parts (p y) _ h).0
-each_of p (y ∷ ys) x h (inr i) = each_of p ys x (and_parts (p y) _ h).1 i
 
 -- ---- what an answer shows is a number, and what it denies isn't
 
@@ -247,26 +238,9 @@ len_replaced G d c there only =
     removed true e = refl
     removed false e = false_from_ne_true _ (λ i. true≢false (sym (unsigned_tied c d ∙ eq-eqb c d (only i)) ∙ e))
 
--- the least from 1 on that passes no test, where c does
-pub free_from : (p : ℕ → Bool) (c k n : ℕ) → IsFalse (p c) → 1 ≤ n → n ≤ c → c < n + k → ((m : ℕ) → 1 ≤ m → m < n → IsTrue (p m)) → (n : ℕ) × (1 ≤ n) × IsFalse (p n) × ((m : ℕ) → 1 ≤ m → m < n → IsTrue (p m))
-free_from p c zero n free one a b before = absurd (omega arith)
-free_from p c (suc k) n free one a b before =
-    elim (cases_Bool (p n)) [
-      | inr f ↦ (n, one, f, before)
-      | inl t ↦
-          let apart : n ≡ c → ⊥ = λ e. true≢false (sym t ∙ ap p e ∙ free) in
-          free_from p c k (n + 1) free (omega arith) (omega arith) (omega arith) (λ m x y.
-          elim (cases_eq m n) [ inl e ↦ ap p e ∙ t | inr ne ↦ before m x (omega arith) ])
-    ]
-
 -- there is one more number at most
 pub one_more_once : (asks : List Ask) (e d : ℕ) → IsOneMore asks e → IsOneMore asks d → e ≡ d
-one_more_once asks e d x y =
-    elim (cases_order e d) [
-      | inl same ↦ same
-      | inr (inl l) ↦ absurd (true≢false (sym (y.is_least e x.positive l) ∙ x.not_denied))
-      | inr (inr g) ↦ absurd (true≢false (sym (x.is_least d y.positive g) ∙ y.not_denied))
-    ]
+one_more_once asks e d x y = first_free_once (is_denied asks) 1 e d x.first y.first
 
 -- ---- numbers that meet what is asked
 
@@ -284,10 +258,8 @@ module _ (asks : List Ask) (N : Numbers) (met : AllByRecursion (Meets N) asks) (
   -- where no number is shown that is wanted, and one of N is wanted, there is one more
   one_more : (n : ℕ) → IsNumber N n → wants (demand asks) n ≡ true → ((m : ℕ) → IsTrue (is_shown asks m) → IsFalse (wants (demand asks) m)) → (e : ℕ) × IsOneMore asks e
   one_more n i t needed =
-      let one = positive n i in
-      let f = free_from (is_denied asks) n n 1 (free_in_N n i) (omega arith) one (omega arith) (λ m a b. absurd (omega arith)) in
-      let low : f.0 ≤ n = elim (cases_lt n f.0) [ inl l ↦ absurd (true≢false (sym (f.3 n one l) ∙ free_in_N n i)) | inr g ↦ g ] in
-      (f.0, record { needed = needed; wanted = wants_less (demand asks) n f.0 low t; positive = f.1; not_denied = f.2; is_least = f.3 })
+      let f = first_free (is_denied asks) 1 n (positive n i) (free_in_N n i) in
+      (f.0, record { needed = needed; wanted = wants_less (demand asks) n f.0 f.2 t; first = f.1 })
 
   -- where N has a number that is wanted, one is given
   given_wanted : (n : ℕ) → IsNumber N n → wants (demand asks) n ≡ true → (k : ℕ) × IsGivenNumber asks k × (wants (demand asks) k ≡ true)
@@ -343,7 +315,7 @@ module _ (asks : List Ask) (N : Numbers) (met : AllByRecursion (Meets N) asks) (
   pub as_few : (G : Numbers) → HasGivenNumbers asks G → len G ≤ len N
   as_few G given =
       elim (cases_Bool (list_any (λ n. not (is_shown asks n)) (keys G))) [
-        | inr none ↦ len_le G N (λ n i. shown_in_N n (any_unshown asks (keys G) none n (key_in G n i)))
+        | inr none ↦ len_le nat_cmp_total G N (λ n i. shown_in_N n (any_unshown asks (keys G) none n (key_in G n i)))
         | inl some ↦
             let f = found_in (λ n. not (is_shown asks n)) (keys G) some in
             let there = key_is G f.0 f.1 in
@@ -351,7 +323,7 @@ module _ (asks : List Ask) (N : Numbers) (met : AllByRecursion (Meets N) asks) (
             let c = wanted_there (IsNumber N) (demand asks) f.0 (demand_of N asks met) x.wanted in
             let only : IsNumber G c.0 → c.0 ≡ f.0 = λ i.
             elim ((given c.0).0 i) [ inl s ↦ absurd (true≢false (sym c.2 ∙ x.needed c.0 s)) | inr y ↦ one_more_once asks c.0 f.0 y x ] in
-            subst (λ n. n ≤ len N) (len_replaced G f.0 c.0 there only) (len_le (insert (remove G f.0) c.0 []) N (λ n i. replaced_in_N G given f.0 c.0 x c.1 n i))
+            subst (λ n. n ≤ len N) (len_replaced G f.0 c.0 there only) (len_le nat_cmp_total (insert (remove G f.0) c.0 []) N (λ n i. replaced_in_N G given f.0 c.0 x c.1 n i))
       ]
 
   few_for : (G : Numbers) → len G ≤ len N → (ask : Ask) → Meets N ask → IsFewFor G ask
@@ -362,7 +334,7 @@ module _ (asks : List Ask) (N : Numbers) (met : AllByRecursion (Meets N) asks) (
   pub asks_stand : AsksStand asks
   asks_stand = record {
     possible = all_from (λ ask. IsTrue (is_possible ask)) asks (λ ask i. possible_in N ask (all_at (Meets N) ask asks met i));
-    not_denied = λ n i. elim i [ inl s ↦ free_in_N n (shown_in_N n s) | inr x ↦ x.not_denied ];
+    not_denied = λ n i. elim i [ inl s ↦ free_in_N n (shown_in_N n s) | inr x ↦ x.first.1 ];
     demand_met = demand_given (demand asks) refl (demand_of N asks met);
     few = λ G given. all_from (IsFewFor G) asks (λ ask i. few_for G (as_few G given) ask (all_at (Meets N) ask asks met i));
   }

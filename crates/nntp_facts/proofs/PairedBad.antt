@@ -9,7 +9,8 @@ use Rattle.nntp_wire.proofs.SpellsDecided.{one-spelling}
 use Rattle.nntp_pair.specs.Pairing.{Paired, Unpaired, IsNext, AreNext, end, bad, IsPairing, responses_of, asked_at, streams}
 use Rattle.nntp_pair.specs.declared.class.PairClass.{PairClass}
 use Rattle.nntp_pair.specs.declared.class.PairClass.TheVariants.{Surplus as surplus, Cut as cut, Malformed as malformed}
-use Rattle.nntp_article.specs.Spool.{Profile, Spool, IsSpool}
+use Rattle.nntp_article.specs.Spool.{Spool, IsSpool}
+use Rattle.nntp_article.specs.declared.profile.Profile.{Profile}
 use Rattle.nntp_article.specs.Machine.{Run, start, fits}
 use Rattle.nntp_article.specs.Explains.{ExplainsUpTo, Explains, ExplainsFirst, Bad}
 use Rattle.nntp_facts.specs.Permits.{SomePermits}

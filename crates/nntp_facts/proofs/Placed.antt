@@ -3,13 +3,15 @@ use Rattle.std.proofs.Common.{◌≡◌, ℕ, Bool, true, false, cond, ◌==◌,
 use Rattle.std.specs.Prelude.{unwrap_or, ⊤, IsFalse}
 use Rattle.std.specs.List.{AllByRecursion}
 use Rattle.std.proofs.lemmas.Bool.{and_parts, or_cases, eqb-true, true≢false}
-use Rattle.nntp_article.specs.Spool.{Name, Profile}
+use Rattle.nntp_article.specs.Spool.{Name}
+use Rattle.nntp_article.specs.declared.profile.Profile.{Profile}
 use Rattle.nntp_article.specs.Machine.{Visible, visible_after, start, fits, is_same, is_num, number_fits}
 use Rattle.nntp_facts.specs.Asks.{Position, Nowhere, position_after, Estimates}
 use Rattle.nntp_facts.specs.Facts.{Fact, ThereIs, Asks, IdAt, here, on, facts_of_code, facts_of, facts_from, FitsAll}
 use Rattle.nntp_facts.specs.Given.{facts_of_session}
 use Rattle.nntp_facts.proofs.Members.{In, all_both, all_front, all_back, all_from}
-use Rattle.nntp_wire.specs.Answer.{Asked, Response, WaterMarks, Success, success_code, to, group_is, numbers_are, sends, active_are, plain}
+use Rattle.nntp_wire.specs.Answer.{Asked, Response, Success, success_code, to, group_is, numbers_are, sends, active_are, plain}
+use Rattle.nntp_wire.specs.declared.water_marks.WaterMarks.{WaterMarks}
 use Rattle.nntp_wire.specs.Command.{Request, Target, by_id, by_number, current, group, list_group, next, last, retrieve, list_active}
 use Rattle.nntp_wire.specs.declared.command.What.{What}
 
@@ -81,8 +83,8 @@ step_selected : (profile : Profile) (v : Visible) (sent : Success) → IsTrue (s
 step_selected profile v sent f = (and_parts (sent.code == 223) _ (and_parts (sent.code == 223 && is_some v.selected) _ f).0).1
 
 -- the number of a success fits
-asked : (profile : Profile) (v : Visible) (what : What) (which : Target) (sent : Success) → IsTrue (fits profile v (to (retrieve what which)) (sends sent)) → IsTrue (number_fits profile v which sent)
-asked profile v what which sent f = (and_parts (sent.code == success_code what) _ (and_parts (sent.code == success_code what && number_fits profile v which sent) _ f).0).1
+asked : (profile : Profile) (v : Visible) (what : What) (which : Target) (sent : Success) → IsTrue (fits profile v (to (retrieve what which)) (sends sent)) → IsTrue (number_fits profile v which sent.number sent.id)
+asked profile v what which sent f = (and_parts (sent.code == success_code what) _ (and_parts (sent.code == success_code what && number_fits profile v which sent.number sent.id) _ f).0).1
 
 -- what an answer says of numbers, it says of a group that is there
 step_placed : (profile : Profile) (all : List Fact) (v : Visible) (at : Position) (p : Asked) (a : Response) → Stands all v → IsTrue (fits profile v p a) → AllByRecursion (Among all) (facts_of v at p a) → AllByRecursion (Placed all) (facts_of v at p a)

@@ -1,13 +1,14 @@
 -- The current article of a session can be read off the session.
 use Rattle.std.proofs.Common.{◌≡◌, List, [], ◌∷◌, refl, sym, subst, ◌∙◌}
-use Rattle.nntp_article.specs.Spool.{Spool, Profile}
+use Rattle.nntp_article.specs.Spool.{Spool}
+use Rattle.nntp_article.specs.declared.profile.Profile.{Profile}
 use Rattle.nntp_article.specs.Machine.{Visible, Agrees, Run, after, visible_after}
 use Rattle.nntp_facts.specs.Asks.{RunsAt, Position, position_after, state_at}
 use Rattle.nntp_wire.specs.Answer.{Asked, Response, to, group_is, numbers_are, sends, active_are, plain}
 use Rattle.nntp_wire.specs.Command.{current, retrieve}
 
 pub after-state_at : (S : Spool) (v : Visible) (at : Position) (p : Asked) (a : Response) → Agrees S (state_at S v at) p a → after S (state_at S v at) p a ≡ state_at S (visible_after v p a) (position_after at p a)
-after-state_at S v at (to (retrieve what current)) (sends sent) h = λ i. record { visible = visible_after v (to (retrieve what current)) (sends sent); current = h.1.0 i }
+after-state_at S v at (to (retrieve what current)) (sends sent) h = λ i. record { visible = visible_after v (to (retrieve what current)) (sends sent); current = h.1.1.0 i }
 after-state_at S v at p (group_is m name) h = refl
 after-state_at S v at p (numbers_are m name lines) h = refl
 after-state_at S v at p (sends sent) h = refl

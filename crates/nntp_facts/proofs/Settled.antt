@@ -9,8 +9,8 @@ use Rattle.nntp_facts.specs.Asks.{Ask, Estimates}
 use Rattle.nntp_facts.specs.Given.{is_shown, is_denied, Demand, NoDemand, NotEmpty, OnlyOne, SecondIs, Impossible, demand, wants, IsOneMore, IsGivenNumber, HasGivenNumbers}
 use Rattle.nntp_facts.specs.Together.{is_possible, MeetsDemand, IsFewFor, AsksStand}
 use Rattle.nntp_facts.specs.Summary.{estimate_in, is_within, is_within_all, Finds, IsFirstFree, FirstFree, has_room, is_settled, Looks}
-use Rattle.nntp_facts.specs.declared.group.Found.{Found}
-use Rattle.nntp_facts.specs.declared.group.Found.TheVariants.{Absent, Single, Several}
+use Rattle.nntp_facts.specs.declared.shown.Found.{Found}
+use Rattle.nntp_facts.specs.declared.shown.Found.TheVariants.{Absent, Single, Several}
 use Rattle.nntp_facts.proofs.Counted.{none_more, one_more_given, one_more_counted, as_many_given, more_meets}
 use Rattle.nntp_facts.proofs.GivenNumbers.{same_demand}
 use Rattle.nntp_facts.proofs.MetNumbers.{second_shown, wanted_there}
@@ -89,7 +89,7 @@ module _ (asks : List Ask) where
       }
   stands count counted possible apart (ByMore e x few) = record {
     possible = possible;
-    not_denied = λ n g. elim g [ inl s ↦ apart n s | inr y ↦ y.not_denied ];
+    not_denied = λ n g. elim g [ inl s ↦ apart n s | inr y ↦ y.first.1 ];
     demand_met = more_meets asks e x;
     few = λ N given. few_for N asks (ap (is_within_all asks) (as_more count e counted x N given) ∙ few);
   }
@@ -148,17 +148,15 @@ module _ (asks : List Ask) (c : ℕ) (e : Option ℕ) (within : (n : ℕ) → is
       (record {
         needed = λ m s. false_from_ne_true _ (λ w. found_is asks d m s (ap (λ d. wants d m) is ∙ w) none);
         wanted = sym (ap (λ d. wants d n) is) ∙ p.0;
-        positive = free.0;
-        not_denied = free.1;
-        is_least = free.2;
+        first = free;
       })
       (sym (within (c + 1)) ∙ p.1)
 
   -- and back
   room_of_more : (d : Demand) → d ≡ demand asks → (f : Option ℕ) → FirstFree (is_denied asks) f → (n : ℕ) → IsOneMore asks n → IsTrue (is_within_all asks (c + 1)) → has_room d f c e ≡ true
-  room_of_more d is None free n x few = absurd (true≢false (sym (free n x.positive) ∙ x.not_denied))
+  room_of_more d is None free n x few = absurd (true≢false (sym (free n x.first.0) ∙ x.first.1))
   room_of_more d is (Some m) free n x few =
-      let same : m ≡ n = free_once (is_denied asks) m n free (x.positive, x.not_denied, x.is_least) in
+      let same : m ≡ n = free_once (is_denied asks) m n free x.first in
       and_from (wants d m) (is_within e (c + 1)) (ap (λ d. wants d m) is ∙ ap (wants (demand asks)) same ∙ x.wanted) (within (c + 1) ∙ few)
 
   -- one more isn't needed where a wanted number is shown

@@ -1,15 +1,15 @@
 -- What a session says is bounded by its answers.
-use Rattle.std.proofs.Common.{ℕ, ◌+◌, ◌≤◌, Bool, true, false, cond, ◌==◌, List, [], ◌∷◌, Option, None, Some, length, arith}
+use Rattle.std.proofs.Common.{ℕ, ◌+◌, ◌*◌, ◌<◌, ◌≤◌, ◌^◌, Bool, true, false, cond, ◌==◌, List, [], ◌∷◌, Some, length, arith}
 use Rattle.nntp_article.specs.Machine.{Visible, visible_after, start}
 use Rattle.nntp_facts.specs.Asks.{Position, Nowhere, position_after, Lacks, StandsNowhere, IsTop, IsBottom}
 use Rattle.nntp_facts.specs.Facts.{Fact, ThereIsNo, NoArticle, Asks, IdAt, facts_of, facts_of_code, facts_from, on, here}
-use Rattle.nntp_facts.specs.Given.{size, size_in, lines_in, weight, facts_of_session}
+use Rattle.nntp_facts.specs.Given.{size, size_in, weight, facts_of_session}
+use Rattle.nntp_pair.specs.Pairing.{Paired, lines_in, asked_of, responses_of}
 use Rattle.nntp_facts.proofs.FirstBad.{size-append}
 use Rattle.nntp_wire.specs.Answer.{Asked, Response, to, group_is, numbers_are, sends, active_are, plain}
 use Rattle.nntp_wire.specs.Command.{Request, by_id, by_number, current, group, list_group, next, last, retrieve, list_active}
-use Rattle.std.specs.List.{filter_map, cons_option}
-use Rattle.nntp_wire.specs.Listing.{listed_number_of}
-use Rattle.nntp_article.specs.Listed.{listed_numbers, active_of, active_groups}
+use Rattle.std.specs.List.{AllByRecursion}
+use Rattle.nntp_wire.proofs.ListingLemmas.{listed_numbers-few, active_groups-few}
 
 -- at most one fact of size 1
 one : (b : Bool) (fact : Fact) → size_in fact ≤ 1 → size (cond b (fact ∷ []) []) ≤ 1
@@ -40,28 +40,17 @@ code_size v at (retrieve what (by_number (Some n))) code = let a = one (code == 
 code_size v at (retrieve what current) code = let a = one (code == 420) (Asks (here v) (StandsNowhere at)) (omega arith) in omega arith
 code_size v at command code = omega arith
 
--- as many as there are lines at most
-kept_few : {X Y : Type 0} (f : X → Option Y) (xs : List X) → length (filter_map f xs) ≤ length xs
-kept_few f [] = omega arith
-kept_few f (x ∷ xs) = let rest = kept_few f xs in elim (f x) as (λ o. length (cons_option o (filter_map f xs)) ≤ length (x ∷ xs)) [ None ↦ omega arith | Some y ↦ omega arith ]
-
-listed_few : (lines : List (List ℕ)) → length (listed_numbers lines) ≤ length lines
-listed_few lines = kept_few listed_number_of lines
-
-active_few : (lines : List (List ℕ)) → length (active_groups lines) ≤ length lines
-active_few lines = kept_few active_of lines
-
 -- an answer says three, and one for each line
 answer_size : (v : Visible) (at : Position) (p : Asked) (a : Response) → size (facts_of v at p a) ≤ lines_in a + 3
 answer_size v at (to command) (plain code) = let c = code_size v at command code in omega arith
 answer_size v at (to (group word)) (group_is m name) = omega arith
-answer_size v at (to (list_group word range)) (numbers_are m name lines) = let few = listed_few lines in omega arith
+answer_size v at (to (list_group word range)) (numbers_are m name lines) = let few = listed_numbers-few lines in omega arith
 answer_size v at (to next) (sends sent) = omega arith
 answer_size v at (to last) (sends sent) = omega arith
 answer_size v at (to (retrieve what (by_id word))) (sends sent) = let u = unless (sent.number == 0) (IdAt (here v) sent.number sent.id) (omega arith) in omega arith
 answer_size v at (to (retrieve what (by_number n))) (sends sent) = omega arith
 answer_size v at (to (retrieve what current)) (sends sent) = omega arith
-answer_size v at (to (list_active p)) (active_are lines) = let few = active_few lines in omega arith
+answer_size v at (to (list_active p)) (active_are lines) = let few = active_groups-few lines in omega arith
 answer_size v at p a = omega arith
 
 -- and so a session, from any state on
@@ -77,3 +66,12 @@ from_size v at (p ∷ ps) (a ∷ more) =
 -- what a session says is bounded by its answers
 pub session_size : (ps : List Asked) (answers : List Response) → size (facts_of_session ps answers) ≤ weight answers
 session_size ps answers = from_size start.visible Nowhere ps answers
+
+-- answers of few lines weigh little
+pairs_weight : (pairs : List Paired) → AllByRecursion (λ pair. lines_in pair.response < 2 ^ 64) pairs → weight (responses_of pairs) ≤ (2 ^ 64 + 2) * length pairs
+pairs_weight [] few = omega arith
+pairs_weight (pair ∷ pairs) few = let rest = pairs_weight pairs few.1 in let here = few.0 in omega arith
+
+-- so what pairs say is small
+pub pairs_size : (pairs : List Paired) → AllByRecursion (λ pair. lines_in pair.response < 2 ^ 64) pairs → length pairs < 2 ^ 64 → size (facts_of_session (asked_of pairs) (responses_of pairs)) < 2 ^ 210
+pairs_size pairs few short = let all = session_size (asked_of pairs) (responses_of pairs) in let weights = pairs_weight pairs few in omega arith

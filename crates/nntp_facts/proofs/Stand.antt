@@ -8,7 +8,8 @@ use Rattle.std.specs.FinMap.{get}
 use Rattle.std.proofs.lemmas.Bool.{true≢false, and_parts, eqb-true, false_from_ne_true, not-true}
 use Rattle.std.proofs.lemmas.List.Elements.{recursion_from_All}
 use Rattle.nntp_article.specs.Article.{Line, Id, head_part, body_part}
-use Rattle.nntp_article.specs.Spool.{Spool, Text, IsGroup, numbers, IsSpool, HasText, text_of, is_line, Name, Profile}
+use Rattle.nntp_article.specs.Spool.{Spool, Text, IsGroup, numbers, IsSpool, HasText, text_of, is_line, Name}
+use Rattle.nntp_article.specs.declared.profile.Profile.{Profile}
 use Rattle.nntp_article.specs.Machine.{is_same}
 use Rattle.nntp_article.proofs.HeadParts.{parts}
 use Rattle.nntp_facts.specs.Facts.{Fact, Holds, ThereIs, ThereIsNo, Asks, IdAt, TextIs, NoArticle, GroupsAre}

@@ -14,7 +14,7 @@ use Rattle.nntp_article.specs.Spool.{IsNumber}
 use Rattle.nntp_article.specs.Machine.{is_ascending}
 use Rattle.nntp_facts.specs.Given.{wants, Demand}
 use Rattle.nntp_facts.specs.Summary.{has, Finds, one_more, AreCounted, is_one_of, IsTally}
-use Rattle.nntp_facts.specs.declared.group.Found.{Found}
+use Rattle.nntp_facts.specs.declared.shown.Found.{Found}
 use Rattle.nntp_facts.proofs.FoundNumbers.{and_one, parted}
 use Rattle.nntp_facts.proofs.Added.{map_of, in_map_of, len_map_of, same_bool}
 
@@ -79,6 +79,23 @@ or_none : (a : Bool) → a ≡ (a || false)
 or_none true = refl
 or_none false = refl
 
+-- the numbers up to the one at i
+one_more_listed : (xs : List ℕ) (i : ℕ) → i < length xs → (n : ℕ) → (is_one_of (take i xs) n || get_or xs i 0 == n) ≡ is_one_of (take (i + 1) xs) n
+one_more_listed xs i l n =
+    same_bool (is_one_of (take i xs) n || get_or xs i 0 == n) (is_one_of (take i xs) n || (n == get_or xs i 0 || false)) (λ t. elim (or_cases (is_one_of (take i xs) n) (get_or xs i 0 == n) t) [
+      | inl a ↦ or_left (is_one_of (take i xs) n) (n == get_or xs i 0 || false) a
+      | inr b ↦ or_right (is_one_of (take i xs) n) (n == get_or xs i 0 || false) (or_left (n == get_or xs i 0) false (eq-eqb n (get_or xs i 0) (sym (eqb-true (get_or xs i 0) n b))))
+    ]) (λ t. elim (or_cases (is_one_of (take i xs) n) (n == get_or xs i 0 || false) t) [
+      | inl a ↦ or_left (is_one_of (take i xs) n) (get_or xs i 0 == n) a
+      | inr b ↦ or_right (is_one_of (take i xs) n) (get_or xs i 0 == n) (eq-eqb (get_or xs i 0) n (sym (eqb-true n (get_or xs i 0) (or_none (n == get_or xs i 0) ∙ b))))
+    ])
+    ∙ sym (list_any-append (λ m. n == m) (take i xs) (get_or xs i 0 ∷ [])) ∙ ap (λ l. is_one_of l n) (sym (take_more xs i 0 l))
+
+-- the one at i is shown too
+pub shown_next : (before now after : ℕ → Bool) (xs : List ℕ) (i : ℕ) → i < length xs → ((n : ℕ) → now n ≡ (before n || is_one_of (take i xs) n)) → ((n : ℕ) → after n ≡ (now n || get_or xs i 0 == n)) → (n : ℕ) → after n ≡ (before n || is_one_of (take (i + 1) xs) n)
+shown_next before now after xs i l is more n =
+    more n ∙ ap (λ b. b || get_or xs i 0 == n) (is n) ∙ or_assoc (before n) (is_one_of (take i xs) n) (get_or xs i 0 == n) ∙ ap (λ b. before n || b) (one_more_listed xs i l n)
+
 module _ (ns : List ℕ) (d : Demand) where
   pub with_tally : (p : ℕ → Bool) (m : ℕ) (w : Found) (c : ℕ) → IsTally (λ n. (has ns n || p n) || m == n) d w c → IsTally (λ n. has ns n || (p n || m == n)) d w c
   with_tally p m w c t = same_tally _ _ (λ n. or_assoc (has ns n) (p n) (m == n)) d w c t
@@ -89,15 +106,7 @@ module _ (ns : List ℕ) (d : Demand) where
 
   -- behind the number at i
   pub tally_step : (xs : List ℕ) (i : ℕ) (w : Found) (c : ℕ) → i < length xs → IsTally (λ n. has ns n || (is_one_of (take i xs) n || get_or xs i 0 == n)) d w c → IsTally (λ n. has ns n || is_one_of (take (i + 1) xs) n) d w c
-  tally_step xs i w c l t = same_tally _ _ (λ n. ap (λ b. has ns n || b) (
-      same_bool (is_one_of (take i xs) n || get_or xs i 0 == n) (is_one_of (take i xs) n || (n == get_or xs i 0 || false)) (λ t. elim (or_cases (is_one_of (take i xs) n) (get_or xs i 0 == n) t) [
-        | inl a ↦ or_left (is_one_of (take i xs) n) (n == get_or xs i 0 || false) a
-        | inr b ↦ or_right (is_one_of (take i xs) n) (n == get_or xs i 0 || false) (or_left (n == get_or xs i 0) false (eq-eqb n (get_or xs i 0) (sym (eqb-true (get_or xs i 0) n b))))
-      ]) (λ t. elim (or_cases (is_one_of (take i xs) n) (n == get_or xs i 0 || false) t) [
-        | inl a ↦ or_left (is_one_of (take i xs) n) (get_or xs i 0 == n) a
-        | inr b ↦ or_right (is_one_of (take i xs) n) (get_or xs i 0 == n) (eq-eqb (get_or xs i 0) n (sym (eqb-true n (get_or xs i 0) (or_none (n == get_or xs i 0) ∙ b))))
-      ])
-      ∙ sym (list_any-append (λ m. n == m) (take i xs) (get_or xs i 0 ∷ [])) ∙ ap (λ l. is_one_of l n) (sym (take_more xs i 0 l)))) d w c t
+  tally_step xs i w c l t = same_tally _ _ (λ n. ap (λ b. has ns n || b) (one_more_listed xs i l n)) d w c t
 
   -- behind all of them
   pub tally_end : (xs : List ℕ) (i : ℕ) (w : Found) (c : ℕ) → i ≡ length xs → IsTally (λ n. has ns n || is_one_of (take i xs) n) d w c → IsTally (λ n. has ns n || is_one_of xs n) d w c

@@ -1,32 +1,23 @@
 -- What octets spell is well formed.
 use Rattle.std.proofs.Common.{◌≡◌, ℕ, Bool, true, false, cond, ◌==◌, IsTrue, List, [], ◌∷◌, ◌++◌, ◌⊎◌, inl, inr, Option, None, Some, refl, sym, ap, subst, ◌∙◌}
-use Rattle.std.specs.Prelude.{IfSome, ⊤, nat_lt}
-use Rattle.std.specs.List.{AllByRecursion, list_all, cons_option}
-use Rattle.std.proofs.lemmas.Bool.{and_parts, and_from}
-use Rattle.std.proofs.lemmas.List.Folds.{list_all-append}
-use Rattle.std.proofs.lemmas.List.Elements.{recursion_from_All}
-use Rattle.nntp_wire.specs.Octets.{crlf, dot, is_clean}
+use Rattle.std.specs.Prelude.{IfSome, ⊤}
+use Rattle.std.specs.List.{AllByRecursion}
+use Rattle.std.proofs.lemmas.Bool.{and_from}
+use Rattle.nntp_wire.specs.Octets.{crlf, dot, is_clean, are_octets}
 use Rattle.nntp_wire.specs.Name.{IsGroupName, IsMessageId}
 use Rattle.nntp_wire.specs.Block.{stuffed, sent, dot_line, AreClean}
-use Rattle.nntp_wire.specs.Listing.{IsActiveLine}
-use Rattle.nntp_wire.specs.Answer.{Asked, Response, to, group_is, numbers_are, sends, active_are, plain, Spells, Says, SaysByLines, SaysGroup, SaysNumbers, SaysArticle, SaysActive, SaysCapabilities, SaysCode, success_code, greeting, block_octets, IsCleanBlock, kind_of}
-use Rattle.nntp_wire.specs.Command.{Request, capabilities, mode_reader, quit, opaque, ill_formed, by_id, by_number, current, group, list_group, next, last, retrieve, list_active}
+use Rattle.nntp_wire.specs.Listing.{active_groups}
+use Rattle.nntp_wire.specs.Answer.{Asked, Response, to, group_is, numbers_are, sends, active_are, plain, Spells, SaysByLines, SaysGroup, SaysNumbers, SaysArticle, SaysActive, SaysCapabilities, SaysCode, block_octets, IsCleanBlock, kind_of}
+use Rattle.nntp_wire.specs.Command.{Request, by_id, by_number, current, group, list_group, next, last, retrieve, list_active}
+use Rattle.nntp_wire.proofs.AnswerLemmas.{says-ways}
+use Rattle.nntp_wire.proofs.OctetLemmas.{octets-parts}
 use Rattle.nntp_article.specs.Spool.{is_line}
-use Rattle.nntp_article.specs.Listed.{active_groups}
 use Rattle.nntp_article.specs.Machine.{Visible}
-use Rattle.nntp_article.proofs.ListedLemmas.{active_of-lists}
+use Rattle.nntp_wire.proofs.ListingLemmas.{active_groups-named}
 use Rattle.nntp_facts.specs.Asks.{Position}
 use Rattle.nntp_facts.specs.Facts.{Fact, on, facts_of_code, facts_of}
 use Rattle.nntp_facts.specs.Together.{IsWellFormed}
 use Rattle.nntp_facts.proofs.Members.{all_both}
-
--- octets below 256
-abbrev pub are_octets : List ℕ → Bool
-are_octets bytes = list_all (λ c. nat_lt c 256) bytes
-
--- those of both parts are
-parts : (xs ys : List ℕ) → are_octets (xs ++ ys) ≡ true → (are_octets xs ≡ true) × (are_octets ys ≡ true)
-parts xs ys h = and_parts (are_octets xs) (are_octets ys) (sym (list_all-append (λ c. nat_lt c 256) xs ys) ∙ h)
 
 -- a line without the dot in front
 unstuffed_octets : (line : List ℕ) → are_octets (stuffed line) ≡ true → are_octets line ≡ true
@@ -41,19 +32,13 @@ unstuffed_octets (b ∷ bs) h = by (b == dot) h
 sent_lines : (lines : List (List ℕ)) → AreClean lines → are_octets (sent lines) ≡ true → AllByRecursion (λ line. IsTrue (is_line line)) lines
 sent_lines [] clean h = tt
 sent_lines (line ∷ lines) clean h =
-    let p = parts (stuffed line ++ crlf) (sent lines) h in
-    (and_from (is_clean line) (are_octets line) clean.0 (unstuffed_octets line (parts (stuffed line) crlf p.0).0), sent_lines lines clean.1 p.1)
+    let p = octets-parts (stuffed line ++ crlf) (sent lines) h in
+    (and_from (is_clean line) (are_octets line) clean.0 (unstuffed_octets line (octets-parts (stuffed line) crlf p.0).0), sent_lines lines clean.1 p.1)
 
 -- and so those of a block
 block_lines : (block : Option (List (List ℕ))) → IsCleanBlock block → are_octets (block_octets block) ≡ true → IfSome block (λ lines. AllByRecursion (λ line. IsTrue (is_line line)) lines)
 block_lines None clean h = tt
-block_lines (Some lines) clean h = sent_lines lines clean (parts (sent lines) dot_line h).0
-
--- groups that are listed have names
-listed_names : (lines : List (List ℕ)) → AllByRecursion IsActiveLine lines → AllByRecursion (λ line. IsGroupName line.name) (active_groups lines)
-listed_names [] h = tt
-listed_names (line ∷ lines) h =
-    subst (λ o. AllByRecursion (λ line. IsGroupName line.name) (cons_option o (active_groups lines))) (sym (active_of-lists line h.0.0 h.0.1)) (h.0.1.is_name, listed_names lines h.1)
+block_lines (Some lines) clean h = sent_lines lines clean (octets-parts (sent lines) dot_line h).0
 
 -- names, ids and lines of the response are such
 IsProper : Response → Type 0
@@ -86,7 +71,7 @@ article_proper code bytes block response lines h = absurd h
 active_proper : (block : Option (List (List ℕ))) (response : Response) → SaysByLines SaysActive block response → IsProper response
 unfolding IsProper
 active_proper None response h = absurd h
-active_proper (Some lines) (active_are listed) h = subst (λ ls. AllByRecursion (λ line. IsGroupName line.name) (active_groups ls)) (sym h.1) (listed_names lines (recursion_from_All IsActiveLine lines h.0))
+active_proper (Some lines) (active_are listed) h = subst (λ ls. AllByRecursion (λ line. IsGroupName line.name) (active_groups ls)) (sym h.1) (active_groups-named lines)
 active_proper (Some lines) response h = absurd h
 
 -- or is a code
@@ -99,33 +84,21 @@ capabilities_proper : (code : ℕ) (block : Option (List (List ℕ))) (response 
 capabilities_proper code None response h = absurd h
 capabilities_proper code (Some lines) response h = code_proper code response h.1
 
--- one of two, by a test
-one_of : {K : Type 0} (P : K → Type 0) (b : Bool) (x y : K) → P (cond b x y) → P x ⊎ P y
-one_of P true x y h = inl h
-one_of P false x y h = inr h
-
--- and so are those of one that octets say under a prompt
-said_proper : (asked : Asked) (code : ℕ) (bytes : List ℕ) (block : Option (List (List ℕ))) (response : Response) → IfSome block (λ lines. AllByRecursion (λ line. IsTrue (is_line line)) lines) → Says (kind_of asked code) code bytes block response → IsProper response
-said_proper greeting code bytes block response lines h = code_proper code response h
-said_proper (to request) code bytes block response lines h = by request h
-  where
-    by : (request : Request) → Says (kind_of (to request) code) code bytes block response → IsProper response
-    by (group name) h = elim (one_of (λ k. Says k code bytes block response) (code == 211) _ _ h) [ inl p ↦ group_proper bytes response p | inr p ↦ code_proper code response p ]
-    by (list_group name range) h = elim (one_of (λ k. Says k code bytes block response) (code == 211) _ _ h) [ inl p ↦ numbers_proper bytes block response p | inr p ↦ code_proper code response p ]
-    by (retrieve what target) h = elim (one_of (λ k. Says k code bytes block response) (code == success_code what) _ _ h) [ inl p ↦ article_proper code bytes block response lines p | inr p ↦ code_proper code response p ]
-    by next h = elim (one_of (λ k. Says k code bytes block response) (code == 223) _ _ h) [ inl p ↦ article_proper code bytes block response lines p | inr p ↦ code_proper code response p ]
-    by last h = elim (one_of (λ k. Says k code bytes block response) (code == 223) _ _ h) [ inl p ↦ article_proper code bytes block response lines p | inr p ↦ code_proper code response p ]
-    by (list_active wildmat) h = elim (one_of (λ k. Says k code bytes block response) (code == 215) _ _ h) [ inl p ↦ active_proper block response p | inr p ↦ code_proper code response p ]
-    by capabilities h = elim (one_of (λ k. Says k code bytes block response) (code == 101) _ _ h) [ inl p ↦ capabilities_proper code block response p | inr p ↦ code_proper code response p ]
-    by mode_reader h = code_proper code response h
-    by quit h = code_proper code response h
-    by opaque h = code_proper code response h
-    by ill_formed h = code_proper code response h
+-- and so are those of one that octets and a block say, in whatever way
+said_proper : (code : ℕ) (bytes : List ℕ) (block : Option (List (List ℕ))) (response : Response) → IfSome block (λ lines. AllByRecursion (λ line. IsTrue (is_line line)) lines)
+    → SaysGroup bytes response ⊎ (SaysByLines (SaysNumbers bytes) block response ⊎ (SaysArticle code bytes block response ⊎ (SaysByLines SaysActive block response ⊎ (SaysByLines (SaysCapabilities code) block response ⊎ SaysCode code response))))
+    → IsProper response
+said_proper code bytes block response lines (inl s) = group_proper bytes response s
+said_proper code bytes block response lines (inr (inl s)) = numbers_proper bytes block response s
+said_proper code bytes block response lines (inr (inr (inl s))) = article_proper code bytes block response lines s
+said_proper code bytes block response lines (inr (inr (inr (inl s)))) = active_proper block response s
+said_proper code bytes block response lines (inr (inr (inr (inr (inl s))))) = capabilities_proper code block response s
+said_proper code bytes block response lines (inr (inr (inr (inr (inr s))))) = code_proper code response s
 
 -- and of one that they spell
 spelled_proper : (asked : Asked) (response : Response) (bytes : List ℕ) → Spells asked response bytes → are_octets bytes ≡ true → IsProper response
 spelled_proper asked response bytes s h =
-    said_proper asked s.code _ s.block response (block_lines s.block s.clean (parts (s.line ++ crlf) (block_octets s.block) (sym (ap are_octets s.whole) ∙ h)).1) s.says
+    said_proper s.code _ s.block response (block_lines s.block s.clean (octets-parts (s.line ++ crlf) (block_octets s.block) (sym (ap are_octets s.whole) ∙ h)).1) (says-ways (kind_of asked s.code) s.code _ s.block response s.says)
 
 -- a fact under a test
 on_formed : (b : Bool) (fact : Fact) → IsWellFormed fact → AllByRecursion IsWellFormed (cond b (fact ∷ []) [])
@@ -162,5 +135,5 @@ proper_formed v at (to command) (plain code) h = code_formed v at command code
 proper_formed v at asked response h = tt
 
 -- what octets spell says well-formed facts
-pub spelled_formed : (v : Visible) (at : Position) (asked : Asked) (response : Response) (bytes : List ℕ) → Spells asked response bytes → IsTrue (list_all (λ c. nat_lt c 256) bytes) → AllByRecursion IsWellFormed (facts_of v at asked response)
+pub spelled_formed : (v : Visible) (at : Position) (asked : Asked) (response : Response) (bytes : List ℕ) → Spells asked response bytes → IsTrue (are_octets bytes) → AllByRecursion IsWellFormed (facts_of v at asked response)
 spelled_formed v at asked response bytes s h = proper_formed v at asked response (spelled_proper asked response bytes s h)

@@ -1,10 +1,12 @@
 -- What answers ask of the numbers of a group, with the current article read off the session (RFC 3977, section 6.1).
 use Rattle.std.specs.Prelude.{◌≡◌, ℕ, ◌≤◌, List, [], ◌∷◌, Option, None, Some, MatchOption, ⊤}
 use Rattle.std.specs.FinMap.{get}
-use Rattle.nntp_article.specs.Spool.{Spool, Numbers, IsNumber, least, IsNextAbove, IsNextBelow, NoneAbove, NoneBelow, Lists, Profile}
+use Rattle.nntp_article.specs.Spool.{Spool, Numbers, IsNumber, least, IsNextAbove, IsNextBelow, NoneAbove, NoneBelow, Lists}
+use Rattle.nntp_article.specs.declared.profile.Profile.{Profile}
 use Rattle.nntp_article.specs.Machine.{Visible, State, MayAnswer, visible_after, selected_numbers, Bound}
 use Rattle.nntp_wire.specs.declared.range.Range.{Range}
-use Rattle.nntp_wire.specs.Answer.{WaterMarks, Asked, Response, to, group_is, numbers_are, sends}
+use Rattle.nntp_wire.specs.Answer.{Asked, Response, to, group_is, numbers_are, sends}
+use Rattle.nntp_wire.specs.declared.water_marks.WaterMarks.{WaterMarks}
 use Rattle.nntp_wire.specs.Command.{by_number, current, next, last, retrieve}
 
 -- where the session stands in the selected group: nowhere, at the first number whatever it is, or at a number that was shown

@@ -2,7 +2,7 @@
 use Rattle.std.specs.Prelude.{◌≡◌, ℕ, Bool, true, false, List, [], ◌∷◌, ◌++◌, length, Option, None, Some, ⊤}
 use Rattle.nntp_wire.specs.Answer.{Asked, Response, Spells}
 use Rattle.nntp_wire.specs.Session.{prompts_of, Spelled}
-use Rattle.nntp_article.specs.Spool.{Profile}
+use Rattle.nntp_article.specs.declared.profile.Profile.{Profile}
 use Rattle.nntp_article.specs.Machine.{Visible, start, fits, visible_after}
 use Rattle.nntp_facts.specs.Asks.{Position, position_after}
 use Rattle.nntp_pair.specs.Pairing.{IsCut, IsMalformed}
@@ -73,11 +73,16 @@ pub record HasClass (profile : Profile) (client server : List ℕ) (k : ℕ) (cl
   pub is_class : IsClass (left_visible client server k before).closed profile (left_visible client server k before)
       (asked_next (prompts_of client) before.answers) before.rest class
 
--- no octets that follow can mend it: the frame is whole, or the connection is closed
-abbrev pub IsSettled : (profile : Profile) (client server : List ℕ) (k : ℕ) (class : Class) → HasClass profile client server k class → Type 0
-IsSettled profile client server k Surplus has = (left_visible client server k has.before).closed ≡ true
-IsSettled profile client server k Cut has = ⊥
-IsSettled profile client server k class has = ⊤
+-- the answers before k leave the connection closed
+pub record IsClosedBefore (client server : List ℕ) (k : ℕ) : Type 0 where
+  pub before : AnswersFirst client server k
+  pub closed : (left_visible client server k before).closed ≡ true
+
+-- no octets that follow can mend a bad answer k of this class: its frame is whole, or the connection is closed before it
+abbrev pub IsSettled : List ℕ → List ℕ → ℕ → Class → Type 0
+IsSettled client server k Surplus = IsClosedBefore client server k
+IsSettled client server k Cut = ⊥
+IsSettled client server k class = ⊤
 
 -- the class of octets at which a pairing ends
 abbrev pub class_of : PairClass → Class

@@ -1,14 +1,14 @@
 -- What each answer of a session says of the spool, with the current article read off the session.
 use Rattle.std.specs.Prelude.{◌≡◌, ℕ, false, ◌==◌, if◌then◌else◌, List, [], ◌∷◌, ◌++◌, Option, None, Some, unwrap_or, ⊤, IsTrue}
 use Rattle.std.specs.FinMap.{get}
-use Rattle.nntp_article.specs.Spool.{Spool, IsGroup, numbers, HasText, Name, Profile}
+use Rattle.nntp_article.specs.Spool.{Spool, IsGroup, numbers, HasText, Name}
+use Rattle.nntp_article.specs.declared.profile.Profile.{Profile}
 use Rattle.nntp_article.specs.Machine.{Visible, visible_after, ActivesAgree, fits}
 use Rattle.nntp_facts.specs.Asks.{Position, position_after, Ask, Meets, Estimates, ListsIn, Lacks, StandsAt, StandsNowhere, StepsUp, StepsDown, IsTop, IsBottom}
 use Rattle.nntp_article.specs.Article.{Id, Line}
-use Rattle.nntp_wire.specs.Listing.{ActiveValue}
+use Rattle.nntp_wire.specs.Listing.{ActiveValue, listed_numbers, active_groups}
 use Rattle.nntp_wire.specs.declared.command.What.{What}
 use Rattle.nntp_wire.specs.Command.{Request, by_id, by_number, current, group, next, last, retrieve, list_group, list_active}
-use Rattle.nntp_article.specs.Listed.{listed_numbers, active_groups}
 use Rattle.nntp_wire.specs.Answer.{Asked, Response, to, group_is, numbers_are, sends, active_are, plain}
 
 -- one thing that an answer says of the spool

@@ -8,7 +8,8 @@ use Rattle.nntp_article.specs.Spool.{Spool, Text, Numbers, IsNumber, IsGroup, nu
 use Rattle.nntp_article.specs.Machine.{is_in_range, is_same, start}
 use Rattle.nntp_facts.specs.Asks.{Nowhere, Ask, First, Known, Estimates, Bounds, ListsIn, Has, Lacks, StandsAt, StandsNowhere, StepsUp, StepsDown, IsTop, IsBottom}
 use Rattle.nntp_facts.specs.Facts.{Fact, ThereIs, Asks, IdAt, TextIs, NoArticle, GroupsAre, facts_from}
-use Rattle.nntp_wire.specs.Answer.{Asked, Response, numbers_are, active_are}
+use Rattle.nntp_wire.specs.Answer.{Asked, Response}
+use Rattle.nntp_pair.specs.Pairing.{lines_in}
 use Rattle.nntp_wire.specs.declared.command.What.TheVariants.{Article, Head, Body}
 
 -- the ask shows the number
@@ -21,8 +22,8 @@ shows (StepsDown at m) n = m == n
 shows ask n = false
 
 -- n is between a and b, and neither
-abbrev pub is_between : ℕ → ℕ → ℕ → Bool
-is_between a b n = nat_lt a n && nat_lt n b
+abbrev pub is_strictly_between : ℕ → ℕ → ℕ → Bool
+is_strictly_between a b n = nat_lt a n && nat_lt n b
 
 -- the ask says that the number isn't there
 abbrev pub denies : Ask → ℕ → Bool
@@ -32,8 +33,8 @@ denies (ListsIn r ns) n = is_in_range r n && not (list_any (λ m. n == m) ns)
 denies (Lacks m) n = m == n
 denies (StandsAt First m) n = nat_lt n m
 denies (StandsNowhere First) n = true
-denies (StepsUp (Known c) m) n = is_between c m n
-denies (StepsDown (Known c) m) n = is_between m c n
+denies (StepsUp (Known c) m) n = is_strictly_between c m n
+denies (StepsDown (Known c) m) n = is_strictly_between m c n
 denies (IsTop (Known c)) n = nat_lt c n
 denies (IsBottom (Known c)) n = nat_lt n c
 denies ask n = false
@@ -84,13 +85,15 @@ wants OnlyOne n = true
 wants (SecondIs m) n = nat_lt n m
 wants d n = false
 
--- n is the one more number: where no number is shown that the demand wants, the least from 1 on that isn't denied, if the demand wants it
+-- n is the first number from k on that isn't taken
+abbrev pub IsFirstFree : (ℕ → Bool) → ℕ → ℕ → Type 0
+IsFirstFree taken k n = (k ≤ n) × IsFalse (taken n) × ((m : ℕ) → k ≤ m → m < n → IsTrue (taken m))
+
+-- n is the one more number: where no number is shown that the demand wants, the first from 1 on that isn't denied, if the demand wants it
 pub record IsOneMore (asks : List Ask) (n : ℕ) : Type 0 where
   pub needed : (m : ℕ) → IsTrue (is_shown asks m) → IsFalse (wants (demand asks) m)
   pub wanted : IsTrue (wants (demand asks) n)
-  pub positive : 1 ≤ n
-  pub not_denied : IsFalse (is_denied asks n)
-  pub is_least : (m : ℕ) → 1 ≤ m → m < n → IsTrue (is_denied asks m)
+  pub first : IsFirstFree (is_denied asks) 1 n
 
 -- the number is given: it is shown, or it is the one more
 abbrev pub IsGivenNumber : List Ask → ℕ → Type 0
@@ -177,12 +180,11 @@ plain_head id = (codes "Message-ID: " ++ id) ∷ []
 abbrev pub invented : ℕ → Id
 invented k = codes "<w" ++ decimal k ++ codes "@invented.invalid>"
 
--- the ids are invented in turn, from k on, and pass over those that are mentioned
+-- the ids are invented in turn, each with the first number from k on whose invented id isn't mentioned
 abbrev pub AreInvented : List Fact → ℕ → List Id → Type 0
 AreInvented facts k [] = ⊤
 AreInvented facts k (id ∷ ids) =
-    (j : ℕ) × (k ≤ j) × (id ≡ invented j) × IsFalse (is_mentioned facts (invented j))
-    × ((i : ℕ) → k ≤ i → i < j → IsTrue (is_mentioned facts (invented i))) × AreInvented facts (j + 1) ids
+    (j : ℕ) × IsFirstFree (λ i. is_mentioned facts (invented i)) k j × (id ≡ invented j) × AreInvented facts (j + 1) ids
 
 -- the ids of a group at numbers for which none is shown
 abbrev pub unshown_in : List Fact → Name → List (ℕ × Id) → List Id
@@ -233,12 +235,6 @@ size (fact ∷ facts) = size_in fact + size facts
 -- what a session says
 abbrev pub facts_of_session : List Asked → List Response → List Fact
 facts_of_session prompts answers = facts_from start.visible Nowhere prompts answers
-
--- how many lines with a name or a number an answer has
-abbrev pub lines_in : Response → ℕ
-lines_in (numbers_are m name lines) = length lines
-lines_in (active_are lines) = length lines
-lines_in a = 0
 
 -- a bound on what answers say: three for each, and one for each of its lines
 abbrev pub weight : List Response → ℕ

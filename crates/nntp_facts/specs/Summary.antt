@@ -1,5 +1,5 @@
 -- What is kept of all that is asked of the numbers of one group, and what it says.
-use Rattle.std.specs.Prelude.{not, ◌≡◌, ◌≢◌, ℕ, ◌+◌, ◌^◌, ◌<◌, ◌≤◌, ◌↔◌, Bool, true, false, ◌&&◌, ◌||◌, ◌==◌, nat_lt, nat_le, IsTrue, if◌then◌else◌, List, length, Option, None, Some, MatchOption}
+use Rattle.std.specs.Prelude.{not, ◌≡◌, ◌≢◌, ℕ, ◌+◌, ◌^◌, ◌<◌, ◌≤◌, ◌↔◌, Bool, true, false, ◌&&◌, ◌||◌, ◌==◌, nat_lt, nat_le, IsTrue, if◌then◌else◌, List, [], ◌∷◌, length, Option, None, Some, MatchOption}
 use Rattle.std.specs.List.{list_any, list_all}
 use Rattle.std.specs.List.Sorted.{IsStrictlySortedBy}
 use Rattle.std.specs.Ordering.{nat_cmp}
@@ -8,14 +8,14 @@ use Rattle.std.specs.FinMap.{len}
 use Rattle.nntp_intervals.specs.Intervals.{holds, is_between}
 use Rattle.nntp_article.specs.Spool.{Numbers, IsNumber}
 use Rattle.nntp_article.specs.Machine.{is_ascending}
-use Rattle.nntp_facts.specs.Asks.{Ask, Estimates}
+use Rattle.nntp_facts.specs.Asks.{Ask, Estimates, Has}
 use Rattle.nntp_facts.specs.Given.{shows, denies, is_shown, is_denied, Demand, NoDemand, NotEmpty, OnlyOne, SecondIs, Impossible, demand, join, wants}
 use Rattle.nntp_facts.specs.Together.{is_possible, AsksStand}
-use Rattle.nntp_facts.specs.declared.group.Need.{Need}
-use Rattle.nntp_facts.specs.declared.group.Need.TheVariants.{Nothing, Any, Only, Below, Never}
-use Rattle.nntp_facts.specs.declared.group.Found.{Found}
-use Rattle.nntp_facts.specs.declared.group.Found.TheVariants.{Absent, Single, Several}
-use Rattle.nntp_facts.specs.declared.group.Part.{Part}
+use Rattle.nntp_facts.specs.declared.need.Need.{Need}
+use Rattle.nntp_facts.specs.declared.need.Need.TheVariants.{Nothing, Any, Only, Below, Never}
+use Rattle.nntp_facts.specs.declared.shown.Found.{Found}
+use Rattle.nntp_facts.specs.declared.shown.Found.TheVariants.{Absent, Single, Several}
+use Rattle.nntp_facts.specs.declared.part.Part.{Part}
 
 -- ---- estimates
 
@@ -85,6 +85,10 @@ pub record Says (p : Said) (asks : List Ask) : Type 0 where
   pub small : (n : ℕ) → is_shown asks n ≡ true → n < 2 ^ 64
   pub estimating : (n : ℕ) → is_within p.estimate n ≡ is_within_all asks n
   pub demanding : p.demand ≡ demand asks
+
+-- q says what p says of one ask, and that n is there, where the ask shows no other number
+abbrev pub SaysToo : Said → ℕ → Said → Type 0
+SaysToo p n q = (ask : Ask) → Says p (ask ∷ []) → ((m : ℕ) → shows ask m ≡ true → n ≡ m) → Says q (ask ∷ Has n ∷ [])
 
 -- the part shows the number
 abbrev pub part_shows : Option ℕ → ℕ → Bool

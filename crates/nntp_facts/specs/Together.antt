@@ -10,7 +10,7 @@ use Rattle.nntp_article.specs.Spool.{Name, Numbers, is_line}
 use Rattle.nntp_article.specs.Machine.{is_in_range, is_same}
 use Rattle.nntp_facts.specs.Asks.{Nowhere, Ask, Known, Estimates, ListsIn, StandsAt, StandsNowhere, StepsUp, StepsDown, IsTop, IsBottom}
 use Rattle.nntp_facts.specs.Facts.{Fact, ThereIs, ThereIsNo, IdAt, TextIs, NoArticle, GroupsAre}
-use Rattle.nntp_facts.specs.Given.{Demand, NoDemand, NotEmpty, OnlyOne, SecondIs, Impossible, demand, is_denied, IsGivenNumber, HasGivenNumbers, asks_in, asks_of, shows_group, is_shown_group, first_given, id_in, head_in, body_in}
+use Rattle.nntp_facts.specs.Given.{Demand, NoDemand, NotEmpty, OnlyOne, SecondIs, Impossible, demand, is_denied, IsGivenNumber, HasGivenNumbers, asks_of, shows_group, is_shown_group, first_given, id_in, head_in, body_in}
 
 -- ---- the numbers of one group
 
@@ -95,26 +95,46 @@ pub record Together (facts : List Fact) : Type 0 where
   pub heads : (id : Id) → GiveOne (head_in id) facts
   pub bodies : (id : Id) → GiveOne (body_in id) facts
 
--- ---- one fact more
+-- what facts say agrees with one another, but for what they ask of numbers
+pub record AgreeWithin (facts : List Fact) : Type 0 where
+  pub groups : (name : Name) → IsTrue (is_shown_group facts name) → IsFalse (list_any (denies_group name) facts)
+  pub ids : (name : Name) (n : ℕ) → GiveOne (id_in name n) facts
+  pub ids_once : (name : Name) (id : Id) → GiveOne (number_in name id) facts
+  pub articles : (id : Id) → IsTrue (list_any (shows_article id) facts) → IsFalse (list_any (denies_article id) facts)
+  pub heads : (id : Id) → GiveOne (head_in id) facts
+  pub bodies : (id : Id) → GiveOne (body_in id) facts
 
--- what the fact gives is what was given before, if anything was
-abbrev pub GivesSame : {A : Type 0} → (Fact → Option A) → List Fact → Fact → Type 0
-GivesSame f facts fact = IfSome (f fact) (λ x. IfSome (first_given f facts) (λ y. x ≡ y))
+-- ---- more facts
 
--- the fact stands together with those before: what it shows isn't denied, what it denies isn't shown, and what it gives was given alike
-pub record Joins (facts : List Fact) (fact : Fact) : Type 0 where
-  pub well_formed : IsWellFormed fact
-  pub groups : (name : Name) → IsTrue (shows_group name fact) → IsFalse (list_any (denies_group name) facts)
-  pub no_groups : (name : Name) → IsTrue (denies_group name fact) → IsFalse (is_shown_group facts name)
-  pub numbers : (name : Name) → AsksStand (asks_of name facts ++ asks_in name fact)
-  pub ids : (name : Name) (n : ℕ) → GivesSame (id_in name n) facts fact
-  pub ids_once : (name : Name) (id : Id) → GivesSame (number_in name id) facts fact
-  pub articles : (id : Id) → IsTrue (shows_article id fact) → IsFalse (list_any (denies_article id) facts)
-  pub no_articles : (id : Id) → IsTrue (denies_article id fact) → IsFalse (list_any (shows_article id) facts)
-  pub heads : (id : Id) → GivesSame (head_in id) facts fact
-  pub bodies : (id : Id) → GivesSame (body_in id) facts fact
+-- what more facts give is what was given before, if anything was
+abbrev pub GiveSame : {A : Type 0} → (Fact → Option A) → List Fact → List Fact → Type 0
+GiveSame f facts more = IfSome (first_given f more) (λ x. IfSome (first_given f facts) (λ y. x ≡ y))
 
--- the facts do, one after the other
-abbrev pub JoinInTurn : List Fact → List Fact → Type 0
-JoinInTurn facts [] = ⊤
-JoinInTurn facts (fact ∷ more) = Joins facts fact × JoinInTurn (facts ++ fact ∷ []) more
+-- the groups that more facts show aren't denied, and those that they deny aren't shown
+pub record JoinNames (facts more : List Fact) : Type 0 where
+  pub groups : (name : Name) → IsTrue (is_shown_group more name) → IsFalse (list_any (denies_group name) facts)
+  pub no_groups : (name : Name) → IsTrue (list_any (denies_group name) more) → IsFalse (is_shown_group facts name)
+
+-- what more facts ask of each group stands together with what was asked
+abbrev pub JoinNumbers : List Fact → List Fact → Type 0
+JoinNumbers facts more = (name : Name) → AsksStand (asks_of name facts ++ asks_of name more)
+
+-- the ids that more facts give at numbers, and the numbers of ids, were given alike
+pub record JoinIds (facts more : List Fact) : Type 0 where
+  pub ids : (name : Name) (n : ℕ) → GiveSame (id_in name n) facts more
+  pub ids_once : (name : Name) (id : Id) → GiveSame (number_in name id) facts more
+
+-- the articles that more facts show aren't denied, those that they deny aren't shown, and the heads and bodies that they send were sent alike
+pub record JoinArticles (facts more : List Fact) : Type 0 where
+  pub articles : (id : Id) → IsTrue (list_any (shows_article id) more) → IsFalse (list_any (denies_article id) facts)
+  pub no_articles : (id : Id) → IsTrue (list_any (denies_article id) more) → IsFalse (list_any (shows_article id) facts)
+  pub heads : (id : Id) → GiveSame (head_in id) facts more
+  pub bodies : (id : Id) → GiveSame (body_in id) facts more
+
+-- more facts join those before
+pub record Join (facts more : List Fact) : Type 0 where
+  pub well_formed : AllByRecursion IsWellFormed more
+  pub names : JoinNames facts more
+  pub numbers : JoinNumbers facts more
+  pub ids : JoinIds facts more
+  pub articles : JoinArticles facts more

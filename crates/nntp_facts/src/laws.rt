@@ -1,18 +1,21 @@
 //! Laws of the definitions alone.
-ghost use Rattle.std.specs.Prelude.{◌≡◌, ℕ, ◌↔◌, ◌≤◌, ◌<◌, ◌+◌, ◌^◌, ◌⊎◌, false, List, [], ◌∷◌, ◌++◌, length, IsTrue, Some, nat_lt};
-ghost use Rattle.std.specs.List.{AllByRecursion, list_all};
+ghost use Rattle.std.specs.Prelude.{◌≡◌, ℕ, ◌↔◌, ◌≤◌, ◌<◌, ◌+◌, ◌^◌, ◌⊎◌, false, List, [], ◌∷◌, ◌++◌, length, IsTrue, Some};
+ghost use Rattle.std.specs.List.{AllByRecursion};
 ghost use Rattle.std.specs.FinMap.{insert, len};
-ghost use Rattle.nntp_article.specs.Spool.{Spool, Numbers, IsNumber, IsSpool, Name, Profile};
+ghost use Rattle.nntp_article.specs.Spool.{Spool, Numbers, IsNumber, IsSpool, Name};
+ghost use Rattle.nntp_article.specs.declared.profile.Profile.{Profile};
 ghost use Rattle.nntp_article.specs.Machine.{Run, start, fits, Visible, visible_after};
 ghost use Rattle.nntp_facts.specs.Asks.{RunsAt, Nowhere, Meets, Ask, Position, position_after};
 ghost use Rattle.nntp_facts.specs.Facts.{FitsAll, Holds, Fact, facts_of, facts_from};
 ghost use Rattle.nntp_facts.specs.Given.{asks_of, is_shown, demand, join, IsOneMore, IsGivenNumber, HasGivenNumbers, IsGiven, facts_of_session, size, weight, HasAtLeast};
-ghost use Rattle.nntp_facts.specs.Together.{MeetsDemand, IsWellFormed, Together, Joins, JoinInTurn};
-ghost use Rattle.nntp_facts.specs.Permits.{SomePermits, IsBadAnswer, asked_of};
+ghost use Rattle.nntp_facts.specs.Together.{MeetsDemand, IsWellFormed, Together, AgreeWithin, Join};
+ghost use Rattle.nntp_facts.specs.Permits.{SomePermits, IsFirstUnpermitted};
 ghost use Rattle.nntp_article.specs.Explains.{Explains, ExplainsUpTo, Bad};
+ghost use Rattle.nntp_wire.specs.Octets.{are_octets};
 ghost use Rattle.nntp_wire.specs.Session.{prompts_of, Spelled};
-ghost use Rattle.nntp_facts.specs.Classes.{Class, HasClass, IsSettled, class_of, class_by, visible_from, position_from, asked_next};
-ghost use Rattle.nntp_pair.specs.Pairing.{Paired, Unpaired, IsNext, AreNext, IsBad, Ending, end, bad, IsPairing, HasPairs, responses_of, asked_at, streams};
+ghost use Rattle.nntp_facts.specs.Headline.{Headline, Yes, No, is_yes, IsHeadline};
+ghost use Rattle.nntp_facts.specs.Classes.{Class, OutOfPlace, HasClass, IsSettled, class_of, class_by, visible_from, position_from, asked_next};
+ghost use Rattle.nntp_pair.specs.Pairing.{Paired, Unpaired, IsNext, AreNext, IsBad, IsLasting, Ending, end, bad, IsPairing, HasPairs, responses_of, asked_of, asked_at, lines_in, streams};
 ghost use Rattle.nntp_pair.specs.declared.class.PairClass.{PairClass};
 ghost use Rattle.nntp_wire.specs.Answer.{Asked, Response, Spells};
 
@@ -55,9 +58,12 @@ pub fn given_spool_is_one()
     ensures { (facts : List Fact) (G H : Spool) → IsGiven facts G → IsGiven facts H → G ≡ H }
 {}
 
-/// What a session says is bounded by its answers and their lines.
+/// What a session says is bounded by its answers and their lines, and so what fewer than 2^63 answers
+/// of fewer than 2^64 lines say.
 pub fn size_is_bounded()
-    ensures { (prompts : List Asked) (answers : List Response) → size (facts_of_session prompts answers) ≤ weight answers }
+    ensures answers { (prompts : List Asked) (answers : List Response) → size (facts_of_session prompts answers) ≤ weight answers }
+    ensures pairs { (pairs : List Paired) → AllByRecursion (λ pair. lines_in pair.response < 2 ^ 64) pairs → length pairs < 2 ^ 64
+        → size (facts_of_session (asked_of pairs) (responses_of pairs)) < 2 ^ 210 }
 {}
 
 /// What a session says is bounded by the octets that spell its answers, and so by those of the server.
@@ -88,7 +94,7 @@ pub fn answers_add_up()
 /// What octets spell is well formed.
 pub fn spelled_answers_are_well_formed()
     ensures { (v : Visible) (at : Position) (asked : Asked) (response : Response) (octets : List ℕ)
-        → Spells asked response octets → IsTrue (list_all (λ c. nat_lt c 256) octets) → AllByRecursion IsWellFormed (facts_of v at asked response) }
+        → Spells asked response octets → IsTrue (are_octets octets) → AllByRecursion IsWellFormed (facts_of v at asked response) }
 {}
 
 /// Only the prompts that are answered matter: those of the lines of the pairs, where answers are paired.
@@ -149,15 +155,16 @@ pub fn permitted_where_all_stands_together()
 {}
 
 /// Behind answers that some spool permits, some spool permits one more exactly if it fits and what it
-/// says joins what was said, fact by fact.
+/// says joins what was said.
 pub fn next_answer_is_permitted_where_it_joins()
     ensures demand { (asks more : List Ask) → demand (asks ++ more) ≡ join (demand asks) (demand more) }
-    ensures fact { (facts : List Fact) (fact : Fact) → Together facts → Together (facts ++ fact ∷ []) ↔ Joins facts fact }
+    ensures facts { (facts more : List Fact) → Together facts → AgreeWithin more → Together (facts ++ more) ↔ Join facts more }
+    ensures within { (v : Visible) (at : Position) (asked : Asked) (response : Response) → AgreeWithin (facts_of v at asked response) }
     ensures answer { (profile : Profile) (prompts : List Asked) (answers : List Response) (asked : Asked) (response : Response)
         → asked_next prompts answers ≡ Some asked → size (facts_of_session prompts (answers ++ response ∷ [])) < 2 ^ 210 → SomePermits profile prompts answers
         → SomePermits profile prompts (answers ++ response ∷ [])
         ↔ (((visible_from start.visible prompts answers).closed ≡ false) × IsTrue (fits profile (visible_from start.visible prompts answers) asked response)
-        × JoinInTurn (facts_of_session prompts answers) (facts_of (visible_from start.visible prompts answers) (position_from Nowhere prompts answers) asked response)) }
+        × Join (facts_of_session prompts answers) (facts_of (visible_from start.visible prompts answers) (position_from Nowhere prompts answers) asked response)) }
 {}
 
 /// Some spool permits a session, or none does.
@@ -169,11 +176,11 @@ pub fn some_spool_permits_or_none()
 /// Some spool permits a session, or exactly one answer is bad, and never both.
 pub fn one_answer_is_bad()
     ensures permitted_or_bad { (profile : Profile) (prompts : List Asked) (answers : List Response) → size (facts_of_session prompts answers) < 2 ^ 210
-        → SomePermits profile prompts answers ⊎ ((k : ℕ) × IsBadAnswer profile prompts answers k) }
+        → SomePermits profile prompts answers ⊎ ((k : ℕ) × IsFirstUnpermitted profile prompts answers k) }
     ensures never_both { (profile : Profile) (prompts : List Asked) (answers : List Response) (k : ℕ)
-        → SomePermits profile prompts answers → IsBadAnswer profile prompts answers k → ⊥ }
+        → SomePermits profile prompts answers → IsFirstUnpermitted profile prompts answers k → ⊥ }
     ensures one_bad { (profile : Profile) (prompts : List Asked) (answers : List Response) (k j : ℕ)
-        → IsBadAnswer profile prompts answers k → IsBadAnswer profile prompts answers j → k ≡ j }
+        → IsFirstUnpermitted profile prompts answers k → IsFirstUnpermitted profile prompts answers j → k ≡ j }
 {}
 
 /// Some spool explains two streams, or exactly one answer is bad, and never both.
@@ -197,17 +204,20 @@ pub fn bad_answer_has_one_class()
 /// same class whatever octets follow.
 pub fn settled_answer_stays_bad()
     ensures { (profile : Profile) (client server more_client more_server : List ℕ) (k : ℕ) (class : Class)
-        → (has : HasClass profile client server k class) → IsSettled profile client server k class has
+        → HasClass profile client server k class → IsSettled client server k class
         → Bad profile client server k
         → Bad profile (client ++ more_client) (server ++ more_server) k
         × HasClass profile (client ++ more_client) (server ++ more_server) k class }
 {}
 
-/// Where the pairing of two streams ends at octets, these have the class of that end.
+/// Where the pairing of two streams ends at octets, these have the class of that end, and it is settled
+/// where the end stays.
 pub fn pairing_ends_in_class()
-    ensures { (profile : Profile) (client server : List ℕ) (pairs : List Paired) (left : Unpaired) (class : PairClass)
+    ensures class { (profile : Profile) (client server : List ℕ) (pairs : List Paired) (left : Unpaired) (class : PairClass)
         → AreNext (streams client server) pairs left → IsBad class left
         → HasClass profile client server (length pairs) (class_of class) }
+    ensures settled { (client server : List ℕ) (pairs : List Paired) (left : Unpaired) (class : PairClass)
+        → AreNext (streams client server) pairs left → IsSettled client server (length pairs) (class_of class) ↔ IsLasting class left }
 {}
 
 /// Who permits the responses of a pairing that comes to the end of the server's octets explains both
@@ -256,4 +266,45 @@ pub fn explanation_is_by_all_pairs()
     ensures { (profile : Profile) (S : Spool) (client server : List ℕ) (n : ℕ) (pairs : List Paired) (ending : Ending)
         → IsPairing client server pairs ending → (explained : Explains profile S client server n)
         → (responses_of pairs ≡ explained.answers) × (unanswered : ℕ) × (ending ≡ end unanswered) }
+{}
+
+/// Two streams have one headline; it is a yes exactly if some spool explains them, and else a no.
+pub fn streams_have_one_headline()
+    ensures some { (profile : Profile) (client server : List ℕ) → length server < 2 ^ 210
+        → (headline : Headline) × IsHeadline profile client server headline }
+    ensures one { (profile : Profile) (client server : List ℕ) (headline other : Headline)
+        → IsHeadline profile client server headline → IsHeadline profile client server other → headline ≡ other }
+    ensures yes { (profile : Profile) (client server : List ℕ) (headline : Headline) → IsHeadline profile client server headline
+        → IsTrue (is_yes headline) ↔ ((S : Spool) × (n : ℕ) × Explains profile S client server n) }
+{}
+
+/// Where the pairing comes to the end of the server's octets, and some spool permits its responses,
+/// the headline is a yes with the given spool.
+pub fn headline_at_the_end()
+    ensures { (profile : Profile) (client server : List ℕ) (pairs : List Paired) (unanswered : ℕ) (G : Spool) → length server < 2 ^ 210
+        → IsPairing client server pairs (end unanswered) → SomePermits profile (asked_of pairs) (responses_of pairs)
+        → IsGiven (facts_of_session (asked_of pairs) (responses_of pairs)) G → IsHeadline profile client server (Yes G (length pairs)) }
+{}
+
+/// Where it ends at octets, and some spool permits its responses, the headline is a no there, of the
+/// class of that end.
+pub fn headline_at_octets()
+    ensures { (profile : Profile) (client server : List ℕ) (pairs : List Paired) (class : PairClass)
+        → IsPairing client server pairs (bad class) → SomePermits profile (asked_of pairs) (responses_of pairs)
+        → IsHeadline profile client server (No (length pairs) (class_of class)) }
+{}
+
+/// At a paired response that no spool permits behind those that some spool permits the headline is a
+/// no; one that doesn't fit is such a response, whatever the spools.
+pub fn headline_at_a_response()
+    ensures unpermitted { (profile : Profile) (client server : List ℕ) (pairs : List Paired) (pair : Paired) (before after : Unpaired)
+        → AreNext (streams client server) pairs before → IsNext before pair after
+        → SomePermits profile (asked_of pairs) (responses_of pairs)
+        → (SomePermits profile (asked_of (pairs ++ pair ∷ [])) (responses_of (pairs ++ pair ∷ [])) → ⊥)
+        → IsHeadline profile client server (No (length pairs) (class_by (fits profile (visible_from start.visible (asked_of pairs) (responses_of pairs)) (asked_at pair.line) pair.response))) }
+    ensures unfitting { (profile : Profile) (client server : List ℕ) (pairs : List Paired) (pair : Paired) (before after : Unpaired)
+        → AreNext (streams client server) pairs before → IsNext before pair after
+        → SomePermits profile (asked_of pairs) (responses_of pairs)
+        → fits profile (visible_from start.visible (asked_of pairs) (responses_of pairs)) (asked_at pair.line) pair.response ≡ false
+        → IsHeadline profile client server (No (length pairs) OutOfPlace) }
 {}

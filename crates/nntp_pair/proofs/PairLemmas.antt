@@ -1,13 +1,36 @@
 -- What the parts of a pairing say of the whole.
-use Rattle.std.proofs.Common.{◌≡◌, ℕ, List, [], ◌∷◌, Option, Some, Bool, true, false, refl, subst, length, map, count_by, cond, ◌+◌, arith}
+use Rattle.std.proofs.Common.{◌≡◌, ℕ, ◌<◌, ◌≤◌, ◌^◌, List, [], ◌∷◌, ◌++◌, Option, Some, Bool, true, false, refl, sym, ap, subst, ◌∙◌, length, map, count_by, cond, ◌+◌, arith, get_or, Fits, w8, length-append}
 use Rattle.std.proofs.lemmas.List.Sums.{sum_by-cons}
 use Rattle.std.specs.Prelude.{is_some}
 use Rattle.nntp_wire.specs.Lines.{lines_of_stream}
-use Rattle.nntp_wire.specs.Answer.{Asked, Response, Spells}
+use Rattle.nntp_wire.specs.Octets.{are_octets}
+use Rattle.nntp_wire.specs.Answer.{Asked, Response, group_is, numbers_are, sends, active_are, plain, Spells}
 use Rattle.nntp_wire.specs.Frame.{HasFrame, frame_octets}
+use Rattle.nntp_wire.proofs.OctetLemmas.{octets-fit, octets-parts}
+use Rattle.nntp_wire.proofs.SpellsDecided.{spelling-long}
 use Rattle.nntp_pair.specs.declared.class.PairClass.{PairClass}
 use Rattle.nntp_pair.specs.declared.class.PairClass.TheVariants.{Surplus, Cut, Malformed}
-use Rattle.nntp_pair.specs.Pairing.{Unpaired, Awaits, IsBad, IsUnanswered, IsMalformed, asked_at, places_from}
+use Rattle.nntp_pair.specs.Pairing.{Unpaired, Awaits, IsBad, IsUnanswered, IsMalformed, IsSpelled, lines_in, asked_at, places_from}
+
+-- a spelling has three octets, and one for each line
+pub lines-few : (asked : Asked) (response : Response) (octets : List ℕ) → Spells asked response octets → lines_in response + 3 ≤ length octets
+lines-few asked (numbers_are m name lines) octets s = spelling-long asked (numbers_are m name lines) octets s
+lines-few asked (active_are lines) octets s = spelling-long asked (active_are lines) octets s
+lines-few asked (group_is m name) octets s = spelling-long asked (group_is m name) octets s
+lines-few asked (sends sent) octets s = spelling-long asked (sends sent) octets s
+lines-few asked (plain code) octets s = spelling-long asked (plain code) octets s
+
+-- what the front of a slice spells is spelled in octets, and has fewer lines than these
+pub spelled : (place : Option (List ℕ)) (server initial : List ℕ) (block : Option (List ℕ)) (rest : List ℕ) (response : Response) (asked : Asked) → asked ≡ asked_at place
+    → HasFrame asked server initial block rest → Spells asked response (frame_octets initial block) → ((i : ℕ) → Fits w8 (get_or server i 0)) → length server < 2 ^ 64
+    → IsSpelled place initial response × (lines_in response < 2 ^ 64)
+spelled place server initial block rest response asked same has spells fit small =
+    let front = octets-parts (frame_octets initial block) rest (sym (ap are_octets has.whole) ∙ octets-fit server fit) in
+    let lines = lines-few asked response (frame_octets initial block) spells in
+    let whole : length server ≡ length (frame_octets initial block ++ rest) = ap length has.whole in (
+      record { block = block; spells = subst (λ a. Spells a response (frame_octets initial block)) same spells; octets = front.0 },
+      omega (arith, lines, whole, length-append (frame_octets initial block) rest),
+    )
 
 -- a frame that spells nothing
 pub malformed : (place : Option (List ℕ)) (server initial : List ℕ) (block : Option (List ℕ)) (rest : List ℕ) (asked : Asked) → asked ≡ asked_at place

@@ -1,5 +1,6 @@
 -- A pairing is determined, and stays when more octets follow.
 use Rattle.std.proofs.Common.{◌≡◌, ◌≢◌, ℕ, ◌+◌, List, [], ◌∷◌, ◌++◌, length, drop, map, arith, Option, None, Some, false, refl, sym, ◌∙◌, ap, subst, inl, append_assoc}
+use Rattle.std.proofs.lemmas.List.{map-append}
 use Rattle.nntp_wire.specs.Frame.{HasFrame, frame_octets}
 use Rattle.nntp_wire.specs.Lines.{lines_of_stream}
 use Rattle.nntp_wire.proofs.StreamLemmas.{lines-joined}
@@ -83,16 +84,12 @@ run-more : (places : List (Option (List ℕ))) (octets : List ℕ) (pairs : List
 run-more places octets [] a b same = ap (with_more places octets) same
 run-more places octets (x ∷ pairs) a b (m, n, run) = (with_more places octets m, next-more places octets a m x n, run-more places octets pairs m b run)
 
-map-some : (lines more : List (List ℕ)) → map Some (lines ++ more) ≡ map Some lines ++ map Some more
-map-some [] more = refl
-map-some (line ∷ lines) more = ap (λ t. Some line ∷ t) (map-some lines more)
-
 -- streams with more octets behind both
 streams-more : (client server client_more server_more : List ℕ) → streams (client ++ client_more) (server ++ server_more) ≡ with_more (map Some (lines-joined client client_more).0) server_more (streams client server)
 streams-more client server client_more server_more =
     let joined = lines-joined client client_more in
     ap (λ lines. record { index = 0; places = None ∷ map Some lines; server = server ++ server_more; is_closed = false }) joined.1
-    ∙ ap (λ places. record { index = 0; places = None ∷ places; server = server ++ server_more; is_closed = false }) (map-some (lines_of_stream client) joined.0)
+    ∙ ap (λ places. record { index = 0; places = None ∷ places; server = server ++ server_more; is_closed = false }) (map-append Some (lines_of_stream client) joined.0)
 
 -- with more octets behind both streams the pairs come next all the same
 pub pairs-stay : (client server client_more server_more : List ℕ) (pairs : List Paired) (left : Unpaired) → AreNext (streams client server) pairs left

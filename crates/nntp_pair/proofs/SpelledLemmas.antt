@@ -1,6 +1,6 @@
 -- Pairs are spelled one after the other, and what is so spelled is paired.
 use Rattle.std.proofs.Common.{◌≡◌, ℕ, ◌+◌, List, [], ◌∷◌, ◌++◌, map, Option, Some, Bool, false, refl, sym, ◌∙◌, ap, subst, append_assoc}
-use Rattle.std.proofs.lemmas.List.{append-nil}
+use Rattle.std.proofs.lemmas.List.{append-nil, map-append}
 use Rattle.std.specs.Prelude.{⊤, is_some, count_by}
 use Rattle.nntp_wire.specs.Answer.{Asked, Response, Spells}
 use Rattle.nntp_wire.specs.Command.{request_of}
@@ -102,17 +102,13 @@ spelled-pairs client server responses rest spelled stays =
       is_open [] = tt
       is_open (response ∷ responses) = refl
 
-map-append : (pairs more : List Paired) → responses_of (pairs ++ more) ≡ responses_of pairs ++ responses_of more
-map-append [] more = refl
-map-append (x ∷ pairs) more = ap (λ t. x.response ∷ t) (map-append pairs more)
-
 -- responses that are spelled are the first of the pairing's
 pub spelled-first : (client server : List ℕ) (pairs : List Paired) (ending : Ending) (responses : List Response) (rest : List ℕ) → IsPairing client server pairs ending
     → AreSpelled (prompts_of client) responses server rest → StaysOpen (prompts_of client) responses → (more : List Response) × (responses_of pairs ≡ responses ++ more)
 spelled-first client server pairs ending responses rest pairing spelled stays =
     let found = spelled-pairs client server responses rest spelled stays in
     let first = first-pairs pairs found.0 (streams client server) pairing.left found.1 ending pairing.paired pairing.ends found.2 in
-    (responses_of first.0, ap responses_of first.1 ∙ map-append found.0 first.0 ∙ ap (λ t. t ++ responses_of first.0) found.3)
+    (responses_of first.0, ap responses_of first.1 ∙ map-append (λ pair. pair.response) found.0 first.0 ∙ ap (λ t. t ++ responses_of first.0) found.3)
 
 -- nothing comes next where no octet is left
 run-none : (pairs : List Paired) (a b : Unpaired) → a.server ≡ [] → AreNext a pairs b → (pairs ≡ []) × (a ≡ b)
@@ -128,7 +124,7 @@ spelled-whole client server pairs ending responses pairing spelled stays =
     let first = first-pairs pairs found.0 (streams client server) pairing.left found.1 ending pairing.paired pairing.ends found.2 in
     let none = run-none first.0 found.1 pairing.left found.4 first.2 in
     let last = at found.1 ending (subst (λ u. Ends u ending) (sym none.1) pairing.ends) found.4 in
-    (ap responses_of (first.1 ∙ ap (λ t. found.0 ++ t) none.0) ∙ map-append found.0 [] ∙ append-nil (responses_of found.0) ∙ found.3, last.0, last.1) where
+    (ap responses_of (first.1 ∙ ap (λ t. found.0 ++ t) none.0) ∙ map-append (λ pair. pair.response) found.0 [] ∙ append-nil (responses_of found.0) ∙ found.3, last.0, last.1) where
       at : (left : Unpaired) (ending : Ending) → Ends left ending → left.server ≡ [] → (unanswered : ℕ) × (ending ≡ end unanswered)
       at left (end n) ends none = (n, refl)
       at left (bad class) ends none = absurd (ends.0 none)

@@ -1,8 +1,9 @@
 -- Which response answers what (RFC 3977, sections 3.1 and 3.5): the greeting nothing that was sent, and then each response the next line of the client.
-use Rattle.std.specs.Prelude.{◌≡◌, ◌≢◌, ◌⊎◌, ℕ, ◌+◌, Bool, true, false, List, [], ◌∷◌, ◌++◌, Option, None, Some, is_some, map, count_by, ⊤}
+use Rattle.std.specs.Prelude.{◌≡◌, ◌≢◌, ◌⊎◌, ℕ, ◌+◌, Bool, true, false, List, [], ◌∷◌, ◌++◌, Option, None, Some, is_some, map, count_by, length, IsTrue, ⊤}
+use Rattle.nntp_wire.specs.Octets.{are_octets}
 use Rattle.nntp_wire.specs.Lines.{lines_of_stream}
 use Rattle.nntp_wire.specs.Command.{request_of}
-use Rattle.nntp_wire.specs.Answer.{Asked, greeting, to, Response, Spells}
+use Rattle.nntp_wire.specs.Answer.{Asked, greeting, to, Response, numbers_are, active_are, Spells}
 use Rattle.nntp_wire.specs.Frame.{HasFrame, frame_octets}
 use Rattle.nntp_wire.specs.Session.{closes}
 use Rattle.nntp_pair.specs.declared.class.PairClass.{PairClass}
@@ -46,9 +47,17 @@ IsUnanswered Surplus place server = ⊥
 IsUnanswered Cut place server = IsCut (asked_at place) server
 IsUnanswered Malformed place server = IsMalformed (asked_at place) server
 
--- with some block the initial line spells the response to what is asked at the place
-abbrev pub IsSpelled : Option (List ℕ) → List ℕ → Response → Type 0
-IsSpelled place initial response = (block : Option (List ℕ)) × Spells (asked_at place) response (frame_octets initial block)
+-- with some block the initial line spells the response to what is asked at the place, in octets
+pub record IsSpelled (place : Option (List ℕ)) (initial : List ℕ) (response : Response) : Type 0 where
+  pub block : Option (List ℕ)
+  pub spells : Spells (asked_at place) response (frame_octets initial block)
+  pub octets : IsTrue (are_octets (frame_octets initial block))
+
+-- how many lines with a name or a number a response has
+abbrev pub lines_in : Response → ℕ
+lines_in (numbers_are m name lines) = length lines
+lines_in (active_are lines) = length lines
+lines_in response = 0
 
 -- a response with its place, counted from 0, and the line that it answers
 pub record Paired : Type 0 where
@@ -124,6 +133,10 @@ pub record IsPairing (client server : List ℕ) (pairs : List Paired) (ending : 
 -- the responses of pairs
 abbrev pub responses_of : List Paired → List Response
 responses_of pairs = map (λ pair. pair.response) pairs
+
+-- what these responses answer
+abbrev pub asked_of : List Paired → List Asked
+asked_of pairs = map (λ pair. asked_at pair.line) pairs
 
 -- pairs with these responses come next, and then the rest of the server's octets
 abbrev pub HasPairs : Unpaired → List Response → List ℕ → Type 0

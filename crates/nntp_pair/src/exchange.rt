@@ -4,7 +4,7 @@ ghost use Rattle.std.specs.Option.{option_copied};
 ghost use Rattle.nntp_wire.specs.AnswerView.{response};
 ghost use Rattle.nntp_wire.specs.Session.{closes};
 ghost use Rattle.nntp_wire.specs.View.{asked};
-ghost use Rattle.nntp_pair.specs.Pairing.{IsAnswered, IsUnanswered, IsSpelled, asked_at};
+ghost use Rattle.nntp_pair.specs.Pairing.{IsAnswered, IsUnanswered, IsSpelled, asked_at, lines_in};
 
 use crate::class::PairClass;
 use nntp_wire::{Answer, Command, Prompt, frame};
@@ -25,13 +25,13 @@ impl<'a> Model for Exchange<'a> {
     ghost use Rattle.std.specs.Option.{option_copied};
     ghost use Rattle.nntp_wire.specs.AnswerView.{response};
     ghost use Rattle.nntp_wire.specs.View.{asked};
-    ghost use Rattle.nntp_pair.specs.Pairing.{Paired, IsSpelled, asked_at};
+    ghost use Rattle.nntp_pair.specs.Pairing.{Paired, IsSpelled, asked_at, lines_in};
 
     ghost Value = { Paired };
 
     ghost view = { λ x. record { index = x.index; line = option_copied x.line; initial = x.initial.now; response = response x.answer } };
 
-    ghost invariant = { λ x. (x.index < 2 ^ 63) × (asked x.prompt ≡ asked_at (option_copied x.line)) × IsSpelled (option_copied x.line) x.initial.now (response x.answer) };
+    ghost invariant = { λ x. (x.index < 2 ^ 63) × (asked x.prompt ≡ asked_at (option_copied x.line)) × IsSpelled (option_copied x.line) x.initial.now (response x.answer) × (lines_in (response x.answer) < 2 ^ 64) };
 }
 
 /// What is answered at a place.
@@ -108,6 +108,7 @@ impl<'a> Exchange<'a> {
     pub fn answer(&self) -> &Answer<'a>
         ensures value { response result.now ≡ self.now.response }
         ensures is_spelled { IsSpelled self.now.line self.now.initial self.now.response }
+        ensures few_lines { lines_in self.now.response < 2 ^ 64 }
     {
         &self.answer
     }

@@ -1,5 +1,5 @@
 -- The groups of lines, one after the other.
-use Rattle.std.proofs.Common.{◌≡◌, ℕ, zero, suc, ◌≤◌, Bool, true, false, IsTrue, length, List, [], ◌∷◌, Option, None, Some, MatchOption, map, refl, sym, ap, subst, arith}
+use Rattle.std.proofs.Common.{◌≡◌, ℕ, zero, suc, ◌≤◌, Bool, true, false, IsTrue, length, List, [], ◌∷◌, Option, None, Some, map, refl, sym, subst, arith}
 use Rattle.std.specs.Prelude.{◌↔◌, ◌||◌, Contains, IfSome}
 use Rattle.std.specs.List.{list_any, count_by, AllByRecursion}
 use Rattle.std.specs.Option.{option_map_or}
@@ -9,35 +9,13 @@ use Rattle.std.proofs.lemmas.Bool.{true≢false, and_parts}
 use Rattle.std.proofs.lemmas.List.Elements.{recursion_from_All, All-from_recursion}
 use Rattle.nntp_wire.specs.Decided.{is_group_name, matches_name}
 use Rattle.nntp_wire.specs.Wildmat.{MatchesName}
-use Rattle.nntp_wire.specs.Listing.{ActiveValue, ListsGroup, IsActiveLine, AreActiveLines}
-use Rattle.nntp_wire.specs.declared.listing.ActiveLine.{ActiveLine}
+use Rattle.nntp_wire.specs.Listing.{ActiveValue}
 use Rattle.nntp_wire.proofs.DecidedLemmas.{group_name-iff}
-use Rattle.nntp_article.specs.Listed.{active_of, active_groups}
-use Rattle.nntp_article.specs.Spool.{Profile, Spool, Name, IsGroup, IsNumber, IsSpool, numbers}
+use Rattle.nntp_article.specs.Spool.{Spool, Name, IsGroup, IsNumber, IsSpool, numbers}
+use Rattle.nntp_article.specs.declared.profile.Profile.{Profile}
 use Rattle.nntp_article.specs.Machine.{is_same, names_differ, ActivesAgree}
-use Rattle.nntp_spool.specs.Actives.{active_value, LineAgrees, is_asked}
+use Rattle.nntp_spool.specs.Actives.{LineAgrees, is_asked}
 use Rattle.nntp_spool.proofs.Asked.{as_many, each_listed}
-
-some_not_none : {A : Type 0} (x : A) → Some x ≡ None → ⊥
-some_not_none x e = cc
-
--- the group of a first line
-pub first_active : (o : Option ActiveLine) (line : List ℕ) (rest : List (List ℕ)) → AreActiveLines (line ∷ rest) → MatchOption o ((value : ActiveValue) → ListsGroup line value → ⊥) (λ a. ListsGroup line (active_value a))
-    → ((line : List ℕ) (value : ActiveValue) → ListsGroup line value → active_of line ≡ Some value)
-    → MatchOption o (active_groups (line ∷ rest) ≡ []) (λ a. active_groups (line ∷ rest) ≡ active_value a ∷ active_groups rest)
-first_active None line rest are none law = let first = (recursion_from_All IsActiveLine (line ∷ rest) are).0 in absurd (none first.0 first.1)
-first_active (Some a) line rest are lists law = rw (law line (active_value a) lists) refl
-
-pub rest_active : (line : List ℕ) (rest : List (List ℕ)) → AreActiveLines (line ∷ rest) → AreActiveLines rest
-rest_active line rest are = All-from_recursion IsActiveLine rest (recursion_from_All IsActiveLine (line ∷ rest) are).1
-
--- a group a line
-pub length-active : ((line : List ℕ) (value : ActiveValue) → ListsGroup line value → active_of line ≡ Some value) → (lines : List (List ℕ)) → AreActiveLines lines → length (active_groups lines) ≡ length lines
-length-active law lines are = by lines (recursion_from_All IsActiveLine lines are)
-  where
-    by : (lines : List (List ℕ)) → AllByRecursion IsActiveLine lines → length (active_groups lines) ≡ length lines
-    by [] all = refl
-    by (line ∷ lines) all = rw (law line all.0.0 all.0.1) (ap suc (by lines all.1))
 
 -- ---- names that are listed
 

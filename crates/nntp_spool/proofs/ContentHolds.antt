@@ -9,7 +9,8 @@ use Rattle.std.proofs.lemmas.Bool.{true≢false, and_parts}
 use Rattle.nntp_wire.specs.Decided.{is_group_name, is_message_id}
 use Rattle.nntp_article.specs.Article.{Id}
 use Rattle.nntp_article.specs.Machine.{is_num}
-use Rattle.nntp_article.specs.Spool.{Profile, Name, Spool, Numbers, Text, numbers, is_line}
+use Rattle.nntp_article.specs.Spool.{Name, Spool, Numbers, Text, numbers, is_line}
+use Rattle.nntp_article.specs.declared.profile.Profile.{Profile}
 use Rattle.nntp_spool.specs.declared.spool_fault.SpoolFault.TheVariants as faults
 use Rattle.nntp_spool.specs.Reading.{has_id, fits_head, with_group, with_article, no_spool}
 use Rattle.nntp_spool.specs.Ids.{with_number}

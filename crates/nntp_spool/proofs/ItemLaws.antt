@@ -5,7 +5,8 @@ use Rattle.std.specs.List.{list_all}
 use Rattle.std.specs.FinMap.{empty, entries, len, len-entries}
 use Rattle.nntp_wire.specs.Decided.{is_group_name, is_message_id}
 use Rattle.nntp_article.specs.Article.{Line, Id}
-use Rattle.nntp_article.specs.Spool.{Profile, Name, Spool, Numbers, Text, is_line}
+use Rattle.nntp_article.specs.Spool.{Name, Spool, Numbers, Text, is_line}
+use Rattle.nntp_article.specs.declared.profile.Profile.{Profile}
 use Rattle.nntp_spool.specs.declared.read_fault.ReadFault.{ReadFault}
 use Rattle.nntp_spool.specs.declared.read_fault.Kind.TheVariants as kinds
 use Rattle.nntp_spool.specs.Text.{group_line, article_line, barred, group_lines, article_lines}

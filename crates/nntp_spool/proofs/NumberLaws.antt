@@ -6,7 +6,8 @@ use Rattle.std.proofs.lemmas.Bool.{and_parts}
 use Rattle.std.proofs.lemmas.Bool.Decides.{nat_tests}
 use Rattle.std.proofs.lemmas.List.{append-nil}
 use Rattle.nntp_wire.specs.Decided.{is_message_id}
-use Rattle.nntp_article.specs.Spool.{Profile, Numbers}
+use Rattle.nntp_article.specs.Spool.{Numbers}
+use Rattle.nntp_article.specs.declared.profile.Profile.{Profile}
 use Rattle.nntp_article.specs.Machine.{is_num}
 use Rattle.nntp_spool.specs.declared.read_fault.ReadFault.{ReadFault}
 use Rattle.nntp_spool.specs.declared.read_fault.Kind.TheVariants as kinds

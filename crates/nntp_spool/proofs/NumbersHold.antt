@@ -10,7 +10,8 @@ use Rattle.std.proofs.lemmas.List.{nil_from_length}
 use Rattle.std.proofs.lemmas.Slice.Eq.{bytes_eq-Decides}
 use Rattle.nntp_wire.specs.Decided.{is_message_id}
 use Rattle.nntp_article.specs.Machine.{is_num}
-use Rattle.nntp_article.specs.Spool.{Profile, Numbers}
+use Rattle.nntp_article.specs.Spool.{Numbers}
+use Rattle.nntp_article.specs.declared.profile.Profile.{Profile}
 use Rattle.nntp_spool.specs.Reading.{has_id, is_last}
 use Rattle.nntp_spool.specs.Ascending.{AllFollow, with_all}
 use Rattle.nntp_spool.specs.Content.{AreNumbers}

@@ -8,7 +8,8 @@ use Rattle.nntp_pair.specs.Pairing.{Paired, Unpaired, IsNext, AreNext, Ends, bad
 use Rattle.nntp_pair.proofs.NextLemmas.{next-shorter, one-next, next-no-end}
 use Rattle.nntp_pair.proofs.PairingLemmas.{AreNext-push}
 use Rattle.nntp_pair.proofs.SpelledLemmas.{places-prompts, pairs-spelled, spelled-pairs}
-use Rattle.nntp_article.specs.Spool.{Profile, Spool, IsSpool}
+use Rattle.nntp_article.specs.Spool.{Spool, IsSpool}
+use Rattle.nntp_article.specs.declared.profile.Profile.{Profile}
 use Rattle.nntp_article.specs.Machine.{State, start, MayAnswer, Run, after}
 use Rattle.nntp_article.specs.Explains.{ExplainsUpTo}
 use Rattle.nntp_article.proofs.Closing.{run-stays-open}

@@ -16,7 +16,8 @@ use Rattle.nntp_wire.specs.Octets.{is_clean}
 use Rattle.nntp_spool.proofs.Words.{list_all_weaken}
 use Rattle.nntp_article.specs.Article.{Line, Id, is_head, is_clean_head, said_id}
 use Rattle.nntp_article.specs.Machine.{is_num, says_own_id, is_same}
-use Rattle.nntp_article.specs.Spool.{Profile, Name, Spool, Numbers, numbers, IsSpool, is_line}
+use Rattle.nntp_article.specs.Spool.{Name, Spool, Numbers, numbers, IsSpool, is_line}
+use Rattle.nntp_article.specs.declared.profile.Profile.{Profile}
 use Rattle.nntp_spool.specs.Reading.{all_known, ids_have_articles, spool_at}
 use Rattle.nntp_spool.specs.declared.read_fault.ReadFault.{ReadFault}
 use Rattle.nntp_spool.specs.Text.{spool_text, IsWritten}

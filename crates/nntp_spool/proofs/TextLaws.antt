@@ -11,7 +11,8 @@ use Rattle.std.proofs.lemmas.List.{append-nil, nil_from_length}
 use Rattle.std.proofs.lemmas.List.Splits.{join_with_byte-slice_split}
 use Rattle.std.proofs.lemmas.Slice.Eq.{bytes_eq-Decides}
 use Rattle.nntp_article.specs.Article.{Line, Id, is_empty}
-use Rattle.nntp_article.specs.Spool.{Profile, Name, Spool, Numbers, Text}
+use Rattle.nntp_article.specs.Spool.{Name, Spool, Numbers, Text}
+use Rattle.nntp_article.specs.declared.profile.Profile.{Profile}
 use Rattle.nntp_spool.specs.declared.read_fault.ReadFault.{ReadFault}
 use Rattle.nntp_spool.specs.declared.read_fault.Kind.TheVariants as kinds
 use Rattle.nntp_spool.specs.Text.{group_lines, article_lines, spool_lines, spool_text, ended}

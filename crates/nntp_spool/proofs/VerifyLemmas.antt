@@ -1,60 +1,15 @@
 -- A session, exchange by exchange.
-use Rattle.std.specs.Prelude.{◌==◌}
-use Rattle.std.proofs.Common.{◌≡◌, ◌⊎◌, inl, inr, Bool, true, false, cond, ℕ, ◌+◌, List, [], ◌∷◌, ◌++◌, Option, None, Some, length, refl, sym, ap, subst, ◌∙◌, length-append}
-use Rattle.nntp_wire.specs.Answer.{Asked, greeting, to, success_code, kind_of, SaysByLines, SaysActive, SaysNumbers, SaysCapabilities, Response, group_is, numbers_are, sends, active_are, plain, Says}
-use Rattle.nntp_wire.specs.Listing.{AreActiveLines}
-use Rattle.nntp_wire.specs.Command.{Request, capabilities, mode_reader, next, last, quit, opaque, ill_formed, group, list_group, retrieve, list_active}
-use Rattle.nntp_pair.specs.Pairing.{Paired, Unpaired, IsNext, AreNext, Ends, bad, IsSpelled, asked_at, streams}
+use Rattle.std.proofs.Common.{◌≡◌, ℕ, ◌+◌, List, [], ◌∷◌, ◌++◌, length, refl, sym, ap, subst, ◌∙◌, length-append}
+use Rattle.nntp_wire.specs.Command.{next}
+use Rattle.nntp_pair.specs.Pairing.{Paired, Unpaired, IsNext, AreNext, Ends, bad, asked_at, streams}
 use Rattle.nntp_pair.specs.declared.class.PairClass.{PairClass}
 use Rattle.nntp_pair.proofs.PairingLemmas.{AreNext-push, index-counts}
-use Rattle.nntp_article.specs.Spool.{Profile, Spool, IsSpool}
+use Rattle.nntp_article.specs.Spool.{Spool, IsSpool}
+use Rattle.nntp_article.specs.declared.profile.Profile.{Profile}
 use Rattle.nntp_article.specs.Explains.{Explains, ExplainsUpTo}
 use Rattle.nntp_article.specs.Machine.{State, start, MayAnswer, after}
 use Rattle.nntp_spool.specs.Sessions.{state_after, MayAnswerAll, RefusesAt}
-use Rattle.nntp_spool.specs.Listing.{IsListing}
 use Rattle.nntp_spool.proofs.SessionLaws.{state-more, all-more, permitted-explained, unpermitted-refused, bad-refused}
-
--- one of two, by a test
-one_of : {K : Type 0} (P : K → Type 0) (b : Bool) (x y : K) → P (cond b x y) → P x ⊎ P y
-one_of P true x y p = inl p
-one_of P false x y p = inr p
-
--- an answer that is spelled lists groups by lines that are such
-says-listing : (asked : Asked) (code : ℕ) (bytes : List ℕ) (block : Option (List (List ℕ))) (lines : List (List ℕ)) → Says (kind_of asked code) code bytes block (active_are lines) → AreActiveLines lines
-says-listing greeting code bytes block lines s = absurd s
-says-listing (to request) code bytes block lines s = by request s
-  where
-    listed : (block : Option (List (List ℕ))) → SaysByLines SaysActive block (active_are lines) → AreActiveLines lines
-    listed None s = absurd s
-    listed (Some sent) s = subst AreActiveLines (sym s.1) s.0
-
-    not_numbers : (block : Option (List (List ℕ))) → SaysByLines (SaysNumbers bytes) block (active_are lines) → ⊥
-    not_numbers None s = s
-    not_numbers (Some sent) s = s
-
-    not_capabilities : (block : Option (List (List ℕ))) → SaysByLines (SaysCapabilities code) block (active_are lines) → ⊥
-    not_capabilities None s = s
-    not_capabilities (Some sent) s = s.1
-
-    by : (request : Request) → Says (kind_of (to request) code) code bytes block (active_are lines) → AreActiveLines lines
-    by (group name) s = elim (one_of (λ k. Says k code bytes block (active_are lines)) (code == 211) _ _ s) [ inl p ↦ absurd p | inr p ↦ absurd p ]
-    by (list_group name range) s = elim (one_of (λ k. Says k code bytes block (active_are lines)) (code == 211) _ _ s) [ inl p ↦ absurd (not_numbers block p) | inr p ↦ absurd p ]
-    by (retrieve what target) s = elim (one_of (λ k. Says k code bytes block (active_are lines)) (code == success_code what) _ _ s) [ inl p ↦ absurd p | inr p ↦ absurd p ]
-    by next s = elim (one_of (λ k. Says k code bytes block (active_are lines)) (code == 223) _ _ s) [ inl p ↦ absurd p | inr p ↦ absurd p ]
-    by last s = elim (one_of (λ k. Says k code bytes block (active_are lines)) (code == 223) _ _ s) [ inl p ↦ absurd p | inr p ↦ absurd p ]
-    by (list_active wildmat) s = elim (one_of (λ k. Says k code bytes block (active_are lines)) (code == 215) _ _ s) [ inl p ↦ listed block p | inr p ↦ absurd p ]
-    by capabilities s = elim (one_of (λ k. Says k code bytes block (active_are lines)) (code == 101) _ _ s) [ inl p ↦ absurd (not_capabilities block p) | inr p ↦ absurd p ]
-    by mode_reader s = absurd s
-    by quit s = absurd s
-    by opaque s = absurd s
-    by ill_formed s = absurd s
-
-pub spelled-listing : (place : Option (List ℕ)) (initial : List ℕ) (response : Response) → IsSpelled place initial response → IsListing response
-spelled-listing place initial (active_are lines) (block, s) = says-listing (asked_at place) s.code _ s.block lines s.says
-spelled-listing place initial (group_is m name) s = tt
-spelled-listing place initial (numbers_are m name lines) s = tt
-spelled-listing place initial (sends sent) s = tt
-spelled-listing place initial (plain code) s = tt
 
 -- so far the exchanges are permitted
 pub record Permitted (profile : Profile) (S : Spool) (client server : List ℕ) (left : Unpaired) (s : State) (count : ℕ) : Type 0 where

@@ -13,7 +13,8 @@ use Rattle.std.proofs.lemmas.List.{length-map}
 use Rattle.std.proofs.lemmas.List.Folds.{list_all-append}
 use Rattle.nntp_wire.specs.Octets.{is_clean, is_line_breaking}
 use Rattle.nntp_article.specs.Article.{Line, Id}
-use Rattle.nntp_article.specs.Spool.{Profile, Name, Spool, Numbers, Text, is_line}
+use Rattle.nntp_article.specs.Spool.{Name, Spool, Numbers, Text, is_line}
+use Rattle.nntp_article.specs.declared.profile.Profile.{Profile}
 use Rattle.nntp_article.specs.Machine.{is_num}
 use Rattle.nntp_spool.specs.Text.{number_line, group_line, article_line, barred, group_lines, article_lines, spool_lines, spool_text, ended}
 use Rattle.nntp_spool.specs.Reading.{line_at, next_line, parts_of, no_spool, spool_at, ids_have_articles}

@@ -2,7 +2,8 @@
 use Rattle.std.specs.Prelude.{◌≡◌, ℕ, true, false, List, [], ◌∷◌, map}
 use Rattle.std.specs.FinMap.{insert}
 use Rattle.nntp_wire.specs.Decided.{is_message_id}
-use Rattle.nntp_article.specs.Spool.{Profile, Numbers}
+use Rattle.nntp_article.specs.Spool.{Numbers}
+use Rattle.nntp_article.specs.declared.profile.Profile.{Profile}
 use Rattle.nntp_article.specs.Machine.{is_num}
 use Rattle.nntp_spool.specs.Text.{number_line}
 use Rattle.nntp_spool.specs.Reading.{is_last, has_id}

@@ -6,7 +6,8 @@ use Rattle.std.specs.Coded.{Coded, code_by, coded×, coded_bool}
 use Rattle.std.specs.FinMap.{get}
 use Rattle.nntp_wire.specs.Decided.{is_group_name, is_message_id}
 use Rattle.nntp_article.specs.Article.{Id}
-use Rattle.nntp_article.specs.Spool.{Profile, Name, Spool, Text, numbers, is_line}
+use Rattle.nntp_article.specs.Spool.{Name, Spool, Text, numbers, is_line}
+use Rattle.nntp_article.specs.declared.profile.Profile.{Profile}
 use Rattle.nntp_article.specs.Machine.{is_num}
 use Rattle.nntp_spool.specs.declared.spool_fault.SpoolFault.{SpoolFault}
 use Rattle.nntp_spool.specs.declared.spool_fault.SpoolFault.TheVariants as faults

@@ -4,7 +4,8 @@ use Rattle.std.specs.List.{list_all}
 use Rattle.std.specs.FinMap.{get}
 use Rattle.nntp_wire.specs.Decided.{is_group_name, is_message_id}
 use Rattle.nntp_article.specs.Article.{Id}
-use Rattle.nntp_article.specs.Spool.{Profile, Name, Spool, Numbers, Text, is_line}
+use Rattle.nntp_article.specs.Spool.{Name, Spool, Numbers, Text, is_line}
+use Rattle.nntp_article.specs.declared.profile.Profile.{Profile}
 use Rattle.nntp_article.specs.Machine.{is_num}
 use Rattle.nntp_spool.specs.Reading.{fits_head}
 

@@ -17,5 +17,4 @@ pub mod SessionView
 pub mod Fitting
 pub mod Walk
 pub mod Actives
-pub mod Listing
 pub mod Verifying

@@ -8,7 +8,8 @@ use Rattle.std.specs.declared.cmp.Ordering.{Ordering}
 use Rattle.std.specs.FinMap.{FinMap, get, insert, empty, entries}
 use Rattle.nntp_wire.specs.Decided.{is_group_name, is_message_id}
 use Rattle.nntp_article.specs.Article.{Line, Id, is_empty, is_clean_head}
-use Rattle.nntp_article.specs.Spool.{Profile, Name, Spool, Numbers, Text, is_line}
+use Rattle.nntp_article.specs.Spool.{Name, Spool, Numbers, Text, is_line}
+use Rattle.nntp_article.specs.declared.profile.Profile.{Profile}
 use Rattle.nntp_article.specs.Machine.{is_num, says_own_id}
 use Rattle.nntp_spool.specs.declared.read_fault.Kind.{Kind}
 use Rattle.nntp_spool.specs.declared.read_fault.Kind.TheVariants as kinds

@@ -1,7 +1,8 @@
 -- Pairs of a session that a spool permits, and the answers that it refuses (RFC 3977, section 3.5).
 use Rattle.std.specs.Prelude.{◌≢◌, ℕ, List, [], ◌∷◌, ⊤}
 use Rattle.nntp_pair.specs.Pairing.{Paired, asked_at}
-use Rattle.nntp_article.specs.Spool.{Profile, Spool}
+use Rattle.nntp_article.specs.Spool.{Spool}
+use Rattle.nntp_article.specs.declared.profile.Profile.{Profile}
 use Rattle.nntp_article.specs.Machine.{State, MayAnswer, after}
 use Rattle.nntp_article.specs.Explains.{ExplainsUpTo, ExplainsFirst}
 

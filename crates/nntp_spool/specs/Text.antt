@@ -4,7 +4,8 @@ use Rattle.std.specs.Fmt.{decimal}
 use Rattle.std.specs.List.{flat_map, join_with_byte}
 use Rattle.std.specs.FinMap.{get, entries, len}
 use Rattle.nntp_article.specs.Article.{Line, Id}
-use Rattle.nntp_article.specs.Spool.{Profile, Name, Spool, Numbers, Text, IsSpool}
+use Rattle.nntp_article.specs.Spool.{Name, Spool, Numbers, Text, IsSpool}
+use Rattle.nntp_article.specs.declared.profile.Profile.{Profile}
 
 -- words, with one space between each two
 abbrev pub spaced : List (List ℕ) → Line

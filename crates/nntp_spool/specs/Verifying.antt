@@ -1,6 +1,7 @@
 -- What `verify` answers.
 use Rattle.std.specs.Prelude.{ℕ, List}
-use Rattle.nntp_article.specs.Spool.{Profile, Spool}
+use Rattle.nntp_article.specs.Spool.{Spool}
+use Rattle.nntp_article.specs.declared.profile.Profile.{Profile}
 use Rattle.nntp_article.specs.Explains.{Explains}
 use Rattle.nntp_spool.specs.declared.verified.Verified.{Verified}
 use Rattle.nntp_spool.specs.declared.verified.Verified.TheVariants.{Permits, Refuses}

@@ -1,5 +1,5 @@
 //! Whether the groups of LIST ACTIVE fit and agree with a spool (RFC 3977, section 7.6.3).
-ghost use Rattle.std.specs.Prelude.{◌≡◌, ℕ, ◌≤◌, ◌==◌, ◌&&◌, ◌||◌, ◌+◌, nat_le, ◌↔◌, ◌∷◌, [], true, length, IsTrue, IfOk, IfSome, MatchOption};
+ghost use Rattle.std.specs.Prelude.{◌≡◌, ℕ, ◌≤◌, ◌==◌, ◌&&◌, ◌||◌, ◌+◌, nat_le, ◌↔◌, true, length, IsTrue, IfOk, IfSome};
 ghost use Rattle.std.specs.List.{list_all, count_by, AllByRecursion};
 ghost use Rattle.std.specs.Option.{option_map_or};
 ghost use Rattle.std.specs.BTreeMap.{IsOrdered};
@@ -8,44 +8,30 @@ ghost use Rattle.std.specs.Ordering.{nat_cmp};
 ghost use Rattle.std.specs.Cmp.Lexicographic.{slice_cmp};
 ghost use Rattle.nntp_wire.specs.Wildmat.{MatchesName};
 ghost use Rattle.nntp_wire.specs.Decided.{matches_name};
-ghost use Rattle.nntp_wire.specs.Listing.{AreActiveLines};
-ghost use Rattle.nntp_article.specs.Listed.{active_groups};
+ghost use Rattle.nntp_wire.specs.Listing.{active_groups};
+ghost use Rattle.nntp_wire.specs.View.{active_value};
 ghost use Rattle.nntp_article.specs.Spool.{IsSpool, IsGroup, IsNumber, numbers as numbers_of};
 ghost use Rattle.nntp_article.specs.Machine.{active_fits, names_differ, ActivesAgree};
 ghost use Rattle.nntp_spool.specs.Limit.{narrow};
-ghost use Rattle.nntp_spool.specs.Actives.{active_value, LineAgrees, is_asked};
+ghost use Rattle.nntp_spool.specs.Actives.{LineAgrees, is_asked};
 
 use crate::content::Content;
 use crate::limit::LIMIT;
 use crate::numbers::Numbers;
-use nntp_article::laws::active_lines_are_read;
 use nntp_wire::laws::{group_names_are_decided, matching_is_decided};
-use nntp_wire::{ActiveLine, Block, GroupName, Lines, Wildmat, active_line};
+use nntp_wire::{ActiveLine, Block, GroupName, Wildmat};
 use std::alloc::{AllocError, Allocator};
 use std::collections::{BTreeMap, BTreeSet};
-
-/// The next group that is listed.
-fn next_group<'a>(lines: &mut Lines<'a>) -> Option<ActiveLine<'a>>
-    requires { AreActiveLines lines.old }
-    ensures groups { MatchOption result (active_groups lines.old ≡ []) (λ a. active_groups lines.old ≡ active_value a ∷ active_groups lines.new) }
-    ensures lines { AreActiveLines lines.new }
-{
-    active_lines_are_read();
-    let line = lines.next()?;
-    active_line(line)
-}
 
 /// Whether no group is listed twice.
 pub(crate) fn names_differ<A: Allocator + Copy>(
     alloc: A,
     block: &Block<'_>,
 ) -> Result<bool, AllocError>
-    requires { AreActiveLines block.now }
     ensures { IfOk result (λ differ. differ ≡ names_differ (active_groups block.now)) }
 {
     let mut names = BTreeSet::new(alloc);
-    let mut lines = block.lines();
-    while let Some(group) = next_group(&mut lines) {
+    for group in block.groups() {
         if !names.insert(group.name.as_slice())? {
             return Ok(false);
         }
@@ -81,16 +67,9 @@ fn fits_group(wildmat: &Option<Wildmat<'_>>, group: &ActiveLine<'_>) -> bool
 
 /// Whether each listed group fits the command.
 pub(crate) fn fit_groups(wildmat: &Option<Wildmat<'_>>, block: &Block<'_>) -> bool
-    requires { AreActiveLines block.now }
     ensures { result ≡ list_all (active_fits narrow wildmat.now) (active_groups block.now) }
 {
-    let mut lines = block.lines();
-    while let Some(group) = next_group(&mut lines) {
-        if !fits_group(wildmat, &group) {
-            return false;
-        }
-    }
-    true
+    block.groups().all(|group| fits_group(wildmat, &group))
 }
 
 /// Whether a listed group is one of the spool, matches, and has its numbers between the marks.
@@ -121,11 +100,9 @@ fn agree_groups<A: Allocator>(
     wildmat: &Option<Wildmat<'_>>,
     block: &Block<'_>,
 ) -> bool
-    requires { AreActiveLines block.now }
     ensures { IsTrue result ↔ AllByRecursion (LineAgrees spool.now wildmat.now) (active_groups block.now) }
 {
-    let mut lines = block.lines();
-    while let Some(group) = next_group(&mut lines) {
+    for group in block.groups() {
         if !agrees_group(spool, wildmat, &group) {
             return false;
         }
@@ -167,11 +144,11 @@ impl<A: Allocator> Content<A> {
     }
 }
 
-/// How many lines there are.
-fn count_lines(block: &Block<'_>) -> usize
-    ensures { result ≡ length block.now }
+/// How many groups are listed.
+fn count_listed(block: &Block<'_>) -> usize
+    ensures { result ≡ length (active_groups block.now) }
 {
-    block.lines().count()
+    block.groups().count()
 }
 
 /// Whether exactly the matching groups are listed, and the marks bound their numbers. No group is
@@ -181,12 +158,10 @@ pub(crate) fn agrees_active<A: Allocator>(
     wildmat: &Option<Wildmat<'_>>,
     block: &Block<'_>,
 ) -> bool
-    requires lines { AreActiveLines block.now }
     requires differ { names_differ (active_groups block.now) ≡ true }
     requires spool { IsSpool narrow spool.now }
     ensures { IsTrue result ↔ ActivesAgree spool.now wildmat.now (active_groups block.now) }
 {
     matching_is_decided();
-    active_lines_are_read();
-    agree_groups(spool, wildmat, block) && spool.count_asked(wildmat) == count_lines(block)
+    agree_groups(spool, wildmat, block) && spool.count_asked(wildmat) == count_listed(block)
 }

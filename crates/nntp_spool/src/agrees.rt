@@ -22,29 +22,36 @@ pub(crate) fn agrees_code<A: Allocator>(
         → IsTrue result ↔ CodeAgrees spool.now (record { visible = v; current = current }) (request command.now) code }
 {
     match command {
-        Command::Group(word) => code != 411 || spool.group(*word).is_none(),
+        Command::Capabilities => code == 101,
+        Command::ModeReader => code == 200 || code == 201,
+        Command::Quit => code == 205,
+        Command::Group(word) => code == 411 && spool.group(*word).is_none(),
         Command::ListGroup { group, .. } => match group {
-            Some(word) => code != 411 || spool.group(*word).is_none(),
-            None => true,
+            Some(word) => code == 411 && spool.group(*word).is_none(),
+            None => code == 412,
         },
-        Command::Next => {
-            (code != 420 || current.is_none()) && (code != 421 || numbers.is_at_top(current))
-        }
-        Command::Last => {
-            (code != 420 || current.is_none()) && (code != 422 || numbers.is_at_bottom(current))
-        }
+        Command::Next => match code {
+            412 => true,
+            420 => current.is_none(),
+            421 => numbers.is_at_top(current),
+            _ => false,
+        },
+        Command::Last => match code {
+            412 => true,
+            420 => current.is_none(),
+            422 => numbers.is_at_bottom(current),
+            _ => false,
+        },
         Command::Retrieve { which, .. } => match which {
-            Which::Number(Some(number)) => code != 423 || numbers.id(*number).is_none(),
-            Which::Number(None) => true,
-            Which::Id(word) => code != 430 || !spool.has_article(*word),
-            Which::Current => code != 420 || current.is_none(),
+            Which::Number(Some(number)) => {
+                code == 412 || (code == 423 && numbers.id(*number).is_none())
+            }
+            Which::Number(None) => code == 412 || code == 423,
+            Which::Id(word) => code == 430 && !spool.has_article(*word),
+            Which::Current => code == 412 || (code == 420 && current.is_none()),
         },
-        Command::Capabilities
-        | Command::ModeReader
-        | Command::ListActive(_)
-        | Command::Quit
-        | Command::Opaque
-        | Command::IllFormed => true,
+        Command::Opaque => code == 381 || code < 300 || code >= 400,
+        _ => false,
     }
 }
 

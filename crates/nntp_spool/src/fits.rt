@@ -7,7 +7,7 @@ ghost use Rattle.nntp_wire.specs.Listing.{listed_number_of};
 ghost use Rattle.nntp_wire.specs.View.{request, target};
 ghost use Rattle.nntp_wire.specs.Answer.{success_code};
 ghost use Rattle.nntp_article.specs.Article.{is_head};
-ghost use Rattle.nntp_article.specs.Listed.{listed_numbers};
+ghost use Rattle.nntp_wire.specs.Listing.{listed_numbers};
 ghost use Rattle.nntp_article.specs.Machine.{code_fits, is_generic, is_num, is_in_range, is_ascending, is_same, marks_fit, number_fits, head_fits, says_own_id, Visible};
 ghost use Rattle.nntp_spool.specs.Limit.{narrow};
 
@@ -149,8 +149,7 @@ pub(crate) fn is_ascending(block: &Block<'_>) -> bool
 
 /// Whether the number of a success fits what was asked.
 pub(crate) fn fits_number(is_selected: bool, which: &Which<'_>, number: u64, id: &[u8]) -> bool
-    ensures { (v : Visible) (code : ℕ) (block : Option (List (List ℕ))) → is_some v.selected ≡ is_selected
-        → result ≡ number_fits narrow v (target which.now) (record { code = code; number = number; id = id.now; block = block }) }
+    ensures { (v : Visible) → is_some v.selected ≡ is_selected → result ≡ number_fits narrow v (target which.now) number id.now }
 {
     match which {
         Which::Id(word) => is_same(id, *word) && (number == 0 || (is_selected && is_num(number))),

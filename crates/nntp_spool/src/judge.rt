@@ -3,11 +3,9 @@ ghost use Rattle.std.specs.Prelude.{◌≡◌, ◌↔◌, IsTrue, IfOk};
 ghost use Rattle.nntp_wire.specs.View.{asked};
 ghost use Rattle.nntp_wire.specs.AnswerView.{response};
 ghost use Rattle.nntp_wire.specs.Answer.{plain, sends, group_is, numbers_are, active_are};
-ghost use Rattle.nntp_wire.specs.Listing.{AreActiveLines};
 ghost use Rattle.nntp_article.specs.Machine.{fits, MayAnswer, Visible};
 ghost use Rattle.nntp_article.specs.Spool.{IsSpool};
 ghost use Rattle.nntp_spool.specs.Limit.{narrow};
-ghost use Rattle.nntp_spool.specs.Listing.{IsListing};
 
 use crate::active::{fit_groups, names_differ};
 use crate::content::Content;
@@ -28,7 +26,6 @@ impl<A: Allocator + Copy> Session<A> {
         answer: &Answer<'_>,
     ) -> Result<bool, AllocError>
         requires spool { IsSpool narrow spool.now }
-        requires listing { IsListing (response answer.now) }
         ensures { IfOk result (λ may. IsTrue may ↔ MayAnswer narrow spool.now self.now (asked prompt.now) (response answer.now)) }
     {
         if self.is_closed() || !self.fits(prompt, answer)? {
@@ -39,7 +36,6 @@ impl<A: Allocator + Copy> Session<A> {
 
     /// Whether the visible condition holds.
     fn fits(&self, prompt: &Prompt<'_>, answer: &Answer<'_>) -> Result<bool, AllocError>
-        requires { IsListing (response answer.now) }
         ensures { IfOk result (λ does. does ≡ fits narrow self.now.visible (asked prompt.now) (response answer.now)) }
     {
         match answer {
@@ -175,7 +171,6 @@ fn fits_active<A: Allocator + Copy>(
     prompt: &Prompt<'_>,
     block: &Block<'_>,
 ) -> Result<bool, AllocError>
-    requires { AreActiveLines block.now }
     ensures { IfOk result (λ does. (v : Visible) → does ≡ fits narrow v (asked prompt.now) (active_are block.now)) }
 {
     match prompt {

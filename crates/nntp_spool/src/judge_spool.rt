@@ -3,16 +3,15 @@ ghost use Rattle.std.specs.Prelude.{◌≡◌, ◌↔◌, true, IsTrue};
 ghost use Rattle.nntp_wire.specs.View.{asked, request};
 ghost use Rattle.nntp_wire.specs.AnswerView.{response};
 ghost use Rattle.nntp_wire.specs.Answer.{to, plain, sends, group_is, numbers_are, active_are};
-ghost use Rattle.nntp_wire.specs.Listing.{AreActiveLines};
-ghost use Rattle.nntp_article.specs.Listed.{listed_numbers};
+ghost use Rattle.nntp_wire.specs.Listing.{listed_numbers};
 ghost use Rattle.nntp_article.specs.Machine.{fits, is_ascending, Agrees, Bound, Visible, State, selected_numbers};
 ghost use Rattle.nntp_article.specs.Spool.{IsSpool, IsGroup, Lists, numbers as numbers_of};
 ghost use Rattle.nntp_spool.specs.Limit.{narrow};
-ghost use Rattle.nntp_spool.specs.Listing.{IsListing};
 
 use crate::active::agrees_active;
 use crate::agrees::{agrees_code, agrees_marks, agrees_number, agrees_text};
 use crate::content::Content;
+use crate::fits::{is_generic_code, is_success};
 use crate::numbers::Numbers;
 use crate::session::Session;
 use nntp_wire::{Answer, Block, Command, Prompt, Range};
@@ -27,7 +26,6 @@ impl<A: Allocator + Copy> Session<A> {
         answer: &Answer<'_>,
     ) -> bool
         requires spool { IsSpool narrow spool.now }
-        requires listing { IsListing (response answer.now) }
         requires fits { fits narrow self.now.visible (asked prompt.now) (response answer.now) ≡ true }
         ensures { IsTrue result ↔ Agrees spool.now self.now (asked prompt.now) (response answer.now) }
     {
@@ -124,8 +122,10 @@ fn agrees_plain<A: Allocator>(
         → IsTrue result ↔ Agrees spool.now (record { visible = v; current = current }) (asked prompt.now) (plain code) }
 {
     match prompt {
-        Prompt::Greeting => true,
-        Prompt::To(command) => agrees_code(spool, numbers, current, command, code),
+        Prompt::Greeting => matches!(code, 200 | 201 | 400 | 502),
+        Prompt::To(command) => {
+            is_generic_code(code) || agrees_code(spool, numbers, current, command, code)
+        }
     }
 }
 
@@ -144,21 +144,14 @@ fn agrees_sent<A: Allocator>(
         → IsTrue result ↔ Agrees spool.now (record { visible = v; current = current }) (asked prompt.now) (sends (record { code = code; number = number; id = id.now; block = block.now })) }
 {
     match prompt {
-        Prompt::To(Command::Next) => numbers.steps_up(current, number, id),
-        Prompt::To(Command::Last) => numbers.steps_down(current, number, id),
+        Prompt::To(Command::Next) => code == 223 && numbers.steps_up(current, number, id),
+        Prompt::To(Command::Last) => code == 223 && numbers.steps_down(current, number, id),
         Prompt::To(Command::Retrieve { what, which }) => {
-            agrees_text(spool, *what, id, block)
+            is_success(*what, code)
+                && agrees_text(spool, *what, id, block)
                 && agrees_number(numbers, current, which, number, id)
         }
-        Prompt::Greeting
-        | Prompt::To(Command::Capabilities)
-        | Prompt::To(Command::ModeReader)
-        | Prompt::To(Command::Group(_))
-        | Prompt::To(Command::ListGroup { .. })
-        | Prompt::To(Command::ListActive(_))
-        | Prompt::To(Command::Quit)
-        | Prompt::To(Command::Opaque)
-        | Prompt::To(Command::IllFormed) => true,
+        _ => false,
     }
 }
 
@@ -175,17 +168,7 @@ fn agrees_group<A: Allocator>(
 {
     match prompt {
         Prompt::To(Command::Group(_)) => agrees_marks(spool, name, estimate, low, high),
-        Prompt::Greeting
-        | Prompt::To(Command::Capabilities)
-        | Prompt::To(Command::ModeReader)
-        | Prompt::To(Command::ListGroup { .. })
-        | Prompt::To(Command::Next)
-        | Prompt::To(Command::Last)
-        | Prompt::To(Command::Retrieve { .. })
-        | Prompt::To(Command::ListActive(_))
-        | Prompt::To(Command::Quit)
-        | Prompt::To(Command::Opaque)
-        | Prompt::To(Command::IllFormed) => true,
+        _ => false,
     }
 }
 
@@ -203,7 +186,7 @@ fn agrees_numbers<A: Allocator>(
     ensures { (s : State) → IsTrue result ↔ Agrees spool.now s (asked prompt.now) (numbers_are (record { estimate = estimate; low = low; high = high }) name.now block.now) }
 {
     match prompt {
-        Prompt::Greeting => true,
+        Prompt::Greeting => false,
         Prompt::To(command) => {
             agrees_numbers_of(spool, command, estimate, low, high, name, block)
         }
@@ -226,16 +209,7 @@ fn agrees_numbers_of<A: Allocator>(
         Command::ListGroup { group: _, range } => {
             agrees_listed(spool, estimate, low, high, name, *range, block)
         }
-        Command::Capabilities
-        | Command::ModeReader
-        | Command::Group(_)
-        | Command::Next
-        | Command::Last
-        | Command::Retrieve { .. }
-        | Command::ListActive(_)
-        | Command::Quit
-        | Command::Opaque
-        | Command::IllFormed => true,
+        _ => false,
     }
 }
 
@@ -270,23 +244,12 @@ fn lists<A: Allocator>(spool: &Content<A>, name: &[u8], range: Range, block: &Bl
 
 /// 215 to LIST ACTIVE.
 fn agrees_listing<A: Allocator>(spool: &Content<A>, prompt: &Prompt<'_>, block: &Block<'_>) -> bool
-    requires lines { AreActiveLines block.now }
     requires spool { IsSpool narrow spool.now }
     requires fits { (v : Visible) × (fits narrow v (asked prompt.now) (active_are block.now) ≡ true) }
     ensures { (s : State) → IsTrue result ↔ Agrees spool.now s (asked prompt.now) (active_are block.now) }
 {
     match prompt {
         Prompt::To(Command::ListActive(wildmat)) => agrees_active(spool, wildmat, block),
-        Prompt::Greeting
-        | Prompt::To(Command::Capabilities)
-        | Prompt::To(Command::ModeReader)
-        | Prompt::To(Command::Group(_))
-        | Prompt::To(Command::ListGroup { .. })
-        | Prompt::To(Command::Next)
-        | Prompt::To(Command::Last)
-        | Prompt::To(Command::Retrieve { .. })
-        | Prompt::To(Command::Quit)
-        | Prompt::To(Command::Opaque)
-        | Prompt::To(Command::IllFormed) => true,
+        _ => false,
     }
 }

@@ -5,7 +5,8 @@ ghost use Rattle.nntp_pair.specs.Pairing.{Paired, Unpaired, IsNext, AreNext, End
 ghost use Rattle.nntp_article.specs.Machine.{start, MayAnswer};
 ghost use Rattle.nntp_article.specs.Explains.{ExplainsUpTo};
 ghost use Rattle.nntp_spool.specs.Sessions.{state_after, MayAnswerAll, RefusesAt};
-ghost use Rattle.nntp_article.specs.Spool.{Profile, Spool, IsSpool};
+ghost use Rattle.nntp_article.specs.Spool.{Spool, IsSpool};
+ghost use Rattle.nntp_article.specs.declared.profile.Profile.{Profile};
 ghost use Rattle.nntp_spool.specs.Text.{spool_text, IsWritten};
 ghost use Rattle.nntp_spool.specs.Reading.{spool_at};
 

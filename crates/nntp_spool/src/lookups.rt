@@ -3,7 +3,7 @@ ghost use Rattle.std.specs.Prelude.{◌≡◌, ℕ, ◌≤◌, ◌↔◌, ◌∷
 ghost use Rattle.std.specs.FinMap as map;
 ghost use Rattle.nntp_article.specs.Spool.{IsNumber, IsNextAbove, IsNextBelow, NoneAbove, NoneBelow, Lists};
 ghost use Rattle.nntp_article.specs.Machine.{Bound, is_ascending};
-ghost use Rattle.nntp_article.specs.Listed.{listed_numbers};
+ghost use Rattle.nntp_wire.specs.Listing.{listed_numbers};
 ghost use Rattle.nntp_spool.specs.Walk.{IsNextFrom, IsAbove, ListsFrom};
 
 use crate::numbers::Numbers;

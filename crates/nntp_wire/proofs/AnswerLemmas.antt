@@ -1,5 +1,5 @@
 -- What a line and a block do not say, and what a frame says.
-use Rattle.std.proofs.Common.{◌≡◌, ℕ, List, ◌++◌, refl, sym, ◌∙◌, ap, Option, None, Some, Bool, true, false}
+use Rattle.std.proofs.Common.{◌≡◌, ◌⊎◌, inl, inr, ℕ, List, ◌++◌, refl, sym, ◌∙◌, ap, Option, None, Some, Bool, true, false}
 use Rattle.std.proofs.Common.{◌≤◌, length, take, drop, arith, cond, length-append}
 use Rattle.std.proofs.lemmas.List.{append_cancel_right}
 use Rattle.std.proofs.lemmas.Bool.Decides.{nat_tests}
@@ -7,24 +7,26 @@ use Rattle.std.specs.Prelude.{is_some}
 use Rattle.nntp_wire.specs.Number.{number_value}
 use Rattle.nntp_wire.specs.declared.answer.Answer.{Answer}
 use Rattle.nntp_wire.specs.declared.kind.Kind.{Kind}
+use Rattle.nntp_wire.specs.declared.kind.Kind.TheVariants.{Group, Numbers, Sent, Active, Capabilities, Plain}
 use Rattle.nntp_wire.proofs.SpellLemmas.{clean-line, status-clean, status-code}
 use Rattle.nntp_wire.proofs.FrameLemmas.{one_line}
 use Rattle.nntp_wire.proofs.ResponseLemmas.{one-sent}
 use Rattle.nntp_wire.specs.Octets.{crlf}
 use Rattle.nntp_wire.specs.Lines.{HasNoCrlf}
 use Rattle.nntp_wire.specs.Block.{sent, dot_line}
+use Rattle.nntp_wire.specs.declared.water_marks.WaterMarks.{WaterMarks}
 use Rattle.nntp_wire.specs.Argument.{HasArticle, HasGroup}
-use Rattle.nntp_wire.specs.Answer.{Asked, Response, group_is, numbers_are, sends, SaysGroup, SaysNumbers, SaysArticle, Says, Spells, has_code, status_of, kind_of, is_block_due, block_octets, IsCleanBlock}
+use Rattle.nntp_wire.specs.Answer.{Asked, Response, group_is, numbers_are, sends, SaysGroup, SaysNumbers, SaysArticle, SaysByLines, SaysActive, SaysCapabilities, SaysCode, Says, Spells, has_code, status_of, kind_of, is_block_due, block_octets, IsCleanBlock}
 use Rattle.nntp_wire.specs.AnswerView.{Answers, Reads, IsBlock, SendsBlock}
 use Rattle.nntp_wire.specs.Frame.{frame_octets, framed, IsBeforeDotLine}
 
 -- no group, no response
-pub no-group : (bytes : List ℕ) → ((e l h : ℕ) (name : List ℕ) → ¬ (HasGroup bytes e l h name)) → (r : Response) → SaysGroup bytes r → ⊥
-no-group bytes none (group_is m name) says = none m.estimate m.low m.high name says
+pub no-group : (bytes : List ℕ) → ((m : WaterMarks) (name : List ℕ) → ¬ (HasGroup bytes m name)) → (r : Response) → SaysGroup bytes r → ⊥
+no-group bytes none (group_is m name) says = none m name says
 no-group bytes none r says = absurd says
 
-pub no-numbers : (bytes : List ℕ) (lines : List (List ℕ)) → ((e l h : ℕ) (name : List ℕ) → ¬ (HasGroup bytes e l h name)) → (r : Response) → SaysNumbers bytes lines r → ⊥
-no-numbers bytes lines none (numbers_are m name listed) says = none m.estimate m.low m.high name says.0
+pub no-numbers : (bytes : List ℕ) (lines : List (List ℕ)) → ((m : WaterMarks) (name : List ℕ) → ¬ (HasGroup bytes m name)) → (r : Response) → SaysNumbers bytes lines r → ⊥
+no-numbers bytes lines none (numbers_are m name listed) says = none m name says.0
 no-numbers bytes lines none r says = absurd says
 
 -- no article, no response
@@ -88,3 +90,13 @@ spells-reads asked line sent r is_line up s =
       is_block = record { sends = block-sends sent s.block up s.clean both.1; due = s.due };
       says = rw both.0 s.says;
     }
+
+-- octets and a block say a response in one of six ways
+pub says-ways : (kind : Kind) (code : ℕ) (bytes : List ℕ) (block : Option (List (List ℕ))) (r : Response) → Says kind code bytes block r
+    → SaysGroup bytes r ⊎ (SaysByLines (SaysNumbers bytes) block r ⊎ (SaysArticle code bytes block r ⊎ (SaysByLines SaysActive block r ⊎ (SaysByLines (SaysCapabilities code) block r ⊎ SaysCode code r))))
+says-ways Group code bytes block r s = inl s
+says-ways Numbers code bytes block r s = inr (inl s)
+says-ways Sent code bytes block r s = inr (inr (inl s))
+says-ways Active code bytes block r s = inr (inr (inr (inl s)))
+says-ways Capabilities code bytes block r s = inr (inr (inr (inr (inl s))))
+says-ways Plain code bytes block r s = inr (inr (inr (inr (inr s))))

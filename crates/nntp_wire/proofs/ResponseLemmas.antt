@@ -3,19 +3,13 @@ use Rattle.std.proofs.Common.{◌≡◌, ℕ, List, [], ◌∷◌, drop, refl, s
 use Rattle.std.proofs.lemmas.Bool.{false≢true}
 use Rattle.std.specs.Prelude.{is_some}
 use Rattle.nntp_wire.specs.Block.{stuffed, unstuffed}
-use Rattle.nntp_wire.specs.Answer.{Asked, WaterMarks, Success, Response, group_is, numbers_are, sends, active_are, plain, Spells, Says, SaysGroup, SaysNumbers, SaysArticle, SaysActive, SaysCode, kind_of, status_of, is_block_due, block_octets, IsCleanBlock}
+use Rattle.nntp_wire.specs.Answer.{Asked, Success, Response, group_is, numbers_are, sends, active_are, plain, Spells, Says, SaysGroup, SaysNumbers, SaysArticle, SaysActive, SaysCode, kind_of, status_of, is_block_due, block_octets, IsCleanBlock}
 use Rattle.nntp_wire.specs.declared.kind.Kind.{Kind}
 use Rattle.nntp_wire.specs.declared.kind.Kind.TheVariants.{Group, Numbers, Sent, Active, Capabilities, Plain}
 use Rattle.nntp_wire.proofs.ArgumentLemmas.{one-article, one-group}
 use Rattle.nntp_wire.proofs.SpellLemmas.{clean-line, one_block, sent-lines, status-clean}
 use Rattle.nntp_wire.proofs.BlockLemmas.{unstuffed-stuffed}
 use Rattle.nntp_wire.proofs.FrameLemmas.{one_line}
-
--- reports of the same numbers are the same
-same_marks : (m o : WaterMarks) → m.estimate ≡ o.estimate → m.low ≡ o.low → m.high ≡ o.high → m ≡ o
-same_marks m o e l h =
-    ap (λ x. record m { estimate = x }) e ∙ ap (λ x. record { estimate = o.estimate; low = x; high = m.high }) l
-    ∙ ap (λ x. record o { high = x }) h
 
 same_success : (s t : Success) → s.code ≡ t.code → s.number ≡ t.number → s.id ≡ t.id → s.block ≡ t.block → s ≡ t
 same_success s t c n i b =
@@ -24,15 +18,15 @@ same_success s t c n i b =
 
 one_by_group : (bytes : List ℕ) (r o : Response) → SaysGroup bytes r → SaysGroup bytes o → r ≡ o
 one_by_group bytes (group_is m n) (group_is o n') p q =
-    let g = one-group bytes m.estimate m.low m.high o.estimate o.low o.high n n' p q in
-    let marks : m ≡ o = same_marks m o g.0 g.1 g.2 in let names : n ≡ n' = g.3 in cc
+    let g = one-group bytes m o n n' p q in
+    let marks : m ≡ o = g.0 in let names : n ≡ n' = g.1 in cc
 one_by_group bytes (group_is m n) o p q = absurd q
 one_by_group bytes r o p q = absurd p
 
 one_by_numbers : (bytes : List ℕ) (lines : List (List ℕ)) (r o : Response) → SaysNumbers bytes lines r → SaysNumbers bytes lines o → r ≡ o
 one_by_numbers bytes lines (numbers_are m n ls) (numbers_are o n' ms) p q =
-    let g = one-group bytes m.estimate m.low m.high o.estimate o.low o.high n n' p.0 q.0 in
-    let marks : m ≡ o = same_marks m o g.0 g.1 g.2 in let names : n ≡ n' = g.3 in
+    let g = one-group bytes m o n n' p.0 q.0 in
+    let marks : m ≡ o = g.0 in let names : n ≡ n' = g.1 in
     let listed : ls ≡ ms = p.2 ∙ sym q.2 in cc
 one_by_numbers bytes lines (numbers_are m n ls) o p q = absurd q
 one_by_numbers bytes lines r o p q = absurd p

@@ -2,19 +2,18 @@
 use Rattle.std.proofs.Common.{◌≡◌, ℕ, true, ◌==◌, not, IsTrue, List, [], ◌∷◌, ◌++◌, Option, None, Some, inl, inr, refl, sym, ap, subst, ◌∙◌}
 use Rattle.std.specs.List.{list_all}
 use Rattle.std.proofs.lemmas.Bool.{and_from, cases_Bool, cases_eq, true≢false}
-use Rattle.std.proofs.lemmas.List.Elements.{recursion_from_All, All-from_recursion}
 use Rattle.nntp_wire.specs.Octets.{space}
-use Rattle.nntp_wire.specs.Words.{words_of}
 use Rattle.nntp_wire.specs.Number.{is_number, number_value}
 use Rattle.nntp_wire.specs.Name.{IsMessageId, IsGroupName}
 use Rattle.nntp_wire.specs.Argument.{no_space, is_comment, BeginsWithArgument, BeginsWithNumber, HasArticle, HasGroup}
-use Rattle.nntp_wire.specs.Listing.{ActiveValue, ListsGroup, IsActiveLine, AreActiveLines, are_listed_numbers, begins_with_versions}
+use Rattle.nntp_wire.specs.Listing.{are_listed_numbers, are_active_lines, begins_with_versions}
+use Rattle.nntp_wire.specs.declared.water_marks.WaterMarks.{WaterMarks}
 use Rattle.nntp_wire.specs.Answer.{Response, group_is, numbers_are, sends, active_are, plain, Says, SaysGroup, SaysNumbers, SaysArticle, SaysActive}
 use Rattle.nntp_wire.specs.declared.kind.Kind.{Kind}
 use Rattle.nntp_wire.specs.declared.kind.Kind.TheVariants.{Group, Numbers, Sent, Active, Capabilities, Plain}
 use Rattle.nntp_wire.proofs.ArgumentLemmas.{one-argument, no-second, no-id, no-low, no-high, no-fourth, no-name}
 use Rattle.nntp_wire.specs.Decided.{is_message_id, is_group_name}
-use Rattle.nntp_wire.proofs.Decide.{Dec, dec_true, dec_both, dec_three, dec_by, dec_all}
+use Rattle.nntp_wire.proofs.Decide.{Dec, dec_true, dec_both, dec_by}
 use Rattle.nntp_wire.proofs.DecidedLemmas.{message_id-iff, group_name-iff}
 
 dec_id : (id : List ℕ) → Dec (IsMessageId id)
@@ -78,7 +77,7 @@ dec_article bytes = elim (dec_number bytes) [
 
 -- three numbers and a group name
 abbrev Grouped : List ℕ → Type 0
-Grouped bytes = (estimate : ℕ) × (low : ℕ) × (high : ℕ) × (name : List ℕ) × HasGroup bytes estimate low high name
+Grouped bytes = (marks : WaterMarks) × (name : List ℕ) × HasGroup bytes marks name
 
 dec_group : (bytes : List ℕ) → Dec (Grouped bytes)
 dec_group bytes = elim (dec_number bytes) [
@@ -86,79 +85,48 @@ dec_group bytes = elim (dec_number bytes) [
     | inl (l, third, low) ↦ elim (dec_number third) [
       | inl (h, fourth, high) ↦ elim (dec_argument fourth) [
         | inl (name, comment, begins) ↦ elim (dec_name name) [
-          | inl is ↦ inl (e, l, h, name, record { second = second; third = third; fourth = fourth; comment = comment; estimate_first = first; low_second = low; high_third = high; name_fourth = begins; is_name = is })
-          | inr other ↦ inr (λ g. no-name bytes e second first l third low h fourth high name comment begins other g.0 g.1 g.2 g.3 g.4)
+          | inl is ↦ inl (record { estimate = e; low = l; high = h }, name, record { second = second; third = third; fourth = fourth; comment = comment; estimate_first = first; low_second = low; high_third = high; name_fourth = begins; is_name = is })
+          | inr other ↦ inr (λ g. no-name bytes e second first l third low h fourth high name comment begins other g.0 g.1 g.2)
         ]
-        | inr none ↦ inr (λ g. no-fourth bytes e second first l third low h fourth high (λ w t p. none (w, t, p)) g.0 g.1 g.2 g.3 g.4)
+        | inr none ↦ inr (λ g. no-fourth bytes e second first l third low h fourth high (λ w t p. none (w, t, p)) g.0 g.1 g.2)
       ]
-      | inr none ↦ inr (λ g. no-high bytes e second first l third low (λ n t p. none (n, t, p)) g.0 g.1 g.2 g.3 g.4)
+      | inr none ↦ inr (λ g. no-high bytes e second first l third low (λ n t p. none (n, t, p)) g.0 g.1 g.2)
     ]
-    | inr none ↦ inr (λ g. no-low bytes e second first (λ n t p. none (n, t, p)) g.0 g.1 g.2 g.3 g.4)
+    | inr none ↦ inr (λ g. no-low bytes e second first (λ n t p. none (n, t, p)) g.0 g.1 g.2)
   ]
-  | inr none ↦ inr (λ g. none (g.0, g.4.second, g.4.estimate_first))
+  | inr none ↦ inr (λ g. none (g.0.estimate, g.2.second, g.2.estimate_first))
 ]
-
--- ---- lines of LIST ACTIVE
-
-dec_active_line : (line : List ℕ) → Dec (IsActiveLine line)
-dec_active_line line = by (words_of line) refl
-  where
-    by : (words : List (List ℕ)) → words_of line ≡ words → Dec (IsActiveLine line)
-    by [] e = inr (λ h. (let f = sym e ∙ h.1.words_are in cc))
-    by (a ∷ []) e = inr (λ h. (let f = sym e ∙ h.1.words_are in cc))
-    by (a ∷ b ∷ []) e = inr (λ h. (let f = sym e ∙ h.1.words_are in cc))
-    by (a ∷ b ∷ c ∷ []) e = inr (λ h. (let f = sym e ∙ h.1.words_are in cc))
-    by (name ∷ high ∷ low ∷ status ∷ []) e =
-        dec_by
-        (λ h. (
-          record { name = name; high = number_value high; low = number_value low; status = status },
-          record { high_word = high; low_word = low; words_are = e; is_name = h.0; high_is = (h.1, refl); low_is = (h.2, refl) },
-        ))
-        (λ h. parts h.0 h.1)
-        (dec_three (dec_name name) (dec_true (is_number high)) (dec_true (is_number low)))
-      where
-        parts : (value : ActiveValue) → ListsGroup line value → IsGroupName name × IsTrue (is_number high) × IsTrue (is_number low)
-        parts value l =
-            let same : value.name ∷ l.high_word ∷ l.low_word ∷ value.status ∷ [] ≡ name ∷ high ∷ low ∷ status ∷ [] = sym l.words_are ∙ e in
-            let names : value.name ≡ name = cc in
-            let highs : l.high_word ≡ high = cc in
-            let lows : l.low_word ≡ low = cc in
-            (subst IsGroupName names l.is_name, subst (λ w. IsTrue (is_number w)) highs l.high_is.0, subst (λ w. IsTrue (is_number w)) lows l.low_is.0)
-    by (a ∷ b ∷ c ∷ d ∷ f ∷ more) e = inr (λ h. (let g = sym e ∙ h.1.words_are in cc))
-
-dec_active_lines : (lines : List (List ℕ)) → Dec (AreActiveLines lines)
-dec_active_lines lines = dec_by (All-from_recursion IsActiveLine lines) (recursion_from_All IsActiveLine lines) (dec_all IsActiveLine dec_active_line lines)
 
 -- ---- what is said
 
 group_said : (bytes : List ℕ) (r : Response) → SaysGroup bytes r → Grouped bytes
-group_said bytes (group_is m name) says = (m.estimate, m.low, m.high, name, says)
+group_said bytes (group_is m name) says = (m, name, says)
 group_said bytes r says = absurd says
 
 numbers_said : (bytes : List ℕ) (lines : List (List ℕ)) (r : Response) → SaysNumbers bytes lines r → Grouped bytes × IsTrue (are_listed_numbers lines)
-numbers_said bytes lines (numbers_are m name listed) says = ((m.estimate, m.low, m.high, name, says.0), says.1)
+numbers_said bytes lines (numbers_are m name listed) says = ((m, name, says.0), says.1)
 numbers_said bytes lines r says = absurd says
 
 article_said : (code : ℕ) (bytes : List ℕ) (block : Option (List (List ℕ))) (r : Response) → SaysArticle code bytes block r → (n : ℕ) × (id : List ℕ) × HasArticle bytes n id
 article_said code bytes block (sends s) says = (s.number, s.id, says.1)
 article_said code bytes block r says = absurd says
 
-active_said : (lines : List (List ℕ)) (r : Response) → SaysActive lines r → AreActiveLines lines
+active_said : (lines : List (List ℕ)) (r : Response) → SaysActive lines r → IsTrue (are_active_lines lines)
 active_said lines (active_are listed) says = says.0
 active_said lines r says = absurd says
 
 -- whether a response is said
 pub dec_says : (kind : Kind) (code : ℕ) (bytes : List ℕ) (block : Option (List (List ℕ))) → Dec ((r : Response) × Says kind code bytes block r)
 dec_says Group code bytes block =
-    dec_by (λ g. (group_is (record { estimate = g.0; low = g.1; high = g.2 }) g.3, g.4)) (λ h. group_said bytes h.0 h.1) (dec_group bytes)
+    dec_by (λ g. (group_is g.0 g.1, g.2)) (λ h. group_said bytes h.0 h.1) (dec_group bytes)
 dec_says Numbers code bytes None = inr (λ h. h.1)
 dec_says Numbers code bytes (Some lines) =
-    dec_by (λ g. (numbers_are (record { estimate = g.0.0; low = g.0.1; high = g.0.2 }) g.0.3 lines, (g.0.4, g.1, refl))) (λ h. numbers_said bytes lines h.0 h.1)
+    dec_by (λ g. (numbers_are g.0.0 g.0.1 lines, (g.0.2, g.1, refl))) (λ h. numbers_said bytes lines h.0 h.1)
     (dec_both (dec_group bytes) (dec_true (are_listed_numbers lines)))
 dec_says Sent code bytes block =
     dec_by (λ g. (sends (record { code = code; number = g.0; id = g.1; block = block }), (refl, g.2, refl))) (λ h. article_said code bytes block h.0 h.1) (dec_article bytes)
 dec_says Active code bytes None = inr (λ h. h.1)
-dec_says Active code bytes (Some lines) = dec_by (λ are. (active_are lines, (are, refl))) (λ h. active_said lines h.0 h.1) (dec_active_lines lines)
+dec_says Active code bytes (Some lines) = dec_by (λ are. (active_are lines, (are, refl))) (λ h. active_said lines h.0 h.1) (dec_true (are_active_lines lines))
 dec_says Capabilities code bytes None = inr (λ h. h.1)
 dec_says Capabilities code bytes (Some lines) = dec_by (λ t. (plain code, (t, refl))) (λ h. h.1.0) (dec_true (begins_with_versions lines))
 dec_says Plain code bytes block = inl (plain code, refl)

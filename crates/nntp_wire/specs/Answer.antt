@@ -6,11 +6,12 @@ use Rattle.std.specs.Int.{is_in_range}
 use Rattle.nntp_wire.specs.Octets.{crlf, is_clean}
 use Rattle.nntp_wire.specs.Number.{number_value}
 use Rattle.nntp_wire.specs.Argument.{is_comment, HasArticle, HasGroup}
-use Rattle.nntp_wire.specs.Listing.{are_listed_numbers, AreActiveLines, begins_with_versions}
+use Rattle.nntp_wire.specs.Listing.{are_listed_numbers, are_active_lines, begins_with_versions}
 use Rattle.nntp_wire.specs.Block.{sent, dot_line, AreClean}
 use Rattle.nntp_wire.specs.Command.{Request, capabilities, next, last, opaque, group, list_group, retrieve, list_active}
 use Rattle.nntp_wire.specs.declared.command.What.{What}
 use Rattle.nntp_wire.specs.declared.command.What.TheVariants.{Article, Head, Body, Stat}
+use Rattle.nntp_wire.specs.declared.water_marks.WaterMarks.{WaterMarks}
 use Rattle.nntp_wire.specs.declared.kind.Kind.{Kind}
 use Rattle.nntp_wire.specs.declared.kind.Kind.TheVariants.{Group, Numbers, Sent, Active, Capabilities, Plain}
 
@@ -18,12 +19,6 @@ use Rattle.nntp_wire.specs.declared.kind.Kind.TheVariants.{Group, Numbers, Sent,
 pub data Asked : Type 0 where
   greeting : Asked
   to : Request → Asked
-
--- what 211 reports of a group: the estimated count of its articles, and its low and high water marks
-pub record WaterMarks : Type 0 where
-  pub estimate : ℕ
-  pub low : ℕ
-  pub high : ℕ
 
 -- an article that was found, or a part of it
 pub record Success : Type 0 where
@@ -87,12 +82,12 @@ kind_of asked code = Plain
 
 -- the octets behind the code name a group
 abbrev pub SaysGroup : List ℕ → Response → Type 0
-SaysGroup bytes (group_is m name) = HasGroup bytes m.estimate m.low m.high name
+SaysGroup bytes (group_is m name) = HasGroup bytes m name
 SaysGroup bytes response = ⊥
 
 -- they name a group, and the lines list numbers
 abbrev pub SaysNumbers : List ℕ → List (List ℕ) → Response → Type 0
-SaysNumbers bytes lines (numbers_are m name listed) = HasGroup bytes m.estimate m.low m.high name × IsTrue (are_listed_numbers lines) × (listed ≡ lines)
+SaysNumbers bytes lines (numbers_are m name listed) = HasGroup bytes m name × IsTrue (are_listed_numbers lines) × (listed ≡ lines)
 SaysNumbers bytes lines response = ⊥
 
 -- they name an article, of which the block is sent
@@ -102,7 +97,7 @@ SaysArticle code bytes block response = ⊥
 
 -- the lines list groups
 abbrev pub SaysActive : List (List ℕ) → Response → Type 0
-SaysActive lines (active_are listed) = AreActiveLines lines × (listed ≡ lines)
+SaysActive lines (active_are listed) = IsTrue (are_active_lines lines) × (listed ≡ lines)
 SaysActive lines response = ⊥
 
 -- no more than the code

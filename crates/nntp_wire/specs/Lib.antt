@@ -8,6 +8,7 @@ pub mod Pattern
 pub mod Block
 pub mod Command
 pub mod Argument
+pub mod Decided
 pub mod Listing
 pub mod Answer
 pub mod Frame
@@ -15,4 +16,4 @@ pub mod View
 pub mod Keyword
 pub mod AnswerView
 pub mod Session
-pub mod Decided
+pub mod Held

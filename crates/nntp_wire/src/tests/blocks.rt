@@ -1,6 +1,7 @@
 //! Blocks and their lines.
 use super::{is_malformed, reply};
 use crate::{Answer, active_line, listed_number};
+use std::alloc::AllocError;
 
 #[test]
 fn lines_of_a_block(rt: HostRuntime) {
@@ -20,6 +21,37 @@ fn lines_of_a_block(rt: HostRuntime) {
         }
         _ => assert!(rt; false),
     }
+}
+
+#[test]
+fn lines_that_are_held(rt: HostRuntime) -> Result<(), AllocError> {
+    match reply(b"BODY <a@b>", b"222 0 <a@b>\r\n..\r\nx\r\n\r\n.\r\n") {
+        Some(
+            Ok(
+                Answer::Sent {
+                    block: Some(block),
+                    ..
+                },
+            ),
+        ) => {
+            let mut held = block.to_vec(rt.alloc())?;
+            assert_eq!(rt; held.len(), 3);
+            assert_eq!(rt; held[0].as_slice(), b".".as_slice());
+            assert_eq!(rt; held[1].as_slice(), b"x".as_slice());
+            assert!(rt; held[2].is_empty());
+            assert!(rt; block.is_same(&held));
+            held[1].push(b'y')?;
+            assert!(rt; !block.is_same(&held));
+            held[1].pop();
+            held.pop();
+            assert!(rt; !block.is_same(&held));
+            held.push(Vec::new(rt.alloc()))?;
+            held.push(Vec::new(rt.alloc()))?;
+            assert!(rt; !block.is_same(&held));
+        }
+        _ => assert!(rt; false),
+    }
+    Ok(())
 }
 
 #[test]

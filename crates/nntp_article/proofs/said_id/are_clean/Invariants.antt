@@ -1,7 +1,7 @@
 use Rattle.std.proofs.Common.{◌≡◌, length}
 use Rattle.std.specs.List.{list_all}
 use Rattle.nntp_wire.specs.Octets.{is_clean}
-use Rattle.nntp_article.specs.View.{held}
+use Rattle.nntp_wire.specs.Held.{held}
 use Rattle.nntp_article.proofs.said_id.are_clean.Given as goal
 
 -- the lines that are left decide

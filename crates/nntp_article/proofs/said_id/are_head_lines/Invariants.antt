@@ -1,7 +1,7 @@
 use Rattle.std.proofs.Common.{◌≡◌, length}
 use Rattle.std.specs.List.{list_all}
 use Rattle.nntp_article.specs.Article.{is_head_line}
-use Rattle.nntp_article.specs.View.{held}
+use Rattle.nntp_wire.specs.Held.{held}
 use Rattle.nntp_article.proofs.said_id.are_head_lines.Given as goal
 
 -- the lines that are left decide

@@ -1,7 +1,7 @@
 use Rattle.std.proofs.Common.{◌≡◌, length}
 use Rattle.nntp_article.specs.Article.{said_id}
 use Rattle.nntp_article.specs.SaidId.{id_by}
-use Rattle.nntp_article.specs.View.{held}
+use Rattle.nntp_wire.specs.Held.{held}
 use Rattle.nntp_article.proofs.said_id.id_of.Given as goal
 
 -- the lines that are left decide with what is known so far

@@ -1,7 +1,7 @@
 use Rattle.std.proofs.Common.{refl, sym, ◌∙◌, ap}
 use Rattle.std.specs.Prelude.{◌&&◌}
 use Rattle.nntp_article.specs.Article.{begins_header}
-use Rattle.nntp_article.specs.View.{held}
+use Rattle.nntp_wire.specs.Held.{held}
 use Rattle.nntp_article.proofs.HeadLemmas.{is_head-parts}
 use Rattle.nntp_article.proofs.said_id.is_head.Goals as goal
 

@@ -15,7 +15,7 @@ returns-in_err-print-clause-err g c =
       client = streams.client.items;
       server = streams.server.items;
       spool = streams.spool.items;
-      read = c.in_ok-streams.ensures.ok;
+      capture = c.in_ok-streams.ensures.ok;
       text = text;
       answer = is_consistent judgement;
       reports = record {
@@ -26,5 +26,5 @@ returns-in_err-print-clause-err g c =
         answer_is = refl;
       };
       left = c.in_err-print.ensures.text.0;
-      written = subst (λ (octets : List ℕ). Wrote (g.W.Write.contents c.args.output.now.inner) (g.W.Write.contents c.print.new.output.inner) octets c.in_err-print.ensures.text.0) c.deref-3.ensures.value c.in_err-print.ensures.text.1;
+      front = subst (λ (octets : List ℕ). Wrote (g.W.Write.contents c.args.output.now.inner) (g.W.Write.contents c.print.new.output.inner) octets c.in_err-print.ensures.text.0) c.deref-3.ensures.value c.in_err-print.ensures.text.1;
     })

@@ -16,14 +16,14 @@ returns-in_err-print-clause-err g c =
       client = streams.client.items;
       server = streams.server.items;
       spool = streams.spool.items;
-      read = c.in_ok-streams.ensures.ok;
+      capture = c.in_ok-streams.ensures.ok;
       text = c.in_ok-text.text.items;
       answer = is_permitted verified;
       reports = verify-reports c.in_ok-spool.spool (subst (λ (T : Spool). IsSpool narrow T) c.spool.view_is c.spool.invariant) streams.client.items streams.server.items streams.spool.items
           c.deref-2.result.now c.deref-3.result.now c.deref.result.now c.deref-2.ensures.value c.deref-3.ensures.value c.deref.ensures.value
           c.in_ok-spool.ensures.spool verified c.in_ok-verified.ensures c.in_ok-text.text.items c.in_ok-text.ensures (is_permitted verified) refl;
       left = c.in_err-print.ensures.text.0;
-      written = subst (λ (octets : List ℕ). Wrote (g.W.Write.contents c.args.output.now.inner) (g.W.Write.contents c.print.new.output.inner) octets c.in_err-print.ensures.text.0) c.deref-4.ensures.value c.in_err-print.ensures.text.1;
+      front = subst (λ (octets : List ℕ). Wrote (g.W.Write.contents c.args.output.now.inner) (g.W.Write.contents c.print.new.output.inner) octets c.in_err-print.ensures.text.0) c.deref-4.ensures.value c.in_err-print.ensures.text.1;
     })
 
 pub returns-clause-ok : goal.returns-clause-ok
@@ -33,10 +33,10 @@ returns-clause-ok g c =
       client = streams.client.items;
       server = streams.server.items;
       spool = streams.spool.items;
-      read = c.in_ok-streams.ensures.ok;
+      capture = c.in_ok-streams.ensures.ok;
       text = c.in_ok-text.text.items;
       reports = verify-reports c.in_ok-spool.spool (subst (λ (T : Spool). IsSpool narrow T) c.spool.view_is c.spool.invariant) streams.client.items streams.server.items streams.spool.items
           c.deref-2.result.now c.deref-3.result.now c.deref.result.now c.deref-2.ensures.value c.deref-3.ensures.value c.deref.ensures.value
           c.in_ok-spool.ensures.spool c.in_ok-verified.verified c.in_ok-verified.ensures c.in_ok-text.text.items c.in_ok-text.ensures c.is_permitted.result c.is_permitted.ensures;
-      written = wrote-all (g.W.Write.contents c.args.output.now.inner) (g.W.Write.contents c.print.new.output.inner) c.in_ok-text.text.items c.deref-4.result.now c.deref-4.ensures.value c.in_ok-print.ensures.text;
+      whole = wrote-all (g.W.Write.contents c.args.output.now.inner) (g.W.Write.contents c.print.new.output.inner) c.in_ok-text.text.items c.deref-4.result.now c.deref-4.ensures.value c.in_ok-print.ensures.text;
     }

@@ -1,5 +1,14 @@
-use Rattle.nntp_facts.proofs.Grow.{permitted_by_answered, facts_by_answered, visible_by_answered, next_behind, prompts_of_pairs, pairs_permitted}
+use Rattle.std.proofs.Common.{arith}
+use Rattle.nntp_facts.proofs.Grow.{prompts_of_pairs, pairs_permitted}
+use Rattle.nntp_facts.proofs.Prompts.{permitted_longer, facts_longer, visible_longer, next_behind}
 use Rattle.nntp_facts.proofs.laws.answered_prompts_matter.Goals as goal
 
 pub returns : goal.returns
-returns c = record { permitted = permitted_by_answered; facts = facts_by_answered; visible = visible_by_answered; next = next_behind; paired = prompts_of_pairs; pairs_permitted = pairs_permitted }
+returns c = record {
+  permitted = λ profile ps more answers e. permitted_longer profile ps more answers (omega (arith, e));
+  facts = λ v at ps more answers e. facts_longer v at ps more answers (omega (arith, e));
+  visible = λ v ps more answers e. visible_longer v ps more answers (omega (arith, e));
+  next = next_behind;
+  paired = prompts_of_pairs;
+  pairs_permitted = pairs_permitted;
+}

@@ -1,6 +1,6 @@
 use Rattle.nntp_facts.proofs.Demands.{demand_append}
-use Rattle.nntp_facts.proofs.Joined.{together_more, permitted_more}
+use Rattle.nntp_facts.proofs.Joined.{together_more, answer_agrees, permitted_more}
 use Rattle.nntp_facts.proofs.laws.next_answer_is_permitted_where_it_joins.Goals as goal
 
 pub returns : goal.returns
-returns c = record { demand = demand_append; fact = together_more; answer = permitted_more }
+returns c = record { demand = demand_append; facts = together_more; within = answer_agrees; answer = permitted_more }

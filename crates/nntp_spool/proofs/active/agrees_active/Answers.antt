@@ -1,9 +1,9 @@
 use Rattle.std.proofs.Common.{sym, ◌∙◌}
 use Rattle.std.proofs.lemmas.Bool.{true≢false}
 use Rattle.std.proofs.lemmas.Bool.Decides.{Decides-eqb}
-use Rattle.nntp_article.specs.Listed.{active_groups}
+use Rattle.nntp_wire.specs.Listing.{active_groups}
 use Rattle.nntp_spool.specs.Limit.{narrow}
-use Rattle.nntp_spool.proofs.ActiveLemmas.{length-active, agree-lines, agree-count, decided_by}
+use Rattle.nntp_spool.proofs.ActiveLemmas.{agree-lines, agree-count, decided_by}
 use Rattle.nntp_spool.proofs.active.agrees_active.Goals as goal
 
 pub returns-then-agree_groups : goal.returns-then-agree_groups
@@ -11,10 +11,9 @@ returns-then-agree_groups g c =
     let decided = decided_by c.matching_is_decided.ensures c.args.wildmat.now in
     let lines = active_groups c.args.block.now in
     let count = agree-count narrow c.args.spool.now c.requires.spool c.args.wildmat.now decided lines c.requires.differ (c.agree_groups.ensures.0 c.if-agree_groups.true) in
-    let listed = c.count_lines.ensures ∙ sym (length-active c.active_lines_are_read.ensures c.args.block.now c.requires.lines) in
-    let same = Decides-eqb c.count_asked.result c.count_lines.result in (
-      λ t. count.0 (sym c.count_asked.ensures ∙ same.0 t ∙ listed),
-      λ h. same.1 (c.count_asked.ensures ∙ count.1 h ∙ sym listed),
+    let same = Decides-eqb c.count_asked.result c.count_listed.result in (
+      λ t. count.0 (sym c.count_asked.ensures ∙ same.0 t ∙ c.count_listed.ensures),
+      λ h. same.1 (c.count_asked.ensures ∙ count.1 h ∙ sym c.count_listed.ensures),
     )
 
 pub returns-else-agree_groups : goal.returns-else-agree_groups

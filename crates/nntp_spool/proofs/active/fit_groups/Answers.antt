@@ -1,13 +1,13 @@
-use Rattle.std.proofs.Common.{sym, ap, subst}
-use Rattle.std.specs.List.{list_all}
-use Rattle.nntp_wire.specs.Listing.{AreActiveLines}
-use Rattle.nntp_article.specs.Listed.{active_groups}
+use Rattle.std.proofs.Common.{rules}
+use Rattle.std.proofs.lemmas.Iterator.Search.{all_from_yields_List}
+use Rattle.std.proofs.lemmas.Iterator.Consumers.{YieldsList-from_first}
+use borrow.Author.Tests.{tests}
+use Rattle.nntp_wire.specs.Listing.{active_groups}
+use Rattle.nntp_wire.specs.View.{active_value}
 use Rattle.nntp_article.specs.Machine.{active_fits}
 use Rattle.nntp_spool.specs.Limit.{narrow}
 use Rattle.nntp_spool.proofs.active.fit_groups.Goals as goal
 
-pub loop-group-init : goal.loop-group-init
-loop-group-init c = record {
-  are = subst AreActiveLines (sym c.lines-lines.ensures.lines) c.requires;
-  same = ap (λ ls. list_all (active_fits narrow c.args.wildmat.now) (active_groups ls)) c.lines-lines.ensures.lines;
-}
+pub returns : goal.returns
+returns c = all_from_yields_List (active_fits narrow c.args.wildmat.now) _ _ c.all.result c.all.ensures.ran
+    (YieldsList-from_first active_value (λ groups. groups) (active_groups c.args.block.now) c.groups.ensures.listed) (λ x b q k. search (rules, tests))

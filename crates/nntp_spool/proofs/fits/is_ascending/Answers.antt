@@ -1,5 +1,5 @@
 use Rattle.std.proofs.Common.{None, ap, ◌∙◌}
-use Rattle.nntp_article.specs.Listed.{listed_numbers}
+use Rattle.nntp_wire.specs.Listing.{listed_numbers}
 use Rattle.nntp_spool.specs.Fitting.{ascends_from}
 use Rattle.nntp_spool.proofs.Ascends.{ascends-ascending}
 use Rattle.nntp_spool.proofs.fits.is_ascending.Goals as goal

@@ -1,5 +1,5 @@
 use Rattle.std.proofs.Common.{◌≡◌, length}
-use Rattle.nntp_article.specs.Listed.{listed_numbers}
+use Rattle.nntp_wire.specs.Listing.{listed_numbers}
 use Rattle.nntp_article.specs.Machine.{is_ascending}
 use Rattle.nntp_spool.specs.Fitting.{ascends_from}
 use Rattle.nntp_spool.proofs.fits.is_ascending.Given as goal

@@ -1,7 +1,7 @@
 use Rattle.std.proofs.Common.{◌≡◌, Some, sym, ap, subst, ◌∙◌}
 use Rattle.std.specs.Prelude.{unwrap_or, option_copied}
 use Rattle.std.specs.FinMap.{get, empty}
-use Rattle.nntp_article.specs.Listed.{listed_numbers}
+use Rattle.nntp_wire.specs.Listing.{listed_numbers}
 use Rattle.nntp_article.specs.Spool.{Numbers, Lists, numbers}
 use Rattle.nntp_spool.proofs.judge_spool.lists.Goals as goal
 

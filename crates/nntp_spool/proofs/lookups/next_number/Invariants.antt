@@ -1,5 +1,5 @@
 use Rattle.std.proofs.Common.{◌≡◌, length}
-use Rattle.nntp_article.specs.Listed.{listed_numbers}
+use Rattle.nntp_wire.specs.Listing.{listed_numbers}
 use Rattle.nntp_spool.proofs.lookups.next_number.Given as goal
 
 abbrev pub invariant-loop-line : goal.invariant-loop-line

@@ -3,7 +3,7 @@ use Rattle.std.specs.Prelude.{◌↔◌, nat_lt}
 use Rattle.std.specs.List.{list_all}
 use Rattle.std.proofs.lemmas.Bool.{true≢false, and_parts}
 use Rattle.nntp_article.specs.Spool.{Lists}
-use Rattle.nntp_article.specs.Listed.{listed_numbers}
+use Rattle.nntp_wire.specs.Listing.{listed_numbers}
 use Rattle.nntp_article.specs.Machine.{is_ascending}
 use Rattle.nntp_spool.specs.Walk.{ListsFrom}
 use Rattle.nntp_spool.proofs.Walks.{taken, is_next, lists_from_range}

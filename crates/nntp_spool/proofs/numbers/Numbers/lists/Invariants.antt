@@ -1,7 +1,7 @@
 use Rattle.std.proofs.Common.{◌≡◌, true, length}
 use Rattle.std.specs.Prelude.{◌↔◌}
 use Rattle.nntp_article.specs.Spool.{Lists}
-use Rattle.nntp_article.specs.Listed.{listed_numbers}
+use Rattle.nntp_wire.specs.Listing.{listed_numbers}
 use Rattle.nntp_article.specs.Machine.{is_ascending}
 use Rattle.nntp_spool.specs.Walk.{ListsFrom}
 use Rattle.nntp_spool.proofs.numbers.Numbers.lists.Given as goal

@@ -1,0 +1,128 @@
+-- Facts of one group: what they ask of its numbers, and the id that they give at one of them.
+use Rattle.std.proofs.Common.{◌≡◌, ℕ, Bool, true, false, ◌&&◌, ◌==◌, cond, List, [], ◌∷◌, ◌++◌, Option, None, Some, inl, inr, refl, sym, ap, subst, ◌∙◌}
+use Rattle.std.specs.Prelude.{IfSome, ◌↔◌}
+use Rattle.std.specs.List.{list_any}
+use Rattle.std.specs.Option.{option_or}
+use Rattle.std.specs.FinMap.{FinMap, get, insert, get-insert}
+use Rattle.std.specs.Ordering.{nat_cmp, eq_by_cmp}
+use Rattle.std.specs.Cmp.{nat_cmp_total, unsigned_tied, IsTotalOrder}
+use Rattle.std.specs.declared.cmp.Ordering.{Ordering}
+use Rattle.std.specs.Cmp.Lexicographic.{slice_cmp, same_text, nat_list_cmp_total, texts_ties, nat_list_eq_equiv}
+use Rattle.std.proofs.lemmas.Bool.{and_parts, and_from, eqb-true, eq-eqb, or_left, cases_eq, ne_eqb}
+use Rattle.std.proofs.lemmas.List.Folds.{list_any-append}
+use Rattle.nntp_article.specs.Article.{Id}
+use Rattle.nntp_article.specs.Spool.{Name}
+use Rattle.nntp_article.specs.Machine.{is_same}
+use Rattle.nntp_facts.specs.Asks.{Ask}
+use Rattle.nntp_facts.specs.Facts.{Fact}
+use Rattle.nntp_facts.specs.Given.{asks_of, shows_group, is_shown_group, first_given, id_in}
+use Rattle.nntp_facts.specs.Together.{number_in, GiveSame, JoinIds}
+use Rattle.nntp_facts.specs.Summary.{Summary, IsSummary}
+use Rattle.nntp_facts.specs.Kept.{KeptGroup, told, IsKeptGroup}
+use Rattle.nntp_facts.proofs.Gives.{given_append, given_silent}
+use Rattle.nntp_facts.proofs.Joined.{asks_append}
+
+pub same_self : (xs : List ℕ) → is_same xs xs ≡ true
+same_self xs = nat_list_eq_equiv.refl xs
+
+-- ---- asks
+
+-- the facts ask this of the group, and nothing of others
+abbrev pub AskOf : Name → List Ask → List Fact → Type 0
+AskOf here asks more = (name : Name) → asks_of name more ≡ cond (is_same here name) asks []
+
+pub asked_here : (here : Name) (asks : List Ask) (more : List Fact) → AskOf here asks more → asks_of here more ≡ asks
+asked_here here asks more is = is here ∙ ap (λ b. cond b asks []) (same_self here)
+
+pub asked_elsewhere : (here : Name) (asks : List Ask) (more : List Fact) → AskOf here asks more → (name : Name) → is_same here name ≡ false → asks_of name more ≡ []
+asked_elsewhere here asks more is name e = is name ∙ ap (λ b. cond b asks []) e
+
+-- ---- an id at a number
+
+-- the facts give this id at this number of the group, and no other
+pub record GiveId (here : Name) (n : ℕ) (id : Id) (more : List Fact) : Type 0 where
+  pub ids : (name : Name) (m : ℕ) → first_given (id_in name m) more ≡ cond (is_same here name && n == m) (Some id) None
+  pub places : (name : Name) (i : Id) → first_given (number_in name i) more ≡ cond (is_same here name && is_same id i) (Some n) None
+
+-- what was given before, if anything was, is this
+abbrev pub IsOr : {A : Type 0} → Option A → A → Type 0
+IsOr o x = IfSome o (λ y. x ≡ y)
+
+give_same_if : {A : Type 0} (f : Fact → Option A) (facts more : List Fact) (b : Bool) (x : A) → first_given f more ≡ cond b (Some x) None → (b ≡ true → IsOr (first_given f facts) x) → GiveSame f facts more
+give_same_if {A} f facts more true x is h = subst (λ o. IfSome o (λ x. IfSome (first_given f facts) (λ y. x ≡ y))) (sym is) (h refl)
+give_same_if f facts more false x is h = rw is tt
+
+-- an id joins exactly if its number had none or this, and it had no number or this
+pub id_joins : (facts more : List Fact) (here : Name) (n : ℕ) (id : Id) → GiveId here n id more
+    → JoinIds facts more ↔ (IsOr (first_given (id_in here n) facts) id × IsOr (first_given (number_in here id) facts) n)
+id_joins facts more here n id is = (
+  λ j. (
+    subst (λ o. IfSome o (λ x. IfSome (first_given (id_in here n) facts) (λ y. x ≡ y))) (is.ids here n ∙ ap (λ b. cond b (Some id) None) (and_from (is_same here here) (n == n) (same_self here) (eq-eqb n n refl))) (j.ids here n),
+    subst (λ o. IfSome o (λ x. IfSome (first_given (number_in here id) facts) (λ y. x ≡ y))) (is.places here id ∙ ap (λ b. cond b (Some n) None) (and_from (is_same here here) (is_same id id) (same_self here) (same_self id))) (j.ids_once here id),
+  ),
+  λ h. record {
+    ids = λ name m. give_same_if (id_in name m) facts more (is_same here name && n == m) id (is.ids name m) (λ e.
+        let p = and_parts (is_same here name) (n == m) e in
+        subst (λ name. IsOr (first_given (id_in name m) facts) id) (same_text here name (sym p.0)) (subst (λ m. IsOr (first_given (id_in here m) facts) id) (eqb-true n m p.1) h.0));
+    ids_once = λ name i. give_same_if (number_in name i) facts more (is_same here name && is_same id i) n (is.places name i) (λ e.
+        let p = and_parts (is_same here name) (is_same id i) e in
+        subst (λ name. IsOr (first_given (number_in name i) facts) n) (same_text here name (sym p.0)) (subst (λ i. IsOr (first_given (number_in here i) facts) n) (same_text id i (sym p.1)) h.1));
+  },
+)
+
+-- ---- what is kept of the group
+
+-- a map that has what was given has what is given after one thing more
+grown : {K X : Type 0} {R : K → K → Ordering} (o : IsTotalOrder R) (m : FinMap R X) (f : Fact → Option X) (facts more : List Fact) (q k : K) (x : X) (b : Bool)
+    → eq_by_cmp R k q ≡ b → get m k ≡ first_given f facts → first_given f more ≡ cond b (Some x) None → (b ≡ true → IsOr (first_given f facts) x)
+    → get (insert m q x) k ≡ first_given f (facts ++ more)
+grown {K} {X} {R} o m f facts more q k x b same had gives agrees =
+    get-insert o m q x k ∙ by b (first_given f facts) same refl gives agrees ∙ sym (given_append f facts more)
+  where
+    by : (b : Bool) (p : Option X) → eq_by_cmp R k q ≡ b → first_given f facts ≡ p → first_given f more ≡ cond b (Some x) None → (b ≡ true → IsOr (first_given f facts) x)
+        → cond (eq_by_cmp R k q) (Some x) (get m k) ≡ option_or (first_given f facts) (first_given f more)
+    by true None same was gives agrees = (λ i. cond (same i) (Some x) (get m k)) ∙ sym ((λ i. option_or (was i) (gives i)))
+    by true (Some y) same was gives agrees =
+        let e : x ≡ y = subst (λ o. IsOr o x) was (agrees refl) in
+        (λ i. cond (same i) (Some x) (get m k)) ∙ ap Some e ∙ sym (ap (λ o. option_or o (first_given f more)) was)
+    by false None same was gives agrees = (λ i. cond (same i) (Some x) (get m k)) ∙ had ∙ was ∙ sym ((λ i. option_or (was i) (gives i)))
+    by false (Some y) same was gives agrees = (λ i. cond (same i) (Some x) (get m k)) ∙ had ∙ was ∙ sym (ap (λ o. option_or o (first_given f more)) was)
+
+pub flip_number : (k n : ℕ) → eq_by_cmp nat_cmp k n ≡ (n == k)
+flip_number k n = elim (cases_eq n k) [
+  | inl e ↦ unsigned_tied k n ∙ eq-eqb k n (sym e) ∙ sym (eq-eqb n k e)
+  | inr ne ↦ unsigned_tied k n ∙ ne_eqb k n (λ e. ne (sym e)) ∙ sym (ne_eqb n k ne)
+]
+
+-- the same octets, either way
+pub flip_text : (i id : Id) → eq_by_cmp (slice_cmp nat_cmp) i id ≡ is_same id i
+flip_text i id = sym (texts_ties i id) ∙ nat_list_eq_equiv.symm i id
+
+-- a group that was shown is
+pub shown_still : (facts more : List Fact) (here : Name) → is_shown_group facts here ≡ true → is_shown_group (facts ++ more) here ≡ true
+shown_still facts more here s = list_any-append (shows_group here) facts more ∙ or_left (is_shown_group facts here) (list_any (shows_group here) more) s
+
+-- where the group's numbers are kept with the asks, and the id, all is kept
+pub kept_with_id : (facts more : List Fact) (here : Name) (asks : List Ask) (n : ℕ) (id : Id) (g : KeptGroup) (numbers : Summary) → AskOf here asks more → GiveId here n id more
+    → IsKeptGroup (told facts here) g → IsOr (first_given (id_in here n) facts) id → IsOr (first_given (number_in here id) facts) n → IsSummary numbers (asks_of here facts ++ asks)
+    → IsKeptGroup (told (facts ++ more) here) (record { numbers = numbers; ids = insert g.ids n id; places = insert g.places id n })
+kept_with_id facts more here asks n id g numbers ask gives kept id_was n_was sum = record {
+  shown = shown_still facts more here kept.shown;
+  numbers = subst (IsSummary numbers) (sym (asks_append here facts more ∙ ap (λ a. asks_of here facts ++ a) (asked_here here asks more ask))) sum;
+  ids = λ m. grown nat_cmp_total g.ids (id_in here m) facts more n m id (n == m) (flip_number m n) (kept.ids m) (gives.ids here m ∙ ap (λ b. cond (b && n == m) (Some id) None) (same_self here))
+      (λ e. subst (λ m. IsOr (first_given (id_in here m) facts) id) (eqb-true n m e) id_was);
+  places = λ i. grown nat_list_cmp_total g.places (number_in here i) facts more id i n (is_same id i) (flip_text i id) (kept.places i) (gives.places here i ∙ ap (λ b. cond (b && is_same id i) (Some n) None) (same_self here))
+      (λ e. subst (λ i. IsOr (first_given (number_in here i) facts) n) (same_text id i (sym e)) n_was);
+}
+
+-- the facts give no id of the group
+pub kept_without_id : (facts more : List Fact) (here : Name) (asks : List Ask) (g : KeptGroup) (numbers : Summary) → AskOf here asks more
+    → ((n : ℕ) → first_given (id_in here n) more ≡ None) → ((id : Id) → first_given (number_in here id) more ≡ None)
+    → IsKeptGroup (told facts here) g → IsSummary numbers (asks_of here facts ++ asks)
+    → IsKeptGroup (told (facts ++ more) here) (record { numbers = numbers; ids = g.ids; places = g.places })
+kept_without_id facts more here asks g numbers ask no_ids no_places kept sum = record {
+  shown = shown_still facts more here kept.shown;
+  numbers = subst (IsSummary numbers) (sym (asks_append here facts more ∙ ap (λ a. asks_of here facts ++ a) (asked_here here asks more ask))) sum;
+  ids = λ n. kept.ids n ∙ sym (given_silent (id_in here n) facts more (no_ids n));
+  places = λ id. kept.places id ∙ sym (given_silent (number_in here id) facts more (no_places id));
+}

@@ -1,0 +1,12 @@
+use Rattle.std.proofs.Common.{◌≡◌, ◌||◌, sym, subst, ◌∙◌}
+use Rattle.nntp_facts.specs.Kept.{AreKeptNames}
+use Rattle.nntp_facts.proofs.NamesKept.{some_matches, key_text}
+use Rattle.nntp_facts.proofs.names.Names.denies.Goals as goal
+
+pub returns : goal.returns
+returns g c facts kept not_shown =
+    let before = subst (AreKeptNames facts) (sym c.self.view_is) kept in
+    let name = c.args.name.now in
+    c.is_denied.ensures
+    ∙ (λ i. key_text (λ k. k.items) name c.self.inside.denied.keys i || c.self.inside.all_listed || some_matches (λ k. k.items) name c.self.inside.wildmats.keys before.wildmats i)
+    ∙ sym (before.denied name not_shown)

@@ -1,0 +1,38 @@
+-- What the code's values keep of articles.
+use Rattle.std.specs.Prelude.{ℕ, Bool, true, false, List, Vec, Option, None, option_map, map, refl}
+use Rattle.std.specs.Coded.{Coded, code_by, coded×, coded_ℕ, coded_list, coded_option, coded_bool}
+use Rattle.nntp_wire.specs.Held.{held}
+use Rattle.nntp_article.specs.Article.{Id, Line}
+use Rattle.nntp_facts.specs.Kept.{KeptArticle}
+use Rattle.nntp_facts.specs.Articles.{denied}
+use Rattle.nntp_facts.specs.declared.articles.known.Known.{Known}
+use Rattle.nntp_facts.specs.declared.articles.known.Known.TheVariants.{Denied, There}
+use Rattle.nntp_facts.specs.declared.articles.known.Seen.{Seen}
+use Rattle.nntp_facts.specs.declared.articles.iter.SeenArticle.{SeenArticle}
+
+-- the octets of lines, where they are held
+abbrev pub lines_held : {A : Type 0} → Option (Vec (Vec ℕ A) A) → Option (List Line)
+lines_held lines = option_map (λ v. held v.items) lines
+
+-- what is kept of an article
+abbrev pub seen_value : {A : Type 0} → Seen A → KeptArticle
+seen_value s = record { is_denied = false; is_sent = s.is_sent; head = lines_held s.head; body = lines_held s.body }
+
+-- what is kept of an id
+abbrev pub known_value : {A : Type 0} → Known A → KeptArticle
+known_value Denied = denied
+known_value (There s) = seen_value s
+
+-- what is kept of ids, one after the other
+abbrev pub entries_value : {A : Type 0} → List (Vec ℕ A × Known A) → List (Id × KeptArticle)
+entries_value entries = map (λ e. (e.0.items, known_value e.1)) entries
+
+-- what is shown of an article
+abbrev pub article_value : {A : Type 0} → SeenArticle A → Id × KeptArticle
+article_value a = (a.id.now, record { is_denied = false; is_sent = a.is_sent; head = option_map (λ lines. held lines.now) a.head; body = option_map (λ lines. held lines.now) a.body })
+
+abbrev pub coded_kept : Coded KeptArticle
+coded_kept =
+    code_by _ (coded× (coded× coded_bool coded_bool) (coded× (coded_option (coded_list (coded_list coded_ℕ))) (coded_option (coded_list (coded_list coded_ℕ)))))
+    (λ a. ((a.is_denied, a.is_sent), (a.head, a.body)))
+    (λ p. record { is_denied = p.0.0; is_sent = p.0.1; head = p.1.0; body = p.1.1 }) (λ _. refl)

@@ -1,0 +1,69 @@
+-- How one more fact fits in with what is kept of articles.
+use Rattle.std.specs.Prelude.{◌≡◌, Bool, true, false, not, if◌then◌else◌, IsTrue, IsFalse, List, Option, None, Some, is_some, IfSome}
+use Rattle.std.specs.List.{list_any, filter}
+use Rattle.std.specs.Option.{option_or}
+use Rattle.std.specs.Ordering.{nat_cmp}
+use Rattle.std.specs.Cmp.Lexicographic.{slice_cmp}
+use Rattle.std.specs.FinMap.{FinMap, get, insert}
+use Rattle.nntp_wire.specs.declared.command.What.{What}
+use Rattle.nntp_wire.specs.declared.command.What.TheVariants.{Article, Head, Body}
+use Rattle.nntp_article.specs.Article.{head_part, body_part, Id, Line}
+use Rattle.nntp_facts.specs.Facts.{Fact}
+use Rattle.nntp_facts.specs.Given.{first_given, head_in, body_in}
+use Rattle.nntp_facts.specs.Together.{shows_article, denies_article}
+use Rattle.nntp_facts.specs.Kept.{KeptArticle}
+
+-- what the fact gives is what was given before, if anything was
+abbrev pub GivesSame : {A : Type 0} → (Fact → Option A) → List Fact → Fact → Type 0
+GivesSame f facts fact = IfSome (f fact) (λ x. IfSome (first_given f facts) (λ y. x ≡ y))
+
+-- what the fact says of articles stands together with the facts before
+pub record ArticleJoins (facts : List Fact) (fact : Fact) : Type 0 where
+  pub articles : (id : Id) → IsTrue (shows_article id fact) → IsFalse (list_any (denies_article id) facts)
+  pub no_articles : (id : Id) → IsTrue (denies_article id fact) → IsFalse (list_any (shows_article id) facts)
+  pub heads : (id : Id) → GivesSame (head_in id) facts fact
+  pub bodies : (id : Id) → GivesSame (body_in id) facts fact
+
+-- ---- what is sent of an article
+
+-- the head that a success sends
+abbrev pub head_sent : What → Option (List Line) → Option (List Line)
+head_sent Article (Some lines) = Some (head_part lines)
+head_sent Head (Some lines) = Some lines
+head_sent what lines = None
+
+-- the body that a success sends
+abbrev pub body_sent : What → Option (List Line) → Option (List Line)
+body_sent Article (Some lines) = Some (body_part lines)
+body_sent Body (Some lines) = Some lines
+body_sent what lines = None
+
+-- lines that are there twice are the same
+abbrev pub AreSame : Option (List Line) → Option (List Line) → Type 0
+AreSame sent known = IfSome sent (λ x. IfSome known (λ y. x ≡ y))
+
+-- a head and a body may be sent of an article of which a is kept
+abbrev pub MayBeSent : KeptArticle → Option (List Line) → Option (List Line) → Type 0
+MayBeSent a head body = (a.is_denied ≡ false) × AreSame head a.head × AreSame body a.body
+
+-- ---- what is kept then
+
+-- of an id that has no article
+abbrev pub denied : KeptArticle
+denied = record { is_denied = true; is_sent = false; head = None; body = None }
+
+-- of an id that has an article, of which nothing was sent
+abbrev pub unsent : KeptArticle
+unsent = record { is_denied = false; is_sent = false; head = None; body = None }
+
+-- of an article, after a success: what was sent first
+abbrev pub with_sent : KeptArticle → Option (List Line) → Option (List Line) → KeptArticle
+with_sent a head body = record { is_denied = a.is_denied; is_sent = true; head = option_or a.head head; body = option_or a.body body }
+
+-- a is kept of the id, if nothing is kept of it yet
+abbrev pub with_new : FinMap (slice_cmp nat_cmp) KeptArticle → Id → KeptArticle → FinMap (slice_cmp nat_cmp) KeptArticle
+with_new articles id a = if is_some (get articles id) then articles else insert articles id a
+
+-- the ids that have articles, of all that are kept
+abbrev pub articles_in : List (Id × KeptArticle) → List (Id × KeptArticle)
+articles_in entries = filter (λ e. not e.1.is_denied) entries

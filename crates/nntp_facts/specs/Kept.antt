@@ -1,0 +1,131 @@
+-- What is kept of all that a session says: of each group, of each id, and of the names that are no groups.
+use Rattle.std.specs.Prelude.{◌≡◌, ℕ, Bool, true, false, not, ◌||◌, ◌==◌, if◌then◌else◌, List, [], ◌++◌, Option, None, Some, MatchOption, IsTrue}
+use Rattle.std.specs.Option.{option_or}
+use Rattle.std.specs.List.{list_any, AllByRecursion}
+use Rattle.std.specs.Ordering.{nat_cmp}
+use Rattle.std.specs.Cmp.Lexicographic.{slice_cmp}
+use Rattle.std.specs.FinMap.{FinMap, get}
+use Rattle.nntp_wire.specs.Decided.{matches_name}
+use Rattle.nntp_wire.specs.Wildmat.{is_wildmat}
+use Rattle.nntp_article.specs.Article.{Id, Line}
+use Rattle.nntp_article.specs.Spool.{Name}
+use Rattle.nntp_article.specs.Machine.{is_same}
+use Rattle.nntp_facts.specs.Asks.{Ask}
+use Rattle.nntp_facts.specs.Facts.{Fact}
+use Rattle.nntp_facts.specs.Given.{asks_of, is_shown_group, first_given, id_in, is_mentioned, is_sent, head_in, body_in}
+use Rattle.nntp_facts.specs.Together.{number_in, denies_group, shows_article, denies_article}
+use Rattle.nntp_facts.specs.Summary.{Summary, IsSummary}
+
+-- ---- groups
+
+-- of a group: its numbers, and the ids that are shown at numbers, both ways
+pub record KeptGroup : Type 0 where
+  pub numbers : Summary
+  pub ids : FinMap nat_cmp Id
+  pub places : FinMap (slice_cmp nat_cmp) ℕ
+
+-- what facts say of a group: whether they show it, what they ask of its numbers, and the ids that they give at numbers, both ways
+pub record Told : Type 0 where
+  pub is_shown : Bool
+  pub asks : List Ask
+  pub ids : ℕ → Option Id
+  pub places : Id → Option ℕ
+
+abbrev pub told : List Fact → Name → Told
+told facts name = record {
+  is_shown = is_shown_group facts name;
+  asks = asks_of name facts;
+  ids = λ n. first_given (id_in name n) facts;
+  places = λ id. first_given (number_in name id) facts;
+}
+
+-- g is kept of what is told of the group, which is shown
+pub record IsKeptGroup (t : Told) (g : KeptGroup) : Type 0 where
+  pub shown : t.is_shown ≡ true
+  pub numbers : IsSummary g.numbers t.asks
+  pub ids : (n : ℕ) → get g.ids n ≡ t.ids n
+  pub places : (id : Id) → get g.places id ≡ t.places id
+
+-- nothing is told of the group
+pub record IsUntold (t : Told) : Type 0 where
+  pub not_shown : t.is_shown ≡ false
+  pub no_asks : t.asks ≡ []
+  pub no_ids : (n : ℕ) → t.ids n ≡ None
+  pub no_places : (id : Id) → t.places id ≡ None
+
+-- of each group that is shown is kept what is told of it, and of others nothing is told
+abbrev pub AreKept : (Name → Told) → FinMap (slice_cmp nat_cmp) KeptGroup → Type 0
+AreKept tells groups = (name : Name) → MatchOption (get groups name) (IsUntold (tells name)) (IsKeptGroup (tells name))
+
+abbrev pub AreKeptGroups : List Fact → FinMap (slice_cmp nat_cmp) KeptGroup → Type 0
+AreKeptGroups facts groups = AreKept (told facts) groups
+
+-- what is told of a group once more is asked of its numbers
+abbrev pub with_asks : Told → List Ask → Told
+with_asks t asks = record { is_shown = true; asks = t.asks ++ asks; ids = t.ids; places = t.places }
+
+-- and once a number has an id as well
+abbrev pub with_id : Told → List Ask → ℕ → Id → Told
+with_id t asks n id = record {
+  is_shown = true;
+  asks = t.asks ++ asks;
+  ids = λ m. option_or (t.ids m) (if n == m then Some id else None);
+  places = λ other. option_or (t.places other) (if is_same id other then Some n else None);
+}
+
+-- this is told of one group then, and of others what was told before
+pub record Changes (before after : Name → Told) (name : Name) (t : Told) : Type 0 where
+  pub here : after name ≡ t
+  pub elsewhere : (other : Name) → is_same name other ≡ false → after other ≡ before other
+
+-- ---- names
+
+-- of names: those that are said to be no group, the wildmats that LIST ACTIVE answered, and whether it answered without one
+pub record KeptNames : Type 0 where
+  pub denied : List Name
+  pub wildmats : List (List ℕ)
+  pub all_listed : Bool
+
+-- the name is denied, if it isn't shown: it is said to be no group, or LIST ACTIVE would have listed it
+abbrev pub is_denied_name : KeptNames → Name → Bool
+is_denied_name k name = list_any (λ g. is_same g name) k.denied || k.all_listed || list_any (λ w. matches_name w name) k.wildmats
+
+-- k is kept of what the facts say of names
+pub record AreKeptNames (facts : List Fact) (k : KeptNames) : Type 0 where
+  pub wildmats : AllByRecursion (λ w. IsTrue (is_wildmat w)) k.wildmats
+  pub denied : (name : Name) → is_shown_group facts name ≡ false → list_any (denies_group name) facts ≡ is_denied_name k name
+
+-- ---- ids
+
+-- of an id that is mentioned: whether it has no article, whether a success names it, and what was sent of its article
+pub record KeptArticle : Type 0 where
+  pub is_denied : Bool
+  pub is_sent : Bool
+  pub head : Option (List Line)
+  pub body : Option (List Line)
+
+-- a is kept of what the facts say of the id
+pub record IsKeptArticle (facts : List Fact) (id : Id) (a : KeptArticle) : Type 0 where
+  pub denied : list_any (denies_article id) facts ≡ a.is_denied
+  pub shown : list_any (shows_article id) facts ≡ not a.is_denied
+  pub sent : is_sent facts id ≡ a.is_sent
+  pub head : first_given (head_in id) facts ≡ a.head
+  pub body : first_given (body_in id) facts ≡ a.body
+
+-- the ids that are mentioned are kept, with what is said of each
+abbrev pub AreKeptArticles : List Fact → FinMap (slice_cmp nat_cmp) KeptArticle → Type 0
+AreKeptArticles facts articles = (id : Id) → MatchOption (get articles id) (is_mentioned facts id ≡ false) (IsKeptArticle facts id)
+
+-- ---- the whole
+
+-- of all that was said
+pub record Kept : Type 0 where
+  pub groups : FinMap (slice_cmp nat_cmp) KeptGroup
+  pub names : KeptNames
+  pub articles : FinMap (slice_cmp nat_cmp) KeptArticle
+
+-- k is kept of the facts
+pub record IsKept (facts : List Fact) (k : Kept) : Type 0 where
+  pub groups : AreKeptGroups facts k.groups
+  pub names : AreKeptNames facts k.names
+  pub articles : AreKeptArticles facts k.articles

@@ -1,0 +1,25 @@
+-- When a list of groups joins what was said (RFC 3977, section 7.6.3).
+use Rattle.std.specs.Prelude.{◌≡◌, Bool, true, IsFalse, List, [], ◌∷◌, ◌++◌, Option}
+use Rattle.std.specs.List.{list_any}
+use Rattle.std.specs.Option.{option_map_or}
+use Rattle.nntp_wire.specs.Listing.{ActiveValue}
+use Rattle.nntp_wire.specs.Decided.{matches_name}
+use Rattle.nntp_article.specs.Spool.{Name}
+use Rattle.nntp_article.specs.Machine.{is_same}
+use Rattle.nntp_facts.specs.Asks.{Bounds}
+use Rattle.nntp_facts.specs.Facts.{Fact}
+use Rattle.nntp_facts.specs.Given.{asks_of, is_shown_group}
+use Rattle.nntp_facts.specs.Together.{AsksStand, denies_group}
+
+-- the group is listed
+abbrev pub is_listed : List ActiveValue → Name → Bool
+is_listed lines name = list_any (λ line. is_same line.name name) lines
+
+-- a listed group joins: it isn't denied, and its bounds stand together with what was asked
+pub record LineJoins (facts : List Fact) (line : ActiveValue) : Type 0 where
+  pub free : IsFalse (list_any (denies_group line.name) facts)
+  pub bounds : AsksStand (asks_of line.name facts ++ Bounds line.low line.high ∷ [])
+
+-- no group that is shown and matches is missing
+abbrev pub NoneIsMissing : List Fact → Option (List ℕ) → List ActiveValue → Type 0
+NoneIsMissing facts p lines = (name : Name) → is_shown_group facts name ≡ true → option_map_or (λ w. matches_name w name) p true ≡ true → is_listed lines name ≡ true

@@ -1,0 +1,165 @@
+//! What answers say of articles.
+ghost use Rattle.std.specs.Prelude.{◌≡◌, ◌++◌, ◌∷◌, [], ◌↔◌, ℕ, IsTrue, List, OnOk, is_some, option_map};
+ghost use Rattle.std.specs.FinMap as map;
+ghost use Rattle.nntp_article.specs.Spool.{Name};
+ghost use Rattle.nntp_article.specs.Machine.{head_fits};
+ghost use Rattle.nntp_facts.specs.Facts.{Fact, IdAt, TextIs, NoArticle};
+ghost use Rattle.nntp_facts.specs.Given.{is_mentioned};
+ghost use Rattle.nntp_facts.specs.Kept.{AreKeptArticles};
+ghost use Rattle.nntp_facts.specs.Articles.{ArticleJoins, unsent, with_new, articles_in};
+ghost use Rattle.nntp_facts.specs.ArticleView.{known_value};
+
+mod iter;
+mod known;
+
+pub(crate) use iter::{Iter, SeenArticle};
+use known::{Known, Seen, Sent};
+use nntp_wire::{Block, What};
+use std::alloc::{AllocError, Allocator, Global};
+use std::collections::BTreeMap;
+use std::marker::Model;
+
+/// What all answers so far say of articles, by message-id.
+#[derive(Drop)]
+pub(crate) struct Articles<A: Allocator = Global> {
+    alloc: A,
+    known: BTreeMap<Vec<u8, A>, Known<A>, A>,
+}
+
+impl<A: Allocator> Model for Articles<A> {
+    ghost use Rattle.std.specs.Prelude.{List, ℕ};
+    ghost use Rattle.std.specs.Coded.{coded_ℕ, coded_list};
+    ghost use Rattle.std.specs.Ordering.{nat_cmp};
+    ghost use Rattle.std.specs.Cmp.Lexicographic.{slice_cmp};
+    ghost use Rattle.std.specs.FinMap.{FinMap, from_entries, code};
+    ghost use Rattle.nntp_facts.specs.Kept.{KeptArticle};
+
+    ghost Value = { FinMap (slice_cmp nat_cmp) KeptArticle };
+
+    ghost use Rattle.nntp_facts.specs.ArticleView.{entries_value, coded_kept};
+
+    ghost coded = { code (coded_list coded_ℕ) coded_kept };
+
+    ghost view = { λ a. from_entries (entries_value a.known.entries) };
+}
+
+impl<A: Allocator> Articles<A> {
+    /// What is known of the id.
+    fn get(&self, id: &[u8]) -> Option<&Known<A>>
+        ensures { option_map (λ k. known_value k.now) result ≡ map.get self.now id.now }
+    {
+        self.known.get(id)
+    }
+
+    /// Whether an answer mentions the id.
+    pub(crate) fn mentions(&self, id: &[u8]) -> bool
+        ensures is { result ≡ is_some (map.get self.now id.now) }
+        ensures facts { (facts : List Fact) → AreKeptArticles facts self.now → result ≡ is_mentioned facts id.now }
+    {
+        self.known.contains_key(id)
+    }
+
+    /// Whether it may be said that this is sent of the id's article.
+    pub(crate) fn may_send(&self, what: What, id: &[u8], block: &Option<Block<'_>>) -> bool
+        ensures { (facts : List Fact) → AreKeptArticles facts self.now → IsTrue (head_fits what id.now block.now)
+            → IsTrue result ↔ ArticleJoins facts (TextIs what id.now block.now) }
+    {
+        match self.get(id) {
+            Some(known) => known.may_send(&Sent::of(what, block)),
+            None => true,
+        }
+    }
+
+    /// Whether it may be said that the id has an article.
+    pub(crate) fn may_stand(&self, id: &[u8]) -> bool
+        ensures { (facts : List Fact) (name : Name) (n : ℕ) → AreKeptArticles facts self.now
+            → IsTrue result ↔ ArticleJoins facts (IdAt name n id.now) }
+    {
+        match self.get(id) {
+            Some(known) => !known.is_denied(),
+            None => true,
+        }
+    }
+
+    /// Whether it may be said that the id has no article.
+    pub(crate) fn may_lack(&self, id: &[u8]) -> bool
+        ensures { (facts : List Fact) → AreKeptArticles facts self.now → IsTrue result ↔ ArticleJoins facts (NoArticle id.now) }
+    {
+        match self.get(id) {
+            Some(known) => known.is_denied(),
+            None => true,
+        }
+    }
+}
+
+impl<A: Allocator> Articles<A> {
+    /// The articles that are known, in byte order of their message-ids.
+    pub(crate) fn iter(&self) -> Iter<'_, A>
+        ensures { result ≡ articles_in (map.entries self.now) }
+    {
+        Iter::new(self.known.iter())
+    }
+}
+
+impl<A: Allocator + Copy> Articles<A> {
+    /// Of no answers.
+    pub(crate) fn new(alloc: A) -> Articles<A>
+        ensures { result ≡ map.empty }
+    {
+        Articles {
+            alloc,
+            known: BTreeMap::new(alloc),
+        }
+    }
+
+    /// Adds an id, if nothing is known of it yet.
+    fn add(&mut self, id: &[u8], new: Known<A>) -> Result<(), AllocError>
+        ensures { OnOk result (self.new ≡ with_new self.old id.now (known_value new)) }
+    {
+        if !self.mentions(id) {
+            self.known.insert(Vec::from_slice(self.alloc, id)?, new)?;
+        }
+        Ok(())
+    }
+
+    /// Adds that this is sent of the id's article. After an error the articles say nothing of use.
+    pub(crate) fn send(
+        &mut self,
+        what: What,
+        id: &[u8],
+        block: &Option<Block<'_>>,
+    ) -> Result<(), AllocError>
+        ensures { OnOk result ((facts : List Fact) → AreKeptArticles facts self.old → IsTrue (head_fits what id.now block.now)
+            → ArticleJoins facts (TextIs what id.now block.now) → AreKeptArticles (facts ++ TextIs what id.now block.now ∷ []) self.new) }
+    {
+        self.stand(id)?;
+        if let Some(known) = self.known.get_mut(id) {
+            known.send(self.alloc, &Sent::of(what, block))?;
+        }
+        Ok(())
+    }
+
+    /// Adds that the id has an article. After an error the articles say nothing of use.
+    pub(crate) fn stand(&mut self, id: &[u8]) -> Result<(), AllocError>
+        ensures is { OnOk result (self.new ≡ with_new self.old id.now unsent) }
+        ensures facts { OnOk result ((facts : List Fact) (name : Name) (n : ℕ) → AreKeptArticles facts self.old
+            → ArticleJoins facts (IdAt name n id.now) → AreKeptArticles (facts ++ IdAt name n id.now ∷ []) self.new) }
+    {
+        self.add(
+            id,
+            Known::There(Seen {
+                is_sent: false,
+                head: None,
+                body: None,
+            }),
+        )
+    }
+
+    /// Adds that the id has no article. After an error the articles say nothing of use.
+    pub(crate) fn lack(&mut self, id: &[u8]) -> Result<(), AllocError>
+        ensures { OnOk result ((facts : List Fact) → AreKeptArticles facts self.old → ArticleJoins facts (NoArticle id.now)
+            → AreKeptArticles (facts ++ NoArticle id.now ∷ []) self.new) }
+    {
+        self.add(id, Known::Denied)
+    }
+}

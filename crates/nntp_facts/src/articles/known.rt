@@ -1,0 +1,175 @@
+//! What is known of one message-id.
+ghost use Rattle.std.specs.Prelude.{◌≡◌, ◌↔◌, false, IsTrue, OnOk, option_map};
+ghost use Rattle.std.specs.Option.{option_or};
+ghost use Rattle.nntp_wire.specs.Held.{held};
+ghost use Rattle.nntp_article.specs.Article.{Id};
+ghost use Rattle.nntp_article.specs.Machine.{head_fits};
+ghost use Rattle.nntp_facts.specs.Articles.{head_sent, body_sent, AreSame, MayBeSent, with_sent};
+ghost use Rattle.nntp_facts.specs.ArticleView.{lines_held, seen_value, known_value, article_value};
+
+use crate::articles::iter::SeenArticle;
+use nntp_article::Parts;
+use nntp_wire::{Block, What};
+use std::alloc::{AllocError, Allocator};
+
+/// What is known of a message-id that is mentioned.
+#[derive(Drop)]
+pub(crate) enum Known<A: Allocator> {
+    /// It has no article.
+    Denied,
+    /// It has one.
+    There(Seen<A>),
+}
+
+/// What was seen of an article.
+#[derive(Drop)]
+pub(crate) struct Seen<A: Allocator> {
+    /// Whether a success named it.
+    pub(crate) is_sent: bool,
+    /// The lines of its head, where they were sent.
+    pub(crate) head: Option<Vec<Vec<u8, A>, A>>,
+    /// The lines of its body, where they were sent.
+    pub(crate) body: Option<Vec<Vec<u8, A>, A>>,
+}
+
+/// What a success sends of an article.
+#[derive(Drop)]
+pub(crate) struct Sent<'a> {
+    head: Option<Block<'a>>,
+    body: Option<Block<'a>>,
+}
+
+impl<'a> Sent<'a> {
+    pub(crate) fn of(what: What, block: &Option<Block<'a>>) -> Sent<'a>
+        ensures head { (id : Id) → IsTrue (head_fits what id block.now) → result.head ≡ head_sent what block.now }
+        ensures body { (id : Id) → IsTrue (head_fits what id block.now) → result.body ≡ body_sent what block.now }
+    {
+        match (what, block) {
+            (What::Article, Some(lines)) => Sent::parts(Parts::split(lines)),
+            (What::Head, Some(lines)) => Sent {
+                head: Some(lines.copy()),
+                body: None,
+            },
+            (What::Body, Some(lines)) => Sent {
+                head: None,
+                body: Some(lines.copy()),
+            },
+            _ => Sent {
+                head: None,
+                body: None,
+            },
+        }
+    }
+
+    fn parts(parts: Option<Parts<'a>>) -> Sent<'a>
+        ensures head { result.head ≡ option_map (λ p. p.head) parts.entry }
+        ensures body { result.body ≡ option_map (λ p. p.body) parts.entry }
+    {
+        match parts {
+            Some(parts) => Sent {
+                head: Some(parts.head),
+                body: Some(parts.body),
+            },
+            None => Sent {
+                head: None,
+                body: None,
+            },
+        }
+    }
+}
+
+/// Whether lines that are sent are those that are held, where both are there.
+fn are_same<A: Allocator>(sent: &Option<Block<'_>>, lines: &Option<Vec<Vec<u8, A>, A>>) -> bool
+    ensures { IsTrue result ↔ AreSame sent.now (lines_held lines.now) }
+{
+    match (sent, lines) {
+        (Some(sent), Some(lines)) => sent.is_same(lines),
+        _ => true,
+    }
+}
+
+/// Holds lines that are sent, where none are held yet.
+fn hold<A: Allocator + Copy>(
+    alloc: A,
+    lines: &mut Option<Vec<Vec<u8, A>, A>>,
+    sent: &Option<Block<'_>>,
+) -> Result<(), AllocError>
+    ensures { OnOk result (lines_held lines.new ≡ option_or (lines_held lines.old) sent.now) }
+{
+    if let (None, Some(sent)) = (&*lines, sent) {
+        *lines = Some(sent.to_vec(alloc)?);
+    }
+    Ok(())
+}
+
+impl<A: Allocator + Copy> Seen<A> {
+    /// Holds what a success sends.
+    fn send(&mut self, alloc: A, sent: &Sent<'_>) -> Result<(), AllocError>
+        ensures { OnOk result (seen_value self.new ≡ with_sent (seen_value self.old) sent.now.head sent.now.body) }
+    {
+        hold(alloc, &mut self.head, &sent.head)?;
+        hold(alloc, &mut self.body, &sent.body)?;
+        self.is_sent = true;
+        Ok(())
+    }
+}
+
+impl<A: Allocator> Known<A> {
+    /// Whether it has no article.
+    pub(crate) fn is_denied(&self) -> bool
+        ensures { result ≡ (known_value self.now).is_denied }
+    {
+        match self {
+            Known::Denied => true,
+            Known::There(_) => false,
+        }
+    }
+
+    /// Whether this may be sent of its article.
+    pub(crate) fn may_send(&self, sent: &Sent<'_>) -> bool
+        ensures { IsTrue result ↔ MayBeSent (known_value self.now) sent.now.head sent.now.body }
+    {
+        match self {
+            Known::There(seen) => {
+                are_same(&sent.head, &seen.head) && are_same(&sent.body, &seen.body)
+            }
+            Known::Denied => false,
+        }
+    }
+}
+
+impl<A: Allocator + Copy> Known<A> {
+    /// Holds what a success sends, where there is an article.
+    pub(crate) fn send(&mut self, alloc: A, sent: &Sent<'_>) -> Result<(), AllocError>
+        ensures { OnOk result ((known_value self.old).is_denied ≡ false → known_value self.new ≡ with_sent (known_value self.old) sent.now.head sent.now.body) }
+    {
+        match self {
+            Known::There(seen) => seen.send(alloc, sent),
+            Known::Denied => Ok(()),
+        }
+    }
+}
+
+impl<A: Allocator> Seen<A> {
+    /// What is known of the article with this id.
+    pub(crate) fn article<'a>(&'a self, id: &'a [u8]) -> SeenArticle<'a, A>
+        ensures { article_value result ≡ (id.now, seen_value self.now) }
+    {
+        SeenArticle {
+            id,
+            is_sent: self.is_sent,
+            head: slice(&self.head),
+            body: slice(&self.body),
+        }
+    }
+}
+
+/// The lines, borrowed.
+fn slice<A: Allocator>(lines: &Option<Vec<Vec<u8, A>, A>>) -> Option<&[Vec<u8, A>]>
+    ensures { option_map (λ lines. held lines.now) result ≡ lines_held lines.now }
+{
+    match lines {
+        Some(lines) => Some(lines.as_slice()),
+        None => None,
+    }
+}

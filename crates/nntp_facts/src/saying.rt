@@ -1,0 +1,233 @@
+//! What an answer says of the spool (RFC 3977, sections 6 and 7.6.3).
+ghost use Rattle.std.specs.Prelude.{◌≡◌, IsTrue, List, IfOk};
+ghost use Rattle.nntp_wire.specs.View.{asked, request, target};
+ghost use Rattle.nntp_wire.specs.AnswerView.{response};
+ghost use Rattle.nntp_wire.specs.Answer.{to, plain, sends};
+ghost use Rattle.nntp_wire.specs.Command.{retrieve};
+ghost use Rattle.nntp_wire.specs.Listing.{listed_numbers};
+ghost use Rattle.nntp_article.specs.declared.profile.Profile.{Profile};
+ghost use Rattle.nntp_article.specs.Machine.{Visible, fits, code_fits};
+ghost use Rattle.nntp_facts.specs.Facts.{Fact, here, facts_of, facts_of_code};
+ghost use Rattle.nntp_facts.specs.AskView.{position_of};
+ghost use Rattle.nntp_facts.specs.SayingView.{facts_said, IsSelectedShown, MaySay};
+
+use crate::ask::{Ask, Position};
+use nntp_wire::{Answer, Block, Command, GroupName, Prompt, Range, What, Which, Wildmat};
+use std::alloc::{AllocError, Allocator};
+
+/// What an answer says of the spool.
+#[derive(Drop)]
+pub(crate) enum Saying<'s, A: Allocator> {
+    Nothing,
+    /// There is no such group.
+    NoGroup(&'s [u8]),
+    /// The message-id has no article.
+    NoArticle(&'s [u8]),
+    /// Something of the numbers of the selected group.
+    Asks(Ask),
+    /// There is such a group, with so many numbers at most, between the marks.
+    Group {
+        estimate: u64,
+        low: u64,
+        high: u64,
+        name: &'s GroupName<'s>,
+    },
+    /// The same, and these are its numbers in the range.
+    Numbers {
+        estimate: u64,
+        low: u64,
+        high: u64,
+        name: &'s GroupName<'s>,
+        range: Range,
+        numbers: Vec<u64, A>,
+    },
+    /// A step in the selected group leads to this number, which has this id.
+    Step {
+        ask: Ask,
+        number: u64,
+        id: &'s [u8],
+    },
+    /// The message-id has an article, of which this is sent.
+    Text {
+        what: What,
+        id: &'s [u8],
+        block: &'s Option<Block<'s>>,
+    },
+    /// The same, and it has this number in the selected group.
+    Placed {
+        what: What,
+        id: &'s [u8],
+        block: &'s Option<Block<'s>>,
+        ask: Option<Ask>,
+        number: u64,
+    },
+    /// The groups that match are these.
+    Groups {
+        wildmat: &'s Option<Wildmat<'s>>,
+        block: &'s Block<'s>,
+    },
+}
+
+impl<'s, A: Allocator + Copy> Saying<'s, A> {
+    /// What an answer says where the session stands at the position.
+    pub(crate) fn of(
+        alloc: A,
+        at: Position,
+        prompt: &'s Prompt<'s>,
+        answer: &'s Answer<'s>,
+    ) -> Result<Saying<'s, A>, AllocError>
+        ensures facts { IfOk result (λ saying. (v : Visible) → facts_said (here v) saying ≡ facts_of v (position_of at) (asked prompt.now) (response answer.now)) }
+        ensures fitting { IfOk result (λ saying. (profile : Profile) (v : Visible) (facts : List Fact) → IsTrue (fits profile v (asked prompt.now) (response answer.now))
+            → IsSelectedShown v facts → MaySay facts (here v) saying) }
+    {
+        match prompt {
+            Prompt::Greeting => Ok(Saying::Nothing),
+            Prompt::To(command) => Saying::to(alloc, at, command, answer),
+        }
+    }
+
+    /// The same of an answer to a command.
+    fn to(
+        alloc: A,
+        at: Position,
+        command: &'s Command<'s>,
+        answer: &'s Answer<'s>,
+    ) -> Result<Saying<'s, A>, AllocError>
+        ensures facts { IfOk result (λ saying. (v : Visible) → facts_said (here v) saying ≡ facts_of v (position_of at) (to (request command.now)) (response answer.now)) }
+        ensures fitting { IfOk result (λ saying. (profile : Profile) (v : Visible) (facts : List Fact) → IsTrue (fits profile v (to (request command.now)) (response answer.now))
+            → IsSelectedShown v facts → MaySay facts (here v) saying) }
+    {
+        match (command, answer) {
+            (_, Answer::Plain { code }) => Ok(Saying::by_code(at, command, *code)),
+            (
+                Command::Group(_),
+                Answer::Group {
+                    estimate,
+                    low,
+                    high,
+                    name,
+                },
+            ) => Ok(Saying::Group {
+                estimate: *estimate,
+                low: *low,
+                high: *high,
+                name,
+            }),
+            (
+                Command::ListGroup { range, .. },
+                Answer::Numbers {
+                    estimate,
+                    low,
+                    high,
+                    name,
+                    block,
+                },
+            ) => Ok(Saying::Numbers {
+                estimate: *estimate,
+                low: *low,
+                high: *high,
+                name,
+                range: *range,
+                numbers: numbers_of(alloc, block)?,
+            }),
+            (Command::Next, Answer::Sent { number, id, .. }) => Ok(Saying::Step {
+                ask: Ask::StepsUp(at, *number),
+                number: *number,
+                id: id.as_slice(),
+            }),
+            (Command::Last, Answer::Sent { number, id, .. }) => Ok(Saying::Step {
+                ask: Ask::StepsDown(at, *number),
+                number: *number,
+                id: id.as_slice(),
+            }),
+            (
+                Command::Retrieve { what, which },
+                Answer::Sent {
+                    number, id, block, ..
+                },
+            ) => Ok(Saying::by_success(
+                at, *what, which, *number, id.as_slice(), block,
+            )),
+            (Command::ListActive(wildmat), Answer::Active(block)) => Ok(Saying::Groups {
+                wildmat,
+                block,
+            }),
+            _ => Ok(Saying::Nothing),
+        }
+    }
+
+    /// What a code alone says.
+    fn by_code(at: Position, command: &'s Command<'s>, code: u64) -> Saying<'s, A>
+        ensures facts { (v : Visible) → facts_said (here v) result ≡ facts_of_code v (position_of at) (request command.now) code }
+        ensures fitting { (profile : Profile) (v : Visible) (facts : List Fact) → IsTrue (fits profile v (to (request command.now)) (plain code)) → IsSelectedShown v facts → MaySay facts (here v) result }
+    {
+        match (command, code) {
+            (Command::Group(word), 411) => Saying::NoGroup(*word),
+            (
+                Command::ListGroup {
+                    group: Some(word), ..
+                },
+                411,
+            ) => Saying::NoGroup(*word),
+            (Command::Next | Command::Last, 420) => Saying::Asks(Ask::StandsNowhere(at)),
+            (Command::Next, 421) => Saying::Asks(Ask::IsTop(at)),
+            (Command::Last, 422) => Saying::Asks(Ask::IsBottom(at)),
+            (Command::Retrieve { which, .. }, code) => Saying::by_failure(at, which, code),
+            _ => Saying::Nothing,
+        }
+    }
+
+    /// What a failure of ARTICLE, HEAD, BODY or STAT says.
+    fn by_failure(at: Position, which: &'s Which<'s>, code: u64) -> Saying<'s, A>
+        ensures facts { (v : Visible) (what : What) → facts_said (here v) result ≡ facts_of_code v (position_of at) (retrieve what (target which.now)) code }
+        ensures fitting { (profile : Profile) (v : Visible) (facts : List Fact) (what : What) → IsTrue (fits profile v (to (retrieve what (target which.now))) (plain code))
+            → IsSelectedShown v facts → MaySay facts (here v) result }
+    {
+        match (which, code) {
+            (Which::Id(word), 430) => Saying::NoArticle(*word),
+            (Which::Number(Some(n)), 423) => Saying::Asks(Ask::Lacks(*n)),
+            (Which::Current, 420) => Saying::Asks(Ask::StandsNowhere(at)),
+            _ => Saying::Nothing,
+        }
+    }
+
+    /// What a success of ARTICLE, HEAD, BODY or STAT says.
+    fn by_success(
+        at: Position,
+        what: What,
+        which: &'s Which<'s>,
+        number: u64,
+        id: &'s [u8],
+        block: &'s Option<Block<'s>>,
+    ) -> Saying<'s, A>
+    {
+        match which {
+            Which::Id(_) if number == 0 => Saying::Text { what, id, block },
+            Which::Current => Saying::Placed {
+                what,
+                id,
+                block,
+                ask: Some(Ask::StandsAt(at, number)),
+                number,
+            },
+            _ => Saying::Placed {
+                what,
+                id,
+                block,
+                ask: None,
+                number,
+            },
+        }
+    }
+}
+
+/// The numbers that a block lists.
+fn numbers_of<A: Allocator + Copy>(alloc: A, block: &Block<'_>) -> Result<Vec<u64, A>, AllocError>
+    ensures { IfOk result (λ numbers. numbers.items ≡ listed_numbers block.now) }
+{
+    let mut numbers = Vec::new(alloc);
+    for number in block.numbers() {
+        numbers.push(number)?;
+    }
+    Ok(numbers)
+}

@@ -1,0 +1,136 @@
+//! What is looked up in the numbers that are shown.
+ghost use Rattle.std.specs.Prelude.{◌≡◌, ℕ, not, nat_lt, true, false, IsTrue, OnOk, ◌↔◌, ◌&&◌, ◌||◌, ◌^◌, ◌<◌, ◌+◌};
+ghost use Rattle.std.specs.Ordering.{nat_cmp};
+ghost use Rattle.std.specs.BTreeMap.Range.{is_past_end};
+ghost use Rattle.std.specs.List.Sorted.{IsStrictlySortedBy};
+ghost use Rattle.nntp_intervals.specs.Intervals.{is_between};
+ghost use Rattle.nntp_facts.specs.Given.{wants};
+ghost use Rattle.nntp_facts.specs.Summary.{demand_of, has, part_shows, shown_after, count_after, Finds, one_more};
+
+use crate::need::Need;
+use std::alloc::{AllocError, Allocator};
+use std::collections::BTreeSet;
+use std::ops::Bound;
+
+/// How many numbers were found.
+#[derive(Clone, Copy)]
+pub(crate) enum Found {
+    Absent,
+    Single,
+    Several,
+}
+
+impl Found {
+    /// One more.
+    pub(crate) fn and_one(self) -> Found
+        ensures { result ≡ one_more self }
+    {
+        match self {
+            Found::Absent => Found::Single,
+            _ => Found::Several,
+        }
+    }
+}
+
+/// How many of the shown numbers are wanted.
+pub(crate) fn found_wanted<A: Allocator>(shown: &BTreeSet<u64, A>, need: Need) -> Found
+    ensures { Finds (λ n. has shown.now.keys n && wants (demand_of need) n) result }
+{
+    match need {
+        Need::Any | Need::Only => found_up_to(shown, Bound::Unbounded),
+        Need::Below(k) => found_up_to(shown, Bound::Excluded(k)),
+        _ => Found::Absent,
+    }
+}
+
+/// How many numbers there are up to an end.
+fn found_up_to<A: Allocator>(shown: &BTreeSet<u64, A>, end: Bound<u64>) -> Found
+    ensures { Finds (λ n. has shown.now.keys n && not (is_past_end nat_cmp end n)) result }
+{
+    let mut numbers = shown.range((Bound::Unbounded, end));
+    match (numbers.next(), numbers.next()) {
+        (Some(_), Some(_)) => Found::Several,
+        (Some(_), None) => Found::Single,
+        _ => Found::Absent,
+    }
+}
+
+/// How many of the numbers that are shown after the part are wanted.
+pub(crate) fn found_after<A: Allocator>(
+    shown: &BTreeSet<u64, A>,
+    shows: Option<u64>,
+    need: Need,
+) -> Found
+    ensures { Finds (λ n. shown_after shown.now.keys (part_shows shows) n && wants (demand_of need) n) result }
+{
+    let found = found_wanted(shown, need);
+    match shows {
+        Some(n) if need.wants(n) && !shown.contains(&n) => found.and_one(),
+        _ => found,
+    }
+}
+
+/// How many numbers are shown after the part.
+pub(crate) fn count_after<A: Allocator>(shown: &BTreeSet<u64, A>, shows: Option<u64>) -> u64
+    ensures count { result ≡ count_after shown.now.keys shows }
+    ensures ascends { IsStrictlySortedBy nat_cmp shown.now.keys }
+    ensures small { result < 2 ^ 63 + 1 }
+{
+    let count = shown.len() as u64;
+    match shows {
+        Some(n) if !shown.contains(&n) => count + 1,
+        _ => count,
+    }
+}
+
+/// Whether a shown number is from `first` to `last`.
+pub(crate) fn meets<A: Allocator>(shown: &BTreeSet<u64, A>, first: u64, last: u64) -> bool
+    ensures { result ≡ false ↔ ((n : ℕ) → has shown.now.keys n ≡ true → is_between first last n ≡ false) }
+{
+    first <= last
+        && shown
+            .range((Bound::Included(first), Bound::Included(last)))
+            .next()
+            .is_some()
+}
+
+/// Whether all shown numbers are between the marks.
+pub(crate) fn none_outside<A: Allocator>(shown: &BTreeSet<u64, A>, low: u64, high: u64) -> bool
+    ensures { IsTrue result ↔ ((n : ℕ) → has shown.now.keys n ≡ true → (nat_lt n low || nat_lt high n) ≡ false) }
+{
+    none_below(shown, low) && none_above(shown, high)
+}
+
+/// Whether no shown number is below `low`.
+fn none_below<A: Allocator>(shown: &BTreeSet<u64, A>, low: u64) -> bool
+    ensures { IsTrue result ↔ ((n : ℕ) → has shown.now.keys n ≡ true → nat_lt n low ≡ false) }
+{
+    match shown.first() {
+        Some(first) => low <= *first,
+        None => true,
+    }
+}
+
+/// Whether no shown number is above `high`.
+fn none_above<A: Allocator>(shown: &BTreeSet<u64, A>, high: u64) -> bool
+    ensures { IsTrue result ↔ ((n : ℕ) → has shown.now.keys n ≡ true → nat_lt high n ≡ false) }
+{
+    match shown.last() {
+        Some(last) => *last <= high,
+        None => true,
+    }
+}
+
+/// Adds the number that a part shows.
+pub(crate) fn show<A: Allocator + Copy>(
+    shown: &mut BTreeSet<u64, A>,
+    shows: Option<u64>,
+) -> Result<(), AllocError>
+    ensures shown { OnOk result ((n : ℕ) → has shown.new.keys n ≡ shown_after shown.old.keys (part_shows shows) n) }
+    ensures ascends { OnOk result (IsStrictlySortedBy nat_cmp shown.old.keys → IsStrictlySortedBy nat_cmp shown.new.keys) }
+{
+    if let Some(n) = shows {
+        shown.insert(n)?;
+    }
+    Ok(())
+}

@@ -1,0 +1,16 @@
+-- What is below 256: the items of a slice, and of lists of such.
+use Rattle.std.proofs.Common.{◌≡◌, ℕ, suc, true, List, [], ◌∷◌, ◌++◌, get_or, refl, sym, ◌∙◌, arith, Fits, w8}
+use Rattle.std.specs.Prelude.{nat_lt}
+use Rattle.std.proofs.lemmas.Bool.{and_parts, and_from}
+use Rattle.std.proofs.lemmas.Bool.Decides.{nat_tests}
+use Rattle.std.proofs.lemmas.List.Folds.{list_all-append}
+use Rattle.nntp_wire.specs.Octets.{are_octets}
+
+-- what a slice of u8 holds
+pub octets-fit : (xs : List ℕ) → ((i : ℕ) → Fits w8 (get_or xs i 0)) → are_octets xs ≡ true
+octets-fit [] h = refl
+octets-fit (x ∷ xs) h = and_from (nat_lt x 256) (are_octets xs) (let first = h 0 in grind (arith, nat_tests)) (octets-fit xs (λ i. h (suc i)))
+
+-- both parts of octets are octets
+pub octets-parts : (xs ys : List ℕ) → are_octets (xs ++ ys) ≡ true → (are_octets xs ≡ true) × (are_octets ys ≡ true)
+octets-parts xs ys h = and_parts (are_octets xs) (are_octets ys) (sym (list_all-append (λ c. nat_lt c 256) xs ys) ∙ h)

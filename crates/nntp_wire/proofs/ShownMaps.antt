@@ -1,0 +1,150 @@
+-- The finite map that the entries of a `BTreeMap` show, under a view of its keys and one of its values.
+use Rattle.std.proofs.Common.{◌≡◌, Bool, true, false, cond, T, Option, None, Some, IsSome, is_some, option_map, List, [], ◌∷◌, map, length, refl, sym, ap, subst, ◌∙◌, arith}
+use Rattle.std.specs.declared.cmp.Ordering.{Ordering}
+use Rattle.std.specs.declared.cmp.Ordering.TheVariants.{Less, Equal, Greater}
+use Rattle.std.specs.Ordering.{eq_by_cmp, is_eq, match_ordering}
+use Rattle.std.specs.Cmp.{IsTotalOrder, eq_by_cmp_equiv}
+use Rattle.std.proofs.lemmas.Bool.{true≢false}
+use Rattle.std.specs.Prelude.{◌&&◌}
+use Rattle.std.specs.List.{AllByRecursion, list_all}
+use Rattle.std.specs.List.Sorted.{IsStrictlySortedBy}
+use Rattle.std.specs.FinMap.{FinMap, get, insert, entries, len, find, put, is_sorted, from_entries, from_sorted, IsAntisymmetric, same_map, get-from_entries, get-from_sorted, entries-from_sorted, len-entries, get-insert}
+use Rattle.std.specs.FinMap.Entries.{find-put, below_all, by_order}
+use Rattle.std.proofs.lemmas.List.{length-map}
+use Rattle.std.specs.Map.{lookup, keys_of, set_value}
+use Rattle.std.specs.BTreeMap.{insert_entry}
+
+module _ {K X : Type 0} {R : K → K → Ordering} (o : IsTotalOrder R) where
+  pub from_entries-put : IsAntisymmetric R → (es : List (K × X)) (k : K) (v : X) → from_entries {R = R} (put R k v es) ≡ insert (from_entries es) k v
+  from_entries-put same es k v = same_map o same _ _ (λ q.
+      get-from_entries o (put R k v es) q ∙ find-put R o q k v es
+      ∙ sym (get-insert o (from_entries es) k v q ∙ ap (cond (eq_by_cmp R q k) (Some v)) (get-from_entries o es q)))
+
+  pub entries-from_entries : IsAntisymmetric R → (es : List (K × X)) → T (is_sorted R es) → entries (from_entries {R = R} es) ≡ es
+  entries-from_entries same es h =
+      ap entries (same_map o same (from_entries {R = R} es) (from_sorted es) (λ q. get-from_entries o es q ∙ sym (get-from_sorted R es q h)))
+      ∙ entries-from_sorted R es h
+
+  pub len-from_sorted_entries : IsAntisymmetric R → (es : List (K × X)) → T (is_sorted R es) → len (from_entries {R = R} es) ≡ length es
+  len-from_sorted_entries same es h = len-entries _ ∙ ap length (entries-from_entries same es h)
+
+-- L and V as the map keeps them, K and X as they are shown
+module _ {L V K X : Type 0} (R : K → K → Ordering) (key : L → K) (value : V → X) where
+  abbrev pub shown_entry : L × V → K × X
+  shown_entry e = (key e.0, value e.1)
+
+  abbrev pub shown : List (L × V) → FinMap R X
+  shown es = from_entries (map shown_entry es)
+
+  pub find-shown : (q : K) (es : List (L × V)) → find R q (map shown_entry es) ≡ option_map value (lookup (λ k. is_eq (R q (key k))) es)
+  find-shown q [] = refl
+  find-shown q (e ∷ es) =
+      elim (is_eq (R q (key e.0))) as (λ b. cond b (Some (value e.1)) (find R q (map shown_entry es)) ≡ option_map value (cond b (Some e.1) (lookup (λ k. is_eq (R q (key k))) es))) [
+        | true ↦ refl
+        | false ↦ find-shown q es
+      ]
+
+  pub shown-insert_entry : (es : List (L × V)) (k : L) (v : V) → map shown_entry (insert_entry (λ a b. R (key a) (key b)) es k v) ≡ put R (key k) (value v) (map shown_entry es)
+  shown-insert_entry [] k v = refl
+  shown-insert_entry (e ∷ es) k v =
+      elim (R (key k) (key e.0)) as (λ r. map shown_entry (match_ordering r ((k, v) ∷ e ∷ es) ((e.0, v) ∷ es) (e ∷ insert_entry (λ a b. R (key a) (key b)) es k v)) ≡ by_order r ((key k, value v) ∷ shown_entry e ∷ map shown_entry es) ((key e.0, value v) ∷ map shown_entry es) (shown_entry e ∷ put R (key k) (value v) (map shown_entry es))) [
+        | Less ↦ refl
+        | Equal ↦ refl
+        | Greater ↦ ap (λ t. shown_entry e ∷ t) (shown-insert_entry es k v)
+      ]
+
+  below_shown : (k : L) (es : List (L × V)) → AllByRecursion (λ y. R (key k) (key y) ≡ Less) (keys_of es) → T (below_all R (key k) (map shown_entry es))
+  below_shown k [] h = tt
+  below_shown k (e ∷ es) h = rw h.0 (below_shown k es h.1)
+
+  pub sorted_shown : (es : List (L × V)) → IsStrictlySortedBy (λ a b. R (key a) (key b)) (keys_of es) → T (is_sorted R (map shown_entry es))
+  unfolding IsStrictlySortedBy
+  sorted_shown [] h = tt
+  sorted_shown (e ∷ es) h = grind (arith, below_shown e.0 es h.0, sorted_shown es h.1)
+
+  module _ (o : IsTotalOrder R) where
+    pub get-shown : (es : List (L × V)) (q : K) → get (shown es) q ≡ option_map value (lookup (λ k. is_eq (R q (key k))) es)
+    get-shown es q = get-from_entries o _ q ∙ find-shown q es
+
+    module _ (same : IsAntisymmetric R) where
+      pub insert-shown : (es fs : List (L × V)) (k : L) (v : V) → fs ≡ insert_entry (λ a b. R (key a) (key b)) es k v → shown fs ≡ insert (shown es) (key k) (value v)
+      insert-shown es fs k v e = ap shown e ∙ ap from_entries (shown-insert_entry es k v) ∙ from_entries-put o same _ _ _
+
+      pub entries-shown : (es : List (L × V)) → IsStrictlySortedBy (λ a b. R (key a) (key b)) (keys_of es) → entries (shown es) ≡ map shown_entry es
+      entries-shown es h = entries-from_entries o same _ (sorted_shown es h)
+
+      pub len-shown : (es : List (L × V)) → IsStrictlySortedBy (λ a b. R (key a) (key b)) (keys_of es) → len (shown es) ≡ length es
+      len-shown es h = len-from_sorted_entries o same _ (sorted_shown es h) ∙ simp length-map
+
+pub option_map-option_map : {A B C : Type 0} (f : A → B) (g : B → C) (o : Option A) → option_map (λ x. g (f x)) o ≡ option_map g (option_map f o)
+option_map-option_map f g None = refl
+option_map-option_map f g (Some x) = refl
+
+pub option_map_id : {A : Type 0} (o : Option A) → option_map (λ x. x) o ≡ o
+option_map_id None = refl
+option_map_id (Some x) = refl
+
+swap_tests : {A : Type 0} (a b : Bool) (x y z : A) → (a ≡ true → b ≡ true → ⊥) → cond a x (cond b y z) ≡ cond b y (cond a x z)
+swap_tests true true x y z apart = absurd (apart refl refl)
+swap_tests true false x y z apart = refl
+swap_tests false b x y z apart = refl
+
+test_again : {A : Type 0} (a : Bool) (x y z : A) → cond a x z ≡ cond a x (cond a y z)
+test_again true x y z = refl
+test_again false x y z = refl
+
+pub equal_is : (r : Ordering) → is_eq r ≡ true → r ≡ Equal
+equal_is Less e = cc
+equal_is Equal e = refl
+equal_is Greater e = cc
+
+tied_itself_true : {K : Type 0} {R : K → K → Ordering} → IsTotalOrder R → (x y : K) → x ≡ y → is_eq (R x y) ≡ true
+tied_itself_true {R = R} o x y e = subst (λ z. is_eq (R x z) ≡ true) e ((eq_by_cmp_equiv o).refl x)
+
+module _ {L V K X : Type 0} (R : K → K → Ordering) (key : L → K) (value : V → X) (o : IsTotalOrder R) (same : IsAntisymmetric R) where
+  pub find-set_value : (k q : K) (w : V) (es : List (L × V)) → IsSome (lookup (λ l. is_eq (R k (key l))) es)
+      → find R q (map (shown_entry R key value) (set_value (λ l. is_eq (R k (key l))) es w)) ≡ cond (eq_by_cmp R q k) (Some (value w)) (find R q (map (shown_entry R key value) es))
+  find-set_value k q w [] had = cc
+  find-set_value k q w (e ∷ es) had =
+      elim (is_eq (R k (key e.0))) as (λ b. is_eq (R k (key e.0)) ≡ b → IsSome (cond b (Some e.1) (lookup (λ l. is_eq (R k (key l))) es))
+      → find R q (map (shown_entry R key value) (cond b ((e.0, w) ∷ es) (e ∷ set_value (λ l. is_eq (R k (key l))) es w))) ≡ cond (eq_by_cmp R q k) (Some (value w)) (cond (eq_by_cmp R q (key e.0)) (Some (value e.1)) (find R q (map (shown_entry R key value) es)))) [
+        | true ↦ λ t had. subst (λ x. cond (eq_by_cmp R q (key e.0)) (Some (value w)) (find R q (map (shown_entry R key value) es)) ≡ cond (eq_by_cmp R q x) (Some (value w)) (cond (eq_by_cmp R q (key e.0)) (Some (value e.1)) (find R q (map (shown_entry R key value) es))))
+            (sym (same k (key e.0) (equal_is _ t))) (test_again (eq_by_cmp R q (key e.0)) (Some (value w)) (Some (value e.1)) _)
+        | false ↦ λ t had. ap (cond (eq_by_cmp R q (key e.0)) (Some (value e.1))) (find-set_value k q w es had)
+            ∙ swap_tests (eq_by_cmp R q (key e.0)) (eq_by_cmp R q k) _ _ _ (λ a b.
+            let at_key : q ≡ key e.0 = same q (key e.0) (equal_is _ a) in
+            let at_k : q ≡ k = same q k (equal_is _ b) in
+            true≢false (sym (tied_itself_true o k (key e.0) (sym at_k ∙ at_key)) ∙ t))
+      ] refl had
+
+  pub set-shown : (es fs : List (L × V)) (k : K) (w : V) → fs ≡ set_value (λ l. is_eq (R k (key l))) es w → IsSome (lookup (λ l. is_eq (R k (key l))) es) → shown R key value fs ≡ insert (shown R key value es) k (value w)
+  set-shown es fs k w e had = same_map o same _ _ (λ q.
+      get-from_entries o _ q ∙ ap (λ es. find R q (map (shown_entry R key value) es)) e ∙ find-set_value k q w es had
+      ∙ sym (get-insert o _ k (value w) q ∙ ap (cond (eq_by_cmp R q k) (Some (value w))) (get-from_entries o _ q)))
+
+  pub replaced : (es fs : List (L × V)) (m : FinMap R X) (k : K) (old new : V) → shown R key value es ≡ m → Some old ≡ lookup (λ l. is_eq (R k (key l))) es → fs ≡ set_value (λ l. is_eq (R k (key l))) es new
+      → (shown R key value fs ≡ insert m k (value new)) × (get m k ≡ Some (value old))
+  replaced es fs m k old new is had e = (
+    set-shown es fs k new e (ap is_some (sym had)) ∙ ap (λ m. insert m k (value new)) is,
+    ap (λ m. get m k) (sym is) ∙ get-shown R key value o es k ∙ ap (option_map value) (sym had),
+  )
+
+  pub missing : (es : List (L × V)) (m : FinMap R X) (k : K) → shown R key value es ≡ m → None ≡ lookup (λ l. is_eq (R k (key l))) es → get m k ≡ None
+  missing es m k is none = ap (λ m. get m k) (sym is) ∙ get-shown R key value o es k ∙ ap (option_map value) (sym none)
+
+-- to insert what is there changes nothing
+module _ {K X : Type 0} {R : K → K → Ordering} (o : IsTotalOrder R) (same : IsAntisymmetric R) where
+  pub insert-same : (m : FinMap R X) (k : K) (x : X) → get m k ≡ Some x → insert m k x ≡ m
+  insert-same m k x here = same_map o same _ _ (λ q. get-insert o m k x q ∙
+      elim (eq_by_cmp R q k) as (λ b. eq_by_cmp R q k ≡ b → cond b (Some x) (get m q) ≡ get m q) [
+        | true ↦ λ t. sym here ∙ ap (get m) (sym (same q k (equal_is _ t)))
+        | false ↦ λ t. refl
+      ] refl)
+
+pub is_some-option_map : {A B : Type 0} (f : A → B) (o : Option A) → is_some (option_map f o) ≡ is_some o
+is_some-option_map f None = refl
+is_some-option_map f (Some x) = refl
+
+pub list_all-map : {X Y : Type 0} (p : Y → Bool) (f : X → Y) (xs : List X) → list_all p (map f xs) ≡ list_all (λ x. p (f x)) xs
+list_all-map p f [] = refl
+list_all-map p f (x ∷ xs) = ap (λ b. p (f x) && b) (list_all-map p f xs)

@@ -1,0 +1,105 @@
+//! The groups that the lines of LIST ACTIVE list (RFC 3977, section 7.6.3).
+ghost use Rattle.std.specs.Prelude.{◌≡◌, ◌<◌, ◌^◌, length, List, option_map, is_some};
+ghost use Rattle.std.specs.Iterator.{YieldsFirstBy, item_count};
+ghost use Rattle.nntp_wire.specs.Listing.{active_of, active_groups, are_active_lines};
+ghost use Rattle.nntp_wire.specs.View.{active_value};
+
+use crate::block::{Block, Lines};
+use crate::group_name::GroupName;
+use crate::laws::group_names_are_decided;
+use crate::line::{number, words};
+use std::marker::Model;
+
+/// A line of LIST ACTIVE (RFC 3977, section 7.6.3).
+#[derive(Drop)]
+pub struct ActiveLine<'a> {
+    /// The group.
+    pub name: GroupName<'a>,
+    /// The reported high water mark.
+    pub high: u64,
+    /// The reported low water mark.
+    pub low: u64,
+    /// Whether posting is allowed: any word.
+    pub status: &'a [u8],
+}
+
+/// The group of a line of LIST ACTIVE (RFC 3977, section 7.6.3). None: the line is not a name, two
+/// numbers and one word more.
+pub fn active_line(line: &[u8]) -> Option<ActiveLine<'_>>
+    ensures { option_map active_value result ≡ active_of line.now }
+{
+    group_names_are_decided();
+    let mut words = words(line);
+    let name = GroupName::parse(words.next()?)?;
+    let high = number(words.next()?)?;
+    let low = number(words.next()?)?;
+    let status = words.next()?;
+    if words.next().is_some() {
+        return None;
+    }
+    Some(ActiveLine {
+        name,
+        high,
+        low,
+        status,
+    })
+}
+
+/// Whether the line is one of LIST ACTIVE.
+fn is_active_line(line: &[u8]) -> bool
+    ensures { result ≡ is_some (active_of line.now) }
+{
+    active_line(line).is_some()
+}
+
+/// Whether each line is one of LIST ACTIVE.
+pub(crate) fn are_active_lines(block: &Block<'_>) -> bool
+    ensures { result ≡ are_active_lines block.now }
+{
+    block.lines().all(|line| is_active_line(line))
+}
+
+/// The groups of the lines that list one, first to last.
+#[derive(Drop)]
+pub struct ActiveLines<'a> {
+    lines: Lines<'a>,
+}
+
+impl<'a> Model for ActiveLines<'a> {
+    ghost use Rattle.std.specs.Prelude.{List};
+    ghost use Rattle.nntp_wire.specs.Listing.{ActiveValue, active_groups};
+
+    ghost Value = { List ActiveValue };
+
+    ghost view = { λ s. active_groups s.lines };
+}
+
+impl<'a> Block<'a> {
+    /// The groups that the lines list, first to last. Lines that list none are passed over; the block
+    /// of [`Answer::Active`](crate::Answer::Active) has none of these.
+    pub fn groups(&self) -> ActiveLines<'a>
+        ensures listed { result ≡ active_groups self.now }
+        ensures short { length result < 2 ^ 64 }
+    {
+        ActiveLines {
+            lines: self.lines(),
+        }
+    }
+}
+
+impl<'a> Iterator for ActiveLines<'a> {
+    type Item = ActiveLine<'a>;
+
+    ghost next_gives = { YieldsFirstBy active_value (λ groups. groups) };
+
+    ghost remaining = { item_count (λ groups. groups) };
+
+    fn next(&mut self) -> Option<ActiveLine<'a>> {
+        while let Some(line) = self.lines.next() {
+            if let Some(active) = active_line(line) {
+                return Some(active);
+            }
+        }
+        None
+    }
+}
