@@ -214,11 +214,11 @@ fn random_sessions(rt: HostRuntime) -> Result<(), Fail> {
         out_of_place: 0,
         contradictions: 0,
     };
-    for _ in 0..300 {
+    for _ in 0..3000 {
         wander(&rt, rt.alloc(), &mut random, &mut counts)?;
     }
-    assert!(rt; counts.consistent > 500, "{}", counts.consistent);
-    assert!(rt; counts.out_of_place > 100, "{}", counts.out_of_place);
-    assert!(rt; counts.contradictions > 100, "{}", counts.contradictions);
+    assert!(rt; counts.consistent > 4000, "{}", counts.consistent);
+    assert!(rt; counts.out_of_place > 800, "{}", counts.out_of_place);
+    assert!(rt; counts.contradictions > 800, "{}", counts.contradictions);
     Ok(())
 }
