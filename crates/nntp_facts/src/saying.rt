@@ -3,16 +3,17 @@ ghost use Rattle.std.specs.Prelude.{◌≡◌, ℕ, IsTrue, List, IfOk};
 ghost use Rattle.nntp_wire.specs.View.{asked, request, target};
 ghost use Rattle.nntp_wire.specs.AnswerView.{response};
 ghost use Rattle.nntp_wire.specs.Answer.{to, plain, sends};
-ghost use Rattle.nntp_wire.specs.Command.{retrieve};
+ghost use Rattle.nntp_wire.specs.Command.{retrieve, by_id};
+ghost use Rattle.nntp_facts.specs.Asks as asks_said;
 ghost use Rattle.nntp_wire.specs.Listing.{listed_numbers};
 ghost use Rattle.nntp_article.specs.declared.profile.Profile.{Profile};
 ghost use Rattle.nntp_article.specs.Machine.{Visible, fits, code_fits};
 ghost use Rattle.nntp_facts.specs.Facts.{Fact, here, facts_of, facts_of_code};
 ghost use Rattle.nntp_facts.specs.AskView.{position_of};
-ghost use Rattle.nntp_facts.specs.SayingView.{facts_said};
+ghost use Rattle.nntp_facts.specs.SayingView.{facts_said, IsSelectedShown, MaySay};
 
 use crate::ask::{Ask, Position};
-use nntp_wire::{Answer, Block, Command, GroupName, Prompt, Range, What, Which, Wildmat};
+use nntp_wire::{Answer, Block, Command, GroupName, MessageId, Prompt, Range, What, Which, Wildmat};
 use std::alloc::{AllocError, Allocator};
 
 /// What an answer says of the spool.
@@ -76,7 +77,9 @@ impl<'s, A: Allocator + Copy> Saying<'s, A> {
         prompt: &'s Prompt<'s>,
         answer: &'s Answer<'s>,
     ) -> Result<Saying<'s, A>, AllocError>
-        ensures { IfOk result (λ saying. (v : Visible) → facts_said (here v) saying ≡ facts_of v (position_of at) (asked prompt.now) (response answer.now)) }
+        ensures facts { IfOk result (λ saying. (v : Visible) → facts_said (here v) saying ≡ facts_of v (position_of at) (asked prompt.now) (response answer.now)) }
+        ensures fitting { IfOk result (λ saying. (profile : Profile) (v : Visible) (facts : List Fact) → IsTrue (fits profile v (asked prompt.now) (response answer.now))
+            → IsSelectedShown v facts → MaySay facts (here v) saying) }
     {
         match prompt {
             Prompt::Greeting => Ok(Saying::Nothing),
@@ -91,7 +94,9 @@ impl<'s, A: Allocator + Copy> Saying<'s, A> {
         command: &'s Command<'s>,
         answer: &'s Answer<'s>,
     ) -> Result<Saying<'s, A>, AllocError>
-        ensures { IfOk result (λ saying. (v : Visible) → facts_said (here v) saying ≡ facts_of v (position_of at) (to (request command.now)) (response answer.now)) }
+        ensures facts { IfOk result (λ saying. (v : Visible) → facts_said (here v) saying ≡ facts_of v (position_of at) (to (request command.now)) (response answer.now)) }
+        ensures fitting { IfOk result (λ saying. (profile : Profile) (v : Visible) (facts : List Fact) → IsTrue (fits profile v (to (request command.now)) (response answer.now))
+            → IsSelectedShown v facts → MaySay facts (here v) saying) }
     {
         match (command, answer) {
             (_, Answer::Plain { code }) => Ok(Saying::by_code(at, command, *code)),
@@ -137,67 +142,16 @@ impl<'s, A: Allocator + Copy> Saying<'s, A> {
                 id: id.as_slice(),
             }),
             (
-                Command::Retrieve {
-                    what,
-                    which: Which::Id(_),
-                },
+                Command::Retrieve { what, which },
                 Answer::Sent {
+                    code: _,
                     number,
                     id,
                     block,
-                    ..
                 },
-            ) => Ok(if *number == 0 {
-                Saying::Text {
-                    what: *what,
-                    id: id.as_slice(),
-                    block,
-                }
-            } else {
-                Saying::Placed {
-                    what: *what,
-                    id: id.as_slice(),
-                    block,
-                    ask: None,
-                    number: *number,
-                }
-            }),
-            (
-                Command::Retrieve {
-                    what,
-                    which: Which::Number(_),
-                },
-                Answer::Sent {
-                    number,
-                    id,
-                    block,
-                    ..
-                },
-            ) => Ok(Saying::Placed {
-                what: *what,
-                id: id.as_slice(),
-                block,
-                ask: None,
-                number: *number,
-            }),
-            (
-                Command::Retrieve {
-                    what,
-                    which: Which::Current,
-                },
-                Answer::Sent {
-                    number,
-                    id,
-                    block,
-                    ..
-                },
-            ) => Ok(Saying::Placed {
-                what: *what,
-                id: id.as_slice(),
-                block,
-                ask: Some(Ask::StandsAt(at, *number)),
-                number: *number,
-            }),
+            ) => Ok(Saying::by_success(
+                at, *what, which, *number, id, block,
+            )),
             (Command::ListActive(wildmat), Answer::Active(block)) => Ok(Saying::Groups {
                 wildmat,
                 block,
@@ -208,14 +162,14 @@ impl<'s, A: Allocator + Copy> Saying<'s, A> {
 
     /// What a code alone says.
     fn by_code(at: Position, command: &'s Command<'s>, code: u64) -> Saying<'s, A>
-        ensures { (v : Visible) → facts_said (here v) result ≡ facts_of_code v (position_of at) (request command.now) code }
+        ensures facts { (v : Visible) → facts_said (here v) result ≡ facts_of_code v (position_of at) (request command.now) code }
+        ensures fitting { (profile : Profile) (v : Visible) (facts : List Fact) → IsTrue (fits profile v (to (request command.now)) (plain code)) → IsSelectedShown v facts → MaySay facts (here v) result }
     {
         match (command, code) {
             (Command::Group(word), 411) => Saying::NoGroup(*word),
             (
                 Command::ListGroup {
-                    group: Some(word),
-                    ..
+                    group: Some(word), ..
                 },
                 411,
             ) => Saying::NoGroup(*word),
@@ -229,13 +183,76 @@ impl<'s, A: Allocator + Copy> Saying<'s, A> {
 
     /// What a failure of ARTICLE, HEAD, BODY or STAT says.
     fn by_failure(at: Position, which: &'s Which<'s>, code: u64) -> Saying<'s, A>
-        ensures { (v : Visible) (what : What) → facts_said (here v) result ≡ facts_of_code v (position_of at) (retrieve what (target which.now)) code }
+        ensures facts { (v : Visible) (what : What) → facts_said (here v) result ≡ facts_of_code v (position_of at) (retrieve what (target which.now)) code }
+        ensures fitting { (profile : Profile) (v : Visible) (facts : List Fact) (what : What) → IsTrue (fits profile v (to (retrieve what (target which.now))) (plain code))
+            → IsSelectedShown v facts → MaySay facts (here v) result }
     {
         match (which, code) {
             (Which::Id(word), 430) => Saying::NoArticle(*word),
             (Which::Number(Some(n)), 423) => Saying::Asks(Ask::Lacks(*n)),
             (Which::Current, 420) => Saying::Asks(Ask::StandsNowhere(at)),
             _ => Saying::Nothing,
+        }
+    }
+
+    /// What a success of ARTICLE, HEAD, BODY or STAT says.
+    fn by_success(
+        at: Position,
+        what: What,
+        which: &'s Which<'s>,
+        number: u64,
+        id: &'s MessageId<'s>,
+        block: &'s Option<Block<'s>>,
+    ) -> Saying<'s, A>
+        ensures facts { (v : Visible) (code : ℕ) → facts_said (here v) result ≡ facts_of v (position_of at) (to (retrieve what (target which.now))) (sends (record { code = code; number = number; id = id.now; block = block.now })) }
+        ensures fitting { (profile : Profile) (v : Visible) (facts : List Fact) (code : ℕ) → IsTrue (fits profile v (to (retrieve what (target which.now))) (sends (record { code = code; number = number; id = id.now; block = block.now })))
+            → IsSelectedShown v facts → MaySay facts (here v) result }
+    {
+        match which {
+            Which::Id(_) => Saying::by_id(what, number, id, block),
+            Which::Number(_) => Saying::Placed {
+                what,
+                id: id.as_slice(),
+                block,
+                ask: None,
+                number,
+            },
+            Which::Current => Saying::Placed {
+                what,
+                id: id.as_slice(),
+                block,
+                ask: Some(Ask::StandsAt(at, number)),
+                number,
+            },
+        }
+    }
+
+    /// The same where the article was named by its message-id.
+    fn by_id(
+        what: What,
+        number: u64,
+        id: &'s MessageId<'s>,
+        block: &'s Option<Block<'s>>,
+    ) -> Saying<'s, A>
+        ensures facts { (v : Visible) (at : asks_said.Position) (word : List ℕ) (code : ℕ)
+            → facts_said (here v) result ≡ facts_of v at (to (retrieve what (by_id word))) (sends (record { code = code; number = number; id = id.now; block = block.now })) }
+        ensures fitting { (profile : Profile) (v : Visible) (facts : List Fact) (word : List ℕ) (code : ℕ)
+            → IsTrue (fits profile v (to (retrieve what (by_id word))) (sends (record { code = code; number = number; id = id.now; block = block.now }))) → IsSelectedShown v facts → MaySay facts (here v) result }
+    {
+        if number == 0 {
+            Saying::Text {
+                what,
+                id: id.as_slice(),
+                block,
+            }
+        } else {
+            Saying::Placed {
+                what,
+                id: id.as_slice(),
+                block,
+                ask: None,
+                number,
+            }
         }
     }
 }
