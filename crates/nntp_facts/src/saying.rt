@@ -13,7 +13,9 @@ ghost use Rattle.nntp_facts.specs.AskView.{position_of};
 ghost use Rattle.nntp_facts.specs.SayingView.{facts_said, IsSelectedShown, MaySay};
 
 use crate::ask::{Ask, Position};
-use nntp_wire::{Answer, Block, Command, GroupName, MessageId, Prompt, Range, What, Which, Wildmat};
+use nntp_wire::{
+    Answer, Block, Command, GroupName, MessageId, Prompt, Range, What, Which, Wildmat,
+};
 use std::alloc::{AllocError, Allocator};
 
 /// What an answer says of the spool.
@@ -149,9 +151,7 @@ impl<'s, A: Allocator + Copy> Saying<'s, A> {
                     id,
                     block,
                 },
-            ) => Ok(Saying::by_success(
-                at, *what, which, *number, id, block,
-            )),
+            ) => Ok(Saying::by_success(at, *what, which, *number, id, block)),
             (Command::ListActive(wildmat), Answer::Active(block)) => Ok(Saying::Groups {
                 wildmat,
                 block,
@@ -169,7 +169,8 @@ impl<'s, A: Allocator + Copy> Saying<'s, A> {
             (Command::Group(word), 411) => Saying::NoGroup(*word),
             (
                 Command::ListGroup {
-                    group: Some(word), ..
+                    group: Some(word),
+                    ..
                 },
                 411,
             ) => Saying::NoGroup(*word),
