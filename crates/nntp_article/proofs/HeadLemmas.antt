@@ -73,11 +73,6 @@ pub is_head-parts : (all whole : List Line) (first : Line) (rest : List Line) (b
     → whole ≡ first ∷ rest → whole ≡ all → b ≡ begins_header first → a ≡ list_all is_head_line rest → (b && a) ≡ is_head all
 is_head-parts all whole first rest b a e is begins others = sym (ap is_head (sym is ∙ e) ∙ is_head-lines first rest ∙ (rw (begins, others) refl))
 
--- the same where the first line begins no header
-pub is_head-no : (all whole : List Line) (first : Line) (rest : List Line) (b : Bool)
-    → whole ≡ first ∷ rest → whole ≡ all → b ≡ begins_header first → b ≡ false → false ≡ is_head all
-is_head-no all whole first rest b e is begins none = sym (ap is_head (sym is ∙ e) ∙ is_head-lines first rest ∙ (rw (sym begins ∙ none) refl))
-
 -- ---- the first header, split off
 
 pub front-is : (lines rest : List Line) (first : Line) (n : ℕ) → lines ≡ first ∷ rest → n ≡ prefix_len is_continuation rest → take (1 + n) lines ≡ first ∷ more rest
@@ -99,9 +94,3 @@ split-is_header lines rest front back first n name e is f b all named =
     let whole = split-headers lines rest front back first n e is f b in
     let both : (is_header front && list_all is_header (headers back)) ≡ true = sym (ap (list_all is_header) whole) ∙ all in
     ((and_parts _ _ both).0, named ∙ ap name_of (sym (f ∙ front-is lines rest first n e is)))
-
--- the others are headers too
-pub split-others : (lines front back : List Line) → headers lines ≡ front ∷ headers back → list_all is_header (headers lines) ≡ true → list_all is_header (headers back) ≡ true
-split-others lines front back whole all =
-    let both : (is_header front && list_all is_header (headers back)) ≡ true = sym (ap (list_all is_header) whole) ∙ all in
-    (and_parts _ _ both).1

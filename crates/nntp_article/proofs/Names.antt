@@ -3,8 +3,7 @@ use Rattle.std.proofs.Common.{◌≡◌, Bool, true, false, not, List, [], ◌�
 use Rattle.std.specs.Prelude.{◌&&◌, ◌||◌}
 use Rattle.std.specs.Borrow.{Bor}
 use Rattle.std.specs.declared.cmp.Ordering.{Ordering}
-use Rattle.std.specs.declared.cmp.Ordering.TheVariants.{Less, Equal, Greater}
-use Rattle.std.specs.Ordering.{nat_cmp, is_eq, match_ordering}
+use Rattle.std.specs.Ordering.{nat_cmp, is_eq}
 use Rattle.std.specs.Cmp.Lexicographic.{slice_cmp}
 use Rattle.std.specs.FinMap as map
 use Rattle.std.specs.List.{list_all, list_any}
@@ -15,29 +14,7 @@ use Rattle.std.proofs.lemmas.Map.Text.{is_eq-slice_cmp}
 use Rattle.nntp_wire.specs.Listing.{ActiveValue}
 use Rattle.nntp_article.specs.Spool.{Name}
 use Rattle.nntp_article.specs.Machine.{is_same, names_differ}
-
--- ---- a test over the keys of a set, once one was put among them
-
-or_swap : (a b c : Bool) → (a || (b || c)) ≡ (b || (a || c))
-or_swap true true c = refl
-or_swap true false c = refl
-or_swap false b c = refl
-
-or_again : (a b : Bool) → (a || b) ≡ (a || (a || b))
-or_again true b = refl
-or_again false b = refl
-
-any-insert_key : {K : Type 0} (R : K → K → Ordering) (t : K → Bool) (k : K) (ks : List K) → ((x : K) → R k x ≡ Equal → t x ≡ t k) → list_any t (insert_key R ks k) ≡ (t k || list_any t ks)
-any-insert_key R t k [] same = refl
-any-insert_key R t k (x ∷ ks) same = by (R k x) (same x) (any-insert_key R t k ks same)
-  where
-    by : (r : Ordering) → (r ≡ Equal → t x ≡ t k) → list_any t (insert_key R ks k) ≡ (t k || list_any t ks)
-        → list_any t (match_ordering r (k ∷ x ∷ ks) (x ∷ ks) (x ∷ insert_key R ks k)) ≡ (t k || (t x || list_any t ks))
-    by Less same more = refl
-    by Equal same more = rw (same refl) (or_again (t k) (list_any t ks))
-    by Greater same more = ap (λ b. t x || b) more ∙ or_swap (t x) (t k) (list_any t ks)
-
--- ---- names
+use Rattle.nntp_article.proofs.SetKeys.{any-insert_key}
 
 abbrev ref_cmp : Bor Name → Bor Name → Ordering
 ref_cmp a b = slice_cmp nat_cmp a.now b.now

@@ -21,9 +21,6 @@ pub record NoneEmpty (article left : List Line) (count : ℕ) : Type 0 where
   pub is_count : length done ≡ count
   pub fits : length article < 2 ^ 64
 
-pub none_empty-start : (article lines : List Line) → lines ≡ article → length article < 2 ^ 64 → NoneEmpty article lines 0
-none_empty-start article lines is fits = record { done = []; whole = sym is; none = refl; is_count = refl; fits = fits }
-
 -- a line with octets is passed over
 pub none_empty-more : (article before left : List Line) (line : Line) (count : ℕ) (empty : Bool) → NoneEmpty article before count → before ≡ line ∷ left → empty ≡ (length line == 0) → empty ≡ false → NoneEmpty article left (count + 1)
 none_empty-more article before left [] count empty n e is some = absurd (false≢true (sym some ∙ is))
@@ -55,7 +52,3 @@ parted article before left head rest body [] count empty n e is h head_is rest_i
       head_is = front ∙ sym (ap head_part whole ∙ p.0);
       body_is = body_is ∙ ap (drop 1) back ∙ sym (ap body_part whole ∙ p.1);
     }
-
--- at the end there is no empty line
-pub not_parted : (article left : List Line) (count : ℕ) → NoneEmpty article left count → left ≡ [] → list_any is_empty article ≡ false
-not_parted article left count n e = ap (list_any is_empty) (n.whole ∙ ap (λ t. n.done ++ t) e ∙ append-nil n.done) ∙ n.none

@@ -24,7 +24,7 @@ pub use head::Head;
 pub use header::{Header, Headers, content};
 pub use missing_headers::Missing;
 pub use parts::Parts;
-pub use profile::{LIMIT, Profile};
+pub use profile::{LIMIT, PROFILE_31_BITS, Profile};
 pub use required_headers::missing;
 pub use said_id::lines_say;
 pub use visible::{Visible, is_generic_failure, is_success};

@@ -9,3 +9,6 @@ pub struct Profile {
     /// The greatest article number.
     pub limit: u64,
 }
+
+/// What sessions and spools are judged by: article numbers of 31 bits.
+pub const PROFILE_31_BITS: Profile = Profile { limit: LIMIT };

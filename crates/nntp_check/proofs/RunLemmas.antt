@@ -3,7 +3,7 @@ use Rattle.std.proofs.Common.{◌≡◌, ◌∙◌, sym, subst, ℕ, Bool, List,
 use Rattle.std.proofs.lemmas.List.{append-nil}
 use Rattle.std.specs.Io.KnownBytes.{Appends}
 use Rattle.nntp_article.specs.Spool.{Spool, IsSpool}
-use Rattle.nntp_spool.specs.Limit.{profile_31_bits}
+use Rattle.nntp_article.specs.Limit.{profile_31_bits}
 use Rattle.nntp_spool.specs.Text.{spool_text}
 use Rattle.nntp_spool.specs.Verifying.{IsVerified}
 use Rattle.nntp_spool.specs.Writing.{Wrote}

@@ -4,7 +4,8 @@ ghost use Rattle.nntp_check.specs.Judging.{pair_class_of};
 
 use crate::verdict::Class;
 use nntp_pair::Exchange;
-use nntp_spool::{LIMIT, Spool, SpoolBuilder};
+use nntp_article::LIMIT;
+use nntp_spool::{Spool, SpoolBuilder};
 use nntp_wire::{Answer, Command, Prompt};
 use std::alloc::{AllocError, Allocator};
 use std::collections::BTreeMap;

@@ -37,10 +37,3 @@ given_map asks stand =
       | ByShown met few ↦ given_of_shown asks (len (shown_map asks)) (counted asks) (no_more asks met)
       | ByMore e x few ↦ given_of_more asks (len (shown_map asks)) e (counted asks) x
     ]
-
--- where shown numbers begin with 1, asks that stand together with more stand together
-pub front_stands : (xs ys : List Ask) → ((n : ℕ) → IsTrue (is_shown (xs ++ ys) n) → 1 ≤ n) → AsksStand (xs ++ ys) → AsksStand xs
-front_stands xs ys positive stand =
-    let given = given_map (xs ++ ys) stand in
-    asks_stand xs given.0 (all_front (Meets given.0) xs ys (given_meet (xs ++ ys) given.0 stand given.1))
-    (λ n i. elim ((given.1 n).0 i) [ inl s ↦ positive n s | inr x ↦ x.first.0 ])

@@ -18,29 +18,10 @@ use Rattle.nntp_facts.specs.Facts.{Fact, ThereIsNo, GroupsAre}
 use Rattle.nntp_facts.specs.Given.{shows_group, is_shown_group}
 use Rattle.nntp_facts.specs.Together.{denies_group}
 use Rattle.nntp_facts.specs.Kept.{KeptNames, AreKeptNames}
+use Rattle.nntp_article.proofs.SetKeys.{any-insert_key}
 use Rattle.nntp_facts.proofs.OneGroup.{flip_text}
 
 -- ---- keys of a set
-
-or_swap : (a b c : Bool) → (a || (b || c)) ≡ (b || (a || c))
-or_swap true true c = refl
-or_swap true false c = refl
-or_swap false b c = refl
-
-or_again : (a b : Bool) → (a || b) ≡ (a || (a || b))
-or_again true b = refl
-or_again false b = refl
-
--- a test of one of the keys, once one was put among them
-any-insert_key : {K : Type 0} (R : K → K → Ordering) (t : K → Bool) (k : K) (ks : List K) → ((x : K) → R k x ≡ Equal → t x ≡ t k) → list_any t (insert_key R ks k) ≡ (t k || list_any t ks)
-any-insert_key R t k [] same = refl
-any-insert_key R t k (x ∷ ks) same = by (R k x) (same x) (any-insert_key R t k ks same)
-  where
-    by : (r : Ordering) → (r ≡ Equal → t x ≡ t k) → list_any t (insert_key R ks k) ≡ (t k || list_any t ks)
-        → list_any t (match_ordering r (k ∷ x ∷ ks) (x ∷ ks) (x ∷ insert_key R ks k)) ≡ (t k || (t x || list_any t ks))
-    by Less same more = refl
-    by Equal same more = rw (same refl) (or_again (t k) (list_any t ks))
-    by Greater same more = ap (λ b. t x || b) more ∙ or_swap (t x) (t k) (list_any t ks)
 
 any-map : {X Y : Type 0} (p : Y → Bool) (f : X → Y) (xs : List X) → list_any p (map f xs) ≡ list_any (λ x. p (f x)) xs
 any-map p f [] = refl

@@ -125,10 +125,6 @@ module _ (asks : List Ask) where
 found_is : (asks : List Ask) (d : Demand) (n : ℕ) → IsTrue (is_shown asks n) → wants d n ≡ true → ((m : ℕ) → (is_shown asks m && wants d m) ≡ false) → ⊥
 found_is asks d n s w none = true≢false (sym (and_from (is_shown asks n) (wants d n) s w) ∙ none n)
 
--- where the demand wants a number, and what is shown meets it, such a number is found
-met_found : (asks : List Ask) (d : Demand) (n : ℕ) → wants d n ≡ true → MeetsDemand d (λ n. IsTrue (is_shown asks n)) → ((m : ℕ) → (is_shown asks m && wants d m) ≡ false) → ⊥
-met_found asks d n w met none = let c = wanted_there (λ n. IsTrue (is_shown asks n)) d n met w in found_is asks d c.0 c.1 c.2 none
-
 -- there is one first free number
 free_once : (denied : ℕ → Bool) (a b : ℕ) → IsFirstFree denied a → IsFirstFree denied b → a ≡ b
 free_once denied a b x y =

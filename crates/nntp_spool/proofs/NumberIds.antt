@@ -19,7 +19,7 @@ use Rattle.nntp_article.specs.Spool.{Numbers}
 use Rattle.nntp_spool.specs.Ascending.{is_last}
 use Rattle.nntp_spool.specs.Numbers.{has_id}
 use Rattle.nntp_spool.specs.Numbers.{is_free, with_number, AreIdsOf}
-use Rattle.nntp_spool.proofs.SetKeys.{or_swap, any-insert_key}
+use Rattle.nntp_article.proofs.SetKeys.{or_swap, any-insert_key}
 use Rattle.nntp_spool.proofs.MapEntries.{tied_itself, apart, all_got}
 use Rattle.nntp_spool.proofs.NumbersInOrder.{either_false, all_passed, entries-empty}
 use Rattle.nntp_spool.proofs.ItemsOfText.{octet_keys}

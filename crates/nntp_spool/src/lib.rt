@@ -10,6 +10,6 @@ mod watched;
 
 pub use output::{WriteFault, put};
 pub use text::{Kind, ReadFault};
-pub use value::{Article, Counts, LIMIT, Spool, SpoolBuilder, SpoolFault};
+pub use value::{Article, Counts, Spool, SpoolBuilder, SpoolFault};
 pub use verification::{Verified, verify};
 pub use watched::Watched;

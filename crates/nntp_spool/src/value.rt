@@ -2,7 +2,6 @@
 pub(crate) mod article;
 mod builder;
 pub(crate) mod content;
-pub(crate) mod limit;
 pub(crate) mod numbers;
 mod spool;
 mod spool_fault;
@@ -12,6 +11,5 @@ pub(crate) mod well_formed;
 
 pub use article::Article;
 pub use builder::SpoolBuilder;
-pub use limit::LIMIT;
 pub use spool::{Counts, Spool};
 pub use spool_fault::SpoolFault;

@@ -1,6 +1,6 @@
 //! Whether a given spool explains a session.
 ghost use Rattle.std.specs.Prelude.{◌≡◌, IfOk};
-ghost use Rattle.nntp_spool.specs.Limit.{profile_31_bits};
+ghost use Rattle.nntp_article.specs.Limit.{profile_31_bits};
 ghost use Rattle.nntp_spool.specs.Verifying.{IsVerified};
 
 mod agreement;
@@ -11,7 +11,7 @@ mod session;
 mod verified;
 
 use crate::value::Spool;
-use crate::value::limit::PROFILE;
+use nntp_article::PROFILE_31_BITS;
 use nntp_pair::{Pairs, Step};
 use session::Session;
 use std::alloc::{AllocError, Allocator};
@@ -34,7 +34,7 @@ pub fn verify<A: Allocator + Copy>(
     loop {
         match pairs.next() {
             Step::Exchange(exchange) => {
-                if !session.may_answer(PROFILE, content, &exchange)? {
+                if !session.may_answer(PROFILE_31_BITS, content, &exchange)? {
                     return Ok(Verified::Refuses { index: answers });
                 }
                 session.advance(content, &exchange)?;

@@ -8,13 +8,6 @@ use Rattle.nntp_wire.proofs.FrameLemmas.{one_line, occurs-behind}
 use Rattle.nntp_wire.proofs.SpellLemmas.{stuffed-line}
 use Rattle.nntp_wire.proofs.BlockLemmas.{received-sent}
 
--- octets without CRLF send no line
-pub sent-line : (rest : List ℕ) → 0 < length rest → HasNoCrlf rest → IsSent rest → ⊥
-sent-line rest some none (lines, sends) = at lines sends.whole where
-  at : (lines : List (List ℕ)) → rest ≡ sent lines → ⊥
-  at [] whole = absurd (omega (arith, ap length whole))
-  at (l ∷ ls) whole = none (length (stuffed l)) (rw (whole, append_assoc (stuffed l) crlf (sent ls)) (occurs-behind (stuffed l) crlf (sent ls)))
-
 clean-append : (xs ys : List (List ℕ)) → AreClean xs → AreClean ys → AreClean (xs ++ ys)
 clean-append [] ys a b = b
 clean-append (x ∷ xs) ys a b = (a.0, clean-append xs ys a.1 b)

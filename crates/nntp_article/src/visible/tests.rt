@@ -1,5 +1,5 @@
 //! What a session shows of its state, answer by answer.
-use crate::{LIMIT, Profile, Visible};
+use crate::{PROFILE_31_BITS, Visible};
 use nntp_wire::{Answer, Command, Malformed, Prompt, frame};
 use std::test::Fail;
 
@@ -22,7 +22,7 @@ fn state_after(rt: &HostRuntime, rows: &[Row]) -> Result<Visible, Fail> {
         let Ok(answer) = answer else {
             return Err("malformed".into());
         };
-        if visible.fits(Profile { limit: LIMIT }, &prompt, &answer)? != *fits {
+        if visible.fits(PROFILE_31_BITS, &prompt, &answer)? != *fits {
             return Err("fits otherwise".into());
         }
         if *fits {

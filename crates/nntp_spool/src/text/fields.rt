@@ -3,13 +3,13 @@ ghost use Rattle.std.specs.Prelude.{◌≡◌, ◌≤◌, ◌^◌, ◌∷◌, []
 ghost use Rattle.nntp_spool.specs.Reading.{Gives, line_at};
 ghost use Rattle.nntp_spool.specs.Fields.{fields_of, are_digits, is_decimal, is_count, value_of, item_of, number_and_id, content_of};
 ghost use Rattle.nntp_article.specs.Machine.{is_num};
-ghost use Rattle.nntp_spool.specs.Limit.{profile_31_bits};
+ghost use Rattle.nntp_article.specs.Limit.{profile_31_bits};
 ghost use Rattle.nntp_spool.specs.ReadingView.{place_shown, item_shown, words_from};
 
 use crate::text::place::{Item, Place};
 use crate::text::read_fault::{Kind, ReadError, ReadFault};
-use crate::value::limit::LIMIT;
 use crate::value::well_formed::is_line;
+use nntp_article::PROFILE_31_BITS;
 
 pub(crate) fn fault(line: u64, kind: Kind) -> ReadError
     ensures { result ≡ ReadError.Fault (record { line = line; kind = kind }) }
@@ -187,7 +187,7 @@ pub(crate) fn article_number(digits: &[u8]) -> Option<u64>
 {
     match value(digits) {
         Some(number) => {
-            if number < 1 || number > LIMIT {
+            if number < 1 || number > PROFILE_31_BITS.limit {
                 None
             } else {
                 Some(number)

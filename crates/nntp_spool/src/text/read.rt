@@ -1,6 +1,6 @@
 //! The parts of a spool's text, read line by line.
 ghost use Rattle.std.specs.Prelude.{◌≡◌, ℕ, true, length, false, IfOk, IfErr};
-ghost use Rattle.nntp_spool.specs.Limit.{profile_31_bits};
+ghost use Rattle.nntp_article.specs.Limit.{profile_31_bits};
 ghost use Rattle.nntp_spool.specs.Reading.{Gives, parts_of, is_end, content_at, contents_at, number_in, number_at, numbers_at, group_at, article_at, item_at, items_at, item_then, spool_at};
 ghost use Rattle.nntp_spool.specs.Fields.{End};
 ghost use Rattle.nntp_spool.specs.ReadingView.{place_shown, turn_shown};

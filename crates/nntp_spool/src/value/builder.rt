@@ -2,7 +2,7 @@
 ghost use Rattle.std.specs.Prelude.{◌≡◌, false};
 ghost use Rattle.std.specs.FinMap as map;
 ghost use Rattle.nntp_article.specs.Spool.{numbers as numbers_of};
-ghost use Rattle.nntp_spool.specs.Limit.{profile_31_bits};
+ghost use Rattle.nntp_article.specs.Limit.{profile_31_bits};
 ghost use Rattle.nntp_spool.specs.Building.{Builds, group_fault, number_fault, article_fault, finished};
 ghost use Rattle.nntp_spool.specs.Content.{with_group, with_article, no_spool};
 ghost use Rattle.nntp_spool.specs.ArticleLines.{text_of_article};
@@ -10,10 +10,10 @@ ghost use Rattle.nntp_spool.specs.ArticleLines.{text_of_article};
 use crate::value::Spool;
 use crate::value::article::Article;
 use crate::value::content::Content;
-use crate::value::limit::LIMIT;
 use crate::value::numbers::Numbers;
 use crate::value::spool_fault::SpoolFault;
 use crate::value::well_formed::{are_lines, is_head_of, is_id, is_name};
+use nntp_article::PROFILE_31_BITS;
 use std::alloc::{AllocError, Allocator, Global};
 use std::marker::Model;
 
@@ -28,7 +28,7 @@ pub struct SpoolBuilder<A: Allocator = Global> {
 impl<A: Allocator> Model for SpoolBuilder<A> {
     ghost use Rattle.nntp_spool.specs.Building.{Building, coded_building};
     ghost use Rattle.nntp_spool.specs.Content.{IsContent};
-    ghost use Rattle.nntp_spool.specs.Limit.{profile_31_bits};
+    ghost use Rattle.nntp_article.specs.Limit.{profile_31_bits};
 
     ghost Value = { Building };
 
@@ -64,7 +64,7 @@ fn number_fault<A: Allocator>(
     let Some(numbers) = content.group(name) else {
         return Some(SpoolFault::UnknownGroup);
     };
-    if number < 1 || number > LIMIT {
+    if number < 1 || number > PROFILE_31_BITS.limit {
         return Some(SpoolFault::BadNumber);
     }
     if !is_id(id) {

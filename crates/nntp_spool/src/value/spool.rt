@@ -3,7 +3,7 @@ ghost use Rattle.std.specs.Prelude.{◌≡◌};
 ghost use Rattle.std.specs.FinMap.{len};
 ghost use Rattle.nntp_article.specs.Spool.{IsSpool};
 ghost use Rattle.nntp_spool.specs.Counts.{numbers_in};
-ghost use Rattle.nntp_spool.specs.Limit.{profile_31_bits};
+ghost use Rattle.nntp_article.specs.Limit.{profile_31_bits};
 
 use crate::value::content::Content;
 use std::alloc::{Allocator, Global};
@@ -29,7 +29,7 @@ pub struct Spool<A: Allocator = Global> {
 impl<A: Allocator> Model for Spool<A> {
     ghost use Rattle.nntp_article.specs.Spool.{Spool as SpoolValue, IsSpool};
     ghost use Rattle.nntp_spool.specs.Codes.{coded_spool};
-    ghost use Rattle.nntp_spool.specs.Limit.{profile_31_bits};
+    ghost use Rattle.nntp_article.specs.Limit.{profile_31_bits};
 
     ghost Value = { SpoolValue };
 

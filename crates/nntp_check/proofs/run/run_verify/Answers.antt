@@ -1,7 +1,7 @@
 use Rattle.std.proofs.Common.{ℕ, List, refl, subst}
 use Rattle.std.proofs.lemmas.Result.{err_from_is_err_and}
 use Rattle.nntp_article.specs.Spool.{Spool, IsSpool}
-use Rattle.nntp_spool.specs.Limit.{profile_31_bits}
+use Rattle.nntp_article.specs.Limit.{profile_31_bits}
 use Rattle.nntp_spool.specs.Writing.{Wrote}
 use Rattle.nntp_check.specs.Report.{is_permitted}
 use Rattle.nntp_check.proofs.RunLemmas.{verify-reports, wrote-all}

@@ -4,7 +4,7 @@ use Rattle.std.proofs.lemmas.Bool.{true≢false}
 use Rattle.nntp_pair.specs.Pairing.{asked_at}
 use Rattle.nntp_article.specs.Spool.{Spool}
 use Rattle.nntp_article.specs.Machine.{MayAnswer}
-use Rattle.nntp_spool.specs.Limit.{profile_31_bits}
+use Rattle.nntp_article.specs.Limit.{profile_31_bits}
 use Rattle.nntp_spool.proofs.VerifiedPairs.{Permitted, one_more_pair, not_permitted, answers_nothing, all_permitted}
 use Rattle.nntp_spool.proofs.verification.verify.Goals as goal
 

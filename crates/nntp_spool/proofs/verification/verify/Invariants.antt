@@ -1,5 +1,5 @@
 use Rattle.std.proofs.Common.{length}
-use Rattle.nntp_spool.specs.Limit.{profile_31_bits}
+use Rattle.nntp_article.specs.Limit.{profile_31_bits}
 use Rattle.nntp_spool.proofs.VerifiedPairs.{Permitted}
 use Rattle.nntp_spool.proofs.verification.verify.Given as goal
 

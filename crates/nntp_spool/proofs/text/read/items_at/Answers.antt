@@ -1,5 +1,5 @@
 use Rattle.std.proofs.Common.{Ok, ap, ◌∙◌}
-use Rattle.nntp_spool.specs.Limit.{profile_31_bits}
+use Rattle.nntp_article.specs.Limit.{profile_31_bits}
 use Rattle.nntp_spool.specs.ReadingView.{turn_shown}
 use Rattle.nntp_spool.proofs.RepeatedSteps.{item_goes_on}
 use Rattle.nntp_spool.proofs.text.read.items_at.Goals as goal

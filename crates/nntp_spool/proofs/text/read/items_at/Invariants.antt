@@ -1,6 +1,6 @@
 use Rattle.std.proofs.Common.{◌≡◌, ◌-◌, false}
 use Rattle.nntp_spool.specs.Reading.{items_at}
-use Rattle.nntp_spool.specs.Limit.{profile_31_bits}
+use Rattle.nntp_article.specs.Limit.{profile_31_bits}
 use Rattle.nntp_spool.specs.ReadingView.{place_shown}
 use Rattle.nntp_spool.proofs.text.read.items_at.Given as goal
 

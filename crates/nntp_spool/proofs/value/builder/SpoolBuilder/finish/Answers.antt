@@ -1,5 +1,5 @@
 use Rattle.std.proofs.Common.{sym, ◌∙◌}
-use Rattle.nntp_spool.specs.Limit.{profile_31_bits}
+use Rattle.nntp_article.specs.Limit.{profile_31_bits}
 use Rattle.nntp_spool.proofs.WholeSpools.{to_spool}
 use Rattle.nntp_spool.proofs.value.builder.SpoolBuilder.finish.Goals as goal
 

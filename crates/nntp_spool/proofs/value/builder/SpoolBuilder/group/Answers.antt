@@ -1,5 +1,5 @@
 use Rattle.std.proofs.Common.{subst, sym, ap, ◌∙◌}
-use Rattle.nntp_spool.specs.Limit.{profile_31_bits}
+use Rattle.nntp_article.specs.Limit.{profile_31_bits}
 use Rattle.nntp_spool.specs.Content.{IsContent}
 use Rattle.nntp_spool.specs.Content.{with_group}
 use Rattle.nntp_spool.proofs.BuiltContent.{group_added}

@@ -1,5 +1,5 @@
 use Rattle.std.proofs.Common.{inl, sym, ap, ◌∙◌, arith}
-use Rattle.nntp_spool.specs.Limit.{profile_31_bits}
+use Rattle.nntp_article.specs.Limit.{profile_31_bits}
 use Rattle.nntp_spool.specs.Text.{spool_text}
 use Rattle.nntp_spool.proofs.WholeSpools.{read_is_text, read_is_same, fault_is_no_text}
 use Rattle.nntp_spool.proofs.value.spool.Spool.read.Goals as goal
