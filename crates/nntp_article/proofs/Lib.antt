@@ -16,3 +16,4 @@ pub mod HeadParts
 pub mod ArticleLaws
 pub mod Ascends
 pub mod Names
+pub mod SetKeys

@@ -8,3 +8,4 @@ pub mod Control
 pub mod Required
 pub mod SaidId
 pub mod View
+pub mod Limit

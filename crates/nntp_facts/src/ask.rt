@@ -1,4 +1,11 @@
 //! What an answer says of the numbers of a group (RFC 3977, section 6.1).
+ghost use Rattle.std.specs.Prelude.{◌≡◌};
+ghost use Rattle.nntp_wire.specs.View.{asked};
+ghost use Rattle.nntp_wire.specs.AnswerView.{response};
+ghost use Rattle.nntp_facts.specs.Asks.{position_after};
+ghost use Rattle.nntp_facts.specs.AskView.{position_of};
+
+use nntp_wire::{Answer, Command, Prompt, Which};
 
 /// Where the session stands in the selected group.
 #[derive(Clone, Copy)]
@@ -8,6 +15,28 @@ pub(crate) enum Position {
     First,
     /// At a number that was shown.
     Known(u64),
+}
+
+impl Position {
+    /// Where an answer leaves the session.
+    pub(crate) fn after(self, prompt: &Prompt<'_>, answer: &Answer<'_>) -> Position
+        ensures { position_of result ≡ position_after (position_of self) (asked prompt.now) (response answer.now) }
+    {
+        match (prompt, answer) {
+            (_, Answer::Group { .. } | Answer::Numbers { .. }) => Position::First,
+            (Prompt::To(Command::Next | Command::Last), Answer::Sent { number, .. }) => Position::Known(
+                *number,
+            ),
+            (
+                Prompt::To(Command::Retrieve {
+                    which: Which::Number(_) | Which::Current,
+                    ..
+                }),
+                Answer::Sent { number, .. },
+            ) => Position::Known(*number),
+            _ => self,
+        }
+    }
 }
 
 /// One thing that an answer says of the numbers of a group.

@@ -23,7 +23,6 @@ pub mod Firsts
 pub mod ListedNumbers
 pub mod ListedGroups
 pub mod VerifiedPairs
-pub mod SetKeys
 pub mod NumberIds
 pub mod GreatestKeys
 pub mod MatchingGroups

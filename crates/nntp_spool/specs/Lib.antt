@@ -3,7 +3,6 @@ pub mod Writing
 pub mod Codes
 pub mod ArticleLines
 pub mod Text
-pub mod Limit
 pub mod Fields
 pub mod Reading
 pub mod ReadingView

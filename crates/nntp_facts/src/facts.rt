@@ -1,0 +1,101 @@
+//! What the accepted exchanges of a session say of the spool.
+ghost use Rattle.std.specs.Prelude.{◌≡◌, true, false, List, [], IfOk, Err};
+ghost use Rattle.nntp_article.specs.Limit.{profile_31_bits};
+ghost use Rattle.nntp_pair.specs.Pairing.{Paired};
+ghost use Rattle.nntp_facts.specs.Noted.{Stands, IsDue, IsNoted, Notes};
+
+use crate::ask::Position;
+use crate::kept::Kept;
+use crate::noted::{FactsError, Noted};
+use crate::saying::Saying;
+use nntp_article::{PROFILE_31_BITS, Profile, Visible};
+use nntp_pair::Exchange;
+use std::alloc::{AllocError, Allocator, Global};
+use std::marker::Model;
+
+/// What the accepted exchanges of a session say of every spool that permits them.
+#[derive(Drop)]
+pub struct Facts<A: Allocator = Global> {
+    alloc: A,
+    profile: Profile,
+    /// How many exchanges were accepted.
+    count: u64,
+    visible: Visible<A>,
+    /// Where the session stands in the selected group.
+    position: Position,
+    kept: Kept<A>,
+    has_failed: bool,
+}
+
+impl<A: Allocator> Model for Facts<A> {
+    ghost use Rattle.nntp_facts.specs.Noted.{FactsKept};
+    ghost use Rattle.nntp_facts.specs.AskView.{position_of};
+    ghost use Rattle.nntp_facts.specs.KeptView.{coded_facts};
+
+    ghost Value = { FactsKept };
+
+    ghost coded = { coded_facts };
+
+    ghost view = { λ f. record { profile = f.profile; count = f.count; visible = f.visible; position = position_of f.position; kept = f.kept; has_failed = f.has_failed } };
+}
+
+impl<A: Allocator + Copy> Facts<A> {
+    /// Of no exchanges. Article numbers have 31 bits (RFC 3977, section 6).
+    pub fn new(alloc: A) -> Facts<A>
+        ensures stands { Stands result [] }
+        ensures profile { result.profile ≡ profile_31_bits }
+    {
+        Facts {
+            alloc,
+            profile: PROFILE_31_BITS,
+            count: 0,
+            visible: Visible::new(alloc),
+            position: Position::Nowhere,
+            kept: Kept::new(alloc),
+            has_failed: false,
+        }
+    }
+
+    /// Accepts the exchange, if some spool permits it together with those that were accepted before.
+    ///
+    /// # Errors
+    ///
+    /// `Memory` where memory was refused; from then on `Failed`.
+    pub fn note(&mut self, exchange: &Exchange<'_>) -> Result<Noted, FactsError>
+        requires { self.old.has_failed ≡ false → IsDue self.old exchange.now }
+        ensures noted { (past : List Paired) → Stands self.old past → Notes past exchange.now self.old self.new result }
+        ensures failed { self.old.has_failed ≡ true → (result ≡ Err FactsError.Failed) × (self.new ≡ self.old) }
+    {
+        if self.has_failed {
+            return Err(FactsError::Failed);
+        }
+        match self.try_note(exchange) {
+            Ok(noted) => Ok(noted),
+            Err(_) => {
+                self.has_failed = true;
+                Err(FactsError::Memory)
+            }
+        }
+    }
+
+    /// The same, where memory wasn't refused before. After an error the value says nothing of use.
+    fn try_note(&mut self, exchange: &Exchange<'_>) -> Result<Noted, AllocError>
+        requires { IsDue self.old exchange.now }
+        ensures { IfOk result (λ noted. (past : List Paired) → Stands self.old past → IsNoted past exchange.now self.old self.new noted) }
+    {
+        let prompt = exchange.prompt();
+        let answer = exchange.answer();
+        if !self.visible.fits(self.profile, prompt, answer)? {
+            return Ok(Noted::OutOfPlace);
+        }
+        let saying = Saying::of(self.alloc, self.position, prompt, answer)?;
+        if !self.kept.joins(self.visible.selected_name(), &saying)? {
+            return Ok(Noted::Contradiction);
+        }
+        self.kept.add(self.visible.selected_name(), &saying)?;
+        self.visible.advance(prompt, answer)?;
+        self.position = self.position.after(prompt, answer);
+        self.count = exchange.index() + 1;
+        Ok(Noted::Consistent)
+    }
+}
