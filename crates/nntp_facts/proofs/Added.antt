@@ -211,9 +211,16 @@ nothing_shown asks possible none is few =
 above : (n low high : ℕ) → high < 2 ^ 64 → 2 ^ 64 ≤ n → ((nat_lt n low || nat_lt high n) || false) ≡ true
 above n low high lt ge = or_left (nat_lt n low || nat_lt high n) false (or_right (nat_lt n low) (nat_lt high n) (lt-ltb high n (omega arith)))
 
+-- what a 211 reports stands together by itself
+pub estimate_stands : (m : WaterMarks) → AsksStand (Estimates m ∷ [])
+estimate_stands m = nothing_shown (Estimates m ∷ []) (refl, tt) (λ n. refl) refl (and_from (nat_le 0 m.estimate) true (le-leb 0 m.estimate (omega arith)) refl)
+
+-- and so do the marks of a listed group
+pub bounds_stand : (low high : ℕ) → AsksStand (Bounds low high ∷ [])
+bounds_stand low high = nothing_shown (Bounds low high ∷ []) (refl, tt) (λ n. refl) refl refl
+
 pub selected : (g : Summary) (m : WaterMarks) → m.high < 2 ^ 64 → (((n : ℕ) → 2 ^ 64 ≤ n → is_denied (Estimates m ∷ []) n ≡ true) → IsSummary g (Estimates m ∷ [])) → Stands g (Estimates m ∷ [])
-selected g m lt is =
-    (is (λ n ge. above n m.low m.high lt ge), nothing_shown (Estimates m ∷ []) (refl, tt) (λ n. refl) refl (and_from (nat_le 0 m.estimate) true (le-leb 0 m.estimate (omega arith)) refl))
+selected g m lt is = (is (λ n ge. above n m.low m.high lt ge), estimate_stands m)
 
 pub listed : (g : Summary) (low high : ℕ) → high < 2 ^ 64 → (((n : ℕ) → 2 ^ 64 ≤ n → is_denied (Bounds low high ∷ []) n ≡ true) → IsSummary g (Bounds low high ∷ [])) → Stands g (Bounds low high ∷ [])
-listed g low high lt is = (is (λ n ge. above n low high lt ge), nothing_shown (Bounds low high ∷ []) (refl, tt) (λ n. refl) refl refl)
+listed g low high lt is = (is (λ n ge. above n low high lt ge), bounds_stand low high)

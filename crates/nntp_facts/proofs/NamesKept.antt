@@ -78,7 +78,7 @@ or_behind false false false true = refl
 or_behind false false false false = refl
 
 -- a name that isn't shown wasn't before
-not_before : (facts more : List Fact) (name : Name) → is_shown_group (facts ++ more) name ≡ false → is_shown_group facts name ≡ false
+pub not_before : (facts more : List Fact) (name : Name) → is_shown_group (facts ++ more) name ≡ false → is_shown_group facts name ≡ false
 not_before facts more name e = by (is_shown_group facts name) refl
   where
     by : (b : Bool) → is_shown_group facts name ≡ b → b ≡ false

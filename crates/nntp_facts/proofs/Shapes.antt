@@ -9,10 +9,13 @@ use Rattle.nntp_wire.specs.declared.command.What.{What}
 use Rattle.nntp_article.specs.Article.{Id, Line}
 use Rattle.nntp_article.specs.Spool.{Name}
 use Rattle.nntp_article.specs.Machine.{is_same}
-use Rattle.nntp_facts.specs.Asks.{Ask, Has}
+use Rattle.nntp_facts.specs.Asks.{Ask, Has, StandsAt}
 use Rattle.nntp_facts.specs.Facts.{Fact, ThereIs, ThereIsNo, Asks, IdAt, TextIs, NoArticle}
 use Rattle.nntp_facts.specs.Given.{asks_of, shows_group, is_shown_group, first_given, id_in, head_in, body_in, mentions, gives_article}
 use Rattle.nntp_facts.specs.Together.{IsWellFormed, AsksStand, denies_group, number_in, shows_article, denies_article, Together, JoinArticles, Join}
+use Rattle.nntp_facts.specs.AskView.{position_of}
+use Rattle.nntp_facts.specs.SayingView.{facts_placed, asks_placed}
+use Rattle.nntp_facts.specs.declared.ask.Position.{Position}
 use Rattle.nntp_facts.proofs.Silent.{SayNoNames, names_join, GiveNoIds, ids_join, SayNoArticles, articles_join, numbers_join, no_numbers_join}
 use Rattle.nntp_facts.proofs.OneGroup.{AskOf, asked_here, asked_elsewhere, GiveId, IsOr, id_joins, same_self}
 
@@ -73,7 +76,7 @@ module _ (here : Name) where
   stepping_ids ask n id = record { ids = λ name m. some_if (is_same here name && n == m) id; places = λ name i. some_if (is_same here name && is_same id i) n }
 
   -- the step's id has an article
-  stepping_articles : (facts : List Fact) (ask : Ask) (n : ℕ) (id : Id) → JoinArticles facts (stepping ask n id) ↔ JoinArticles facts (IdAt here n id ∷ [])
+  pub stepping_articles : (facts : List Fact) (ask : Ask) (n : ℕ) (id : Id) → JoinArticles facts (stepping ask n id) ↔ JoinArticles facts (IdAt here n id ∷ [])
   stepping_articles facts ask n id = (
     λ j. record { articles = j.articles; no_articles = j.no_articles; heads = j.heads; bodies = j.bodies },
     λ j. record { articles = j.articles; no_articles = j.no_articles; heads = j.heads; bodies = j.bodies },
@@ -94,53 +97,44 @@ module _ (here : Name) where
 
   -- ---- a success with a number
 
-  -- the asks of a success, and the number of its id
-  abbrev pub placing : What → Id → Option (List Line) → Option Ask → ℕ → List Fact
-  placing what id lines None n = TextIs what id lines ∷ IdAt here n id ∷ []
-  placing what id lines (Some ask) n = TextIs what id lines ∷ Asks here ask ∷ IdAt here n id ∷ []
-
-  abbrev pub asks_placing : Option Ask → ℕ → List Ask
-  asks_placing None n = Has n ∷ []
-  asks_placing (Some ask) n = ask ∷ Has n ∷ []
-
-  pub placing_asks : (what : What) (id : Id) (lines : Option (List Line)) (ask : Option Ask) (n : ℕ) → AskOf here (asks_placing ask n) (placing what id lines ask n)
+  pub placing_asks : (what : What) (id : Id) (lines : Option (List Line)) (at : Option Position) (n : ℕ) → AskOf here (asks_placed at n) (facts_placed here what id lines at n)
   placing_asks what id lines None n name = one_if (is_same here name) (Has n)
-  placing_asks what id lines (Some ask) n name = two_if (is_same here name) ask (Has n)
+  placing_asks what id lines (Some at) n name = two_if (is_same here name) (StandsAt (position_of at) n) (Has n)
 
-  pub placing_names : (what : What) (id : Id) (lines : Option (List Line)) (ask : Option Ask) (n : ℕ) → SayNoNames (placing what id lines ask n)
+  pub placing_names : (what : What) (id : Id) (lines : Option (List Line)) (at : Option Position) (n : ℕ) → SayNoNames (facts_placed here what id lines at n)
   placing_names what id lines None n = record { shown = λ name. refl; denied = λ name. refl }
-  placing_names what id lines (Some ask) n = record { shown = λ name. refl; denied = λ name. refl }
+  placing_names what id lines (Some at) n = record { shown = λ name. refl; denied = λ name. refl }
 
-  pub placing_ids : (what : What) (id : Id) (lines : Option (List Line)) (ask : Option Ask) (n : ℕ) → GiveId here n id (placing what id lines ask n)
+  pub placing_ids : (what : What) (id : Id) (lines : Option (List Line)) (at : Option Position) (n : ℕ) → GiveId here n id (facts_placed here what id lines at n)
   placing_ids what id lines None n = record { ids = λ name m. some_if (is_same here name && n == m) id; places = λ name i. some_if (is_same here name && is_same id i) n }
-  placing_ids what id lines (Some ask) n = record { ids = λ name m. some_if (is_same here name && n == m) id; places = λ name i. some_if (is_same here name && is_same id i) n }
+  placing_ids what id lines (Some at) n = record { ids = λ name m. some_if (is_same here name && n == m) id; places = λ name i. some_if (is_same here name && is_same id i) n }
 
   or_twice : (b : Bool) → (b || (b || false)) ≡ (b || false)
   or_twice true = refl
   or_twice false = refl
 
   -- the number says nothing more of the article
-  pub placing_articles : (facts : List Fact) (what : What) (id : Id) (lines : Option (List Line)) (ask : Option Ask) (n : ℕ) → JoinArticles facts (placing what id lines ask n) ↔ JoinArticles facts (TextIs what id lines ∷ [])
+  pub placing_articles : (facts : List Fact) (what : What) (id : Id) (lines : Option (List Line)) (at : Option Position) (n : ℕ) → JoinArticles facts (facts_placed here what id lines at n) ↔ JoinArticles facts (TextIs what id lines ∷ [])
   placing_articles facts what id lines None n = (
     λ j. record { articles = λ i s. j.articles i (or_twice (is_same id i) ∙ s); no_articles = j.no_articles; heads = j.heads; bodies = j.bodies },
     λ j. record { articles = λ i s. j.articles i (sym (or_twice (is_same id i)) ∙ s); no_articles = j.no_articles; heads = j.heads; bodies = j.bodies },
   )
-  placing_articles facts what id lines (Some ask) n = (
+  placing_articles facts what id lines (Some at) n = (
     λ j. record { articles = λ i s. j.articles i (or_twice (is_same id i) ∙ s); no_articles = j.no_articles; heads = j.heads; bodies = j.bodies },
     λ j. record { articles = λ i s. j.articles i (sym (or_twice (is_same id i)) ∙ s); no_articles = j.no_articles; heads = j.heads; bodies = j.bodies },
   )
 
-  pub placing_joins : (facts : List Fact) (what : What) (id : Id) (lines : Option (List Line)) (ask : Option Ask) (n : ℕ) → Together facts → AllByRecursion IsWellFormed (placing what id lines ask n)
-      → Join facts (placing what id lines ask n)
-      ↔ (AsksStand (asks_of here facts ++ asks_placing ask n) × (IsOr (first_given (id_in here n) facts) id × IsOr (first_given (number_in here id) facts) n) × JoinArticles facts (TextIs what id lines ∷ []))
-  placing_joins facts what id lines ask n t wf =
-      let more = placing what id lines ask n in
-      let asks = asks_placing ask n in
-      let numbers = numbers_join facts more here asks t (asked_here here asks more (placing_asks what id lines ask n)) (asked_elsewhere here asks more (placing_asks what id lines ask n)) in
-      let ids = id_joins facts more here n id (placing_ids what id lines ask n) in
-      let articles = placing_articles facts what id lines ask n in (
+  pub placing_joins : (facts : List Fact) (what : What) (id : Id) (lines : Option (List Line)) (at : Option Position) (n : ℕ) → Together facts → AllByRecursion IsWellFormed (facts_placed here what id lines at n)
+      → Join facts (facts_placed here what id lines at n)
+      ↔ (AsksStand (asks_of here facts ++ asks_placed at n) × (IsOr (first_given (id_in here n) facts) id × IsOr (first_given (number_in here id) facts) n) × JoinArticles facts (TextIs what id lines ∷ []))
+  placing_joins facts what id lines at n t wf =
+      let more = facts_placed here what id lines at n in
+      let asks = asks_placed at n in
+      let numbers = numbers_join facts more here asks t (asked_here here asks more (placing_asks what id lines at n)) (asked_elsewhere here asks more (placing_asks what id lines at n)) in
+      let ids = id_joins facts more here n id (placing_ids what id lines at n) in
+      let articles = placing_articles facts what id lines at n in (
         λ j. (numbers.0 j.numbers, ids.0 j.ids, articles.0 j.articles),
-        λ h. record { well_formed = wf; names = names_join facts more (placing_names what id lines ask n); numbers = numbers.1 h.0; ids = ids.1 h.1; articles = articles.1 h.2 },
+        λ h. record { well_formed = wf; names = names_join facts more (placing_names what id lines at n); numbers = numbers.1 h.0; ids = ids.1 h.1; articles = articles.1 h.2 },
       )
 
   -- ---- a group that is selected
@@ -209,6 +203,17 @@ module _ (here : Name) where
           articles = articles_join facts more (selecting_articles asks);
         },
       )
+
+-- ---- nothing
+
+pub nothing_joins : (facts : List Fact) → Together facts → Join facts []
+nothing_joins facts t = record {
+  well_formed = tt;
+  names = names_join facts [] (record { shown = λ name. refl; denied = λ name. refl });
+  numbers = no_numbers_join facts [] t (λ name. refl);
+  ids = ids_join facts [] (record { ids = λ name n. refl; places = λ name id. refl });
+  articles = articles_join facts [] (record { shown = λ id. refl; denied = λ id. refl; mentioned = λ id. refl; sent = λ id. refl; heads = λ id. refl; bodies = λ id. refl });
+}
 
 -- ---- articles alone
 

@@ -31,14 +31,6 @@ names_join facts more silent = record {
   no_groups = λ name d. absurd (true≢false (sym d ∙ silent.denied name));
 }
 
-pub names_kept : (facts more : List Fact) (k : KeptNames) → SayNoNames more → AreKeptNames facts k → AreKeptNames (facts ++ more) k
-names_kept facts more k silent kept = record {
-  wildmats = kept.wildmats;
-  denied = λ name not_shown.
-      any_silent (denies_group name) facts more (silent.denied name)
-      ∙ kept.denied name (sym (any_silent (shows_group name) facts more (silent.shown name)) ∙ not_shown);
-}
-
 -- ---- ids at numbers
 
 -- the facts give no id at a number

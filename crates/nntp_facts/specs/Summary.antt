@@ -86,9 +86,13 @@ pub record Says (p : Said) (asks : List Ask) : Type 0 where
   pub estimating : (n : ℕ) → is_within p.estimate n ≡ is_within_all asks n
   pub demanding : p.demand ≡ demand asks
 
+-- the ask shows no other number
+abbrev pub ShowsNoOther : Ask → ℕ → Type 0
+ShowsNoOther ask n = (m : ℕ) → shows ask m ≡ true → n ≡ m
+
 -- q says what p says of one ask, and that n is there, where the ask shows no other number
 abbrev pub SaysToo : Said → ℕ → Said → Type 0
-SaysToo p n q = (ask : Ask) → Says p (ask ∷ []) → ((m : ℕ) → shows ask m ≡ true → n ≡ m) → Says q (ask ∷ Has n ∷ [])
+SaysToo p n q = (ask : Ask) → Says p (ask ∷ []) → ShowsNoOther ask n → Says q (ask ∷ Has n ∷ [])
 
 -- the part shows the number
 abbrev pub part_shows : Option ℕ → ℕ → Bool

@@ -2,10 +2,10 @@
 ghost use Rattle.std.specs.Prelude.{◌≡◌};
 ghost use Rattle.nntp_wire.specs.View.{asked};
 ghost use Rattle.nntp_wire.specs.AnswerView.{response};
-ghost use Rattle.nntp_facts.specs.Asks.{position_after};
-ghost use Rattle.nntp_facts.specs.AskView.{position_of};
+ghost use Rattle.nntp_facts.specs.Asks.{position_after, Estimates};
+ghost use Rattle.nntp_facts.specs.AskView.{position_of, ask_of};
 
-use nntp_wire::{Answer, Command, Prompt, Which};
+use nntp_wire::{Answer, Command, Prompt, WaterMarks, Which};
 
 /// Where the session stands in the selected group.
 #[derive(Clone, Copy)]
@@ -15,6 +15,19 @@ pub(crate) enum Position {
     First,
     /// At a number that was shown.
     Known(u64),
+}
+
+impl Ask {
+    /// That there are at most so many, between the marks.
+    pub(crate) fn estimates(marks: WaterMarks) -> Ask
+        ensures { ask_of result ≡ Estimates marks }
+    {
+        Ask::Estimates {
+            estimate: marks.estimate,
+            low: marks.low,
+            high: marks.high,
+        }
+    }
 }
 
 impl Position {

@@ -12,6 +12,7 @@ ghost use Rattle.nntp_facts.specs.ListingView.{asks_listed};
 use crate::listing::Listing;
 use crate::numbers::Numbers;
 use crate::part::Part;
+use nntp_wire::WaterMarks;
 use std::alloc::{AllocError, Allocator, Global};
 use std::collections::{BTreeMap, BTreeSet};
 use std::marker::Model;
@@ -41,16 +42,11 @@ impl<A: Allocator> Model for Group<A> {
 
 impl<A: Allocator + Copy> Group<A> {
     /// Of a group of which it is said that there are at most so many numbers, between the marks.
-    pub(crate) fn of_marks(
-        alloc: A,
-        estimate: u64,
-        low: u64,
-        high: u64,
-    ) -> Result<Group<A>, AllocError>
-        ensures numbers { IfOk result (λ g. Stands g.numbers (Estimates (record { estimate = estimate; low = low; high = high }) ∷ [])) }
+    pub(crate) fn of_marks(alloc: A, marks: WaterMarks) -> Result<Group<A>, AllocError>
+        ensures numbers { IfOk result (λ g. Stands g.numbers (Estimates marks ∷ [])) }
         ensures ids { IfOk result (λ g. (g.ids ≡ empty) × (g.places ≡ empty)) }
     {
-        let numbers = Numbers::of_marks(alloc, estimate, low, high)?;
+        let numbers = Numbers::of_marks(alloc, marks.estimate, marks.low, marks.high)?;
         Ok(Group::with_numbers(alloc, numbers))
     }
 

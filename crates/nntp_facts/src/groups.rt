@@ -14,6 +14,7 @@ use crate::ask::Ask;
 use crate::group::Group;
 use crate::listing::Listing;
 use crate::part::Part;
+use nntp_wire::WaterMarks;
 use std::alloc::{AllocError, Allocator, Global};
 use std::collections::BTreeMap;
 use std::marker::Model;
@@ -94,25 +95,14 @@ impl<A: Allocator + Copy> Groups<A> {
 
     /// Adds that there is such a group, with so many numbers at most, between the marks. After an error
     /// the value says nothing of use.
-    pub(crate) fn select(
-        &mut self,
-        name: &[u8],
-        estimate: u64,
-        low: u64,
-        high: u64,
-    ) -> Result<(), AllocError>
+    pub(crate) fn select(&mut self, name: &[u8], marks: WaterMarks) -> Result<(), AllocError>
         ensures { OnOk result ((before after : Name → Told) → AreKept before self.old
-            → Changes before after name.now (with_asks (before name.now) (Estimates (record { estimate = estimate; low = low; high = high }) ∷ [])) → AreKept after self.new) }
+            → Changes before after name.now (with_asks (before name.now) (Estimates marks ∷ [])) → AreKept after self.new) }
     {
         if self.is_shown(name) {
-            let part = Part::of(Ask::Estimates {
-                estimate,
-                low,
-                high,
-            });
-            return self.add(name, &part);
+            return self.add(name, &Part::of(Ask::estimates(marks)));
         }
-        let group = Group::of_marks(self.alloc, estimate, low, high)?;
+        let group = Group::of_marks(self.alloc, marks)?;
         self.put(name, group)
     }
 
@@ -137,7 +127,7 @@ impl<A: Allocator + Copy> Groups<A> {
         if self.is_shown(name) {
             return self.add_listing(name, listing);
         }
-        let mut group = Group::of_marks(self.alloc, listing.estimate, listing.low, listing.high)?;
+        let mut group = Group::of_marks(self.alloc, listing.marks())?;
         group.add_listing(listing)?;
         self.put(name, group)
     }
@@ -163,12 +153,7 @@ impl<A: Allocator + Copy> Groups<A> {
         match self.get(name) {
             Some(group) => Ok(group.joins_listing(listing)),
             None => {
-                let group = Group::of_marks(
-                    self.alloc,
-                    listing.estimate,
-                    listing.low,
-                    listing.high,
-                )?;
+                let group = Group::of_marks(self.alloc, listing.marks())?;
                 Ok(group.joins_listing(listing))
             }
         }

@@ -1,19 +1,27 @@
 //! What all answers so far say of the spool.
-ghost use Rattle.std.specs.Prelude.{◌≡◌, ◌↔◌, ◌++◌, [], List, IsTrue, IfOk, OnOk};
-ghost use Rattle.std.specs.List.{AllByRecursion};
-ghost use Rattle.nntp_facts.specs.Facts.{Fact};
-ghost use Rattle.nntp_facts.specs.Together.{IsWellFormed, Together, Join};
+ghost use Rattle.std.specs.Prelude.{◌≡◌, ◌↔◌, ◌++◌, ◌∷◌, [], true, List, IsTrue, IsFalse, IfSome, IfOk, OnOk};
+ghost use Rattle.std.specs.List.{AllByRecursion, list_any};
+ghost use Rattle.nntp_article.specs.Machine.{head_fits};
+ghost use Rattle.nntp_facts.specs.Asks as asks_said;
+ghost use Rattle.nntp_facts.specs.Asks.{Estimates, ListsIn};
+ghost use Rattle.nntp_facts.specs.Facts.{Fact, Asks, IdAt};
+ghost use Rattle.nntp_facts.specs.Given.{asks_of, is_shown_group, first_given, id_in};
+ghost use Rattle.nntp_facts.specs.Together.{IsWellFormed, AsksStand, denies_group, number_in, Together, Join};
+ghost use Rattle.nntp_facts.specs.Summary.{said, Says, ShowsNoOther};
+ghost use Rattle.nntp_facts.specs.Listing.{AreListable};
+ghost use Rattle.nntp_facts.specs.ListingView.{asks_listed};
 ghost use Rattle.nntp_facts.specs.Kept.{IsKept};
-ghost use Rattle.nntp_facts.specs.SayingView.{facts_said, MaySay};
+ghost use Rattle.nntp_facts.specs.AskView.{ask_of};
+ghost use Rattle.nntp_facts.specs.SayingView.{facts_said, facts_placed, asks_placed, MaySay};
 
 use crate::articles::Articles;
-use crate::ask::Ask;
+use crate::ask::{Ask, Position};
 use crate::groups::Groups;
 use crate::listing::Listing;
 use crate::names::Names;
 use crate::part::Part;
 use crate::saying::Saying;
-use nntp_wire::GroupName;
+use nntp_wire::{Block, GroupName, Range, WaterMarks, What};
 use std::alloc::{AllocError, Allocator, Global};
 use std::marker::Model;
 
@@ -57,7 +65,33 @@ impl<A: Allocator + Copy> Kept<A> {
     {
         match saying {
             Saying::Nothing => Ok(true),
-            _ => Ok(false),
+            Saying::NoGroup(name) => Ok(!self.groups.is_shown(*name)),
+            Saying::NoArticle(id) => Ok(self.articles.may_lack(*id)),
+            Saying::Asks(ask) => Ok(self.groups.joins(here, &Part::of(*ask))),
+            Saying::Group { marks, name } => {
+                Ok(self.may_select(*name, &Part::of(Ask::estimates(*marks))))
+            }
+            Saying::Numbers {
+                marks,
+                name,
+                range,
+                numbers,
+            } => self.may_list(*name, &listing(*marks, *range, numbers.as_slice())),
+            Saying::StepUp { at, number, id } => {
+                Ok(self.may_step(here, Ask::StepsUp(*at, *number), *number, *id))
+            }
+            Saying::StepDown { at, number, id } => {
+                Ok(self.may_step(here, Ask::StepsDown(*at, *number), *number, *id))
+            }
+            Saying::Text { what, id, block } => Ok(self.articles.may_send(*what, *id, *block)),
+            Saying::Placed {
+                what,
+                id,
+                block,
+                at,
+                number,
+            } => Ok(self.may_send_at(here, *what, *id, *block, *at, *number)),
+            Saying::Groups { .. } => Ok(false),
         }
     }
 
@@ -66,6 +100,149 @@ impl<A: Allocator + Copy> Kept<A> {
         ensures { OnOk result ((facts : List Fact) → IsKept facts self.old → MaySay facts here.now saying.now → Join facts (facts_said here.now saying.now)
             → IsKept (facts ++ facts_said here.now saying.now) self.new) }
     {
-        Ok(())
+        match saying {
+            Saying::Nothing => Ok(()),
+            Saying::NoGroup(name) => self.names.deny(self.alloc, *name),
+            Saying::NoArticle(id) => self.articles.lack(*id),
+            Saying::Asks(ask) => self.groups.add(here, &Part::of(*ask)),
+            Saying::Group { marks, name } => self.groups.select(name.as_slice(), *marks),
+            Saying::Numbers {
+                marks,
+                name,
+                range,
+                numbers,
+            } => {
+                let listing = listing(*marks, *range, numbers.as_slice());
+                self.groups.list(name.as_slice(), &listing)
+            }
+            Saying::StepUp { at, number, id } => {
+                self.step(here, Ask::StepsUp(*at, *number), *number, *id)
+            }
+            Saying::StepDown { at, number, id } => {
+                self.step(here, Ask::StepsDown(*at, *number), *number, *id)
+            }
+            Saying::Text { what, id, block } => self.articles.send(*what, *id, *block),
+            Saying::Placed {
+                what,
+                id,
+                block,
+                at,
+                number,
+            } => self.send_at(here, *what, *id, *block, *at, *number),
+            Saying::Groups { .. } => Ok(()),
+        }
+    }
+
+    /// Whether the name may be that of a group of which LISTGROUP says this.
+    fn may_list(&self, name: &GroupName<'_>, listing: &Listing<'_>) -> Result<bool, AllocError>
+        ensures { IfOk result (λ may. (facts : List Fact) → IsKept facts self.now → Together facts → AreListable listing.now.range listing.now.numbers.now
+            → IsTrue may ↔ (IsFalse (list_any (denies_group name.now) facts) × AsksStand (asks_of name.now facts ++ asks_listed listing.now))) }
+    {
+        if !self.may_be(name) {
+            return Ok(false);
+        }
+        self.groups.joins_listing(name.as_slice(), listing)
+    }
+
+    /// Adds a step in a group that is shown. After an error the value says nothing of use.
+    fn step(&mut self, name: &[u8], ask: Ask, number: u64, id: &[u8]) -> Result<(), AllocError>
+        ensures { OnOk result ((facts : List Fact) → IsKept facts self.old → is_shown_group facts name.now ≡ true → ShowsNoOther (ask_of ask) number
+            → Join facts (Asks name.now (ask_of ask) ∷ IdAt name.now number id.now ∷ [])
+            → IsKept (facts ++ Asks name.now (ask_of ask) ∷ IdAt name.now number id.now ∷ []) self.new) }
+    {
+        let part = Part::of(ask).with_number(number);
+        self.groups.place(name, &part, number, id)?;
+        self.articles.stand(id)
+    }
+
+    /// Adds a success with a number of a group that is shown. After an error the value says nothing of use.
+    fn send_at(
+        &mut self,
+        name: &[u8],
+        what: What,
+        id: &[u8],
+        block: &Option<Block<'_>>,
+        at: Option<Position>,
+        number: u64,
+    ) -> Result<(), AllocError>
+        ensures { OnOk result ((facts : List Fact) → IsKept facts self.old → is_shown_group facts name.now ≡ true → IsTrue (head_fits what id.now block.now)
+            → Join facts (facts_placed name.now what id.now block.now at number) → IsKept (facts ++ facts_placed name.now what id.now block.now at number) self.new) }
+    {
+        self.groups
+            .place(name, &placing(at, number), number, id)?;
+        self.articles.send(what, id, block)
+    }
+}
+
+impl<A: Allocator> Kept<A> {
+    /// Whether the name may be that of a group.
+    pub(crate) fn may_be(&self, name: &GroupName<'_>) -> bool
+        ensures { (facts : List Fact) → IsKept facts self.now → Together facts → IsTrue result ↔ IsFalse (list_any (denies_group name.now) facts) }
+    {
+        self.groups.is_shown(name.as_slice()) || !self.names.denies(name)
+    }
+
+    /// Whether the name may be that of a group of which the part says this.
+    fn may_select(&self, name: &GroupName<'_>, part: &Part) -> bool
+        ensures { (facts : List Fact) (asks : List asks_said.Ask) → IsKept facts self.now → Together facts → Says (said part.now) asks → AsksStand asks
+            → IsTrue result ↔ (IsFalse (list_any (denies_group name.now) facts) × AsksStand (asks_of name.now facts ++ asks)) }
+    {
+        self.may_be(name) && self.groups.joins(name.as_slice(), part)
+    }
+
+    /// Whether a step in a group that is shown may be so.
+    fn may_step(&self, name: &[u8], ask: Ask, number: u64, id: &[u8]) -> bool
+        ensures { (facts : List Fact) → IsKept facts self.now → Together facts → is_shown_group facts name.now ≡ true → ShowsNoOther (ask_of ask) number
+            → AllByRecursion IsWellFormed (Asks name.now (ask_of ask) ∷ IdAt name.now number id.now ∷ [])
+            → IsTrue result ↔ Join facts (Asks name.now (ask_of ask) ∷ IdAt name.now number id.now ∷ []) }
+    {
+        let part = Part::of(ask).with_number(number);
+        self.may_place(name, &part, number, id) && self.articles.may_stand(id)
+    }
+
+    /// Whether a success with a number of a group that is shown may be so.
+    fn may_send_at(
+        &self,
+        name: &[u8],
+        what: What,
+        id: &[u8],
+        block: &Option<Block<'_>>,
+        at: Option<Position>,
+        number: u64,
+    ) -> bool
+        ensures { (facts : List Fact) → IsKept facts self.now → Together facts → is_shown_group facts name.now ≡ true → IsTrue (head_fits what id.now block.now)
+            → AllByRecursion IsWellFormed (facts_placed name.now what id.now block.now at number)
+            → IsTrue result ↔ Join facts (facts_placed name.now what id.now block.now at number) }
+    {
+        self.may_place(name, &placing(at, number), number, id)
+            && self.articles.may_send(what, id, block)
+    }
+
+    /// Whether the number of a group that is shown may be what the part says, and have the id.
+    fn may_place(&self, name: &[u8], part: &Part, number: u64, id: &[u8]) -> bool
+        ensures { (facts : List Fact) (asks : List asks_said.Ask) → IsKept facts self.now → Together facts → is_shown_group facts name.now ≡ true → Says (said part.now) asks
+            → IsTrue result ↔ (AsksStand (asks_of name.now facts ++ asks)
+            × (IfSome (first_given (id_in name.now number) facts) (λ other. id.now ≡ other) × IfSome (first_given (number_in name.now id.now) facts) (λ other. number ≡ other))) }
+    {
+        self.groups.joins(name, part) && self.groups.may_have_id(name, number, id)
+    }
+}
+
+/// What LISTGROUP says of the numbers of a group.
+fn listing(marks: WaterMarks, range: Range, numbers: &[u64]) -> Listing<'_>
+    ensures asks { asks_listed result ≡ Estimates marks ∷ ListsIn range numbers.now ∷ [] }
+    ensures range { result.range ≡ range }
+    ensures numbers { result.numbers.now ≡ numbers.now }
+{
+    Listing::new(marks.estimate, marks.low, marks.high, range, numbers)
+}
+
+/// That the number is there, and is that of the position if there is one.
+fn placing(at: Option<Position>, number: u64) -> Part
+    ensures { Says (said result) (asks_placed at number) }
+{
+    match at {
+        Some(at) => Part::of(Ask::StandsAt(at, number)).with_number(number),
+        None => Part::of(Ask::Has(number)),
     }
 }

@@ -17,10 +17,18 @@ use crate::numbers::deny_outside;
 use crate::shown::{none_outside, show};
 use crate::tally::{Tally, tally_all};
 use nntp_intervals::IntervalSet;
+use nntp_wire::WaterMarks;
 use std::alloc::{AllocError, Allocator};
 use std::collections::BTreeSet;
 
 impl<'a> Listing<'a> {
+    /// The estimate and the marks.
+    pub(crate) fn marks(&self) -> WaterMarks
+        ensures { result ≡ marks_of self.now }
+    {
+        WaterMarks::new(self.estimate, self.low, self.high)
+    }
+
     /// Whether nothing is both shown and denied.
     pub(crate) fn agrees<A: Allocator>(
         &self,

@@ -14,7 +14,8 @@ ghost use Rattle.nntp_facts.specs.SayingView.{facts_said, IsSelectedShown, MaySa
 
 use crate::ask::{Ask, Position};
 use nntp_wire::{
-    Answer, Block, Command, GroupName, MessageId, Prompt, Range, What, Which, Wildmat,
+    Answer, Block, Command, GroupName, MessageId, Prompt, Range, WaterMarks, What, Which,
+    Wildmat,
 };
 use std::alloc::{AllocError, Allocator};
 
@@ -30,23 +31,25 @@ pub(crate) enum Saying<'s, A: Allocator> {
     Asks(Ask),
     /// There is such a group, with so many numbers at most, between the marks.
     Group {
-        estimate: u64,
-        low: u64,
-        high: u64,
+        marks: WaterMarks,
         name: &'s GroupName<'s>,
     },
     /// The same, and these are its numbers in the range.
     Numbers {
-        estimate: u64,
-        low: u64,
-        high: u64,
+        marks: WaterMarks,
         name: &'s GroupName<'s>,
         range: Range,
         numbers: Vec<u64, A>,
     },
-    /// A step in the selected group leads to this number, which has this id.
-    Step {
-        ask: Ask,
+    /// The step up from the position in the selected group leads to this number, which has this id.
+    StepUp {
+        at: Position,
+        number: u64,
+        id: &'s [u8],
+    },
+    /// The same of a step down.
+    StepDown {
+        at: Position,
         number: u64,
         id: &'s [u8],
     },
@@ -56,12 +59,12 @@ pub(crate) enum Saying<'s, A: Allocator> {
         id: &'s [u8],
         block: &'s Option<Block<'s>>,
     },
-    /// The same, and it has this number in the selected group.
+    /// The same, and it has this number in the selected group, at the position if there is one.
     Placed {
         what: What,
         id: &'s [u8],
         block: &'s Option<Block<'s>>,
-        ask: Option<Ask>,
+        at: Option<Position>,
         number: u64,
     },
     /// The groups that match are these.
@@ -111,9 +114,7 @@ impl<'s, A: Allocator + Copy> Saying<'s, A> {
                     name,
                 },
             ) => Ok(Saying::Group {
-                estimate: *estimate,
-                low: *low,
-                high: *high,
+                marks: WaterMarks::new(*estimate, *low, *high),
                 name,
             }),
             (
@@ -126,20 +127,18 @@ impl<'s, A: Allocator + Copy> Saying<'s, A> {
                     block,
                 },
             ) => Ok(Saying::Numbers {
-                estimate: *estimate,
-                low: *low,
-                high: *high,
+                marks: WaterMarks::new(*estimate, *low, *high),
                 name,
                 range: *range,
                 numbers: numbers_of(alloc, block)?,
             }),
-            (Command::Next, Answer::Sent { number, id, .. }) => Ok(Saying::Step {
-                ask: Ask::StepsUp(at, *number),
+            (Command::Next, Answer::Sent { number, id, .. }) => Ok(Saying::StepUp {
+                at,
                 number: *number,
                 id: id.as_slice(),
             }),
-            (Command::Last, Answer::Sent { number, id, .. }) => Ok(Saying::Step {
-                ask: Ask::StepsDown(at, *number),
+            (Command::Last, Answer::Sent { number, id, .. }) => Ok(Saying::StepDown {
+                at,
                 number: *number,
                 id: id.as_slice(),
             }),
@@ -215,14 +214,14 @@ impl<'s, A: Allocator + Copy> Saying<'s, A> {
                 what,
                 id: id.as_slice(),
                 block,
-                ask: None,
+                at: None,
                 number,
             },
             Which::Current => Saying::Placed {
                 what,
                 id: id.as_slice(),
                 block,
-                ask: Some(Ask::StandsAt(at, number)),
+                at: Some(at),
                 number,
             },
         }
@@ -251,7 +250,7 @@ impl<'s, A: Allocator + Copy> Saying<'s, A> {
                 what,
                 id: id.as_slice(),
                 block,
-                ask: None,
+                at: None,
                 number,
             }
         }
