@@ -13,7 +13,7 @@ returns-then-not-branch-2 g c past stands =
     let says = c.answer-answer.ensures in
     let is = c.self.view_is in
     let w = weighed _ _ pair _ _ c.in_ok-saying.saying _ is c.requires c.index-index.ensures.small says.few_lines says.is_spelled c.prompt-prompt.ensures says.value c.in_ok-fits.ensures c.if-not-branch.false
-        c.in_ok-saying.ensures.facts c.in_ok-saying.ensures.fitting in
+    c.in_ok-saying.ensures.facts c.in_ok-saying.ensures.fitting in
     let before = subst (λ facts. Stands facts past) (sym is) stands in
     refused _ _ past pair _ _ is w (tells _ past pair _ _ _ w before c.selected_name.ensures c.in_ok-joins.ensures) c.if-not-branch-2.true
 
@@ -23,7 +23,7 @@ returns g c past stands =
     let says = c.answer-answer.ensures in
     let is = c.self.view_is in
     let w = weighed _ _ pair _ _ c.in_ok-saying.saying _ is c.requires c.index-index.ensures.small says.few_lines says.is_spelled c.prompt-prompt.ensures says.value c.in_ok-fits.ensures c.if-not-branch.false
-        c.in_ok-saying.ensures.facts c.in_ok-saying.ensures.fitting in
+    c.in_ok-saying.ensures.facts c.in_ok-saying.ensures.fitting in
     let before = subst (λ facts. Stands facts past) (sym is) stands in
     let test = tells _ past pair _ _ _ w before c.selected_name.ensures c.in_ok-joins.ensures in
     accepted _ _ _ past pair _ _ is w before (record {
