@@ -22,7 +22,7 @@ pub record IsSelectable (all : List Fact) (name : Name) : Type 0 where
   pub estimated : In (Asks name (Estimates marks)) all
 
 -- the fact is among all
-abbrev Among : List Fact → Fact → Type 0
+abbrev pub Among : List Fact → Fact → Type 0
 Among all fact = In fact all
 
 -- numbers that a fact speaks of are those of such a group
@@ -37,7 +37,7 @@ selectable : (all : List Fact) (name : Name) (m : WaterMarks) → AllByRecursion
 selectable all name m h = record { marks = m; there = h.0; estimated = h.1.0 }
 
 -- the selected group is one
-abbrev Stands : List Fact → Visible → Type 0
+abbrev pub Stands : List Fact → Visible → Type 0
 Stands all v = (name : Name) → v.selected ≡ Some name → IsSelectable all name
 
 -- the selected group, if one is selected, is there
@@ -105,7 +105,7 @@ step_placed profile all v at (to command) (plain code) stands f h = code_placed 
 step_placed profile all v at p a stands f h = tt
 
 -- the group that is selected afterwards is there
-still_stands : (profile : Profile) (all : List Fact) (v : Visible) (at : Position) (p : Asked) (a : Response) → Stands all v → IsTrue (fits profile v p a) → AllByRecursion (Among all) (facts_of v at p a) → Stands all (visible_after v p a)
+pub still_stands : (profile : Profile) (all : List Fact) (v : Visible) (at : Position) (p : Asked) (a : Response) → Stands all v → IsTrue (fits profile v p a) → AllByRecursion (Among all) (facts_of v at p a) → Stands all (visible_after v p a)
 still_stands profile all v at (to (group word)) (group_is m name) stands f h = λ g e. subst (IsSelectable all) (cc) (selectable all name m h)
 still_stands profile all v at p (group_is m name) stands f h = cc
 still_stands profile all v at (to (list_group word range)) (numbers_are m name lines) stands f h = λ g e. subst (IsSelectable all) (cc) (selectable all name m (h.0, (h.1.0, tt)))

@@ -11,7 +11,7 @@ use Rattle.nntp_article.specs.Spool.{Spool}
 use Rattle.nntp_article.specs.Machine.{Visible, State, Run, start, visible_after}
 use Rattle.nntp_facts.specs.Asks.{Position, position_after}
 use Rattle.nntp_facts.specs.Facts.{facts_of, facts_from}
-use Rattle.nntp_facts.specs.Classes.{visible_from, asked_next}
+use Rattle.nntp_facts.specs.Classes.{visible_from, position_from, asked_next}
 use Rattle.nntp_facts.specs.Permits.{SomePermits}
 
 -- octets behind the client's leave its prompts
@@ -51,6 +51,12 @@ pub visible_longer : (v : Visible) (ps qs : List Asked) (answers : List Response
 visible_longer v ps qs [] le = refl
 visible_longer v [] qs (a ∷ more) le = absurd (omega arith)
 visible_longer v (p ∷ ps) qs (a ∷ more) le = visible_longer (visible_after v p a) ps qs more (omega arith)
+
+-- and where the session stands is
+pub position_longer : (at : Position) (ps qs : List Asked) (answers : List Response) → length answers ≤ length ps → position_from at (ps ++ qs) answers ≡ position_from at ps answers
+position_longer at ps qs [] le = refl
+position_longer at [] qs (a ∷ more) le = absurd (omega arith)
+position_longer at (p ∷ ps) qs (a ∷ more) le = position_longer (position_after at p a) ps qs more (omega arith)
 
 -- what is asked next stays
 pub asked_longer : (ps qs : List Asked) (answers : List Response) (asked : Asked) → asked_next ps answers ≡ Some asked → asked_next (ps ++ qs) answers ≡ Some asked

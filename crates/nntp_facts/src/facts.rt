@@ -83,6 +83,7 @@ impl<A: Allocator + Copy> Facts<A> {
         requires { IsDue self.old exchange.now }
         ensures { IfOk result (λ noted. (past : List Paired) → Stands self.old past → IsNoted past exchange.now self.old self.new noted) }
     {
+        let index = exchange.index();
         let prompt = exchange.prompt();
         let answer = exchange.answer();
         if !self.visible.fits(self.profile, prompt, answer)? {
@@ -95,7 +96,7 @@ impl<A: Allocator + Copy> Facts<A> {
         self.kept.add(self.visible.selected_name(), &saying)?;
         self.visible.advance(prompt, answer)?;
         self.position = self.position.after(prompt, answer);
-        self.count = exchange.index() + 1;
+        self.count = index + 1;
         Ok(Noted::Consistent)
     }
 }

@@ -1,0 +1,15 @@
+use Rattle.std.proofs.Common.{[], refl}
+use Rattle.nntp_article.specs.Limit.{profile_31_bits}
+use Rattle.nntp_facts.proofs.FirstBad.{none_permitted}
+use Rattle.nntp_facts.proofs.facts.Facts.new.Goals as goal
+
+pub returns-clause-stands : goal.returns-clause-stands
+returns-clause-stands g c = record {
+  is_whole = refl;
+  count = refl;
+  visible = c.new.ensures;
+  position = refl;
+  kept = c.new-2.ensures;
+  permitted = none_permitted profile_31_bits [] [];
+  lines = tt;
+}
