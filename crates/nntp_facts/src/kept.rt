@@ -1,8 +1,8 @@
 //! What all answers so far say of the spool.
-ghost use Rattle.std.specs.Prelude.{◌≡◌, ◌↔◌, ◌++◌, [], List, IsTrue, IfOk, OnOk};
-ghost use Rattle.std.specs.List.{AllByRecursion};
+ghost use Rattle.std.specs.Prelude.{◌≡◌, ◌↔◌, ◌++◌, [], List, IsTrue, IsFalse, IfOk, OnOk};
+ghost use Rattle.std.specs.List.{AllByRecursion, list_any};
 ghost use Rattle.nntp_facts.specs.Facts.{Fact};
-ghost use Rattle.nntp_facts.specs.Together.{IsWellFormed, Together, Join};
+ghost use Rattle.nntp_facts.specs.Together.{IsWellFormed, Together, Join, denies_group};
 ghost use Rattle.nntp_facts.specs.Kept.{IsKept};
 ghost use Rattle.nntp_facts.specs.SayingView.{facts_said, MaySay};
 
@@ -67,5 +67,14 @@ impl<A: Allocator + Copy> Kept<A> {
             → IsKept (facts ++ facts_said here.now saying.now) self.new) }
     {
         Ok(())
+    }
+}
+
+impl<A: Allocator> Kept<A> {
+    /// Whether there may be a group of the name: no answer denies it.
+    pub(crate) fn may_be(&self, name: &GroupName<'_>) -> bool
+        ensures { (facts : List Fact) → IsKept facts self.now → Together facts → IsTrue result ↔ IsFalse (list_any (denies_group name.now) facts) }
+    {
+        self.groups.is_shown(name.as_slice()) || !self.names.denies(name)
     }
 }
