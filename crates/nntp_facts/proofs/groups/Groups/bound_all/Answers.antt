@@ -1,21 +1,31 @@
-use Rattle.std.proofs.Common.{rules, ◌≡◌, ℕ, ◌↔◌, ◌&&◌, ◌++◌, ◌∷◌, [], true, not, List, Option, IsTrue, IfOk, OnOk, ◌+◌, ◌-◌, ◌*◌, ◌<◌, ◌≤◌, length, ◌/◌, ◌%◌, Bool, false, nat_eq, nat_lt, slice_index_or, slice_set, bit_and, bit_or, Fits, w8, w32, w64, Bor, MutBor}
-use Rattle.std.specs.List.{list_any}
-use Rattle.std.specs.Option.{option_map_or}
-use Rattle.std.specs.BTreeMap.{keys}
-use Rattle.nntp_wire.specs.Decided.{is_group_name, matches_name}
-use Rattle.nntp_wire.specs.Listing.{active_groups}
-use Rattle.nntp_article.specs.Spool.{Name}
-use Rattle.nntp_article.specs.Machine.{is_same}
-use Rattle.nntp_facts.specs.Facts.{Fact, GroupsAre}
-use Rattle.nntp_facts.specs.Together.{Together}
-use Rattle.nntp_facts.specs.Kept.{AreKeptGroups}
-use Rattle.nntp_facts.specs.ListedGroups.{is_listed, is_missing, NoneIsMissing}
+use Rattle.std.proofs.Common.{[], ◌∷◌, ◌++◌, sym, ap, subst, ◌∙◌, append_assoc}
+use Rattle.nntp_wire.specs.Listing.{ActiveValue}
+use Rattle.nntp_wire.specs.View.{active_value}
+use Rattle.nntp_facts.specs.Asks.{Bounds}
+use Rattle.nntp_facts.specs.Kept.{told, with_asks, Changes}
+use Rattle.nntp_facts.proofs.BoundGroups.{none_bound, one_more_bound, listing}
 use Rattle.nntp_facts.proofs.groups.Groups.bound_all.Goals as goal
 
--- src/groups/listed.rt:41:9
 pub loop-group-init : goal.loop-group-init
-loop-group-init g c = ?
+loop-group-init g c = (
+  tt,
+  tt,
+  [],
+  c.into_iter-group-iterator.ensures.into_iter_gives ∙ c.groups-group-items.ensures.listed,
+  λ facts wildmat. none_bound facts wildmat c.args.self.now,
+)
 
--- src/groups/listed.rt:41:9
 pub loop-group-preserved : goal.loop-group-preserved
-loop-group-preserved g c = ?
+loop-group-preserved g c =
+    let so_far = c.loop-group.invariant.2 in
+    let line : ActiveValue = active_value c.in-Some.group in
+    (
+      tt,
+      tt,
+      so_far ++ line ∷ [],
+      append_assoc so_far (line ∷ []) c.next.new.self ∙ ap (λ lines. so_far ++ lines) (sym c.in-Some.ensures.steps) ∙ c.loop-group.invariant.3,
+      λ facts wildmat kept.
+          c.in_ok-bound.ensures (told (listing facts wildmat so_far)) (told (listing facts wildmat (so_far ++ line ∷ []))) (c.loop-group.invariant.4 facts wildmat kept)
+          (subst (λ name. Changes (told (listing facts wildmat so_far)) (told (listing facts wildmat (so_far ++ line ∷ []))) name (with_asks (told (listing facts wildmat so_far) name) (Bounds line.low line.high ∷ [])))
+          (sym c.as_slice.ensures.value) (one_more_bound facts wildmat so_far line)),
+    )
