@@ -215,5 +215,9 @@ pub selected : (g : Summary) (m : WaterMarks) → m.high < 2 ^ 64 → (((n : ℕ
 selected g m lt is =
     (is (λ n ge. above n m.low m.high lt ge), nothing_shown (Estimates m ∷ []) (refl, tt) (λ n. refl) refl (and_from (nat_le 0 m.estimate) true (le-leb 0 m.estimate (omega arith)) refl))
 
+-- bounds alone stand together
+pub bounds_stand : (low high : ℕ) → AsksStand (Bounds low high ∷ [])
+bounds_stand low high = nothing_shown (Bounds low high ∷ []) (refl, tt) (λ n. refl) refl refl
+
 pub listed : (g : Summary) (low high : ℕ) → high < 2 ^ 64 → (((n : ℕ) → 2 ^ 64 ≤ n → is_denied (Bounds low high ∷ []) n ≡ true) → IsSummary g (Bounds low high ∷ [])) → Stands g (Bounds low high ∷ [])
-listed g low high lt is = (is (λ n ge. above n low high lt ge), nothing_shown (Bounds low high ∷ []) (refl, tt) (λ n. refl) refl refl)
+listed g low high lt is = (is (λ n ge. above n low high lt ge), bounds_stand low high)

@@ -6,6 +6,8 @@ ghost use Rattle.nntp_facts.specs.Together.{IsWellFormed, Together, Join, denies
 ghost use Rattle.nntp_facts.specs.Kept.{IsKept};
 ghost use Rattle.nntp_facts.specs.SayingView.{facts_said, MaySay};
 
+mod listed_groups;
+
 use crate::articles::Articles;
 use crate::ask::Ask;
 use crate::groups::Groups;
