@@ -18,8 +18,7 @@ loop-group-init g c = (
 pub loop-group-preserved : goal.loop-group-preserved
 loop-group-preserved g c =
     let so_far = c.loop-group.invariant.2 in
-    let line : ActiveValue = active_value c.in-Some.group in
-    (
+    let line : ActiveValue = active_value c.in-Some.group in (
       tt,
       tt,
       so_far ++ line ∷ [],

@@ -14,5 +14,5 @@ returns-then-may_be g c facts kept t =
     let k = subst (IsKept facts) (sym c.self.view_is) kept in
     let line : ActiveValue = active_value c.args.line.now in
     let stands : IsTrue c.joins.result ↔ AsksStand (asks_of line.name facts ++ Bounds line.low line.high ∷ []) = subst (λ name. IsTrue c.joins.result ↔ AsksStand (asks_of name facts ++ Bounds line.low line.high ∷ [])) c.as_slice.ensures.value
-        (c.joins.ensures (told facts) (Bounds line.low line.high ∷ []) k.groups (t.numbers c.as_slice.result.now) (λ _. bounds_stand line.low line.high) c.of-part.ensures) in
+    (c.joins.ensures (told facts) (Bounds line.low line.high ∷ []) k.groups (t.numbers c.as_slice.result.now) (λ _. bounds_stand line.low line.high) c.of-part.ensures) in
     (λ joins. record { free = (c.if-may_be.ensures facts kept t).0 refl; bounds = stands.0 joins }, λ joins. stands.1 joins.bounds)

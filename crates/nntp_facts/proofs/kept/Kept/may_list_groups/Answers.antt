@@ -1,4 +1,4 @@
-use Rattle.std.proofs.Common.{true, refl, sym, subst}
+use Rattle.std.proofs.Common.{refl, sym, subst}
 use Rattle.std.proofs.lemmas.Bool.{true≢false}
 use Rattle.nntp_wire.specs.Listing.{active_groups}
 use Rattle.nntp_facts.specs.Kept.{IsKept}
