@@ -11,10 +11,11 @@ use Rattle.nntp_article.specs.Article.{is_empty, is_head, said_id, head_part, bo
 use Rattle.nntp_article.specs.Spool.{Spool, Text, IsNumber, IsGroup, numbers, IsSpool, Name, is_line}
 use Rattle.nntp_article.specs.declared.profile.Profile.{Profile}
 use Rattle.nntp_article.specs.Machine.{is_same, says_own_id}
-use Rattle.nntp_facts.specs.Facts.{Fact, ThereIs, TextIs, GroupsAre}
-use Rattle.nntp_facts.specs.Given.{shows_group, mentions, is_mentioned, gives_article, id_shown, first_given, head_in, body_in, plain_head}
+use Rattle.nntp_facts.specs.Facts.{Fact, TextIs}
+use Rattle.nntp_facts.specs.Given.{mentions, is_mentioned, gives_article, id_shown, first_given, head_in, body_in, plain_head}
 use Rattle.nntp_facts.specs.Together.{IsWellFormed, number_in}
 use Rattle.nntp_facts.proofs.Members.{In, all_at, all_both, any_in, found_in, first_found}
+use Rattle.nntp_facts.proofs.ShownNames.{shown_named}
 use Rattle.nntp_facts.proofs.PlainHead.{plain_says, plain_is_head, plain_is_clean}
 use Rattle.nntp_facts.proofs.Fitting.{IsFitting}
 use Rattle.nntp_facts.proofs.Limits.{free_in_limit, shown_in_limit}
@@ -54,14 +55,7 @@ module _ (profile : Profile) (B : ℕ) (G : Spool) (facts : List Fact) (s : Sett
 
   -- names of groups are such
   name_is : (name : Name) → IsGroup G name → IsGroupName name
-  name_is name i = let f = found_in (shows_group name) facts ((s.given.groups name).0 i) in by f.0 (formed f.0 f.1) f.2
-    where
-      by : (fact : Fact) → IsWellFormed fact → shows_group name fact ≡ true → IsGroupName name
-      by (ThereIs g) h t = subst IsGroupName (same_text g name (sym t)) h
-      by (GroupsAre p lines) h t =
-          let f = found_in (λ line. is_same line.name name) lines t in
-          subst IsGroupName (same_text f.0.name name (sym f.2)) (all_at (λ line. IsGroupName line.name) f.0 lines h f.1)
-      by fact h t = cc
+  name_is name i = shown_named facts name s.together.well_formed ((s.given.groups name).0 i)
 
   -- the numbers are within the profile
   in_limit : (name : Name) (n : ℕ) → IsNumber (numbers G name) n → (1 ≤ n) × (n ≤ profile.limit)

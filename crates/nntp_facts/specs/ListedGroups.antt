@@ -1,9 +1,9 @@
 -- When a list of groups joins what was said (RFC 3977, section 7.6.3).
-use Rattle.std.specs.Prelude.{◌≡◌, ℕ, Bool, true, IsFalse, List, [], ◌∷◌, ◌++◌, Option}
+use Rattle.std.specs.Prelude.{◌≡◌, ℕ, Bool, true, not, ◌&&◌, IsFalse, List, [], ◌∷◌, ◌++◌, Option}
 use Rattle.std.specs.List.{list_any}
 use Rattle.std.specs.Option.{option_map_or}
 use Rattle.nntp_wire.specs.Listing.{ActiveValue}
-use Rattle.nntp_wire.specs.Decided.{matches_name}
+use Rattle.nntp_wire.specs.Decided.{is_group_name, matches_name}
 use Rattle.nntp_article.specs.Spool.{Name}
 use Rattle.nntp_article.specs.Machine.{is_same}
 use Rattle.nntp_facts.specs.Asks.{Bounds}
@@ -19,6 +19,10 @@ is_listed lines name = list_any (λ line. is_same line.name name) lines
 pub record LineJoins (facts : List Fact) (line : ActiveValue) : Type 0 where
   pub free : IsFalse (list_any (denies_group line.name) facts)
   pub bounds : AsksStand (asks_of line.name facts ++ Bounds line.low line.high ∷ [])
+
+-- a group of the name would be missing, where it isn't listed
+abbrev pub is_missing : Option (List ℕ) → Bool → Name → Bool
+is_missing p listed name = is_group_name name && option_map_or (λ w. matches_name w name) p true && not listed
 
 -- no group that is shown and matches is missing
 abbrev pub NoneIsMissing : List Fact → Option (List ℕ) → List ActiveValue → Type 0

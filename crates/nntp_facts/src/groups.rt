@@ -10,6 +10,8 @@ ghost use Rattle.nntp_facts.specs.Listing.{AreListable};
 ghost use Rattle.nntp_facts.specs.ListingView.{asks_listed};
 ghost use Rattle.nntp_facts.specs.Kept.{Told, AreKept, with_asks, with_id, Changes};
 
+mod listed;
+
 use crate::ask::Ask;
 use crate::group::Group;
 use crate::listing::Listing;

@@ -14,6 +14,8 @@ ghost use Rattle.nntp_facts.specs.Kept.{IsKept};
 ghost use Rattle.nntp_facts.specs.AskView.{ask_of};
 ghost use Rattle.nntp_facts.specs.SayingView.{facts_said, facts_placed, asks_placed, MaySay};
 
+mod listed_groups;
+
 use crate::articles::Articles;
 use crate::ask::{Ask, Position};
 use crate::groups::Groups;
@@ -91,7 +93,7 @@ impl<A: Allocator + Copy> Kept<A> {
                 at,
                 number,
             } => Ok(self.may_send_at(here, *what, *id, *block, *at, *number)),
-            Saying::Groups { .. } => Ok(false),
+            Saying::Groups { wildmat, block } => self.may_list_groups(*wildmat, *block),
         }
     }
 
@@ -129,7 +131,7 @@ impl<A: Allocator + Copy> Kept<A> {
                 at,
                 number,
             } => self.send_at(here, *what, *id, *block, *at, *number),
-            Saying::Groups { .. } => Ok(()),
+            Saying::Groups { wildmat, block } => self.list_groups(*wildmat, *block),
         }
     }
 

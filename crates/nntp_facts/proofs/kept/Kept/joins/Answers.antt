@@ -94,3 +94,7 @@ returns-in-Placed g c =
 pub returns-in-Nothing : goal.returns-in-Nothing
 returns-in-Nothing g c =
     subst (λ s. TellsJoin c.args.self.now c.args.here.now s true) (sym c.in-Nothing.is) (λ facts kept together wf may. (λ _. nothing_joins facts together, λ _. refl))
+
+pub returns-in-Groups : goal.returns-in-Groups
+returns-in-Groups g c =
+    if_ok c.may_list_groups.result (λ does tells. subst (λ s. TellsJoin c.args.self.now c.args.here.now s does) (sym c.in-Groups.is) (λ facts kept together wf differ. tells facts kept together wf differ)) c.may_list_groups.ensures

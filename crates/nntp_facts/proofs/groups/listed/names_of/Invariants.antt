@@ -1,0 +1,12 @@
+use Rattle.std.proofs.Common.{◌≡◌, ◌||◌}
+use Rattle.std.specs.List.{list_any}
+use Rattle.nntp_wire.specs.Listing.{active_groups}
+use Rattle.nntp_article.specs.Spool.{Name}
+use Rattle.nntp_article.specs.Machine.{is_same}
+use Rattle.nntp_facts.specs.ListedGroups.{is_listed}
+use Rattle.nntp_facts.proofs.groups.listed.names_of.Given as goal
+
+abbrev pub invariant-loop-group : goal.invariant-loop-group
+invariant-loop-group g l =
+    (goal.iterator-loop-group g).can_next l.group-iterator × (goal.iterator-loop-group g).is_finite l.group-iterator
+    × ((name : Name) → (list_any (λ k. is_same k.now name) l.names.keys || is_listed l.group-iterator name) ≡ is_listed (active_groups l.block) name)

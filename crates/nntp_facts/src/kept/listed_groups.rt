@@ -1,0 +1,72 @@
+//! What an answer to LIST ACTIVE says, beside all before (RFC 3977, section 7.6.3).
+ghost use Rattle.std.specs.Prelude.{◌≡◌, ◌↔◌, ◌++◌, ◌∷◌, [], true, List, IsTrue, IfOk, OnOk};
+ghost use Rattle.std.specs.List.{AllByRecursion};
+ghost use Rattle.nntp_wire.specs.Listing.{active_groups};
+ghost use Rattle.nntp_wire.specs.View.{active_value};
+ghost use Rattle.nntp_article.specs.Machine.{names_differ};
+ghost use Rattle.nntp_facts.specs.Facts.{Fact, GroupsAre};
+ghost use Rattle.nntp_facts.specs.Together.{IsWellFormed, Together, Join};
+ghost use Rattle.nntp_facts.specs.Kept.{IsKept};
+ghost use Rattle.nntp_facts.specs.ListedGroups.{LineJoins};
+
+use crate::ask::Ask;
+use crate::kept::Kept;
+use crate::part::Part;
+use nntp_wire::{ActiveLine, Block, Wildmat};
+use std::alloc::{AllocError, Allocator};
+
+impl<A: Allocator + Copy> Kept<A> {
+    /// Whether the groups that an answer lists, all that match, stand together with all before.
+    pub(crate) fn may_list_groups(
+        &self,
+        wildmat: &Option<Wildmat<'_>>,
+        block: &Block<'_>,
+    ) -> Result<bool, AllocError>
+        ensures { IfOk result (λ may. (facts : List Fact) → IsKept facts self.now → Together facts → AllByRecursion IsWellFormed (GroupsAre wildmat.now (active_groups block.now) ∷ [])
+            → names_differ (active_groups block.now) ≡ true → IsTrue may ↔ Join facts (GroupsAre wildmat.now (active_groups block.now) ∷ [])) }
+    {
+        if !self.may_bound_all(block) {
+            return Ok(false);
+        }
+        self.groups.are_listed(wildmat, block)
+    }
+
+    /// Adds that the groups that match are those. After an error the value says nothing of use.
+    pub(crate) fn list_groups(
+        &mut self,
+        wildmat: &Option<Wildmat<'_>>,
+        block: &Block<'_>,
+    ) -> Result<(), AllocError>
+        ensures { OnOk result ((facts : List Fact) → IsKept facts self.old → names_differ (active_groups block.now) ≡ true → Join facts (GroupsAre wildmat.now (active_groups block.now) ∷ [])
+            → IsKept (facts ++ GroupsAre wildmat.now (active_groups block.now) ∷ []) self.new) }
+    {
+        self.groups.bound_all(block)?;
+        self.names.list(self.alloc, wildmat)?;
+        Ok(())
+    }
+}
+
+impl<A: Allocator> Kept<A> {
+    /// Whether each listed group may be there, with its numbers between the marks.
+    fn may_bound_all(&self, block: &Block<'_>) -> bool
+        ensures { (facts : List Fact) → IsKept facts self.now → Together facts → IsTrue result ↔ AllByRecursion (LineJoins facts) (active_groups block.now) }
+    {
+        for line in block.groups() {
+            if !self.may_bound(&line) {
+                return false;
+            }
+        }
+        true
+    }
+
+    /// Whether one may.
+    fn may_bound(&self, line: &ActiveLine<'_>) -> bool
+        ensures { (facts : List Fact) → IsKept facts self.now → Together facts → IsTrue result ↔ LineJoins facts (active_value line.now) }
+    {
+        let part = Part::of(Ask::Bounds {
+            low: line.low,
+            high: line.high,
+        });
+        self.may_be(&line.name) && self.groups.joins(line.name.as_slice(), &part)
+    }
+}
