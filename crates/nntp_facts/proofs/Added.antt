@@ -222,9 +222,5 @@ bounds_stand low high = nothing_shown (Bounds low high ∷ []) (refl, tt) (λ n.
 pub selected : (g : Summary) (m : WaterMarks) → m.high < 2 ^ 64 → (((n : ℕ) → 2 ^ 64 ≤ n → is_denied (Estimates m ∷ []) n ≡ true) → IsSummary g (Estimates m ∷ [])) → Stands g (Estimates m ∷ [])
 selected g m lt is = (is (λ n ge. above n m.low m.high lt ge), estimate_stands m)
 
--- bounds alone stand together
-pub bounds_stand : (low high : ℕ) → AsksStand (Bounds low high ∷ [])
-bounds_stand low high = nothing_shown (Bounds low high ∷ []) (refl, tt) (λ n. refl) refl refl
-
 pub listed : (g : Summary) (low high : ℕ) → high < 2 ^ 64 → (((n : ℕ) → 2 ^ 64 ≤ n → is_denied (Bounds low high ∷ []) n ≡ true) → IsSummary g (Bounds low high ∷ [])) → Stands g (Bounds low high ∷ [])
 listed g low high lt is = (is (λ n ge. above n low high lt ge), bounds_stand low high)

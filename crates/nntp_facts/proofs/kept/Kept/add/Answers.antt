@@ -1,4 +1,5 @@
-use Rattle.std.proofs.Common.{◌≡◌, refl, sym, subst, ap, ◌∙◌, List, [], ◌∷◌, ◌++◌, append-nil}
+use Rattle.std.proofs.Common.{◌≡◌, ℕ, refl, sym, subst, ap, ◌∙◌, List, [], ◌∷◌, ◌++◌, append-nil}
+use Rattle.nntp_wire.specs.declared.range.Range.{Range}
 use Rattle.nntp_facts.specs.Asks.{Ask, Estimates, ListsIn}
 use Rattle.nntp_facts.specs.AskView.{ask_of}
 use Rattle.nntp_facts.specs.Facts.{Asks, NoArticle, TextIs, ThereIsNo}
@@ -89,7 +90,7 @@ returns-in-Numbers g c =
     on_ok c.list.result (λ listed. subst (λ s. KeepsToo c.args.self.now (record { groups = c.list.new.self; names = c.self-in-Numbers.inside.names; articles = c.self-in-Numbers.inside.articles }) c.args.here.now s) (sym c.in-Numbers.is) (λ facts kept may j.
     let inside = subst (IsKept facts) (sym c.self-in-Numbers.view_is) kept in
     record {
-      groups = listed (told facts) (told (facts ++ more)) inside.groups (subst (λ l. AreListable l.0 l.1) (λ i. (sym c.listing-listing.ensures.range i, sym (c.listing-listing.ensures.numbers ∙ same) i)) may)
+      groups = listed (told facts) (told (facts ++ more)) inside.groups (subst (λ (l : Range × List ℕ). AreListable l.0 l.1) (λ i. (sym c.listing-listing.ensures.range i, sym (c.listing-listing.ensures.numbers ∙ same) i)) may)
           (subst (λ asks. Changes (told facts) (told (facts ++ more)) c.as_slice-in-Numbers-2.result.now (with_asks (told facts c.as_slice-in-Numbers-2.result.now) asks)) (sym (c.listing-listing.ensures.asks ∙ ap (λ ns. Estimates marks ∷ ListsIn range ns ∷ []) same))
           (subst (λ name. Changes (told facts) (told (facts ++ more)) name (with_asks (told facts name) asks)) (sym c.as_slice-in-Numbers-2.ensures.value) (selecting_changes facts name asks)));
       names = names_kept facts more c.self-in-Numbers.inside.names (selecting_denies name asks) inside.names;

@@ -1,7 +1,8 @@
-use Rattle.std.proofs.Common.{◌≡◌, true, not, refl, sym, subst, ap, List, [], ◌∷◌, ◌∙◌}
+use Rattle.std.proofs.Common.{◌≡◌, ℕ, true, not, refl, sym, subst, ap, List, [], ◌∷◌, ◌∙◌}
 use Rattle.std.specs.Prelude.{◌↔◌, IsTrue, IsFalse, ◌++◌}
 use Rattle.std.specs.List.{list_any}
 use Rattle.std.proofs.lemmas.Bool.{eqb-true}
+use Rattle.nntp_wire.specs.declared.range.Range.{Range}
 use Rattle.nntp_facts.specs.Asks.{Ask, Estimates, ListsIn}
 use Rattle.nntp_facts.specs.AskView.{ask_of}
 use Rattle.nntp_facts.specs.Facts.{NoArticle, TextIs}
@@ -62,7 +63,7 @@ returns-in-Numbers g c =
     let asks : List Ask = Estimates marks ∷ ListsIn range items ∷ [] in
     if_ok c.may_list.result (λ does tells. subst (λ s. TellsJoin k here s does) (sym c.in-Numbers.is) (λ facts kept together wf may.
     through (subst (λ asks. IsTrue does ↔ (IsFalse (list_any (denies_group name) facts) × AsksStand (asks_of name facts ++ asks))) (c.listing.ensures.asks ∙ ap (λ ns. Estimates marks ∷ ListsIn range ns ∷ []) same)
-    (tells facts kept together (subst (λ l. AreListable l.0 l.1) (λ i. (sym c.listing.ensures.range i, sym (c.listing.ensures.numbers ∙ same) i)) may)))
+    (tells facts kept together (subst (λ (l : Range × List ℕ). AreListable l.0 l.1) (λ i. (sym c.listing.ensures.range i, sym (c.listing.ensures.numbers ∙ same) i)) may)))
     (back (selecting_joins name facts asks together wf)))) c.may_list.ensures
 
 pub returns-in-StepUp : goal.returns-in-StepUp
