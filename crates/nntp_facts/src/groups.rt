@@ -9,11 +9,13 @@ ghost use Rattle.nntp_facts.specs.Summary.{said, Says};
 ghost use Rattle.nntp_facts.specs.Listing.{AreListable};
 ghost use Rattle.nntp_facts.specs.ListingView.{asks_listed};
 ghost use Rattle.nntp_facts.specs.Kept.{Told, AreKept, with_asks, with_id, Changes};
+ghost use Rattle.nntp_facts.specs.Readers.{shown_groups};
 
 use crate::ask::Ask;
 use crate::group::Group;
 use crate::listing::Listing;
 use crate::part::Part;
+use crate::seen_groups::SeenGroups;
 use std::alloc::{AllocError, Allocator, Global};
 use std::collections::BTreeMap;
 use std::marker::Model;
@@ -188,6 +190,13 @@ impl<A: Allocator> Groups<A> {
         ensures { option_copied result ≡ map.get self.now name.now }
     {
         self.groups.get(name)
+    }
+
+    /// The groups, in byte order of their names.
+    pub(crate) fn seen(&self) -> SeenGroups<'_, A>
+        ensures { result ≡ shown_groups self.now }
+    {
+        SeenGroups::new(self.groups.iter())
     }
 
     /// Whether what the part says of a group stands together with all before, and by itself where the

@@ -3,16 +3,19 @@ ghost use Rattle.std.specs.Prelude.{◌≡◌, ◌↔◌, ◌++◌, [], List, Is
 ghost use Rattle.std.specs.List.{AllByRecursion};
 ghost use Rattle.nntp_facts.specs.Facts.{Fact};
 ghost use Rattle.nntp_facts.specs.Together.{IsWellFormed, Together, Join};
+ghost use Rattle.nntp_facts.specs.Given.{is_mentioned};
 ghost use Rattle.nntp_facts.specs.Kept.{IsKept};
+ghost use Rattle.nntp_facts.specs.Readers.{shown_groups, shown_articles};
 ghost use Rattle.nntp_facts.specs.SayingView.{facts_said, MaySay};
 
-use crate::articles::Articles;
+use crate::articles::{Articles, SeenArticles};
 use crate::ask::Ask;
 use crate::groups::Groups;
 use crate::listing::Listing;
 use crate::names::Names;
 use crate::part::Part;
 use crate::saying::Saying;
+use crate::seen_groups::SeenGroups;
 use nntp_wire::GroupName;
 use std::alloc::{AllocError, Allocator, Global};
 use std::marker::Model;
@@ -67,5 +70,28 @@ impl<A: Allocator + Copy> Kept<A> {
             → IsKept (facts ++ facts_said here.now saying.now) self.new) }
     {
         Ok(())
+    }
+}
+
+impl<A: Allocator> Kept<A> {
+    /// The groups that are shown, in byte order of their names.
+    pub(crate) fn groups(&self) -> SeenGroups<'_, A>
+        ensures { result ≡ shown_groups self.now.groups }
+    {
+        self.groups.seen()
+    }
+
+    /// The articles that are shown, in byte order of their message-ids.
+    pub(crate) fn articles(&self) -> SeenArticles<'_, A>
+        ensures { result ≡ shown_articles self.now.articles }
+    {
+        self.articles.seen()
+    }
+
+    /// Whether an answer mentions the id.
+    pub(crate) fn mentions(&self, id: &[u8]) -> bool
+        ensures { (facts : List Fact) → IsKept facts self.now → result ≡ is_mentioned facts id.now }
+    {
+        self.articles.mentions(id)
     }
 }

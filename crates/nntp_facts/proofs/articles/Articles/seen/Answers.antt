@@ -5,7 +5,7 @@ use Rattle.std.specs.FinMap as map
 use Rattle.nntp_wire.proofs.ShownMaps.{entries-shown}
 use Rattle.nntp_facts.specs.Articles.{articles_in}
 use Rattle.nntp_facts.specs.ArticleView.{known_value, entries_value}
-use Rattle.nntp_facts.proofs.articles.Articles.iter.Goals as goal
+use Rattle.nntp_facts.proofs.articles.Articles.seen.Goals as goal
 
 pub returns : goal.returns
 returns g c =
