@@ -69,7 +69,7 @@ pub record AreShownArticles (facts : List Fact) (articles : List ShownArticle) :
 -- ---- where it is read off what is kept
 
 -- the first of k numbers from n on that isn't taken
-pub free : (ℕ → Bool) → ℕ → ℕ → Option ℕ
+unfoldable pub free : (ℕ → Bool) → ℕ → ℕ → Option ℕ
 free taken zero n = None
 free taken (suc k) n = if taken n then free taken k (n + 1) else Some n
 
@@ -79,7 +79,7 @@ if_wanted d None = None
 if_wanted d (Some n) = if wants d n then Some n else None
 
 -- how many numbers of 64 bits there are from 1 on
-pub all_numbers : ℕ
+unfoldable pub all_numbers : ℕ
 all_numbers = 2 ^ 64 - 1
 
 -- the one more number: the first that isn't denied, where the demand wants it and none that is shown
