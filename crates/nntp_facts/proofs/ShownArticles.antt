@@ -14,6 +14,7 @@ use Rattle.std.proofs.lemmas.Bool.{true≢false}
 use Rattle.nntp_article.specs.Article.{Id}
 use Rattle.nntp_article.specs.Machine.{is_same}
 use Rattle.nntp_facts.specs.Facts.{Fact}
+use Rattle.nntp_facts.specs.Given.{is_mentioned}
 use Rattle.nntp_facts.specs.Together.{shows_article}
 use Rattle.nntp_facts.specs.Kept.{KeptArticle, IsKeptArticle, AreKeptArticles}
 use Rattle.nntp_facts.specs.Articles.{articles_in}
@@ -55,7 +56,7 @@ article_is facts id a kept = record { sent = sym kept.sent; head = sym kept.head
 
 -- what is kept of an id, or nothing
 kept_of : (facts : List Fact) (articles : FinMap (slice_cmp nat_cmp) KeptArticle) (id : Id) (a : KeptArticle) → get articles id ≡ Some a → AreKeptArticles facts articles → IsKeptArticle facts id a
-kept_of facts articles id a is kept = subst (λ o. MatchOption o _ (IsKeptArticle facts id)) is (kept id)
+kept_of facts articles id a is kept = subst (λ o. MatchOption o (is_mentioned facts id ≡ false) (IsKeptArticle facts id)) is (kept id)
 
 -- what is shown of the articles that are kept is what the facts say
 pub articles_shown : (facts : List Fact) (articles : FinMap (slice_cmp nat_cmp) KeptArticle) → AreKeptArticles facts articles → AreShownArticles facts (shown_articles articles)
