@@ -8,10 +8,11 @@ use Rattle.nntp_pair.specs.Pairing.{Paired, Unpaired, IsNext, AreNext, Ends, IsB
 use Rattle.nntp_pair.specs.declared.class.PairClass.{PairClass}
 use Rattle.nntp_pair.specs.declared.class.PairClass.TheVariants as pair
 use Rattle.nntp_pair.proofs.PairingLemmas.{AreNext-push, index-counts}
-use Rattle.nntp_check.specs.declared.verdict.Class.{Class}
+use Rattle.nntp_facts.specs.declared.class.Class.{Class}
+use Rattle.nntp_facts.specs.Classes.{class_of}
 use Rattle.nntp_check.specs.declared.verdict.Verdict.{Verdict}
 use Rattle.nntp_check.specs.Judging.{IsFirstLine, StopsAt, IsPlaced, HasNext, SuitsClass, shown, pair_class_of}
-use Rattle.nntp_check.specs.Verdict.{bad, class_of_pair, verdict_shown}
+use Rattle.nntp_check.specs.Verdict.{bad, verdict_shown}
 
 -- so many exchanges have passed, and then this is left
 pub record Passed (client server : List ℕ) (left : Unpaired) (answers : ℕ) : Type 0 where
@@ -53,14 +54,14 @@ at-exchange client server left behind answers x class p next judged k at line li
       reply_is = ap shown initial-is;
     }
 
-of-pair : (class : PairClass) (left : Unpaired) → IsBad class left → SuitsClass (class_of_pair class) left
+of-pair : (class : PairClass) (left : Unpaired) → IsBad class left → SuitsClass (class_of class) left
 of-pair pair.Surplus left is = is
 of-pair pair.Cut left is = is
 of-pair pair.Malformed left is = is
 
 -- octets that answer nothing
 pub at-octets : (client server : List ℕ) (left : Unpaired) (answers : ℕ) (class : PairClass) → Passed client server left answers → Ends left (pair_end class)
-    → (k : ℕ) → k ≡ left.index → (of : Class) → of ≡ class_of_pair class → (line : Option (List ℕ)) → line ≡ line_ahead left.places → (octets first : List ℕ) → octets ≡ left.server → IsFirstLine octets first
+    → (k : ℕ) → k ≡ left.index → (of : Class) → of ≡ class_of class → (line : Option (List ℕ)) → line ≡ line_ahead left.places → (octets first : List ℕ) → octets ≡ left.server → IsFirstLine octets first
     → StopsAt client server k of (option_map shown line) (shown first)
 at-octets client server left answers class p ends k at of of-is line line-is octets first octets-are is-first = record {
   pairs = p.pairs;

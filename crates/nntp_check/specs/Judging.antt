@@ -6,8 +6,8 @@ use Rattle.nntp_wire.specs.Lines.{HasNoCrlf}
 use Rattle.nntp_pair.specs.Pairing.{Paired, Unpaired, IsNext, AreNext, IsBad, IsPairing, end, line_ahead, streams}
 use Rattle.nntp_pair.specs.declared.class.PairClass.{PairClass}
 use Rattle.nntp_pair.specs.declared.class.PairClass.TheVariants as pair
-use Rattle.nntp_check.specs.declared.verdict.Class.{Class}
-use Rattle.nntp_check.specs.declared.verdict.Class.TheVariants.{Surplus, Cut, Malformed, Unsupported, OutOfPlace, Contradiction}
+use Rattle.nntp_facts.specs.declared.class.Class.{Class}
+use Rattle.nntp_facts.specs.declared.class.Class.TheVariants.{Surplus, Cut, Malformed, OutOfPlace, Contradiction}
 use Rattle.nntp_check.specs.Verdict.{Judgement, consistent, bad}
 
 -- the octets up to the first CRLF, or all of them where there is none
@@ -27,7 +27,6 @@ abbrev pub pair_class_of : Class → Option PairClass
 pair_class_of Surplus = Some pair.Surplus
 pair_class_of Cut = Some pair.Cut
 pair_class_of Malformed = Some pair.Malformed
-pair_class_of Unsupported = None
 pair_class_of OutOfPlace = None
 pair_class_of Contradiction = None
 

@@ -8,8 +8,8 @@ use Rattle.nntp_spool.specs.Text.{spool_text}
 use Rattle.nntp_spool.specs.declared.verification.verified.Verified.{Verified}
 use Rattle.nntp_spool.specs.declared.verification.verified.Verified.TheVariants.{Permits, Refuses}
 use Rattle.nntp_check.specs.Verdict.{Judgement, consistent, bad}
-use Rattle.nntp_check.specs.declared.verdict.Class.{Class}
-use Rattle.nntp_check.specs.declared.verdict.Class.TheVariants.{Surplus, Cut, Malformed, Unsupported, OutOfPlace, Contradiction}
+use Rattle.nntp_facts.specs.declared.class.Class.{Class}
+use Rattle.nntp_facts.specs.declared.class.Class.TheVariants.{Surplus, Cut, Malformed, OutOfPlace, Contradiction}
 
 -- the hexadecimal digit of a number below 16, in lower case
 abbrev pub hexadecimal_digit : ℕ → ℕ
@@ -31,7 +31,6 @@ abbrev pub class_word : Class → List ℕ
 class_word Surplus = codes "Surplus"
 class_word Cut = codes "Cut"
 class_word Malformed = codes "Malformed"
-class_word Unsupported = codes "Unsupported"
 class_word OutOfPlace = codes "OutOfPlace"
 class_word Contradiction = codes "Contradiction"
 

@@ -1,11 +1,12 @@
 //! The verdict on two streams.
-ghost use Rattle.std.specs.Prelude.{◌≡◌, IfOk};
+ghost use Rattle.std.specs.Prelude.{◌≡◌, IfOk, IfSome, None};
 ghost use Rattle.std.specs.Option.{option_copied, option_map};
-ghost use Rattle.nntp_check.specs.Judging.{IsFirstLine, IsPlaced, shown};
+ghost use Rattle.nntp_check.specs.Judging.{IsFirstLine, IsPlaced, shown, pair_class_of};
 ghost use Rattle.nntp_check.specs.Verdict.{bad, verdict_shown};
 
-use crate::facts::{Facts, Noted};
-use crate::verdict::{Class, Verdict};
+use crate::spool_maker::given_spool;
+use crate::verdict::Verdict;
+use nntp_facts::{Class, Facts, Noted};
 use nntp_pair::{Pairs, Step};
 use nntp_wire::split_first_line;
 use std::alloc::{AllocError, Allocator};
@@ -28,8 +29,10 @@ pub fn check<A: Allocator + Copy>(
     loop {
         match pairs.next() {
             Step::Exchange(exchange) => {
-                let noted = facts.note(alloc, &exchange)?;
-                if let Some(class) = noted.class() {
+                let Ok(noted) = facts.note(&exchange) else {
+                    return Err(AllocError);
+                };
+                if let Some(class) = class_of(noted) {
                     return bad(
                         alloc,
                         exchange.index(),
@@ -46,10 +49,21 @@ pub fn check<A: Allocator + Copy>(
                 return bad(alloc, index, Class::from(class), ahead.line, reply);
             }
             Step::End { .. } => {
-                let spool = facts.into_spool(alloc)?;
+                let spool = given_spool(alloc, &facts)?;
                 return Ok(Verdict::Consistent { spool, answers });
             }
         }
+    }
+}
+
+/// Why an answer is bad that is noted, if it is.
+fn class_of(noted: Noted) -> Option<Class>
+    ensures { IfSome result (λ class. pair_class_of class ≡ None) }
+{
+    match noted {
+        Noted::Consistent => None,
+        Noted::OutOfPlace => Some(Class::OutOfPlace),
+        Noted::Contradiction => Some(Class::Contradiction),
     }
 }
 

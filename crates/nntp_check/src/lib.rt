@@ -7,18 +7,19 @@
 
 mod capture;
 mod command_line;
-mod facts;
 mod input;
 mod judge;
 pub mod laws;
 mod report;
 mod run;
 mod run_fault;
+mod spool_maker;
 mod verdict;
 
 pub use command_line::{Failure, Task, job, status};
 pub use judge::check;
+pub use nntp_facts::Class;
 pub use nntp_spool::{Counts, Kind, ReadFault, Spool, Watched, WriteFault};
 pub use run::{run_check, run_verify};
 pub use run_fault::RunFault;
-pub use verdict::{Class, Verdict};
+pub use verdict::Verdict;

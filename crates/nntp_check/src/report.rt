@@ -5,8 +5,9 @@ ghost use Rattle.nntp_spool.specs.Text.{spool_text};
 ghost use Rattle.nntp_check.specs.Report.{report_of, verified_report, class_word, command_line, escaped, escaped_octet, hexadecimal_digit};
 ghost use Rattle.nntp_check.specs.Verdict.{verdict_shown};
 
-use crate::verdict::{Class, Verdict};
+use crate::verdict::Verdict;
 use itoa::Buffer;
+use nntp_facts::Class;
 use nntp_spool::{Counts, Spool, Verified, Watched, WriteFault};
 use std::alloc::{AllocError, Allocator};
 
@@ -113,7 +114,6 @@ fn word(class: Class) -> &'static [u8]
         Class::Surplus => b"Surplus",
         Class::Cut => b"Cut",
         Class::Malformed => b"Malformed",
-        Class::Unsupported => b"Unsupported",
         Class::OutOfPlace => b"OutOfPlace",
         Class::Contradiction => b"Contradiction",
     }

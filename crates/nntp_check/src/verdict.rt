@@ -2,47 +2,9 @@
 ghost use Rattle.std.specs.Prelude.{◌≡◌};
 ghost use Rattle.nntp_check.specs.Verdict.{is_consistent, verdict_shown};
 
-use nntp_pair::PairClass;
+use nntp_facts::Class;
 use nntp_spool::Spool;
 use std::alloc::{Allocator, Global};
-use thiserror::Error;
-
-/// Why an answer is bad. The first that holds is told.
-#[derive(Clone, Copy, Debug, PartialEq, Eq, Error)]
-pub enum Class {
-    /// Octets where the connection is closed, or where no command is left to be answered.
-    #[error("Surplus")]
-    Surplus,
-    /// The octets end within the response (RFC 3977, section 3.1).
-    #[error("Cut")]
-    Cut,
-    /// The response spells no answer to its command.
-    #[error("Malformed")]
-    Malformed,
-    /// The command is one that is not judged yet.
-    #[error("Unsupported")]
-    Unsupported,
-    /// The answer is one that the command or the answers before it rule out, whatever the articles are.
-    #[error("OutOfPlace")]
-    OutOfPlace,
-    /// No spool gives this answer together with those before it.
-    #[error("Contradiction")]
-    Contradiction,
-}
-
-impl From<PairClass> for Class {
-    ghost use Rattle.nntp_check.specs.Verdict.{class_of_pair};
-
-    ghost from_gives = { λ class result. result ≡ class_of_pair class };
-
-    fn from(class: PairClass) -> Class {
-        match class {
-            PairClass::Surplus => Class::Surplus,
-            PairClass::Cut => Class::Cut,
-            PairClass::Malformed => Class::Malformed,
-        }
-    }
-}
 
 /// Whether a spool explains a session.
 #[derive(Drop)]

@@ -3,6 +3,7 @@ use Rattle.std.proofs.Common.{◌≡◌, ℕ, zero, suc, ◌+◌, ◌<◌, ◌�
 use Rattle.std.specs.Prelude.{IsFalse}
 use Rattle.std.proofs.lemmas.Bool.{cases_eq, cases_lt, cases_order, true≢false}
 use Rattle.nntp_facts.specs.Given.{IsFirstFree}
+use Rattle.nntp_facts.specs.Readers.{free}
 
 -- there is one at most
 pub first_free_once : (taken : ℕ → Bool) (k i j : ℕ) → IsFirstFree taken k i → IsFirstFree taken k j → i ≡ j
@@ -12,11 +13,6 @@ first_free_once taken k i j x y =
       | inr (inl l) ↦ absurd (true≢false (sym (y.2 i x.0 l) ∙ x.1))
       | inr (inr g) ↦ absurd (true≢false (sym (x.2 j y.0 g) ∙ y.1))
     ]
-
--- the least from n on, among k numbers, that isn't taken
-pub free : (ℕ → Bool) → ℕ → ℕ → Option ℕ
-free taken zero n = None
-free taken (suc k) n = cond (taken n) (free taken k (n + 1)) (Some n)
 
 -- what is found is the first
 pub free_is : (taken : ℕ → Bool) (k n j : ℕ) → free taken k n ≡ Some j → IsFirstFree taken n j

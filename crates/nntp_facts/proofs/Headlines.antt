@@ -12,7 +12,8 @@ use Rattle.nntp_article.specs.Machine.{Run, start, fits, Visible}
 use Rattle.nntp_article.specs.Explains.{Explains}
 use Rattle.nntp_facts.specs.Given.{IsGiven, facts_of_session, size}
 use Rattle.nntp_facts.specs.Permits.{SomePermits}
-use Rattle.nntp_facts.specs.Classes.{HasClass, OutOfPlace, class_of, class_by, visible_from}
+use Rattle.nntp_facts.specs.declared.class.Class.TheVariants.{OutOfPlace}
+use Rattle.nntp_facts.specs.Classes.{HasClass, class_of, class_by, visible_from}
 use Rattle.nntp_facts.specs.Headline.{Headline, Yes, No, is_yes, IsHeadline, IsLeastExplanation}
 use Rattle.nntp_facts.proofs.ClassLemmas.{one_class}
 use Rattle.nntp_facts.proofs.ExplainedPairs.{by_pairs, by_all_pairs}

@@ -18,7 +18,8 @@ use Rattle.nntp_facts.proofs.Stand.{same_itself}
 use Rattle.nntp_facts.proofs.GivenHolds.{group_of_number}
 use Rattle.nntp_facts.proofs.Invented.{invented_number}
 use Rattle.nntp_facts.proofs.Fresh.{mentioned, counted}
-use Rattle.nntp_facts.proofs.FirstFree.{free, free_is, free_none}
+use Rattle.nntp_facts.specs.Readers.{free}
+use Rattle.nntp_facts.proofs.FirstFree.{free_is, free_none}
 use Rattle.nntp_facts.proofs.OneMore.{shown_list, in_shown_list, from_shown_list, more, more_is, more_found}
 use Rattle.nntp_facts.proofs.Maps.{sorted_as, get_in, in_get, key_of, of_key, made_of, get-made_of, in-made_of, key_map, in_key_map, of_key_map}
 use Rattle.nntp_article.specs.Article.{Id}

@@ -12,7 +12,8 @@ use Rattle.nntp_article.specs.declared.profile.Profile.{Profile}
 use Rattle.nntp_article.specs.Machine.{Visible, start, visible_after, Run}
 use Rattle.nntp_article.specs.Explains.{ExplainsUpTo}
 use Rattle.nntp_article.proofs.Closing.{after-closes}
-use Rattle.nntp_facts.specs.Classes.{visible_from, asked_next, AnswersFirst, IsClass, HasClass, IsSettled, class_of, Class}
+use Rattle.nntp_facts.specs.declared.class.Class.{Class}
+use Rattle.nntp_facts.specs.Classes.{visible_from, asked_next, AnswersFirst, IsClass, HasClass, IsSettled, class_of}
 use Rattle.nntp_facts.proofs.ClassLemmas.{closed_before}
 
 -- what is asked at the first of the places

@@ -8,7 +8,6 @@ use Rattle.nntp_facts.specs.Articles.{denied}
 use Rattle.nntp_facts.specs.declared.articles.known.Known.{Known}
 use Rattle.nntp_facts.specs.declared.articles.known.Known.TheVariants.{Denied, There}
 use Rattle.nntp_facts.specs.declared.articles.known.Seen.{Seen}
-use Rattle.nntp_facts.specs.declared.articles.iter.SeenArticle.{SeenArticle}
 
 -- the octets of lines, where they are held
 abbrev pub lines_held : {A : Type 0} → Option (Vec (Vec ℕ A) A) → Option (List Line)
@@ -26,10 +25,6 @@ known_value (There s) = seen_value s
 -- what is kept of ids, one after the other
 abbrev pub entries_value : {A : Type 0} → List (Vec ℕ A × Known A) → List (Id × KeptArticle)
 entries_value entries = map (λ e. (e.0.items, known_value e.1)) entries
-
--- what is shown of an article
-abbrev pub article_value : {A : Type 0} → SeenArticle A → Id × KeptArticle
-article_value a = (a.id.now, record { is_denied = false; is_sent = a.is_sent; head = option_map (λ lines. held lines.now) a.head; body = option_map (λ lines. held lines.now) a.body })
 
 abbrev pub coded_kept : Coded KeptArticle
 coded_kept =

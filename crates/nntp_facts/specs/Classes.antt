@@ -6,12 +6,10 @@ use Rattle.nntp_article.specs.declared.profile.Profile.{Profile}
 use Rattle.nntp_article.specs.Machine.{Visible, start, fits, visible_after}
 use Rattle.nntp_facts.specs.Asks.{Position, position_after}
 use Rattle.nntp_pair.specs.Pairing.{IsCut, IsMalformed}
+use Rattle.nntp_facts.specs.declared.class.Class.{Class}
+use Rattle.nntp_facts.specs.declared.class.Class.TheVariants.{Surplus, Cut, Malformed, OutOfPlace, Contradiction}
 use Rattle.nntp_pair.specs.declared.class.PairClass.{PairClass}
 use Rattle.nntp_pair.specs.declared.class.PairClass.TheVariants.{Surplus as PairSurplus, Cut as PairCut, Malformed as PairMalformed}
-
--- octets where none are due; no whole frame; a frame that spells nothing; an answer that doesn't fit; one that no spool agrees with
-pub data Class : Type 0 where
-  Surplus Cut Malformed OutOfPlace Contradiction : Class
 
 -- the visible state that answers leave
 abbrev pub visible_from : Visible → List Asked → List Response → Visible

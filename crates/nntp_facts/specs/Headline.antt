@@ -5,7 +5,8 @@ use Rattle.nntp_article.specs.declared.profile.Profile.{Profile}
 use Rattle.nntp_article.specs.Spool.{Spool}
 use Rattle.nntp_article.specs.Explains.{Explains, Bad}
 use Rattle.nntp_facts.specs.Given.{IsGiven, HasAtLeast, facts_of_session}
-use Rattle.nntp_facts.specs.Classes.{Class, HasClass}
+use Rattle.nntp_facts.specs.declared.class.Class.{Class}
+use Rattle.nntp_facts.specs.Classes.{HasClass}
 
 -- yes with this spool and so many answers, or no at this answer, of this class
 pub data Headline : Type 0 where

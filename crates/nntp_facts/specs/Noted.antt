@@ -5,6 +5,7 @@ use Rattle.nntp_article.specs.declared.profile.Profile.{Profile}
 use Rattle.nntp_article.specs.Machine.{Visible, start, fits}
 use Rattle.nntp_pair.specs.Pairing.{Paired, asked_at, asked_of, responses_of, lines_in}
 use Rattle.nntp_facts.specs.Asks.{Position, Nowhere}
+use Rattle.nntp_facts.specs.Facts.{Fact}
 use Rattle.nntp_facts.specs.Given.{facts_of_session}
 use Rattle.nntp_facts.specs.Permits.{SomePermits}
 use Rattle.nntp_facts.specs.Classes.{visible_from, position_from}
@@ -23,13 +24,17 @@ pub record FactsKept : Type 0 where
   pub kept : Kept
   pub has_failed : Bool
 
+-- what the exchanges say of the spool
+abbrev pub said_by : List Paired → List Fact
+said_by past = facts_of_session (asked_of past) (responses_of past)
+
 -- the facts are those of these exchanges, which some spool permits
 pub record Stands (facts : FactsKept) (past : List Paired) : Type 0 where
   pub is_whole : facts.has_failed ≡ false
   pub count : facts.count ≡ length past
   pub visible : facts.visible ≡ visible_from start.visible (asked_of past) (responses_of past)
   pub position : facts.position ≡ position_from Nowhere (asked_of past) (responses_of past)
-  pub kept : IsKept (facts_of_session (asked_of past) (responses_of past)) facts.kept
+  pub kept : IsKept (said_by past) facts.kept
   pub permitted : SomePermits facts.profile (asked_of past) (responses_of past)
   pub lines : AllByRecursion (λ pair. lines_in pair.response < 2 ^ 64) past
 

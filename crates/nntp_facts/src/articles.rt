@@ -6,13 +6,14 @@ ghost use Rattle.nntp_article.specs.Machine.{head_fits};
 ghost use Rattle.nntp_facts.specs.Facts.{Fact, IdAt, TextIs, NoArticle};
 ghost use Rattle.nntp_facts.specs.Given.{is_mentioned};
 ghost use Rattle.nntp_facts.specs.Kept.{AreKeptArticles};
-ghost use Rattle.nntp_facts.specs.Articles.{ArticleJoins, unsent, with_new, articles_in};
+ghost use Rattle.nntp_facts.specs.Articles.{ArticleJoins, unsent, with_new};
+ghost use Rattle.nntp_facts.specs.Readers.{shown_articles};
 ghost use Rattle.nntp_facts.specs.ArticleView.{known_value};
 
-mod iter;
 mod known;
+mod seen_articles;
 
-pub(crate) use iter::{Iter, SeenArticle};
+pub use seen_articles::{SeenArticle, SeenArticles};
 use known::{Known, Seen, Sent};
 use nntp_wire::{Block, What};
 use std::alloc::{AllocError, Allocator, Global};
@@ -93,11 +94,11 @@ impl<A: Allocator> Articles<A> {
 }
 
 impl<A: Allocator> Articles<A> {
-    /// The articles that are known, in byte order of their message-ids.
-    pub(crate) fn iter(&self) -> Iter<'_, A>
-        ensures { result ≡ articles_in (map.entries self.now) }
+    /// The ids that have articles, in byte order, with what is known of each.
+    pub(crate) fn seen(&self) -> SeenArticles<'_, A>
+        ensures { result ≡ shown_articles self.now }
     {
-        Iter::new(self.known.iter())
+        SeenArticles::new(self.known.iter())
     }
 }
 

@@ -1,13 +1,17 @@
 //! What the accepted exchanges of a session say of the spool.
-ghost use Rattle.std.specs.Prelude.{◌≡◌, true, false, List, [], IfOk, Err};
+ghost use Rattle.std.specs.Prelude.{◌≡◌, true, false, List, [], IfOk, Err, slice_get};
 ghost use Rattle.nntp_article.specs.Limit.{profile_31_bits};
 ghost use Rattle.nntp_pair.specs.Pairing.{Paired};
-ghost use Rattle.nntp_facts.specs.Noted.{Stands, IsDue, IsNoted, Notes};
+ghost use Rattle.nntp_facts.specs.Given.{is_mentioned};
+ghost use Rattle.nntp_facts.specs.Noted.{Stands, IsDue, IsNoted, Notes, said_by};
+ghost use Rattle.nntp_facts.specs.Readers.{ShownGroup, ShownArticle, AreShownGroups, AreShownArticles};
 
+use crate::articles::{SeenArticle, SeenArticles};
 use crate::ask::Position;
 use crate::kept::Kept;
 use crate::noted::{FactsError, Noted};
 use crate::saying::Saying;
+use crate::seen_groups::{SeenGroup, SeenGroups};
 use nntp_article::{PROFILE_31_BITS, Profile, Visible};
 use nntp_pair::Exchange;
 use std::alloc::{AllocError, Allocator, Global};
@@ -98,5 +102,42 @@ impl<A: Allocator + Copy> Facts<A> {
         self.position = self.position.after(prompt, answer);
         self.count = index + 1;
         Ok(Noted::Consistent)
+    }
+}
+
+impl<A: Allocator> Facts<A> {
+    /// The groups that each spool has, in byte order of their names.
+    pub fn groups(&self) -> SeenGroups<'_, A>
+        ensures { (past : List Paired) → Stands self.now past → AreShownGroups (said_by past) result }
+    {
+        self.kept.groups()
+    }
+
+    /// The group with so many before it, if there are more.
+    pub fn group(&self, index: usize) -> Option<SeenGroup<'_, A>>
+        ensures { (past : List Paired) → Stands self.now past → (groups : List ShownGroup) × AreShownGroups (said_by past) groups × (result ≡ slice_get groups index) }
+    {
+        self.groups().nth(index)
+    }
+
+    /// The articles that each spool has, in byte order of their message-ids.
+    pub fn articles(&self) -> SeenArticles<'_, A>
+        ensures { (past : List Paired) → Stands self.now past → AreShownArticles (said_by past) result }
+    {
+        self.kept.articles()
+    }
+
+    /// The article with so many before it, if there are more.
+    pub fn article(&self, index: usize) -> Option<SeenArticle<'_, A>>
+        ensures { (past : List Paired) → Stands self.now past → (articles : List ShownArticle) × AreShownArticles (said_by past) articles × (result ≡ slice_get articles index) }
+    {
+        self.articles().nth(index)
+    }
+
+    /// Whether an answer mentions the id.
+    pub fn mentions(&self, id: &[u8]) -> bool
+        ensures { (past : List Paired) → Stands self.now past → result ≡ is_mentioned (said_by past) id.now }
+    {
+        self.kept.mentions(id)
     }
 }

@@ -7,6 +7,7 @@ ghost use Rattle.nntp_facts.specs.Given.{IsOneMore};
 ghost use Rattle.nntp_facts.specs.Together.{AsksStand};
 ghost use Rattle.nntp_facts.specs.Summary.{said, Says, IsSummary, Stands};
 ghost use Rattle.nntp_facts.specs.Listing.{AreListable};
+ghost use Rattle.nntp_facts.specs.Readers.{unseen_in};
 ghost use Rattle.nntp_facts.specs.ListingView.{asks_listed};
 
 use crate::listing::Listing;
@@ -126,7 +127,8 @@ impl<A: Allocator> Group<A> {
 
     /// The number that is shown nowhere, and has to be there.
     pub(crate) fn one_more(&self) -> Option<u64>
-        ensures { (asks : List Ask) → Stands self.now.numbers asks → MatchOption result ((n : ℕ) → IsOneMore asks n → ⊥) (IsOneMore asks) }
+        ensures value { result ≡ unseen_in self.now.numbers }
+        ensures is { (asks : List Ask) → Stands self.now.numbers asks → MatchOption result ((n : ℕ) → IsOneMore asks n → ⊥) (IsOneMore asks) }
     {
         self.numbers.one_more()
     }

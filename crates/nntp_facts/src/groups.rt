@@ -9,6 +9,7 @@ ghost use Rattle.nntp_facts.specs.Summary.{said, Says};
 ghost use Rattle.nntp_facts.specs.Listing.{AreListable};
 ghost use Rattle.nntp_facts.specs.ListingView.{asks_listed};
 ghost use Rattle.nntp_facts.specs.Kept.{Told, AreKept, with_asks, with_id, Changes};
+ghost use Rattle.nntp_facts.specs.Readers.{shown_groups};
 
 mod listed;
 
@@ -16,6 +17,7 @@ use crate::ask::Ask;
 use crate::group::Group;
 use crate::listing::Listing;
 use crate::part::Part;
+use crate::seen_groups::SeenGroups;
 use nntp_wire::WaterMarks;
 use std::alloc::{AllocError, Allocator, Global};
 use std::collections::BTreeMap;
@@ -175,6 +177,13 @@ impl<A: Allocator> Groups<A> {
         ensures { option_copied result ≡ map.get self.now name.now }
     {
         self.groups.get(name)
+    }
+
+    /// The groups, in byte order of their names.
+    pub(crate) fn seen(&self) -> SeenGroups<'_, A>
+        ensures { result ≡ shown_groups self.now }
+    {
+        SeenGroups::new(self.groups.iter())
     }
 
     /// Whether what the part says of a group stands together with all before, and by itself where the

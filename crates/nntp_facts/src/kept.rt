@@ -5,24 +5,26 @@ ghost use Rattle.nntp_article.specs.Machine.{head_fits};
 ghost use Rattle.nntp_facts.specs.Asks as asks_said;
 ghost use Rattle.nntp_facts.specs.Asks.{Estimates, ListsIn};
 ghost use Rattle.nntp_facts.specs.Facts.{Fact, Asks, IdAt};
-ghost use Rattle.nntp_facts.specs.Given.{asks_of, is_shown_group, first_given, id_in};
+ghost use Rattle.nntp_facts.specs.Given.{asks_of, is_shown_group, is_mentioned, first_given, id_in};
 ghost use Rattle.nntp_facts.specs.Together.{IsWellFormed, AsksStand, denies_group, number_in, Together, Join};
 ghost use Rattle.nntp_facts.specs.Summary.{said, Says, ShowsNoOther};
 ghost use Rattle.nntp_facts.specs.Listing.{AreListable};
 ghost use Rattle.nntp_facts.specs.ListingView.{asks_listed};
 ghost use Rattle.nntp_facts.specs.Kept.{IsKept};
+ghost use Rattle.nntp_facts.specs.Readers.{shown_groups, shown_articles};
 ghost use Rattle.nntp_facts.specs.AskView.{ask_of};
 ghost use Rattle.nntp_facts.specs.SayingView.{facts_said, facts_placed, asks_placed, MaySay};
 
 mod listed_groups;
 
-use crate::articles::Articles;
+use crate::articles::{Articles, SeenArticles};
 use crate::ask::{Ask, Position};
 use crate::groups::Groups;
 use crate::listing::Listing;
 use crate::names::Names;
 use crate::part::Part;
 use crate::saying::Saying;
+use crate::seen_groups::SeenGroups;
 use nntp_wire::{Block, GroupName, Range, WaterMarks, What};
 use std::alloc::{AllocError, Allocator, Global};
 use std::marker::Model;
@@ -246,5 +248,28 @@ fn placing(at: Option<Position>, number: u64) -> Part
     match at {
         Some(at) => Part::of(Ask::StandsAt(at, number)).with_number(number),
         None => Part::of(Ask::Has(number)),
+    }
+}
+
+impl<A: Allocator> Kept<A> {
+    /// The groups that are shown, in byte order of their names.
+    pub(crate) fn groups(&self) -> SeenGroups<'_, A>
+        ensures { result ≡ shown_groups self.now.groups }
+    {
+        self.groups.seen()
+    }
+
+    /// The articles that are shown, in byte order of their message-ids.
+    pub(crate) fn articles(&self) -> SeenArticles<'_, A>
+        ensures { result ≡ shown_articles self.now.articles }
+    {
+        self.articles.seen()
+    }
+
+    /// Whether an answer mentions the id.
+    pub(crate) fn mentions(&self, id: &[u8]) -> bool
+        ensures { (facts : List Fact) → IsKept facts self.now → result ≡ is_mentioned facts id.now }
+    {
+        self.articles.mentions(id)
     }
 }

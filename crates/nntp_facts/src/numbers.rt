@@ -5,6 +5,7 @@ ghost use Rattle.nntp_facts.specs.Asks.{Ask, Estimates, Bounds};
 ghost use Rattle.nntp_facts.specs.Given.{is_denied, IsOneMore};
 ghost use Rattle.nntp_facts.specs.Together.{AsksStand};
 ghost use Rattle.nntp_facts.specs.Listing.{AreListable};
+ghost use Rattle.nntp_facts.specs.Readers.{unseen_in};
 ghost use Rattle.nntp_facts.specs.ListingView.{asks_listed};
 ghost use Rattle.nntp_facts.specs.Summary.{demand_of, has, is_within, part_shows, part_denies, said, Says, denied_after, AgreesWith, is_settled, IsSummary, Stands};
 
@@ -74,7 +75,8 @@ impl<A: Allocator> Numbers<A> {
 
     /// The number that is shown nowhere, and has to be there.
     pub(crate) fn one_more(&self) -> Option<u64>
-        ensures { (asks : List Ask) → Stands self.now asks → MatchOption result ((n : ℕ) → IsOneMore asks n → ⊥) (IsOneMore asks) }
+        ensures value { result ≡ unseen_in self.now }
+        ensures is { (asks : List Ask) → Stands self.now asks → MatchOption result ((n : ℕ) → IsOneMore asks n → ⊥) (IsOneMore asks) }
     {
         let Found::Absent = found_wanted(&self.shown, self.need) else {
             return None;

@@ -3,7 +3,7 @@ use crate::random::Random;
 use crate::sessions::{Session, TABLES};
 use crate::slow_judge::{Answered, Judged, exchanges, judge};
 use crate::verdicts::shown;
-use nntp_check::{Class, Verdict, check};
+use nntp_check::check;
 use std::alloc::{AllocError, Global};
 use std::process::Abort;
 use std::test::Fail;
@@ -69,13 +69,6 @@ impl Slow {
         (client, server): (&[u8], &[u8]),
     ) -> Result<(), Fail> {
         let verdict = check(alloc, client, server)?;
-        if let Verdict::Bad {
-            class: Class::Unsupported,
-            ..
-        } = verdict
-        {
-            return Ok(());
-        }
         let shown = shown(alloc, &verdict)?;
         let first = self.first_line(alloc, true)?;
         assert!(rt; shown.starts_with(first.as_bytes()), "{name}: {first}");

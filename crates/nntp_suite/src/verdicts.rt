@@ -1,7 +1,7 @@
 //! The verdicts of `check`, and the reports of its runs.
 use crate::fakes::{Full, reader, writer};
 use crate::sessions::{Session, TABLES, capture};
-use nntp_check::{Class, Verdict, Watched, check, run_check};
+use nntp_check::{Verdict, Watched, check, run_check};
 use std::alloc::{AllocError, Allocator, Global};
 use std::process::Abort;
 use std::test::Fail;
@@ -58,18 +58,6 @@ pub(crate) fn shown<A: Allocator>(
     }
 }
 
-/// Whether `check` judges the session; commands that it doesn't judge yet are Unsupported.
-pub(crate) fn is_judged(alloc: Global, session: &Session) -> Result<bool, Fail> {
-    let verdict = check(alloc, session.client.as_bytes(), session.server.as_bytes())?;
-    Ok(!matches!(
-        verdict,
-        Verdict::Bad {
-            class: Class::Unsupported,
-            ..
-        }
-    ))
-}
-
 #[test]
 fn verdicts_on_worked_sessions(rt: HostRuntime) -> Result<(), Fail> {
     for table in TABLES {
@@ -79,15 +67,13 @@ fn verdicts_on_worked_sessions(rt: HostRuntime) -> Result<(), Fail> {
                 session.client.as_bytes(),
                 session.server.as_bytes(),
             )?;
-            if is_judged(rt.alloc(), session)? {
-                let name = session.name;
-                let wanted = session.report(rt.alloc())?;
-                assert_eq!(rt;
-                    shown(rt.alloc(), &verdict)?.as_slice(),
-                    wanted.as_bytes(),
-                    "{name}"
-                );
-            }
+            let name = session.name;
+            let wanted = session.report(rt.alloc())?;
+            assert_eq!(rt;
+                shown(rt.alloc(), &verdict)?.as_slice(),
+                wanted.as_bytes(),
+                "{name}"
+            );
         }
     }
     Ok(())
@@ -105,13 +91,11 @@ fn run(alloc: Global, capture: &str) -> Result<(bool, Vec<u8>), Fail> {
 fn reports_on_worked_sessions(rt: HostRuntime) -> Result<(), Fail> {
     for table in TABLES {
         for session in table {
-            if is_judged(rt.alloc(), session)? {
-                let name = session.name;
-                let (answer, written) = run(rt.alloc(), session.capture(rt.alloc())?.as_str())?;
-                let wanted = session.report(rt.alloc())?;
-                assert_eq!(rt; written.as_slice(), wanted.as_bytes(), "{name}");
-                assert_eq!(rt; answer, session.is_consistent(), "{name}");
-            }
+            let name = session.name;
+            let (answer, written) = run(rt.alloc(), session.capture(rt.alloc())?.as_str())?;
+            let wanted = session.report(rt.alloc())?;
+            assert_eq!(rt; written.as_slice(), wanted.as_bytes(), "{name}");
+            assert_eq!(rt; answer, session.is_consistent(), "{name}");
         }
     }
     Ok(())

@@ -1,13 +1,11 @@
 //! What is known of one message-id.
 ghost use Rattle.std.specs.Prelude.{◌≡◌, ◌↔◌, false, IsTrue, OnOk, option_map};
 ghost use Rattle.std.specs.Option.{option_or};
-ghost use Rattle.nntp_wire.specs.Held.{held};
 ghost use Rattle.nntp_article.specs.Article.{Id};
 ghost use Rattle.nntp_article.specs.Machine.{head_fits};
 ghost use Rattle.nntp_facts.specs.Articles.{head_sent, body_sent, AreSame, MayBeSent, with_sent};
-ghost use Rattle.nntp_facts.specs.ArticleView.{lines_held, seen_value, known_value, article_value};
+ghost use Rattle.nntp_facts.specs.ArticleView.{lines_held, seen_value, known_value};
 
-use crate::articles::iter::SeenArticle;
 use nntp_article::Parts;
 use nntp_wire::{Block, What};
 use std::alloc::{AllocError, Allocator};
@@ -147,29 +145,5 @@ impl<A: Allocator + Copy> Known<A> {
             Known::There(seen) => seen.send(alloc, sent),
             Known::Denied => Ok(()),
         }
-    }
-}
-
-impl<A: Allocator> Seen<A> {
-    /// What is known of the article with this id.
-    pub(crate) fn article<'a>(&'a self, id: &'a [u8]) -> SeenArticle<'a, A>
-        ensures { article_value result ≡ (id.now, seen_value self.now) }
-    {
-        SeenArticle {
-            id,
-            is_sent: self.is_sent,
-            head: slice(&self.head),
-            body: slice(&self.body),
-        }
-    }
-}
-
-/// The lines, borrowed.
-fn slice<A: Allocator>(lines: &Option<Vec<Vec<u8, A>, A>>) -> Option<&[Vec<u8, A>]>
-    ensures { option_map (λ lines. held lines.now) result ≡ lines_held lines.now }
-{
-    match lines {
-        Some(lines) => Some(lines.as_slice()),
-        None => None,
     }
 }

@@ -3,7 +3,6 @@ use super::{Ended, refuse_each, right_if};
 use crate::fakes::{FakeWriter, Full, reader, writer};
 use crate::runs::{CAPTURE, REPORT};
 use crate::sessions::{Session, TABLES, capture, verified_report, with_spool};
-use crate::verdicts::is_judged;
 use nntp_check::{Failure, Kind, ReadFault, RunFault, Task, run_check, run_verify, status};
 use nntp_refusing::Refusing;
 use std::alloc::Global;
@@ -151,9 +150,7 @@ fn refuse_verify(rt: &impl Abort, alloc: Global, session: &Session) -> Result<()
 fn runs_over_worked_sessions(rt: HostRuntime) -> Result<(), Fail> {
     for table in TABLES {
         for session in table {
-            if is_judged(rt.alloc(), session)? {
-                refuse_check(&rt, rt.alloc(), session)?;
-            }
+            refuse_check(&rt, rt.alloc(), session)?;
             refuse_verify(&rt, rt.alloc(), session)?;
         }
     }

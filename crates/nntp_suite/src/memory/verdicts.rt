@@ -1,7 +1,7 @@
 //! Want of memory while worked sessions are judged.
 use super::{Ended, refuse_each, right_if};
 use crate::sessions::{Session, TABLES};
-use crate::verdicts::{is_judged, shown};
+use crate::verdicts::shown;
 use nntp_check::check;
 use nntp_refusing::Refusing;
 use std::alloc::Global;
@@ -23,12 +23,10 @@ fn judge(alloc: Global, heap: &Refusing<Global>, session: &Session, wanted: &str
 fn verdicts_on_worked_sessions(rt: HostRuntime) -> Result<(), Fail> {
     for table in TABLES {
         for session in table {
-            if is_judged(rt.alloc(), session)? {
-                let wanted = session.report(rt.alloc())?;
-                refuse_each(&rt, rt.alloc(), session.name, |heap| {
-                    judge(rt.alloc(), heap, session, wanted.as_str())
-                });
-            }
+            let wanted = session.report(rt.alloc())?;
+            refuse_each(&rt, rt.alloc(), session.name, |heap| {
+                judge(rt.alloc(), heap, session, wanted.as_str())
+            });
         }
     }
     Ok(())

@@ -1,0 +1,11 @@
+use Rattle.std.proofs.Common.{refl, sym, ◌∙◌}
+use Rattle.std.proofs.lemmas.Iterator.Consumers.{nth_from_yields_List, YieldsList-from_first}
+use Rattle.nntp_wire.proofs.ShownMaps.{option_map_id}
+use Rattle.nntp_facts.proofs.facts.Facts.article.Goals as goal
+
+pub returns : goal.returns
+returns g c past stands = (
+  c.articles.result,
+  c.articles.ensures past stands,
+  sym (option_map_id _) ∙ nth_from_yields_List c.nth.result _ c.args.index c.nth.ensures.ran (YieldsList-from_first (λ x. x) (λ w. w) c.articles.result refl),
+)

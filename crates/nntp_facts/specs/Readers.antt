@@ -1,0 +1,115 @@
+-- What the readers of the facts show: the groups with their numbers, and the articles.
+use Rattle.std.specs.Prelude.{◌≡◌, ℕ, ◌-◌, ◌+◌, ◌^◌, zero, suc, Bool, true, false, ◌==◌, if◌then◌else◌, IsTrue, List, [], ◌∷◌, map, Option, None, Some, MatchOption}
+use Rattle.std.specs.List.{list_any, AllByRecursion}
+use Rattle.std.specs.List.Sorted.{IsStrictlySortedBy}
+use Rattle.std.specs.Ordering.{nat_cmp}
+use Rattle.std.specs.Cmp.Lexicographic.{slice_cmp}
+use Rattle.std.specs.FinMap.{FinMap, get, entries}
+use Rattle.nntp_intervals.specs.Intervals.{holds}
+use Rattle.nntp_article.specs.Article.{Id, Line}
+use Rattle.nntp_article.specs.Spool.{Name}
+use Rattle.nntp_article.specs.Machine.{is_same}
+use Rattle.nntp_facts.specs.Facts.{Fact}
+use Rattle.nntp_facts.specs.Given.{asks_of, is_shown, is_shown_group, id_shown, is_sent, first_given, head_in, body_in, IsOneMore, Demand, wants}
+use Rattle.nntp_facts.specs.Together.{shows_article}
+use Rattle.nntp_facts.specs.Summary.{Summary}
+use Rattle.nntp_facts.specs.Kept.{KeptGroup, KeptArticle}
+use Rattle.nntp_facts.specs.Articles.{articles_in}
+
+-- ---- what is shown
+
+-- of a group: the numbers that are shown, each with its id, where one is shown, and the one more, where one is needed
+pub record ShownGroup : Type 0 where
+  pub name : Name
+  pub numbers : List (ℕ × Option Id)
+  pub unseen : Option ℕ
+
+-- of an article: whether a success names it, and its head and its body, where they were sent
+pub record ShownArticle : Type 0 where
+  pub id : Id
+  pub is_sent : Bool
+  pub head : Option (List Line)
+  pub body : Option (List Line)
+
+-- ---- that it is what the facts say
+
+-- the numbers are those that are shown of the group, ascending, each with the id that is shown for it
+pub record AreShownNumbers (facts : List Fact) (name : Name) (numbers : List (ℕ × Option Id)) : Type 0 where
+  pub ascending : IsStrictlySortedBy nat_cmp (map (λ e. e.0) numbers)
+  pub all : (n : ℕ) → list_any (λ e. e.0 == n) numbers ≡ is_shown (asks_of name facts) n
+  pub ids : AllByRecursion (λ e. e.1 ≡ id_shown facts name e.0) numbers
+
+-- there is a one more number exactly if one is needed
+abbrev pub IsUnseen : List Fact → Name → Option ℕ → Type 0
+IsUnseen facts name unseen = MatchOption unseen ((n : ℕ) → IsOneMore (asks_of name facts) n → ⊥) (IsOneMore (asks_of name facts))
+
+-- the numbers of a group are those that are given for the facts
+pub record HasShownNumbers (facts : List Fact) (g : ShownGroup) : Type 0 where
+  pub numbers : AreShownNumbers facts g.name g.numbers
+  pub unseen : IsUnseen facts g.name g.unseen
+
+-- the groups are those that are shown, in byte order of their names
+pub record AreShownGroups (facts : List Fact) (groups : List ShownGroup) : Type 0 where
+  pub ascending : IsStrictlySortedBy (slice_cmp nat_cmp) (map (λ g. g.name) groups)
+  pub all : (name : Name) → list_any (λ g. is_same g.name name) groups ≡ is_shown_group facts name
+  pub each : AllByRecursion (HasShownNumbers facts) groups
+
+-- what is sent of an article is what the facts say of its id
+pub record IsShownArticle (facts : List Fact) (a : ShownArticle) : Type 0 where
+  pub sent : a.is_sent ≡ is_sent facts a.id
+  pub head : a.head ≡ first_given (head_in a.id) facts
+  pub body : a.body ≡ first_given (body_in a.id) facts
+
+-- the articles are those of the ids that are shown to have one, in byte order of the ids
+pub record AreShownArticles (facts : List Fact) (articles : List ShownArticle) : Type 0 where
+  pub ascending : IsStrictlySortedBy (slice_cmp nat_cmp) (map (λ a. a.id) articles)
+  pub all : (id : Id) → list_any (λ a. is_same a.id id) articles ≡ list_any (shows_article id) facts
+  pub each : AllByRecursion (IsShownArticle facts) articles
+
+-- ---- where it is read off what is kept
+
+-- the first of k numbers from n on that isn't taken
+unfoldable pub free : (ℕ → Bool) → ℕ → ℕ → Option ℕ
+free taken zero n = None
+free taken (suc k) n = if taken n then free taken k (n + 1) else Some n
+
+-- the number, where the demand wants it
+abbrev pub if_wanted : Demand → Option ℕ → Option ℕ
+if_wanted d None = None
+if_wanted d (Some n) = if wants d n then Some n else None
+
+-- how many numbers of 64 bits there are from 1 on
+unfoldable pub all_numbers : ℕ
+all_numbers = 2 ^ 64 - 1
+
+-- the one more number: the first that isn't denied, where the demand wants it and none that is shown
+abbrev pub unseen_in : Summary → Option ℕ
+unseen_in s = if list_any (wants s.demand) s.shown then None else if_wanted s.demand (free (holds s.denied) all_numbers 1)
+
+-- the numbers, each with the id that is kept for it
+abbrev pub with_ids : KeptGroup → List ℕ → List (ℕ × Option Id)
+with_ids g ns = map (λ n. (n, get g.ids n)) ns
+
+-- what is shown of a group that is kept
+abbrev pub shown_group : Name → KeptGroup → ShownGroup
+shown_group name g = record { name = name; numbers = with_ids g g.numbers.shown; unseen = unseen_in g.numbers }
+
+-- the same of groups, one after the other
+abbrev pub shown_in : List (Name × KeptGroup) → List ShownGroup
+shown_in entries = map (λ e. shown_group e.0 e.1) entries
+
+-- of all groups that are kept
+abbrev pub shown_groups : FinMap (slice_cmp nat_cmp) KeptGroup → List ShownGroup
+shown_groups groups = shown_in (entries groups)
+
+-- what is shown of an article that is kept
+abbrev pub shown_article : Id → KeptArticle → ShownArticle
+shown_article id a = record { id = id; is_sent = a.is_sent; head = a.head; body = a.body }
+
+-- of the articles that are kept, one after the other
+abbrev pub articles_shown_in : List (Id × KeptArticle) → List ShownArticle
+articles_shown_in entries = map (λ e. shown_article e.0 e.1) (articles_in entries)
+
+-- of all that are kept
+abbrev pub shown_articles : FinMap (slice_cmp nat_cmp) KeptArticle → List ShownArticle
+shown_articles articles = articles_shown_in (entries articles)

@@ -1,0 +1,104 @@
+//! The groups that are shown, one after the other.
+ghost use Rattle.std.specs.Prelude.{◌≡◌, option_map, slice_get};
+ghost use Rattle.std.specs.Iterator.{YieldsFirst, item_count};
+ghost use Rattle.nntp_facts.specs.Readers.{shown_in};
+ghost use Rattle.nntp_facts.specs.ReadersView.{named, number_value};
+
+use crate::group::Group;
+use crate::seen_numbers::{SeenNumber, SeenNumbers};
+use std::alloc::{Allocator, Global};
+use std::collections::btree_map;
+use std::marker::Model;
+
+/// A group that is shown, and the numbers that each spool has in it.
+#[derive(Drop)]
+pub struct SeenGroup<'a, A: Allocator = Global> {
+    name: &'a [u8],
+    group: &'a Group<A>,
+}
+
+impl<'a, A: Allocator> Model for SeenGroup<'a, A> {
+    ghost use Rattle.nntp_facts.specs.Readers.{ShownGroup, shown_group};
+    ghost use Rattle.nntp_facts.specs.ReadersView.{coded_shown_group};
+
+    ghost Value = { ShownGroup };
+
+    ghost coded = { coded_shown_group };
+
+    ghost view = { λ s. shown_group s.name.now s.group.now };
+}
+
+impl<'a, A: Allocator> SeenGroup<'a, A> {
+    /// Its name.
+    pub fn name(&self) -> &'a [u8]
+        ensures { result.now ≡ self.now.name }
+    {
+        self.name
+    }
+
+    /// The numbers that are shown, ascending.
+    pub fn numbers(&self) -> SeenNumbers<'a, A>
+        ensures { result ≡ self.now.numbers }
+    {
+        SeenNumbers::new(self.group)
+    }
+
+    /// The number with so many before it, if there are more.
+    pub fn number(&self, index: usize) -> Option<SeenNumber<'a>>
+        ensures { option_map number_value result ≡ slice_get self.now.numbers index }
+    {
+        self.numbers().nth(index)
+    }
+
+    /// The number that is shown nowhere, and has to be there, if one has to.
+    pub fn unseen(&self) -> Option<u64>
+        ensures { result ≡ self.now.unseen }
+    {
+        self.group.one_more()
+    }
+}
+
+/// The groups that are shown, in byte order of their names, seen as the list of those that are left.
+#[derive(Drop)]
+pub struct SeenGroups<'a, A: Allocator = Global> {
+    rest: btree_map::Iter<'a, Vec<u8, A>, Group<A>>,
+}
+
+impl<'a, A: Allocator> Model for SeenGroups<'a, A> {
+    ghost use Rattle.std.specs.Prelude.{List};
+    ghost use Rattle.std.specs.Coded.{coded_list};
+    ghost use Rattle.nntp_facts.specs.Readers.{ShownGroup, shown_in};
+    ghost use Rattle.nntp_facts.specs.ReadersView.{named, coded_shown_group};
+
+    ghost Value = { List ShownGroup };
+
+    ghost coded = { coded_list coded_shown_group };
+
+    ghost view = { λ s. shown_in (named s.rest) };
+}
+
+impl<'a, A: Allocator> SeenGroups<'a, A> {
+    pub(crate) fn new(rest: btree_map::Iter<'a, Vec<u8, A>, Group<A>>) -> SeenGroups<'a, A>
+        ensures { result ≡ shown_in (named rest.entry) }
+    {
+        SeenGroups { rest }
+    }
+}
+
+impl<'a, A: Allocator> Iterator for SeenGroups<'a, A> {
+    type Item = SeenGroup<'a, A>;
+
+    ghost next_gives = { YieldsFirst (λ groups. groups) };
+
+    ghost remaining = { item_count (λ groups. groups) };
+
+    fn next(&mut self) -> Option<SeenGroup<'a, A>> {
+        match self.rest.next() {
+            Some((name, group)) => Some(SeenGroup {
+                name: name.as_slice(),
+                group,
+            }),
+            None => None,
+        }
+    }
+}

@@ -1,0 +1,65 @@
+//! The numbers of a group, one after the other.
+ghost use Rattle.std.specs.Prelude.{◌≡◌};
+ghost use Rattle.std.specs.Iterator.{YieldsFirstBy, item_count};
+ghost use Rattle.nntp_facts.specs.Readers.{with_ids};
+ghost use Rattle.nntp_facts.specs.ReadersView.{number_value};
+
+use crate::group::Group;
+use std::alloc::{Allocator, Global};
+use std::collections::btree_set;
+use std::marker::Model;
+
+/// A number that is shown in a group.
+#[derive(Clone, Copy)]
+pub struct SeenNumber<'a> {
+    pub number: u64,
+    /// Its message-id, where one is shown.
+    pub id: Option<&'a [u8]>,
+}
+
+/// The numbers that are shown in a group, ascending, seen as the list of those that are left.
+#[derive(Drop)]
+pub struct SeenNumbers<'a, A: Allocator = Global> {
+    rest: btree_set::Iter<'a, u64>,
+    group: &'a Group<A>,
+}
+
+impl<'a, A: Allocator> Model for SeenNumbers<'a, A> {
+    ghost use Rattle.std.specs.Prelude.{List, ℕ, Option};
+    ghost use Rattle.nntp_article.specs.Article.{Id};
+    ghost use Rattle.nntp_facts.specs.Readers.{with_ids};
+
+    ghost Value = { List (ℕ × Option Id) };
+
+    ghost view = { λ s. with_ids s.group.now s.rest };
+}
+
+impl<'a, A: Allocator> SeenNumbers<'a, A> {
+    /// All that are shown.
+    pub(crate) fn new(group: &'a Group<A>) -> SeenNumbers<'a, A>
+        ensures { result ≡ with_ids group.now group.now.numbers.shown }
+    {
+        SeenNumbers {
+            rest: group.shown().iter(),
+            group,
+        }
+    }
+}
+
+impl<'a, A: Allocator> Iterator for SeenNumbers<'a, A> {
+    type Item = SeenNumber<'a>;
+
+    ghost next_gives = { YieldsFirstBy number_value (λ numbers. numbers) };
+
+    ghost remaining = { item_count (λ numbers. numbers) };
+
+    fn next(&mut self) -> Option<SeenNumber<'a>> {
+        match self.rest.next() {
+            Some(number) => Some(SeenNumber {
+                number: *number,
+                id: self.group.id(*number),
+            }),
+            None => None,
+        }
+    }
+}
