@@ -18,7 +18,7 @@ use Rattle.nntp_facts.specs.Facts.{Fact, ThereIs, ThereIsNo, Asks, IdAt, TextIs,
 use Rattle.nntp_facts.specs.Given.{mentions, is_mentioned, gives_article, is_sent, first_given, head_in, body_in}
 use Rattle.nntp_facts.specs.Together.{shows_article, denies_article}
 use Rattle.nntp_facts.specs.Kept.{KeptArticle, IsKeptArticle, AreKeptArticles}
-use Rattle.nntp_facts.specs.Articles.{ArticleJoins, head_sent, body_sent, AreSame}
+use Rattle.nntp_facts.specs.Articles.{head_sent, body_sent}
 use Rattle.nntp_facts.proofs.Members.{any_in, found_in}
 use Rattle.nntp_facts.proofs.Gives.{any_more, given_append}
 
