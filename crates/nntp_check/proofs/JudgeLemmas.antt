@@ -16,11 +16,10 @@ use Rattle.nntp_pair.proofs.PairingLemmas.{AreNext-push, index-counts}
 use Rattle.nntp_facts.specs.declared.class.Class.{Class}
 use Rattle.nntp_facts.specs.declared.class.Class.TheVariants.{OutOfPlace, Contradiction}
 use Rattle.nntp_facts.specs.declared.noted.Noted.{Noted}
-use Rattle.nntp_facts.specs.declared.noted.Noted.TheVariants as noted
-use Rattle.nntp_facts.specs.declared.noted.FactsError.{FactsError}
+use Rattle.nntp_facts.specs.declared.noted.Noted.TheVariants as kinds
 use Rattle.nntp_facts.specs.Classes.{class_of, class_by, visible_from}
 use Rattle.nntp_facts.specs.Headline.{No, IsHeadline}
-use Rattle.nntp_facts.specs.Noted.{FactsKept, Stands, IsDue, IsNoted, Notes}
+use Rattle.nntp_facts.specs.Noted.{FactsKept, Stands, IsDue, IsNoted}
 use Rattle.nntp_facts.specs.Permits.{SomePermits}
 use Rattle.nntp_facts.proofs.Grow.{pairs_permitted}
 use Rattle.nntp_facts.proofs.Headlines.{headline_at_octets, headline_at_response, headline_at_unfitting}
@@ -28,6 +27,10 @@ use Rattle.nntp_facts.proofs.PairedBad.{explained_end}
 use Rattle.nntp_check.specs.declared.verdict.Verdict.{Verdict}
 use Rattle.nntp_check.specs.Judging.{IsFirstLine, StopsAt, IsPlaced, IsRight, HasNext, SuitsClass, shown, pair_class_of, class_noted}
 use Rattle.nntp_check.specs.Verdict.{bad, verdict_shown}
+
+-- the visible state that the exchanges leave
+abbrev visible_left : List Paired → Visible
+visible_left pairs = visible_from start.visible (asked_of pairs) (responses_of pairs)
 
 -- what is left of both streams is closed exactly if the visible state is
 closed-by : (v : Visible) (before left : Unpaired) (pairs : List Paired) → before.is_closed ≡ v.closed → AreNext before pairs left → left.is_closed ≡ (visible_from v (asked_of pairs) (responses_of pairs)).closed
@@ -54,25 +57,21 @@ is-due client server facts left behind answers x p next = record {
   is_open = ap (λ (v : Visible). v.closed) p.stands.visible ∙ sym (closed-by start.visible (streams client server) left p.pairs refl p.before) ∙ next.is_open;
 }
 
--- what was noted of it
-noted-of : (past : List Paired) (x : Paired) (old new : FactsKept) (r : Result Noted FactsError) (noted : Noted) → ((past : List Paired) → Stands old past → Notes past x old new r) → r ≡ Ok noted → Stands old past → IsNoted past x old new noted
-noted-of past x old new r noted notes is stands = subst (Notes past x old new) is (notes past stands)
-
 -- and then it has passed
-pub one-more : (client server : List ℕ) (old new : FactsKept) (left behind : Unpaired) (answers : ℕ) (x : Paired) (r : Result Noted FactsError) (noted : Noted) → Passed client server old left answers → IsNext left x behind
-    → ((past : List Paired) → Stands old past → Notes past x old new r) → r ≡ Ok noted → class_noted noted ≡ None → (k : ℕ) → k ≡ x.index → Passed client server new behind (k + 1)
-one-more client server old new left behind answers x r noted p next notes is good k at = by noted good (noted-of p.pairs x old new r noted notes is p.stands)
+pub one-more : (client server : List ℕ) (old new : FactsKept) (left behind : Unpaired) (answers : ℕ) (x : Paired) (noted : Noted) → Passed client server old left answers → IsNext left x behind
+    → ((past : List Paired) → Stands old past → IsNoted past x old new noted) → class_noted noted ≡ None → (k : ℕ) → k ≡ x.index → Passed client server new behind (k + 1)
+one-more client server old new left behind answers x noted p next notes good k at = by noted good (notes p.pairs p.stands)
   where
     by : (noted : Noted) → class_noted noted ≡ None → IsNoted p.pairs x old new noted → Passed client server new behind (k + 1)
-    by noted.Consistent none h = record {
+    by kinds.Consistent none h = record {
       pairs = p.pairs ++ (x ∷ []);
       before = AreNext-push p.pairs (streams client server) left behind x p.before next;
       count = ap (λ n. n + 1) (at ∙ next.index ∙ index-counts client server p.pairs left p.before) ∙ sym (length_push p.pairs x);
       stands = h.1;
       profile = h.2 ∙ p.profile;
     }
-    by noted.OutOfPlace none h = cc
-    by noted.Contradiction none h = cc
+    by kinds.OutOfPlace none h = cc
+    by kinds.Contradiction none h = cc
 
 some-octets : (line rest : List ℕ) → line ++ crlf ++ rest ≢ []
 some-octets [] rest e = cc
@@ -83,9 +82,9 @@ frame-first server initial rest block whole = whole ∙ append_assoc (initial ++
 
 -- the class of an exchange is no class of octets
 of-exchange : (noted : Noted) (class : Class) → Some class ≡ class_noted noted → pair_class_of class ≡ None
-of-exchange noted.Consistent class is = cc
-of-exchange noted.OutOfPlace class is = let same : class ≡ OutOfPlace = cc in ap pair_class_of same
-of-exchange noted.Contradiction class is = let same : class ≡ Contradiction = cc in ap pair_class_of same
+of-exchange kinds.Consistent class is = cc
+of-exchange kinds.OutOfPlace class is = let same : class ≡ OutOfPlace = cc in ap pair_class_of same
+of-exchange kinds.Contradiction class is = let same : class ≡ Contradiction = cc in ap pair_class_of same
 
 -- a bad exchange
 pub at-exchange : (client server : List ℕ) (facts : FactsKept) (left behind : Unpaired) (answers : ℕ) (x : Paired) (noted : Noted) (class : Class) → Passed client server facts left answers → IsNext left x behind → Some class ≡ class_noted noted
@@ -132,33 +131,28 @@ at-octets client server facts left answers class p ends k at of of-is line line-
 -- ---- what a verdict says
 
 -- an exchange that isn't accepted is bad, of its class
-pub exchange-right : (client server : List ℕ) (old new : FactsKept) (left behind : Unpaired) (answers : ℕ) (x : Paired) (r : Result Noted FactsError) (noted : Noted) (class : Class) → Passed client server old left answers → IsNext left x behind
-    → ((past : List Paired) → Stands old past → Notes past x old new r) → r ≡ Ok noted → Some class ≡ class_noted noted → (k : ℕ) → k ≡ x.index → IsHeadline profile_31_bits client server (No k class)
-exchange-right client server old new left behind answers x r noted class p next notes is bad k at =
-    subst (λ n. IsHeadline profile_31_bits client server (No n class)) (sym place) (by noted bad (noted-of p.pairs x old new r noted notes is p.stands))
+pub exchange-right : (client server : List ℕ) (old new : FactsKept) (left behind : Unpaired) (answers : ℕ) (x : Paired) (noted : Noted) (class : Class) → Passed client server old left answers → IsNext left x behind
+    → ((past : List Paired) → Stands old past → IsNoted past x old new noted) → Some class ≡ class_noted noted → (k : ℕ) → k ≡ x.index → IsHeadline profile_31_bits client server (No k class)
+exchange-right client server old new left behind answers x noted class p next notes judged k at =
+    subst (λ n. IsHeadline profile_31_bits client server (No n class)) (sym place) (by noted judged (notes p.pairs p.stands))
   where
     place : k ≡ length p.pairs
     place = at ∙ next.index ∙ index-counts client server p.pairs left p.before
 
-    v : Visible
-    v = visible_from start.visible (asked_of p.pairs) (responses_of p.pairs)
-
     permitted : SomePermits profile_31_bits (asked_of p.pairs) (responses_of p.pairs)
     permitted = subst (λ profile. SomePermits profile (asked_of p.pairs) (responses_of p.pairs)) p.profile p.stands.permitted
 
-    fitting : fits old.profile old.visible (asked_at x.line) x.response ≡ fits profile_31_bits v (asked_at x.line) x.response
-    unfolding v
+    fitting : fits old.profile old.visible (asked_at x.line) x.response ≡ fits profile_31_bits (visible_left p.pairs) (asked_at x.line) x.response
     fitting i = fits (p.profile i) (p.stands.visible i) (asked_at x.line) x.response
 
     by : (noted : Noted) → Some class ≡ class_noted noted → IsNoted p.pairs x old new noted → IsHeadline profile_31_bits client server (No (length p.pairs) class)
-    unfolding v
-    by noted.Consistent bad h = cc
-    by noted.OutOfPlace bad h =
+    by kinds.Consistent judged h = cc
+    by kinds.OutOfPlace judged h =
         let same : OutOfPlace ≡ class = cc in
         subst (λ c. IsHeadline profile_31_bits client server (No (length p.pairs) c)) same
             (headline_at_unfitting profile_31_bits client server p.pairs x left behind p.before next permitted (sym fitting ∙ h.0))
-    by noted.Contradiction bad h =
-        let same : class_by (fits profile_31_bits v (asked_at x.line) x.response) ≡ class = ap class_by (sym fitting ∙ h.0) ∙ (let c : Contradiction ≡ class = cc in c) in
+    by kinds.Contradiction judged h =
+        let same : class_by (fits profile_31_bits (visible_left p.pairs) (asked_at x.line) x.response) ≡ class = ap class_by (sym fitting ∙ h.0) ∙ (let c : Contradiction ≡ class = cc in c) in
         subst (λ c. IsHeadline profile_31_bits client server (No (length p.pairs) c)) same
             (headline_at_response profile_31_bits client server p.pairs x left behind p.before next permitted (λ q. h.1 (subst (λ profile. SomePermits profile (asked_of (p.pairs ++ x ∷ [])) (responses_of (p.pairs ++ x ∷ []))) (sym p.profile) q)))
 
@@ -178,9 +172,14 @@ end-right client server facts left answers unanswered p ends =
     let q = (pairs_permitted profile_31_bits client server p.pairs left p.before).1 permitted in
     (q.0, subst (Explains profile_31_bits q.0 client server) (sym p.count) (explained_end profile_31_bits q.0 client server p.pairs unanswered (record { left = left; paired = p.before; ends = ends }) q.1 q.2))
 
--- a verdict that shows such an answer
+-- a verdict that shows such an answer stands there
 pub placed : {A E : Type 0} (r : Result (Verdict A) E) (client server : List ℕ) (k : ℕ) (class : Class) (command : Option (List ℕ)) (reply : List ℕ)
-    → StopsAt client server k class command reply → IsHeadline profile_31_bits client server (No k class) → IfOk r (λ v. verdict_shown v ≡ bad k class command reply)
-    → IfOk r (λ v. IsPlaced client server (verdict_shown v)) × IfOk r (λ v. IsRight client server (verdict_shown v))
-placed (Ok v) client server k class command reply is right ok = (subst (IsPlaced client server) (sym ok) is, subst (IsRight client server) (sym ok) right)
-placed (Err e) client server k class command reply is right ok = (ok, ok)
+    → StopsAt client server k class command reply → IfOk r (λ v. verdict_shown v ≡ bad k class command reply) → IfOk r (λ v. IsPlaced client server (verdict_shown v))
+placed (Ok v) client server k class command reply is ok = subst (IsPlaced client server) (sym ok) is
+placed (Err e) client server k class command reply is ok = ok
+
+-- and is right
+pub right : {A E : Type 0} (r : Result (Verdict A) E) (client server : List ℕ) (k : ℕ) (class : Class) (command : Option (List ℕ)) (reply : List ℕ)
+    → IsHeadline profile_31_bits client server (No k class) → IfOk r (λ v. verdict_shown v ≡ bad k class command reply) → IfOk r (λ v. IsRight client server (verdict_shown v))
+right (Ok v) client server k class command reply is ok = subst (IsRight client server) (sym ok) is
+right (Err e) client server k class command reply is ok = ok
