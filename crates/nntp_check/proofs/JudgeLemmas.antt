@@ -1,31 +1,77 @@
 -- How a judgement goes through the exchanges of two streams.
-use Rattle.std.proofs.Common.{◌≡◌, ◌≢◌, ◌∙◌, sym, subst, refl, ℕ, ◌+◌, List, [], ◌∷◌, ◌++◌, Option, None, MatchOption, Result, Ok, Err, IfOk, length, ap, inr}
+use Rattle.std.proofs.Common.{◌≡◌, ◌≢◌, ◌∙◌, sym, subst, refl, ℕ, ◌+◌, List, [], ◌∷◌, ◌++◌, Option, None, Some, MatchOption, Result, Ok, Err, IfOk, length, ap, inr}
 use Rattle.std.specs.Option.{option_map}
 use Rattle.std.proofs.lemmas.List.{length_push, append_assoc}
 use Rattle.nntp_wire.specs.Octets.{crlf}
 use Rattle.nntp_wire.specs.Frame.{framed, frame_octets}
-use Rattle.nntp_pair.specs.Pairing.{Paired, Unpaired, IsNext, AreNext, Ends, IsBad, bad as pair_end, line_ahead, streams}
+use Rattle.nntp_article.specs.Explains.{Explains}
+use Rattle.nntp_article.specs.Limit.{profile_31_bits}
+use Rattle.nntp_article.specs.Machine.{Visible, visible_after, start, fits}
+use Rattle.nntp_article.specs.Spool.{Spool}
+use Rattle.nntp_article.proofs.Closing.{after-closes}
+use Rattle.nntp_pair.specs.Pairing.{Paired, Unpaired, IsNext, AreNext, Ends, IsBad, end, bad as pair_end, line_ahead, streams, asked_at, asked_of, responses_of}
 use Rattle.nntp_pair.specs.declared.class.PairClass.{PairClass}
 use Rattle.nntp_pair.specs.declared.class.PairClass.TheVariants as pair
 use Rattle.nntp_pair.proofs.PairingLemmas.{AreNext-push, index-counts}
 use Rattle.nntp_facts.specs.declared.class.Class.{Class}
-use Rattle.nntp_facts.specs.Classes.{class_of}
+use Rattle.nntp_facts.specs.declared.class.Class.TheVariants.{OutOfPlace, Contradiction}
+use Rattle.nntp_facts.specs.declared.noted.Noted.{Noted}
+use Rattle.nntp_facts.specs.declared.noted.Noted.TheVariants as kinds
+use Rattle.nntp_facts.specs.Classes.{class_of, class_by, visible_from}
+use Rattle.nntp_facts.specs.Headline.{No, IsHeadline}
+use Rattle.nntp_facts.specs.Noted.{FactsKept, Stands, IsDue, IsNoted}
+use Rattle.nntp_facts.specs.Permits.{SomePermits}
+use Rattle.nntp_facts.proofs.Grow.{pairs_permitted}
+use Rattle.nntp_facts.proofs.Headlines.{headline_at_octets, headline_at_response, headline_at_unfitting}
+use Rattle.nntp_facts.proofs.PairedBad.{explained_end}
 use Rattle.nntp_check.specs.declared.verdict.Verdict.{Verdict}
-use Rattle.nntp_check.specs.Judging.{IsFirstLine, StopsAt, IsPlaced, HasNext, SuitsClass, shown, pair_class_of}
+use Rattle.nntp_check.specs.Judging.{IsFirstLine, StopsAt, IsPlaced, IsRight, HasNext, SuitsClass, shown, pair_class_of, class_noted}
 use Rattle.nntp_check.specs.Verdict.{bad, verdict_shown}
 
--- so many exchanges have passed, and then this is left
-pub record Passed (client server : List ℕ) (left : Unpaired) (answers : ℕ) : Type 0 where
+-- the visible state that the exchanges leave
+abbrev visible_left : List Paired → Visible
+visible_left pairs = visible_from start.visible (asked_of pairs) (responses_of pairs)
+
+-- what is left of both streams is closed exactly if the visible state is
+closed-by : (v : Visible) (before left : Unpaired) (pairs : List Paired) → before.is_closed ≡ v.closed → AreNext before pairs left → left.is_closed ≡ (visible_from v (asked_of pairs) (responses_of pairs)).closed
+closed-by v before left [] same e = ap (λ (u : Unpaired). u.is_closed) (sym e) ∙ same
+closed-by v before left (pair ∷ pairs) same (between, first, more) =
+    closed-by (visible_after v (asked_at pair.line) pair.response) between left pairs (first.closing ∙ sym (after-closes v (asked_at pair.line) pair.response (sym same ∙ first.is_open))) more
+
+-- so many exchanges have passed, of which the facts are kept, and then this is left
+pub record Passed (client server : List ℕ) (facts : FactsKept) (left : Unpaired) (answers : ℕ) : Type 0 where
   pub pairs : List Paired
   pub before : AreNext (streams client server) pairs left
   pub count : answers ≡ length pairs
+  pub stands : Stands facts pairs
+  pub profile : facts.profile ≡ profile_31_bits
 
-pub one-more : (client server : List ℕ) (left behind : Unpaired) (answers : ℕ) (x : Paired) → Passed client server left answers → IsNext left x behind → (k : ℕ) → k ≡ x.index → Passed client server behind (k + 1)
-one-more client server left behind answers x p next k is = record {
-  pairs = p.pairs ++ (x ∷ []);
-  before = AreNext-push p.pairs (streams client server) left behind x p.before next;
-  count = ap (λ n. n + 1) (is ∙ next.index ∙ index-counts client server p.pairs left p.before) ∙ sym (length_push p.pairs x);
+-- none has, at first
+pub none-passed : (client server : List ℕ) (facts : FactsKept) (left : Unpaired) → Stands facts [] → facts.profile ≡ profile_31_bits → left ≡ streams client server → Passed client server facts left 0
+none-passed client server facts left stands profile all = record { pairs = []; before = sym all; count = refl; stands = stands; profile = profile }
+
+-- the next exchange is due
+pub is-due : (client server : List ℕ) (facts : FactsKept) (left behind : Unpaired) (answers : ℕ) (x : Paired) → Passed client server facts left answers → IsNext left x behind → IsDue facts x
+is-due client server facts left behind answers x p next = record {
+  index = next.index ∙ index-counts client server p.pairs left p.before ∙ sym p.stands.count;
+  is_open = ap (λ (v : Visible). v.closed) p.stands.visible ∙ sym (closed-by start.visible (streams client server) left p.pairs refl p.before) ∙ next.is_open;
 }
+
+-- and then it has passed
+pub one-more : (client server : List ℕ) (old new : FactsKept) (left behind : Unpaired) (answers : ℕ) (x : Paired) (noted : Noted) → Passed client server old left answers → IsNext left x behind
+    → ((past : List Paired) → Stands old past → IsNoted past x old new noted) → class_noted noted ≡ None → (k : ℕ) → k ≡ x.index → Passed client server new behind (k + 1)
+one-more client server old new left behind answers x noted p next notes good k at = by noted good (notes p.pairs p.stands)
+  where
+    by : (noted : Noted) → class_noted noted ≡ None → IsNoted p.pairs x old new noted → Passed client server new behind (k + 1)
+    by kinds.Consistent none h = record {
+      pairs = p.pairs ++ (x ∷ []);
+      before = AreNext-push p.pairs (streams client server) left behind x p.before next;
+      count = ap (λ n. n + 1) (at ∙ next.index ∙ index-counts client server p.pairs left p.before) ∙ sym (length_push p.pairs x);
+      stands = h.1;
+      profile = h.2 ∙ p.profile;
+    }
+    by kinds.OutOfPlace none h = cc
+    by kinds.Contradiction none h = cc
 
 some-octets : (line rest : List ℕ) → line ++ crlf ++ rest ≢ []
 some-octets [] rest e = cc
@@ -34,11 +80,17 @@ some-octets (b ∷ line) rest e = cc
 frame-first : (server initial rest : List ℕ) (block : Option (List ℕ)) → server ≡ frame_octets initial block ++ rest → server ≡ initial ++ crlf ++ (framed block ++ rest)
 frame-first server initial rest block whole = whole ∙ append_assoc (initial ++ crlf) (framed block) rest
 
+-- the class of an exchange is no class of octets
+of-exchange : (noted : Noted) (class : Class) → Some class ≡ class_noted noted → pair_class_of class ≡ None
+of-exchange kinds.Consistent class is = cc
+of-exchange kinds.OutOfPlace class is = let same : class ≡ OutOfPlace = cc in ap pair_class_of same
+of-exchange kinds.Contradiction class is = let same : class ≡ Contradiction = cc in ap pair_class_of same
+
 -- a bad exchange
-pub at-exchange : (client server : List ℕ) (left behind : Unpaired) (answers : ℕ) (x : Paired) (class : Class) → Passed client server left answers → IsNext left x behind → pair_class_of class ≡ None
+pub at-exchange : (client server : List ℕ) (facts : FactsKept) (left behind : Unpaired) (answers : ℕ) (x : Paired) (noted : Noted) (class : Class) → Passed client server facts left answers → IsNext left x behind → Some class ≡ class_noted noted
     → (k : ℕ) → k ≡ x.index → (line : Option (List ℕ)) → line ≡ x.line → (initial : List ℕ) → initial ≡ x.initial
     → StopsAt client server k class (option_map shown line) (shown initial)
-at-exchange client server left behind answers x class p next judged k at line line-is initial initial-is =
+at-exchange client server facts left behind answers x noted class p next judged k at line line-is initial initial-is =
     let frame = next.answered.frame in
     let first = frame-first left.server x.initial behind.server next.answered.block frame.whole in
     record {
@@ -47,7 +99,7 @@ at-exchange client server left behind answers x class p next judged k at line li
       before = p.before;
       place = at ∙ next.index ∙ index-counts client server p.pairs left p.before;
       some = λ none. some-octets x.initial _ (sym first ∙ none);
-      suits = subst (λ o. MatchOption o (HasNext left) (λ c. IsBad c left)) (sym judged) (x, behind, next);
+      suits = subst (λ o. MatchOption o (HasNext left) (λ c. IsBad c left)) (sym (of-exchange noted class judged)) (x, behind, next);
       command_is = ap (λ places. option_map shown places) (line-is ∙ sym (ap line_ahead next.place));
       line = x.initial;
       first = (frame.is_line, inr (_, first));
@@ -60,10 +112,10 @@ of-pair pair.Cut left is = is
 of-pair pair.Malformed left is = is
 
 -- octets that answer nothing
-pub at-octets : (client server : List ℕ) (left : Unpaired) (answers : ℕ) (class : PairClass) → Passed client server left answers → Ends left (pair_end class)
+pub at-octets : (client server : List ℕ) (facts : FactsKept) (left : Unpaired) (answers : ℕ) (class : PairClass) → Passed client server facts left answers → Ends left (pair_end class)
     → (k : ℕ) → k ≡ left.index → (of : Class) → of ≡ class_of class → (line : Option (List ℕ)) → line ≡ line_ahead left.places → (octets first : List ℕ) → octets ≡ left.server → IsFirstLine octets first
     → StopsAt client server k of (option_map shown line) (shown first)
-at-octets client server left answers class p ends k at of of-is line line-is octets first octets-are is-first = record {
+at-octets client server facts left answers class p ends k at of of-is line line-is octets first octets-are is-first = record {
   pairs = p.pairs;
   left = left;
   before = p.before;
@@ -76,8 +128,58 @@ at-octets client server left answers class p ends k at of of-is line line-is oct
   reply_is = refl;
 }
 
--- a verdict that shows such an answer
+-- ---- what a verdict says
+
+-- an exchange that isn't accepted is bad, of its class
+pub exchange-right : (client server : List ℕ) (old new : FactsKept) (left behind : Unpaired) (answers : ℕ) (x : Paired) (noted : Noted) (class : Class) → Passed client server old left answers → IsNext left x behind
+    → ((past : List Paired) → Stands old past → IsNoted past x old new noted) → Some class ≡ class_noted noted → (k : ℕ) → k ≡ x.index → IsHeadline profile_31_bits client server (No k class)
+exchange-right client server old new left behind answers x noted class p next notes judged k at =
+    subst (λ n. IsHeadline profile_31_bits client server (No n class)) (sym place) (by noted judged (notes p.pairs p.stands))
+  where
+    place : k ≡ length p.pairs
+    place = at ∙ next.index ∙ index-counts client server p.pairs left p.before
+
+    permitted : SomePermits profile_31_bits (asked_of p.pairs) (responses_of p.pairs)
+    permitted = subst (λ profile. SomePermits profile (asked_of p.pairs) (responses_of p.pairs)) p.profile p.stands.permitted
+
+    fitting : fits old.profile old.visible (asked_at x.line) x.response ≡ fits profile_31_bits (visible_left p.pairs) (asked_at x.line) x.response
+    fitting i = fits (p.profile i) (p.stands.visible i) (asked_at x.line) x.response
+
+    by : (noted : Noted) → Some class ≡ class_noted noted → IsNoted p.pairs x old new noted → IsHeadline profile_31_bits client server (No (length p.pairs) class)
+    by kinds.Consistent judged h = cc
+    by kinds.OutOfPlace judged h =
+        let same : OutOfPlace ≡ class = cc in
+        subst (λ c. IsHeadline profile_31_bits client server (No (length p.pairs) c)) same
+            (headline_at_unfitting profile_31_bits client server p.pairs x left behind p.before next permitted (sym fitting ∙ h.0))
+    by kinds.Contradiction judged h =
+        let same : class_by (fits profile_31_bits (visible_left p.pairs) (asked_at x.line) x.response) ≡ class = ap class_by (sym fitting ∙ h.0) ∙ (let c : Contradiction ≡ class = cc in c) in
+        subst (λ c. IsHeadline profile_31_bits client server (No (length p.pairs) c)) same
+            (headline_at_response profile_31_bits client server p.pairs x left behind p.before next permitted (λ q. h.1 (subst (λ profile. SomePermits profile (asked_of (p.pairs ++ x ∷ [])) (responses_of (p.pairs ++ x ∷ []))) (sym p.profile) q)))
+
+-- octets that answer nothing are bad, of their class
+pub octets-right : (client server : List ℕ) (facts : FactsKept) (left : Unpaired) (answers : ℕ) (class : PairClass) → Passed client server facts left answers → Ends left (pair_end class)
+    → (k : ℕ) → k ≡ left.index → (of : Class) → of ≡ class_of class → IsHeadline profile_31_bits client server (No k of)
+octets-right client server facts left answers class p ends k at of is =
+    let place : length p.pairs ≡ k = sym (at ∙ index-counts client server p.pairs left p.before) in
+    subst (λ (x : ℕ × Class). IsHeadline profile_31_bits client server (No x.0 x.1)) (λ i. (place i, sym is i))
+        (headline_at_octets profile_31_bits client server p.pairs class (record { left = left; paired = p.before; ends = ends })
+            (subst (λ profile. SomePermits profile (asked_of p.pairs) (responses_of p.pairs)) p.profile p.stands.permitted))
+
+-- where no octet is left, some spool explains the streams
+pub end-right : (client server : List ℕ) (facts : FactsKept) (left : Unpaired) (answers unanswered : ℕ) → Passed client server facts left answers → Ends left (end unanswered) → (S : Spool) × Explains profile_31_bits S client server answers
+end-right client server facts left answers unanswered p ends =
+    let permitted = subst (λ profile. SomePermits profile (asked_of p.pairs) (responses_of p.pairs)) p.profile p.stands.permitted in
+    let q = (pairs_permitted profile_31_bits client server p.pairs left p.before).1 permitted in
+    (q.0, subst (Explains profile_31_bits q.0 client server) (sym p.count) (explained_end profile_31_bits q.0 client server p.pairs unanswered (record { left = left; paired = p.before; ends = ends }) q.1 q.2))
+
+-- a verdict that shows such an answer stands there
 pub placed : {A E : Type 0} (r : Result (Verdict A) E) (client server : List ℕ) (k : ℕ) (class : Class) (command : Option (List ℕ)) (reply : List ℕ)
     → StopsAt client server k class command reply → IfOk r (λ v. verdict_shown v ≡ bad k class command reply) → IfOk r (λ v. IsPlaced client server (verdict_shown v))
 placed (Ok v) client server k class command reply is ok = subst (IsPlaced client server) (sym ok) is
 placed (Err e) client server k class command reply is ok = ok
+
+-- and is right
+pub right : {A E : Type 0} (r : Result (Verdict A) E) (client server : List ℕ) (k : ℕ) (class : Class) (command : Option (List ℕ)) (reply : List ℕ)
+    → IsHeadline profile_31_bits client server (No k class) → IfOk r (λ v. verdict_shown v ≡ bad k class command reply) → IfOk r (λ v. IsRight client server (verdict_shown v))
+right (Ok v) client server k class command reply is ok = subst (IsRight client server) (sym ok) is
+right (Err e) client server k class command reply is ok = ok

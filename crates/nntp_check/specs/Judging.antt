@@ -8,6 +8,12 @@ use Rattle.nntp_pair.specs.declared.class.PairClass.{PairClass}
 use Rattle.nntp_pair.specs.declared.class.PairClass.TheVariants as pair
 use Rattle.nntp_facts.specs.declared.class.Class.{Class}
 use Rattle.nntp_facts.specs.declared.class.Class.TheVariants.{Surplus, Cut, Malformed, OutOfPlace, Contradiction}
+use Rattle.nntp_facts.specs.declared.noted.Noted.{Noted}
+use Rattle.nntp_facts.specs.declared.noted.Noted.TheVariants as noted
+use Rattle.nntp_facts.specs.Headline.{No, IsHeadline}
+use Rattle.nntp_article.specs.Limit.{profile_31_bits}
+use Rattle.nntp_article.specs.Spool.{Spool}
+use Rattle.nntp_article.specs.Explains.{Explains}
 use Rattle.nntp_check.specs.Verdict.{Judgement, consistent, bad}
 
 -- the octets up to the first CRLF, or all of them where there is none
@@ -29,6 +35,12 @@ pair_class_of Cut = Some pair.Cut
 pair_class_of Malformed = Some pair.Malformed
 pair_class_of OutOfPlace = None
 pair_class_of Contradiction = None
+
+-- the class of an answer that is noted, if it is bad
+abbrev pub class_noted : Noted → Option Class
+class_noted noted.Consistent = None
+class_noted noted.OutOfPlace = Some OutOfPlace
+class_noted noted.Contradiction = Some Contradiction
 
 -- what is left suits the class of a bad answer: octets that answer nothing, or an exchange
 abbrev pub SuitsClass : Class → Unpaired → Type 0
@@ -58,3 +70,8 @@ pub record IsAnsweredThroughout (client server : List ℕ) (answers : ℕ) : Typ
 abbrev pub IsPlaced : List ℕ → List ℕ → Judgement → Type 0
 IsPlaced client server (consistent spool answers) = IsAnsweredThroughout client server answers
 IsPlaced client server (bad answer class command reply) = StopsAt client server answer class command reply
+
+-- what a verdict says of both streams is so: some spool explains them with so many answers; or the answer is the bad one, of its class
+abbrev pub IsRight : List ℕ → List ℕ → Judgement → Type 0
+IsRight client server (consistent spool answers) = (S : Spool) × Explains profile_31_bits S client server answers
+IsRight client server (bad answer class command reply) = IsHeadline profile_31_bits client server (No answer class)

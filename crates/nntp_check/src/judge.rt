@@ -1,7 +1,7 @@
 //! The verdict on two streams.
-ghost use Rattle.std.specs.Prelude.{◌≡◌, IfOk, IfSome, None};
+ghost use Rattle.std.specs.Prelude.{◌≡◌, IfOk};
 ghost use Rattle.std.specs.Option.{option_copied, option_map};
-ghost use Rattle.nntp_check.specs.Judging.{IsFirstLine, IsPlaced, shown, pair_class_of};
+ghost use Rattle.nntp_check.specs.Judging.{IsFirstLine, IsPlaced, IsRight, class_noted, shown};
 ghost use Rattle.nntp_check.specs.Verdict.{bad, verdict_shown};
 
 use crate::spool_maker::given_spool;
@@ -21,7 +21,8 @@ pub fn check<A: Allocator + Copy>(
     client: &[u8],
     server: &[u8],
 ) -> Result<Verdict<A>, AllocError>
-    ensures { IfOk result (λ verdict. IsPlaced client.now server.now (verdict_shown verdict)) }
+    ensures placed { IfOk result (λ verdict. IsPlaced client.now server.now (verdict_shown verdict)) }
+    ensures right { IfOk result (λ verdict. IsRight client.now server.now (verdict_shown verdict)) }
 {
     let mut facts = Facts::new(alloc);
     let mut pairs = Pairs::new(client, server);
@@ -58,7 +59,7 @@ pub fn check<A: Allocator + Copy>(
 
 /// Why an answer is bad that is noted, if it is.
 fn class_of(noted: Noted) -> Option<Class>
-    ensures { IfSome result (λ class. pair_class_of class ≡ None) }
+    ensures { result ≡ class_noted noted }
 {
     match noted {
         Noted::Consistent => None,

@@ -3,7 +3,7 @@ use Rattle.nntp_check.proofs.JudgeLemmas.{Passed}
 use Rattle.nntp_check.proofs.judge.check.Given as goal
 
 abbrev pub invariant-loop-exchange : goal.invariant-loop-exchange
-invariant-loop-exchange g l = Passed l.client l.server l.pairs l.answers
+invariant-loop-exchange g l = Passed l.client l.server l.facts l.pairs l.answers
 
 abbrev pub decreases-loop-exchange : goal.decreases-loop-exchange
 decreases-loop-exchange g l = length l.pairs.server
