@@ -5,7 +5,7 @@ use Rattle.std.specs.declared.cmp.Ordering.{Ordering}
 use Rattle.std.specs.Ordering.{nat_cmp, is_lt}
 use Rattle.std.specs.Cmp.Lexicographic.{slice_cmp, nat_list_cmp_total}
 use Rattle.std.specs.List.{list_all, flat_map, AllByRecursion, join_with_byte}
-use Rattle.std.specs.FinMap.{FinMap, get, insert, empty, entries, len, find, is_sorted, entries_sorted, get-entries, len-empty, len-entries, same_entries_map, IsAntisymmetric, slice_cmp-IsAntisymmetric, nat_cmp-IsAntisymmetric}
+use Rattle.std.specs.FinMap.{FinMap, get, insert, empty, entries, len, find, is_sorted, entries_sorted, get-entries, len-empty, len-entries, same_entries_map}
 use Rattle.std.proofs.lemmas.Bool.{true≢false, and_parts}
 use Rattle.std.proofs.lemmas.List.{append-nil, nil_from_length}
 use Rattle.std.proofs.lemmas.List.Splits.{join_with_byte-slice_split}
@@ -20,13 +20,10 @@ use Rattle.nntp_spool.specs.Reading.{◌>>=◌, fault, Place, Turn, line_at, par
 use Rattle.nntp_spool.specs.Ascending.{is_last}
 use Rattle.nntp_spool.specs.Content.{with_group, with_article, no_spool, ids_have_articles}
 use Rattle.nntp_spool.specs.Content.{IsNamed, IsArticle, IsContent}
-use Rattle.nntp_spool.proofs.ShownMaps.{spool_is}
+use Rattle.nntp_spool.proofs.ShownMaps.{spool_is, octet_keys}
 use Rattle.nntp_spool.proofs.MapEntries.{is_passed, less_before, find_middle, all_got, entries-insert_last}
 use Rattle.nntp_spool.proofs.NumbersRead.{bind_ok, ok_is, done, line_takes}
 use Rattle.nntp_spool.proofs.ItemsRead.{TakenItem, item_takes, item_group_again, item_article_again, item_end_again}
-
-pub octet_keys : IsAntisymmetric (slice_cmp nat_cmp)
-octet_keys = slice_cmp-IsAntisymmetric nat_cmp-IsAntisymmetric
 
 -- ---- what was read
 

@@ -81,3 +81,6 @@ is_end-parts (x ∷ bytes) =
 pub length_is_empty : (bytes : List ℕ) → eqb (length bytes) 0 ≡ is_empty bytes
 length_is_empty [] = refl
 length_is_empty (x ∷ bytes) = grind (arith, nat_tests)
+
+pub ended : (bytes : List ℕ) → eqb (length bytes) 0 ≡ is_end (parts_of bytes)
+ended bytes = length_is_empty bytes ∙ sym (is_end-parts bytes)

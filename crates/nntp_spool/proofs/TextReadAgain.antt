@@ -23,7 +23,8 @@ use Rattle.nntp_spool.specs.Content.{IsNamed, IsArticle, IsContent}
 use Rattle.nntp_spool.proofs.MapEntries.{all_got, got_all}
 use Rattle.nntp_spool.proofs.LineFields.{lacks, lacks-append, lacks-digits, are_digits-decimal, parts_front, list_all_weaken}
 use Rattle.nntp_spool.proofs.NameOctets.{name-lacks, id-lacks}
-use Rattle.nntp_spool.proofs.ItemsOfText.{octet_keys, no_entries, HasCounts, groups_again, first_lines, tail_lines}
+use Rattle.nntp_spool.proofs.ShownMaps.{octet_keys}
+use Rattle.nntp_spool.proofs.ItemsOfText.{no_entries, HasCounts, groups_again, first_lines, tail_lines}
 
 -- ---- lines have no line feed inside
 

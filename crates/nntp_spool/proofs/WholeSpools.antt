@@ -26,7 +26,8 @@ use Rattle.nntp_spool.specs.Content.{AreNumbers, IsNamed, IsContent}
 use Rattle.nntp_spool.proofs.MapEntries.{all_got, got_all}
 use Rattle.nntp_spool.proofs.NumbersInOrder.{no_numbers, all_passed}
 use Rattle.nntp_spool.proofs.NumbersRead.{ok_is, done}
-use Rattle.nntp_spool.proofs.ItemsOfText.{octet_keys, HasCounts, text_takes}
+use Rattle.nntp_spool.proofs.ShownMaps.{octet_keys}
+use Rattle.nntp_spool.proofs.ItemsOfText.{HasCounts, text_takes}
 use Rattle.nntp_spool.proofs.TextReadAgain.{text_again, counted}
 
 value_of_some : {A : Type 0} (o : Option A) → IsSome o → (x : A) × (o ≡ Some x)

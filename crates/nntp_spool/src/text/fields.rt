@@ -1,12 +1,12 @@
 //! The lines of a text and their fields.
-ghost use Rattle.std.specs.Prelude.{◌≡◌, ◌≤◌, ◌^◌, ◌∷◌, [], Some, None, true, option_map, option_copied, position, ◌==◌, MatchOption, if◌then◌else◌, IfSome};
+ghost use Rattle.std.specs.Prelude.{◌≡◌, ◌≤◌, ◌^◌, ◌∷◌, [], Some, None, true, option_map, option_copied, position, ◌==◌, MatchOption, if◌then◌else◌};
 ghost use Rattle.nntp_spool.specs.Reading.{Gives, line_at};
 ghost use Rattle.nntp_spool.specs.Fields.{fields_of, are_digits, is_decimal, is_count, value_of, item_of, number_and_id, content_of};
 ghost use Rattle.nntp_article.specs.Machine.{is_num};
 ghost use Rattle.nntp_article.specs.Limit.{profile_31_bits};
-ghost use Rattle.nntp_spool.specs.ReadingView.{place_shown, item_shown, words_from};
+ghost use Rattle.nntp_spool.specs.ReadingView.{place_shown, item_shown, number_line_shown, words_from};
 
-use crate::text::place::{Item, Place};
+use crate::text::place::{Item, NumberLine, Place};
 use crate::text::read_fault::{Kind, ReadError, ReadFault};
 use crate::value::well_formed::is_line;
 use nntp_article::PROFILE_31_BITS;
@@ -152,22 +152,19 @@ pub(crate) fn item_of(line: &[u8]) -> Option<Item<'_>>
     }
 }
 
-/// The digits of a number, and an id, if the two fields are such.
-fn number_item<'a>(word: &'a [u8], id: &'a [u8]) -> Option<(&'a [u8], &'a [u8])>
-    ensures value { option_map (λ e. (value_of e.0.now, e.1.now)) result ≡ number_and_id (word.now ∷ id.now ∷ []) }
-    ensures digits { IfSome result (λ e. is_decimal e.0.now ≡ true) }
+fn number_line<'a>(digits: &'a [u8], id: &'a [u8]) -> Option<NumberLine<'a>>
+    ensures { option_map number_line_shown result ≡ number_and_id (digits.now ∷ id.now ∷ []) }
 {
-    if is_decimal_word(word) && !id.is_empty() {
-        Some((word, id))
+    if is_decimal_word(digits) && !id.is_empty() {
+        Some(NumberLine { digits, id })
     } else {
         None
     }
 }
 
-/// The digits of the number that a line has, and the id.
-pub(crate) fn number_and_id(line: &[u8]) -> Option<(&[u8], &[u8])>
-    ensures value { option_map (λ e. (value_of e.0.now, e.1.now)) result ≡ number_and_id (fields_of line.now) }
-    ensures digits { IfSome result (λ e. is_decimal e.0.now ≡ true) }
+/// The number and the id of a line.
+pub(crate) fn number_and_id(line: &[u8]) -> Option<NumberLine<'_>>
+    ensures { option_map number_line_shown result ≡ number_and_id (fields_of line.now) }
 {
     let (word, rest) = cut(line);
     let Some(rest) = rest else {
@@ -175,17 +172,16 @@ pub(crate) fn number_and_id(line: &[u8]) -> Option<(&[u8], &[u8])>
     };
     let (id, rest) = cut(rest);
     match rest {
-        None => number_item(word, id),
+        None => number_line(word, id),
         Some(_) => None,
     }
 }
 
-/// The article number that has these digits.
-pub(crate) fn article_number(digits: &[u8]) -> Option<u64>
-    requires { is_decimal digits.now ≡ true }
-    ensures { result ≡ (if is_num profile_31_bits (value_of digits.now) then Some (value_of digits.now) else None) }
+/// The number of a line, if it is an article number.
+pub(crate) fn article_number(line: NumberLine<'_>) -> Option<u64>
+    ensures { result ≡ (if is_num profile_31_bits (value_of line.entry.digits.now) then Some (value_of line.entry.digits.now) else None) }
 {
-    match value(digits) {
+    match value(line.digits) {
         Some(number) => {
             if number < 1 || number > PROFILE_31_BITS.limit {
                 None

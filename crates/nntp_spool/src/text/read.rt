@@ -1,7 +1,7 @@
 //! The parts of a spool's text, read line by line.
 ghost use Rattle.std.specs.Prelude.{◌≡◌, ℕ, true, length, false, IfOk, IfErr};
 ghost use Rattle.nntp_article.specs.Limit.{profile_31_bits};
-ghost use Rattle.nntp_spool.specs.Reading.{Gives, parts_of, is_end, content_at, contents_at, number_in, number_at, numbers_at, group_at, article_at, item_at, items_at, item_then, spool_at};
+ghost use Rattle.nntp_spool.specs.Reading.{Gives, content_at, contents_at, number_in, number_at, numbers_at, group_at, article_at, item_at, items_at, item_then, spool_at};
 ghost use Rattle.nntp_spool.specs.Fields.{End};
 ghost use Rattle.nntp_spool.specs.ReadingView.{place_shown, turn_shown};
 ghost use Rattle.nntp_spool.specs.ArticleLines.{lines_of};
@@ -57,16 +57,16 @@ fn contents_at<A: Allocator + Copy>(
 fn number_in(at: u64, line: &[u8]) -> Result<(u64, &[u8]), ReadError>
     ensures { Gives (λ x. (x.0, x.1.now)) result (number_in profile_31_bits at line.now) }
 {
-    let Some((digits, id)) = number_and_id(line) else {
+    let Some(line) = number_and_id(line) else {
         return Err(fault(at, Kind::Shape));
     };
-    let Some(number) = article_number(digits) else {
+    let Some(number) = article_number(line) else {
         return Err(fault(at, Kind::Number));
     };
-    if !is_id(id) {
+    if !is_id(line.id) {
         return Err(fault(at, Kind::Id));
     }
-    Ok((number, id))
+    Ok((number, line.id))
 }
 
 /// One more number of a group.
@@ -233,14 +233,8 @@ fn items_at<'a, A: Allocator + Copy>(
     Err(fault(rest.line, Kind::Shape))
 }
 
-fn is_at_end(octets: &[u8]) -> bool
-    ensures { result ≡ is_end (parts_of octets.now) }
-{
-    octets.is_empty()
-}
-
 /// A whole text.
-#[tactic(auto, unfolding(crate::specs::Reading::spool_at))]
+#[tactic(auto, using(crate::proofs::SplitLines::ended), unfolding(crate::specs::Reading::spool_at))]
 pub(crate) fn content_of_text<A: Allocator + Copy>(
     alloc: A,
     octets: &[u8],
@@ -257,7 +251,7 @@ pub(crate) fn content_of_text<A: Allocator + Copy>(
     }
     let mut content = Content::new(alloc);
     let end = items_at(alloc, octets.len() as u64, &mut content, rest)?;
-    if !is_at_end(end.rest) {
+    if !end.rest.is_empty() {
         return Err(fault(end.line, Kind::Shape));
     }
     Ok(content)

@@ -42,17 +42,11 @@ pub(crate) fn is_line(line: &[u8]) -> bool
     is_clean(line)
 }
 
-fn all_are_lines<A: Allocator>(lines: &[Vec<u8, A>]) -> bool
-    ensures { result ≡ list_all (λ line. is_line line.items) lines.now }
-{
-    lines.iter().all(|line| is_line(line.as_slice()))
-}
-
 /// Whether the lines have no NUL, CR or LF.
 pub(crate) fn are_lines<A: Allocator>(lines: &[Vec<u8, A>]) -> bool
     ensures { result ≡ list_all is_line (lines_of lines.now) }
 {
-    all_are_lines(lines)
+    lines.iter().all(|line| is_line(line.as_slice()))
 }
 
 /// Whether the lines are a head that says this id or none.
