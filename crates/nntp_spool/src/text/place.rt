@@ -11,7 +11,7 @@ pub(crate) struct Place<'a> {
 }
 
 /// A line that begins a group or an article, or ends the text.
-pub(crate) enum Item<'a> {
+pub(crate) enum Opening<'a> {
     Group {
         name: &'a [u8],
         count: u64,

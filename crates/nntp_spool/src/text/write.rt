@@ -3,7 +3,8 @@ ghost use Rattle.std.specs.Prelude.{◌≡◌, ◌∷◌, [], ◌||◌, is_err, 
 ghost use Rattle.std.specs.List.{flat_map};
 ghost use Rattle.std.specs.FinMap as map;
 ghost use Rattle.nntp_spool.specs.Text.{with_line_ends, number_line, group_line, article_line, barred, group_lines, article_lines, spool_text};
-ghost use Rattle.nntp_spool.specs.ArticleLines.{lines_of, text_of_article};
+ghost use Rattle.nntp_wire.specs.Held.{held};
+ghost use Rattle.nntp_spool.specs.ArticleLines.{text_of_article};
 ghost use Rattle.nntp_spool.specs.Watched.{inner_of, has_failed_of};
 ghost use Rattle.nntp_spool.specs.Writing.{Writes};
 
@@ -54,11 +55,11 @@ fn put_article_line<W: Write>(
 }
 
 /// The lines of a head or a body.
-fn put_contents<W: Write, A: Allocator>(
+fn put_barred_lines<W: Write, A: Allocator>(
     w: &mut Watched<W>,
     lines: &[Vec<u8, A>],
 ) -> Result<(), WriteFault>
-    ensures text { Writes result (W.contents (inner_of w.old)) (W.contents (inner_of w.new)) (with_line_ends (barred (lines_of lines.now))) }
+    ensures text { Writes result (W.contents (inner_of w.old)) (W.contents (inner_of w.new)) (with_line_ends (barred (held lines.now))) }
     ensures failed { has_failed_of w.new ≡ (has_failed_of w.old || is_err result) }
 {
     for line in lines {
@@ -104,8 +105,8 @@ fn put_article<W: Write, A: Allocator>(
     ensures failed { has_failed_of w.new ≡ (has_failed_of w.old || is_err result) }
 {
     put_article_line(w, id, article.head.len() as u64, article.body.len() as u64)?;
-    put_contents(w, &article.head)?;
-    put_contents(w, &article.body)
+    put_barred_lines(w, &article.head)?;
+    put_barred_lines(w, &article.body)
 }
 
 impl<A: Allocator> Content<A> {

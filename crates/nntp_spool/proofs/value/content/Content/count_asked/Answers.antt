@@ -1,4 +1,4 @@
-use Rattle.std.proofs.Common.{◌+◌, cond, List, sym, ap, ◌∙◌, rules}
+use Rattle.std.proofs.Common.{◌+◌, cond, sym, ap, ◌∙◌, rules}
 use Rattle.std.specs.List.{count_by}
 use Rattle.std.proofs.lemmas.Iterator.Consumers.{YieldsList-at, YieldsList-from_rest, YieldsList-from_filter, count_from_yields_List}
 use Rattle.std.proofs.lemmas.List.Folds.{fold-map}

@@ -1,9 +1,10 @@
 use Rattle.std.proofs.Common.{arith, refl, sym, ◌∙◌, [], ◌∷◌, ap, map as list_map}
+use Rattle.std.proofs.lemmas.Simd.{map-map}
 use Rattle.std.proofs.lemmas.Result.{err_from_is_err_and}
 use Rattle.nntp_spool.specs.Text.{with_line_ends, number_line}
 use Rattle.nntp_spool.proofs.ShownMaps.{number_entries}
 use Rattle.nntp_spool.proofs.Written.{Wrote-head, Wrote-all}
-use Rattle.nntp_spool.proofs.WrittenLines.{with_line_ends-cons, map-map}
+use Rattle.nntp_spool.proofs.WrittenLines.{with_line_ends-cons}
 use Rattle.nntp_spool.proofs.value.numbers.Numbers.write.Goals as goal
 
 pub returns-in_err-put_number_line-clause-text : goal.returns-in_err-put_number_line-clause-text
@@ -25,5 +26,5 @@ pub loop-number-init : goal.loop-number-init
 loop-number-init g c =
     let es = c.self.inside.ids.entries in
     let shown = number_entries es c.args.self.now c.self.view_is c.iter-entries.ensures.ordered in
-    let lines = sym (ap (list_map (λ e. number_line e.0 e.1)) shown) ∙ map-map (λ e. (e.0, e.1.items)) (λ e. number_line e.0 e.1) es ∙ ap (list_map (λ e. number_line e.0 e.1.items)) (sym c.iter-entries.ensures.rest) in
+    let lines = sym (ap (list_map (λ e. number_line e.0 e.1)) shown) ∙ map-map (λ e. number_line e.0 e.1) (λ e. (e.0, e.1.items)) es ∙ ap (list_map (λ e. number_line e.0 e.1.items)) (sym c.iter-entries.ensures.rest) in
     record { wrote = Wrote-all _ _ _ (ap with_line_ends lines); same = refl }
