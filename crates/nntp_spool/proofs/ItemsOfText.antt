@@ -15,13 +15,14 @@ use Rattle.nntp_article.specs.Spool.{Name, Spool, Numbers, Text}
 use Rattle.nntp_article.specs.declared.profile.Profile.{Profile}
 use Rattle.nntp_spool.specs.declared.text.read_fault.ReadFault.{ReadFault}
 use Rattle.nntp_spool.specs.declared.text.read_fault.Kind.TheVariants as kinds
-use Rattle.nntp_spool.specs.Text.{group_lines, article_lines, spool_lines, spool_text, with_line_ends}
+use Rattle.nntp_spool.specs.Text.{HasLineCounts, group_lines, article_lines, spool_lines, spool_text, with_line_ends}
 use Rattle.nntp_spool.specs.Reading.{◌>>=◌, fault, Place, Turn, line_at, segments_of, item_at, items_at, turn_then, is_end, spool_at}
 use Rattle.nntp_spool.specs.Ascending.{is_last}
 use Rattle.nntp_spool.specs.Content.{with_group, with_article, no_spool, ids_have_articles}
 use Rattle.nntp_spool.specs.Content.{IsNamed, IsArticle, IsContent}
 use Rattle.nntp_spool.proofs.ShownMaps.{spool_is, octet_keys}
 use Rattle.nntp_spool.proofs.MapEntries.{is_passed, less_before, find_middle, all_got, entries-insert_last}
+use Rattle.nntp_spool.proofs.NumbersInOrder.{few_numbers}
 use Rattle.nntp_spool.proofs.NumbersRead.{bind_ok, ok_is, done, line_takes}
 use Rattle.nntp_spool.proofs.ItemsRead.{TakenItem, item_takes, item_group_again, item_article_again, item_end_again}
 
@@ -167,11 +168,6 @@ placed m before e behind is =
 next_entry : {X : Type 0} (m whole : FinMap (slice_cmp nat_cmp) X) (k : List ℕ) (v : X) (behind : List (List ℕ × X)) → entries whole ≡ entries m ++ (k, v) ∷ behind → is_last m k ≡ true → entries whole ≡ entries (insert m k v) ++ behind
 next_entry m whole k v behind is last = is ∙ sym (append_assoc (entries m) ((k, v) ∷ []) behind) ∙ ap (λ t. t ++ behind) (sym (entries-insert_last nat_list_cmp_total m k v last))
 
--- counts of a spool that 64 bits hold
-pub record HasCounts (F : Spool) : Type 0 where
-  pub counts : (name : Name) (N : Numbers) → get F.groups name ≡ Some N → len N < 2 ^ 64
-  pub lines : (id : Id) (t : Text) → get F.articles id ≡ Some t → (length t.head < 2 ^ 64) × (length t.body < 2 ^ 64)
-
 abbrev pub tail_lines : List (Id × Text) → List Line
 tail_lines texts = flat_map article_lines texts ++ codes "end" ∷ [] ∷ []
 
@@ -183,7 +179,7 @@ pub first_lines : (groups : List (Name × Numbers)) (texts : List (Id × Text)) 
 first_lines [] texts = first_tail texts
 first_lines (g ∷ groups) texts = (_, _, refl)
 
-module _ (profile : Profile) (F : Spool) (le : profile.limit < 2 ^ 64) (content : IsContent profile F) (sizes : HasCounts F) (known : ids_have_articles F ≡ true) where
+module _ (profile : Profile) (F : Spool) (le : profile.limit < 2 ^ 64) (content : IsContent profile F) (sizes : HasLineCounts F) (known : ids_have_articles F ≡ true) where
   abbrev pub ReadsTo : ℕ → Bool → Spool → ℕ → List Line → Type 0
   ReadsTo most articles S line segments = (end : ℕ) × (items_at profile most articles S (record { line = line; segments = segments }) ≡ Ok (F, record { line = end; segments = [] ∷ [] }))
 
@@ -194,7 +190,7 @@ module _ (profile : Profile) (F : Spool) (le : profile.limit < 2 ^ 64) (content 
       (line + 1, rw (item_end_again profile line articles S [] [] (ap ids_have_articles same ∙ known)) (ap (λ (T : Spool). done (T, record { line = line + 1; segments = [] ∷ [] })) same))
   texts_again (suc most) line articles S (a ∷ texts) g t lt =
       let at = placed F.articles (entries S.articles) a texts t in
-      let size = sizes.lines a.0 a.1 at.here in
+      let size = sizes a.0 a.1 at.here in
       let front = first_tail texts in
       let one = item_article_again profile line articles S a.0 a.1 front.0 front.1 size.0 size.1 (content.articles a.0 a.1 at.here) at.less in
       let split : tail_lines (a ∷ texts) ≡ article_lines a ++ front.0 ∷ front.1 = append_assoc (article_lines a) (flat_map article_lines texts) (codes "end" ∷ [] ∷ []) ∙ ap (λ (ps : List Line). article_lines a ++ ps) front.2 in
@@ -213,7 +209,7 @@ module _ (profile : Profile) (F : Spool) (le : profile.limit < 2 ^ 64) (content 
   groups_again (suc most) line S (n ∷ groups) texts g t lt =
       let at = placed F.groups (entries S.groups) n groups g in
       let front = first_lines groups texts in
-      let one = item_group_again profile line S n.0 n.1 front.0 front.1 le (sizes.counts n.0 n.1 at.here) (content.groups n.0 n.1 at.here) at.less in
+      let one = item_group_again profile line S n.0 n.1 front.0 front.1 le (few_numbers profile n.1 le (content.groups n.0 n.1 at.here).numbers) (content.groups n.0 n.1 at.here) at.less in
       let split : flat_map group_lines (n ∷ groups) ++ tail_lines texts ≡ group_lines n ++ front.0 ∷ front.1 = append_assoc (group_lines n) (flat_map group_lines groups) (tail_lines texts) ∙ ap (λ (ps : List Line). group_lines n ++ ps) front.2 in
       let rest = groups_again most one.0 (with_group S n.0 n.1) groups texts (next_entry S.groups F.groups n.0 n.1 groups g at.less) t (omega arith) in (
         rest.0,
