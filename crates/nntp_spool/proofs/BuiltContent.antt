@@ -19,7 +19,7 @@ use Rattle.nntp_spool.specs.Building.{group_fault, number_fault, article_fault}
 use Rattle.nntp_spool.specs.Content.{AreNumbers, IsNamed, IsArticle, IsContent}
 use Rattle.nntp_spool.proofs.MapEntries.{got_more}
 use Rattle.nntp_spool.proofs.NumbersInOrder.{no_numbers, one_more}
-use Rattle.nntp_spool.proofs.ItemsOfText.{octet_keys}
+use Rattle.nntp_spool.proofs.ShownMaps.{octet_keys}
 use Rattle.nntp_spool.proofs.NumberIds.{free_number}
 
 -- a test that found no fault

@@ -3,7 +3,8 @@ use Rattle.std.proofs.Common.{◌≡◌, ℕ, Option, None, Some, IsSome, refl, 
 use Rattle.std.specs.FinMap.{get}
 use Rattle.nntp_article.specs.Spool.{Numbers, IsFirst}
 
-some_none : {A : Type 0} (o : Option A) → o ≡ None → IsSome o → ⊥
+-- none is not some
+pub some_none : {A : Type 0} (o : Option A) → o ≡ None → IsSome o → ⊥
 some_none None e s = cc
 some_none (Some x) e s = absurd cc
 

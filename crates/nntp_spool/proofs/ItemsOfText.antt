@@ -5,7 +5,7 @@ use Rattle.std.specs.declared.cmp.Ordering.{Ordering}
 use Rattle.std.specs.Ordering.{nat_cmp, is_lt}
 use Rattle.std.specs.Cmp.Lexicographic.{slice_cmp, nat_list_cmp_total}
 use Rattle.std.specs.List.{list_all, flat_map, AllByRecursion, join_with_byte}
-use Rattle.std.specs.FinMap.{FinMap, get, insert, empty, entries, len, find, is_sorted, entries_sorted, get-entries, len-empty, len-entries, same_entries_map, IsAntisymmetric, slice_cmp-IsAntisymmetric, nat_cmp-IsAntisymmetric}
+use Rattle.std.specs.FinMap.{FinMap, get, insert, empty, entries, len, find, is_sorted, entries_sorted, get-entries, len-empty, len-entries, same_entries_map}
 use Rattle.std.proofs.lemmas.Bool.{true≢false, and_parts}
 use Rattle.std.proofs.lemmas.List.{append-nil, nil_from_length}
 use Rattle.std.proofs.lemmas.List.Splits.{join_with_byte-slice_split}
@@ -15,18 +15,16 @@ use Rattle.nntp_article.specs.Spool.{Name, Spool, Numbers, Text}
 use Rattle.nntp_article.specs.declared.profile.Profile.{Profile}
 use Rattle.nntp_spool.specs.declared.text.read_fault.ReadFault.{ReadFault}
 use Rattle.nntp_spool.specs.declared.text.read_fault.Kind.TheVariants as kinds
-use Rattle.nntp_spool.specs.Text.{group_lines, article_lines, spool_lines, spool_text, with_line_ends}
-use Rattle.nntp_spool.specs.Reading.{◌>>=◌, fault, Place, Turn, line_at, parts_of, item_at, items_at, turn_then, is_end, spool_at}
+use Rattle.nntp_spool.specs.Text.{HasLineCounts, group_lines, article_lines, spool_lines, spool_text, with_line_ends}
+use Rattle.nntp_spool.specs.Reading.{◌>>=◌, fault, Place, Turn, line_at, segments_of, item_at, items_at, turn_then, is_end, spool_at}
 use Rattle.nntp_spool.specs.Ascending.{is_last}
 use Rattle.nntp_spool.specs.Content.{with_group, with_article, no_spool, ids_have_articles}
 use Rattle.nntp_spool.specs.Content.{IsNamed, IsArticle, IsContent}
-use Rattle.nntp_spool.proofs.ShownMaps.{spool_is}
+use Rattle.nntp_spool.proofs.ShownMaps.{spool_is, octet_keys}
 use Rattle.nntp_spool.proofs.MapEntries.{is_passed, less_before, find_middle, all_got, entries-insert_last}
+use Rattle.nntp_spool.proofs.NumbersInOrder.{few_numbers}
 use Rattle.nntp_spool.proofs.NumbersRead.{bind_ok, ok_is, done, line_takes}
 use Rattle.nntp_spool.proofs.ItemsRead.{TakenItem, item_takes, item_group_again, item_article_again, item_end_again}
-
-pub octet_keys : IsAntisymmetric (slice_cmp nat_cmp)
-octet_keys = slice_cmp-IsAntisymmetric nat_cmp-IsAntisymmetric
 
 -- ---- what was read
 
@@ -39,7 +37,7 @@ record Taken (profile : Profile) (articles : Bool) (S : Spool) (p : Place) (x : 
   with_groups : entries x.0.groups ≡ entries S.groups ++ groups
   with_texts : entries x.0.articles ≡ entries S.articles ++ texts
   known : ids_have_articles x.0 ≡ true
-  parts : p.parts ≡ flat_map group_lines groups ++ (flat_map article_lines texts ++ codes "end" ∷ x.1.parts)
+  segments : p.segments ≡ flat_map group_lines groups ++ (flat_map article_lines texts ++ codes "end" ∷ x.1.segments)
 
 items_take : (profile : Profile) (most : ℕ) (articles : Bool) (S : Spool) (p : Place) (x : Spool × Place) → profile.limit < 2 ^ 64 → items_at profile most articles S p ≡ Ok x → Taken profile articles S p x
 items_take profile zero articles S p x le e = absurd cc
@@ -60,7 +58,7 @@ items_take profile (suc most) articles S p x le e =
           with_groups = rest.with_groups ∙ ap (λ (t : List (Name × Numbers)). t ++ rest.groups) (entries-insert_last nat_list_cmp_total S.groups g.name g.numbers g.last) ∙ append_assoc (entries S.groups) ((g.name, g.numbers) ∷ []) rest.groups;
           with_texts = rest.with_texts;
           known = rest.known;
-          parts = g.parts ∙ ap (λ (t : List Line). group_lines (g.name, g.numbers) ++ t) rest.parts ∙ sym (append_assoc (group_lines (g.name, g.numbers)) (flat_map group_lines rest.groups) (flat_map article_lines rest.texts ++ codes "end" ∷ x.1.parts));
+          segments = g.segments ∙ ap (λ (t : List Line). group_lines (g.name, g.numbers) ++ t) rest.segments ∙ sym (append_assoc (group_lines (g.name, g.numbers)) (flat_map group_lines rest.groups) (flat_map article_lines rest.texts ++ codes "end" ∷ x.1.segments));
         }
     taken turn (inr (inl a)) f more =
         let rest = more true (with_article S a.id a.text) a.next (ap (turn_then (items_at profile most)) (sym a.is) ∙ f) in
@@ -74,8 +72,8 @@ items_take profile (suc most) articles S p x le e =
           with_groups = rest.with_groups ∙ ap (λ (t : List (Name × Numbers)). entries S.groups ++ t) none;
           with_texts = rest.with_texts ∙ ap (λ (t : List (Id × Text)). t ++ rest.texts) (entries-insert_last nat_list_cmp_total S.articles a.id a.text a.last) ∙ append_assoc (entries S.articles) ((a.id, a.text) ∷ []) rest.texts;
           known = rest.known;
-          parts = a.parts ∙ ap (λ (t : List Line). article_lines (a.id, a.text) ++ t) (rest.parts ∙ ap (λ (t : List (Name × Numbers)). flat_map group_lines t ++ (flat_map article_lines rest.texts ++ codes "end" ∷ x.1.parts)) none)
-              ∙ sym (append_assoc (article_lines (a.id, a.text)) (flat_map article_lines rest.texts) (codes "end" ∷ x.1.parts));
+          segments = a.segments ∙ ap (λ (t : List Line). article_lines (a.id, a.text) ++ t) (rest.segments ∙ ap (λ (t : List (Name × Numbers)). flat_map group_lines t ++ (flat_map article_lines rest.texts ++ codes "end" ∷ x.1.segments)) none)
+              ∙ sym (append_assoc (article_lines (a.id, a.text)) (flat_map article_lines rest.texts) (codes "end" ∷ x.1.segments));
         }
     taken turn (inr (inr d)) f more =
         let same : ◌≡◌ {A = Spool × Place} (S, d.next) x = ok_is (S, d.next) x (ap (turn_then (items_at profile most)) (sym d.is) ∙ f) in
@@ -88,7 +86,7 @@ items_take profile (suc most) articles S p x le e =
           with_groups = ap (λ (y : Spool × Place). entries y.0.groups) (sym same) ∙ sym (append-nil (entries S.groups));
           with_texts = ap (λ (y : Spool × Place). entries y.0.articles) (sym same) ∙ sym (append-nil (entries S.articles));
           known = ap (λ (y : Spool × Place). ids_have_articles y.0) (sym same) ∙ d.known;
-          parts = d.parts ∙ ap (λ (y : Spool × Place). codes "end" ∷ y.1.parts) same;
+          segments = d.segments ∙ ap (λ (y : Spool × Place). codes "end" ∷ y.1.segments) same;
         }
 
 pub no_entries : {K X : Type 0} (R : K → K → Ordering) → entries (empty {X = X} {R = R}) ≡ []
@@ -107,11 +105,11 @@ empty_line_is : (xs : Line) → is_empty xs ≡ true → xs ≡ []
 empty_line_is [] e = refl
 empty_line_is (x ∷ xs) e = absurd (true≢false (sym e))
 
-end_is : (parts : List Line) → is_end parts ≡ true → parts ≡ [] ∷ []
+end_is : (segments : List Line) → is_end segments ≡ true → segments ≡ [] ∷ []
 end_is [] e = absurd (true≢false (sym e))
-end_is (part ∷ parts) e =
-    let both = and_parts (is_empty part) (is_empty parts) e in
-    ap (λ (t : Line). t ∷ parts) (empty_line_is part both.0) ∙ ap (λ (t : List Line). [] ∷ t) (empty_is parts both.1)
+end_is (segment ∷ segments) e =
+    let both = and_parts (is_empty segment) (is_empty segments) e in
+    ap (λ (t : Line). t ∷ segments) (empty_line_is segment both.0) ∙ ap (λ (t : List Line). [] ∷ t) (empty_is segments both.1)
 
 fits_test : {A : Type 0} (b : Bool) (r : Result A ReadFault) (f : ReadFault) (y : A) → cond b r (Err f) ≡ Ok y → (b ≡ true) × (r ≡ Ok y)
 fits_test true r f y e = (refl, e)
@@ -126,21 +124,21 @@ pub record ReadAs (profile : Profile) (bytes : List ℕ) (S : Spool) : Type 0 wh
 pub text_takes : (profile : Profile) (bytes : List ℕ) (S : Spool) → profile.limit < 2 ^ 64 → spool_at profile bytes ≡ Ok S → ReadAs profile bytes S
 unfolding spool_at
 text_takes profile bytes S le e =
-    let start : Place = record { line = 1; parts = parts_of bytes } in
-    let last_step = λ (s : Spool × Place). cond (is_end s.1.parts) (done s.0) (fault s.1.line kinds.Shape) in
+    let start : Place = record { line = 1; segments = segments_of bytes } in
+    let last_step = λ (s : Spool × Place). cond (is_end s.1.segments) (done s.0) (fault s.1.line kinds.Shape) in
     let items = λ (l : Line × Place). cond (bytes_eq l.0 (codes "spool 1")) (items_at profile (length bytes) false no_spool l.1) (fault 1 kinds.Shape) in
     let a = bind_ok (line_at start) (λ l. items l >>= last_step) S e in
     let b = bind_ok (items a.0) last_step S a.2 in
     let c = fits_test (bytes_eq a.0.0 (codes "spool 1")) (items_at profile (length bytes) false no_spool a.0.1) (record { line = 1; kind = kinds.Shape }) b.0 b.1 in
-    let d = fits_test (is_end b.0.1.parts) (done b.0.0) (record { line = b.0.1.line; kind = kinds.Shape }) S b.2 in
+    let d = fits_test (is_end b.0.1.segments) (done b.0.0) (record { line = b.0.1.line; kind = kinds.Shape }) S b.2 in
     let t = items_take profile (length bytes) false no_spool a.0.1 b.0 le c.1 in
     let same : b.0.0 ≡ S = ok_is b.0.0 S d.1 in
     let groups : entries S.groups ≡ t.groups = ap (λ (T : Spool). entries T.groups) (sym same) ∙ t.with_groups ∙ ap (λ (es : List (Name × Numbers)). es ++ t.groups) (no_entries (slice_cmp nat_cmp)) in
     let texts : entries S.articles ≡ t.texts = ap (λ (T : Spool). entries T.articles) (sym same) ∙ t.with_texts ∙ ap (λ (es : List (Id × Text)). es ++ t.texts) (no_entries (slice_cmp nat_cmp)) in
-    let lines : parts_of bytes ≡ spool_lines S ++ [] ∷ [] =
-    line_takes start a.0 a.1 ∙ ap (λ (l : Line). l ∷ a.0.1.parts) ((bytes_eq-Decides a.0.0 (codes "spool 1")).0 c.0)
-    ∙ ap (λ (ps : List Line). codes "spool 1" ∷ ps) (t.parts
-    ∙ ap (λ (ps : List Line). flat_map group_lines t.groups ++ (flat_map article_lines t.texts ++ codes "end" ∷ ps)) (end_is b.0.1.parts d.0)
+    let lines : segments_of bytes ≡ spool_lines S ++ [] ∷ [] =
+    line_takes start a.0 a.1 ∙ ap (λ (l : Line). l ∷ a.0.1.segments) ((bytes_eq-Decides a.0.0 (codes "spool 1")).0 c.0)
+    ∙ ap (λ (ps : List Line). codes "spool 1" ∷ ps) (t.segments
+    ∙ ap (λ (ps : List Line). flat_map group_lines t.groups ++ (flat_map article_lines t.texts ++ codes "end" ∷ ps)) (end_is b.0.1.segments d.0)
     ∙ ap (λ (es : List (Name × Numbers)). flat_map group_lines es ++ (flat_map article_lines t.texts ++ codes "end" ∷ [] ∷ [])) (sym groups)
     ∙ ap (λ (es : List (Id × Text)). flat_map group_lines (entries S.groups) ++ (flat_map article_lines es ++ codes "end" ∷ [] ∷ [])) (sym texts)
     ∙ ap (λ (ps : List Line). flat_map group_lines (entries S.groups) ++ ps) (sym (append_assoc (flat_map article_lines (entries S.articles)) (codes "end" ∷ []) ([] ∷ [])))
@@ -170,11 +168,6 @@ placed m before e behind is =
 next_entry : {X : Type 0} (m whole : FinMap (slice_cmp nat_cmp) X) (k : List ℕ) (v : X) (behind : List (List ℕ × X)) → entries whole ≡ entries m ++ (k, v) ∷ behind → is_last m k ≡ true → entries whole ≡ entries (insert m k v) ++ behind
 next_entry m whole k v behind is last = is ∙ sym (append_assoc (entries m) ((k, v) ∷ []) behind) ∙ ap (λ t. t ++ behind) (sym (entries-insert_last nat_list_cmp_total m k v last))
 
--- counts of a spool that 64 bits hold
-pub record HasCounts (F : Spool) : Type 0 where
-  pub counts : (name : Name) (N : Numbers) → get F.groups name ≡ Some N → len N < 2 ^ 64
-  pub lines : (id : Id) (t : Text) → get F.articles id ≡ Some t → (length t.head < 2 ^ 64) × (length t.body < 2 ^ 64)
-
 abbrev pub tail_lines : List (Id × Text) → List Line
 tail_lines texts = flat_map article_lines texts ++ codes "end" ∷ [] ∷ []
 
@@ -186,26 +179,26 @@ pub first_lines : (groups : List (Name × Numbers)) (texts : List (Id × Text)) 
 first_lines [] texts = first_tail texts
 first_lines (g ∷ groups) texts = (_, _, refl)
 
-module _ (profile : Profile) (F : Spool) (le : profile.limit < 2 ^ 64) (content : IsContent profile F) (sizes : HasCounts F) (known : ids_have_articles F ≡ true) where
+module _ (profile : Profile) (F : Spool) (le : profile.limit < 2 ^ 64) (content : IsContent profile F) (sizes : HasLineCounts F) (known : ids_have_articles F ≡ true) where
   abbrev pub ReadsTo : ℕ → Bool → Spool → ℕ → List Line → Type 0
-  ReadsTo most articles S line parts = (end : ℕ) × (items_at profile most articles S (record { line = line; parts = parts }) ≡ Ok (F, record { line = end; parts = [] ∷ [] }))
+  ReadsTo most articles S line segments = (end : ℕ) × (items_at profile most articles S (record { line = line; segments = segments }) ≡ Ok (F, record { line = end; segments = [] ∷ [] }))
 
   texts_again : (most line : ℕ) (articles : Bool) (S : Spool) (texts : List (Id × Text)) → S.groups ≡ F.groups → entries F.articles ≡ entries S.articles ++ texts → length texts < most → ReadsTo most articles S line (tail_lines texts)
   texts_again zero line articles S texts g t lt = absurd (omega arith)
   texts_again (suc most) line articles S [] g t lt =
       let same : S ≡ F = spool_is S F g (same_entries_map S.articles F.articles (sym (append-nil (entries S.articles)) ∙ sym t)) in
-      (line + 1, rw (item_end_again profile line articles S [] [] (ap ids_have_articles same ∙ known)) (ap (λ (T : Spool). done (T, record { line = line + 1; parts = [] ∷ [] })) same))
+      (line + 1, rw (item_end_again profile line articles S [] [] (ap ids_have_articles same ∙ known)) (ap (λ (T : Spool). done (T, record { line = line + 1; segments = [] ∷ [] })) same))
   texts_again (suc most) line articles S (a ∷ texts) g t lt =
       let at = placed F.articles (entries S.articles) a texts t in
-      let size = sizes.lines a.0 a.1 at.here in
+      let size = sizes a.0 a.1 at.here in
       let front = first_tail texts in
       let one = item_article_again profile line articles S a.0 a.1 front.0 front.1 size.0 size.1 (content.articles a.0 a.1 at.here) at.less in
       let split : tail_lines (a ∷ texts) ≡ article_lines a ++ front.0 ∷ front.1 = append_assoc (article_lines a) (flat_map article_lines texts) (codes "end" ∷ [] ∷ []) ∙ ap (λ (ps : List Line). article_lines a ++ ps) front.2 in
       let rest = texts_again most one.0 true (with_article S a.0 a.1) texts g (next_entry S.articles F.articles a.0 a.1 texts t at.less) (omega arith) in (
         rest.0,
-        ap (λ (ps : List Line). items_at profile (suc most) articles S (record { line = line; parts = ps })) split
+        ap (λ (ps : List Line). items_at profile (suc most) articles S (record { line = line; segments = ps })) split
             ∙ ap (λ (r : Result Turn ReadFault). r >>= turn_then (items_at profile most)) one.1
-            ∙ ap (λ (ps : List Line). items_at profile most true (with_article S a.0 a.1) (record { line = one.0; parts = ps })) (sym front.2)
+            ∙ ap (λ (ps : List Line). items_at profile most true (with_article S a.0 a.1) (record { line = one.0; segments = ps })) (sym front.2)
             ∙ rest.1,
       )
 
@@ -216,12 +209,12 @@ module _ (profile : Profile) (F : Spool) (le : profile.limit < 2 ^ 64) (content 
   groups_again (suc most) line S (n ∷ groups) texts g t lt =
       let at = placed F.groups (entries S.groups) n groups g in
       let front = first_lines groups texts in
-      let one = item_group_again profile line S n.0 n.1 front.0 front.1 le (sizes.counts n.0 n.1 at.here) (content.groups n.0 n.1 at.here) at.less in
+      let one = item_group_again profile line S n.0 n.1 front.0 front.1 le (few_numbers profile n.1 le (content.groups n.0 n.1 at.here).numbers) (content.groups n.0 n.1 at.here) at.less in
       let split : flat_map group_lines (n ∷ groups) ++ tail_lines texts ≡ group_lines n ++ front.0 ∷ front.1 = append_assoc (group_lines n) (flat_map group_lines groups) (tail_lines texts) ∙ ap (λ (ps : List Line). group_lines n ++ ps) front.2 in
       let rest = groups_again most one.0 (with_group S n.0 n.1) groups texts (next_entry S.groups F.groups n.0 n.1 groups g at.less) t (omega arith) in (
         rest.0,
-        ap (λ (ps : List Line). items_at profile (suc most) false S (record { line = line; parts = ps })) split
+        ap (λ (ps : List Line). items_at profile (suc most) false S (record { line = line; segments = ps })) split
             ∙ ap (λ (r : Result Turn ReadFault). r >>= turn_then (items_at profile most)) one.1
-            ∙ ap (λ (ps : List Line). items_at profile most false (with_group S n.0 n.1) (record { line = one.0; parts = ps })) (sym front.2)
+            ∙ ap (λ (ps : List Line). items_at profile most false (with_group S n.0 n.1) (record { line = one.0; segments = ps })) (sym front.2)
             ∙ rest.1,
       )

@@ -10,16 +10,16 @@ use Rattle.nntp_article.specs.declared.profile.Profile.{Profile}
 use Rattle.nntp_spool.specs.declared.text.read_fault.ReadFault.{ReadFault}
 use Rattle.nntp_spool.specs.declared.text.read_fault.Kind.TheVariants as kinds
 use Rattle.nntp_spool.specs.Text.{group_line, article_line, barred, group_lines, article_lines}
-use Rattle.nntp_spool.specs.Reading.{◌>>=◌, fault, shaped, Place, Turn, On, Done, line_at, next_line, numbers_at, contents_at, group_at, article_at, item_then, item_at}
-use Rattle.nntp_spool.specs.Fields.{Item, Group, Article, End, fields_of, item_of}
+use Rattle.nntp_spool.specs.Reading.{◌>>=◌, fault, shaped, Place, Turn, On, Done, line_at, next_line, numbers_at, barred_lines_at, group_at, article_at, item_then, item_at}
+use Rattle.nntp_spool.specs.Fields.{OpeningValue, Group, Article, End, fields_of, opening_of}
 use Rattle.nntp_spool.specs.Ascending.{is_last}
 use Rattle.nntp_spool.specs.Content.{with_group, with_article, is_head_of, ids_have_articles}
 use Rattle.nntp_spool.proofs.FollowingNumbers.{number_lines}
 use Rattle.nntp_spool.specs.Content.{AreNumbers, IsNamed, IsArticle}
 use Rattle.nntp_spool.proofs.NameOctets.{name-lacks, name-some, id-lacks, id-some}
-use Rattle.nntp_spool.proofs.LineFields.{item-group_line, item-article_line, ItemLine, item_line}
+use Rattle.nntp_spool.proofs.LineFields.{opening-group_line, opening-article_line, OpeningLine, opening_line}
 use Rattle.nntp_spool.proofs.NumbersRead.{bind_ok, unless_ok, guard_ok, shaped_ok, ok_is, done, line_takes, numbers_take, numbers_again, entries-with_all}
-use Rattle.nntp_spool.proofs.ArticleLinesRead.{contents_take, contents_again}
+use Rattle.nntp_spool.proofs.ArticleLinesRead.{barred_lines_take, barred_lines_again}
 use Rattle.nntp_spool.proofs.NumbersInOrder.{entries-empty, no_numbers, all_more, with_all-entries}
 
 -- ---- what was read
@@ -29,7 +29,7 @@ record GroupTaken (profile : Profile) (name : Name) (count : ℕ) (S : Spool) (p
   named : IsNamed profile name numbers
   last : is_last S.groups name ≡ true
   made : x.0 ≡ with_group S name numbers
-  parts : group_line name count ∷ p.parts ≡ group_lines (name, numbers) ++ x.1.parts
+  segments : group_line name count ∷ p.segments ≡ group_lines (name, numbers) ++ x.1.segments
 
 group_takes : (profile : Profile) (line : ℕ) (name : Name) (count : ℕ) (S : Spool) (p : Place) (x : Spool × Place) → profile.limit < 2 ^ 64 → group_at profile line name count S p ≡ Ok x → GroupTaken profile name count S p x
 unfolding group_at
@@ -48,10 +48,10 @@ group_takes profile line name count S p x le e =
       named = record { is_name = a.0; numbers = subst (AreNumbers profile) (sym taken.3) (all_more profile empty es (no_numbers profile) taken.1) };
       last = b.0;
       made = sym (ap (λ (y : Spool × Place). y.0) same);
-      parts = ap (λ (t : List Line). group_line name count ∷ t) taken.4
-          ∙ ap (λ (n : ℕ). group_line name n ∷ (number_lines es ++ c.0.1.parts)) counted
-          ∙ ap (λ (fs : List (ℕ × List ℕ)). group_line name (len c.0.0) ∷ (number_lines fs ++ c.0.1.parts)) (sym listed)
-          ∙ ap (λ (y : Spool × Place). group_lines (name, c.0.0) ++ y.1.parts) same;
+      segments = ap (λ (t : List Line). group_line name count ∷ t) taken.4
+          ∙ ap (λ (n : ℕ). group_line name n ∷ (number_lines es ++ c.0.1.segments)) counted
+          ∙ ap (λ (fs : List (ℕ × List ℕ)). group_line name (len c.0.0) ∷ (number_lines fs ++ c.0.1.segments)) (sym listed)
+          ∙ ap (λ (y : Spool × Place). group_lines (name, c.0.0) ++ y.1.segments) same;
     }
 
 record ArticleTaken (id : Id) (heads bodies : ℕ) (S : Spool) (p : Place) (x : Spool × Place) : Type 0 where
@@ -59,7 +59,7 @@ record ArticleTaken (id : Id) (heads bodies : ℕ) (S : Spool) (p : Place) (x : 
   is_article : IsArticle id text
   last : is_last S.articles id ≡ true
   made : x.0 ≡ with_article S id text
-  parts : article_line id heads bodies ∷ p.parts ≡ article_lines (id, text) ++ x.1.parts
+  segments : article_line id heads bodies ∷ p.segments ≡ article_lines (id, text) ++ x.1.segments
 
 article_takes : (line : ℕ) (id : Id) (heads bodies : ℕ) (S : Spool) (p : Place) (x : Spool × Place) → article_at line id heads bodies S p ≡ Ok x → ArticleTaken id heads bodies S p x
 unfolding article_at
@@ -67,25 +67,25 @@ article_takes line id heads bodies S p x e =
     let last_step = λ (head body : List Line × Place). cond (is_head_of id head.0) (done (with_article S id (record { head = head.0; body = body.0 }), body.1)) (fault line kinds.Head) in
     let a = unless_ok (is_message_id id) (record { line = line; kind = kinds.Id }) _ x e in
     let b = unless_ok (is_last S.articles id) (record { line = line; kind = kinds.Order }) _ x a.1 in
-    let c = bind_ok (contents_at heads p) (λ head. contents_at bodies head.1 >>= last_step head) x b.1 in
-    let d = bind_ok (contents_at bodies c.0.1) (last_step c.0) x c.2 in
+    let c = bind_ok (barred_lines_at heads p) (λ head. barred_lines_at bodies head.1 >>= last_step head) x b.1 in
+    let d = bind_ok (barred_lines_at bodies c.0.1) (last_step c.0) x c.2 in
     let f = fitting (is_head_of id c.0.0) _ _ x d.2 in
     let same : ◌≡◌ {A = Spool × Place} (with_article S id (record { head = c.0.0; body = d.0.0 }), d.0.1) x = ok_is (with_article S id (record { head = c.0.0; body = d.0.0 }), d.0.1) x f.1 in
-    let h = contents_take heads [] p c.0 c.1 in
-    let k = contents_take bodies [] c.0.1 d.0 d.1 in
+    let h = barred_lines_take heads [] p c.0 c.1 in
+    let k = barred_lines_take bodies [] c.0.1 d.0 d.1 in
     let text : Text = record { head = c.0.0; body = d.0.0 } in
     record {
       text = text;
       is_article = record { is_id = a.0; head = f.0; head_lines = ap (list_all is_line) h.3 ∙ h.1; body_lines = ap (list_all is_line) k.3 ∙ k.1 };
       last = b.0;
       made = sym (ap (λ (y : Spool × Place). y.0) same);
-      parts = ap (λ (t : List Line). article_line id heads bodies ∷ t) (h.4 ∙ ap (λ (t : List Line). barred h.0 ++ t) k.4)
-          ∙ ap (λ (n : ℕ). article_line id n bodies ∷ (barred h.0 ++ (barred k.0 ++ d.0.1.parts))) (sym h.2 ∙ ap length (sym h.3))
-          ∙ ap (λ (n : ℕ). article_line id (length text.head) n ∷ (barred h.0 ++ (barred k.0 ++ d.0.1.parts))) (sym k.2 ∙ ap length (sym k.3))
-          ∙ ap (λ (t : List Line). article_line id (length text.head) (length text.body) ∷ (barred t ++ (barred k.0 ++ d.0.1.parts))) (sym h.3)
-          ∙ ap (λ (t : List Line). article_line id (length text.head) (length text.body) ∷ (barred text.head ++ (barred t ++ d.0.1.parts))) (sym k.3)
-          ∙ ap (λ (t : List Line). article_line id (length text.head) (length text.body) ∷ t) (sym (append_assoc (barred text.head) (barred text.body) d.0.1.parts))
-          ∙ ap (λ (y : Spool × Place). article_lines (id, text) ++ y.1.parts) same;
+      segments = ap (λ (t : List Line). article_line id heads bodies ∷ t) (h.4 ∙ ap (λ (t : List Line). barred h.0 ++ t) k.4)
+          ∙ ap (λ (n : ℕ). article_line id n bodies ∷ (barred h.0 ++ (barred k.0 ++ d.0.1.segments))) (sym h.2 ∙ ap length (sym h.3))
+          ∙ ap (λ (n : ℕ). article_line id (length text.head) n ∷ (barred h.0 ++ (barred k.0 ++ d.0.1.segments))) (sym k.2 ∙ ap length (sym k.3))
+          ∙ ap (λ (t : List Line). article_line id (length text.head) (length text.body) ∷ (barred t ++ (barred k.0 ++ d.0.1.segments))) (sym h.3)
+          ∙ ap (λ (t : List Line). article_line id (length text.head) (length text.body) ∷ (barred text.head ++ (barred t ++ d.0.1.segments))) (sym k.3)
+          ∙ ap (λ (t : List Line). article_line id (length text.head) (length text.body) ∷ t) (sym (append_assoc (barred text.head) (barred text.body) d.0.1.segments))
+          ∙ ap (λ (y : Spool × Place). article_lines (id, text) ++ y.1.segments) same;
     }
   where
     fitting : {A : Type 0} (b : Bool) (d : ReadFault) (r : Result A ReadFault) (y : A) → cond b r (Err d) ≡ Ok y → (b ≡ true) × (r ≡ Ok y)
@@ -101,7 +101,7 @@ pub record TakenGroup (profile : Profile) (articles : Bool) (S : Spool) (p : Pla
   pub named : IsNamed profile name numbers
   pub last : is_last S.groups name ≡ true
   pub is : turn ≡ On false (with_group S name numbers) next
-  pub parts : p.parts ≡ group_lines (name, numbers) ++ next.parts
+  pub segments : p.segments ≡ group_lines (name, numbers) ++ next.segments
 
 pub record TakenArticle (S : Spool) (p : Place) (turn : Turn) : Type 0 where
   pub id : Id
@@ -110,13 +110,13 @@ pub record TakenArticle (S : Spool) (p : Place) (turn : Turn) : Type 0 where
   pub is_article : IsArticle id text
   pub last : is_last S.articles id ≡ true
   pub is : turn ≡ On true (with_article S id text) next
-  pub parts : p.parts ≡ article_lines (id, text) ++ next.parts
+  pub segments : p.segments ≡ article_lines (id, text) ++ next.segments
 
 pub record TakenEnd (S : Spool) (p : Place) (turn : Turn) : Type 0 where
   pub next : Place
   pub known : ids_have_articles S ≡ true
   pub is : turn ≡ Done S next
-  pub parts : p.parts ≡ codes "end" ∷ next.parts
+  pub segments : p.segments ≡ codes "end" ∷ next.segments
 
 abbrev pub TakenItem : Profile → Bool → Spool → Place → Turn → Type 0
 TakenItem profile articles S p turn = TakenGroup profile articles S p turn ⊎ (TakenArticle S p turn ⊎ TakenEnd S p turn)
@@ -124,11 +124,11 @@ TakenItem profile articles S p turn = TakenGroup profile articles S p turn ⊎ (
 pub item_takes : (profile : Profile) (articles : Bool) (S : Spool) (p : Place) (turn : Turn) → profile.limit < 2 ^ 64 → item_at profile articles S p ≡ Ok turn → TakenItem profile articles S p turn
 unfolding item_at
 item_takes profile articles S p turn le e =
-    let a = bind_ok (line_at p) (λ l. shaped p.line (item_of (fields_of l.0)) >>= item_then profile p.line articles S l.1) turn e in
-    let b = bind_ok (shaped p.line (item_of (fields_of a.0.0))) (item_then profile p.line articles S a.0.1) turn a.2 in
-    taken b.0 a.0.0 a.0.1 (line_takes p a.0 a.1) (item_line a.0.0 b.0 (shaped_ok p.line (item_of (fields_of a.0.0)) b.0 b.1)) b.2
+    let a = bind_ok (line_at p) (λ l. shaped p.line (opening_of (fields_of l.0)) >>= item_then profile p.line articles S l.1) turn e in
+    let b = bind_ok (shaped p.line (opening_of (fields_of a.0.0))) (item_then profile p.line articles S a.0.1) turn a.2 in
+    taken b.0 a.0.0 a.0.1 (line_takes p a.0 a.1) (opening_line a.0.0 b.0 (shaped_ok p.line (opening_of (fields_of a.0.0)) b.0 b.1)) b.2
   where
-    taken : (item : Item) (l : Line) (q : Place) → p.parts ≡ l ∷ q.parts → ItemLine item l → item_then profile p.line articles S q item ≡ Ok turn → TakenItem profile articles S p turn
+    taken : (item : OpeningValue) (l : Line) (q : Place) → p.segments ≡ l ∷ q.segments → OpeningLine item l → item_then profile p.line articles S q item ≡ Ok turn → TakenItem profile articles S p turn
     taken (Group name count) l q front is e =
         let none = guard_ok articles (record { line = p.line; kind = kinds.Shape }) (group_at profile p.line name count S q >>= λ g. done (On false g.0 g.1)) turn e in
         let c = bind_ok (group_at profile p.line name count S q) (λ g. done (On false g.0 g.1)) turn none.1 in
@@ -141,7 +141,7 @@ item_takes profile articles S p turn le e =
           named = g.named;
           last = g.last;
           is = sym (ok_is (On false c.0.0 c.0.1) turn c.2) ∙ ap (λ (T : Spool). On false T c.0.1) g.made;
-          parts = front ∙ ap (λ (t : Line). t ∷ q.parts) is.1 ∙ g.parts;
+          segments = front ∙ ap (λ (t : Line). t ∷ q.segments) is.1 ∙ g.segments;
         })
     taken (Article id heads bodies) l q front is e =
         let c = bind_ok (article_at p.line id heads bodies S q) (λ a. done (On true a.0 a.1)) turn e in
@@ -153,63 +153,63 @@ item_takes profile articles S p turn le e =
           is_article = g.is_article;
           last = g.last;
           is = sym (ok_is (On true c.0.0 c.0.1) turn c.2) ∙ ap (λ (T : Spool). On true T c.0.1) g.made;
-          parts = front ∙ ap (λ (t : Line). t ∷ q.parts) is.2 ∙ g.parts;
+          segments = front ∙ ap (λ (t : Line). t ∷ q.segments) is.2 ∙ g.segments;
         }))
     taken End l q front is e = at_end (ids_have_articles S) refl e
       where
         at_end : (b : Bool) → ids_have_articles S ≡ b → cond b (done (Done S q)) (fault p.line kinds.UnknownId) ≡ Ok turn → TakenItem profile articles S p turn
-        at_end true known e = inr (inr (record { next = q; known = known; is = sym (ok_is (Done S q) turn e); parts = front ∙ ap (λ (t : Line). t ∷ q.parts) is }))
+        at_end true known e = inr (inr (record { next = q; known = known; is = sym (ok_is (Done S q) turn e); segments = front ∙ ap (λ (t : Line). t ∷ q.segments) is }))
         at_end false known e = absurd cc
 
 -- ---- what is written is read
 
-pub line_again : (line : ℕ) (l : Line) (ls : List Line) (next : Line) (parts : List Line) → next_line line (l ∷ (ls ++ next ∷ parts)) ≡ Ok (l, record { line = line + 1; parts = ls ++ next ∷ parts })
-line_again line l [] next parts = refl
-line_again line l (k ∷ ls) next parts = refl
+pub line_again : (line : ℕ) (l : Line) (ls : List Line) (next : Line) (segments : List Line) → next_line line (l ∷ (ls ++ next ∷ segments)) ≡ Ok (l, record { line = line + 1; segments = ls ++ next ∷ segments })
+line_again line l [] next segments = refl
+line_again line l (k ∷ ls) next segments = refl
 
-first_of : (ls : List Line) (next : Line) (parts : List Line) → (a : Line) × (more : List Line) × (ls ++ next ∷ parts ≡ a ∷ more)
-first_of [] next parts = (next, parts, refl)
-first_of (l ∷ ls) next parts = (l, ls ++ next ∷ parts, refl)
+first_of : (ls : List Line) (next : Line) (segments : List Line) → (a : Line) × (more : List Line) × (ls ++ next ∷ segments ≡ a ∷ more)
+first_of [] next segments = (next, segments, refl)
+first_of (l ∷ ls) next segments = (l, ls ++ next ∷ segments, refl)
 
-group_again : (profile : Profile) (line at : ℕ) (S : Spool) (name : Name) (N : Numbers) (next : Line) (parts : List Line) → profile.limit < 2 ^ 64 → IsNamed profile name N → is_last S.groups name ≡ true
-    → (end : ℕ) × (group_at profile at name (len N) S (record { line = line; parts = number_lines (entries N) ++ next ∷ parts }) ≡ Ok (with_group S name N, record { line = end; parts = next ∷ parts }))
+group_again : (profile : Profile) (line at : ℕ) (S : Spool) (name : Name) (N : Numbers) (next : Line) (segments : List Line) → profile.limit < 2 ^ 64 → IsNamed profile name N → is_last S.groups name ≡ true
+    → (end : ℕ) × (group_at profile at name (len N) S (record { line = line; segments = number_lines (entries N) ++ next ∷ segments }) ≡ Ok (with_group S name N, record { line = end; segments = next ∷ segments }))
 unfolding group_at
-group_again profile line at S name N next parts le named last =
+group_again profile line at S name N next segments le named last =
     let all = with_all-entries profile N named.numbers in
-    let again = numbers_again profile line (entries N) next parts empty le all.0 in
-    let read : numbers_at profile (len N) (record { line = line; parts = number_lines (entries N) ++ next ∷ parts }) ≡ done (N, record { line = again.0; parts = next ∷ parts })
-    = ap (λ (n : ℕ). numbers_at profile n (record { line = line; parts = number_lines (entries N) ++ next ∷ parts })) (len-entries N) ∙ again.1 ∙ ap (λ (M : Numbers). done (M, record { line = again.0; parts = next ∷ parts })) all.1 in
+    let again = numbers_again profile line (entries N) next segments empty le all.0 in
+    let read : numbers_at profile (len N) (record { line = line; segments = number_lines (entries N) ++ next ∷ segments }) ≡ done (N, record { line = again.0; segments = next ∷ segments })
+    = ap (λ (n : ℕ). numbers_at profile n (record { line = line; segments = number_lines (entries N) ++ next ∷ segments })) (len-entries N) ∙ again.1 ∙ ap (λ (M : Numbers). done (M, record { line = again.0; segments = next ∷ segments })) all.1 in
     (again.0, rw (named.is_name, last, read) refl)
 
-article_again : (line at : ℕ) (S : Spool) (id : Id) (t : Text) (next : Line) (parts : List Line) → IsArticle id t → is_last S.articles id ≡ true
-    → (end : ℕ) × (article_at at id (length t.head) (length t.body) S (record { line = line; parts = barred t.head ++ (barred t.body ++ next ∷ parts) }) ≡ Ok (with_article S id t, record { line = end; parts = next ∷ parts }))
+article_again : (line at : ℕ) (S : Spool) (id : Id) (t : Text) (next : Line) (segments : List Line) → IsArticle id t → is_last S.articles id ≡ true
+    → (end : ℕ) × (article_at at id (length t.head) (length t.body) S (record { line = line; segments = barred t.head ++ (barred t.body ++ next ∷ segments) }) ≡ Ok (with_article S id t, record { line = end; segments = next ∷ segments }))
 unfolding article_at
-article_again line at S id t next parts is last =
-    let body_first = first_of (barred t.body) next parts in
-    let head = contents_again line t.head body_first.0 body_first.1 [] is.head_lines in
-    let body = contents_again head.0 t.body next parts [] is.body_lines in
-    let read_head : contents_at (length t.head) (record { line = line; parts = barred t.head ++ (barred t.body ++ next ∷ parts) }) ≡ done (t.head, record { line = head.0; parts = barred t.body ++ next ∷ parts })
-    = ap (λ (ps : List Line). contents_at (length t.head) (record { line = line; parts = barred t.head ++ ps })) body_first.2 ∙ head.1 ∙ ap (λ (ps : List Line). done (t.head, record { line = head.0; parts = ps })) (sym body_first.2) in
+article_again line at S id t next segments is last =
+    let body_first = first_of (barred t.body) next segments in
+    let head = barred_lines_again line t.head body_first.0 body_first.1 [] is.head_lines in
+    let body = barred_lines_again head.0 t.body next segments [] is.body_lines in
+    let read_head : barred_lines_at (length t.head) (record { line = line; segments = barred t.head ++ (barred t.body ++ next ∷ segments) }) ≡ done (t.head, record { line = head.0; segments = barred t.body ++ next ∷ segments })
+    = ap (λ (ps : List Line). barred_lines_at (length t.head) (record { line = line; segments = barred t.head ++ ps })) body_first.2 ∙ head.1 ∙ ap (λ (ps : List Line). done (t.head, record { line = head.0; segments = ps })) (sym body_first.2) in
     (body.0, rw (is.is_id, last, read_head, body.1, is.head) refl)
 
-pub item_group_again : (profile : Profile) (line : ℕ) (S : Spool) (name : Name) (N : Numbers) (next : Line) (parts : List Line) → profile.limit < 2 ^ 64 → len N < 2 ^ 64 → IsNamed profile name N → is_last S.groups name ≡ true
-    → (end : ℕ) × (item_at profile false S (record { line = line; parts = group_lines (name, N) ++ next ∷ parts }) ≡ Ok (On false (with_group S name N) (record { line = end; parts = next ∷ parts })))
+pub item_group_again : (profile : Profile) (line : ℕ) (S : Spool) (name : Name) (N : Numbers) (next : Line) (segments : List Line) → profile.limit < 2 ^ 64 → len N < 2 ^ 64 → IsNamed profile name N → is_last S.groups name ≡ true
+    → (end : ℕ) × (item_at profile false S (record { line = line; segments = group_lines (name, N) ++ next ∷ segments }) ≡ Ok (On false (with_group S name N) (record { line = end; segments = next ∷ segments })))
 unfolding item_at
-item_group_again profile line S name N next parts le small named last =
-    let again = group_again profile (line + 1) line S name N next parts le named last in
-    let item = item-group_line name (len N) (name-lacks 32 name (omega arith) refl named.is_name) (name-some name named.is_name) small in
-    (again.0, rw (line_again line (group_line name (len N)) (number_lines (entries N)) next parts, item, again.1) refl)
+item_group_again profile line S name N next segments le small named last =
+    let again = group_again profile (line + 1) line S name N next segments le named last in
+    let item = opening-group_line name (len N) (name-lacks 32 name (omega arith) refl named.is_name) (name-some name named.is_name) small in
+    (again.0, rw (line_again line (group_line name (len N)) (number_lines (entries N)) next segments, item, again.1) refl)
 
-pub item_article_again : (profile : Profile) (line : ℕ) (articles : Bool) (S : Spool) (id : Id) (t : Text) (next : Line) (parts : List Line) → length t.head < 2 ^ 64 → length t.body < 2 ^ 64 → IsArticle id t → is_last S.articles id ≡ true
-    → (end : ℕ) × (item_at profile articles S (record { line = line; parts = article_lines (id, t) ++ next ∷ parts }) ≡ Ok (On true (with_article S id t) (record { line = end; parts = next ∷ parts })))
+pub item_article_again : (profile : Profile) (line : ℕ) (articles : Bool) (S : Spool) (id : Id) (t : Text) (next : Line) (segments : List Line) → length t.head < 2 ^ 64 → length t.body < 2 ^ 64 → IsArticle id t → is_last S.articles id ≡ true
+    → (end : ℕ) × (item_at profile articles S (record { line = line; segments = article_lines (id, t) ++ next ∷ segments }) ≡ Ok (On true (with_article S id t) (record { line = end; segments = next ∷ segments })))
 unfolding item_at
-item_article_again profile line articles S id t next parts h b is last =
-    let again = article_again (line + 1) line S id t next parts is last in
-    let item = item-article_line id (length t.head) (length t.body) (id-lacks 32 id (omega arith) is.is_id) (id-some id is.is_id) h b in
-    let behind : (barred t.head ++ barred t.body) ++ next ∷ parts ≡ barred t.head ++ (barred t.body ++ next ∷ parts) = append_assoc (barred t.head) (barred t.body) (next ∷ parts) in
-    (again.0, rw (line_again line (article_line id (length t.head) (length t.body)) (barred t.head ++ barred t.body) next parts, item, behind, again.1) refl)
+item_article_again profile line articles S id t next segments h b is last =
+    let again = article_again (line + 1) line S id t next segments is last in
+    let item = opening-article_line id (length t.head) (length t.body) (id-lacks 32 id (omega arith) is.is_id) (id-some id is.is_id) h b in
+    let behind : (barred t.head ++ barred t.body) ++ next ∷ segments ≡ barred t.head ++ (barred t.body ++ next ∷ segments) = append_assoc (barred t.head) (barred t.body) (next ∷ segments) in
+    (again.0, rw (line_again line (article_line id (length t.head) (length t.body)) (barred t.head ++ barred t.body) next segments, item, behind, again.1) refl)
 
-pub item_end_again : (profile : Profile) (line : ℕ) (articles : Bool) (S : Spool) (next : Line) (parts : List Line) → ids_have_articles S ≡ true
-    → item_at profile articles S (record { line = line; parts = codes "end" ∷ next ∷ parts }) ≡ Ok (Done S (record { line = line + 1; parts = next ∷ parts }))
+pub item_end_again : (profile : Profile) (line : ℕ) (articles : Bool) (S : Spool) (next : Line) (segments : List Line) → ids_have_articles S ≡ true
+    → item_at profile articles S (record { line = line; segments = codes "end" ∷ next ∷ segments }) ≡ Ok (Done S (record { line = line + 1; segments = next ∷ segments }))
 unfolding item_at
-item_end_again profile line articles S next parts known = rw known refl
+item_end_again profile line articles S next segments known = rw known refl

@@ -5,7 +5,6 @@ pub mod ShownNumbers
 pub mod SplitLines
 pub mod Decimals
 pub mod RepeatedSteps
-pub mod Booleans
 pub mod MapEntries
 pub mod LineFields
 pub mod NameOctets

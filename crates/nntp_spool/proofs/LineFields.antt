@@ -9,20 +9,17 @@ use Rattle.std.proofs.lemmas.Bool.{true≢false, and_from, and_parts}
 use Rattle.std.proofs.lemmas.Bool.Decides.{nat_tests}
 use Rattle.std.proofs.lemmas.List.Splits.{join_with_byte-slice_split}
 use Rattle.std.proofs.lemmas.Fmt.{digits_decimal, digits_value-decimal, decimal-digits_value, decimal_nonempty, first_decimal, decimal_digit}
+use Rattle.nntp_wire.proofs.BoolLemmas.{not_true}
 use Rattle.nntp_article.specs.Article.{is_empty}
 use Rattle.nntp_spool.specs.Text.{number_line, group_line, article_line}
-use Rattle.nntp_spool.specs.Fields.{fields_of, are_digits, is_decimal, is_count, value_of, number_and_id, item_of, Item, Group, Article, End}
-use Rattle.nntp_spool.proofs.SplitLines.{parts_at}
+use Rattle.nntp_spool.specs.Fields.{fields_of, are_digits, is_decimal, is_count, value_of, number_and_id, opening_of, OpeningValue, Group, Article, End}
+use Rattle.nntp_spool.proofs.SplitLines.{segments_at}
 use Rattle.nntp_spool.proofs.Decimals.{own}
 
 -- ---- octets that are not there
 
 abbrev pub lacks : ℕ → List ℕ → Bool
 lacks c xs = list_all (λ x. not (eqb x c)) xs
-
-is_not : (b : Bool) → not b ≡ true → b ≡ false
-is_not true e = cc
-is_not false e = refl
 
 pub list_all_weaken : {X : Type 0} (p q : X → Bool) → ((x : X) → p x ≡ true → q x ≡ true) → (xs : List X) → list_all p xs ≡ true → list_all q xs ≡ true
 list_all_weaken p q imp [] h = refl
@@ -42,18 +39,18 @@ lacks-append c (x ∷ xs) ys h g = let both = and_parts (not (eqb x c)) (lacks c
 pub lacks-digits : (c : ℕ) (xs : List ℕ) → c < 48 → are_digits xs ≡ true → lacks c xs ≡ true
 lacks-digits c xs lt h = list_all_weaken is_ascii_digit (λ x. not (eqb x c)) (λ x d. grind (arith, nat_tests)) xs h
 
-pub parts_front : (c : ℕ) (xs ys : List ℕ) → lacks c xs ≡ true → parts_at c (xs ++ c ∷ ys) ≡ xs ∷ parts_at c ys
+pub parts_front : (c : ℕ) (xs ys : List ℕ) → lacks c xs ≡ true → segments_at c (xs ++ c ∷ ys) ≡ xs ∷ segments_at c ys
 parts_front c [] ys h = let same : eqb c c ≡ true = grind (arith, nat_tests) in rw same refl
 parts_front c (x ∷ xs) ys h =
     let both = and_parts (not (eqb x c)) (lacks c xs) h in
-    let other : eqb x c ≡ false = is_not (eqb x c) both.0 in
+    let other : eqb x c ≡ false = not_true (eqb x c) both.0 in
     rw (other, parts_front c xs ys both.1) refl
 
-pub parts_one : (c : ℕ) (xs : List ℕ) → lacks c xs ≡ true → parts_at c xs ≡ xs ∷ []
+pub parts_one : (c : ℕ) (xs : List ℕ) → lacks c xs ≡ true → segments_at c xs ≡ xs ∷ []
 parts_one c [] h = refl
 parts_one c (x ∷ xs) h =
     let both = and_parts (not (eqb x c)) (lacks c xs) h in
-    let other : eqb x c ≡ false = is_not (eqb x c) both.0 in
+    let other : eqb x c ≡ false = not_true (eqb x c) both.0 in
     rw (other, parts_one c xs both.1) refl
 
 -- ---- numbers
@@ -151,65 +148,65 @@ is_count-decimal n lt =
     let small : nat_lt n (2 ^ 64) ≡ true = grind (arith, nat_tests) in
     and_from (is_decimal (decimal n)) (nat_lt (value_of (decimal n)) (2 ^ 64)) (is_decimal-decimal n lt) (ap (λ v. nat_lt v (2 ^ 64)) (value_of-decimal n lt) ∙ small)
 
-group_is : (name word : List ℕ) → is_empty name ≡ false → is_count word ≡ true → item_of (codes "group" ∷ name ∷ word ∷ []) ≡ Some (Group name (value_of word))
+group_is : (name word : List ℕ) → is_empty name ≡ false → is_count word ≡ true → opening_of (codes "group" ∷ name ∷ word ∷ []) ≡ Some (Group name (value_of word))
 group_is name word some count = rw (some, count) refl
 
-article_is : (id heads bodies : List ℕ) → is_empty id ≡ false → is_count heads ≡ true → is_count bodies ≡ true → item_of (codes "article" ∷ id ∷ heads ∷ bodies ∷ []) ≡ Some (Article id (value_of heads) (value_of bodies))
+article_is : (id heads bodies : List ℕ) → is_empty id ≡ false → is_count heads ≡ true → is_count bodies ≡ true → opening_of (codes "article" ∷ id ∷ heads ∷ bodies ∷ []) ≡ Some (Article id (value_of heads) (value_of bodies))
 article_is id heads bodies some h b = rw (some, h, b) refl
 
-pub item-group_line : (name : List ℕ) (count : ℕ) → lacks 32 name ≡ true → is_empty name ≡ false → count < 2 ^ 64 → item_of (fields_of (group_line name count)) ≡ Some (Group name count)
-item-group_line name count word some lt =
-    ap item_of (parts_front 32 (codes "group") (name ++ 32 ∷ decimal count) refl ∙ ap (λ ws. codes "group" ∷ ws) (parts_front 32 name (decimal count) word ∙ ap (λ ws. name ∷ ws) (parts_one 32 (decimal count) (lacks-digits 32 (decimal count) (omega arith) (are_digits-decimal count lt)))))
+pub opening-group_line : (name : List ℕ) (count : ℕ) → lacks 32 name ≡ true → is_empty name ≡ false → count < 2 ^ 64 → opening_of (fields_of (group_line name count)) ≡ Some (Group name count)
+opening-group_line name count word some lt =
+    ap opening_of (parts_front 32 (codes "group") (name ++ 32 ∷ decimal count) refl ∙ ap (λ ws. codes "group" ∷ ws) (parts_front 32 name (decimal count) word ∙ ap (λ ws. name ∷ ws) (parts_one 32 (decimal count) (lacks-digits 32 (decimal count) (omega arith) (are_digits-decimal count lt)))))
     ∙ group_is name (decimal count) some (is_count-decimal count lt) ∙ ap (λ v. Some (Group name v)) (value_of-decimal count lt)
 
-pub item-article_line : (id : List ℕ) (heads bodies : ℕ) → lacks 32 id ≡ true → is_empty id ≡ false → heads < 2 ^ 64 → bodies < 2 ^ 64 → item_of (fields_of (article_line id heads bodies)) ≡ Some (Article id heads bodies)
-item-article_line id heads bodies word some h b =
-    ap item_of (parts_front 32 (codes "article") (id ++ 32 ∷ (decimal heads ++ 32 ∷ decimal bodies)) refl ∙ ap (λ ws. codes "article" ∷ ws) (parts_front 32 id (decimal heads ++ 32 ∷ decimal bodies) word ∙ ap (λ ws. id ∷ ws)
+pub opening-article_line : (id : List ℕ) (heads bodies : ℕ) → lacks 32 id ≡ true → is_empty id ≡ false → heads < 2 ^ 64 → bodies < 2 ^ 64 → opening_of (fields_of (article_line id heads bodies)) ≡ Some (Article id heads bodies)
+opening-article_line id heads bodies word some h b =
+    ap opening_of (parts_front 32 (codes "article") (id ++ 32 ∷ (decimal heads ++ 32 ∷ decimal bodies)) refl ∙ ap (λ ws. codes "article" ∷ ws) (parts_front 32 id (decimal heads ++ 32 ∷ decimal bodies) word ∙ ap (λ ws. id ∷ ws)
     (parts_front 32 (decimal heads) (decimal bodies) (lacks-digits 32 (decimal heads) (omega arith) (are_digits-decimal heads h)) ∙ ap (λ ws. decimal heads ∷ ws) (parts_one 32 (decimal bodies) (lacks-digits 32 (decimal bodies) (omega arith) (are_digits-decimal bodies b))))))
     ∙ article_is id (decimal heads) (decimal bodies) some (is_count-decimal heads h) (is_count-decimal bodies b)
     ∙ ap (λ v. Some (Article id v (value_of (decimal bodies)))) (value_of-decimal heads h) ∙ ap (λ v. Some (Article id heads v)) (value_of-decimal bodies b)
 
 -- the words of which an item is read
-abbrev ItemWords : Item → List (List ℕ) → Type 0
-ItemWords (Group name count) words = (count < 2 ^ 64) × (words ≡ codes "group" ∷ name ∷ decimal count ∷ [])
-ItemWords (Article id heads bodies) words = (heads < 2 ^ 64) × (bodies < 2 ^ 64) × (words ≡ codes "article" ∷ id ∷ decimal heads ∷ decimal bodies ∷ [])
-ItemWords End words = words ≡ codes "end" ∷ []
+abbrev OpeningWords : OpeningValue → List (List ℕ) → Type 0
+OpeningWords (Group name count) words = (count < 2 ^ 64) × (words ≡ codes "group" ∷ name ∷ decimal count ∷ [])
+OpeningWords (Article id heads bodies) words = (heads < 2 ^ 64) × (bodies < 2 ^ 64) × (words ≡ codes "article" ∷ id ∷ decimal heads ∷ decimal bodies ∷ [])
+OpeningWords End words = words ≡ codes "end" ∷ []
 
-item_words : (words : List (List ℕ)) (item : Item) → item_of words ≡ Some item → ItemWords item words
-item_words [] item e = absurd cc
-item_words (w ∷ []) item e =
+opening_words : (words : List (List ℕ)) (item : OpeningValue) → opening_of words ≡ Some item → OpeningWords item words
+opening_words [] item e = absurd cc
+opening_words (w ∷ []) item e =
     let c = chosen (bytes_eq w (codes "end")) End item e in
-    subst (λ (i : Item). ItemWords i (w ∷ [])) c.1 (ap (λ (t : List ℕ). t ∷ []) (same_bytes w (codes "end") c.0))
-item_words (w ∷ x ∷ []) item e = absurd cc
-item_words (w ∷ x ∷ y ∷ []) item e =
+    subst (λ (i : OpeningValue). OpeningWords i (w ∷ [])) c.1 (ap (λ (t : List ℕ). t ∷ []) (same_bytes w (codes "end") c.0))
+opening_words (w ∷ x ∷ []) item e = absurd cc
+opening_words (w ∷ x ∷ y ∷ []) item e =
     let c = chosen (bytes_eq w (codes "group") && not (is_empty x) && is_count y) (Group x (value_of y)) item e in
     let all = and_parts (bytes_eq w (codes "group") && not (is_empty x)) (is_count y) c.0 in
     let word = same_bytes w (codes "group") (and_parts (bytes_eq w (codes "group")) (not (is_empty x)) all.0).0 in
     let count = count_parts y all.1 in
-    subst (λ (i : Item). ItemWords i (w ∷ x ∷ y ∷ [])) c.1 (count.0, ap (λ (t : List ℕ). t ∷ x ∷ y ∷ []) word ∙ ap (λ (t : List ℕ). codes "group" ∷ x ∷ t ∷ []) count.1)
-item_words (w ∷ x ∷ y ∷ z ∷ []) item e =
+    subst (λ (i : OpeningValue). OpeningWords i (w ∷ x ∷ y ∷ [])) c.1 (count.0, ap (λ (t : List ℕ). t ∷ x ∷ y ∷ []) word ∙ ap (λ (t : List ℕ). codes "group" ∷ x ∷ t ∷ []) count.1)
+opening_words (w ∷ x ∷ y ∷ z ∷ []) item e =
     let c = chosen (bytes_eq w (codes "article") && not (is_empty x) && is_count y && is_count z) (Article x (value_of y) (value_of z)) item e in
     let all = and_parts (bytes_eq w (codes "article") && not (is_empty x) && is_count y) (is_count z) c.0 in
     let front = and_parts (bytes_eq w (codes "article") && not (is_empty x)) (is_count y) all.0 in
     let word = same_bytes w (codes "article") (and_parts (bytes_eq w (codes "article")) (not (is_empty x)) front.0).0 in
     let heads = count_parts y front.1 in
     let bodies = count_parts z all.1 in
-    subst (λ (i : Item). ItemWords i (w ∷ x ∷ y ∷ z ∷ [])) c.1 (heads.0, bodies.0, ap (λ (t : List ℕ). t ∷ x ∷ y ∷ z ∷ []) word ∙ ap (λ (t : List ℕ). codes "article" ∷ x ∷ t ∷ z ∷ []) heads.1 ∙ ap (λ (t : List ℕ). codes "article" ∷ x ∷ decimal (value_of y) ∷ t ∷ []) bodies.1)
-item_words (w ∷ x ∷ y ∷ z ∷ u ∷ more) item e = absurd cc
+    subst (λ (i : OpeningValue). OpeningWords i (w ∷ x ∷ y ∷ z ∷ [])) c.1 (heads.0, bodies.0, ap (λ (t : List ℕ). t ∷ x ∷ y ∷ z ∷ []) word ∙ ap (λ (t : List ℕ). codes "article" ∷ x ∷ t ∷ z ∷ []) heads.1 ∙ ap (λ (t : List ℕ). codes "article" ∷ x ∷ decimal (value_of y) ∷ t ∷ []) bodies.1)
+opening_words (w ∷ x ∷ y ∷ z ∷ u ∷ more) item e = absurd cc
 
 line_is : (l : List ℕ) (words : List (List ℕ)) → fields_of l ≡ words → l ≡ join_with_byte 32 words
 line_is l words e = sym (join_with_byte-slice_split 32 l) ∙ ap (join_with_byte 32) e
 
 -- the line of which an item is read
-abbrev pub ItemLine : Item → List ℕ → Type 0
-ItemLine (Group name count) l = (count < 2 ^ 64) × (l ≡ group_line name count)
-ItemLine (Article id heads bodies) l = (heads < 2 ^ 64) × (bodies < 2 ^ 64) × (l ≡ article_line id heads bodies)
-ItemLine End l = l ≡ codes "end"
+abbrev pub OpeningLine : OpeningValue → List ℕ → Type 0
+OpeningLine (Group name count) l = (count < 2 ^ 64) × (l ≡ group_line name count)
+OpeningLine (Article id heads bodies) l = (heads < 2 ^ 64) × (bodies < 2 ^ 64) × (l ≡ article_line id heads bodies)
+OpeningLine End l = l ≡ codes "end"
 
-pub item_line : (l : List ℕ) (item : Item) → item_of (fields_of l) ≡ Some item → ItemLine item l
-item_line l item e = from item (item_words (fields_of l) item e)
+pub opening_line : (l : List ℕ) (item : OpeningValue) → opening_of (fields_of l) ≡ Some item → OpeningLine item l
+opening_line l item e = from item (opening_words (fields_of l) item e)
   where
-    from : (item : Item) → ItemWords item (fields_of l) → ItemLine item l
+    from : (item : OpeningValue) → OpeningWords item (fields_of l) → OpeningLine item l
     from (Group name count) w = (w.0, line_is l _ w.1)
     from (Article id heads bodies) w = (w.0, w.1, line_is l _ w.2)
     from End w = line_is l _ w

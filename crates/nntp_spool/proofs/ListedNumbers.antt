@@ -1,5 +1,5 @@
 -- Numbers that are listed one after the other are those of a group within a range.
-use Rattle.std.proofs.Common.{◌≡◌, ◌⊎◌, inl, inr, ℕ, zero, suc, ◌<◌, ◌≤◌, true, IsSome, List, [], ◌∷◌, Option, None, Some, MatchOption, refl, sym, subst, arith}
+use Rattle.std.proofs.Common.{◌≡◌, ◌⊎◌, inl, inr, ℕ, zero, suc, ◌<◌, ◌≤◌, true, List, [], ◌∷◌, Option, None, Some, MatchOption, refl, sym, subst, arith}
 use Rattle.std.specs.Prelude.{Contains, IfSome, ◌↔◌, nat_lt, ⊤}
 use Rattle.std.specs.List.{list_all}
 use Rattle.std.specs.FinMap.{get}
@@ -8,6 +8,7 @@ use Rattle.std.proofs.lemmas.Bool.Decides.{nat_tests}
 use Rattle.nntp_wire.specs.declared.range.Range.{Range}
 use Rattle.nntp_article.specs.Spool.{Numbers, IsNumber, Lists}
 use Rattle.nntp_spool.specs.ListedNumbers.{IsAbove, IsNextFrom, ListsFrom}
+use Rattle.nntp_spool.proofs.Firsts.{some_none}
 
 contains_first : (n : ℕ) (ns : List ℕ) → Contains (n ∷ ns) n
 contains_first n ns = (0, omega arith, refl)
@@ -32,10 +33,6 @@ above_all n m (k ∷ ns) h c = by (contains_cons k m ns c) (above_all n m ns bot
     by : (m ≡ k) ⊎ Contains ns m → (Contains ns m → n < m) → n < m
     by (inl e) rest = let lt : n < k = grind (arith, nat_tests, both.0) in omega arith
     by (inr c) rest = rest c
-
-some_none : {A : Type 0} (o : Option A) → o ≡ None → IsSome o → ⊥
-some_none None e s = cc
-some_none (Some x) e s = absurd cc
 
 -- one number more
 module _ (N : Numbers) (r : Range) (before : Option ℕ) where

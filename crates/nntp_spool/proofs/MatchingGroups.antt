@@ -21,8 +21,9 @@ use Rattle.std.proofs.lemmas.Map.Text.{is_eq-slice_cmp}
 use Rattle.nntp_wire.specs.Listing.{ActiveValue}
 use Rattle.nntp_article.specs.Spool.{Name}
 use Rattle.nntp_article.specs.Machine.{is_same, names_differ}
-use Rattle.nntp_spool.proofs.MapEntries.{less_is, equal_is, is_passed}
-use Rattle.nntp_spool.proofs.ItemsOfText.{octet_keys}
+use Rattle.nntp_wire.proofs.ShownMaps.{equal_is}
+use Rattle.nntp_spool.proofs.MapEntries.{less_is, is_passed}
+use Rattle.nntp_spool.proofs.ShownMaps.{octet_keys}
 
 abbrev pub same_name : Name → Name → Bool
 same_name a b = eq_by_cmp (slice_cmp nat_cmp) a b

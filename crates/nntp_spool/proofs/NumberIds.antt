@@ -22,7 +22,7 @@ use Rattle.nntp_spool.specs.Numbers.{is_free, with_number, AreIdsOf}
 use Rattle.nntp_article.proofs.SetKeys.{or_swap, any-insert_key}
 use Rattle.nntp_spool.proofs.MapEntries.{tied_itself, apart, all_got}
 use Rattle.nntp_spool.proofs.NumbersInOrder.{either_false, all_passed, entries-empty}
-use Rattle.nntp_spool.proofs.ItemsOfText.{octet_keys}
+use Rattle.nntp_spool.proofs.ShownMaps.{octet_keys}
 
 some_none : {A : Type 0} (x : A) → Some x ≡ None → ⊥
 some_none x e = cc

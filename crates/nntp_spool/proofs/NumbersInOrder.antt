@@ -1,11 +1,14 @@
 -- Numbers that follow one another are numbers of a group, and the other way round.
-use Rattle.std.proofs.Common.{◌≡◌, ◌⊎◌, inl, inr, ℕ, Bool, true, false, List, [], ◌∷◌, ◌++◌, None, Some, refl, sym, ap, ◌∙◌, append_assoc}
-use Rattle.std.specs.Prelude.{◌||◌, bytes_eq}
+use Rattle.std.proofs.Common.{◌≡◌, ◌⊎◌, inl, inr, ℕ, ◌+◌, ◌<◌, ◌≤◌, ◌^◌, Bool, true, false, cond, List, [], ◌∷◌, ◌++◌, None, Some, length, refl, sym, ap, ◌∙◌, append_assoc, arith}
+use Rattle.std.specs.Prelude.{◌||◌, ◌==◌, nat_lt, bytes_eq}
 use Rattle.std.specs.List.{list_all, list_any, AllByRecursion}
+use Rattle.std.specs.declared.cmp.Ordering.TheVariants.{Less, Equal, Greater}
 use Rattle.std.specs.Ordering.{nat_cmp, is_lt, eq_by_cmp}
 use Rattle.std.specs.Cmp.{nat_cmp_total}
 use Rattle.std.specs.FinMap.{get, insert, empty, entries, len, find, is_sorted, entries_sorted, get-entries, get-empty, len-empty, len-entries, same_entries_map, nat_cmp-IsAntisymmetric}
+use Rattle.std.specs.FinMap.Entries.{below_all}
 use Rattle.std.proofs.lemmas.Bool.{true≢false, and_parts}
+use Rattle.std.proofs.lemmas.Bool.Decides.{nat_tests}
 use Rattle.std.proofs.lemmas.List.{nil_from_length}
 use Rattle.std.proofs.lemmas.Slice.Eq.{bytes_eq-Decides}
 use Rattle.nntp_wire.specs.Decided.{is_message_id}
@@ -104,3 +107,39 @@ pub with_all-entries : (profile : Profile) (N : Numbers) → AreNumbers profile 
 with_all-entries profile N a =
     let follow = numbers_follow profile empty N (entries N) (ap (λ es. es ++ entries N) (sym (entries-empty empty refl))) a in
     (follow, same_entries_map _ N (entries-with_all profile empty (entries N) follow ∙ ap (λ es. es ++ entries N) (entries-empty empty refl)))
+
+-- ---- how many numbers there are
+
+lower : (n m : ℕ) → is_lt (nat_cmp n m) ≡ true → n < m
+lower n m less = let is = first (nat_lt n m) (n == m) less in grind (arith, nat_tests)
+  where
+    first : (a b : Bool) → is_lt (cond a Less (cond b Equal Greater)) ≡ true → a ≡ true
+    first true b e = refl
+    first false true e = cc
+    first false false e = cc
+
+-- the numbers behind one of them are above it
+above : (least n limit : ℕ) (es : List (ℕ × List ℕ)) → below_all nat_cmp n es ≡ true → AllByRecursion (λ e. (least < e.0) × (e.0 ≤ limit)) es → AllByRecursion (λ e. (n < e.0) × (e.0 ≤ limit)) es
+above least n limit [] below all = tt
+above least n limit (e ∷ es) below all =
+    let both = and_parts (is_lt (nat_cmp n e.0)) (below_all nat_cmp n es) below in
+    ((lower n e.0 both.0, all.0.1), above least n limit es both.1 all.1)
+
+within_limit : (least limit : ℕ) (es : List (ℕ × List ℕ)) → is_sorted nat_cmp es ≡ true → AllByRecursion (λ e. (least < e.0) × (e.0 ≤ limit)) es → least ≤ limit → length es + least ≤ limit
+within_limit least limit [] sorted all le = omega arith
+within_limit least limit (e ∷ es) sorted all le =
+    let both = and_parts (below_all nat_cmp e.0 es) (is_sorted nat_cmp es) sorted in
+    let more = within_limit e.0 limit es both.1 (above least e.0 limit es both.0 all.1) all.0.1 in
+    let first = all.0.0 in
+    omega arith
+
+-- a group has no more numbers than the limit allows
+pub few_numbers : (profile : Profile) (N : Numbers) → profile.limit < 2 ^ 64 → AreNumbers profile N → len N < 2 ^ 64
+few_numbers profile N le are =
+    let between = λ (n : ℕ) (id : List ℕ) (here : get N n ≡ Some id). in_limit n (are.each n id here).0 in
+    let all = got_all nat_cmp_total nat_cmp-IsAntisymmetric (λ n id. (0 < n) × (n ≤ profile.limit)) N between in
+    let few = within_limit 0 profile.limit (entries N) (is_passed _ (entries_sorted N)) all (omega arith) in
+    omega (arith, len-entries N)
+  where
+    in_limit : (n : ℕ) → is_num profile n ≡ true → (0 < n) × (n ≤ profile.limit)
+    in_limit n h = (grind (arith, nat_tests, and_parts), grind (arith, nat_tests, and_parts))

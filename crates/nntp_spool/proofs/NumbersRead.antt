@@ -45,13 +45,13 @@ done x = Ok x
 pub ok_is : {A : Type 0} (x y : A) → done x ≡ done y → x ≡ y
 ok_is x y e = cc
 
-pub line_takes : (p : Place) (x : List ℕ × Place) → line_at p ≡ Ok x → p.parts ≡ x.0 ∷ x.1.parts
-line_takes p x e = takes p.line p.parts x e
+pub line_takes : (p : Place) (x : List ℕ × Place) → line_at p ≡ Ok x → p.segments ≡ x.0 ∷ x.1.segments
+line_takes p x e = takes p.line p.segments x e
   where
-    takes : (line : ℕ) (parts : List (List ℕ)) (x : List ℕ × Place) → next_line line parts ≡ Ok x → parts ≡ x.0 ∷ x.1.parts
+    takes : (line : ℕ) (segments : List (List ℕ)) (x : List ℕ × Place) → next_line line segments ≡ Ok x → segments ≡ x.0 ∷ x.1.segments
     takes line [] x e = absurd cc
-    takes line (part ∷ []) x e = absurd cc
-    takes line (part ∷ next ∷ parts) x e = ap (λ (y : List ℕ × Place). y.0 ∷ y.1.parts) (ok_is (part, record { line = line + 1; parts = next ∷ parts }) x e)
+    takes line (segment ∷ []) x e = absurd cc
+    takes line (segment ∷ next ∷ segments) x e = ap (λ (y : List ℕ × Place). y.0 ∷ y.1.segments) (ok_is (segment, record { line = line + 1; segments = next ∷ segments }) x e)
 
 -- ---- one number
 
@@ -72,13 +72,13 @@ number_in_takes profile line l x le e =
     let text = number_line-number_and_id l a.0.0 a.0.1 (num_below profile a.0.0 le b.0) (shaped_ok line _ a.0 a.1) in
     subst (λ (y : ℕ × List ℕ). (l ≡ number_line y.0 y.1) × (is_num profile y.0 ≡ true) × (is_message_id y.1 ≡ true)) (ok_is a.0 x c.1) (text, b.0, c.0)
 
-pub number_at_again : (profile : Profile) (line n : ℕ) (id next : List ℕ) (parts : List (List ℕ)) (N : Numbers) → profile.limit < 2 ^ 64 → Follows profile N n id
-    → number_at profile (N, record { line = line; parts = number_line n id ∷ next ∷ parts }) ≡ Ok (insert N n id, record { line = line + 1; parts = next ∷ parts })
+pub number_at_again : (profile : Profile) (line n : ℕ) (id next : List ℕ) (segments : List (List ℕ)) (N : Numbers) → profile.limit < 2 ^ 64 → Follows profile N n id
+    → number_at profile (N, record { line = line; segments = number_line n id ∷ next ∷ segments }) ≡ Ok (insert N n id, record { line = line + 1; segments = next ∷ segments })
 unfolding number_at
-number_at_again profile line n id next parts N le f = rw (number_in_again profile line n id le f.num f.is_id, f.last, f.fresh) refl
+number_at_again profile line n id next segments N le f = rw (number_in_again profile line n id le f.num f.is_id, f.last, f.fresh) refl
 
 pub number_at_takes : (profile : Profile) (N : Numbers) (p : Place) (x : Numbers × Place) → profile.limit < 2 ^ 64 → number_at profile (N, p) ≡ Ok x
-    → (n : ℕ) × (id : List ℕ) × Follows profile N n id × (x.0 ≡ insert N n id) × (p.parts ≡ number_line n id ∷ x.1.parts)
+    → (n : ℕ) × (id : List ℕ) × Follows profile N n id × (x.0 ≡ insert N n id) × (p.segments ≡ number_line n id ∷ x.1.segments)
 unfolding number_at
 number_at_takes profile N p x le e =
     let rest = λ (l : List ℕ × Place) (v : ℕ × List ℕ). cond (not (is_last N v.0)) (fault p.line kinds.Order) (cond (has_id N v.1) (fault p.line kinds.DuplicateId) (done (insert N v.0 v.1, l.1))) in
@@ -88,12 +88,12 @@ number_at_takes profile N p x le e =
     let d = guard_ok (has_id N b.0.1) (record { line = p.line; kind = kinds.DuplicateId }) (done (insert N b.0.0 b.0.1, a.0.1)) x c.1 in
     let same : ◌≡◌ {A = Numbers × Place} (insert N b.0.0 b.0.1, a.0.1) x = ok_is _ _ d.1 in
     let one = number_in_takes profile p.line a.0.0 b.0 le b.1 in
-    let parts = line_takes p a.0 a.1 in (
+    let segments = line_takes p a.0 a.1 in (
       b.0.0,
       b.0.1,
       record { num = one.1; is_id = one.2; last = c.0; fresh = d.0 },
       sym (ap (λ (y : Numbers × Place). y.0) same),
-      parts ∙ ap (λ (t : List ℕ). t ∷ a.0.1.parts) one.0 ∙ ap (λ (y : Numbers × Place). number_line b.0.0 b.0.1 ∷ y.1.parts) same,
+      segments ∙ ap (λ (t : List ℕ). t ∷ a.0.1.segments) one.0 ∙ ap (λ (y : Numbers × Place). number_line b.0.0 b.0.1 ∷ y.1.segments) same,
     )
 
 -- ---- the numbers of a group
@@ -104,10 +104,10 @@ entries-with_all profile N (e ∷ es) h =
     entries-with_all profile (insert N e.0 e.1) es h.1 ∙ ap (λ (fs : List (ℕ × List ℕ)). fs ++ es) (entries-insert_last nat_cmp_total N e.0 e.1 h.0.last) ∙ append_assoc (entries N) (e ∷ []) es
 
 pub numbers_take : (profile : Profile) (count : ℕ) (N : Numbers) (p : Place) (x : Numbers × Place) → profile.limit < 2 ^ 64 → repeat (number_at profile) count (N, p) ≡ Ok x
-    → (es : List (ℕ × List ℕ)) × AllFollow profile N es × (length es ≡ count) × (x.0 ≡ with_all N es) × (p.parts ≡ number_lines es ++ x.1.parts)
+    → (es : List (ℕ × List ℕ)) × AllFollow profile N es × (length es ≡ count) × (x.0 ≡ with_all N es) × (p.segments ≡ number_lines es ++ x.1.segments)
 numbers_take profile zero N p x le e =
     let same : ◌≡◌ {A = Numbers × Place} (N, p) x = ok_is _ _ e in
-    ([], tt, refl, sym (ap (λ (y : Numbers × Place). y.0) same), ap (λ (y : Numbers × Place). y.1.parts) same)
+    ([], tt, refl, sym (ap (λ (y : Numbers × Place). y.0) same), ap (λ (y : Numbers × Place). y.1.segments) same)
 numbers_take profile (suc count) N p x le e =
     let a = bind_ok (number_at profile (N, p)) (repeat (number_at profile) count) x e in
     let one = number_at_takes profile N p a.0 le a.1 in
@@ -119,10 +119,10 @@ numbers_take profile (suc count) N p x le e =
       one.4 ∙ ap (λ (t : List (List ℕ)). number_line one.0 one.1 ∷ t) more.4,
     )
 
-pub numbers_again : (profile : Profile) (line : ℕ) (es : List (ℕ × List ℕ)) (next : List ℕ) (parts : List (List ℕ)) (N : Numbers) → profile.limit < 2 ^ 64 → AllFollow profile N es
-    → (end : ℕ) × (repeat (number_at profile) (length es) (N, record { line = line; parts = number_lines es ++ next ∷ parts }) ≡ Ok (with_all N es, record { line = end; parts = next ∷ parts }))
-numbers_again profile line [] next parts N le h = (line, refl)
-numbers_again profile line (e ∷ []) next parts N le h = (line + 1, rw (number_at_again profile line e.0 e.1 next parts N le h.0) refl)
-numbers_again profile line (e ∷ f ∷ es) next parts N le h =
-    let more = numbers_again profile (line + 1) (f ∷ es) next parts (insert N e.0 e.1) le h.1 in
-    (more.0, rw (number_at_again profile line e.0 e.1 (number_line f.0 f.1) (number_lines es ++ next ∷ parts) N le h.0) more.1)
+pub numbers_again : (profile : Profile) (line : ℕ) (es : List (ℕ × List ℕ)) (next : List ℕ) (segments : List (List ℕ)) (N : Numbers) → profile.limit < 2 ^ 64 → AllFollow profile N es
+    → (end : ℕ) × (repeat (number_at profile) (length es) (N, record { line = line; segments = number_lines es ++ next ∷ segments }) ≡ Ok (with_all N es, record { line = end; segments = next ∷ segments }))
+numbers_again profile line [] next segments N le h = (line, refl)
+numbers_again profile line (e ∷ []) next segments N le h = (line + 1, rw (number_at_again profile line e.0 e.1 next segments N le h.0) refl)
+numbers_again profile line (e ∷ f ∷ es) next segments N le h =
+    let more = numbers_again profile (line + 1) (f ∷ es) next segments (insert N e.0 e.1) le h.1 in
+    (more.0, rw (number_at_again profile line e.0 e.1 (number_line f.0 f.1) (number_lines es ++ next ∷ segments) N le h.0) more.1)

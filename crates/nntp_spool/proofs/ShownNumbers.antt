@@ -1,5 +1,5 @@
 -- The least number of what a `BTreeMap` shows, from what std says of its first entry and of a range.
-use Rattle.std.proofs.Common.{◌≡◌, ℕ, ◌≤◌, Option, None, Some, MatchOption, is_some, option_map, List, [], ◌∷◌, ◌++◌, refl, sym, ap, subst, ◌∙◌, arith}
+use Rattle.std.proofs.Common.{◌≡◌, ℕ, ◌≤◌, Option, None, Some, MatchOption, is_some, option_map, List, [], ◌∷◌, ◌++◌, sym, ap, subst, ◌∙◌, arith}
 use Rattle.std.specs.Ordering.{nat_cmp, is_eq}
 use Rattle.std.specs.Cmp.{nat_cmp_total}
 use Rattle.std.specs.FinMap as map
@@ -9,7 +9,7 @@ use Rattle.std.specs.declared.ops.Bound.TheVariants.{Excluded, Unbounded}
 use Rattle.std.specs.BTreeMap.{BTreeMap, get, IsLowerBound, IsUpperBound}
 use Rattle.std.proofs.lemmas.Bool.Decides.{nat_tests}
 use Rattle.nntp_article.specs.Spool.{Numbers, IsNumber, IsFirst, IsNextAbove, IsNextBelow, NoneAbove, NoneBelow}
-use Rattle.nntp_wire.proofs.ShownMaps.{shown, get-shown}
+use Rattle.nntp_wire.proofs.ShownMaps.{shown, get-shown, is_some-option_map}
 
 abbrev pub IsLastOf : Numbers → Option ℕ → Type 0
 IsLastOf N last = MatchOption last ((m : ℕ) → map.get N m ≡ None) (λ n. IsNumber N n × ((m : ℕ) → IsNumber N m → m ≤ n))
@@ -18,16 +18,12 @@ module _ {V : Type 0} (value : V → List ℕ) where
   abbrev pub as_numbers : BTreeMap ℕ V → Numbers
   as_numbers m = shown nat_cmp (λ k. k) value m.entries
 
-  is_some-option_map : (o : Option V) → is_some (option_map value o) ≡ is_some o
-  is_some-option_map None = refl
-  is_some-option_map (Some v) = refl
-
   none-option_map : (o : Option V) → o ≡ None → option_map value o ≡ None
   none-option_map o e = ap (option_map value) e
 
   -- a number of what is shown is a key
   pub is_number-shown : (m : BTreeMap ℕ V) (q : ℕ) → is_some (map.get (as_numbers m) q) ≡ is_some (get nat_cmp m q)
-  is_number-shown m q = ap is_some (get-shown nat_cmp (λ k. k) value nat_cmp_total m.entries q) ∙ is_some-option_map _
+  is_number-shown m q = ap is_some (get-shown nat_cmp (λ k. k) value nat_cmp_total m.entries q) ∙ is_some-option_map value _
 
   pub none-shown : (m : BTreeMap ℕ V) (q : ℕ) → get nat_cmp m q ≡ None → map.get (as_numbers m) q ≡ None
   none-shown m q e = get-shown nat_cmp (λ k. k) value nat_cmp_total m.entries q ∙ none-option_map _ e

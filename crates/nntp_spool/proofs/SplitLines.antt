@@ -1,10 +1,10 @@
--- The parts of octets between the octets that are a given one.
+-- The segments of octets between the octets that are a given one.
 use Rattle.std.proofs.Common.{◌≡◌, ℕ, zero, suc, ◌+◌, true, false, cond, eqb, List, [], ◌∷◌, Option, None, Some, Ok, length, take, drop, add-one, inl, inr, refl, sym, ap, ◌∙◌, arith}
 use Rattle.std.specs.Prelude.{position}
 use Rattle.std.specs.List.{slice_split, onto_first, position_or_len}
 use Rattle.std.proofs.lemmas.Bool.{cases_lt, le-ltb, lt-ltb}
 use Rattle.nntp_spool.specs.declared.text.read_fault.Kind.TheVariants as kinds
-use Rattle.nntp_spool.specs.Reading.{next_line, parts_of, fault, is_end}
+use Rattle.nntp_spool.specs.Reading.{next_line, segments_of, fault, is_end}
 use Rattle.nntp_article.specs.Article.{is_empty}
 use Rattle.std.proofs.lemmas.Bool.Decides.{nat_tests}
 use Rattle.std.proofs.lemmas.List.Splits.{slice_split_first, slice_split_none}
@@ -13,16 +13,16 @@ use Rattle.std.proofs.lemmas.List.Sums.{fails_before_first}
 abbrev some : ℕ → Option ℕ
 some n = Some n
 
-abbrev pub parts_at : ℕ → List ℕ → List (List ℕ)
-parts_at c bytes = slice_split (λ x. eqb x c) bytes
+abbrev pub segments_at : ℕ → List ℕ → List (List ℕ)
+segments_at c bytes = slice_split (λ x. eqb x c) bytes
 
--- there is a first part
-pub first_part : (c : ℕ) (bytes : List ℕ) → (part : List ℕ) × (parts : List (List ℕ)) × (parts_at c bytes ≡ part ∷ parts)
-first_part c [] = ([], [], refl)
-first_part c (x ∷ bytes) =
-    let rest = first_part c bytes in
-    elim (eqb x c) as (λ b. (part : List ℕ) × (parts : List (List ℕ)) × (cond b ([] ∷ parts_at c bytes) (onto_first x (parts_at c bytes)) ≡ part ∷ parts)) [
-      | true ↦ ([], parts_at c bytes, refl)
+-- there is a first segment
+pub first_segment : (c : ℕ) (bytes : List ℕ) → (segment : List ℕ) × (segments : List (List ℕ)) × (segments_at c bytes ≡ segment ∷ segments)
+first_segment c [] = ([], [], refl)
+first_segment c (x ∷ bytes) =
+    let rest = first_segment c bytes in
+    elim (eqb x c) as (λ b. (segment : List ℕ) × (segments : List (List ℕ)) × (cond b ([] ∷ segments_at c bytes) (onto_first x (segments_at c bytes)) ≡ segment ∷ segments)) [
+      | true ↦ ([], segments_at c bytes, refl)
       | false ↦ (x ∷ rest.0, rest.1, ap (onto_first x) rest.2)
     ]
 
@@ -33,8 +33,8 @@ some_is_none : (m : ℕ) → some m ≡ None → ⊥
 some_is_none m e = cc
 
 -- the first octet c is at this place
-pub parts_found : (c : ℕ) (bytes : List ℕ) (at : ℕ) → position (λ x. eqb x c) bytes ≡ Some at → parts_at c bytes ≡ take at bytes ∷ parts_at c (drop (at + 1) bytes)
-parts_found c bytes at e =
+pub segments_found : (c : ℕ) (bytes : List ℕ) (at : ℕ) → position (λ x. eqb x c) bytes ≡ Some at → segments_at c bytes ≡ take at bytes ∷ segments_at c (drop (at + 1) bytes)
+segments_found c bytes at e =
     elim (cases_lt (position_or_len (λ x. eqb x c) bytes) (length bytes)) [
       | inl lt ↦
           let found : at ≡ position_or_len (λ x. eqb x c) bytes = some_is _ _ (sym e ∙ ap (λ b. cond b (Some (position_or_len (λ x. eqb x c) bytes)) None) (lt-ltb _ _ lt)) in
@@ -42,8 +42,8 @@ parts_found c bytes at e =
       | inr le ↦ absurd (some_is_none _ (sym e ∙ ap (λ b. cond b (Some (position_or_len (λ x. eqb x c) bytes)) None) (le-ltb _ _ le)))
     ]
 
-pub parts_none : (c : ℕ) (bytes : List ℕ) → position (λ x. eqb x c) bytes ≡ None → parts_at c bytes ≡ bytes ∷ []
-parts_none c bytes e =
+pub segments_none : (c : ℕ) (bytes : List ℕ) → position (λ x. eqb x c) bytes ≡ None → segments_at c bytes ≡ bytes ∷ []
+segments_none c bytes e =
     elim (cases_lt (position_or_len (λ x. eqb x c) bytes) (length bytes)) [
       | inl lt ↦ absurd (some_is_none _ (sym (ap (λ b. cond b (Some (position_or_len (λ x. eqb x c) bytes)) None) (lt-ltb _ _ lt)) ∙ e))
       | inr le ↦ slice_split_none (λ x. eqb x c) bytes (λ k d lt. fails_before_first (λ x. eqb x c) bytes k d (omega arith))
@@ -51,13 +51,13 @@ parts_none c bytes e =
 
 -- the next line of a text
 pub line_found : (line : ℕ) (bytes : List ℕ) (at : ℕ) → position (λ x. eqb x 10) bytes ≡ Some at
-    → next_line line (parts_of bytes) ≡ Ok (take at bytes, record { line = line + 1; parts = parts_of (drop (at + 1) bytes) })
+    → next_line line (segments_of bytes) ≡ Ok (take at bytes, record { line = line + 1; segments = segments_of (drop (at + 1) bytes) })
 line_found line bytes at e =
-    let first = first_part 10 (drop (at + 1) bytes) in
-    rw (parts_found 10 bytes at e, first.2) refl
+    let first = first_segment 10 (drop (at + 1) bytes) in
+    rw (segments_found 10 bytes at e, first.2) refl
 
-pub line_none : (line : ℕ) (bytes : List ℕ) → position (λ x. eqb x 10) bytes ≡ None → next_line line (parts_of bytes) ≡ fault line kinds.Shape
-line_none line bytes e = ap (next_line line) (parts_none 10 bytes e)
+pub line_none : (line : ℕ) (bytes : List ℕ) → position (λ x. eqb x 10) bytes ≡ None → next_line line (segments_of bytes) ≡ fault line kinds.Shape
+line_none line bytes e = ap (next_line line) (segments_none 10 bytes e)
 
 drop_more : (n : ℕ) (xs : List ℕ) → drop 1 (drop n xs) ≡ drop (suc n) xs
 drop_more zero xs = refl
@@ -68,12 +68,12 @@ drop_more (suc n) (x ∷ xs) = drop_more n xs
 pub behind : (n : ℕ) (xs ys zs : List ℕ) → ys ≡ drop n xs → zs ≡ drop 1 ys → zs ≡ drop (n + 1) xs
 behind n xs ys zs e f = f ∙ ap (drop 1) e ∙ rw add-one (drop_more n xs)
 
-pub is_end-parts : (bytes : List ℕ) → is_end (parts_of bytes) ≡ is_empty bytes
-is_end-parts [] = refl
-is_end-parts (x ∷ bytes) =
-    let first = first_part 10 bytes in
-    let more : parts_of bytes ≡ first.0 ∷ first.1 = first.2 in
-    elim (eqb x 10) as (λ b. is_end (cond b ([] ∷ parts_of bytes) (onto_first x (parts_of bytes))) ≡ false) [
+pub is_end-segments : (bytes : List ℕ) → is_end (segments_of bytes) ≡ is_empty bytes
+is_end-segments [] = refl
+is_end-segments (x ∷ bytes) =
+    let first = first_segment 10 bytes in
+    let more : segments_of bytes ≡ first.0 ∷ first.1 = first.2 in
+    elim (eqb x 10) as (λ b. is_end (cond b ([] ∷ segments_of bytes) (onto_first x (segments_of bytes))) ≡ false) [
       | true ↦ rw more refl
       | false ↦ rw more refl
     ]
@@ -81,3 +81,6 @@ is_end-parts (x ∷ bytes) =
 pub length_is_empty : (bytes : List ℕ) → eqb (length bytes) 0 ≡ is_empty bytes
 length_is_empty [] = refl
 length_is_empty (x ∷ bytes) = grind (arith, nat_tests)
+
+pub ended : (bytes : List ℕ) → eqb (length bytes) 0 ≡ is_end (segments_of bytes)
+ended bytes = length_is_empty bytes ∙ sym (is_end-segments bytes)

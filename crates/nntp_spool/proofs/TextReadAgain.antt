@@ -16,14 +16,16 @@ use Rattle.nntp_article.specs.Article.{Line, Id}
 use Rattle.nntp_article.specs.Spool.{Name, Spool, Numbers, Text, is_line}
 use Rattle.nntp_article.specs.declared.profile.Profile.{Profile}
 use Rattle.nntp_article.specs.Machine.{is_num}
-use Rattle.nntp_spool.specs.Text.{number_line, group_line, article_line, barred, group_lines, article_lines, spool_lines, spool_text, with_line_ends}
-use Rattle.nntp_spool.specs.Reading.{line_at, next_line, parts_of, spool_at}
+use Rattle.nntp_spool.specs.Text.{HasLineCounts, number_line, group_line, article_line, barred, group_lines, article_lines, spool_lines, spool_text, with_line_ends}
+use Rattle.nntp_spool.specs.Reading.{line_at, next_line, segments_of, spool_at}
 use Rattle.nntp_spool.specs.Content.{no_spool, ids_have_articles}
 use Rattle.nntp_spool.specs.Content.{IsNamed, IsArticle, IsContent}
 use Rattle.nntp_spool.proofs.MapEntries.{all_got, got_all}
 use Rattle.nntp_spool.proofs.LineFields.{lacks, lacks-append, lacks-digits, are_digits-decimal, parts_front, list_all_weaken}
 use Rattle.nntp_spool.proofs.NameOctets.{name-lacks, id-lacks}
-use Rattle.nntp_spool.proofs.ItemsOfText.{octet_keys, no_entries, HasCounts, groups_again, first_lines, tail_lines}
+use Rattle.nntp_spool.proofs.ShownMaps.{octet_keys}
+use Rattle.nntp_spool.proofs.NumbersInOrder.{few_numbers}
+use Rattle.nntp_spool.proofs.ItemsOfText.{no_entries, groups_again, first_lines, tail_lines}
 
 -- ---- lines have no line feed inside
 
@@ -76,17 +78,17 @@ clean-article id t h b is =
     barred-clean [] h = refl
     barred-clean (l ∷ lines) h = let both = and_parts (is_line l) (list_all is_line lines) h in and_from (lacks 10 (124 ∷ l)) (clean (barred lines)) (line-lacks l both.0) (barred-clean lines both.1)
 
-clean-text : (profile : Profile) (F : Spool) → profile.limit < 2 ^ 64 → IsContent profile F → HasCounts F → clean (spool_lines F) ≡ true
+clean-text : (profile : Profile) (F : Spool) → profile.limit < 2 ^ 64 → IsContent profile F → HasLineCounts F → clean (spool_lines F) ≡ true
 clean-text profile F le content sizes =
-    let groups = clean-flat group_lines (entries F.groups) (got_all nat_list_cmp_total octet_keys (λ name N. clean (group_lines (name, N)) ≡ true) F.groups (λ name N g. clean-group profile name N le (sizes.counts name N g) (content.groups name N g))) in
-    let articles = clean-flat article_lines (entries F.articles) (got_all nat_list_cmp_total octet_keys (λ id t. clean (article_lines (id, t)) ≡ true) F.articles (λ id t g. let s = sizes.lines id t g in clean-article id t s.0 s.1 (content.articles id t g))) in
+    let groups = clean-flat group_lines (entries F.groups) (got_all nat_list_cmp_total octet_keys (λ name N. clean (group_lines (name, N)) ≡ true) F.groups (λ name N g. clean-group profile name N le (few_numbers profile N le (content.groups name N g).numbers) (content.groups name N g))) in
+    let articles = clean-flat article_lines (entries F.articles) (got_all nat_list_cmp_total octet_keys (λ id t. clean (article_lines (id, t)) ≡ true) F.articles (λ id t g. let s = sizes id t g in clean-article id t s.0 s.1 (content.articles id t g))) in
     clean-append (flat_map group_lines (entries F.groups)) (flat_map article_lines (entries F.articles) ++ codes "end" ∷ []) groups (clean-append (flat_map article_lines (entries F.articles)) (codes "end" ∷ []) articles refl)
 
-parts_of-with_line_ends : (lines : List Line) → clean lines ≡ true → parts_of (with_line_ends lines) ≡ lines ++ [] ∷ []
-parts_of-with_line_ends [] h = refl
-parts_of-with_line_ends (l ∷ lines) h =
+segments_of-with_line_ends : (lines : List Line) → clean lines ≡ true → segments_of (with_line_ends lines) ≡ lines ++ [] ∷ []
+segments_of-with_line_ends [] h = refl
+segments_of-with_line_ends (l ∷ lines) h =
     let both = and_parts (lacks 10 l) (clean lines) h in
-    ap parts_of (append_assoc l (10 ∷ []) (with_line_ends lines)) ∙ parts_front 10 l (with_line_ends lines) both.0 ∙ ap (λ (ps : List Line). l ∷ ps) (parts_of-with_line_ends lines both.1)
+    ap segments_of (append_assoc l (10 ∷ []) (with_line_ends lines)) ∙ parts_front 10 l (with_line_ends lines) both.0 ∙ ap (λ (ps : List Line). l ∷ ps) (segments_of-with_line_ends lines both.1)
 
 -- ---- sizes
 
@@ -108,36 +110,30 @@ length-text F =
     let articles = flat_map article_lines (entries F.articles) in
     omega (arith, length-with_line_ends (spool_lines F), length-append groups (articles ++ codes "end" ∷ []), length-append articles (codes "end" ∷ []))
 
-pub counted : (F : Spool) → length (spool_text F) < 2 ^ 64 → HasCounts F
+pub counted : (F : Spool) → length (spool_text F) < 2 ^ 64 → HasLineCounts F
 counted F lt =
     let whole = length-text F in
-    record {
-      counts = λ name N g.
-          let fits = all_got nat_list_cmp_total octet_keys (λ name N. length (group_lines (name, N)) ≤ length (spool_text F)) F.groups (within group_lines (entries F.groups) (length (spool_text F)) (omega arith)) name N g in
-          let lines = length-map (entries N) (λ e. number_line e.0 e.1) in
-          omega (arith, len-entries N);
-      lines = λ id t g.
-          let fits = all_got nat_list_cmp_total octet_keys (λ id t. length (article_lines (id, t)) ≤ length (spool_text F)) F.articles (within article_lines (entries F.articles) (length (spool_text F)) (omega arith)) id t g in
-          let both = length-append (barred t.head) (barred t.body) in
-          let heads = length-map t.head (λ line. 124 ∷ line) in
-          let bodies = length-map t.body (λ line. 124 ∷ line) in
-          (omega arith, omega arith);
-    }
+    λ id t g.
+        let fits = all_got nat_list_cmp_total octet_keys (λ id t. length (article_lines (id, t)) ≤ length (spool_text F)) F.articles (within article_lines (entries F.articles) (length (spool_text F)) (omega arith)) id t g in
+        let both = length-append (barred t.head) (barred t.body) in
+        let heads = length-map t.head (λ line. 124 ∷ line) in
+        let bodies = length-map t.body (λ line. 124 ∷ line) in
+        (omega arith, omega arith)
 
 -- ---- the whole
 
-pub text_again : (profile : Profile) (F : Spool) → profile.limit < 2 ^ 64 → IsContent profile F → HasCounts F → ids_have_articles F ≡ true → spool_at profile (spool_text F) ≡ Ok F
+pub text_again : (profile : Profile) (F : Spool) → profile.limit < 2 ^ 64 → IsContent profile F → HasLineCounts F → ids_have_articles F ≡ true → spool_at profile (spool_text F) ≡ Ok F
 unfolding spool_at
 text_again profile F le content sizes known =
     let groups = entries F.groups in
     let texts = entries F.articles in
-    let lines : parts_of (spool_text F) ≡ codes "spool 1" ∷ (flat_map group_lines groups ++ tail_lines texts) =
-    parts_of-with_line_ends (spool_lines F) (clean-text profile F le content sizes)
+    let lines : segments_of (spool_text F) ≡ codes "spool 1" ∷ (flat_map group_lines groups ++ tail_lines texts) =
+    segments_of-with_line_ends (spool_lines F) (clean-text profile F le content sizes)
     ∙ ap (λ (ps : List Line). codes "spool 1" ∷ ps) (append_assoc (flat_map group_lines groups) (flat_map article_lines texts ++ codes "end" ∷ []) ([] ∷ []) ∙ ap (λ (ps : List Line). flat_map group_lines groups ++ ps) (append_assoc (flat_map article_lines texts) (codes "end" ∷ []) ([] ∷ []))) in
     let front = first_lines groups texts in
     let most : length groups + length texts < length (spool_text F) =
     omega (arith, length-text F, enough group_lines groups (λ g. omega arith), enough article_lines texts (λ a. omega arith)) in
     let again = groups_again profile F le content sizes known (length (spool_text F)) 2 no_spool groups texts (ap (λ (es : List (Name × Numbers)). es ++ groups) (sym (no_entries (slice_cmp nat_cmp)))) (ap (λ (es : List (Id × Text)). es ++ texts) (sym (no_entries (slice_cmp nat_cmp)))) most in
-    let line : line_at (record { line = 1; parts = parts_of (spool_text F) }) ≡ Ok (codes "spool 1", record { line = 2; parts = flat_map group_lines groups ++ tail_lines texts }) =
-    ap (next_line 1) lines ∙ ap (λ (ps : List Line). next_line 1 (codes "spool 1" ∷ ps)) front.2 ∙ ap (λ (ps : List Line). Ok (codes "spool 1", record { line = 2; parts = ps })) (sym front.2) in
+    let line : line_at (record { line = 1; segments = segments_of (spool_text F) }) ≡ Ok (codes "spool 1", record { line = 2; segments = flat_map group_lines groups ++ tail_lines texts }) =
+    ap (next_line 1) lines ∙ ap (λ (ps : List Line). next_line 1 (codes "spool 1" ∷ ps)) front.2 ∙ ap (λ (ps : List Line). Ok (codes "spool 1", record { line = 2; segments = ps })) (sym front.2) in
     rw (line, again.1) refl

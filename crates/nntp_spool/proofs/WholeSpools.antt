@@ -21,12 +21,13 @@ use Rattle.nntp_article.specs.declared.profile.Profile.{Profile}
 use Rattle.nntp_spool.specs.Content.{all_known, ids_have_articles}
 use Rattle.nntp_spool.specs.Reading.{spool_at}
 use Rattle.nntp_spool.specs.declared.text.read_fault.ReadFault.{ReadFault}
-use Rattle.nntp_spool.specs.Text.{spool_text, IsWritten}
+use Rattle.nntp_spool.specs.Text.{spool_text, HasLineCounts, IsWritten}
 use Rattle.nntp_spool.specs.Content.{AreNumbers, IsNamed, IsContent}
 use Rattle.nntp_spool.proofs.MapEntries.{all_got, got_all}
 use Rattle.nntp_spool.proofs.NumbersInOrder.{no_numbers, all_passed}
 use Rattle.nntp_spool.proofs.NumbersRead.{ok_is, done}
-use Rattle.nntp_spool.proofs.ItemsOfText.{octet_keys, HasCounts, text_takes}
+use Rattle.nntp_spool.proofs.ShownMaps.{octet_keys}
+use Rattle.nntp_spool.proofs.ItemsOfText.{text_takes}
 use Rattle.nntp_spool.proofs.TextReadAgain.{text_again, counted}
 
 value_of_some : {A : Type 0} (o : Option A) → IsSome o → (x : A) × (o ≡ Some x)
@@ -118,7 +119,7 @@ module _ (profile : Profile) (S : Spool) where
 pub read_is_text : (profile : Profile) (octets : List ℕ) (S : Spool) → profile.limit < 2 ^ 64 → spool_at profile octets ≡ Ok S → IsSpool profile S × (octets ≡ spool_text S)
 read_is_text profile octets S le e = let read = text_takes profile octets S le e in (to_spool profile S read.content read.known, read.text)
 
-pub text_is_read : (profile : Profile) (S : Spool) → profile.limit < 2 ^ 64 → IsSpool profile S → HasCounts S → spool_at profile (spool_text S) ≡ Ok S
+pub text_is_read : (profile : Profile) (S : Spool) → profile.limit < 2 ^ 64 → IsSpool profile S → HasLineCounts S → spool_at profile (spool_text S) ≡ Ok S
 text_is_read profile S le is sizes = text_again profile S le (content_of_spool profile S is) sizes (spool_knows profile S is)
 
 -- octets in memory that are the text of a spool
@@ -126,7 +127,7 @@ pub memory_is_read : (profile : Profile) (S : Spool) → profile.limit < 2 ^ 64 
 memory_is_read profile S le is lt = text_is_read profile S le is (counted S lt)
 
 pub written_is_read : (profile : Profile) (S : Spool) → profile.limit < 2 ^ 64 → IsWritten profile S → spool_at profile (spool_text S) ≡ Ok S
-written_is_read profile S le is = text_is_read profile S le is.is_spool (record { counts = is.counts; lines = is.lines })
+written_is_read profile S le is = text_is_read profile S le is.is_spool is.line_counts
 
 pub same_text : (profile : Profile) (S T : Spool) → profile.limit < 2 ^ 64 → IsWritten profile S → IsWritten profile T → spool_text S ≡ spool_text T → S ≡ T
 same_text profile S T le s t e = ok_is S T (sym (written_is_read profile S le s) ∙ ap (spool_at profile) e ∙ written_is_read profile T le t)

@@ -17,6 +17,10 @@ Appends-then (Some xs) (Some ys) (Some zs) x y h g = g ∙ ap (λ (t : List ℕ)
 pub Wrote-start : (a : Option (List ℕ)) (whole : List ℕ) → Wrote a a whole whole
 Wrote-start a whole = ([], refl, Appends-nil a)
 
+-- before the first of several calls
+pub Wrote-all : (a : Option (List ℕ)) (whole rest : List ℕ) → whole ≡ rest → Wrote a a whole rest
+Wrote-all a whole rest e = subst (Wrote a a whole) e (Wrote-start a whole)
+
 -- a call stopped before this rest of its bytes
 pub Wrote-on : (a b c : Option (List ℕ)) (whole x y rest : List ℕ) → Wrote a b whole (x ++ y) → Wrote b c x rest → Wrote a c whole (rest ++ y)
 Wrote-on a b c whole x y rest h g = (

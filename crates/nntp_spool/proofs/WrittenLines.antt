@@ -1,5 +1,5 @@
 -- What a writer took of lines.
-use Rattle.std.proofs.Common.{◌≡◌, ℕ, List, [], ◌∷◌, ◌++◌, Option, map, subst, refl, sym, ap}
+use Rattle.std.proofs.Common.{◌≡◌, ℕ, List, [], ◌∷◌, ◌++◌, Option, subst, sym, ap}
 use Rattle.std.proofs.lemmas.List.{append-nil}
 use Rattle.std.proofs.lemmas.List.Concat.{flat_map-append}
 use Rattle.nntp_spool.specs.Text.{with_line_ends, group_line, article_line}
@@ -18,10 +18,6 @@ Lines-first a b xs ys rest g = subst (λ (t : List ℕ). Wrote a b t (rest ++ wi
 
 pub Lines-next : (a b c : Option (List ℕ)) (whole : List ℕ) (xs ys : List (List ℕ)) (rest : List ℕ) → Wrote a b whole (with_line_ends (xs ++ ys)) → Wrote b c (with_line_ends xs) rest → Wrote a c whole (rest ++ with_line_ends ys)
 Lines-next a b c whole xs ys rest h g = Wrote-on a b c whole (with_line_ends xs) (with_line_ends ys) rest (subst (Wrote a b whole) (with_line_ends-append xs ys) h) g
-
-pub map-map : {X Y Z : Type 0} (f : X → Y) (g : Y → Z) (xs : List X) → map g (map f xs) ≡ map (λ x. g (f x)) xs
-map-map f g [] = refl
-map-map f g (x ∷ xs) = ap (λ ys. g (f x) ∷ ys) (map-map f g xs)
 
 -- the first line of a group, and of an article
 pub Group-first : (a b : Option (List ℕ)) (name : List ℕ) (n count : ℕ) (more : List (List ℕ)) (rest : List ℕ) → n ≡ count

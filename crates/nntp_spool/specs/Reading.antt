@@ -15,7 +15,7 @@ use Rattle.nntp_spool.specs.declared.text.read_fault.ReadError.TheVariants as er
 use Rattle.nntp_spool.specs.Ascending.{is_last}
 use Rattle.nntp_spool.specs.Numbers.{has_id}
 use Rattle.nntp_spool.specs.Content.{no_spool, with_group, with_article, is_head_of, ids_have_articles}
-use Rattle.nntp_spool.specs.Fields.{fields_of, Item, Group, Article, End, item_of, number_and_id, content_of}
+use Rattle.nntp_spool.specs.Fields.{fields_of, OpeningValue, Group, Article, End, opening_of, number_and_id, unbarred}
 
 infixl 10 ◌>>=◌
 abbrev pub ◌>>=◌ : {A B : Type 0} → Result A ReadFault → (A → Result B ReadFault) → Result B ReadFault
@@ -36,22 +36,22 @@ Gives view (Err e) read = Fails e read
 
 -- ---- lines
 
--- where reading is: the number of the next line, and the parts between line ends from there on
+-- where reading is: the number of the next line, and the segments between line ends from there on
 pub record Place : Type 0 where
   pub line : ℕ
-  pub parts : List Line
+  pub segments : List Line
 
-abbrev pub parts_of : List ℕ → List Line
-parts_of bytes = slice_split (λ c. c == 10) bytes
+abbrev pub segments_of : List ℕ → List Line
+segments_of bytes = slice_split (λ c. c == 10) bytes
 
--- the last part has no end, and so is no line
+-- the last segment has no end, and so is no line
 abbrev pub next_line : ℕ → List Line → Result (Line × Place) ReadFault
 next_line line [] = fault line kinds.Shape
-next_line line (part ∷ []) = fault line kinds.Shape
-next_line line (part ∷ next ∷ parts) = Ok (part, record { line = line + 1; parts = next ∷ parts })
+next_line line (segment ∷ []) = fault line kinds.Shape
+next_line line (segment ∷ next ∷ segments) = Ok (segment, record { line = line + 1; segments = next ∷ segments })
 
 abbrev pub line_at : Place → Result (Line × Place) ReadFault
-line_at p = next_line p.line p.parts
+line_at p = next_line p.line p.segments
 
 abbrev pub shaped : {A : Type 0} → ℕ → Option A → Result A ReadFault
 shaped line None = fault line kinds.Shape
@@ -83,14 +83,14 @@ abbrev pub numbers_at : Profile → ℕ → Place → Result (Numbers × Place) 
 numbers_at profile count p = repeat (number_at profile) count (empty, p)
 
 -- one more line of an article
-unfoldable pub content_at : List Line × Place → Result (List Line × Place) ReadFault
-content_at s = do
+unfoldable pub barred_line_at : List Line × Place → Result (List Line × Place) ReadFault
+barred_line_at s = do
   l ← line_at s.1
-  line ← shaped s.1.line (content_of l.0)
+  line ← shaped s.1.line (unbarred l.0)
   Ok (s.0 ++ line ∷ [], l.1)
 
-abbrev pub contents_at : ℕ → Place → Result (List Line × Place) ReadFault
-contents_at count p = repeat content_at count ([], p)
+abbrev pub barred_lines_at : ℕ → Place → Result (List Line × Place) ReadFault
+barred_lines_at count p = repeat barred_line_at count ([], p)
 
 -- ---- items
 
@@ -106,7 +106,7 @@ unfoldable pub article_at : ℕ → Id → ℕ → ℕ → Spool → Place → R
 article_at line id heads bodies S p =
     if not (is_message_id id) then fault line kinds.Id
     else (if not (is_last S.articles id) then fault line kinds.Order
-    else (contents_at heads p >>= λ head. contents_at bodies head.1 >>= λ body.
+    else (barred_lines_at heads p >>= λ head. barred_lines_at bodies head.1 >>= λ body.
     if is_head_of id head.0 then Ok (with_article S id (record { head = head.0; body = body.0 }), body.1) else fault line kinds.Head))
 
 -- where an item leads: on, behind an article or not, or to the end
@@ -115,7 +115,7 @@ pub data Turn : Type 0 where
   Done : (spool : Spool) → (place : Place) → Turn
 
 -- what stands behind an item's line
-abbrev pub item_then : Profile → ℕ → Bool → Spool → Place → Item → Result Turn ReadFault
+abbrev pub item_then : Profile → ℕ → Bool → Spool → Place → OpeningValue → Result Turn ReadFault
 item_then profile line articles S p (Group name count) = if articles then fault line kinds.Shape else (group_at profile line name count S p >>= λ g. Ok (On false g.0 g.1))
 item_then profile line articles S p (Article id heads bodies) = article_at line id heads bodies S p >>= λ a. Ok (On true a.0 a.1)
 item_then profile line articles S p End = if ids_have_articles S then Ok (Done S p) else fault line kinds.UnknownId
@@ -124,7 +124,7 @@ item_then profile line articles S p End = if ids_have_articles S then Ok (Done S
 unfoldable pub item_at : Profile → Bool → Spool → Place → Result Turn ReadFault
 item_at profile articles S p = do
   l ← line_at p
-  item ← shaped p.line (item_of (fields_of l.0))
+  item ← shaped p.line (opening_of (fields_of l.0))
   item_then profile p.line articles S l.1 item
 
 abbrev pub turn_then : (Bool → Spool → Place → Result (Spool × Place) ReadFault) → Turn → Result (Spool × Place) ReadFault
@@ -139,11 +139,11 @@ items_at profile (suc most) articles S p = item_at profile articles S p >>= turn
 -- nothing is left behind the last line
 abbrev pub is_end : List Line → Bool
 is_end [] = false
-is_end (part ∷ parts) = is_empty part && is_empty parts
+is_end (segment ∷ segments) = is_empty segment && is_empty segments
 
 -- A whole text. It has fewer items than octets.
 unfoldable pub spool_at : Profile → List ℕ → Result Spool ReadFault
 spool_at profile bytes = do
-  l ← line_at (record { line = 1; parts = parts_of bytes })
+  l ← line_at (record { line = 1; segments = segments_of bytes })
   s ← (if bytes_eq l.0 (codes "spool 1") then items_at profile (length bytes) false no_spool l.1 else fault 1 kinds.Shape)
-  if is_end s.1.parts then Ok s.0 else fault s.1.line kinds.Shape
+  if is_end s.1.segments then Ok s.0 else fault s.1.line kinds.Shape

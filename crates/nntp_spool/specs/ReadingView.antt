@@ -2,27 +2,36 @@
 use Rattle.std.specs.Prelude.{ℕ, List, [], Option, None, Some}
 use Rattle.std.specs.Borrow.{Bor}
 use Rattle.nntp_spool.specs.declared.text.place.Place.{Place as PlaceInCode}
-use Rattle.nntp_spool.specs.declared.text.place.Item.{Item as ItemInCode}
-use Rattle.nntp_spool.specs.declared.text.place.Item.TheVariants as InCode
+use Rattle.nntp_spool.specs.declared.text.place.Opening.{Opening}
+use Rattle.nntp_spool.specs.declared.text.place.Opening.TheVariants as InCode
+use Rattle.nntp_spool.specs.declared.text.place.NumberLine.{NumberLine}
 use Rattle.nntp_spool.specs.declared.text.place.Turn.{Turn as TurnInCode}
 use Rattle.nntp_spool.specs.declared.text.place.Turn.TheVariants as turns
+use Rattle.nntp_article.specs.Article.{Id}
 use Rattle.nntp_article.specs.Spool.{Spool}
-use Rattle.nntp_spool.specs.Reading.{Place, Turn, On, Done, parts_of}
-use Rattle.nntp_spool.specs.Fields.{Item, Group, Article, End, fields_of}
+use Rattle.nntp_spool.specs.Reading.{Place, Turn, On, Done, segments_of}
+use Rattle.nntp_spool.specs.Fields.{OpeningValue, Group, Article, End, fields_of, value_of}
 
+-- where reading is
 abbrev pub place_shown : PlaceInCode → Place
-place_shown p = record { line = p.line; parts = parts_of p.rest.now }
+place_shown p = record { line = p.line; segments = segments_of p.rest.now }
 
 -- the words of what stands behind a space, if one does
 abbrev pub words_from : Option (Bor (List ℕ)) → List (List ℕ)
 words_from None = []
 words_from (Some rest) = fields_of rest.now
 
-abbrev pub item_shown : ItemInCode → Item
-item_shown (InCode.Group name count) = Group name.now count
-item_shown (InCode.Article id heads bodies) = Article id.now heads bodies
-item_shown InCode.End = End
+-- what a line begins
+abbrev pub opening_shown : Opening → OpeningValue
+opening_shown (InCode.Group name count) = Group name.now count
+opening_shown (InCode.Article id heads bodies) = Article id.now heads bodies
+opening_shown InCode.End = End
 
+-- the number and the id of a line
+abbrev pub number_line_shown : NumberLine → ℕ × Id
+number_line_shown l = (value_of l.digits.now, l.id.now)
+
+-- where an item leads, with the groups and articles so far
 abbrev pub turn_shown : Spool → TurnInCode → Turn
 turn_shown S (turns.On articles place) = On articles S (place_shown place)
 turn_shown S (turns.Done place) = Done S (place_shown place)

@@ -41,8 +41,11 @@ with_line_ends lines = flat_map (λ line. line ++ 10 ∷ []) lines
 abbrev pub spool_text : Spool → List ℕ
 spool_text S = with_line_ends (spool_lines S)
 
--- a spool whose counts fit 64 bits, as those of each spool in memory do
+-- each head and each body has fewer than 2^64 lines, as those of articles in memory have
+abbrev pub HasLineCounts : Spool → Type 0
+HasLineCounts S = (id : Id) (t : Text) → get S.articles id ≡ Some t → (length t.head < 2 ^ 64) × (length t.body < 2 ^ 64)
+
+-- a spool whose counts 64 bits hold; those of numbers are within the limit of article numbers
 pub record IsWritten (profile : Profile) (S : Spool) : Type 0 where
   pub is_spool : IsSpool profile S
-  pub counts : (name : Name) (N : Numbers) → get S.groups name ≡ Some N → len N < 2 ^ 64
-  pub lines : (id : Id) (t : Text) → get S.articles id ≡ Some t → (length t.head < 2 ^ 64) × (length t.body < 2 ^ 64)
+  pub line_counts : HasLineCounts S

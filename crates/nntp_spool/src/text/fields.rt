@@ -1,12 +1,12 @@
 //! The lines of a text and their fields.
-ghost use Rattle.std.specs.Prelude.{◌≡◌, ◌≤◌, ◌^◌, ◌∷◌, [], Some, None, true, option_map, option_copied, position, ◌==◌, MatchOption, if◌then◌else◌, IfSome};
+ghost use Rattle.std.specs.Prelude.{◌≡◌, ◌≤◌, ◌^◌, ◌∷◌, [], Some, None, true, option_map, option_copied, position, ◌==◌, MatchOption, if◌then◌else◌};
 ghost use Rattle.nntp_spool.specs.Reading.{Gives, line_at};
-ghost use Rattle.nntp_spool.specs.Fields.{fields_of, are_digits, is_decimal, is_count, value_of, item_of, number_and_id, content_of};
+ghost use Rattle.nntp_spool.specs.Fields.{fields_of, are_digits, is_decimal, is_count, value_of, opening_of, number_and_id, unbarred};
 ghost use Rattle.nntp_article.specs.Machine.{is_num};
 ghost use Rattle.nntp_article.specs.Limit.{profile_31_bits};
-ghost use Rattle.nntp_spool.specs.ReadingView.{place_shown, item_shown, words_from};
+ghost use Rattle.nntp_spool.specs.ReadingView.{place_shown, opening_shown, number_line_shown, words_from};
 
-use crate::text::place::{Item, Place};
+use crate::text::place::{NumberLine, Opening, Place};
 use crate::text::read_fault::{Kind, ReadError, ReadFault};
 use crate::value::well_formed::is_line;
 use nntp_article::PROFILE_31_BITS;
@@ -101,38 +101,43 @@ fn count_of(word: &[u8]) -> Option<u64>
     }
 }
 
-fn group_item<'a>(word: &[u8], name: &'a [u8], count: &[u8]) -> Option<Item<'a>>
-    ensures { option_map item_shown result ≡ item_of (word.now ∷ name.now ∷ count.now ∷ []) }
+fn group_opening<'a>(word: &[u8], name: &'a [u8], count: &[u8]) -> Option<Opening<'a>>
+    ensures { option_map opening_shown result ≡ opening_of (word.now ∷ name.now ∷ count.now ∷ []) }
 {
     if word != b"group".as_slice() || name.is_empty() {
         return None;
     }
     match count_of(count) {
-        Some(count) => Some(Item::Group { name, count }),
+        Some(count) => Some(Opening::Group { name, count }),
         None => None,
     }
 }
 
-fn article_item<'a>(word: &[u8], id: &'a [u8], heads: &[u8], bodies: &[u8]) -> Option<Item<'a>>
-    ensures { option_map item_shown result ≡ item_of (word.now ∷ id.now ∷ heads.now ∷ bodies.now ∷ []) }
+fn article_opening<'a>(
+    word: &[u8],
+    id: &'a [u8],
+    heads: &[u8],
+    bodies: &[u8],
+) -> Option<Opening<'a>>
+    ensures { option_map opening_shown result ≡ opening_of (word.now ∷ id.now ∷ heads.now ∷ bodies.now ∷ []) }
 {
     if word != b"article".as_slice() || id.is_empty() {
         return None;
     }
     match (count_of(heads), count_of(bodies)) {
-        (Some(heads), Some(bodies)) => Some(Item::Article { id, heads, bodies }),
+        (Some(heads), Some(bodies)) => Some(Opening::Article { id, heads, bodies }),
         _ => None,
     }
 }
 
 /// The item that a line begins.
-pub(crate) fn item_of(line: &[u8]) -> Option<Item<'_>>
-    ensures { option_map item_shown result ≡ item_of (fields_of line.now) }
+pub(crate) fn opening_of(line: &[u8]) -> Option<Opening<'_>>
+    ensures { option_map opening_shown result ≡ opening_of (fields_of line.now) }
 {
     let (word, rest) = cut(line);
     let Some(rest) = rest else {
         return if word == b"end".as_slice() {
-            Some(Item::End)
+            Some(Opening::End)
         } else {
             None
         };
@@ -143,31 +148,28 @@ pub(crate) fn item_of(line: &[u8]) -> Option<Item<'_>>
     };
     let (second, rest) = cut(rest);
     let Some(rest) = rest else {
-        return group_item(word, first, second);
+        return group_opening(word, first, second);
     };
     let (third, rest) = cut(rest);
     match rest {
-        None => article_item(word, first, second, third),
+        None => article_opening(word, first, second, third),
         Some(_) => None,
     }
 }
 
-/// The digits of a number, and an id, if the two fields are such.
-fn number_item<'a>(word: &'a [u8], id: &'a [u8]) -> Option<(&'a [u8], &'a [u8])>
-    ensures value { option_map (λ e. (value_of e.0.now, e.1.now)) result ≡ number_and_id (word.now ∷ id.now ∷ []) }
-    ensures digits { IfSome result (λ e. is_decimal e.0.now ≡ true) }
+fn number_line<'a>(digits: &'a [u8], id: &'a [u8]) -> Option<NumberLine<'a>>
+    ensures { option_map number_line_shown result ≡ number_and_id (digits.now ∷ id.now ∷ []) }
 {
-    if is_decimal_word(word) && !id.is_empty() {
-        Some((word, id))
+    if is_decimal_word(digits) && !id.is_empty() {
+        Some(NumberLine { digits, id })
     } else {
         None
     }
 }
 
-/// The digits of the number that a line has, and the id.
-pub(crate) fn number_and_id(line: &[u8]) -> Option<(&[u8], &[u8])>
-    ensures value { option_map (λ e. (value_of e.0.now, e.1.now)) result ≡ number_and_id (fields_of line.now) }
-    ensures digits { IfSome result (λ e. is_decimal e.0.now ≡ true) }
+/// The number and the id of a line.
+pub(crate) fn number_and_id(line: &[u8]) -> Option<NumberLine<'_>>
+    ensures { option_map number_line_shown result ≡ number_and_id (fields_of line.now) }
 {
     let (word, rest) = cut(line);
     let Some(rest) = rest else {
@@ -175,17 +177,16 @@ pub(crate) fn number_and_id(line: &[u8]) -> Option<(&[u8], &[u8])>
     };
     let (id, rest) = cut(rest);
     match rest {
-        None => number_item(word, id),
+        None => number_line(word, id),
         Some(_) => None,
     }
 }
 
-/// The article number that has these digits.
-pub(crate) fn article_number(digits: &[u8]) -> Option<u64>
-    requires { is_decimal digits.now ≡ true }
-    ensures { result ≡ (if is_num profile_31_bits (value_of digits.now) then Some (value_of digits.now) else None) }
+/// The number of a line, if it is an article number.
+pub(crate) fn article_number(line: NumberLine<'_>) -> Option<u64>
+    ensures { result ≡ (if is_num profile_31_bits (value_of line.entry.digits.now) then Some (value_of line.entry.digits.now) else None) }
 {
-    match value(digits) {
+    match value(line.digits) {
         Some(number) => {
             if number < 1 || number > PROFILE_31_BITS.limit {
                 None
@@ -198,8 +199,8 @@ pub(crate) fn article_number(digits: &[u8]) -> Option<u64>
 }
 
 /// A line of an article, without the `|` in front.
-pub(crate) fn content_of(line: &[u8]) -> Option<&[u8]>
-    ensures { option_copied result ≡ content_of line.now }
+pub(crate) fn unbarred(line: &[u8]) -> Option<&[u8]>
+    ensures { option_copied result ≡ unbarred line.now }
 {
     match line.split_first() {
         Some((first, rest)) => {

@@ -1,5 +1,6 @@
 //! Where the reader of a text is, and what it finds there.
-ghost use Rattle.std.specs.Prelude.{◌<◌, ◌+◌, ◌-◌, ◌^◌, length};
+ghost use Rattle.std.specs.Prelude.{◌≡◌, ◌<◌, ◌+◌, ◌-◌, ◌^◌, true, length};
+ghost use Rattle.nntp_spool.specs.Fields.{is_decimal};
 
 /// The next line's number, and the octets from there on.
 #[derive(Clone, Copy)]
@@ -10,7 +11,7 @@ pub(crate) struct Place<'a> {
 }
 
 /// A line that begins a group or an article, or ends the text.
-pub(crate) enum Item<'a> {
+pub(crate) enum Opening<'a> {
     Group {
         name: &'a [u8],
         count: u64,
@@ -21,6 +22,14 @@ pub(crate) enum Item<'a> {
         bodies: u64,
     },
     End,
+}
+
+/// The line of a number: its digits, without leading zeros, and its id.
+#[derive(Clone, Copy)]
+pub(crate) struct NumberLine<'a> {
+    pub(crate) digits: &'a [u8],
+    pub(crate) id: &'a [u8],
+    ghost decimal: { is_decimal digits.now ≡ true },
 }
 
 /// Where an item leads: on, behind an article or not, or to the end.

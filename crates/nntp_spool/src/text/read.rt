@@ -1,16 +1,16 @@
 //! The parts of a spool's text, read line by line.
 ghost use Rattle.std.specs.Prelude.{◌≡◌, ℕ, true, length, false, IfOk, IfErr};
 ghost use Rattle.nntp_article.specs.Limit.{profile_31_bits};
-ghost use Rattle.nntp_spool.specs.Reading.{Gives, parts_of, is_end, content_at, contents_at, number_in, number_at, numbers_at, group_at, article_at, item_at, items_at, item_then, spool_at};
+ghost use Rattle.nntp_spool.specs.Reading.{Gives, barred_line_at, barred_lines_at, number_in, number_at, numbers_at, group_at, article_at, item_at, items_at, item_then, spool_at};
 ghost use Rattle.nntp_spool.specs.Fields.{End};
 ghost use Rattle.nntp_spool.specs.ReadingView.{place_shown, turn_shown};
-ghost use Rattle.nntp_spool.specs.ArticleLines.{lines_of};
+ghost use Rattle.nntp_wire.specs.Held.{held};
 ghost use Rattle.nntp_article.specs.Spool.{Spool as SpoolValue, IsSpool};
 ghost use Rattle.nntp_spool.specs.Text.{spool_text};
 ghost use Rattle.nntp_spool.specs.Faults.{IsFault};
 
-use crate::text::fields::{article_number, content_of, fault, item_of, next_line, number_and_id};
-use crate::text::place::{Item, Place, Turn};
+use crate::text::fields::{article_number, fault, next_line, number_and_id, opening_of, unbarred};
+use crate::text::place::{Opening, Place, Turn};
 use crate::text::read_fault::{Kind, ReadError, ReadFault};
 use crate::value::Spool;
 use crate::value::article::Article;
@@ -20,16 +20,16 @@ use crate::value::well_formed::{is_head_of, is_id, is_name};
 use std::alloc::Allocator;
 
 /// One more line of an article.
-#[tactic(auto, unfolding(crate::specs::Reading::content_at))]
-fn content_at<'a, A: Allocator + Copy>(
+#[tactic(auto, unfolding(crate::specs::Reading::barred_line_at))]
+fn barred_line_at<'a, A: Allocator + Copy>(
     alloc: A,
     lines: &mut Vec<Vec<u8, A>, A>,
     place: Place<'a>,
 ) -> Result<Place<'a>, ReadError>
-    ensures { Gives (λ next. (lines_of lines.new.items, place_shown next)) result (content_at (lines_of lines.old.items, place_shown place.entry)) }
+    ensures { Gives (λ next. (held lines.new.items, place_shown next)) result (barred_line_at (held lines.old.items, place_shown place.entry)) }
 {
     let (line, next) = next_line(place)?;
-    let Some(content) = content_of(line) else {
+    let Some(content) = unbarred(line) else {
         return Err(fault(place.line, Kind::Shape));
     };
     lines.push(Vec::from_slice(alloc, content)?)?;
@@ -37,17 +37,17 @@ fn content_at<'a, A: Allocator + Copy>(
 }
 
 /// So many lines of an article.
-fn contents_at<A: Allocator + Copy>(
+fn barred_lines_at<A: Allocator + Copy>(
     alloc: A,
     count: u64,
     place: Place<'_>,
 ) -> Result<(Vec<Vec<u8, A>, A>, Place<'_>), ReadError>
-    ensures { Gives (λ x. (lines_of x.0.items, place_shown x.1)) result (contents_at count (place_shown place.entry)) }
+    ensures { Gives (λ x. (held x.0.items, place_shown x.1)) result (barred_lines_at count (place_shown place.entry)) }
 {
     let mut lines = Vec::new(alloc);
     let mut rest = place;
     for _ in 0..count {
-        rest = content_at(alloc, &mut lines, rest)?;
+        rest = barred_line_at(alloc, &mut lines, rest)?;
     }
     Ok((lines, rest))
 }
@@ -57,16 +57,16 @@ fn contents_at<A: Allocator + Copy>(
 fn number_in(at: u64, line: &[u8]) -> Result<(u64, &[u8]), ReadError>
     ensures { Gives (λ x. (x.0, x.1.now)) result (number_in profile_31_bits at line.now) }
 {
-    let Some((digits, id)) = number_and_id(line) else {
+    let Some(line) = number_and_id(line) else {
         return Err(fault(at, Kind::Shape));
     };
-    let Some(number) = article_number(digits) else {
+    let Some(number) = article_number(line) else {
         return Err(fault(at, Kind::Number));
     };
-    if !is_id(id) {
+    if !is_id(line.id) {
         return Err(fault(at, Kind::Id));
     }
-    Ok((number, id))
+    Ok((number, line.id))
 }
 
 /// One more number of a group.
@@ -147,8 +147,8 @@ fn article_at<'a, A: Allocator + Copy>(
     if !content.is_after_articles(id) {
         return Err(fault(line, Kind::Order));
     }
-    let (head, next) = contents_at(alloc, heads, place)?;
-    let (body, next) = contents_at(alloc, bodies, next)?;
+    let (head, next) = barred_lines_at(alloc, heads, place)?;
+    let (body, next) = barred_lines_at(alloc, bodies, next)?;
     if !is_head_of(id, &head) {
         return Err(fault(line, Kind::Head));
     }
@@ -182,11 +182,11 @@ fn item_at<'a, A: Allocator + Copy>(
     ensures { Gives (turn_shown content.new) result (item_at profile_31_bits articles content.old (place_shown place.entry)) }
 {
     let (line, next) = next_line(place)?;
-    let Some(item) = item_of(line) else {
+    let Some(opening) = opening_of(line) else {
         return Err(fault(place.line, Kind::Shape));
     };
-    match item {
-        Item::Group { name, count } => {
+    match opening {
+        Opening::Group { name, count } => {
             if articles {
                 return Err(fault(place.line, Kind::Shape));
             }
@@ -196,14 +196,14 @@ fn item_at<'a, A: Allocator + Copy>(
                 place,
             })
         }
-        Item::Article { id, heads, bodies } => {
+        Opening::Article { id, heads, bodies } => {
             let place = article_at(alloc, place.line, id, heads, bodies, content, next)?;
             Ok(Turn::On {
                 articles: true,
                 place,
             })
         }
-        Item::End => ends_at(place.line, content, next),
+        Opening::End => ends_at(place.line, content, next),
     }
 }
 
@@ -233,14 +233,8 @@ fn items_at<'a, A: Allocator + Copy>(
     Err(fault(rest.line, Kind::Shape))
 }
 
-fn is_at_end(octets: &[u8]) -> bool
-    ensures { result ≡ is_end (parts_of octets.now) }
-{
-    octets.is_empty()
-}
-
 /// A whole text.
-#[tactic(auto, unfolding(crate::specs::Reading::spool_at))]
+#[tactic(auto, using(crate::proofs::SplitLines::ended), unfolding(crate::specs::Reading::spool_at))]
 pub(crate) fn content_of_text<A: Allocator + Copy>(
     alloc: A,
     octets: &[u8],
@@ -257,7 +251,7 @@ pub(crate) fn content_of_text<A: Allocator + Copy>(
     }
     let mut content = Content::new(alloc);
     let end = items_at(alloc, octets.len() as u64, &mut content, rest)?;
-    if !is_at_end(end.rest) {
+    if !end.rest.is_empty() {
         return Err(fault(end.line, Kind::Shape));
     }
     Ok(content)

@@ -2,11 +2,9 @@
 ghost use Rattle.std.specs.Prelude.{◌≡◌, ◌∷◌, [], ◌||◌, is_err, map as list_map};
 ghost use Rattle.std.specs.List.{flat_map};
 ghost use Rattle.std.specs.FinMap as map;
-ghost use Rattle.std.specs.BTreeMap.{IsOrdered};
-ghost use Rattle.std.specs.Ordering.{nat_cmp};
-ghost use Rattle.std.specs.Cmp.Lexicographic.{slice_cmp};
 ghost use Rattle.nntp_spool.specs.Text.{with_line_ends, number_line, group_line, article_line, barred, group_lines, article_lines, spool_text};
-ghost use Rattle.nntp_spool.specs.ArticleLines.{lines_of, text_of_article};
+ghost use Rattle.nntp_wire.specs.Held.{held};
+ghost use Rattle.nntp_spool.specs.ArticleLines.{text_of_article};
 ghost use Rattle.nntp_spool.specs.Watched.{inner_of, has_failed_of};
 ghost use Rattle.nntp_spool.specs.Writing.{Writes};
 
@@ -18,11 +16,10 @@ use crate::value::numbers::Numbers;
 use crate::watched::Watched;
 use itoa::Buffer;
 use std::alloc::Allocator;
-use std::collections::BTreeMap;
 use std::io::Write;
 
 /// The line of a number.
-fn put_number<W: Write>(w: &mut Watched<W>, number: u64, id: &[u8]) -> Result<(), WriteFault>
+fn put_number_line<W: Write>(w: &mut Watched<W>, number: u64, id: &[u8]) -> Result<(), WriteFault>
     ensures text { Writes result (W.contents (inner_of w.old)) (W.contents (inner_of w.new)) (with_line_ends (number_line number id.now ∷ [])) }
     ensures failed { has_failed_of w.new ≡ (has_failed_of w.old || is_err result) }
 {
@@ -31,7 +28,7 @@ fn put_number<W: Write>(w: &mut Watched<W>, number: u64, id: &[u8]) -> Result<()
 }
 
 /// The first line of a group.
-fn put_group<W: Write>(w: &mut Watched<W>, name: &[u8], count: u64) -> Result<(), WriteFault>
+fn put_group_line<W: Write>(w: &mut Watched<W>, name: &[u8], count: u64) -> Result<(), WriteFault>
     ensures text { Writes result (W.contents (inner_of w.old)) (W.contents (inner_of w.new)) (with_line_ends (group_line name.now count ∷ [])) }
     ensures failed { has_failed_of w.new ≡ (has_failed_of w.old || is_err result) }
 {
@@ -41,7 +38,7 @@ fn put_group<W: Write>(w: &mut Watched<W>, name: &[u8], count: u64) -> Result<()
 }
 
 /// The first line of an article.
-fn put_article<W: Write>(
+fn put_article_line<W: Write>(
     w: &mut Watched<W>,
     id: &[u8],
     heads: u64,
@@ -58,31 +55,15 @@ fn put_article<W: Write>(
 }
 
 /// The lines of a head or a body.
-fn put_contents<W: Write, A: Allocator>(
+fn put_barred_lines<W: Write, A: Allocator>(
     w: &mut Watched<W>,
     lines: &[Vec<u8, A>],
 ) -> Result<(), WriteFault>
-    ensures text { Writes result (W.contents (inner_of w.old)) (W.contents (inner_of w.new)) (with_line_ends (barred (lines_of lines.now))) }
+    ensures text { Writes result (W.contents (inner_of w.old)) (W.contents (inner_of w.new)) (with_line_ends (barred (held lines.now))) }
     ensures failed { has_failed_of w.new ≡ (has_failed_of w.old || is_err result) }
 {
     for line in lines {
         put_pieces(w, &[b"|", line.as_slice(), b"\n"])?;
-    }
-    Ok(())
-}
-
-/// The lines of numbers.
-fn put_numbers<W: Write, A: Allocator>(
-    w: &mut Watched<W>,
-    ids: &BTreeMap<u64, Vec<u8, A>, A>,
-) -> Result<(), WriteFault>
-    ensures text { Writes result (W.contents (inner_of w.old)) (W.contents (inner_of w.new)) (with_line_ends (list_map (λ e. number_line e.0 e.1.items) ids.now.entries)) }
-    ensures ordered { IsOrdered nat_cmp ids.now }
-    ensures failed { has_failed_of w.new ≡ (has_failed_of w.old || is_err result) }
-{
-    let mut entries = ids.iter();
-    while let Some((number, id)) = entries.next() {
-        put_number(w, *number, id.as_slice())?;
     }
     Ok(())
 }
@@ -93,12 +74,16 @@ impl<A: Allocator> Numbers<A> {
         ensures text { Writes result (W.contents (inner_of w.old)) (W.contents (inner_of w.new)) (with_line_ends (list_map (λ e. number_line e.0 e.1) (map.entries self.now))) }
         ensures failed { has_failed_of w.new ≡ (has_failed_of w.old || is_err result) }
     {
-        put_numbers(w, &self.ids)
+        let mut entries = self.ids.iter();
+        while let Some((number, id)) = entries.next() {
+            put_number_line(w, *number, id.as_slice())?;
+        }
+        Ok(())
     }
 }
 
 /// All lines of a group.
-fn put_whole_group<W: Write, A: Allocator>(
+fn put_group<W: Write, A: Allocator>(
     w: &mut Watched<W>,
     name: &[u8],
     numbers: &Numbers<A>,
@@ -106,12 +91,12 @@ fn put_whole_group<W: Write, A: Allocator>(
     ensures text { Writes result (W.contents (inner_of w.old)) (W.contents (inner_of w.new)) (with_line_ends (group_lines (name.now, numbers.now))) }
     ensures failed { has_failed_of w.new ≡ (has_failed_of w.old || is_err result) }
 {
-    put_group(w, name, numbers.len() as u64)?;
+    put_group_line(w, name, numbers.len() as u64)?;
     numbers.write(w)
 }
 
 /// All lines of an article.
-fn put_whole_article<W: Write, A: Allocator>(
+fn put_article<W: Write, A: Allocator>(
     w: &mut Watched<W>,
     id: &[u8],
     article: &Article<A>,
@@ -119,52 +104,44 @@ fn put_whole_article<W: Write, A: Allocator>(
     ensures text { Writes result (W.contents (inner_of w.old)) (W.contents (inner_of w.new)) (with_line_ends (article_lines (id.now, text_of_article article.now))) }
     ensures failed { has_failed_of w.new ≡ (has_failed_of w.old || is_err result) }
 {
-    put_article(w, id, article.head.len() as u64, article.body.len() as u64)?;
-    put_contents(w, &article.head)?;
-    put_contents(w, &article.body)
-}
-
-/// The lines of all groups.
-fn put_groups<W: Write, A: Allocator>(
-    w: &mut Watched<W>,
-    groups: &BTreeMap<Vec<u8, A>, Numbers<A>, A>,
-) -> Result<(), WriteFault>
-    ensures text { Writes result (W.contents (inner_of w.old)) (W.contents (inner_of w.new)) (with_line_ends (flat_map group_lines (list_map (λ e. (e.0.items, e.1)) groups.now.entries))) }
-    ensures ordered { IsOrdered (λ a b. slice_cmp nat_cmp a.items b.items) groups.now }
-    ensures failed { has_failed_of w.new ≡ (has_failed_of w.old || is_err result) }
-{
-    let mut entries = groups.iter();
-    while let Some((name, numbers)) = entries.next() {
-        put_whole_group(w, name.as_slice(), numbers)?;
-    }
-    Ok(())
-}
-
-/// The lines of all articles.
-fn put_articles<W: Write, A: Allocator>(
-    w: &mut Watched<W>,
-    articles: &BTreeMap<Vec<u8, A>, Article<A>, A>,
-) -> Result<(), WriteFault>
-    ensures text { Writes result (W.contents (inner_of w.old)) (W.contents (inner_of w.new)) (with_line_ends (flat_map article_lines (list_map (λ e. (e.0.items, text_of_article e.1)) articles.now.entries))) }
-    ensures ordered { IsOrdered (λ a b. slice_cmp nat_cmp a.items b.items) articles.now }
-    ensures failed { has_failed_of w.new ≡ (has_failed_of w.old || is_err result) }
-{
-    let mut entries = articles.iter();
-    while let Some((id, article)) = entries.next() {
-        put_whole_article(w, id.as_slice(), article)?;
-    }
-    Ok(())
+    put_article_line(w, id, article.head.len() as u64, article.body.len() as u64)?;
+    put_barred_lines(w, &article.head)?;
+    put_barred_lines(w, &article.body)
 }
 
 impl<A: Allocator> Content<A> {
+    /// Writes the lines of all groups.
+    fn write_groups<W: Write>(&self, w: &mut Watched<W>) -> Result<(), WriteFault>
+        ensures text { Writes result (W.contents (inner_of w.old)) (W.contents (inner_of w.new)) (with_line_ends (flat_map group_lines (map.entries self.now.groups))) }
+        ensures failed { has_failed_of w.new ≡ (has_failed_of w.old || is_err result) }
+    {
+        let mut entries = self.groups.iter();
+        while let Some((name, numbers)) = entries.next() {
+            put_group(w, name.as_slice(), numbers)?;
+        }
+        Ok(())
+    }
+
+    /// Writes the lines of all articles.
+    fn write_articles<W: Write>(&self, w: &mut Watched<W>) -> Result<(), WriteFault>
+        ensures text { Writes result (W.contents (inner_of w.old)) (W.contents (inner_of w.new)) (with_line_ends (flat_map article_lines (map.entries self.now.articles))) }
+        ensures failed { has_failed_of w.new ≡ (has_failed_of w.old || is_err result) }
+    {
+        let mut entries = self.articles.iter();
+        while let Some((id, article)) = entries.next() {
+            put_article(w, id.as_slice(), article)?;
+        }
+        Ok(())
+    }
+
     /// Writes the text. After a fault the writer took a front of it.
     pub(crate) fn write<W: Write>(&self, w: &mut Watched<W>) -> Result<(), WriteFault>
         ensures text { Writes result (W.contents (inner_of w.old)) (W.contents (inner_of w.new)) (spool_text self.now) }
         ensures failed { has_failed_of w.new ≡ (has_failed_of w.old || is_err result) }
     {
         put(w, b"spool 1\n")?;
-        put_groups(w, &self.groups)?;
-        put_articles(w, &self.articles)?;
+        self.write_groups(w)?;
+        self.write_articles(w)?;
         put(w, b"end\n")
     }
 }

@@ -1,13 +1,8 @@
 //! Groups and articles, as they are taken in before all of a spool is there.
-ghost use Rattle.std.specs.Prelude.{◌≡◌, OnOk, OnErr, option_map, option_copied, is_some, map as list_map};
+ghost use Rattle.std.specs.Prelude.{◌≡◌, OnOk, OnErr, option_map, option_copied, is_some};
 ghost use Rattle.std.specs.FinMap as map;
 ghost use Rattle.nntp_article.specs.Spool.{IsGroup, numbers as numbers_of};
-ghost use Rattle.std.specs.List.{list_all};
-ghost use Rattle.std.specs.BTreeMap.{IsOrdered};
-ghost use Rattle.std.specs.Ordering.{nat_cmp};
-ghost use Rattle.std.specs.Cmp.Lexicographic.{slice_cmp};
 ghost use Rattle.nntp_spool.specs.Counts.{numbers_in};
-ghost use Rattle.std.specs.Prelude.{sum};
 ghost use Rattle.nntp_spool.specs.Ascending.{is_last};
 ghost use Rattle.nntp_spool.specs.Content.{with_group, with_article, all_known, ids_have_articles, no_spool};
 ghost use Rattle.nntp_spool.specs.Numbers.{with_number};
@@ -129,7 +124,12 @@ impl<A: Allocator> Content<A> {
     pub(crate) fn count_numbers(&self) -> u128
         ensures { result ≡ numbers_in self.now }
     {
-        sum_of_lens(&self.groups)
+        let mut total = 0u128;
+        let mut entries = self.groups.iter();
+        while let Some((_, numbers)) = entries.next() {
+            total += numbers.len() as u128;
+        }
+        total
     }
 
     /// How many articles there are.
@@ -163,42 +163,18 @@ impl<A: Allocator> Content<A> {
     fn knows_all(&self, numbers: &Numbers<A>) -> bool
         ensures { result ≡ all_known self.now numbers.now }
     {
-        knows_ids(self, &numbers.ids)
+        numbers
+            .ids
+            .iter()
+            .all(|(_, id)| self.has_article(id.as_slice()))
     }
 
     /// Whether each id of a number has an article.
     pub(crate) fn has_articles(&self) -> bool
         ensures { result ≡ ids_have_articles self.now }
     {
-        knows_groups(self, &self.groups)
+        self.groups
+            .iter()
+            .all(|(_, numbers)| self.knows_all(numbers))
     }
-}
-
-fn knows_ids<A: Allocator>(content: &Content<A>, ids: &BTreeMap<u64, Vec<u8, A>, A>) -> bool
-    ensures is { result ≡ list_all (λ e. is_some (map.get content.now.articles e.1.items)) ids.now.entries }
-    ensures ordered { IsOrdered nat_cmp ids.now }
-{
-    ids.iter().all(|(_, id)| content.has_article(id.as_slice()))
-}
-
-fn knows_groups<A: Allocator>(
-    content: &Content<A>,
-    groups: &BTreeMap<Vec<u8, A>, Numbers<A>, A>,
-) -> bool
-    ensures is { result ≡ list_all (λ e. all_known content.now e.1) groups.now.entries }
-    ensures ordered { IsOrdered (λ a b. slice_cmp nat_cmp a.items b.items) groups.now }
-{
-    groups.iter().all(|(_, numbers)| content.knows_all(numbers))
-}
-
-fn sum_of_lens<A: Allocator>(groups: &BTreeMap<Vec<u8, A>, Numbers<A>, A>) -> u128
-    ensures sum { result ≡ sum (list_map (λ e. map.len e.1) groups.now.entries) }
-    ensures ordered { IsOrdered (λ a b. slice_cmp nat_cmp a.items b.items) groups.now }
-{
-    let mut total = 0u128;
-    let mut entries = groups.iter();
-    while let Some((_, numbers)) = entries.next() {
-        total += numbers.len() as u128;
-    }
-    total
 }

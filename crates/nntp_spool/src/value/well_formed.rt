@@ -1,11 +1,10 @@
 //! What names, ids and lines have to be.
 ghost use Rattle.std.specs.Prelude.{◌≡◌};
 ghost use Rattle.std.specs.List.{list_all};
-ghost use Rattle.nntp_wire.specs.Octets.{is_clean};
 ghost use Rattle.nntp_wire.specs.Decided.{is_group_name, is_message_id};
 ghost use Rattle.nntp_article.specs.Spool.{is_line};
 ghost use Rattle.nntp_spool.specs.Content.{is_head_of};
-ghost use Rattle.nntp_spool.specs.ArticleLines.{lines_of};
+ghost use Rattle.nntp_wire.specs.Held.{held};
 
 use nntp_article::lines_say;
 use nntp_wire::laws::{group_names_are_decided, message_ids_are_decided};
@@ -28,36 +27,24 @@ pub(crate) fn is_id(id: &[u8]) -> bool
     MessageId::parse(id).is_some()
 }
 
-fn is_clean(line: &[u8]) -> bool
-    ensures { result ≡ is_clean line.now }
+/// Whether the octets have no NUL, CR or LF.
+pub(crate) fn is_line(line: &[u8]) -> bool
+    ensures { result ≡ is_line line.now }
 {
     line.iter()
         .all(|c| !(*c == 0 || *c == b'\r' || *c == b'\n'))
 }
 
-/// Whether the octets have no NUL, CR or LF.
-pub(crate) fn is_line(line: &[u8]) -> bool
-    ensures { result ≡ is_line line.now }
-{
-    is_clean(line)
-}
-
-fn all_are_lines<A: Allocator>(lines: &[Vec<u8, A>]) -> bool
-    ensures { result ≡ list_all (λ line. is_line line.items) lines.now }
+/// Whether the lines have no NUL, CR or LF.
+pub(crate) fn are_lines<A: Allocator>(lines: &[Vec<u8, A>]) -> bool
+    ensures { result ≡ list_all is_line (held lines.now) }
 {
     lines.iter().all(|line| is_line(line.as_slice()))
 }
 
-/// Whether the lines have no NUL, CR or LF.
-pub(crate) fn are_lines<A: Allocator>(lines: &[Vec<u8, A>]) -> bool
-    ensures { result ≡ list_all is_line (lines_of lines.now) }
-{
-    all_are_lines(lines)
-}
-
 /// Whether the lines are a head that says this id or none.
 pub(crate) fn is_head_of<A: Allocator>(id: &[u8], lines: &[Vec<u8, A>]) -> bool
-    ensures { result ≡ is_head_of id.now (lines_of lines.now) }
+    ensures { result ≡ is_head_of id.now (held lines.now) }
 {
     match lines_say(lines) {
         Some(Some(said)) => said.as_slice() == id,

@@ -2,7 +2,7 @@
 ghost use Rattle.std.specs.Prelude.{◌≡◌, ℕ, ◌↔◌, true, IsTrue, List, Option};
 ghost use Rattle.nntp_wire.specs.View.{asked, request, target};
 ghost use Rattle.nntp_wire.specs.AnswerView.{response};
-ghost use Rattle.nntp_wire.specs.Answer.{to, plain, sends, group_is, numbers_are, active_are};
+ghost use Rattle.nntp_wire.specs.Answer.{plain, sends, group_is, numbers_are, active_are};
 ghost use Rattle.nntp_wire.specs.Listing.{listed_numbers, active_groups};
 ghost use Rattle.nntp_wire.specs.Name.{IsGroupName};
 ghost use Rattle.nntp_article.specs.Machine.{is_ascending, names_differ, Agrees, Bound, CodeAgrees, NumberAgrees};
@@ -142,25 +142,9 @@ impl<A: Allocator + Copy> Session<A> {
         ensures { IsTrue result ↔ Agrees spool.now self.now (asked prompt.now) (numbers_are marks name.now block.now) }
     {
         match prompt {
-            Prompt::Greeting => false,
-            Prompt::To(command) => self.agrees_list(spool, command, marks, name, block),
-        }
-    }
-
-    /// A list of numbers, by the command.
-    fn agrees_list(
-        &self,
-        spool: &Content<A>,
-        command: &Command<'_>,
-        marks: WaterMarks,
-        name: &[u8],
-        block: &Block<'_>,
-    ) -> bool
-        requires { is_ascending (listed_numbers block.now) ≡ true }
-        ensures { IsTrue result ↔ Agrees spool.now self.now (to (request command.now)) (numbers_are marks name.now block.now) }
-    {
-        match command {
-            Command::ListGroup { range, .. } => agrees_listed(spool, name, marks, *range, block),
+            Prompt::To(Command::ListGroup { range, .. }) => {
+                agrees_listed(spool, name, marks, *range, block)
+            }
             _ => false,
         }
     }

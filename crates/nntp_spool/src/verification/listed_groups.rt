@@ -2,10 +2,7 @@
 ghost use Rattle.std.specs.Prelude.{◌≡◌, ℕ, ◌≤◌, ◌↔◌, true, length, IsTrue, IfSome};
 ghost use Rattle.std.specs.List.{count_by, AllByRecursion};
 ghost use Rattle.std.specs.Option.{option_map_or};
-ghost use Rattle.std.specs.BTreeMap.{IsOrdered};
 ghost use Rattle.std.specs.FinMap as map;
-ghost use Rattle.std.specs.Ordering.{nat_cmp};
-ghost use Rattle.std.specs.Cmp.Lexicographic.{slice_cmp};
 ghost use Rattle.nntp_wire.specs.Name.{IsGroupName};
 ghost use Rattle.nntp_wire.specs.Wildmat.{MatchesName};
 ghost use Rattle.nntp_wire.specs.Decided.{matches_name};
@@ -16,11 +13,9 @@ ghost use Rattle.nntp_article.specs.Machine.{names_differ, ActivesAgree};
 ghost use Rattle.nntp_spool.specs.ListedGroups.{LineAgrees, is_asked};
 
 use crate::value::content::Content;
-use crate::value::numbers::Numbers;
 use nntp_wire::laws::{group_names_are_decided, matching_is_decided};
 use nntp_wire::{ActiveLine, Block, GroupName, Wildmat};
 use std::alloc::Allocator;
-use std::collections::BTreeMap;
 
 /// Whether the name matches the wildmat, if there is one.
 fn matches(wildmat: &Option<Wildmat<'_>>, name: &GroupName<'_>) -> bool
@@ -83,26 +78,15 @@ fn is_asked(wildmat: &Option<Wildmat<'_>>, name: &[u8]) -> bool
     }
 }
 
-/// How many of these groups match.
-fn count_asked<A: Allocator>(
-    groups: &BTreeMap<Vec<u8, A>, Numbers<A>, A>,
-    wildmat: &Option<Wildmat<'_>>,
-) -> usize
-    ensures is { result ≡ count_by (λ e. is_asked wildmat.now e.0.items) groups.now.entries }
-    ensures ordered { IsOrdered (λ a b. slice_cmp nat_cmp a.items b.items) groups.now }
-{
-    groups
-        .iter()
-        .filter(|(name, _)| is_asked(wildmat, name.as_slice()))
-        .count()
-}
-
 impl<A: Allocator> Content<A> {
     /// How many groups match.
     fn count_asked(&self, wildmat: &Option<Wildmat<'_>>) -> usize
         ensures { result ≡ count_by (λ e. is_asked wildmat.now e.0) (map.entries self.now.groups) }
     {
-        count_asked(&self.groups, wildmat)
+        self.groups
+            .iter()
+            .filter(|(name, _)| is_asked(wildmat, name.as_slice()))
+            .count()
     }
 }
 

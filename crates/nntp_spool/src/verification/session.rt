@@ -144,14 +144,7 @@ fn first_of<A: Allocator>(spool: &Content<A>, name: &[u8]) -> Option<u64>
 {
     first_is_least();
     match spool.group(name) {
-        Some(numbers) => least_of(numbers),
+        Some(numbers) => numbers.least(),
         None => None,
     }
-}
-
-fn least_of<A: Allocator>(numbers: &Numbers<A>) -> Option<u64>
-    ensures { result ≡ least numbers.now }
-{
-    first_is_least();
-    numbers.least()
 }

@@ -3,7 +3,7 @@ use Rattle.std.specs.Ordering.{nat_cmp}
 use Rattle.std.specs.Cmp.Lexicographic.{slice_cmp, nat_list_cmp_total}
 use Rattle.std.specs.FinMap as map
 use Rattle.nntp_spool.specs.ArticleLines.{text_of_article}
-use Rattle.nntp_spool.proofs.ShownMaps.{len-shown}
+use Rattle.nntp_wire.proofs.ShownMaps.{len-shown}
 use Rattle.nntp_spool.proofs.value.content.Content.count_articles.Goals as goal
 
 pub returns : goal.returns

@@ -1,18 +1,18 @@
-use Rattle.std.proofs.Common.{◌+◌, cond, List, sym, ap, ◌∙◌}
-use Rattle.std.specs.Ordering.{nat_cmp}
-use Rattle.std.specs.Cmp.Lexicographic.{slice_cmp, nat_list_cmp_total}
-use Rattle.std.specs.FinMap as map
+use Rattle.std.proofs.Common.{◌+◌, cond, sym, ap, ◌∙◌, rules}
 use Rattle.std.specs.List.{count_by}
+use Rattle.std.proofs.lemmas.Iterator.Consumers.{YieldsList-at, YieldsList-from_rest, YieldsList-from_filter, count_from_yields_List}
 use Rattle.std.proofs.lemmas.List.Folds.{fold-map}
+use Rattle.std.proofs.lemmas.List.Sums.{length-filter}
+use borrow.Author.Tests.{tests}
 use Rattle.nntp_article.specs.Spool.{Name, Numbers}
 use Rattle.nntp_spool.specs.ListedGroups.{is_asked}
-use Rattle.nntp_spool.proofs.ShownMaps.{entries-shown}
-use Rattle.nntp_spool.proofs.ItemsOfText.{octet_keys}
+use Rattle.nntp_spool.proofs.ShownMaps.{group_entries}
 use Rattle.nntp_spool.proofs.value.content.Content.count_asked.Goals as goal
 
 pub returns : goal.returns
 returns g c =
     let es = c.self.inside.groups.entries in
-    let is = entries-shown (slice_cmp nat_cmp) (λ k. k.items) (λ v. v) nat_list_cmp_total octet_keys es c.count_asked.ensures.ordered in
-    let test = λ (fs : List (Name × Numbers)). count_by (λ e. is_asked c.args.wildmat.now e.0) fs in
-    c.count_asked.ensures.is ∙ sym (fold-map (λ n e. n + cond (is_asked c.args.wildmat.now e.0) 1 0) (λ e. (e.0.items, e.1)) 0 es) ∙ ap test (sym is) ∙ ap (λ s. test (map.entries s.groups)) c.self.view_is
+    let asked = λ (e : Name × Numbers). is_asked c.args.wildmat.now e.0 in
+    let counted = count_from_yields_List c.filter.result c.count.result c.count.ensures.ran (YieldsList-from_filter _ (λ e. asked (e.0.items, e.1)) (YieldsList-at c.filter.ensures.source (YieldsList-from_rest es c.iter.ensures.rest)) c.filter.ensures.closure (λ x b q k. search (rules, tests))) in
+    counted ∙ length-filter (λ e. asked (e.0.items, e.1)) es ∙ sym (fold-map (λ n e. n + cond (asked e) 1 0) (λ e. (e.0.items, e.1)) 0 es)
+    ∙ ap (count_by asked) (group_entries es c.args.self.now.groups (ap (λ s. s.groups) c.self.view_is) c.iter.ensures.ordered)

@@ -1,15 +1,17 @@
-use Rattle.std.proofs.Common.{List, ℕ, sym, ap, ◌∙◌, sum, map as list_map}
-use Rattle.std.specs.Ordering.{nat_cmp}
-use Rattle.std.specs.Cmp.Lexicographic.{slice_cmp, nat_list_cmp_total}
+use Rattle.std.proofs.Common.{◌≡◌, List, ◌<◌, ◌^◌, length, sym, ap, subst, ◌∙◌, sum, map as list_map, arith}
 use Rattle.std.specs.FinMap as map
-use Rattle.nntp_article.specs.Spool.{Numbers}
-use Rattle.nntp_spool.proofs.ShownMaps.{entries-shown}
-use Rattle.nntp_spool.proofs.WrittenLines.{map-map}
+use Rattle.std.proofs.lemmas.Simd.{map-map}
+use Rattle.nntp_article.specs.Spool.{Name, Numbers}
+use Rattle.nntp_spool.specs.Counts.{numbers_in}
+use Rattle.nntp_spool.proofs.ShownMaps.{group_entries}
 use Rattle.nntp_spool.proofs.value.content.Content.count_numbers.Goals as goal
 
-pub returns : goal.returns
-returns g c =
+pub loop-numbers-init : goal.loop-numbers-init
+loop-numbers-init g c =
     let es = c.self.inside.groups.entries in
-    let is = entries-shown (slice_cmp nat_cmp) (λ k. k.items) (λ v. v) nat_list_cmp_total (map.slice_cmp-IsAntisymmetric map.nat_cmp-IsAntisymmetric) es c.sum_of_lens.ensures.ordered in
-    let total = λ (fs : List (List ℕ × Numbers)). sum (list_map (λ e. map.len e.1) fs) in
-    c.sum_of_lens.ensures.sum ∙ ap sum (sym (map-map (λ e. (e.0.items, e.1)) (λ e. map.len e.1) es)) ∙ ap total (sym is) ∙ ap (λ s. total (map.entries s.groups)) c.self.view_is
+    let total = λ (fs : List (Name × Numbers)). sum (list_map (λ e. map.len e.1) fs) in
+    let shown = group_entries es c.args.self.now.groups (ap (λ s. s.groups) c.self.view_is) c.iter-entries.ensures.ordered in
+    let all : sum (list_map (λ e. map.len e.1) c.iter-entries.result) ≡ numbers_in c.args.self.now =
+    ap (λ fs. sum (list_map (λ e. map.len e.1) fs)) c.iter-entries.ensures.rest ∙ ap sum (sym (map-map (λ e. map.len e.1) (λ e. (e.0.items, e.1)) es)) ∙ ap total shown in
+    let few : length c.iter-entries.result < 2 ^ 63 = subst (λ n. n < 2 ^ 63) (ap (λ fs. length fs) (sym c.iter-entries.ensures.rest)) c.iter-entries.ensures.fits in
+    record { total = omega (arith, all); small = omega (arith, few) }

@@ -3,8 +3,7 @@ use Rattle.std.specs.Ordering.{nat_cmp}
 use Rattle.std.specs.Cmp.Lexicographic.{slice_cmp, nat_list_cmp_total}
 use Rattle.std.specs.FinMap as map
 use Rattle.nntp_spool.specs.ArticleLines.{text_of_article}
-use Rattle.nntp_wire.proofs.ShownMaps.{get-shown}
-use Rattle.nntp_spool.proofs.ShownMaps.{is_some-option_map}
+use Rattle.nntp_wire.proofs.ShownMaps.{get-shown, is_some-option_map}
 use Rattle.nntp_spool.proofs.value.content.Content.has_article.Goals as goal
 
 pub returns : goal.returns

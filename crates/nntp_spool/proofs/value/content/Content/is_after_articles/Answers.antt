@@ -5,7 +5,7 @@ use Rattle.std.proofs.lemmas.Bool.{true≢false}
 use Rattle.std.proofs.lemmas.List.{nil_from_length}
 use Rattle.nntp_spool.specs.ArticleLines.{text_of_article}
 use Rattle.nntp_spool.proofs.GreatestKeys.{last_shown, none_shown}
-use Rattle.nntp_spool.proofs.ItemsOfText.{octet_keys}
+use Rattle.nntp_spool.proofs.ShownMaps.{octet_keys}
 use Rattle.nntp_spool.proofs.value.content.Content.is_after_articles.Goals as goal
 
 pub returns-in-Some : goal.returns-in-Some

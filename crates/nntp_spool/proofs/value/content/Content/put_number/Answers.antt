@@ -7,7 +7,8 @@ use Rattle.std.specs.FinMap as map
 use Rattle.std.proofs.lemmas.Bool.{true≢false}
 use Rattle.std.proofs.lemmas.Result.{err_from_is_err_and}
 use Rattle.nntp_spool.specs.Numbers.{with_number}
-use Rattle.nntp_spool.proofs.ShownMaps.{replaced, missing, insert-same, spool_is}
+use Rattle.nntp_wire.proofs.ShownMaps.{replaced, missing, insert-same}
+use Rattle.nntp_spool.proofs.ShownMaps.{spool_is}
 use Rattle.nntp_spool.proofs.value.content.Content.put_number.Goals as goal
 use Rattle.nntp_spool.proofs.value.content.Content.put_number.Goals.{in-Some+in_ok-insert, in_default}
 

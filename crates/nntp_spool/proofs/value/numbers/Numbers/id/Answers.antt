@@ -2,8 +2,7 @@ use Rattle.std.proofs.Common.{option_map, ap, sym, ◌∙◌}
 use Rattle.std.specs.Ordering.{nat_cmp}
 use Rattle.std.specs.Cmp.{nat_cmp_total}
 use Rattle.std.specs.FinMap as map
-use Rattle.nntp_wire.proofs.ShownMaps.{get-shown}
-use Rattle.nntp_spool.proofs.ShownMaps.{option_map-option_map}
+use Rattle.nntp_wire.proofs.ShownMaps.{get-shown, option_map-option_map}
 use Rattle.nntp_spool.proofs.value.numbers.Numbers.id.Goals as goal
 
 pub returns : goal.returns

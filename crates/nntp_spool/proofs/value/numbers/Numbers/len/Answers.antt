@@ -2,7 +2,7 @@ use Rattle.std.proofs.Common.{ap, sym, ◌∙◌}
 use Rattle.std.specs.Ordering.{nat_cmp}
 use Rattle.std.specs.Cmp.{nat_cmp_total}
 use Rattle.std.specs.FinMap as map
-use Rattle.nntp_spool.proofs.ShownMaps.{len-shown}
+use Rattle.nntp_wire.proofs.ShownMaps.{len-shown}
 use Rattle.nntp_spool.proofs.value.numbers.Numbers.len.Goals as goal
 
 pub returns : goal.returns

@@ -1,17 +1,30 @@
-use Rattle.std.proofs.Common.{List, ℕ, subst, sym, ap, ◌∙◌, map as list_map}
-use Rattle.std.specs.Ordering.{nat_cmp}
-use Rattle.std.specs.Cmp.{nat_cmp_total}
-use Rattle.std.specs.FinMap as map
+use Rattle.std.proofs.Common.{arith, refl, sym, ◌∙◌, [], ◌∷◌, ap, map as list_map}
+use Rattle.std.proofs.lemmas.Simd.{map-map}
+use Rattle.std.proofs.lemmas.Result.{err_from_is_err_and}
 use Rattle.nntp_spool.specs.Text.{with_line_ends, number_line}
-use Rattle.nntp_spool.specs.Writing.{Writes}
-use Rattle.nntp_spool.proofs.ShownMaps.{entries-shown}
-use Rattle.nntp_spool.proofs.WrittenLines.{map-map}
+use Rattle.nntp_spool.proofs.ShownMaps.{number_entries}
+use Rattle.nntp_spool.proofs.Written.{Wrote-head, Wrote-all}
+use Rattle.nntp_spool.proofs.WrittenLines.{with_line_ends-cons}
 use Rattle.nntp_spool.proofs.value.numbers.Numbers.write.Goals as goal
 
-pub returns-clause-text : goal.returns-clause-text
-returns-clause-text g c =
+pub returns-in_err-put_number_line-clause-text : goal.returns-in_err-put_number_line-clause-text
+returns-in_err-put_number_line-clause-text g c =
+    let p = err_from_is_err_and c.from_residual.result c.from_residual.ensures.1 in
+    let w = c.in_err-put_number_line.ensures.text in
+    rw p.1 (
+      _,
+      Wrote-head (λ es. with_line_ends (list_map (λ e. number_line e.0 e.1.items) es)) (λ e. with_line_ends (number_line e.0 e.1.items ∷ [])) (λ x xs. with_line_ends-cons (number_line x.0 x.1.items) (list_map (λ e. number_line e.0 e.1.items) xs)) _ _ _ _ _ _ _ _ w.0 c.in-Some.ensures.steps (ap (λ s. with_line_ends (number_line c.in-Some.number.now s ∷ [])) c.as_slice.ensures.value) c.loop-number.invariant.wrote w.1,
+    )
+
+pub loop-number-preserved : goal.loop-number-preserved
+loop-number-preserved g c = record {
+  wrote = Wrote-head (λ es. with_line_ends (list_map (λ e. number_line e.0 e.1.items) es)) (λ e. with_line_ends (number_line e.0 e.1.items ∷ [])) (λ x xs. with_line_ends-cons (number_line x.0 x.1.items) (list_map (λ e. number_line e.0 e.1.items) xs)) _ _ _ _ _ _ _ _ [] c.in-Some.ensures.steps (ap (λ s. with_line_ends (number_line c.in-Some.number.now s ∷ [])) c.as_slice.ensures.value) c.loop-number.invariant.wrote c.in_ok-put_number_line.ensures.text;
+  same = grind (arith, c.in_ok-put_number_line.ensures.failed);
+}
+
+pub loop-number-init : goal.loop-number-init
+loop-number-init g c =
     let es = c.self.inside.ids.entries in
-    let is = entries-shown nat_cmp (λ k. k) (λ v. v.items) nat_cmp_total map.nat_cmp-IsAntisymmetric es c.put_numbers.ensures.ordered in
-    let lines = λ (fs : List (ℕ × List ℕ)). list_map (λ e. number_line e.0 e.1) fs in
-    let all = sym (map-map (λ e. (e.0, e.1.items)) (λ e. number_line e.0 e.1) es) ∙ ap lines (sym is ∙ ap map.entries c.self.view_is) in
-    subst (λ ls. Writes c.put_numbers.result (g.W.Write.contents c.args.w.now.inner) (g.W.Write.contents c.put_numbers.new.w.inner) (with_line_ends ls)) all c.put_numbers.ensures.text
+    let shown = number_entries es c.args.self.now c.self.view_is c.iter-entries.ensures.ordered in
+    let lines = sym (ap (list_map (λ e. number_line e.0 e.1)) shown) ∙ map-map (λ e. number_line e.0 e.1) (λ e. (e.0, e.1.items)) es ∙ ap (list_map (λ e. number_line e.0 e.1.items)) (sym c.iter-entries.ensures.rest) in
+    record { wrote = Wrote-all _ _ _ (ap with_line_ends lines); same = refl }
