@@ -5,7 +5,8 @@ use Rattle.std.specs.List.{list_all}
 use Rattle.std.proofs.lemmas.Bool.{true≢false, and_parts, and_from, or_left, or_right, or_cases, cases_lt, false_from_ne_true, le-leb, leb-true, lt-ltb, ltb-true, eq-eqb, eqb-true}
 use Rattle.nntp_article.specs.Machine.{is_ascending}
 use Rattle.nntp_intervals.specs.Intervals.{holds, is_between}
-use Rattle.nntp_facts.specs.Summary.{is_one_of, list_denies, MayBeListed, denied_after, IsFirstFree}
+use Rattle.nntp_facts.specs.Summary.{is_one_of, list_denies, MayBeListed, denied_after}
+use Rattle.nntp_facts.specs.Given.{IsFirstFree}
 use Rattle.nntp_facts.proofs.Added.{or_false}
 
 head_is : (ns : List ℕ) (n : ℕ) → slice_get ns 0 ≡ Some n → (xs : List ℕ) × (ns ≡ n ∷ xs)
@@ -36,7 +37,7 @@ module _ (denied : List (ℕ × ℕ)) (low high first last : ℕ) (ns : List ℕ
   no_test a b h = false_from_ne_true (nat_lt a b) (λ t. h (ltb-true a b t))
 
   pub first_listed : (r : ℕ) → 1 ≤ r → low ≤ r → (r < first) ⊎ (r ≡ n) → holds denied r ≡ false → r ≤ n
-      → ((m : ℕ) → 1 ≤ m → low ≤ m → m < r → m < first → holds denied m ≡ true) → IsFirstFree (denied_after denied (list_denies low high first last ns)) r
+      → ((m : ℕ) → 1 ≤ m → low ≤ m → m < r → m < first → holds denied m ≡ true) → IsFirstFree (denied_after denied (list_denies low high first last ns)) 1 r
   first_listed r one above kind free up before =
       let begins = may_begin in
       let not_denied : (is_between first last r && not (is_one_of ns r)) ≡ false =

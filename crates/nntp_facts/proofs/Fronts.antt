@@ -29,11 +29,3 @@ counted asks = (
   ),
   refl,
 )
-
--- the given numbers of what stands together
-given_map : (asks : List Ask) → AsksStand asks → (N : Numbers) × HasGivenNumbers asks N
-given_map asks stand =
-    elim (ways asks (len (shown_map asks)) (counted asks) stand) [
-      | ByShown met few ↦ given_of_shown asks (len (shown_map asks)) (counted asks) (no_more asks met)
-      | ByMore e x few ↦ given_of_more asks (len (shown_map asks)) e (counted asks) x
-    ]

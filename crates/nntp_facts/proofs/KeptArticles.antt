@@ -7,17 +7,16 @@ use Rattle.std.specs.Cmp.Lexicographic.{slice_cmp, same_text, nat_list_cmp_total
 use Rattle.std.specs.Ordering.{nat_cmp, eq_by_cmp}
 use Rattle.std.specs.Cmp.{eq_by_cmp_equiv}
 use Rattle.std.specs.FinMap.{FinMap, get, entries, IsAntisymmetric, insert, get-insert, slice_cmp-IsAntisymmetric, nat_cmp-IsAntisymmetric}
-use Rattle.std.proofs.lemmas.Bool.{true≢false, or_right, false_from_ne_true, not-true}
+use Rattle.std.proofs.lemmas.Bool.{true≢false, or_left, or_right, false_from_ne_true, not-true}
 use Rattle.nntp_wire.specs.declared.command.What.{What}
 use Rattle.nntp_article.specs.Article.{Id, Line}
 use Rattle.nntp_article.specs.Spool.{Name}
 use Rattle.nntp_article.specs.Machine.{is_same}
 use Rattle.nntp_facts.specs.Facts.{Fact, IdAt, TextIs, NoArticle}
 use Rattle.nntp_facts.specs.Given.{mentions, is_mentioned, gives_article, first_given, head_in, body_in}
-use Rattle.nntp_facts.specs.Together.{shows_article, denies_article}
-use Rattle.nntp_facts.specs.Articles.{GivesSame}
+use Rattle.nntp_facts.specs.Together.{shows_article, denies_article, GiveSame, JoinArticles}
 use Rattle.nntp_facts.specs.Kept.{KeptArticle, AreKeptArticles}
-use Rattle.nntp_facts.specs.Articles.{ArticleJoins, head_sent, body_sent, AreSame, MayBeSent, denied, unsent, with_sent, with_new, articles_in}
+use Rattle.nntp_facts.specs.Articles.{head_sent, body_sent, AreSame, MayBeSent, denied, unsent, with_sent, with_new, articles_in}
 use Rattle.nntp_wire.proofs.ShownMaps.{equal_is}
 use Rattle.nntp_facts.proofs.Maps.{get_in, in_get}
 use Rattle.nntp_facts.proofs.Members.{In}
@@ -59,11 +58,11 @@ new_there articles id a = by (get articles id) refl
 -- ---- an id stands at a number
 
 -- the fact joins exactly if the id isn't denied
-stand_joins : (facts : List Fact) (name : Name) (n : ℕ) (id : Id) → ArticleJoins facts (IdAt name n id) ↔ IsFalse (list_any (denies_article id) facts)
+stand_joins : (facts : List Fact) (name : Name) (n : ℕ) (id : Id) → JoinArticles facts (IdAt name n id ∷ []) ↔ IsFalse (list_any (denies_article id) facts)
 stand_joins facts name n id = (
-  λ j. j.articles id (same_itself id),
+  λ j. j.articles id (or_left (is_same id id) false (same_itself id)),
   λ h. record {
-    articles = λ q t. subst (λ q. IsFalse (list_any (denies_article q) facts)) (same_text id q (sym t)) h;
+    articles = λ q t. subst (λ q. IsFalse (list_any (denies_article q) facts)) (same_text id q (sym (sym (or_no (is_same id q)) ∙ t))) h;
     no_articles = λ q t. cc;
     heads = λ q. tt;
     bodies = λ q. tt;
@@ -72,7 +71,7 @@ stand_joins facts name n id = (
 
 -- what is kept of an id is that it isn't denied
 pub may_stand : (facts : List Fact) (articles : FinMap (slice_cmp nat_cmp) KeptArticle) (name : Name) (n : ℕ) (id : Id) → AreKeptArticles facts articles
-    → ArticleJoins facts (IdAt name n id) ↔ (option_map_or (λ a. a.is_denied) (get articles id) false ≡ false)
+    → JoinArticles facts (IdAt name n id ∷ []) ↔ (option_map_or (λ a. a.is_denied) (get articles id) false ≡ false)
 may_stand facts articles name n id kept =
     let s = says facts articles id kept in
     let j = stand_joins facts name n id in
@@ -80,7 +79,7 @@ may_stand facts articles name n id kept =
 
 -- the test of an id of which something is known
 pub may_stand_known : (facts : List Fact) (articles : FinMap (slice_cmp nat_cmp) KeptArticle) (name : Name) (n : ℕ) (id : Id) (a : KeptArticle) (b : Bool) → AreKeptArticles facts articles
-    → Some a ≡ get articles id → b ≡ a.is_denied → IsTrue (not b) ↔ ArticleJoins facts (IdAt name n id)
+    → Some a ≡ get articles id → b ≡ a.is_denied → IsTrue (not b) ↔ JoinArticles facts (IdAt name n id ∷ [])
 may_stand_known facts articles name n id a b kept known is =
     let iff = may_stand facts articles name n id kept in
     let same : option_map_or (λ a. a.is_denied) (get articles id) false ≡ b = ap (λ o. option_map_or (λ a. a.is_denied) o false) (sym known) ∙ sym is in
@@ -88,7 +87,7 @@ may_stand_known facts articles name n id a b kept known is =
 
 -- and of an unknown one
 pub may_stand_unknown : (facts : List Fact) (articles : FinMap (slice_cmp nat_cmp) KeptArticle) (name : Name) (n : ℕ) (id : Id) → AreKeptArticles facts articles
-    → None ≡ get articles id → IsTrue true ↔ ArticleJoins facts (IdAt name n id)
+    → None ≡ get articles id → IsTrue true ↔ JoinArticles facts (IdAt name n id ∷ [])
 may_stand_unknown facts articles name n id kept unknown =
     (λ t. (may_stand facts articles name n id kept).1 (ap (λ o. option_map_or (λ a. a.is_denied) o false) (sym unknown)), λ j. refl)
 
@@ -109,7 +108,7 @@ says_more facts fact id o a s mentioned shown denied free was_free sent head bod
 
 -- an id that stands at a number is kept, if it wasn't before
 pub stands : (facts : List Fact) (old new : FinMap (slice_cmp nat_cmp) KeptArticle) (name : Name) (n : ℕ) (id : Id) → new ≡ with_new old id unsent → AreKeptArticles facts old
-    → ArticleJoins facts (IdAt name n id) → AreKeptArticles (facts ++ IdAt name n id ∷ []) new
+    → JoinArticles facts (IdAt name n id ∷ []) → AreKeptArticles (facts ++ IdAt name n id ∷ []) new
 stands facts old new name n id is kept joins =
     still_kept facts (IdAt name n id) old new kept
     (λ q e. ap (λ m. get m q) is ∙ new_elsewhere old id q unsent e)
@@ -127,19 +126,19 @@ stands facts old new name n id is kept joins =
 -- ---- an id has no article
 
 -- the fact joins exactly if the id isn't shown
-lack_joins : (facts : List Fact) (id : Id) → ArticleJoins facts (NoArticle id) ↔ IsFalse (list_any (shows_article id) facts)
+lack_joins : (facts : List Fact) (id : Id) → JoinArticles facts (NoArticle id ∷ []) ↔ IsFalse (list_any (shows_article id) facts)
 lack_joins facts id = (
-  λ j. j.no_articles id (same_itself id),
+  λ j. j.no_articles id (or_left (is_same id id) false (same_itself id)),
   λ h. record {
     articles = λ q t. cc;
-    no_articles = λ q t. subst (λ q. IsFalse (list_any (shows_article q) facts)) (same_text id q (sym t)) h;
+    no_articles = λ q t. subst (λ q. IsFalse (list_any (shows_article q) facts)) (same_text id q (sym (sym (or_no (is_same id q)) ∙ t))) h;
     heads = λ q. tt;
     bodies = λ q. tt;
   },
 )
 
 pub may_lack : (facts : List Fact) (articles : FinMap (slice_cmp nat_cmp) KeptArticle) (id : Id) → AreKeptArticles facts articles
-    → ArticleJoins facts (NoArticle id) ↔ (option_map_or (λ a. not a.is_denied) (get articles id) false ≡ false)
+    → JoinArticles facts (NoArticle id ∷ []) ↔ (option_map_or (λ a. not a.is_denied) (get articles id) false ≡ false)
 may_lack facts articles id kept =
     let s = says facts articles id kept in
     let j = lack_joins facts id in
@@ -151,7 +150,7 @@ not_false false e = cc
 
 -- the test of an id of which something is known
 pub may_lack_known : (facts : List Fact) (articles : FinMap (slice_cmp nat_cmp) KeptArticle) (id : Id) (a : KeptArticle) (b : Bool) → AreKeptArticles facts articles
-    → Some a ≡ get articles id → b ≡ a.is_denied → IsTrue b ↔ ArticleJoins facts (NoArticle id)
+    → Some a ≡ get articles id → b ≡ a.is_denied → IsTrue b ↔ JoinArticles facts (NoArticle id ∷ [])
 may_lack_known facts articles id a b kept known is =
     let iff = may_lack facts articles id kept in
     let same : option_map_or (λ a. not a.is_denied) (get articles id) false ≡ not b = ap (λ o. option_map_or (λ a. not a.is_denied) o false) (sym known) ∙ ap not (sym is) in
@@ -159,7 +158,7 @@ may_lack_known facts articles id a b kept known is =
 
 -- and of an unknown one
 pub may_lack_unknown : (facts : List Fact) (articles : FinMap (slice_cmp nat_cmp) KeptArticle) (id : Id) → AreKeptArticles facts articles
-    → None ≡ get articles id → IsTrue true ↔ ArticleJoins facts (NoArticle id)
+    → None ≡ get articles id → IsTrue true ↔ JoinArticles facts (NoArticle id ∷ [])
 may_lack_unknown facts articles id kept unknown =
     (λ t. (may_lack facts articles id kept).1 (ap (λ o. option_map_or (λ a. not a.is_denied) o false) (sym unknown)), λ j. refl)
 
@@ -179,7 +178,7 @@ says_denied facts id o a s unshown is_denied sent head body =
 
 -- an id that has none is kept, if it wasn't before
 pub lacks : (facts : List Fact) (old new : FinMap (slice_cmp nat_cmp) KeptArticle) (id : Id) → new ≡ with_new old id denied → AreKeptArticles facts old
-    → ArticleJoins facts (NoArticle id) → AreKeptArticles (facts ++ NoArticle id ∷ []) new
+    → JoinArticles facts (NoArticle id ∷ []) → AreKeptArticles (facts ++ NoArticle id ∷ []) new
 lacks facts old new id is kept joins =
     still_kept facts (NoArticle id) old new kept
     (λ q e. ap (λ m. get m q) is ∙ new_elsewhere old id q denied e)
@@ -198,10 +197,10 @@ lacks facts old new id is kept joins =
 
 -- what is sent of the article is what was sent before
 same_given : (facts : List Fact) (f : Id → Fact → Option (List Line)) (fact : Fact) (id : Id) (sent : Option (List Line)) → ((q : Id) → f q fact ≡ cond (is_same id q) sent None)
-    → ((q : Id) → GivesSame (f q) facts fact) ↔ AreSame sent (first_given (f id) facts)
+    → ((q : Id) → GiveSame (f q) facts (fact ∷ [])) ↔ AreSame sent (first_given (f id) facts)
 same_given facts f fact id sent is = (
-  λ h. subst (λ o. AreSame o (first_given (f id) facts)) (is id ∙ ap (λ b. cond b sent None) (same_itself id)) (h id),
-  λ h q. subst (λ o. AreSame o (first_given (f q) facts)) (sym (is q)) (by q (is_same id q) refl h),
+  λ h. subst (λ o. AreSame o (first_given (f id) facts)) (or_none (f id fact) ∙ is id ∙ ap (λ b. cond b sent None) (same_itself id)) (h id),
+  λ h q. subst (λ o. AreSame o (first_given (f q) facts)) (sym (or_none (f q fact) ∙ is q)) (by q (is_same id q) refl h),
 )
   where
     by : (q : Id) (b : Bool) → is_same id q ≡ b → AreSame sent (first_given (f id) facts) → AreSame (cond b sent None) (first_given (f q) facts)
@@ -209,15 +208,15 @@ same_given facts f fact id sent is = (
     by q false e h = tt
 
 -- the fact joins exactly if the id isn't denied, and what is sent was sent alike
-send_joins : (facts : List Fact) (what : What) (id : Id) (lines : Option (List Line)) → ArticleJoins facts (TextIs what id lines)
+send_joins : (facts : List Fact) (what : What) (id : Id) (lines : Option (List Line)) → JoinArticles facts (TextIs what id lines ∷ [])
     ↔ (IsFalse (list_any (denies_article id) facts) × AreSame (head_sent what lines) (first_given (head_in id) facts) × AreSame (body_sent what lines) (first_given (body_in id) facts))
 send_joins facts what id lines =
     let fact = TextIs what id lines in
     let heads = same_given facts head_in fact id (head_sent what lines) (λ q. head_of_text what id q lines) in
     let bodies = same_given facts body_in fact id (body_sent what lines) (λ q. body_of_text what id q lines) in (
-      λ j. (j.articles id (same_itself id), heads.0 j.heads, bodies.0 j.bodies),
+      λ j. (j.articles id (or_left (is_same id id) false (same_itself id)), heads.0 j.heads, bodies.0 j.bodies),
       λ h. record {
-        articles = λ q t. subst (λ q. IsFalse (list_any (denies_article q) facts)) (same_text id q (sym t)) h.0;
+        articles = λ q t. subst (λ q. IsFalse (list_any (denies_article q) facts)) (same_text id q (sym (sym (or_no (is_same id q)) ∙ t))) h.0;
         no_articles = λ q t. cc;
         heads = heads.1 h.1;
         bodies = bodies.1 h.2;
@@ -229,13 +228,13 @@ abbrev pub MayBeSentOf : Option KeptArticle → Option (List Line) → Option (L
 MayBeSentOf o head body = MatchOption o ⊤ (λ a. MayBeSent a head body)
 
 pub may_send : (facts : List Fact) (articles : FinMap (slice_cmp nat_cmp) KeptArticle) (what : What) (id : Id) (lines : Option (List Line)) → AreKeptArticles facts articles
-    → ArticleJoins facts (TextIs what id lines) ↔ MayBeSentOf (get articles id) (head_sent what lines) (body_sent what lines)
+    → JoinArticles facts (TextIs what id lines ∷ []) ↔ MayBeSentOf (get articles id) (head_sent what lines) (body_sent what lines)
 may_send facts articles what id lines kept = (
   λ j. by (get articles id) (says facts articles id kept) (joins.0 j),
   λ h. joins.1 (back (get articles id) (says facts articles id kept) h),
 )
   where
-    joins : ArticleJoins facts (TextIs what id lines)
+    joins : JoinArticles facts (TextIs what id lines ∷ [])
         ↔ (IsFalse (list_any (denies_article id) facts) × AreSame (head_sent what lines) (first_given (head_in id) facts) × AreSame (body_sent what lines) (first_given (body_in id) facts))
     joins = send_joins facts what id lines
 
@@ -256,7 +255,7 @@ may_send facts articles what id lines kept = (
 
 -- the test of an id of which something is known
 pub may_send_known : (facts : List Fact) (articles : FinMap (slice_cmp nat_cmp) KeptArticle) (what : What) (id : Id) (lines : Option (List Line)) (head body : Option (List Line)) (a : KeptArticle) (b : Bool)
-    → AreKeptArticles facts articles → Some a ≡ get articles id → head ≡ head_sent what lines → body ≡ body_sent what lines → IsTrue b ↔ MayBeSent a head body → IsTrue b ↔ ArticleJoins facts (TextIs what id lines)
+    → AreKeptArticles facts articles → Some a ≡ get articles id → head ≡ head_sent what lines → body ≡ body_sent what lines → IsTrue b ↔ MayBeSent a head body → IsTrue b ↔ JoinArticles facts (TextIs what id lines ∷ [])
 may_send_known facts articles what id lines head body a b kept known heads bodies test =
     let iff = may_send facts articles what id lines kept in
     let same : MayBeSent a head body ≡ MayBeSentOf (get articles id) (head_sent what lines) (body_sent what lines) = (λ i. MayBeSentOf (known i) (heads i) (bodies i)) in
@@ -264,14 +263,14 @@ may_send_known facts articles what id lines head body a b kept known heads bodie
 
 -- and of an unknown one
 pub may_send_unknown : (facts : List Fact) (articles : FinMap (slice_cmp nat_cmp) KeptArticle) (what : What) (id : Id) (lines : Option (List Line)) → AreKeptArticles facts articles
-    → None ≡ get articles id → IsTrue true ↔ ArticleJoins facts (TextIs what id lines)
+    → None ≡ get articles id → IsTrue true ↔ JoinArticles facts (TextIs what id lines ∷ [])
 may_send_unknown facts articles what id lines kept unknown =
     (λ t. (may_send facts articles what id lines kept).1 (subst (λ o. MayBeSentOf o (head_sent what lines) (body_sent what lines)) unknown tt), λ j. refl)
 
 -- what is sent is kept
 pub sends : (facts : List Fact) (old new : FinMap (slice_cmp nat_cmp) KeptArticle) (what : What) (id : Id) (lines : Option (List Line)) (head body : Option (List Line)) (a b : KeptArticle)
     → a ≡ unwrap_or (get old id) unsent → head ≡ head_sent what lines → body ≡ body_sent what lines → (a.is_denied ≡ false → b ≡ with_sent a head body) → new ≡ insert (with_new old id unsent) id b
-    → AreKeptArticles facts old → ArticleJoins facts (TextIs what id lines) → AreKeptArticles (facts ++ TextIs what id lines ∷ []) new
+    → AreKeptArticles facts old → JoinArticles facts (TextIs what id lines ∷ []) → AreKeptArticles (facts ++ TextIs what id lines ∷ []) new
 sends facts old new what id lines head body a b was heads bodies becomes is kept joins =
     still_kept facts fact old new kept
     (λ q e. ap (λ m. get m q) is ∙ get_elsewhere (with_new old id unsent) id q b e ∙ new_elsewhere old id q unsent e)

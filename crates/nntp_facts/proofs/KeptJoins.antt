@@ -7,14 +7,11 @@ use Rattle.std.proofs.lemmas.Bool.{true≢false, eqb-true}
 use Rattle.nntp_article.specs.Spool.{Name}
 use Rattle.nntp_facts.specs.Asks.{Position, Nowhere, First, Known, StandsAt}
 use Rattle.nntp_facts.specs.Facts.{Fact}
-use Rattle.nntp_facts.specs.Given.{first_given, head_in, body_in}
-use Rattle.nntp_facts.specs.Together.{IsWellFormed, shows_article, denies_article, Together, JoinArticles, Join}
-use Rattle.nntp_facts.specs.Articles.{ArticleJoins}
+use Rattle.nntp_facts.specs.Together.{IsWellFormed, Together, Join}
 use Rattle.nntp_facts.specs.Summary.{ShowsNoOther}
 use Rattle.nntp_facts.specs.Kept.{Kept, IsKept}
 use Rattle.nntp_facts.specs.SayingView.{facts_said, MaySay}
 use Rattle.nntp_facts.specs.declared.saying.Saying.{Saying}
-use Rattle.nntp_facts.proofs.SaidOfArticles.{or_no, or_none}
 
 -- ---- tests
 
@@ -60,22 +57,3 @@ stands_shows (Known c) n m e = absurd (true≢false (sym e))
 -- the test tells whether what is said joins
 abbrev pub TellsJoin : {A : Type 0} → Kept → Name → Saying A → Bool → Type 0
 TellsJoin k here saying does = (facts : List Fact) → IsKept facts k → Together facts → AllByRecursion IsWellFormed (facts_said here saying) → MaySay facts here saying → IsTrue does ↔ Join facts (facts_said here saying)
-
--- ---- articles
-
--- what one fact says of articles
-pub article_joins : (facts : List Fact) (fact : Fact) → ArticleJoins facts fact ↔ JoinArticles facts (fact ∷ [])
-article_joins facts fact = (
-  λ j. record {
-    articles = λ id s. j.articles id (sym (or_no (shows_article id fact)) ∙ s);
-    no_articles = λ id d. j.no_articles id (sym (or_no (denies_article id fact)) ∙ d);
-    heads = λ id. subst (λ o. IfSome o (λ x. IfSome (first_given (head_in id) facts) (λ y. x ≡ y))) (sym (or_none (head_in id fact))) (j.heads id);
-    bodies = λ id. subst (λ o. IfSome o (λ x. IfSome (first_given (body_in id) facts) (λ y. x ≡ y))) (sym (or_none (body_in id fact))) (j.bodies id);
-  },
-  λ j. record {
-    articles = λ id s. j.articles id (or_no (shows_article id fact) ∙ s);
-    no_articles = λ id d. j.no_articles id (or_no (denies_article id fact) ∙ d);
-    heads = λ id. subst (λ o. IfSome o (λ x. IfSome (first_given (head_in id) facts) (λ y. x ≡ y))) (or_none (head_in id fact)) (j.heads id);
-    bodies = λ id. subst (λ o. IfSome o (λ x. IfSome (first_given (body_in id) facts) (λ y. x ≡ y))) (or_none (body_in id fact)) (j.bodies id);
-  },
-)

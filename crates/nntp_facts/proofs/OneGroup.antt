@@ -70,23 +70,7 @@ id_joins facts more here n id is = (
   },
 )
 
--- ---- what is kept of the group
-
--- a map that has what was given has what is given after one thing more
-grown : {K X : Type 0} {R : K → K → Ordering} (o : IsTotalOrder R) (m : FinMap R X) (f : Fact → Option X) (facts more : List Fact) (q k : K) (x : X) (b : Bool)
-    → eq_by_cmp R k q ≡ b → get m k ≡ first_given f facts → first_given f more ≡ cond b (Some x) None → (b ≡ true → IsOr (first_given f facts) x)
-    → get (insert m q x) k ≡ first_given f (facts ++ more)
-grown {K} {X} {R} o m f facts more q k x b same had gives agrees =
-    get-insert o m q x k ∙ by b (first_given f facts) same refl gives agrees ∙ sym (given_append f facts more)
-  where
-    by : (b : Bool) (p : Option X) → eq_by_cmp R k q ≡ b → first_given f facts ≡ p → first_given f more ≡ cond b (Some x) None → (b ≡ true → IsOr (first_given f facts) x)
-        → cond (eq_by_cmp R k q) (Some x) (get m k) ≡ option_or (first_given f facts) (first_given f more)
-    by true None same was gives agrees = (λ i. cond (same i) (Some x) (get m k)) ∙ sym ((λ i. option_or (was i) (gives i)))
-    by true (Some y) same was gives agrees =
-        let e : x ≡ y = subst (λ o. IsOr o x) was (agrees refl) in
-        (λ i. cond (same i) (Some x) (get m k)) ∙ ap Some e ∙ sym (ap (λ o. option_or o (first_given f more)) was)
-    by false None same was gives agrees = (λ i. cond (same i) (Some x) (get m k)) ∙ had ∙ was ∙ sym ((λ i. option_or (was i) (gives i)))
-    by false (Some y) same was gives agrees = (λ i. cond (same i) (Some x) (get m k)) ∙ had ∙ was ∙ sym (ap (λ o. option_or o (first_given f more)) was)
+-- ---- the same key, either way
 
 pub flip_number : (k n : ℕ) → eq_by_cmp nat_cmp k n ≡ (n == k)
 flip_number k n = elim (cases_eq n k) [
@@ -101,28 +85,3 @@ flip_text i id = sym (texts_ties i id) ∙ nat_list_eq_equiv.symm i id
 -- a group that was shown is
 pub shown_still : (facts more : List Fact) (here : Name) → is_shown_group facts here ≡ true → is_shown_group (facts ++ more) here ≡ true
 shown_still facts more here s = list_any-append (shows_group here) facts more ∙ or_left (is_shown_group facts here) (list_any (shows_group here) more) s
-
--- where the group's numbers are kept with the asks, and the id, all is kept
-pub kept_with_id : (facts more : List Fact) (here : Name) (asks : List Ask) (n : ℕ) (id : Id) (g : KeptGroup) (numbers : Summary) → AskOf here asks more → GiveId here n id more
-    → IsKeptGroup (told facts here) g → IsOr (first_given (id_in here n) facts) id → IsOr (first_given (number_in here id) facts) n → IsSummary numbers (asks_of here facts ++ asks)
-    → IsKeptGroup (told (facts ++ more) here) (record { numbers = numbers; ids = insert g.ids n id; places = insert g.places id n })
-kept_with_id facts more here asks n id g numbers ask gives kept id_was n_was sum = record {
-  shown = shown_still facts more here kept.shown;
-  numbers = subst (IsSummary numbers) (sym (asks_append here facts more ∙ ap (λ a. asks_of here facts ++ a) (asked_here here asks more ask))) sum;
-  ids = λ m. grown nat_cmp_total g.ids (id_in here m) facts more n m id (n == m) (flip_number m n) (kept.ids m) (gives.ids here m ∙ ap (λ b. cond (b && n == m) (Some id) None) (same_self here))
-      (λ e. subst (λ m. IsOr (first_given (id_in here m) facts) id) (eqb-true n m e) id_was);
-  places = λ i. grown nat_list_cmp_total g.places (number_in here i) facts more id i n (is_same id i) (flip_text i id) (kept.places i) (gives.places here i ∙ ap (λ b. cond (b && is_same id i) (Some n) None) (same_self here))
-      (λ e. subst (λ i. IsOr (first_given (number_in here i) facts) n) (same_text id i (sym e)) n_was);
-}
-
--- the facts give no id of the group
-pub kept_without_id : (facts more : List Fact) (here : Name) (asks : List Ask) (g : KeptGroup) (numbers : Summary) → AskOf here asks more
-    → ((n : ℕ) → first_given (id_in here n) more ≡ None) → ((id : Id) → first_given (number_in here id) more ≡ None)
-    → IsKeptGroup (told facts here) g → IsSummary numbers (asks_of here facts ++ asks)
-    → IsKeptGroup (told (facts ++ more) here) (record { numbers = numbers; ids = g.ids; places = g.places })
-kept_without_id facts more here asks g numbers ask no_ids no_places kept sum = record {
-  shown = shown_still facts more here kept.shown;
-  numbers = subst (IsSummary numbers) (sym (asks_append here facts more ∙ ap (λ a. asks_of here facts ++ a) (asked_here here asks more ask))) sum;
-  ids = λ n. kept.ids n ∙ sym (given_silent (id_in here n) facts more (no_ids n));
-  places = λ id. kept.places id ∙ sym (given_silent (number_in here id) facts more (no_places id));
-}

@@ -18,7 +18,7 @@ use Rattle.nntp_facts.specs.Facts.{Fact, ThereIs, ThereIsNo, Asks, IdAt, TextIs,
 use Rattle.nntp_facts.specs.Given.{mentions, is_mentioned, gives_article, is_sent, first_given, head_in, body_in}
 use Rattle.nntp_facts.specs.Together.{shows_article, denies_article}
 use Rattle.nntp_facts.specs.Kept.{KeptArticle, IsKeptArticle, AreKeptArticles}
-use Rattle.nntp_facts.specs.Articles.{ArticleJoins, head_sent, body_sent, AreSame}
+use Rattle.nntp_facts.specs.Articles.{head_sent, body_sent}
 use Rattle.nntp_facts.proofs.Members.{any_in, found_in}
 use Rattle.nntp_facts.proofs.Gives.{any_more, given_append}
 
@@ -173,39 +173,3 @@ still_kept facts fact old new kept same said = kept_where_said (facts ++ fact �
     by : (id : Id) (b : Bool) → mentions id fact ≡ b → Says (facts ++ fact ∷ []) id (get new id)
     by id true e = said id e
     by id false e = subst (Says (facts ++ fact ∷ []) id) (sym (same id e)) (says_still facts fact id (get old id) (says facts old id kept) e)
-
--- ---- what says nothing of articles
-
--- the fact mentions no id
-abbrev pub SaysOfNone : Fact → Type 0
-SaysOfNone fact = (id : Id) → mentions id fact ≡ false
-
--- a group is there, or isn't; something is asked of numbers; groups are listed
-pub there_is : (name : Name) → SaysOfNone (ThereIs name)
-there_is name = λ id. refl
-
-pub there_is_no : (name : Name) → SaysOfNone (ThereIsNo name)
-there_is_no name = λ id. refl
-
-pub asks : (name : Name) (ask : Ask) → SaysOfNone (Asks name ask)
-asks name ask = λ id. refl
-
-pub groups_are : (wildmat : Option (List ℕ)) (lines : List ActiveValue) → SaysOfNone (GroupsAre wildmat lines)
-groups_are wildmat lines = λ id. refl
-
--- such a fact joins
-pub others_join : (facts : List Fact) (fact : Fact) → SaysOfNone fact → ArticleJoins facts fact
-others_join facts fact none = record {
-  articles = λ id t. absurd (true≢false (sym t ∙ (silent fact id (none id)).shown));
-  no_articles = λ id t. absurd (true≢false (sym t ∙ (silent fact id (none id)).denied));
-  heads = λ id. subst (λ o. AreSame o (first_given (head_in id) facts)) (sym (silent fact id (none id)).head) tt;
-  bodies = λ id. subst (λ o. AreSame o (first_given (body_in id) facts)) (sym (silent fact id (none id)).body) tt;
-}
-
--- and leaves what is kept
-pub others_leave : (facts : List Fact) (fact : Fact) (articles : FinMap (slice_cmp nat_cmp) KeptArticle) → SaysOfNone fact → AreKeptArticles facts articles → AreKeptArticles (facts ++ fact ∷ []) articles
-others_leave facts fact articles none kept = kept_where_said (facts ++ fact ∷ []) articles (λ id. says_still facts fact id (get articles id) (says facts articles id kept) (none id))
-
--- nothing is kept of no facts
-pub none_kept : AreKeptArticles [] empty
-none_kept = kept_where_said [] empty (λ id. subst (Says [] id) (sym (get-empty (slice_cmp nat_cmp) id)) (says_nothing [] id refl))

@@ -8,9 +8,10 @@ use Rattle.nntp_article.specs.Spool.{Numbers, IsNumber}
 use Rattle.nntp_facts.specs.Asks.{Ask, Estimates}
 use Rattle.nntp_facts.specs.Given.{is_shown, is_denied, Demand, NoDemand, NotEmpty, OnlyOne, SecondIs, Impossible, demand, wants, IsOneMore, IsGivenNumber, HasGivenNumbers}
 use Rattle.nntp_facts.specs.Together.{is_possible, MeetsDemand, IsFewFor, AsksStand}
-use Rattle.nntp_facts.specs.Summary.{estimate_in, is_within, is_within_all, Finds, IsFirstFree, FirstFree, has_room, is_settled, Looks}
+use Rattle.nntp_facts.specs.Summary.{estimate_in, is_within, is_within_all, Finds, FirstFree, has_room, is_settled, Looks}
 use Rattle.nntp_facts.specs.declared.shown.Found.{Found}
 use Rattle.nntp_facts.specs.declared.shown.Found.TheVariants.{Absent, Single, Several}
+use Rattle.nntp_facts.proofs.FirstFree.{first_free_once}
 use Rattle.nntp_facts.proofs.Counted.{none_more, one_more_given, one_more_counted, as_many_given, more_meets}
 use Rattle.nntp_facts.proofs.GivenNumbers.{same_demand}
 use Rattle.nntp_facts.proofs.MetNumbers.{second_shown, wanted_there}
@@ -125,15 +126,6 @@ module _ (asks : List Ask) where
 found_is : (asks : List Ask) (d : Demand) (n : ℕ) → IsTrue (is_shown asks n) → wants d n ≡ true → ((m : ℕ) → (is_shown asks m && wants d m) ≡ false) → ⊥
 found_is asks d n s w none = true≢false (sym (and_from (is_shown asks n) (wants d n) s w) ∙ none n)
 
--- there is one first free number
-free_once : (denied : ℕ → Bool) (a b : ℕ) → IsFirstFree denied a → IsFirstFree denied b → a ≡ b
-free_once denied a b x y =
-    elim (cases_order a b) [
-      | inl e ↦ e
-      | inr (inl l) ↦ absurd (true≢false (sym (y.2 a x.0 l) ∙ x.1))
-      | inr (inr g) ↦ absurd (true≢false (sym (x.2 b y.0 g) ∙ y.1))
-    ]
-
 module _ (asks : List Ask) (c : ℕ) (e : Option ℕ) (within : (n : ℕ) → is_within e n ≡ is_within_all asks n) where
   -- room for one more where nothing is found
   more_of_room : (d : Demand) → d ≡ demand asks → ((n : ℕ) → (is_shown asks n && wants d n) ≡ false) → (f : Option ℕ) → FirstFree (is_denied asks) f → IsTrue (has_room d f c e) → Ways asks c
@@ -152,7 +144,7 @@ module _ (asks : List Ask) (c : ℕ) (e : Option ℕ) (within : (n : ℕ) → is
   room_of_more : (d : Demand) → d ≡ demand asks → (f : Option ℕ) → FirstFree (is_denied asks) f → (n : ℕ) → IsOneMore asks n → IsTrue (is_within_all asks (c + 1)) → has_room d f c e ≡ true
   room_of_more d is None free n x few = absurd (true≢false (sym (free n x.first.0) ∙ x.first.1))
   room_of_more d is (Some m) free n x few =
-      let same : m ≡ n = free_once (is_denied asks) m n free x.first in
+      let same : m ≡ n = first_free_once (is_denied asks) 1 m n free x.first in
       and_from (wants d m) (is_within e (c + 1)) (ap (λ d. wants d m) is ∙ ap (wants (demand asks)) same ∙ x.wanted) (within (c + 1) ∙ few)
 
   -- one more isn't needed where a wanted number is shown

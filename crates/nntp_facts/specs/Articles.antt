@@ -13,17 +13,6 @@ use Rattle.nntp_facts.specs.Given.{first_given, head_in, body_in}
 use Rattle.nntp_facts.specs.Together.{shows_article, denies_article}
 use Rattle.nntp_facts.specs.Kept.{KeptArticle}
 
--- what the fact gives is what was given before, if anything was
-abbrev pub GivesSame : {A : Type 0} → (Fact → Option A) → List Fact → Fact → Type 0
-GivesSame f facts fact = IfSome (f fact) (λ x. IfSome (first_given f facts) (λ y. x ≡ y))
-
--- what the fact says of articles stands together with the facts before
-pub record ArticleJoins (facts : List Fact) (fact : Fact) : Type 0 where
-  pub articles : (id : Id) → IsTrue (shows_article id fact) → IsFalse (list_any (denies_article id) facts)
-  pub no_articles : (id : Id) → IsTrue (denies_article id fact) → IsFalse (list_any (shows_article id) facts)
-  pub heads : (id : Id) → GivesSame (head_in id) facts fact
-  pub bodies : (id : Id) → GivesSame (body_in id) facts fact
-
 -- ---- what is sent of an article
 
 -- the head that a success sends

@@ -9,7 +9,7 @@ use Rattle.nntp_intervals.specs.Intervals.{holds, is_between}
 use Rattle.nntp_article.specs.Spool.{Numbers, IsNumber}
 use Rattle.nntp_article.specs.Machine.{is_ascending}
 use Rattle.nntp_facts.specs.Asks.{Ask, Estimates, Has}
-use Rattle.nntp_facts.specs.Given.{shows, denies, is_shown, is_denied, Demand, NoDemand, NotEmpty, OnlyOne, SecondIs, Impossible, demand, join, wants}
+use Rattle.nntp_facts.specs.Given.{shows, denies, is_shown, is_denied, Demand, NoDemand, NotEmpty, OnlyOne, SecondIs, Impossible, demand, join, wants, IsFirstFree}
 use Rattle.nntp_facts.specs.Together.{is_possible, AsksStand}
 use Rattle.nntp_facts.specs.declared.need.Need.{Need}
 use Rattle.nntp_facts.specs.declared.need.Need.TheVariants.{Nothing, Any, Only, Below, Never}
@@ -120,13 +120,9 @@ abbrev pub one_more : Found → Found
 one_more Absent = Single
 one_more w = Several
 
--- the first number from 1 on that isn't denied
-abbrev pub IsFirstFree : (ℕ → Bool) → ℕ → Type 0
-IsFirstFree denied f = (1 ≤ f) × (denied f ≡ false) × ((m : ℕ) → 1 ≤ m → m < f → denied m ≡ true)
-
--- that number, if there is one
+-- the first number from 1 on that isn't denied, if there is one
 abbrev pub FirstFree : (ℕ → Bool) → Option ℕ → Type 0
-FirstFree denied free = MatchOption free ((n : ℕ) → 1 ≤ n → denied n ≡ true) (IsFirstFree denied)
+FirstFree denied free = MatchOption free ((n : ℕ) → 1 ≤ n → denied n ≡ true) (IsFirstFree denied 1)
 
 -- the demand wants the free number, and there is room for it
 abbrev pub has_room : Demand → Option ℕ → ℕ → Option ℕ → Bool
@@ -171,7 +167,7 @@ count_after ns (Some m) = if has ns m then length ns else length ns + 1
 
 -- the first free number below 2^64, if there is one
 abbrev pub FirstFreeBelow : (ℕ → Bool) → Option ℕ → Type 0
-FirstFreeBelow denied free = MatchOption free ((n : ℕ) → 1 ≤ n → n < 2 ^ 64 → denied n ≡ true) (λ f. (f < 2 ^ 64) × IsFirstFree denied f)
+FirstFreeBelow denied free = MatchOption free ((n : ℕ) → 1 ≤ n → n < 2 ^ 64 → denied n ≡ true) (λ f. (f < 2 ^ 64) × IsFirstFree denied 1 f)
 
 -- what is said can be, denies nothing that is shown, and shows nothing that is denied
 pub record AgreesWith (shown : List ℕ) (denied : List (ℕ × ℕ)) (p : Said) : Type 0 where

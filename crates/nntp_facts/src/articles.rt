@@ -6,7 +6,8 @@ ghost use Rattle.nntp_article.specs.Machine.{head_fits};
 ghost use Rattle.nntp_facts.specs.Facts.{Fact, IdAt, TextIs, NoArticle};
 ghost use Rattle.nntp_facts.specs.Given.{is_mentioned};
 ghost use Rattle.nntp_facts.specs.Kept.{AreKeptArticles};
-ghost use Rattle.nntp_facts.specs.Articles.{ArticleJoins, unsent, with_new};
+ghost use Rattle.nntp_facts.specs.Articles.{unsent, with_new};
+ghost use Rattle.nntp_facts.specs.Together.{JoinArticles};
 ghost use Rattle.nntp_facts.specs.Readers.{shown_articles};
 ghost use Rattle.nntp_facts.specs.ArticleView.{known_value};
 
@@ -63,7 +64,7 @@ impl<A: Allocator> Articles<A> {
     /// Whether it may be said that this is sent of the id's article.
     pub(crate) fn may_send(&self, what: What, id: &[u8], block: &Option<Block<'_>>) -> bool
         ensures { (facts : List Fact) → AreKeptArticles facts self.now → IsTrue (head_fits what id.now block.now)
-            → IsTrue result ↔ ArticleJoins facts (TextIs what id.now block.now) }
+            → IsTrue result ↔ JoinArticles facts (TextIs what id.now block.now ∷ []) }
     {
         match self.get(id) {
             Some(known) => known.may_send(&Sent::of(what, block)),
@@ -74,7 +75,7 @@ impl<A: Allocator> Articles<A> {
     /// Whether it may be said that the id has an article.
     pub(crate) fn may_stand(&self, id: &[u8]) -> bool
         ensures { (facts : List Fact) (name : Name) (n : ℕ) → AreKeptArticles facts self.now
-            → IsTrue result ↔ ArticleJoins facts (IdAt name n id.now) }
+            → IsTrue result ↔ JoinArticles facts (IdAt name n id.now ∷ []) }
     {
         match self.get(id) {
             Some(known) => !known.is_denied(),
@@ -84,7 +85,7 @@ impl<A: Allocator> Articles<A> {
 
     /// Whether it may be said that the id has no article.
     pub(crate) fn may_lack(&self, id: &[u8]) -> bool
-        ensures { (facts : List Fact) → AreKeptArticles facts self.now → IsTrue result ↔ ArticleJoins facts (NoArticle id.now) }
+        ensures { (facts : List Fact) → AreKeptArticles facts self.now → IsTrue result ↔ JoinArticles facts (NoArticle id.now ∷ []) }
     {
         match self.get(id) {
             Some(known) => known.is_denied(),
@@ -131,7 +132,7 @@ impl<A: Allocator + Copy> Articles<A> {
         block: &Option<Block<'_>>,
     ) -> Result<(), AllocError>
         ensures { OnOk result ((facts : List Fact) → AreKeptArticles facts self.old → IsTrue (head_fits what id.now block.now)
-            → ArticleJoins facts (TextIs what id.now block.now) → AreKeptArticles (facts ++ TextIs what id.now block.now ∷ []) self.new) }
+            → JoinArticles facts (TextIs what id.now block.now ∷ []) → AreKeptArticles (facts ++ TextIs what id.now block.now ∷ []) self.new) }
     {
         self.stand(id)?;
         if let Some(known) = self.known.get_mut(id) {
@@ -144,7 +145,7 @@ impl<A: Allocator + Copy> Articles<A> {
     pub(crate) fn stand(&mut self, id: &[u8]) -> Result<(), AllocError>
         ensures is { OnOk result (self.new ≡ with_new self.old id.now unsent) }
         ensures facts { OnOk result ((facts : List Fact) (name : Name) (n : ℕ) → AreKeptArticles facts self.old
-            → ArticleJoins facts (IdAt name n id.now) → AreKeptArticles (facts ++ IdAt name n id.now ∷ []) self.new) }
+            → JoinArticles facts (IdAt name n id.now ∷ []) → AreKeptArticles (facts ++ IdAt name n id.now ∷ []) self.new) }
     {
         self.add(
             id,
@@ -158,7 +159,7 @@ impl<A: Allocator + Copy> Articles<A> {
 
     /// Adds that the id has no article. After an error the articles say nothing of use.
     pub(crate) fn lack(&mut self, id: &[u8]) -> Result<(), AllocError>
-        ensures { OnOk result ((facts : List Fact) → AreKeptArticles facts self.old → ArticleJoins facts (NoArticle id.now)
+        ensures { OnOk result ((facts : List Fact) → AreKeptArticles facts self.old → JoinArticles facts (NoArticle id.now ∷ [])
             → AreKeptArticles (facts ++ NoArticle id.now ∷ []) self.new) }
     {
         self.add(id, Known::Denied)

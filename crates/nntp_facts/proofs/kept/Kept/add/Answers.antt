@@ -7,7 +7,6 @@ use Rattle.nntp_facts.specs.Kept.{IsKept, told, with_asks, Changes}
 use Rattle.nntp_facts.specs.Listing.{AreListable}
 use Rattle.nntp_facts.specs.Summary.{said, Says}
 use Rattle.nntp_facts.proofs.KeptAdds.{KeepsToo, names_kept, groups_kept, untold, asking_changes, selecting_changes}
-use Rattle.nntp_facts.proofs.KeptJoins.{article_joins}
 use Rattle.nntp_facts.proofs.OkResults.{on_ok}
 use Rattle.nntp_facts.proofs.Shapes.{asking_articles, selecting, selecting_denies, selecting_articles}
 use Rattle.nntp_facts.proofs.Silent.{articles_kept}
@@ -34,7 +33,7 @@ returns-in-NoArticle g c =
     record {
       groups = groups_kept facts more c.self-in-NoArticle.inside.groups (untold more (λ name. refl) (λ name. refl) (record { ids = λ name n. refl; places = λ name id. refl })) inside.groups;
       names = names_kept facts more c.self-in-NoArticle.inside.names (λ name. refl) inside.names;
-      articles = lacks facts inside.articles ((article_joins facts (NoArticle id)).1 j.articles);
+      articles = lacks facts inside.articles j.articles;
     })) c.lack.ensures
 
 pub returns-in-Asks : goal.returns-in-Asks
@@ -75,7 +74,7 @@ returns-in-Text g c =
     record {
       groups = groups_kept facts more c.self-in-Text.inside.groups (untold more (λ name. refl) (λ name. refl) (record { ids = λ name n. refl; places = λ name id. refl })) inside.groups;
       names = names_kept facts more c.self-in-Text.inside.names (λ name. refl) inside.names;
-      articles = sent facts inside.articles fits ((article_joins facts (TextIs what id lines)).1 j.articles);
+      articles = sent facts inside.articles fits j.articles;
     })) c.send.ensures
 
 pub returns-in-Numbers : goal.returns-in-Numbers

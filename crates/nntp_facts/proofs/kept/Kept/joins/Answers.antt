@@ -12,7 +12,7 @@ use Rattle.nntp_facts.specs.Listing.{AreListable}
 use Rattle.nntp_facts.specs.Kept.{told, IsKept}
 use Rattle.nntp_facts.specs.Summary.{said, Says}
 use Rattle.nntp_facts.proofs.Added.{estimate_stands}
-use Rattle.nntp_facts.proofs.KeptJoins.{through, back, unless, TellsJoin, article_joins}
+use Rattle.nntp_facts.proofs.KeptJoins.{through, back, unless, TellsJoin}
 use Rattle.nntp_facts.proofs.OkResults.{if_ok}
 use Rattle.nntp_facts.proofs.Shapes.{nothing_joins, no_group_joins, no_article_joins, asking_joins, text_joins, selecting_joins}
 use Rattle.nntp_facts.proofs.kept.Kept.joins.Goals as goal
@@ -31,7 +31,7 @@ returns-in-NoArticle g c =
     let id = c.in-NoArticle.id.now in
     subst (λ s. TellsJoin k c.args.here.now s c.may_lack.result) (sym c.in-NoArticle.is) (λ facts kept together wf may.
     let inside = subst (IsKept facts) (sym c.self.view_is) kept in
-    through (c.may_lack.ensures facts inside.articles) (through (article_joins facts (NoArticle id)) (back (no_article_joins facts id together))))
+    through (c.may_lack.ensures facts inside.articles) (back (no_article_joins facts id together)))
 
 pub returns-in-Asks : goal.returns-in-Asks
 returns-in-Asks g c =
@@ -85,7 +85,7 @@ returns-in-Text g c =
     let lines = c.in-Text.block.now in
     subst (λ s. TellsJoin k here s c.may_send.result) (sym c.in-Text.is) (λ facts kept together wf may.
     let inside = subst (IsKept facts) (sym c.self.view_is) kept in
-    through (c.may_send.ensures facts inside.articles may) (through (article_joins facts (TextIs what id lines)) (back (text_joins facts what id lines together wf))))
+    through (c.may_send.ensures facts inside.articles may) (back (text_joins facts what id lines together wf)))
 
 pub returns-in-Placed : goal.returns-in-Placed
 returns-in-Placed g c =

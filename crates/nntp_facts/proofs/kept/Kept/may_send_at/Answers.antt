@@ -2,7 +2,7 @@ use Rattle.std.proofs.Common.{sym, subst, [], ◌∷◌}
 use Rattle.nntp_facts.specs.Facts.{TextIs}
 use Rattle.nntp_facts.specs.Kept.{IsKept}
 use Rattle.nntp_facts.specs.SayingView.{asks_placed}
-use Rattle.nntp_facts.proofs.KeptJoins.{through, back, met_first, unmet_first, first_two, article_joins}
+use Rattle.nntp_facts.proofs.KeptJoins.{through, back, met_first, unmet_first, first_two}
 use Rattle.nntp_facts.proofs.Shapes.{placing_joins}
 use Rattle.nntp_facts.proofs.kept.Kept.may_send_at.Goals as goal
 
@@ -16,7 +16,7 @@ returns-then-may_place g c facts kept together shown fits wf =
     let n = c.args.number in
     through (met_first c.may_place.result c.may_send.result c.if-may_place.true
     (c.may_place.ensures facts (asks_placed at n) kept together shown c.placing.ensures)
-    (through (c.may_send.ensures facts inside.articles fits) (article_joins facts (TextIs what id lines))))
+    (c.may_send.ensures facts inside.articles fits))
     (through first_two (back (placing_joins c.args.name.now facts what id lines at n together wf)))
 
 pub returns-else-may_place : goal.returns-else-may_place

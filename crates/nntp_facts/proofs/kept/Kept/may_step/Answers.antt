@@ -3,7 +3,7 @@ use Rattle.nntp_facts.specs.Asks.{Has}
 use Rattle.nntp_facts.specs.AskView.{ask_of}
 use Rattle.nntp_facts.specs.Facts.{IdAt}
 use Rattle.nntp_facts.specs.Kept.{IsKept}
-use Rattle.nntp_facts.proofs.KeptJoins.{through, back, met_first, unmet_first, first_two, article_joins}
+use Rattle.nntp_facts.proofs.KeptJoins.{through, back, met_first, unmet_first, first_two}
 use Rattle.nntp_facts.proofs.Shapes.{stepping_joins}
 use Rattle.nntp_facts.proofs.kept.Kept.may_step.Goals as goal
 
@@ -16,7 +16,7 @@ returns-then-may_place g c facts kept together shown no_other wf =
     let id = c.args.id.now in
     through (met_first c.may_place.result c.may_stand.result c.if-may_place.true
     (c.may_place.ensures facts (ask ∷ Has n ∷ []) kept together shown (c.with_number-part.ensures ask c.of.ensures no_other))
-    (through (c.may_stand.ensures facts here n inside.articles) (article_joins facts (IdAt here n id))))
+    (c.may_stand.ensures facts here n inside.articles))
     (through first_two (back (stepping_joins here facts ask n id together wf)))
 
 pub returns-else-may_place : goal.returns-else-may_place

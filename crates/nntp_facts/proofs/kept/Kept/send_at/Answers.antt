@@ -3,7 +3,6 @@ use Rattle.nntp_facts.specs.Facts.{TextIs}
 use Rattle.nntp_facts.specs.Kept.{IsKept, told}
 use Rattle.nntp_facts.specs.SayingView.{facts_placed, asks_placed}
 use Rattle.nntp_facts.proofs.KeptAdds.{names_kept, placing_changes, placing_same, kept_alike}
-use Rattle.nntp_facts.proofs.KeptJoins.{article_joins}
 use Rattle.nntp_facts.proofs.OkResults.{on_ok}
 use Rattle.nntp_facts.proofs.Shapes.{placing_ids, placing_names, placing_articles}
 use Rattle.nntp_facts.proofs.OneGroup.{id_joins}
@@ -25,5 +24,5 @@ returns g c =
     record {
       groups = c.in_ok-place.ensures (told facts) (told (facts ++ more)) (asks_placed at n) inside.groups shown c.placing.ensures ids.0 ids.1 (placing_changes facts here what id lines at n shown);
       names = names_kept facts more c.self.inside.names (λ name. (placing_names here what id lines at n).denied name) inside.names;
-      articles = kept_alike facts (TextIs what id lines ∷ []) more _ (placing_same facts here what id lines at n) (sent facts inside.articles fits ((article_joins facts (TextIs what id lines)).1 articles));
+      articles = kept_alike facts (TextIs what id lines ∷ []) more _ (placing_same facts here what id lines at n) (sent facts inside.articles fits articles);
     }) c.send.ensures

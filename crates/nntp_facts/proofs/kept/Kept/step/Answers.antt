@@ -4,7 +4,6 @@ use Rattle.nntp_facts.specs.AskView.{ask_of}
 use Rattle.nntp_facts.specs.Facts.{Asks, IdAt}
 use Rattle.nntp_facts.specs.Kept.{IsKept, told}
 use Rattle.nntp_facts.proofs.KeptAdds.{names_kept, stepping_changes, stepping_same, kept_alike}
-use Rattle.nntp_facts.proofs.KeptJoins.{article_joins}
 use Rattle.nntp_facts.proofs.OkResults.{on_ok}
 use Rattle.nntp_facts.proofs.Shapes.{stepping_ids, stepping_articles}
 use Rattle.nntp_facts.proofs.OneGroup.{id_joins}
@@ -24,5 +23,5 @@ returns g c =
     record {
       groups = c.in_ok-place.ensures (told facts) (told (facts ++ more)) (ask ∷ Has n ∷ []) inside.groups shown (c.with_number-part.ensures ask c.of.ensures no_other) ids.0 ids.1 (stepping_changes facts here ask n id shown);
       names = names_kept facts more c.self.inside.names (λ name. refl) inside.names;
-      articles = kept_alike facts (IdAt here n id ∷ []) more _ (stepping_same facts here ask n id) (stood facts here n inside.articles ((article_joins facts (IdAt here n id)).1 articles));
+      articles = kept_alike facts (IdAt here n id ∷ []) more _ (stepping_same facts here ask n id) (stood facts here n inside.articles articles);
     }) c.stand.ensures.facts
