@@ -150,11 +150,11 @@ exchange-right client server old new left behind answers x noted class p next no
     by kinds.OutOfPlace judged h =
         let same : OutOfPlace ≡ class = cc in
         subst (λ c. IsHeadline profile_31_bits client server (No (length p.pairs) c)) same
-            (headline_at_unfitting profile_31_bits client server p.pairs x left behind p.before next permitted (sym fitting ∙ h.0))
+        (headline_at_unfitting profile_31_bits client server p.pairs x left behind p.before next permitted (sym fitting ∙ h.0))
     by kinds.Contradiction judged h =
         let same : class_by (fits profile_31_bits (visible_left p.pairs) (asked_at x.line) x.response) ≡ class = ap class_by (sym fitting ∙ h.0) ∙ (let c : Contradiction ≡ class = cc in c) in
         subst (λ c. IsHeadline profile_31_bits client server (No (length p.pairs) c)) same
-            (headline_at_response profile_31_bits client server p.pairs x left behind p.before next permitted (λ q. h.1 (subst (λ profile. SomePermits profile (asked_of (p.pairs ++ x ∷ [])) (responses_of (p.pairs ++ x ∷ []))) (sym p.profile) q)))
+        (headline_at_response profile_31_bits client server p.pairs x left behind p.before next permitted (λ q. h.1 (subst (λ profile. SomePermits profile (asked_of (p.pairs ++ x ∷ [])) (responses_of (p.pairs ++ x ∷ []))) (sym p.profile) q)))
 
 -- octets that answer nothing are bad, of their class
 pub octets-right : (client server : List ℕ) (facts : FactsKept) (left : Unpaired) (answers : ℕ) (class : PairClass) → Passed client server facts left answers → Ends left (pair_end class)
@@ -162,8 +162,8 @@ pub octets-right : (client server : List ℕ) (facts : FactsKept) (left : Unpair
 octets-right client server facts left answers class p ends k at of is =
     let place : length p.pairs ≡ k = sym (at ∙ index-counts client server p.pairs left p.before) in
     subst (λ (x : ℕ × Class). IsHeadline profile_31_bits client server (No x.0 x.1)) (λ i. (place i, sym is i))
-        (headline_at_octets profile_31_bits client server p.pairs class (record { left = left; paired = p.before; ends = ends })
-            (subst (λ profile. SomePermits profile (asked_of p.pairs) (responses_of p.pairs)) p.profile p.stands.permitted))
+    (headline_at_octets profile_31_bits client server p.pairs class (record { left = left; paired = p.before; ends = ends })
+    (subst (λ profile. SomePermits profile (asked_of p.pairs) (responses_of p.pairs)) p.profile p.stands.permitted))
 
 -- where no octet is left, some spool explains the streams
 pub end-right : (client server : List ℕ) (facts : FactsKept) (left : Unpaired) (answers unanswered : ℕ) → Passed client server facts left answers → Ends left (end unanswered) → (S : Spool) × Explains profile_31_bits S client server answers

@@ -134,10 +134,7 @@ fn invented<A: Allocator + Copy>(alloc: A, k: u64) -> Result<Vec<u8, A>, AllocEr
 }
 
 /// A head that says the id and nothing else.
-fn plain_head<A: Allocator + Copy>(
-    alloc: A,
-    id: &[u8],
-) -> Result<Vec<Vec<u8, A>, A>, AllocError> {
+fn plain_head<A: Allocator + Copy>(alloc: A, id: &[u8]) -> Result<Vec<Vec<u8, A>, A>, AllocError> {
     let mut line = Vec::from_slice(alloc, b"Message-ID: ")?;
     line.extend_from_slice(id)?;
     let mut head = Vec::new(alloc);

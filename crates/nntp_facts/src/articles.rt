@@ -14,9 +14,9 @@ ghost use Rattle.nntp_facts.specs.ArticleView.{known_value};
 mod known;
 mod seen_articles;
 
-pub use seen_articles::{SeenArticle, SeenArticles};
 use known::{Known, Seen, Sent};
 use nntp_wire::{Block, What};
+pub use seen_articles::{SeenArticle, SeenArticles};
 use std::alloc::{AllocError, Allocator, Global};
 use std::collections::BTreeMap;
 use std::marker::Model;

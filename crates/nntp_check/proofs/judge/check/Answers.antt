@@ -9,20 +9,20 @@ note-requires g c = λ whole. is-due c.args.client.now c.args.server.now c.loop-
 pub loop-exchange-preserved : goal.loop-exchange-preserved
 loop-exchange-preserved g c =
     one-more c.args.client.now c.args.server.now c.loop-exchange.facts c.note.new.self c.loop-exchange.pairs c.next.new.self c.loop-exchange.answers c.in-Exchange.exchange c.in-Ok.noted
-        c.loop-exchange.invariant c.in-Exchange.ensures.step c.in-Ok.ensures.noted (sym c.in_default-class_of.ensures) c.index-answers.result c.index-answers.ensures.value
+    c.loop-exchange.invariant c.in-Exchange.ensures.step c.in-Ok.ensures.noted (sym c.in_default-class_of.ensures) c.index-answers.result c.index-answers.ensures.value
 
 pub returns-in-Some-clause-placed : goal.returns-in-Some-clause-placed
 returns-in-Some-clause-placed g c =
     placed c.bad.result c.args.client.now c.args.server.now c.index.result c.in-Some.class _ _
     (at-exchange c.args.client.now c.args.server.now c.loop-exchange.facts c.loop-exchange.pairs c.next.new.self c.loop-exchange.answers c.in-Exchange.exchange c.in-Ok.noted c.in-Some.class
-        c.loop-exchange.invariant c.in-Exchange.ensures.step c.in-Some.ensures c.index.result c.index.ensures.value _ c.line.ensures c.initial.result.now c.initial.ensures)
+    c.loop-exchange.invariant c.in-Exchange.ensures.step c.in-Some.ensures c.index.result c.index.ensures.value _ c.line.ensures c.initial.result.now c.initial.ensures)
     c.bad.ensures
 
 pub returns-in-Some-clause-right : goal.returns-in-Some-clause-right
 returns-in-Some-clause-right g c =
     right c.bad.result c.args.client.now c.args.server.now c.index.result c.in-Some.class _ _
     (exchange-right c.args.client.now c.args.server.now c.loop-exchange.facts c.note.new.self c.loop-exchange.pairs c.next.new.self c.loop-exchange.answers c.in-Exchange.exchange c.in-Ok.noted c.in-Some.class
-        c.loop-exchange.invariant c.in-Exchange.ensures.step c.in-Ok.ensures.noted c.in-Some.ensures c.index.result c.index.ensures.value)
+    c.loop-exchange.invariant c.in-Exchange.ensures.step c.in-Ok.ensures.noted c.in-Some.ensures c.index.result c.index.ensures.value)
     c.bad.ensures
 
 pub returns-in-Bad-clause-placed : goal.returns-in-Bad-clause-placed
@@ -30,8 +30,8 @@ returns-in-Bad-clause-placed g c =
     let ends = c.in-Bad.ensures.step in
     placed c.bad-in-Bad.result c.args.client.now c.args.server.now c.in-Bad.index c.from.result _ _
     (at-octets c.args.client.now c.args.server.now c.loop-exchange.facts c.loop-exchange.pairs c.loop-exchange.answers c.in-Bad.class c.loop-exchange.invariant ends.1
-        c.in-Bad.index ends.0 c.from.result c.from.ensures _ (c.ahead-ahead.ensures.line ∙ ap (λ (p : Unpaired). line_ahead p.places) ends.2)
-        _ c.first_line-reply.result.now (c.ahead-ahead.ensures.rest ∙ ap (λ (p : Unpaired). p.server) ends.2) c.first_line-reply.ensures)
+    c.in-Bad.index ends.0 c.from.result c.from.ensures _ (c.ahead-ahead.ensures.line ∙ ap (λ (p : Unpaired). line_ahead p.places) ends.2)
+    _ c.first_line-reply.result.now (c.ahead-ahead.ensures.rest ∙ ap (λ (p : Unpaired). p.server) ends.2) c.first_line-reply.ensures)
     c.bad-in-Bad.ensures
 
 pub returns-in-Bad-clause-right : goal.returns-in-Bad-clause-right
@@ -39,7 +39,7 @@ returns-in-Bad-clause-right g c =
     let ends = c.in-Bad.ensures.step in
     right c.bad-in-Bad.result c.args.client.now c.args.server.now c.in-Bad.index c.from.result _ _
     (octets-right c.args.client.now c.args.server.now c.loop-exchange.facts c.loop-exchange.pairs c.loop-exchange.answers c.in-Bad.class c.loop-exchange.invariant ends.1
-        c.in-Bad.index ends.0 c.from.result c.from.ensures)
+    c.in-Bad.index ends.0 c.from.result c.from.ensures)
     c.bad-in-Bad.ensures
 
 pub returns-in-End-clause-right : goal.returns-in-End-clause-right

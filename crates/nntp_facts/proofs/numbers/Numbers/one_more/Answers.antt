@@ -15,16 +15,16 @@ returns-in_default g c =
 pub returns-in_err-n-clause-value : goal.returns-in_err-n-clause-value
 returns-in_err-n-clause-value g c =
     c.from_residual.ensures ∙ none_free c.args.self.now c.found_wanted.result (subst (λ s. Finds (λ n. has s.shown n && wants s.demand n) c.found_wanted.result) c.self.view_is c.found_wanted.ensures) c.in-Absent.is
-        (subst (λ s. IsFullFrom s.denied 1) c.self.view_is (subst (λ o. MatchOption o (IsFullFrom c.self.inside.denied 1) (IsLeastFree c.self.inside.denied 1)) c.in_err-n.was c.least_free_from.ensures))
+    (subst (λ s. IsFullFrom s.denied 1) c.self.view_is (subst (λ o. MatchOption o (IsFullFrom c.self.inside.denied 1) (IsLeastFree c.self.inside.denied 1)) c.in_err-n.was c.least_free_from.ensures))
 
 pub returns-then-wants-clause-value : goal.returns-then-wants-clause-value
 returns-then-wants-clause-value g c =
     ap (λ b. cond b (Some c.in_ok-n.n) None) (sym c.if-wants.true ∙ c.wants.ensures ∙ ap (λ s. wants s.demand c.in_ok-n.n) c.self.view_is)
     ∙ one_free c.args.self.now c.found_wanted.result (subst (λ s. Finds (λ n. has s.shown n && wants s.demand n) c.found_wanted.result) c.self.view_is c.found_wanted.ensures) c.in-Absent.is c.in_ok-n.n (omega arith)
-        (subst (λ s. IsLeastFree s.denied 1 c.in_ok-n.n) c.self.view_is (subst (λ o. MatchOption o (IsFullFrom c.self.inside.denied 1) (IsLeastFree c.self.inside.denied 1)) c.in_ok-n.was c.least_free_from.ensures))
+    (subst (λ s. IsLeastFree s.denied 1 c.in_ok-n.n) c.self.view_is (subst (λ o. MatchOption o (IsFullFrom c.self.inside.denied 1) (IsLeastFree c.self.inside.denied 1)) c.in_ok-n.was c.least_free_from.ensures))
 
 pub returns-else-wants-clause-value : goal.returns-else-wants-clause-value
 returns-else-wants-clause-value g c =
     ap (λ b. cond b (Some c.in_ok-n.n) None) (sym c.if-wants.false ∙ c.wants.ensures ∙ ap (λ s. wants s.demand c.in_ok-n.n) c.self.view_is)
     ∙ one_free c.args.self.now c.found_wanted.result (subst (λ s. Finds (λ n. has s.shown n && wants s.demand n) c.found_wanted.result) c.self.view_is c.found_wanted.ensures) c.in-Absent.is c.in_ok-n.n (omega arith)
-        (subst (λ s. IsLeastFree s.denied 1 c.in_ok-n.n) c.self.view_is (subst (λ o. MatchOption o (IsFullFrom c.self.inside.denied 1) (IsLeastFree c.self.inside.denied 1)) c.in_ok-n.was c.least_free_from.ensures))
+    (subst (λ s. IsLeastFree s.denied 1 c.in_ok-n.n) c.self.view_is (subst (λ o. MatchOption o (IsFullFrom c.self.inside.denied 1) (IsLeastFree c.self.inside.denied 1)) c.in_ok-n.was c.least_free_from.ensures))
