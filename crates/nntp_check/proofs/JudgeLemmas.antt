@@ -46,10 +46,6 @@ pub record Passed (client server : List ℕ) (facts : FactsKept) (left : Unpaire
   pub stands : Stands facts pairs
   pub profile : facts.profile ≡ profile_31_bits
 
--- none has, at first
-pub none-passed : (client server : List ℕ) (facts : FactsKept) (left : Unpaired) → Stands facts [] → facts.profile ≡ profile_31_bits → left ≡ streams client server → Passed client server facts left 0
-none-passed client server facts left stands profile all = record { pairs = []; before = sym all; count = refl; stands = stands; profile = profile }
-
 -- the next exchange is due
 pub is-due : (client server : List ℕ) (facts : FactsKept) (left behind : Unpaired) (answers : ℕ) (x : Paired) → Passed client server facts left answers → IsNext left x behind → IsDue facts x
 is-due client server facts left behind answers x p next = record {
