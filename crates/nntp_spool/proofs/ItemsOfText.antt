@@ -5,7 +5,7 @@ use Rattle.std.specs.declared.cmp.Ordering.{Ordering}
 use Rattle.std.specs.Ordering.{nat_cmp, is_lt}
 use Rattle.std.specs.Cmp.Lexicographic.{slice_cmp, nat_list_cmp_total}
 use Rattle.std.specs.List.{list_all, flat_map, AllByRecursion, join_with_byte}
-use Rattle.std.specs.FinMap.{FinMap, get, insert, empty, entries, len, find, is_sorted, entries_sorted, get-entries, len-empty, len-entries, same_entries_map}
+use Rattle.std.specs.FinMap.{FinMap, get, insert, empty, entries, find, is_sorted, entries_sorted, get-entries, len-empty, len-entries, same_entries_map}
 use Rattle.std.proofs.lemmas.Bool.{true≢false, and_parts}
 use Rattle.std.proofs.lemmas.List.{append-nil, nil_from_length}
 use Rattle.std.proofs.lemmas.List.Splits.{join_with_byte-slice_split}

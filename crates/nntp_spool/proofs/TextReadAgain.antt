@@ -6,7 +6,7 @@ use Rattle.std.specs.Ordering.{nat_cmp}
 use Rattle.std.specs.Cmp.{nat_cmp_total}
 use Rattle.std.specs.Cmp.Lexicographic.{slice_cmp, nat_list_cmp_total}
 use Rattle.std.specs.List.{list_all, flat_map, AllByRecursion}
-use Rattle.std.specs.FinMap.{entries, len, len-entries, nat_cmp-IsAntisymmetric}
+use Rattle.std.specs.FinMap.{entries, len, nat_cmp-IsAntisymmetric}
 use Rattle.std.proofs.lemmas.Bool.{and_from, and_parts}
 use Rattle.std.proofs.lemmas.Bool.Decides.{nat_tests}
 use Rattle.std.proofs.lemmas.List.{length-map}
@@ -114,11 +114,11 @@ pub counted : (F : Spool) → length (spool_text F) < 2 ^ 64 → HasLineCounts F
 counted F lt =
     let whole = length-text F in
     λ id t g.
-        let fits = all_got nat_list_cmp_total octet_keys (λ id t. length (article_lines (id, t)) ≤ length (spool_text F)) F.articles (within article_lines (entries F.articles) (length (spool_text F)) (omega arith)) id t g in
-        let both = length-append (barred t.head) (barred t.body) in
-        let heads = length-map t.head (λ line. 124 ∷ line) in
-        let bodies = length-map t.body (λ line. 124 ∷ line) in
-        (omega arith, omega arith)
+    let fits = all_got nat_list_cmp_total octet_keys (λ id t. length (article_lines (id, t)) ≤ length (spool_text F)) F.articles (within article_lines (entries F.articles) (length (spool_text F)) (omega arith)) id t g in
+    let both = length-append (barred t.head) (barred t.body) in
+    let heads = length-map t.head (λ line. 124 ∷ line) in
+    let bodies = length-map t.body (λ line. 124 ∷ line) in
+    (omega arith, omega arith)
 
 -- ---- the whole
 

@@ -1,8 +1,12 @@
 -- What a writer took of lines.
 use Rattle.std.proofs.Common.{◌≡◌, ℕ, List, [], ◌∷◌, ◌++◌, Option, subst, sym, ap}
+use Rattle.std.specs.Prelude.{codes}
+use Rattle.std.specs.List.{flat_map}
+use Rattle.std.specs.FinMap.{entries}
 use Rattle.std.proofs.lemmas.List.{append-nil}
 use Rattle.std.proofs.lemmas.List.Concat.{flat_map-append}
-use Rattle.nntp_spool.specs.Text.{with_line_ends, group_line, article_line}
+use Rattle.nntp_article.specs.Spool.{Spool}
+use Rattle.nntp_spool.specs.Text.{with_line_ends, group_line, article_line, group_lines, article_lines, spool_text}
 use Rattle.nntp_spool.specs.Writing.{Wrote}
 use Rattle.nntp_spool.proofs.Written.{Wrote-on, Wrote-first}
 
@@ -28,3 +32,12 @@ pub Article-first : (a b : Option (List ℕ)) (id : List ℕ) (m heads n bodies 
     → Wrote a b (with_line_ends (article_line id m n ∷ [])) rest → Wrote a b (with_line_ends (article_line id heads bodies ∷ more)) (rest ++ with_line_ends more)
 Article-first a b id m heads n bodies more rest e f g =
     Lines-first a b (article_line id heads bodies ∷ []) more rest (subst (λ (k : ℕ). Wrote a b (with_line_ends (article_line id k bodies ∷ [])) rest) e (subst (λ (k : ℕ). Wrote a b (with_line_ends (article_line id m k ∷ [])) rest) f g))
+
+-- what is left of a spool's text behind its first line, and behind its groups
+pub Groups-left : (S : Spool) (a b : Option (List ℕ)) → Wrote a b (with_line_ends (codes "spool 1" ∷ [])) []
+    → Wrote a b (spool_text S) (with_line_ends (flat_map group_lines (entries S.groups) ++ (flat_map article_lines (entries S.articles) ++ codes "end" ∷ [])))
+Groups-left S a b first = Lines-first a b (codes "spool 1" ∷ []) (flat_map group_lines (entries S.groups) ++ (flat_map article_lines (entries S.articles) ++ codes "end" ∷ [])) [] first
+
+pub Articles-left : (S : Spool) (a b c : Option (List ℕ)) → Wrote a b (with_line_ends (codes "spool 1" ∷ [])) [] → Wrote b c (with_line_ends (flat_map group_lines (entries S.groups))) []
+    → Wrote a c (spool_text S) (with_line_ends (flat_map article_lines (entries S.articles) ++ codes "end" ∷ []))
+Articles-left S a b c first groups = Lines-next a b c (spool_text S) (flat_map group_lines (entries S.groups)) (flat_map article_lines (entries S.articles) ++ codes "end" ∷ []) [] (Groups-left S a b first) groups

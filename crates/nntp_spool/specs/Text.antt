@@ -45,7 +45,7 @@ spool_text S = with_line_ends (spool_lines S)
 abbrev pub HasLineCounts : Spool → Type 0
 HasLineCounts S = (id : Id) (t : Text) → get S.articles id ≡ Some t → (length t.head < 2 ^ 64) × (length t.body < 2 ^ 64)
 
--- a spool whose counts 64 bits hold; those of numbers are within the limit of article numbers
+-- a spool whose counts fit 64 bits, as those of each spool in memory do; a count of numbers is within the limit of article numbers
 pub record IsWritten (profile : Profile) (S : Spool) : Type 0 where
   pub is_spool : IsSpool profile S
   pub line_counts : HasLineCounts S

@@ -16,7 +16,8 @@ pub fn what_is_read_is_a_text()
         → IsSpool profile S × (octets ≡ spool_text S) }
 {}
 
-/// The text of a spool is read as this spool.
+/// The text of a spool is read as this spool. A spool in memory is one that `IsWritten` speaks of, as
+/// `Spool::counts` says.
 pub fn each_text_is_read()
     ensures { (profile : Profile) (S : Spool) → profile.limit < 2 ^ 64 → IsWritten profile S → spool_at profile (spool_text S) ≡ Ok S }
 {}

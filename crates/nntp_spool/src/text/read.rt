@@ -1,5 +1,5 @@
 //! The parts of a spool's text, read line by line.
-ghost use Rattle.std.specs.Prelude.{◌≡◌, ℕ, true, length, false, IfOk, IfErr};
+ghost use Rattle.std.specs.Prelude.{◌≡◌, true, false, IfOk, IfErr};
 ghost use Rattle.nntp_article.specs.Limit.{profile_31_bits};
 ghost use Rattle.nntp_spool.specs.Reading.{Gives, barred_line_at, barred_lines_at, number_in, number_at, numbers_at, group_at, article_at, item_at, items_at, item_then, spool_at};
 ghost use Rattle.nntp_spool.specs.Fields.{End};

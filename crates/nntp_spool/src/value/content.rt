@@ -7,6 +7,7 @@ ghost use Rattle.nntp_spool.specs.Ascending.{is_last};
 ghost use Rattle.nntp_spool.specs.Content.{with_group, with_article, all_known, ids_have_articles, no_spool};
 ghost use Rattle.nntp_spool.specs.Numbers.{with_number};
 ghost use Rattle.nntp_spool.specs.ArticleLines.{text_of_article};
+ghost use Rattle.nntp_spool.specs.Text.{HasLineCounts};
 
 use crate::value::article::Article;
 use crate::value::numbers::Numbers;
@@ -134,7 +135,8 @@ impl<A: Allocator> Content<A> {
 
     /// How many articles there are.
     pub(crate) fn count_articles(&self) -> u64
-        ensures { result ≡ map.len self.now.articles }
+        ensures len { result ≡ map.len self.now.articles }
+        ensures line_counts { HasLineCounts self.now }
     {
         self.articles.len() as u64
     }

@@ -3,6 +3,7 @@ ghost use Rattle.std.specs.Prelude.{◌≡◌};
 ghost use Rattle.std.specs.FinMap.{len};
 ghost use Rattle.nntp_article.specs.Spool.{IsSpool};
 ghost use Rattle.nntp_spool.specs.Counts.{numbers_in};
+ghost use Rattle.nntp_spool.specs.Text.{IsWritten};
 ghost use Rattle.nntp_article.specs.Limit.{profile_31_bits};
 
 use crate::value::content::Content;
@@ -63,6 +64,7 @@ impl<A: Allocator> Spool<A> {
         ensures numbers { result.numbers ≡ numbers_in self.now }
         ensures articles { result.articles ≡ len self.now.articles }
         ensures is_spool { IsSpool profile_31_bits self.now }
+        ensures is_written { IsWritten profile_31_bits self.now }
     {
         Counts {
             groups: self.content.count_groups(),
