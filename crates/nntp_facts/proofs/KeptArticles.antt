@@ -48,7 +48,7 @@ new_elsewhere articles id q a e = by (is_some (get articles id))
     by true = refl
     by false = get_elsewhere articles id q a e
 
-pub new_there : (articles : FinMap (slice_cmp nat_cmp) KeptArticle) (id : Id) (a : KeptArticle) → get (with_new articles id a) id ≡ Some (unwrap_or (get articles id) a)
+new_there : (articles : FinMap (slice_cmp nat_cmp) KeptArticle) (id : Id) (a : KeptArticle) → get (with_new articles id a) id ≡ Some (unwrap_or (get articles id) a)
 new_there articles id a = by (get articles id) refl
   where
     by : (o : Option KeptArticle) → get articles id ≡ o → get (cond (is_some o) articles (insert articles id a)) id ≡ Some (unwrap_or o a)
@@ -269,11 +269,11 @@ may_send_unknown facts articles what id lines kept unknown =
 
 -- what is sent is kept
 pub sends : (facts : List Fact) (old new : FinMap (slice_cmp nat_cmp) KeptArticle) (what : What) (id : Id) (lines : Option (List Line)) (head body : Option (List Line)) (a b : KeptArticle)
-    → a ≡ unwrap_or (get old id) unsent → head ≡ head_sent what lines → body ≡ body_sent what lines → (a.is_denied ≡ false → b ≡ with_sent a head body) → new ≡ insert (with_new old id unsent) id b
+    → a ≡ unwrap_or (get old id) unsent → head ≡ head_sent what lines → body ≡ body_sent what lines → (a.is_denied ≡ false → b ≡ with_sent a head body) → new ≡ insert old id b
     → AreKeptArticles facts old → JoinArticles facts (TextIs what id lines ∷ []) → AreKeptArticles (facts ++ TextIs what id lines ∷ []) new
 sends facts old new what id lines head body a b was heads bodies becomes is kept joins =
     still_kept facts fact old new kept
-    (λ q e. ap (λ m. get m q) is ∙ get_elsewhere (with_new old id unsent) id q b e ∙ new_elsewhere old id q unsent e)
+    (λ q e. ap (λ m. get m q) is ∙ get_elsewhere old id q b e)
     (λ q t. subst (λ q. Says (facts ++ fact ∷ []) q (get new q)) (same_text id q (sym t)) here)
   where
     fact : Fact
@@ -302,7 +302,7 @@ sends facts old new what id lines head body a b was heads bodies becomes is kept
     here : Says (facts ++ fact ∷ []) id (get new id)
     here =
         let then : b ≡ with_sent a head body = becomes (ap (λ a. a.is_denied) was ∙ unmet (get old id) free) in
-        let there : get new id ≡ Some (with_sent a head body) = ap (λ m. get m id) is ∙ get_there (with_new old id unsent) id b ∙ ap Some then in
+        let there : get new id ≡ Some (with_sent a head body) = ap (λ m. get m id) is ∙ get_there old id b ∙ ap Some then in
         subst (Says (facts ++ fact ∷ []) id) (sym there) (subst (λ a. Says (facts ++ fact ∷ []) id (Some (with_sent a head body))) (sym was) (by (get old id) (says facts old id kept) free))
 
 -- ---- the ids that have articles

@@ -119,8 +119,16 @@ impl<A: Allocator + Copy> Articles<A> {
         ensures { OnOk result (self.new ≡ with_new self.old id.now (known_value new)) }
     {
         if !self.mentions(id) {
-            self.known.insert(Vec::from_slice(self.alloc, id)?, new)?;
+            self.put(id, new)?;
         }
+        Ok(())
+    }
+
+    /// Adds an id, or puts what is known of it in the place of what was.
+    fn put(&mut self, id: &[u8], new: Known<A>) -> Result<(), AllocError>
+        ensures { OnOk result (self.new ≡ map.insert self.old id.now (known_value new)) }
+    {
+        self.known.insert(Vec::from_slice(self.alloc, id)?, new)?;
         Ok(())
     }
 
@@ -134,11 +142,12 @@ impl<A: Allocator + Copy> Articles<A> {
         ensures { OnOk result ((facts : List Fact) → AreKeptArticles facts self.old → IsTrue (head_fits what id.now block.now)
             → JoinArticles facts (TextIs what id.now block.now ∷ []) → AreKeptArticles (facts ++ TextIs what id.now block.now ∷ []) self.new) }
     {
-        self.stand(id)?;
+        let sent = Sent::of(what, block);
         if let Some(known) = self.known.get_mut(id) {
-            known.send(self.alloc, &Sent::of(what, block))?;
+            return known.send(self.alloc, &sent);
         }
-        Ok(())
+        let known = Known::of_sent(self.alloc, &sent)?;
+        self.put(id, known)
     }
 
     /// Adds that the id has an article. After an error the articles say nothing of use.

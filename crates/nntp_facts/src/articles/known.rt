@@ -1,9 +1,9 @@
 //! What is known of one message-id.
-ghost use Rattle.std.specs.Prelude.{◌≡◌, ◌↔◌, false, IsTrue, OnOk, option_map};
+ghost use Rattle.std.specs.Prelude.{◌≡◌, ◌↔◌, false, IsTrue, IfOk, OnOk, option_map};
 ghost use Rattle.std.specs.Option.{option_or};
 ghost use Rattle.nntp_article.specs.Article.{Id};
 ghost use Rattle.nntp_article.specs.Machine.{head_fits};
-ghost use Rattle.nntp_facts.specs.Articles.{head_sent, body_sent, AreSame, MayBeSent, with_sent};
+ghost use Rattle.nntp_facts.specs.Articles.{head_sent, body_sent, AreSame, MayBeSent, unsent, with_sent};
 ghost use Rattle.nntp_facts.specs.ArticleView.{lines_held, seen_value, known_value};
 
 use nntp_article::Parts;
@@ -137,6 +137,19 @@ impl<A: Allocator> Known<A> {
 }
 
 impl<A: Allocator + Copy> Known<A> {
+    /// Of an article of which a success sends this first.
+    pub(crate) fn of_sent(alloc: A, sent: &Sent<'_>) -> Result<Known<A>, AllocError>
+        ensures { IfOk result (λ known. known_value known ≡ with_sent unsent sent.now.head sent.now.body) }
+    {
+        let mut seen = Seen {
+            is_sent: false,
+            head: None,
+            body: None,
+        };
+        seen.send(alloc, sent)?;
+        Ok(Known::There(seen))
+    }
+
     /// Holds what a success sends, where there is an article.
     pub(crate) fn send(&mut self, alloc: A, sent: &Sent<'_>) -> Result<(), AllocError>
         ensures { OnOk result ((known_value self.old).is_denied ≡ false → known_value self.new ≡ with_sent (known_value self.old) sent.now.head sent.now.body) }
