@@ -37,14 +37,15 @@ impl Position {
     {
         match (prompt, answer) {
             (_, Answer::Group { .. } | Answer::Numbers { .. }) => Position::First,
-            (Prompt::To(Command::Next | Command::Last), Answer::Sent { number, .. }) => Position::Known(
-                *number,
-            ),
+            (Prompt::To(Command::Next | Command::Last), Answer::Sent { number, .. }) =>
+                Position::Known(*number),
             (
-                Prompt::To(Command::Retrieve {
-                    which: Which::Number(_) | Which::Current,
-                    ..
-                }),
+                Prompt::To(
+                    Command::Retrieve {
+                        which: Which::Number(_) | Which::Current,
+                        ..
+                    },
+                ),
                 Answer::Sent { number, .. },
             ) => Position::Known(*number),
             _ => self,

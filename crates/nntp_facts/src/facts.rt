@@ -44,7 +44,8 @@ impl<A: Allocator> Model for Facts<A> {
 }
 
 impl<A: Allocator + Copy> Facts<A> {
-    /// Of no exchanges. Article numbers have 31 bits (RFC 3977, section 6).
+    /// The facts of no exchanges. Article numbers have 31 bits (RFC 3977, section 6). It takes no memory
+    /// yet.
     pub fn new(alloc: A) -> Facts<A>
         ensures stands { Stands result [] }
         ensures profile { result.profile ≡ profile_31_bits }
@@ -60,7 +61,11 @@ impl<A: Allocator + Copy> Facts<A> {
         }
     }
 
-    /// Accepts the exchange, if some spool permits it together with those that were accepted before.
+    /// Accepts the exchange, if some spool permits it together with those that were accepted before. If
+    /// none does, the facts stay as they were. The exchange has to be the next one: its index is the number
+    /// of those that were accepted, and none of them closed the connection. For k numbers that it lists, and
+    /// n of its group that are kept, it takes time in the order of (k + 1) log n; for LIST ACTIVE in the
+    /// order of the lines and of the groups that are shown.
     ///
     /// # Errors
     ///
@@ -113,7 +118,7 @@ impl<A: Allocator> Facts<A> {
         self.kept.groups()
     }
 
-    /// The group with so many before it, if there are more.
+    /// The group with so many before it, if there are more. It goes through those before.
     pub fn group(&self, index: usize) -> Option<SeenGroup<'_, A>>
         ensures { (past : List Paired) → Stands self.now past → (groups : List ShownGroup) × AreShownGroups (said_by past) groups × (result ≡ slice_get groups index) }
     {
@@ -127,7 +132,7 @@ impl<A: Allocator> Facts<A> {
         self.kept.articles()
     }
 
-    /// The article with so many before it, if there are more.
+    /// The article with so many before it, if there are more. It goes through those before.
     pub fn article(&self, index: usize) -> Option<SeenArticle<'_, A>>
         ensures { (past : List Paired) → Stands self.now past → (articles : List ShownArticle) × AreShownArticles (said_by past) articles × (result ≡ slice_get articles index) }
     {

@@ -172,8 +172,7 @@ impl<A: Allocator + Copy> Kept<A> {
         ensures { OnOk result ((facts : List Fact) → IsKept facts self.old → is_shown_group facts name.now ≡ true → IsTrue (head_fits what id.now block.now)
             → Join facts (facts_placed name.now what id.now block.now at number) → IsKept (facts ++ facts_placed name.now what id.now block.now at number) self.new) }
     {
-        self.groups
-            .place(name, &placing(at, number), number, id)?;
+        self.groups.place(name, &placing(at, number), number, id)?;
         self.articles.send(what, id, block)
     }
 }

@@ -14,8 +14,7 @@ ghost use Rattle.nntp_facts.specs.SayingView.{facts_said, IsSelectedShown, MaySa
 
 use crate::ask::{Ask, Position};
 use nntp_wire::{
-    Answer, Block, Command, GroupName, MessageId, Prompt, Range, WaterMarks, What, Which,
-    Wildmat,
+    Answer, Block, Command, GroupName, MessageId, Prompt, Range, WaterMarks, What, Which, Wildmat,
 };
 use std::alloc::{AllocError, Allocator};
 
