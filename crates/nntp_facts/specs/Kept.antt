@@ -46,6 +46,10 @@ pub record IsKeptGroup (t : Told) (g : KeptGroup) : Type 0 where
   pub ids : (n : ℕ) → get g.ids n ≡ t.ids n
   pub places : (id : Id) → get g.places id ≡ t.places id
 
+-- what is told of a number and of an id agrees: if this id is at the number, this number is that of the id
+abbrev pub Agree : ℕ → Id → Option Id → Option ℕ → Type 0
+Agree n id at place = at ≡ Some id → place ≡ Some n
+
 -- nothing is told of the group
 pub record IsUntold (t : Told) : Type 0 where
   pub not_shown : t.is_shown ≡ false

@@ -7,6 +7,7 @@ ghost use Rattle.nntp_facts.specs.Given.{IsOneMore};
 ghost use Rattle.nntp_facts.specs.Together.{AsksStand};
 ghost use Rattle.nntp_facts.specs.Summary.{said, Says, IsSummary, Stands};
 ghost use Rattle.nntp_facts.specs.Listing.{AreListable};
+ghost use Rattle.nntp_facts.specs.Kept.{Agree};
 ghost use Rattle.nntp_facts.specs.Readers.{unseen_in};
 ghost use Rattle.nntp_facts.specs.ListingView.{asks_listed};
 
@@ -91,10 +92,15 @@ impl<A: Allocator + Copy> Group<A> {
         Ok(())
     }
 
-    /// Adds that the number has the id. After an error the value says nothing of use.
+    /// Adds that the number has the id, if no other id is shown at it. After an error the value says
+    /// nothing of use.
     pub(crate) fn identify(&mut self, alloc: A, number: u64, id: &[u8]) -> Result<(), AllocError>
-        ensures { OnOk result (self.new ≡ record self.old { ids = insert self.old.ids number id.now; places = insert self.old.places id.now number }) }
+        ensures { OnOk result (Agree number id.now (get self.old.ids number) (get self.old.places id.now) → IfSome (get self.old.ids number) (λ other. id.now ≡ other)
+            → self.new ≡ record self.old { ids = insert self.old.ids number id.now; places = insert self.old.places id.now number }) }
     {
+        if self.id(number).is_some() {
+            return Ok(());
+        }
         self.ids.insert(number, Vec::from_slice(alloc, id)?)?;
         self.places.insert(Vec::from_slice(alloc, id)?, number)?;
         Ok(())
@@ -120,9 +126,13 @@ impl<A: Allocator> Group<A> {
 
     /// Whether the number may have the id: no other id is shown at it, and the id at no other number.
     pub(crate) fn may_have_id(&self, number: u64, id: &[u8]) -> bool
-        ensures { IsTrue result ↔ (IfSome (get self.now.ids number) (λ other. id.now ≡ other) × IfSome (get self.now.places id.now) (λ other. number ≡ other)) }
+        ensures { Agree number id.now (get self.now.ids number) (get self.now.places id.now)
+            → IsTrue result ↔ (IfSome (get self.now.ids number) (λ other. id.now ≡ other) × IfSome (get self.now.places id.now) (λ other. number ≡ other)) }
     {
-        self.has_no_other_id(number, id) && self.has_no_other_place(number, id)
+        match self.id(number) {
+            Some(other) => other == id,
+            None => self.has_no_other_place(number, id),
+        }
     }
 
     /// The number that is shown nowhere, and has to be there.
@@ -155,16 +165,6 @@ impl<A: Allocator> Group<A> {
         ensures { result ≡ get self.now.places id.now }
     {
         self.places.get(id).copied()
-    }
-
-    /// Whether no other id is shown at the number.
-    fn has_no_other_id(&self, number: u64, id: &[u8]) -> bool
-        ensures { IsTrue result ↔ IfSome (get self.now.ids number) (λ other. id.now ≡ other) }
-    {
-        match self.id(number) {
-            Some(other) => other == id,
-            None => true,
-        }
     }
 
     /// Whether the id is shown at no other number.

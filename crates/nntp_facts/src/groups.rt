@@ -8,7 +8,7 @@ ghost use Rattle.nntp_facts.specs.Together.{AsksStand};
 ghost use Rattle.nntp_facts.specs.Summary.{said, Says};
 ghost use Rattle.nntp_facts.specs.Listing.{AreListable};
 ghost use Rattle.nntp_facts.specs.ListingView.{asks_listed};
-ghost use Rattle.nntp_facts.specs.Kept.{Told, AreKept, with_asks, with_id, Changes};
+ghost use Rattle.nntp_facts.specs.Kept.{Told, AreKept, Agree, with_asks, with_id, Changes};
 ghost use Rattle.nntp_facts.specs.Readers.{shown_groups};
 
 mod listed;
@@ -76,6 +76,7 @@ impl<A: Allocator + Copy> Groups<A> {
         id: &[u8],
     ) -> Result<(), AllocError>
         ensures { OnOk result ((before after : Name → Told) (asks : List asks_said.Ask) → AreKept before self.old → (before name.now).is_shown ≡ true → Says (said part.now) asks
+            → Agree number id.now ((before name.now).ids number) ((before name.now).places id.now)
             → IfSome ((before name.now).ids number) (λ other. id.now ≡ other) → IfSome ((before name.now).places id.now) (λ other. number ≡ other)
             → Changes before after name.now (with_id (before name.now) asks number id.now) → AreKept after self.new) }
     {
@@ -200,7 +201,7 @@ impl<A: Allocator> Groups<A> {
 
     /// Whether the number of a group that is shown may have the id.
     pub(crate) fn may_have_id(&self, name: &[u8], number: u64, id: &[u8]) -> bool
-        ensures { (tells : Name → Told) → AreKept tells self.now → (tells name.now).is_shown ≡ true
+        ensures { (tells : Name → Told) → AreKept tells self.now → (tells name.now).is_shown ≡ true → Agree number id.now ((tells name.now).ids number) ((tells name.now).places id.now)
             → IsTrue result ↔ (IfSome ((tells name.now).ids number) (λ other. id.now ≡ other) × IfSome ((tells name.now).places id.now) (λ other. number ≡ other)) }
     {
         match self.get(name) {

@@ -6,6 +6,7 @@ use Rattle.nntp_facts.proofs.KeptAdds.{names_kept, placing_changes, placing_same
 use Rattle.nntp_facts.proofs.OkResults.{on_ok}
 use Rattle.nntp_facts.proofs.Shapes.{placing_ids, placing_names, placing_articles}
 use Rattle.nntp_facts.proofs.OneGroup.{id_joins}
+use Rattle.nntp_facts.proofs.OnePlace.{agree_alone}
 use Rattle.nntp_facts.proofs.kept.Kept.send_at.Goals as goal
 
 pub returns : goal.returns
@@ -22,7 +23,7 @@ returns g c =
     let ids = (id_joins facts more here n id (placing_ids here what id lines at n)).0 j.ids in
     let articles = (placing_articles here facts what id lines at n).0 j.articles in
     record {
-      groups = c.in_ok-place.ensures (told facts) (told (facts ++ more)) (asks_placed at n) inside.groups shown c.placing.ensures ids.0 ids.1 (placing_changes facts here what id lines at n shown);
+      groups = c.in_ok-place.ensures (told facts) (told (facts ++ more)) (asks_placed at n) inside.groups shown c.placing.ensures (agree_alone facts here n id ids.1) ids.0 ids.1 (placing_changes facts here what id lines at n shown);
       names = names_kept facts more c.self.inside.names (λ name. (placing_names here what id lines at n).denied name) inside.names;
       articles = kept_alike facts (TextIs what id lines ∷ []) more _ (placing_same facts here what id lines at n) (sent facts inside.articles fits articles);
     }) c.send.ensures

@@ -1,0 +1,85 @@
+-- An id that is shown at a number has this number.
+use Rattle.std.proofs.Common.{◌≡◌, ℕ, Bool, true, false, ◌&&◌, ◌==◌, cond, IsTrue, List, Option, None, Some, is_some, refl, sym, ap, subst, ◌∙◌}
+use Rattle.std.specs.Prelude.{◌↔◌}
+use Rattle.std.specs.FinMap.{get, insert, nat_cmp-IsAntisymmetric, slice_cmp-IsAntisymmetric}
+use Rattle.std.specs.Cmp.{nat_cmp_total}
+use Rattle.std.specs.Cmp.Lexicographic.{same_text, nat_list_cmp_total}
+use Rattle.std.proofs.lemmas.Bool.{eqb-true}
+use Rattle.nntp_wire.proofs.ShownMaps.{insert-same}
+use Rattle.nntp_article.specs.Article.{Id}
+use Rattle.nntp_article.specs.Spool.{Name}
+use Rattle.nntp_article.specs.Machine.{is_same}
+use Rattle.nntp_facts.specs.Facts.{Fact, IdAt}
+use Rattle.nntp_facts.specs.Given.{first_given, id_in}
+use Rattle.nntp_facts.specs.Together.{number_in, GiveOne}
+use Rattle.nntp_facts.specs.Kept.{KeptGroup, Told, IsKeptGroup, Agree}
+use Rattle.nntp_facts.proofs.Members.{first_found, first_there}
+use Rattle.nntp_facts.proofs.GivenHolds.{one_given}
+use Rattle.nntp_facts.proofs.OneGroup.{IsOr, same_self}
+
+-- ---- of facts
+
+-- a fact that gives the id at the number gives the number of the id
+placed_by : (name : Name) (n : ℕ) (id : Id) (fact : Fact) → id_in name n fact ≡ Some id → number_in name id fact ≡ Some n
+placed_by name n id (IdAt g m other) e = by (is_same g name) (m == n) refl e
+  where
+    by : (a b : Bool) → (m == n) ≡ b → cond (a && b) (Some other) None ≡ Some id → cond (a && is_same other id) (Some m) None ≡ Some n
+    by true true is e =
+        let same : other ≡ id = cc in
+        let own : is_same other id ≡ true = subst (λ x. is_same other x ≡ true) same (same_self other) in
+        ap (λ b. cond b (Some m) None) own ∙ ap Some (eqb-true m n is)
+    by true false is e = cc
+    by false b is e = cc
+placed_by name n id fact e = cc
+
+-- facts that stand together agree
+pub agree_together : (facts : List Fact) (name : Name) (n : ℕ) (id : Id) → GiveOne (number_in name id) facts → Agree n id (first_given (id_in name n) facts) (first_given (number_in name id) facts)
+agree_together facts name n id one e =
+    let f = first_found (id_in name n) facts id e in
+    one_given (number_in name id) facts one f.0 f.1 n (placed_by name n id f.0 f.2)
+
+-- and so do those that give the id no other number
+pub agree_alone : (facts : List Fact) (name : Name) (n : ℕ) (id : Id) → IsOr (first_given (number_in name id) facts) n → Agree n id (first_given (id_in name n) facts) (first_given (number_in name id) facts)
+agree_alone facts name n id was e =
+    let f = first_found (id_in name n) facts id e in
+    let g = first_there (number_in name id) facts f.0 n f.1 (placed_by name n id f.0 f.2) in
+    g.1 ∙ ap Some (sym (subst (λ o. IsOr o n) g.1 was))
+
+-- ---- of what is kept
+
+-- what is kept agrees where what is told does
+pub agree_kept : (t : Told) (g h : KeptGroup) (n : ℕ) (id : Id) → IsKeptGroup t g → h.ids ≡ g.ids → h.places ≡ g.places → Agree n id (t.ids n) (t.places id) → Agree n id (get h.ids n) (get h.places id)
+agree_kept t g h n id was ids places agree e = ap (λ m. get m id) places ∙ was.places id ∙ agree (sym (ap (λ m. get m n) ids ∙ was.ids n) ∙ e)
+
+-- and has what was told at the number
+pub given_kept : (t : Told) (g h : KeptGroup) (n : ℕ) (id : Id) → IsKeptGroup t g → h.ids ≡ g.ids → IsOr (t.ids n) id → IsOr (get h.ids n) id
+given_kept t g h n id was ids given = subst (λ o. IsOr o id) (sym (ap (λ m. get m n) ids ∙ was.ids n)) given
+
+-- the id that is shown at a number is this one exactly if neither has another
+pub shown_there : (n : ℕ) (id other : Id) (at : Option Id) (place : Option ℕ) (b : Bool) → Some other ≡ at → b ≡ is_same other id → Agree n id at place → IsTrue b ↔ (IsOr at id × IsOr place n)
+shown_there n id other at place b is same agree = (
+  λ t.
+      let here : at ≡ Some id = sym is ∙ ap Some (same_text other id (sym t ∙ same)) in
+      (subst (λ o. IsOr o id) (sym here) refl, subst (λ o. IsOr o n) (sym (agree here)) refl),
+  λ h. same ∙ ap (λ x. is_same other x) (subst (λ o. IsOr o id) (sym is) h.0) ∙ same_self other,
+)
+
+-- where none is shown, it is the number of the id that tells
+pub none_there : (n : ℕ) (id : Id) (at : Option Id) (place : Option ℕ) (b : Bool) → None ≡ at → IsTrue b ↔ IsOr place n → IsTrue b ↔ (IsOr at id × IsOr place n)
+none_there n id at place b is test = (λ t. (subst (λ o. IsOr o id) is tt, test.0 t), λ h. test.1 h.1)
+
+-- to add an id that is shown at the number changes nothing
+pub known_again : (g : KeptGroup) (n : ℕ) (id : Id) → is_some (get g.ids n) ≡ true → Agree n id (get g.ids n) (get g.places id) → IsOr (get g.ids n) id
+    → g ≡ record { numbers = g.numbers; ids = insert g.ids n id; places = insert g.places id n }
+known_again g n id there agree was = λ i. record {
+  numbers = g.numbers;
+  ids = sym (insert-same nat_cmp_total nat_cmp-IsAntisymmetric g.ids n id here) i;
+  places = sym (insert-same nat_list_cmp_total (slice_cmp-IsAntisymmetric nat_cmp-IsAntisymmetric) g.places id n (agree here)) i;
+}
+  where
+    by : (o : Option Id) → is_some o ≡ true → IsOr o id → o ≡ Some id
+    by None t was = cc
+    by (Some x) t was = ap Some (sym was)
+
+    here : get g.ids n ≡ Some id
+    here = by (get g.ids n) there was
