@@ -1,15 +1,12 @@
 //! The groups of LIST ACTIVE (RFC 3977, section 7.6.3).
 ghost use Rattle.std.specs.Prelude.{◌≡◌, ◌==◌, ◌&&◌, ◌||◌, ◌+◌, nat_le, true, IfOk};
 ghost use Rattle.std.specs.List.{list_all};
-ghost use Rattle.std.specs.Option.{option_map_or};
-ghost use Rattle.nntp_wire.specs.Decided.{matches_name};
 ghost use Rattle.nntp_wire.specs.Listing.{active_groups};
 ghost use Rattle.nntp_wire.specs.View.{active_value};
 ghost use Rattle.nntp_article.specs.Machine.{active_fits, names_differ};
 
 use crate::profile::Profile;
-use nntp_wire::laws::matching_is_decided;
-use nntp_wire::{ActiveLine, Block, GroupName, Wildmat};
+use nntp_wire::{ActiveLine, Block, Wildmat, matches_if_given};
 use std::alloc::{AllocError, Allocator};
 use std::collections::BTreeSet;
 
@@ -20,22 +17,11 @@ fn are_marks(profile: Profile, low: u64, high: u64) -> bool
     (low == 0 && high == 0) || (low >= 1 && low - 1 <= high && high <= profile.limit)
 }
 
-/// Whether the name matches the wildmat, if there is one.
-fn matches(wildmat: &Option<Wildmat<'_>>, name: &GroupName<'_>) -> bool
-    ensures { result ≡ option_map_or (λ w. matches_name w name.now) wildmat.now true }
-{
-    matching_is_decided();
-    match wildmat {
-        Some(wildmat) => wildmat.matches(name),
-        None => true,
-    }
-}
-
 /// Whether a listed group fits the command.
 fn fits_group(profile: Profile, wildmat: &Option<Wildmat<'_>>, group: &ActiveLine<'_>) -> bool
     ensures { result ≡ active_fits profile wildmat.now (active_value group.now) }
 {
-    are_marks(profile, group.low, group.high) && matches(wildmat, &group.name)
+    are_marks(profile, group.low, group.high) && matches_if_given(wildmat, &group.name)
 }
 
 /// Whether each listed group fits the command.

@@ -1,9 +1,7 @@
 //! The groups that LIST ACTIVE lists, beside those that are kept (RFC 3977, section 7.6.3).
 ghost use Rattle.std.specs.Prelude.{◌≡◌, ℕ, ◌↔◌, ◌++◌, ◌∷◌, [], true, List, Option, IsTrue, IfOk, OnOk};
 ghost use Rattle.std.specs.List.{list_any};
-ghost use Rattle.std.specs.Option.{option_map_or};
 ghost use Rattle.std.specs.BTreeMap.{keys};
-ghost use Rattle.nntp_wire.specs.Decided.{matches_name};
 ghost use Rattle.nntp_wire.specs.Listing.{active_groups};
 ghost use Rattle.nntp_article.specs.Spool.{Name};
 ghost use Rattle.nntp_article.specs.Machine.{is_same};
@@ -14,8 +12,8 @@ ghost use Rattle.nntp_facts.specs.ListedGroups.{is_listed, is_missing, NoneIsMis
 
 use crate::group::Group;
 use crate::groups::Groups;
-use nntp_wire::laws::{group_names_are_decided, matching_is_decided};
-use nntp_wire::{Block, GroupName, Wildmat};
+use nntp_wire::laws::group_names_are_decided;
+use nntp_wire::{Block, GroupName, Wildmat, matches_if_given};
 use std::alloc::{AllocError, Allocator};
 use std::collections::{BTreeMap, BTreeSet};
 
@@ -86,7 +84,7 @@ fn is_missing<A: Allocator>(
 {
     group_names_are_decided();
     match GroupName::parse(name) {
-        Some(group) => matches(wildmat, &group) && !is_one_of(listed, name),
+        Some(group) => matches_if_given(wildmat, &group) && !is_one_of(listed, name),
         None => false,
     }
 }
@@ -96,15 +94,4 @@ fn is_one_of<A: Allocator>(names: &BTreeSet<&[u8], A>, name: &[u8]) -> bool
     ensures { result ≡ list_any (λ k. is_same k.now name.now) names.now.keys }
 {
     names.contains(name)
-}
-
-/// Whether the name matches the wildmat, if there is one.
-fn matches(wildmat: &Option<Wildmat<'_>>, name: &GroupName<'_>) -> bool
-    ensures { result ≡ option_map_or (λ w. matches_name w name.now) wildmat.now true }
-{
-    matching_is_decided();
-    match wildmat {
-        Some(wildmat) => wildmat.matches(name),
-        None => true,
-    }
 }

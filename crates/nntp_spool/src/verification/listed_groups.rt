@@ -1,11 +1,8 @@
 //! Whether the groups that LIST ACTIVE lists are those of a spool (RFC 3977, section 7.6.3).
-ghost use Rattle.std.specs.Prelude.{◌≡◌, ℕ, ◌≤◌, ◌↔◌, true, length, IsTrue, IfSome};
+ghost use Rattle.std.specs.Prelude.{◌≡◌, ℕ, ◌≤◌, ◌↔◌, true, length, IsTrue};
 ghost use Rattle.std.specs.List.{count_by, AllByRecursion};
-ghost use Rattle.std.specs.Option.{option_map_or};
 ghost use Rattle.std.specs.FinMap as map;
 ghost use Rattle.nntp_wire.specs.Name.{IsGroupName};
-ghost use Rattle.nntp_wire.specs.Wildmat.{MatchesName};
-ghost use Rattle.nntp_wire.specs.Decided.{matches_name};
 ghost use Rattle.nntp_wire.specs.Listing.{active_groups};
 ghost use Rattle.nntp_wire.specs.View.{active_value};
 ghost use Rattle.nntp_article.specs.Spool.{Name, IsGroup, IsNumber, numbers as numbers_of};
@@ -14,20 +11,8 @@ ghost use Rattle.nntp_spool.specs.ListedGroups.{LineAgrees, is_asked};
 
 use crate::value::content::Content;
 use nntp_wire::laws::{group_names_are_decided, matching_is_decided};
-use nntp_wire::{ActiveLine, Block, GroupName, Wildmat};
+use nntp_wire::{ActiveLine, Block, GroupName, Wildmat, matches_if_given};
 use std::alloc::Allocator;
-
-/// Whether the name matches the wildmat, if there is one.
-fn matches(wildmat: &Option<Wildmat<'_>>, name: &GroupName<'_>) -> bool
-    ensures test { result ≡ option_map_or (λ w. matches_name w name.now) wildmat.now true }
-    ensures fact { IsTrue result ↔ IfSome wildmat.now (λ w. MatchesName w name.now) }
-{
-    matching_is_decided();
-    match wildmat {
-        Some(wildmat) => wildmat.matches(name),
-        None => true,
-    }
-}
 
 /// Whether a listed group is one of the spool, matches, and has its numbers between the marks.
 fn agrees_line<A: Allocator>(
@@ -37,7 +22,7 @@ fn agrees_line<A: Allocator>(
 ) -> bool
     ensures { IsTrue result ↔ LineAgrees spool.now wildmat.now (active_value group.now) }
 {
-    matches(wildmat, &group.name)
+    matches_if_given(wildmat, &group.name)
         && agrees_bounds(spool, group.name.as_slice(), group.low, group.high)
 }
 
@@ -73,7 +58,7 @@ fn is_asked(wildmat: &Option<Wildmat<'_>>, name: &[u8]) -> bool
 {
     group_names_are_decided();
     match GroupName::parse(name) {
-        Some(name) => matches(wildmat, &name),
+        Some(name) => matches_if_given(wildmat, &name),
         None => false,
     }
 }
