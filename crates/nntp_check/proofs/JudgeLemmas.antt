@@ -44,7 +44,6 @@ pub record Passed (client server : List ℕ) (facts : FactsKept) (left : Unpaire
   pub before : AreNext (streams client server) pairs left
   pub count : answers ≡ length pairs
   pub stands : Stands facts pairs
-  pub profile : facts.profile ≡ profile_31_bits
 
 -- the next exchange is due
 pub is-due : (client server : List ℕ) (facts : FactsKept) (left behind : Unpaired) (answers : ℕ) (x : Paired) → Passed client server facts left answers → IsNext left x behind → IsDue facts x
@@ -64,7 +63,6 @@ one-more client server old new left behind answers x noted p next notes good k a
       before = AreNext-push p.pairs (streams client server) left behind x p.before next;
       count = ap (λ n. n + 1) (at ∙ next.index ∙ index-counts client server p.pairs left p.before) ∙ sym (length_push p.pairs x);
       stands = h.1;
-      profile = h.2 ∙ p.profile;
     }
     by kinds.OutOfPlace none h = cc
     by kinds.Contradiction none h = cc
@@ -136,10 +134,10 @@ exchange-right client server old new left behind answers x noted class p next no
     place = at ∙ next.index ∙ index-counts client server p.pairs left p.before
 
     permitted : SomePermits profile_31_bits (asked_of p.pairs) (responses_of p.pairs)
-    permitted = subst (λ profile. SomePermits profile (asked_of p.pairs) (responses_of p.pairs)) p.profile p.stands.permitted
+    permitted = subst (λ profile. SomePermits profile (asked_of p.pairs) (responses_of p.pairs)) p.stands.profile p.stands.permitted
 
     fitting : fits old.profile old.visible (asked_at x.line) x.response ≡ fits profile_31_bits (visible_left p.pairs) (asked_at x.line) x.response
-    fitting i = fits (p.profile i) (p.stands.visible i) (asked_at x.line) x.response
+    fitting i = fits (p.stands.profile i) (p.stands.visible i) (asked_at x.line) x.response
 
     by : (noted : Noted) → Some class ≡ class_noted noted → IsNoted p.pairs x old new noted → IsHeadline profile_31_bits client server (No (length p.pairs) class)
     by kinds.Consistent judged h = cc
@@ -150,7 +148,7 @@ exchange-right client server old new left behind answers x noted class p next no
     by kinds.Contradiction judged h =
         let same : class_by (fits profile_31_bits (visible_left p.pairs) (asked_at x.line) x.response) ≡ class = ap class_by (sym fitting ∙ h.0) ∙ (let c : Contradiction ≡ class = cc in c) in
         subst (λ c. IsHeadline profile_31_bits client server (No (length p.pairs) c)) same
-        (headline_at_response profile_31_bits client server p.pairs x left behind p.before next permitted (λ q. h.1 (subst (λ profile. SomePermits profile (asked_of (p.pairs ++ x ∷ [])) (responses_of (p.pairs ++ x ∷ []))) (sym p.profile) q)))
+        (headline_at_response profile_31_bits client server p.pairs x left behind p.before next permitted (λ q. h.1 (subst (λ profile. SomePermits profile (asked_of (p.pairs ++ x ∷ [])) (responses_of (p.pairs ++ x ∷ []))) (sym p.stands.profile) q)))
 
 -- octets that answer nothing are bad, of their class
 pub octets-right : (client server : List ℕ) (facts : FactsKept) (left : Unpaired) (answers : ℕ) (class : PairClass) → Passed client server facts left answers → Ends left (pair_end class)
@@ -159,12 +157,12 @@ octets-right client server facts left answers class p ends k at of is =
     let place : length p.pairs ≡ k = sym (at ∙ index-counts client server p.pairs left p.before) in
     subst (λ (x : ℕ × Class). IsHeadline profile_31_bits client server (No x.0 x.1)) (λ i. (place i, sym is i))
     (headline_at_octets profile_31_bits client server p.pairs class (record { left = left; paired = p.before; ends = ends })
-    (subst (λ profile. SomePermits profile (asked_of p.pairs) (responses_of p.pairs)) p.profile p.stands.permitted))
+    (subst (λ profile. SomePermits profile (asked_of p.pairs) (responses_of p.pairs)) p.stands.profile p.stands.permitted))
 
 -- where no octet is left, some spool explains the streams
 pub end-right : (client server : List ℕ) (facts : FactsKept) (left : Unpaired) (answers unanswered : ℕ) → Passed client server facts left answers → Ends left (end unanswered) → (S : Spool) × Explains profile_31_bits S client server answers
 end-right client server facts left answers unanswered p ends =
-    let permitted = subst (λ profile. SomePermits profile (asked_of p.pairs) (responses_of p.pairs)) p.profile p.stands.permitted in
+    let permitted = subst (λ profile. SomePermits profile (asked_of p.pairs) (responses_of p.pairs)) p.stands.profile p.stands.permitted in
     let q = (pairs_permitted profile_31_bits client server p.pairs left p.before).1 permitted in
     (q.0, subst (Explains profile_31_bits q.0 client server) (sym p.count) (explained_end profile_31_bits q.0 client server p.pairs unanswered (record { left = left; paired = p.before; ends = ends }) q.1 q.2))
 

@@ -222,6 +222,7 @@ pub accepted : {A : Type 0} (facts old new : FactsKept) (past : List Paired) (pa
 accepted facts old new past pair saying name is w s moves named adds h = (
   subst (λ (f : FactsKept). ArePermitted f.profile (past ++ pair ∷ [])) is h,
   record {
+    profile = moves.profile ∙ s.profile;
     is_whole = moves.has_failed ∙ s.is_whole;
     count = omega (arith, moves.count, w.due.index, s.count, length-append past (pair ∷ []));
     visible = moves.visible ∙ ap (λ v. visible_after v (asked_at pair.line) pair.response) s.visible ∙ sym (ap (λ q. visible_from start.visible q.0 q.1) (ends past pair) ∙ visible_next (asked_of past) (responses_of past) (asked_at pair.line) pair.response (as_many past));
@@ -230,5 +231,4 @@ accepted facts old new past pair saying name is w s moves named adds h = (
     permitted = subst (λ profile. ArePermitted profile (past ++ pair ∷ [])) (sym moves.profile) h;
     lines = all_both (λ pair. lines_in pair.response < 2 ^ 64) past (pair ∷ []) s.lines (w.few, tt);
   },
-  moves.profile ∙ ap (λ (f : FactsKept). f.profile) is,
 )

@@ -3,6 +3,7 @@ use Rattle.std.specs.Prelude.{◌≡◌, ℕ, ◌<◌, ◌^◌, Bool, false, tru
 use Rattle.std.specs.List.{AllByRecursion}
 use Rattle.nntp_article.specs.declared.profile.Profile.{Profile}
 use Rattle.nntp_article.specs.Machine.{Visible, start, fits}
+use Rattle.nntp_article.specs.Limit.{profile_31_bits}
 use Rattle.nntp_pair.specs.Pairing.{Paired, asked_at, asked_of, responses_of, lines_in}
 use Rattle.nntp_facts.specs.Asks.{Position, Nowhere}
 use Rattle.nntp_facts.specs.Facts.{Fact}
@@ -28,8 +29,9 @@ pub record FactsKept : Type 0 where
 abbrev pub said_by : List Paired → List Fact
 said_by past = facts_of_session (asked_of past) (responses_of past)
 
--- the facts are those of these exchanges, which some spool permits
+-- the facts are those of these exchanges, which some spool of numbers of 31 bits permits (RFC 3977, section 6)
 pub record Stands (facts : FactsKept) (past : List Paired) : Type 0 where
+  pub profile : facts.profile ≡ profile_31_bits
   pub is_whole : facts.has_failed ≡ false
   pub count : facts.count ≡ length past
   pub visible : facts.visible ≡ visible_from start.visible (asked_of past) (responses_of past)
@@ -49,7 +51,7 @@ ArePermitted profile pairs = SomePermits profile (asked_of pairs) (responses_of 
 
 -- what was said of one more exchange is so: some spool permits it behind those before, and it is added; it doesn't fit the visible state; or it fits, and no spool permits it behind them; and where it isn't added, the facts are as before
 abbrev pub IsNoted : List Paired → Paired → FactsKept → FactsKept → Noted → Type 0
-IsNoted past pair old new Consistent = ArePermitted old.profile (past ++ pair ∷ []) × Stands new (past ++ pair ∷ []) × (new.profile ≡ old.profile)
+IsNoted past pair old new Consistent = ArePermitted old.profile (past ++ pair ∷ []) × Stands new (past ++ pair ∷ [])
 IsNoted past pair old new OutOfPlace = IsFalse (fits old.profile old.visible (asked_at pair.line) pair.response) × (new ≡ old)
 IsNoted past pair old new Contradiction = IsTrue (fits old.profile old.visible (asked_at pair.line) pair.response) × (ArePermitted old.profile (past ++ pair ∷ []) → ⊥) × (new ≡ old)
 

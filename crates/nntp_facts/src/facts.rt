@@ -1,6 +1,5 @@
 //! What the accepted exchanges of a session say of the spool.
 ghost use Rattle.std.specs.Prelude.{◌≡◌, true, false, List, [], IfOk, Err, slice_get};
-ghost use Rattle.nntp_article.specs.Limit.{profile_31_bits};
 ghost use Rattle.nntp_pair.specs.Pairing.{Paired};
 ghost use Rattle.nntp_facts.specs.Given.{is_mentioned};
 ghost use Rattle.nntp_facts.specs.Noted.{Stands, IsDue, IsNoted, Notes, said_by};
@@ -47,8 +46,7 @@ impl<A: Allocator + Copy> Facts<A> {
     /// The facts of no exchanges. Article numbers have 31 bits (RFC 3977, section 6). It takes no memory
     /// yet.
     pub fn new(alloc: A) -> Facts<A>
-        ensures stands { Stands result [] }
-        ensures profile { result.profile ≡ profile_31_bits }
+        ensures { Stands result [] }
     {
         Facts {
             alloc,

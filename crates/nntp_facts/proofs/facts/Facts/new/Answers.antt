@@ -3,8 +3,9 @@ use Rattle.nntp_article.specs.Limit.{profile_31_bits}
 use Rattle.nntp_facts.proofs.FirstBad.{none_permitted}
 use Rattle.nntp_facts.proofs.facts.Facts.new.Goals as goal
 
-pub returns-clause-stands : goal.returns-clause-stands
-returns-clause-stands g c = record {
+pub returns : goal.returns
+returns g c = record {
+  profile = refl;
   is_whole = refl;
   count = refl;
   visible = c.new.ensures;
