@@ -1,0 +1,95 @@
+-- How far the given spool is made: the groups, the numbers and the articles that are left.
+use Rattle.std.specs.Prelude.{◌≡◌, ◌≢◌, ℕ, ◌<◌, ◌^◌, ◌==◌, ◌⊎◌, nat_lt, false, if◌then◌else◌, IsTrue, IsFalse, List, [], ◌∷◌, ◌++◌, map, Option, None, Some, is_some, IsSome, unwrap_or, Result, Ok, Err}
+use Rattle.std.specs.List.{AllByRecursion, flat_map, list_any}
+use Rattle.std.specs.List.Sorted.{IsStrictlySortedBy}
+use Rattle.std.specs.Ordering.{nat_cmp}
+use Rattle.std.specs.Cmp.Lexicographic.{slice_cmp}
+use Rattle.std.specs.FinMap.{get}
+use Rattle.nntp_article.specs.Article.{Id}
+use Rattle.nntp_article.specs.Machine.{is_same}
+use Rattle.nntp_article.specs.Spool.{Spool, Name, Numbers, Text, IsGroup, IsNumber, numbers}
+use Rattle.nntp_facts.specs.Facts.{Fact}
+use Rattle.nntp_facts.specs.Given.{id_shown, is_mentioned, plain_head, invented, AreInvented}
+use Rattle.nntp_facts.specs.Readers.{ShownGroup, ShownArticle, HasShownNumbers, IsShownArticle}
+use Rattle.nntp_facts.specs.Together.{shows_article}
+use Rattle.nntp_spool.specs.Building.{Building}
+use Rattle.nntp_spool.specs.declared.value.spool_fault.SpoolFault.{SpoolFault}
+use Rattle.nntp_spool.specs.declared.value.spool_fault.SpoolFault.TheVariants.{Memory}
+
+-- the outcome of making something: it is so, or memory was refused
+abbrev pub Makes : {A : Type 0} → Result A SpoolFault → (A → Type 0) → Type 0
+Makes (Ok made) P = P made
+Makes (Err fault) P = fault ≡ Memory
+
+-- ---- what is to be made
+
+-- the numbers, and in its place the one more, for which no id is shown
+abbrev pub with_unseen : Option ℕ → List (ℕ × Option Id) → List (ℕ × Option Id)
+with_unseen None es = es
+with_unseen (Some n) [] = (n, None) ∷ []
+with_unseen (Some n) (e ∷ es) = if nat_lt n e.0 then (n, None) ∷ e ∷ es else e ∷ with_unseen (Some n) es
+
+-- the numbers that are given of a group, ascending
+abbrev pub given_numbers : ShownGroup → List (ℕ × Option Id)
+given_numbers g = with_unseen g.unseen g.numbers
+
+-- the ids of those of the numbers for which none is shown
+abbrev pub unshown_at : Numbers → List (ℕ × Option Id) → List Id
+unshown_at N [] = []
+unshown_at N (e ∷ es) = (if is_some e.1 then [] else unwrap_or (get N e.0) [] ∷ []) ++ unshown_at N es
+
+-- the same of groups
+abbrev pub unshown_of : Spool → List ShownGroup → List Id
+unshown_of G groups = flat_map (λ g. unshown_at (numbers G g.name) (given_numbers g)) groups
+
+-- the article that is given where this is shown of it
+abbrev pub given_text : ShownArticle → Text
+given_text a = record { head = unwrap_or a.head (plain_head a.id); body = unwrap_or a.body [] }
+
+-- ---- what is made
+
+-- what is made is part of the spool, and has an article for each id that it has at a number for which none is shown
+pub record IsPart (facts : List Fact) (G made : Spool) : Type 0 where
+  pub groups : (name : Name) → IsGroup made name → IsGroup G name
+  pub numbers : (name : Name) (n : ℕ) (id : Id) → get (numbers made name) n ≡ Some id → get (numbers G name) n ≡ Some id
+  pub articles : (id : Id) (t : Text) → get made.articles id ≡ Some t → get G.articles id ≡ Some t
+  pub unshown : (name : Name) (n : ℕ) (id : Id) → get (numbers made name) n ≡ Some id → id_shown facts name n ≡ None → IsSome (get made.articles id)
+
+-- a part of the spool is made, by a builder that hasn't failed, and its articles are those of ids that were invented with numbers below `next`
+pub record IsBegun (facts : List Fact) (G : Spool) (builder : Building) (next : ℕ) : Type 0 where
+  pub is_whole : builder.failed ≡ false
+  pub part : IsPart facts G builder.spool
+  pub invented_before : (id : Id) → IsSome (get builder.spool.articles id) → (k : ℕ) × (k < next) × (id ≡ invented k) × IsFalse (is_mentioned facts id)
+  pub small : next < 2 ^ 64
+
+-- these groups are left: nothing of them is made, and the others are whole
+pub record GroupsLeft (facts : List Fact) (G : Spool) (left : List ShownGroup) (builder : Building) (next : ℕ) : Type 0 where
+  pub begun : IsBegun facts G builder next
+  pub to_invent : AreInvented facts next (unshown_of G left)
+  pub shown : AllByRecursion (HasShownNumbers facts) left
+  pub ascending : IsStrictlySortedBy (slice_cmp nat_cmp) (map (λ g. g.name) left)
+  pub of_spool : AllByRecursion (λ g. IsGroup G g.name) left
+  pub not_made : AllByRecursion (λ g. get builder.spool.groups g.name ≡ None) left
+  pub others : (name : Name) → IsTrue (list_any (λ g. is_same g.name name) left) ⊎ (get builder.spool.groups name ≡ get G.groups name)
+
+-- these numbers of a group are left, each with its id, where one is shown, and then these ids are to be invented; the other groups are as they were
+pub record NumbersLeft (facts : List Fact) (G before : Spool) (name : Name) (behind : List Id) (left : List (ℕ × Option Id)) (builder : Building) (next : ℕ) : Type 0 where
+  pub begun : IsBegun facts G builder next
+  pub to_invent : AreInvented facts next (unshown_at (numbers G name) left ++ behind)
+  pub is_group : IsGroup builder.spool name
+  pub ascending : IsStrictlySortedBy nat_cmp (map (λ e. e.0) left)
+  pub of_group : AllByRecursion (λ e. IsNumber (numbers G name) e.0 × (e.1 ≡ id_shown facts name e.0)) left
+  pub not_made : AllByRecursion (λ e. get (numbers builder.spool name) e.0 ≡ None) left
+  pub others : (n : ℕ) → IsNumber (numbers G name) n → IsTrue (list_any (λ e. e.0 == n) left) ⊎ IsNumber (numbers builder.spool name) n
+  pub other_groups : (other : Name) → other ≢ name → get builder.spool.groups other ≡ get before.groups other
+
+-- all groups are made, and these articles are left of those that are shown
+pub record ArticlesLeft (facts : List Fact) (G : Spool) (left : List ShownArticle) (builder : Building) : Type 0 where
+  pub is_whole : builder.failed ≡ false
+  pub part : IsPart facts G builder.spool
+  pub groups : builder.spool.groups ≡ G.groups
+  pub shown : AllByRecursion (IsShownArticle facts) left
+  pub ascending : IsStrictlySortedBy (slice_cmp nat_cmp) (map (λ a. a.id) left)
+  pub of_spool : AllByRecursion (λ a. IsSome (get G.articles a.id)) left
+  pub not_made : AllByRecursion (λ a. get builder.spool.articles a.id ≡ None) left
+  pub others : (id : Id) → IsTrue (list_any (shows_article id) facts) → IsTrue (list_any (λ a. is_same a.id id) left) ⊎ IsSome (get builder.spool.articles id)

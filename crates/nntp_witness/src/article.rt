@@ -1,0 +1,67 @@
+//! Articles of which less is shown than they have.
+ghost use Rattle.std.specs.Prelude.{◌≡◌, [], IfOk, unwrap_or, option_map};
+ghost use Rattle.nntp_wire.specs.Held.{held};
+ghost use Rattle.nntp_facts.specs.Given.{plain_head};
+ghost use Rattle.nntp_spool.specs.ArticleLines.{text_of_article};
+ghost use Rattle.nntp_witness.specs.Making.{given_text};
+
+use nntp_facts::SeenArticle;
+use nntp_spool::Article;
+use std::alloc::{AllocError, Allocator};
+
+/// The article as it was sent. A head that wasn't sent says the message-id, and a body that wasn't has
+/// no lines.
+pub(crate) fn given_article<A: Allocator + Copy>(
+    alloc: A,
+    seen: &SeenArticle<'_, A>,
+) -> Result<Article<A>, AllocError>
+    ensures { IfOk result (λ article. text_of_article article ≡ given_text seen.now) }
+{
+    let head = match seen.head() {
+        Some(lines) => copied(alloc, lines)?,
+        None => plain_head(alloc, seen.id())?,
+    };
+    let body = match seen.body() {
+        Some(lines) => copied(alloc, lines)?,
+        None => Vec::new(alloc),
+    };
+    Ok(Article { head, body })
+}
+
+/// An article of which nothing was sent.
+pub(crate) fn plain_article<A: Allocator + Copy>(
+    alloc: A,
+    id: &[u8],
+) -> Result<Article<A>, AllocError>
+    ensures { IfOk result (λ article. text_of_article article ≡ record { head = plain_head id.now; body = [] }) }
+{
+    Ok(Article {
+        head: plain_head(alloc, id)?,
+        body: Vec::new(alloc),
+    })
+}
+
+/// A head that says the id and nothing else.
+fn plain_head<A: Allocator + Copy>(alloc: A, id: &[u8]) -> Result<Vec<Vec<u8, A>, A>, AllocError>
+    ensures { IfOk result (λ head. held head.items ≡ plain_head id.now) }
+{
+    let mut line = Vec::from_slice(alloc, b"Message-ID: ")?;
+    line.extend_from_slice(id)?;
+    let mut head = Vec::new(alloc);
+    head.push(line)?;
+    Ok(head)
+}
+
+/// The lines, copied.
+fn copied<A: Allocator + Copy>(
+    alloc: A,
+    lines: &[Vec<u8, A>],
+) -> Result<Vec<Vec<u8, A>, A>, AllocError>
+    ensures { IfOk result (λ copies. held copies.items ≡ held lines.now) }
+{
+    let mut copies = Vec::new(alloc);
+    for line in lines {
+        copies.push(Vec::from_slice(alloc, line)?)?;
+    }
+    Ok(copies)
+}

@@ -1,0 +1,39 @@
+//! The spool that is given for the accepted exchanges of a session.
+ghost use Rattle.std.specs.Prelude.{List, IfOk};
+ghost use Rattle.nntp_pair.specs.Pairing.{Paired};
+ghost use Rattle.nntp_facts.specs.Noted.{Stands};
+ghost use Rattle.nntp_witness.specs.Witness.{StandForSome, IsWitness};
+ghost use Rattle.nntp_witness.specs.Making.{Makes};
+
+use crate::maker::SpoolMaker;
+use nntp_facts::Facts;
+use nntp_spool::{Spool, SpoolFault};
+use std::alloc::{AllocError, Allocator};
+
+/// The spool that is given for the exchanges that were accepted: the groups, numbers and articles that
+/// every spool has that permits them, in each group one number more where one is needed, and message-ids
+/// of the form `<wK@invented.invalid>` where none is shown. It permits the exchanges. The facts must not
+/// have failed. It takes time in the order of what the facts hold, but for logarithms.
+///
+/// # Errors
+///
+/// Where memory was refused.
+pub fn witness<A: Allocator + Copy>(alloc: A, facts: &Facts<A>) -> Result<Spool<A>, AllocError>
+    requires { StandForSome facts.now }
+    ensures { IfOk result (λ spool. (past : List Paired) → Stands facts.now past → IsWitness past spool) }
+{
+    match make(alloc, facts) {
+        Ok(spool) => Ok(spool),
+        Err(SpoolFault::Memory) => Err(AllocError),
+        Err(_) => unreachable!(),
+    }
+}
+
+/// The same. No fault of the builder comes but want of memory.
+fn make<A: Allocator + Copy>(alloc: A, facts: &Facts<A>) -> Result<Spool<A>, SpoolFault>
+    ensures { (past : List Paired) → Stands facts.now past → Makes result (λ spool. IsWitness past spool) }
+{
+    let mut maker = SpoolMaker::of_groups(alloc, facts)?;
+    maker.add_articles(facts)?;
+    maker.finish()
+}

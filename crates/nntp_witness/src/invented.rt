@@ -1,0 +1,48 @@
+//! Message-ids that are invented.
+ghost use Rattle.std.specs.Prelude.{◌≡◌, ◌<◌, ◌^◌, ℕ, List, IfOk};
+ghost use Rattle.nntp_pair.specs.Pairing.{Paired};
+ghost use Rattle.nntp_facts.specs.Given.{invented, is_mentioned, IsFirstFree};
+ghost use Rattle.nntp_facts.specs.Noted.{Stands, said_by};
+
+use itoa::Buffer;
+use nntp_facts::Facts;
+use std::alloc::{AllocError, Allocator};
+
+/// A message-id that is invented.
+#[derive(Drop)]
+pub(crate) struct Invented<A: Allocator> {
+    /// The number that it has in it.
+    pub(crate) number: u64,
+    pub(crate) id: Vec<u8, A>,
+}
+
+/// The first id, of those that are invented with numbers from `from` on, that no answer mentions. Ids
+/// with all numbers of 64 bits find no room in memory.
+pub(crate) fn invent<A: Allocator + Copy>(
+    alloc: A,
+    facts: &Facts<A>,
+    from: u64,
+) -> Result<Invented<A>, AllocError>
+    ensures is { IfOk result (λ i. i.id.items ≡ invented i.number) }
+    ensures small { IfOk result (λ i. i.number < 2 ^ 64 - 1) }
+    ensures first { IfOk result (λ i. (past : List Paired) → Stands facts.now past → IsFirstFree (λ k. is_mentioned (said_by past) (invented k)) from i.number) }
+{
+    for number in from..u64::MAX {
+        let id = made_id(alloc, number)?;
+        if !facts.mentions(&id) {
+            return Ok(Invented { number, id });
+        }
+    }
+    Err(AllocError)
+}
+
+/// The id that is invented with the number.
+fn made_id<A: Allocator + Copy>(alloc: A, number: u64) -> Result<Vec<u8, A>, AllocError>
+    ensures { IfOk result (λ id. id.items ≡ invented number) }
+{
+    let mut buffer = Buffer::new();
+    let mut id = Vec::from_slice(alloc, b"<w")?;
+    id.extend_from_slice(buffer.format(number).as_bytes())?;
+    id.extend_from_slice(b"@invented.invalid>")?;
+    Ok(id)
+}

@@ -1,0 +1,135 @@
+//! The given spool as far as it is made.
+ghost use Rattle.std.specs.Prelude.{◌≡◌, ℕ, List, [], ◌∷◌, Option};
+ghost use Rattle.std.specs.Option.{option_copied};
+ghost use Rattle.nntp_article.specs.Article.{Id};
+ghost use Rattle.nntp_article.specs.Spool.{Spool};
+ghost use Rattle.nntp_pair.specs.Pairing.{Paired};
+ghost use Rattle.nntp_facts.specs.Noted.{Stands, said_by};
+ghost use Rattle.nntp_facts.specs.Readers.{ShownGroup, ShownArticle};
+ghost use Rattle.nntp_witness.specs.Witness.{IsWitness};
+ghost use Rattle.nntp_witness.specs.Making.{Makes, with_unseen, GroupsLeft, NumbersLeft, ArticlesLeft};
+
+use crate::article::{given_article, plain_article};
+use crate::invented::invent;
+use nntp_facts::{Facts, SeenArticle, SeenGroup, SeenNumbers};
+use nntp_spool::{Spool, SpoolBuilder, SpoolFault};
+use std::alloc::Allocator;
+
+/// The given spool as far as it is made.
+#[derive(Drop)]
+pub(crate) struct SpoolMaker<A: Allocator> {
+    alloc: A,
+    builder: SpoolBuilder<A>,
+    /// The least number that an id may be invented with.
+    next: u64,
+}
+
+impl<A: Allocator + Copy> SpoolMaker<A> {
+    /// With the groups that are shown, and articles of ids that are invented.
+    pub(crate) fn of_groups(alloc: A, facts: &Facts<A>) -> Result<SpoolMaker<A>, SpoolFault>
+        ensures { (past : List Paired) (G : Spool) → Stands facts.now past → IsWitness past G → Makes result (λ maker. GroupsLeft (said_by past) G [] maker.builder maker.next) }
+    {
+        let mut maker = SpoolMaker {
+            alloc,
+            builder: SpoolBuilder::new(alloc),
+            next: 0,
+        };
+        let mut groups = facts.groups();
+        while let Some(group) = groups.next() {
+            maker.add_group(facts, &group)?;
+        }
+        Ok(maker)
+    }
+
+    /// Adds a group with its numbers.
+    fn add_group(&mut self, facts: &Facts<A>, group: &SeenGroup<'_, A>) -> Result<(), SpoolFault>
+        ensures { (past : List Paired) (G : Spool) (left : List ShownGroup) → Stands facts.now past → IsWitness past G → GroupsLeft (said_by past) G (group.now ∷ left) self.old.builder self.old.next
+            → Makes result (λ _. GroupsLeft (said_by past) G left self.new.builder self.new.next) }
+    {
+        self.builder.group(group.name())?;
+        self.add_numbers(facts, group.name(), group.numbers(), group.unseen())
+    }
+
+    /// Adds the numbers that are shown, and in its place the one more, if one is needed.
+    fn add_numbers(
+        &mut self,
+        facts: &Facts<A>,
+        name: &[u8],
+        mut numbers: SeenNumbers<'_, A>,
+        mut unseen: Option<u64>,
+    ) -> Result<(), SpoolFault>
+        ensures { (past : List Paired) (G before : Spool) (behind : List Id) → Stands facts.now past → IsWitness past G
+            → NumbersLeft (said_by past) G before name.now behind (with_unseen unseen.entry numbers.entry) self.old.builder self.old.next
+            → Makes result (λ _. NumbersLeft (said_by past) G before name.now behind [] self.new.builder self.new.next) }
+    {
+        while let Some(seen) = numbers.next() {
+            if let Some(number) = unseen
+                && number < seen.number
+            {
+                self.add_number(facts, name, number, None)?;
+                unseen = None;
+            }
+            self.add_number(facts, name, seen.number, seen.id)?;
+        }
+        match unseen {
+            Some(number) => self.add_number(facts, name, number, None),
+            None => Ok(()),
+        }
+    }
+
+    /// Adds a number with its id; where none is shown, with one that is invented, and the article of that.
+    fn add_number(
+        &mut self,
+        facts: &Facts<A>,
+        name: &[u8],
+        number: u64,
+        id: Option<&[u8]>,
+    ) -> Result<(), SpoolFault>
+        ensures { (past : List Paired) (G before : Spool) (behind : List Id) (left : List (ℕ × Option Id)) → Stands facts.now past → IsWitness past G
+            → NumbersLeft (said_by past) G before name.now behind ((number, option_copied id) ∷ left) self.old.builder self.old.next
+            → Makes result (λ _. NumbersLeft (said_by past) G before name.now behind left self.new.builder self.new.next) }
+    {
+        if let Some(id) = id {
+            return self.builder.number(name, number, id);
+        }
+        let Ok(invented) = invent(self.alloc, facts, self.next) else {
+            return Err(SpoolFault::Memory);
+        };
+        self.next = invented.number + 1;
+        self.builder.number(name, number, &invented.id)?;
+        let Ok(article) = plain_article(self.alloc, &invented.id) else {
+            return Err(SpoolFault::Memory);
+        };
+        self.builder.article(&invented.id, article)
+    }
+
+    /// Adds the articles that are shown.
+    pub(crate) fn add_articles(&mut self, facts: &Facts<A>) -> Result<(), SpoolFault>
+        ensures { (past : List Paired) (G : Spool) → Stands facts.now past → IsWitness past G → GroupsLeft (said_by past) G [] self.old.builder self.old.next
+            → Makes result (λ _. ArticlesLeft (said_by past) G [] self.new.builder) }
+    {
+        let mut articles = facts.articles();
+        while let Some(article) = articles.next() {
+            self.add_article(&article)?;
+        }
+        Ok(())
+    }
+
+    /// Adds an article that is shown.
+    fn add_article(&mut self, seen: &SeenArticle<'_, A>) -> Result<(), SpoolFault>
+        ensures { (past : List Paired) (G : Spool) (left : List ShownArticle) → IsWitness past G → ArticlesLeft (said_by past) G (seen.now ∷ left) self.old.builder
+            → Makes result (λ _. ArticlesLeft (said_by past) G left self.new.builder) }
+    {
+        let Ok(article) = given_article(self.alloc, seen) else {
+            return Err(SpoolFault::Memory);
+        };
+        self.builder.article(seen.id(), article)
+    }
+
+    /// The spool that is made.
+    pub(crate) fn finish(self) -> Result<Spool<A>, SpoolFault>
+        ensures { (past : List Paired) (G : Spool) → IsWitness past G → ArticlesLeft (said_by past) G [] self.builder → Makes result (λ spool. spool ≡ G) }
+    {
+        self.builder.finish()
+    }
+}
