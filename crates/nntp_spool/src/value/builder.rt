@@ -1,11 +1,12 @@
 //! A spool, built call by call.
-ghost use Rattle.std.specs.Prelude.{◌≡◌, false};
+ghost use Rattle.std.specs.Prelude.{◌≡◌, false, IfOk};
 ghost use Rattle.std.specs.FinMap as map;
 ghost use Rattle.nntp_article.specs.Spool.{numbers as numbers_of};
 ghost use Rattle.nntp_article.specs.Limit.{profile_31_bits};
 ghost use Rattle.nntp_spool.specs.Building.{Builds, group_fault, number_fault, article_fault, finished};
 ghost use Rattle.nntp_spool.specs.Content.{with_group, with_article, no_spool};
 ghost use Rattle.nntp_spool.specs.ArticleLines.{text_of_article};
+ghost use Rattle.nntp_spool.specs.Text.{IsWritten};
 
 use crate::value::Spool;
 use crate::value::article::Article;
@@ -175,7 +176,8 @@ impl<A: Allocator + Copy> SpoolBuilder<A> {
 
     /// The spool that was built, where each id of a number has an article.
     pub fn finish(self) -> Result<Spool<A>, SpoolFault>
-        ensures { result ≡ finished self }
+        ensures value { result ≡ finished self }
+        ensures is_written { IfOk result (λ spool. IsWritten profile_31_bits spool) }
     {
         if self.failed {
             return Err(SpoolFault::Failed);

@@ -173,7 +173,8 @@ impl<A: Allocator> Content<A> {
 
     /// Whether each id of a number has an article.
     pub(crate) fn has_articles(&self) -> bool
-        ensures { result ≡ ids_have_articles self.now }
+        ensures value { result ≡ ids_have_articles self.now }
+        ensures line_counts { HasLineCounts self.now }
     {
         self.groups
             .iter()
