@@ -1,5 +1,5 @@
 -- How a judgement goes through the exchanges of two streams.
-use Rattle.std.proofs.Common.{◌≡◌, ◌≢◌, ◌∙◌, sym, subst, refl, ℕ, ◌+◌, List, [], ◌∷◌, ◌++◌, Option, None, Some, MatchOption, Result, Ok, Err, IfOk, length, ap, inr}
+use Rattle.std.proofs.Common.{◌≡◌, ◌≢◌, ◌∙◌, sym, subst, refl, ℕ, ◌+◌, List, [], ◌∷◌, ◌++◌, Option, None, Some, MatchOption, Result, Ok, Err, IfOk, ◌<◌, ◌^◌, length, ap, inr, arith}
 use Rattle.std.specs.Option.{option_map}
 use Rattle.std.proofs.lemmas.List.{length_push, append_assoc}
 use Rattle.nntp_wire.specs.Octets.{crlf}
@@ -18,14 +18,19 @@ use Rattle.nntp_facts.specs.declared.class.Class.TheVariants.{OutOfPlace, Contra
 use Rattle.nntp_facts.specs.declared.noted.Noted.{Noted}
 use Rattle.nntp_facts.specs.declared.noted.Noted.TheVariants as kinds
 use Rattle.nntp_facts.specs.Classes.{class_of, class_by, visible_from}
-use Rattle.nntp_facts.specs.Headline.{No, IsHeadline}
+use Rattle.nntp_facts.specs.Headline.{Yes, No, IsHeadline}
 use Rattle.nntp_facts.specs.Noted.{FactsKept, Stands, IsDue, IsNoted}
 use Rattle.nntp_facts.specs.Permits.{SomePermits}
-use Rattle.nntp_facts.proofs.Grow.{pairs_permitted}
-use Rattle.nntp_facts.proofs.Headlines.{headline_at_octets, headline_at_response, headline_at_unfitting}
-use Rattle.nntp_facts.proofs.PairedBad.{explained_end}
+use Rattle.nntp_facts.proofs.Headlines.{same_answers, headline_at_end, headline_at_octets, headline_at_response, headline_at_unfitting}
+use Rattle.nntp_spool.specs.Text.{IsWritten}
+use Rattle.nntp_spool.specs.Verifying.{IsVerified}
+use Rattle.nntp_spool.specs.declared.verification.verified.Verified.{Verified}
+use Rattle.nntp_spool.specs.declared.verification.verified.Verified.TheVariants.{Permits, Refuses}
+use Rattle.nntp_spool.proofs.PermittedPairs.{explained-unrefused}
+use Rattle.nntp_spool.proofs.WholeSpools.{written_is_read}
+use Rattle.nntp_witness.specs.Witness.{IsWitness}
 use Rattle.nntp_check.specs.declared.verdict.Verdict.{Verdict}
-use Rattle.nntp_check.specs.Judging.{IsFirstLine, StopsAt, IsPlaced, IsRight, HasNext, SuitsClass, shown, pair_class_of, class_noted}
+use Rattle.nntp_check.specs.Judging.{IsFirstLine, StopsAt, IsYes, IsVerdict, HasNext, SuitsClass, shown, pair_class_of, class_noted}
 use Rattle.nntp_check.specs.Verdict.{bad, verdict_shown}
 
 -- the visible state that the exchanges leave
@@ -124,6 +129,11 @@ at-octets client server facts left answers class p ends k at of of-is line line-
 
 -- ---- what a verdict says
 
+-- `verify` answers of a spool that explains both streams that it permits as many answers
+only-permits : (S : Spool) (client server : List ℕ) (n : ℕ) → Explains profile_31_bits S client server n → (verified : Verified) → IsVerified profile_31_bits S client server verified → verified ≡ Permits n
+only-permits S client server n x (Permits m) y = ap Permits (sym y.count ∙ ap length (same_answers profile_31_bits S S client server m n y x) ∙ x.count)
+only-permits S client server n x (Refuses k) r = absurd (explained-unrefused profile_31_bits S x.is_spool client server n k x r)
+
 -- an exchange that isn't accepted is bad, of its class
 pub exchange-right : (client server : List ℕ) (old new : FactsKept) (left behind : Unpaired) (answers : ℕ) (x : Paired) (noted : Noted) (class : Class) → Passed client server old left answers → IsNext left x behind
     → ((past : List Paired) → Stands old past → IsNoted past x old new noted) → Some class ≡ class_noted noted → (k : ℕ) → k ≡ x.index → IsHeadline profile_31_bits client server (No k class)
@@ -159,21 +169,23 @@ octets-right client server facts left answers class p ends k at of is =
     (headline_at_octets profile_31_bits client server p.pairs class (record { left = left; paired = p.before; ends = ends })
     (subst (λ profile. SomePermits profile (asked_of p.pairs) (responses_of p.pairs)) p.stands.profile p.stands.permitted))
 
--- where no octet is left, some spool explains the streams
-pub end-right : (client server : List ℕ) (facts : FactsKept) (left : Unpaired) (answers unanswered : ℕ) → Passed client server facts left answers → Ends left (end unanswered) → (S : Spool) × Explains profile_31_bits S client server answers
-end-right client server facts left answers unanswered p ends =
+-- where no octet is left, and the spool is a witness of the exchanges that passed, it is a yes
+pub at-end : (client server : List ℕ) (facts : FactsKept) (left : Unpaired) (answers unanswered : ℕ) (S : Spool) → length server < 2 ^ 210 → (p : Passed client server facts left answers) → Ends left (end unanswered)
+    → IsWitness p.pairs S → IsWritten profile_31_bits S → IsYes client server S answers
+at-end client server facts left answers unanswered S small p ends witness written =
+    let pairing = record { left = left; paired = p.before; ends = ends } in
     let permitted = subst (λ profile. SomePermits profile (asked_of p.pairs) (responses_of p.pairs)) p.stands.profile p.stands.permitted in
-    let q = (pairs_permitted profile_31_bits client server p.pairs left p.before).1 permitted in
-    (q.0, subst (Explains profile_31_bits q.0 client server) (sym p.count) (explained_end profile_31_bits q.0 client server p.pairs unanswered (record { left = left; paired = p.before; ends = ends }) q.1 q.2))
+    let headline = subst (λ n. IsHeadline profile_31_bits client server (Yes S n)) (sym p.count) (headline_at_end profile_31_bits client server p.pairs unanswered S small pairing permitted witness.given) in
+    record {
+      headline = headline;
+      throughout = record { pairs = p.pairs; unanswered = unanswered; pairing = pairing; count = p.count };
+      read_back = written_is_read profile_31_bits S (omega arith) written;
+      permits = only-permits S client server answers headline.explains;
+    }
 
--- a verdict that shows such an answer stands there
-pub placed : {A E : Type 0} (r : Result (Verdict A) E) (client server : List ℕ) (k : ℕ) (class : Class) (command : Option (List ℕ)) (reply : List ℕ)
-    → StopsAt client server k class command reply → IfOk r (λ v. verdict_shown v ≡ bad k class command reply) → IfOk r (λ v. IsPlaced client server (verdict_shown v))
-placed (Ok v) client server k class command reply is ok = subst (IsPlaced client server) (sym ok) is
-placed (Err e) client server k class command reply is ok = ok
-
--- and is right
-pub right : {A E : Type 0} (r : Result (Verdict A) E) (client server : List ℕ) (k : ℕ) (class : Class) (command : Option (List ℕ)) (reply : List ℕ)
-    → IsHeadline profile_31_bits client server (No k class) → IfOk r (λ v. verdict_shown v ≡ bad k class command reply) → IfOk r (λ v. IsRight client server (verdict_shown v))
-right (Ok v) client server k class command reply is ok = subst (IsRight client server) (sym ok) is
-right (Err e) client server k class command reply is ok = ok
+-- a verdict that shows such an answer is the verdict of both streams
+pub refused : {A E : Type 0} (r : Result (Verdict A) E) (client server : List ℕ) (k : ℕ) (class : Class) (command : Option (List ℕ)) (reply : List ℕ)
+    → IsHeadline profile_31_bits client server (No k class) → StopsAt client server k class command reply
+    → IfOk r (λ v. verdict_shown v ≡ bad k class command reply) → IfOk r (λ v. IsVerdict client server (verdict_shown v))
+refused (Ok v) client server k class command reply headline place ok = subst (IsVerdict client server) (sym ok) (record { headline = headline; place = place })
+refused (Err e) client server k class command reply headline place ok = ok

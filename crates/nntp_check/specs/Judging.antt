@@ -1,5 +1,5 @@
--- Where a verdict on two streams stands: at the end of their pairing, or at the exchange or the octets that are bad (RFC 3977, section 3.5).
-use Rattle.std.specs.Prelude.{◌≡◌, ◌≢◌, ◌⊎◌, ℕ, List, [], ◌++◌, Option, None, Some, MatchOption, length, take}
+-- What a verdict on two streams says, and where it stands: at the end of their pairing, or at the exchange or the octets that are bad (RFC 3977, section 3.5).
+use Rattle.std.specs.Prelude.{◌≡◌, ◌≢◌, ◌⊎◌, ℕ, List, [], ◌++◌, Option, None, Some, MatchOption, Ok, length, take}
 use Rattle.std.specs.Option.{option_map}
 use Rattle.nntp_wire.specs.Octets.{crlf}
 use Rattle.nntp_wire.specs.Lines.{HasNoCrlf}
@@ -10,10 +10,14 @@ use Rattle.nntp_facts.specs.declared.class.Class.{Class}
 use Rattle.nntp_facts.specs.declared.class.Class.TheVariants.{Surplus, Cut, Malformed, OutOfPlace, Contradiction}
 use Rattle.nntp_facts.specs.declared.noted.Noted.{Noted}
 use Rattle.nntp_facts.specs.declared.noted.Noted.TheVariants as noted
-use Rattle.nntp_facts.specs.Headline.{No, IsHeadline}
+use Rattle.nntp_facts.specs.Headline.{Yes, No, IsHeadline}
 use Rattle.nntp_article.specs.Limit.{profile_31_bits}
 use Rattle.nntp_article.specs.Spool.{Spool}
-use Rattle.nntp_article.specs.Explains.{Explains}
+use Rattle.nntp_spool.specs.Reading.{spool_at}
+use Rattle.nntp_spool.specs.Text.{spool_text}
+use Rattle.nntp_spool.specs.Verifying.{IsVerified}
+use Rattle.nntp_spool.specs.declared.verification.verified.Verified.{Verified}
+use Rattle.nntp_spool.specs.declared.verification.verified.Verified.TheVariants.{Permits}
 use Rattle.nntp_check.specs.Verdict.{Judgement, consistent, bad}
 
 -- the octets up to the first CRLF, or all of them where there is none
@@ -66,12 +70,19 @@ pub record IsAnsweredThroughout (client server : List ℕ) (answers : ℕ) : Typ
   pub pairing : IsPairing client server pairs (end unanswered)
   pub count : answers ≡ length pairs
 
--- a verdict stands where the pairing of both streams says
-abbrev pub IsPlaced : List ℕ → List ℕ → Judgement → Type 0
-IsPlaced client server (consistent spool answers) = IsAnsweredThroughout client server answers
-IsPlaced client server (bad answer class command reply) = StopsAt client server answer class command reply
+-- a yes of both streams: the spool is their least explanation, of so many answers, at which their pairing ends; it is read back from its text; and `verify` answers nothing of it but that it permits them
+pub record IsYes (client server : List ℕ) (S : Spool) (answers : ℕ) : Type 0 where
+  pub headline : IsHeadline profile_31_bits client server (Yes S answers)
+  pub throughout : IsAnsweredThroughout client server answers
+  pub read_back : spool_at profile_31_bits (spool_text S) ≡ Ok S
+  pub permits : (verified : Verified) → IsVerified profile_31_bits S client server verified → verified ≡ Permits answers
 
--- what a verdict says of both streams is so: some spool explains them with so many answers; or the answer is the bad one, of its class
-abbrev pub IsRight : List ℕ → List ℕ → Judgement → Type 0
-IsRight client server (consistent spool answers) = (S : Spool) × Explains profile_31_bits S client server answers
-IsRight client server (bad answer class command reply) = IsHeadline profile_31_bits client server (No answer class)
+-- a no: the answer is the bad one, of its class, and the command and the reply are those at its place
+pub record IsNo (client server : List ℕ) (answer : ℕ) (class : Class) (command : Option (List ℕ)) (reply : List ℕ) : Type 0 where
+  pub headline : IsHeadline profile_31_bits client server (No answer class)
+  pub place : StopsAt client server answer class command reply
+
+-- what a verdict says of both streams is so
+abbrev pub IsVerdict : List ℕ → List ℕ → Judgement → Type 0
+IsVerdict client server (consistent S answers) = IsYes client server S answers
+IsVerdict client server (bad answer class command reply) = IsNo client server answer class command reply

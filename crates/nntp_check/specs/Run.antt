@@ -12,7 +12,7 @@ use Rattle.nntp_spool.specs.declared.text.read_fault.ReadFault.{ReadFault}
 use Rattle.nntp_spool.specs.declared.verification.verified.Verified.{Verified}
 use Rattle.nntp_spool.specs.declared.watched.Watched.{Watched}
 use Rattle.nntp_check.specs.Capture.{AreStreams, IsBadPiece}
-use Rattle.nntp_check.specs.Judging.{IsPlaced, IsRight}
+use Rattle.nntp_check.specs.Judging.{IsVerdict}
 use Rattle.nntp_check.specs.Report.{report_of, verified_report, is_permitted}
 use Rattle.nntp_check.specs.Verdict.{Judgement, is_consistent}
 use Rattle.nntp_check.specs.declared.run_fault.RunFault.{RunFault}
@@ -73,8 +73,7 @@ IsInputFault input faults.Write = ⊥
 -- the report of `check` on a client's and a server's octets, and its answer
 pub record CheckReports (client server spool text : List ℕ) (answer : Bool) : Type 0 where
   pub judgement : Judgement
-  pub placed : IsPlaced client server judgement
-  pub right : IsRight client server judgement
+  pub verdict : IsVerdict client server judgement
   pub text_is : text ≡ report_of judgement
   pub answer_is : answer ≡ is_consistent judgement
 

@@ -1,14 +1,14 @@
 //! The verdict on two streams.
 ghost use Rattle.std.specs.Prelude.{◌≡◌, IfOk};
 ghost use Rattle.std.specs.Option.{option_copied, option_map};
-ghost use Rattle.nntp_check.specs.Judging.{IsFirstLine, IsPlaced, IsRight, class_noted, shown};
+ghost use Rattle.nntp_check.specs.Judging.{IsFirstLine, IsVerdict, class_noted, shown};
 ghost use Rattle.nntp_check.specs.Verdict.{bad, verdict_shown};
 
-use crate::spool_maker::given_spool;
 use crate::verdict::Verdict;
 use nntp_facts::{Class, Facts, Noted};
 use nntp_pair::{Pairs, Step};
 use nntp_wire::split_first_line;
+use nntp_witness::witness;
 use std::alloc::{AllocError, Allocator};
 
 /// The most octets of a line that a verdict shows.
@@ -21,8 +21,7 @@ pub fn check<A: Allocator + Copy>(
     client: &[u8],
     server: &[u8],
 ) -> Result<Verdict<A>, AllocError>
-    ensures placed { IfOk result (λ verdict. IsPlaced client.now server.now (verdict_shown verdict)) }
-    ensures right { IfOk result (λ verdict. IsRight client.now server.now (verdict_shown verdict)) }
+    ensures { IfOk result (λ verdict. IsVerdict client.now server.now (verdict_shown verdict)) }
 {
     let mut facts = Facts::new(alloc);
     let mut pairs = Pairs::new(client, server);
@@ -50,7 +49,7 @@ pub fn check<A: Allocator + Copy>(
                 return bad(alloc, index, Class::from(class), ahead.line, reply);
             }
             Step::End { .. } => {
-                let spool = given_spool(alloc, &facts)?;
+                let spool = witness(alloc, &facts)?;
                 return Ok(Verdict::Consistent { spool, answers });
             }
         }

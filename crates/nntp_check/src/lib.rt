@@ -13,7 +13,6 @@ pub mod laws;
 mod report;
 mod run;
 mod run_fault;
-mod spool_maker;
 mod verdict;
 
 pub use command_line::{Failure, Task, job, status};

@@ -28,7 +28,7 @@ use Rattle.nntp_facts.proofs.PairedBad.{explained_end, bad_end, bad_answer, answ
 -- ---- one headline
 
 -- explanations of two streams have the same answers
-same_answers : (profile : Profile) (S T : Spool) (client server : List ℕ) (n m : ℕ) (x : Explains profile S client server n) (y : Explains profile T client server m) → x.answers ≡ y.answers
+pub same_answers : (profile : Profile) (S T : Spool) (client server : List ℕ) (n m : ℕ) (x : Explains profile S client server n) (y : Explains profile T client server m) → x.answers ≡ y.answers
 same_answers profile S T client server n m x y =
     let p = by_pairs profile S client server n [] x in
     let q = by_pairs profile T client server m [] y in

@@ -1,7 +1,9 @@
 //! The spool that is given for the accepted exchanges of a session.
 ghost use Rattle.std.specs.Prelude.{List, IfOk};
 ghost use Rattle.nntp_pair.specs.Pairing.{Paired};
+ghost use Rattle.nntp_article.specs.Limit.{profile_31_bits};
 ghost use Rattle.nntp_facts.specs.Noted.{Stands};
+ghost use Rattle.nntp_spool.specs.Text.{IsWritten};
 ghost use Rattle.nntp_witness.specs.Witness.{StandForSome, IsWitness};
 ghost use Rattle.nntp_witness.specs.Making.{Makes};
 
@@ -20,7 +22,8 @@ use std::alloc::{AllocError, Allocator};
 /// Where memory was refused.
 pub fn witness<A: Allocator + Copy>(alloc: A, facts: &Facts<A>) -> Result<Spool<A>, AllocError>
     requires { StandForSome facts.now }
-    ensures { IfOk result (λ spool. (past : List Paired) → Stands facts.now past → IsWitness past spool) }
+    ensures given { IfOk result (λ spool. (past : List Paired) → Stands facts.now past → IsWitness past spool) }
+    ensures is_written { IfOk result (λ spool. IsWritten profile_31_bits spool) }
 {
     match make(alloc, facts) {
         Ok(spool) => Ok(spool),
@@ -31,7 +34,8 @@ pub fn witness<A: Allocator + Copy>(alloc: A, facts: &Facts<A>) -> Result<Spool<
 
 /// The same. No fault of the builder comes but want of memory.
 fn make<A: Allocator + Copy>(alloc: A, facts: &Facts<A>) -> Result<Spool<A>, SpoolFault>
-    ensures { (past : List Paired) → Stands facts.now past → Makes result (λ spool. IsWitness past spool) }
+    ensures given { (past : List Paired) → Stands facts.now past → Makes result (λ spool. IsWitness past spool) }
+    ensures is_written { IfOk result (λ spool. IsWritten profile_31_bits spool) }
 {
     let mut maker = SpoolMaker::of_groups(alloc, facts)?;
     maker.add_articles(facts)?;

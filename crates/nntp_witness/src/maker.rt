@@ -1,11 +1,13 @@
 //! The given spool as far as it is made.
-ghost use Rattle.std.specs.Prelude.{◌≡◌, ℕ, List, [], ◌∷◌, Option};
+ghost use Rattle.std.specs.Prelude.{◌≡◌, ℕ, List, [], ◌∷◌, Option, IfOk};
 ghost use Rattle.std.specs.Option.{option_copied};
 ghost use Rattle.nntp_article.specs.Article.{Id};
+ghost use Rattle.nntp_article.specs.Limit.{profile_31_bits};
 ghost use Rattle.nntp_article.specs.Spool.{Spool as SpoolValue};
 ghost use Rattle.nntp_pair.specs.Pairing.{Paired};
 ghost use Rattle.nntp_facts.specs.Noted.{Stands, said_by};
 ghost use Rattle.nntp_facts.specs.Readers.{ShownGroup, ShownArticle};
+ghost use Rattle.nntp_spool.specs.Text.{IsWritten};
 ghost use Rattle.nntp_witness.specs.Witness.{IsWitness};
 ghost use Rattle.nntp_witness.specs.Making.{Makes, with_unseen, GroupsLeft, NumbersLeft, ArticlesLeft};
 
@@ -128,7 +130,8 @@ impl<A: Allocator + Copy> SpoolMaker<A> {
 
     /// The spool that is made.
     pub(crate) fn finish(self) -> Result<Spool<A>, SpoolFault>
-        ensures { (past : List Paired) (G : SpoolValue) → IsWitness past G → ArticlesLeft (said_by past) G [] self.builder → Makes result (λ spool. spool ≡ G) }
+        ensures given { (past : List Paired) (G : SpoolValue) → IsWitness past G → ArticlesLeft (said_by past) G [] self.builder → Makes result (λ spool. spool ≡ G) }
+        ensures is_written { IfOk result (λ spool. IsWritten profile_31_bits spool) }
     {
         self.builder.finish()
     }

@@ -1,6 +1,6 @@
 use Rattle.std.proofs.Common.{◌∙◌, ap, sym}
 use Rattle.nntp_pair.specs.Pairing.{Unpaired, line_ahead}
-use Rattle.nntp_check.proofs.JudgeLemmas.{is-due, one-more, at-exchange, at-octets, exchange-right, octets-right, end-right, placed, right}
+use Rattle.nntp_check.proofs.JudgeLemmas.{is-due, one-more, at-exchange, at-octets, exchange-right, octets-right, at-end, refused}
 use Rattle.nntp_check.proofs.judge.check.Goals as goal
 
 pub note-requires : goal.note-requires
@@ -11,37 +11,30 @@ loop-exchange-preserved g c =
     one-more c.args.client.now c.args.server.now c.loop-exchange.facts c.note.new.self c.loop-exchange.pairs c.next.new.self c.loop-exchange.answers c.in-Exchange.exchange c.in-Ok.noted
     c.loop-exchange.invariant c.in-Exchange.ensures.step c.in-Ok.ensures.noted (sym c.in_default-class_of.ensures) c.index-answers.result c.index-answers.ensures.value
 
-pub returns-in-Some-clause-placed : goal.returns-in-Some-clause-placed
-returns-in-Some-clause-placed g c =
-    placed c.bad.result c.args.client.now c.args.server.now c.index.result c.in-Some.class _ _
+pub witness-requires : goal.witness-requires
+witness-requires g c = (c.loop-exchange.invariant.pairs, c.loop-exchange.invariant.stands)
+
+pub returns-in-Some : goal.returns-in-Some
+returns-in-Some g c =
+    refused c.bad.result c.args.client.now c.args.server.now c.index.result c.in-Some.class _ _
+    (exchange-right c.args.client.now c.args.server.now c.loop-exchange.facts c.note.new.self c.loop-exchange.pairs c.next.new.self c.loop-exchange.answers c.in-Exchange.exchange c.in-Ok.noted c.in-Some.class
+    c.loop-exchange.invariant c.in-Exchange.ensures.step c.in-Ok.ensures.noted c.in-Some.ensures c.index.result c.index.ensures.value)
     (at-exchange c.args.client.now c.args.server.now c.loop-exchange.facts c.loop-exchange.pairs c.next.new.self c.loop-exchange.answers c.in-Exchange.exchange c.in-Ok.noted c.in-Some.class
     c.loop-exchange.invariant c.in-Exchange.ensures.step c.in-Some.ensures c.index.result c.index.ensures.value _ c.line.ensures c.initial.result.now c.initial.ensures)
     c.bad.ensures
 
-pub returns-in-Some-clause-right : goal.returns-in-Some-clause-right
-returns-in-Some-clause-right g c =
-    right c.bad.result c.args.client.now c.args.server.now c.index.result c.in-Some.class _ _
-    (exchange-right c.args.client.now c.args.server.now c.loop-exchange.facts c.note.new.self c.loop-exchange.pairs c.next.new.self c.loop-exchange.answers c.in-Exchange.exchange c.in-Ok.noted c.in-Some.class
-    c.loop-exchange.invariant c.in-Exchange.ensures.step c.in-Ok.ensures.noted c.in-Some.ensures c.index.result c.index.ensures.value)
-    c.bad.ensures
-
-pub returns-in-Bad-clause-placed : goal.returns-in-Bad-clause-placed
-returns-in-Bad-clause-placed g c =
+pub returns-in-Bad : goal.returns-in-Bad
+returns-in-Bad g c =
     let ends = c.in-Bad.ensures.step in
-    placed c.bad-in-Bad.result c.args.client.now c.args.server.now c.in-Bad.index c.from.result _ _
+    refused c.bad-in-Bad.result c.args.client.now c.args.server.now c.in-Bad.index c.from.result _ _
+    (octets-right c.args.client.now c.args.server.now c.loop-exchange.facts c.loop-exchange.pairs c.loop-exchange.answers c.in-Bad.class c.loop-exchange.invariant ends.1
+    c.in-Bad.index ends.0 c.from.result c.from.ensures)
     (at-octets c.args.client.now c.args.server.now c.loop-exchange.facts c.loop-exchange.pairs c.loop-exchange.answers c.in-Bad.class c.loop-exchange.invariant ends.1
     c.in-Bad.index ends.0 c.from.result c.from.ensures _ (c.ahead-ahead.ensures.line ∙ ap (λ (p : Unpaired). line_ahead p.places) ends.2)
     _ c.first_line-reply.result.now (c.ahead-ahead.ensures.rest ∙ ap (λ (p : Unpaired). p.server) ends.2) c.first_line-reply.ensures)
     c.bad-in-Bad.ensures
 
-pub returns-in-Bad-clause-right : goal.returns-in-Bad-clause-right
-returns-in-Bad-clause-right g c =
-    let ends = c.in-Bad.ensures.step in
-    right c.bad-in-Bad.result c.args.client.now c.args.server.now c.in-Bad.index c.from.result _ _
-    (octets-right c.args.client.now c.args.server.now c.loop-exchange.facts c.loop-exchange.pairs c.loop-exchange.answers c.in-Bad.class c.loop-exchange.invariant ends.1
-    c.in-Bad.index ends.0 c.from.result c.from.ensures)
-    c.bad-in-Bad.ensures
-
-pub returns-in-End-clause-right : goal.returns-in-End-clause-right
-returns-in-End-clause-right g c =
-    end-right c.args.client.now c.args.server.now c.loop-exchange.facts c.loop-exchange.pairs c.loop-exchange.answers c.in-End.unanswered c.loop-exchange.invariant c.in-End.ensures.step.0
+pub returns-in-End : goal.returns-in-End
+returns-in-End g c =
+    at-end c.args.client.now c.args.server.now c.loop-exchange.facts c.loop-exchange.pairs c.loop-exchange.answers c.in-End.unanswered _ ? c.loop-exchange.invariant c.in-End.ensures.step.0
+    (c.in_ok-spool.ensures.given c.loop-exchange.invariant.pairs c.loop-exchange.invariant.stands) c.in_ok-spool.ensures.is_written

@@ -1,7 +1,7 @@
 use Rattle.std.proofs.Common.{ℕ, List, refl, subst}
 use Rattle.std.proofs.lemmas.Result.{err_from_is_err_and}
 use Rattle.nntp_spool.specs.Writing.{Wrote}
-use Rattle.nntp_check.specs.Judging.{IsPlaced, IsRight}
+use Rattle.nntp_check.specs.Judging.{IsVerdict}
 use Rattle.nntp_check.specs.Verdict.{verdict_shown, is_consistent}
 use Rattle.nntp_check.proofs.run.run_check.Goals as goal
 
@@ -20,10 +20,8 @@ returns-in_err-print-clause-err g c =
       answer = is_consistent judgement;
       reports = record {
         judgement = judgement;
-        placed = subst (λ (octets : List ℕ). IsPlaced streams.client.items octets judgement) c.deref-2.ensures.value
-            (subst (λ (octets : List ℕ). IsPlaced octets c.deref-2.result.now judgement) c.deref.ensures.value c.in_ok-verdict.ensures.placed);
-        right = subst (λ (octets : List ℕ). IsRight streams.client.items octets judgement) c.deref-2.ensures.value
-            (subst (λ (octets : List ℕ). IsRight octets c.deref-2.result.now judgement) c.deref.ensures.value c.in_ok-verdict.ensures.right);
+        verdict = subst (λ (octets : List ℕ). IsVerdict streams.client.items octets judgement) c.deref-2.ensures.value
+            (subst (λ (octets : List ℕ). IsVerdict octets c.deref-2.result.now judgement) c.deref.ensures.value c.in_ok-verdict.ensures);
         text_is = c.in_ok-text.ensures;
         answer_is = refl;
       };
