@@ -1,1 +1,4 @@
 pub mod InventedIds
+pub mod MoreMade
+pub mod BuilderCalls
+pub mod FaultsNone
