@@ -2,3 +2,5 @@ pub mod InventedIds
 pub mod MoreMade
 pub mod BuilderCalls
 pub mod FaultsNone
+pub mod ArticleSteps
+pub mod WholeWitness
