@@ -59,7 +59,7 @@ impl<A: Allocator + Copy> SpoolMaker<A> {
         mut unseen: Option<u64>,
     ) -> Result<(), SpoolFault>
         ensures { (past : List Paired) (G before : SpoolValue) (behind : List Id) → Stands facts.now past → IsWitness past G
-            → NumbersLeft (said_by past) G before name.now behind (with_unseen unseen.entry numbers.entry) self.old.builder self.old.next
+            → NumbersLeft (said_by past) G before name.now behind (with_unseen unseen numbers.entry) self.old.builder self.old.next
             → Makes result (λ _. NumbersLeft (said_by past) G before name.now behind [] self.new.builder self.new.next) }
     {
         while let Some(seen) = numbers.next() {
