@@ -1,0 +1,102 @@
+-- Where nothing is left, the spool that is made is the given one.
+use Rattle.std.proofs.Common.{◌≡◌, ℕ, Bool, true, false, cond, not, ◌&&◌, ◌==◌, List, [], Option, None, Some, is_some, IsSome, IsTrue, Result, Ok, Err, inl, inr, refl, sym, ap, ◌∙◌}
+use Rattle.std.specs.Prelude.{unwrap_or}
+use Rattle.std.specs.List.{list_any}
+use Rattle.std.specs.Cmp.Lexicographic.{nat_list_cmp_total}
+use Rattle.std.specs.FinMap.{get, empty, same_map}
+use Rattle.std.proofs.lemmas.Bool.{true≢false, false≢true}
+use Rattle.nntp_article.specs.Article.{Id}
+use Rattle.nntp_article.specs.Limit.{profile_31_bits}
+use Rattle.nntp_article.specs.Machine.{is_same}
+use Rattle.nntp_article.specs.Spool.{Spool, Name, Text, numbers}
+use Rattle.nntp_pair.specs.Pairing.{Paired}
+use Rattle.nntp_facts.specs.Facts.{Fact, IdAt, TextIs}
+use Rattle.nntp_facts.specs.Given.{IsGiven, id_in, id_shown, is_sent, gives_article}
+use Rattle.nntp_facts.specs.Noted.{said_by}
+use Rattle.nntp_facts.specs.Together.{shows_article}
+use Rattle.nntp_facts.proofs.Made.{names_apart}
+use Rattle.nntp_facts.proofs.Members.{any_in, found_in, first_found}
+use Rattle.nntp_facts.proofs.Stand.{same_itself}
+use Rattle.nntp_spool.specs.Building.{Building, finished}
+use Rattle.nntp_spool.specs.Content.{ids_have_articles}
+use Rattle.nntp_spool.specs.declared.value.spool_fault.SpoolFault.{SpoolFault}
+use Rattle.nntp_spool.specs.declared.value.spool_fault.SpoolFault.TheVariants as faults
+use Rattle.nntp_spool.proofs.ShownMaps.{spool_is}
+use Rattle.nntp_spool.proofs.WholeSpools.{spool_knows}
+use Rattle.nntp_witness.specs.Witness.{IsWitness}
+use Rattle.nntp_witness.specs.Making.{ArticlesLeft}
+
+-- ---- what facts show
+
+-- an id that a success names is shown to have an article
+sent_shows : (id : Id) (fact : Fact) → gives_article id fact ≡ true → shows_article id fact ≡ true
+sent_shows id (TextIs what other lines) t = t
+sent_shows id fact t = cc
+
+-- where one of the facts is such a success
+sent_is_shown : (id : Id) (facts : List Fact) → IsTrue (is_sent facts id) → IsTrue (list_any (shows_article id) facts)
+sent_is_shown id facts t = let f = found_in (gives_article id) facts t in any_in (shows_article id) f.0 facts f.1 (sent_shows id f.0 f.2)
+
+-- and so is one that a fact shows for a number
+id_shows : (name : Name) (n : ℕ) (id : Id) (fact : Fact) → id_in name n fact ≡ Some id → shows_article id fact ≡ true
+id_shows name n id (IdAt group m other) e = by (is_same group name && m == n) e
+  where
+    by : (b : Bool) → cond b (Some other) None ≡ Some id → is_same other id ≡ true
+    by true e = let same : other ≡ id = cc in ap (is_same other) (sym same) ∙ same_itself other
+    by false e = cc
+id_shows name n id fact e = cc
+
+-- where one of the facts does
+id_is_shown : (facts : List Fact) (name : Name) (n : ℕ) (id : Id) → id_shown facts name n ≡ Some id → IsTrue (list_any (shows_article id) facts)
+id_is_shown facts name n id e = let f = first_found (id_in name n) facts id e in any_in (shows_article id) f.0 facts f.1 (id_shows name n id f.0 f.2)
+
+-- ---- the articles
+
+module _ (facts : List Fact) (G : Spool) (b : Building) (given : IsGiven facts G) (left : ArticlesLeft facts G [] b) where
+  -- an id that is shown has its article
+  shown_is_made : (id : Id) → IsTrue (list_any (shows_article id) facts) → IsSome (get b.spool.articles id)
+  shown_is_made id t = elim (left.others id t) [ inl none ↦ absurd (false≢true none) | inr made ↦ made ]
+
+  -- and so has one that stands at a number
+  used_is_made : (name : Name) (n : ℕ) (id : Id) → get (numbers G name) n ≡ Some id → IsSome (get b.spool.articles id)
+  used_is_made name n id at = by (id_shown facts name n) refl
+    where
+      by : (o : Option Id) → id_shown facts name n ≡ o → IsSome (get b.spool.articles id)
+      by None e = left.part.unshown name n id (ap (λ groups. get (unwrap_or (get groups name) empty) n) left.groups ∙ at) e
+      by (Some other) e =
+          let same : Some other ≡ Some id = sym (given.ids_shown name n other (ap is_some at) e) ∙ at in
+          shown_is_made id (id_is_shown facts name n id (e ∙ same))
+
+  -- so each article of the spool is made
+  all_made : (id : Id) → IsSome (get G.articles id) → IsSome (get b.spool.articles id)
+  all_made id i = elim ((given.articles id).0 i) [
+    | inl used ↦ used_is_made used.0 used.1 id used.2
+    | inr sent ↦ shown_is_made id (sent_is_shown id facts sent)
+  ]
+
+  -- and what is made of an id is the given article
+  same_article : (id : Id) → get b.spool.articles id ≡ get G.articles id
+  same_article id = by (get b.spool.articles id) refl (get G.articles id) refl
+    where
+      by : (o : Option Text) → get b.spool.articles id ≡ o → (p : Option Text) → get G.articles id ≡ p → get b.spool.articles id ≡ get G.articles id
+      by (Some t) e p f = e ∙ sym (left.part.articles id t e)
+      by None e None f = e ∙ sym f
+      by None e (Some u) f = absurd (true≢false (sym (all_made id (ap is_some f)) ∙ ap is_some e))
+
+  -- the spool that is made is the given one
+  made_is_given : b.spool ≡ G
+  made_is_given = spool_is b.spool G left.groups (same_map nat_list_cmp_total names_apart b.spool.articles G.articles same_article)
+
+-- ---- the spool
+
+-- a builder that hasn't failed hands out its spool, where each id has an article
+finished_is : (b : Building) (G : Spool) → b.failed ≡ false → b.spool ≡ G → ids_have_articles G ≡ true → finished b ≡ Ok G
+finished_is b G whole same knows = (λ i. handed (whole i) (same i)) ∙ ap (λ k. cond (not k) (Err faults.UnknownId) (Ok G)) knows
+  where
+    handed : Bool → Spool → Result Spool SpoolFault
+    handed failed S = cond failed (Err faults.Failed) (cond (not (ids_have_articles S)) (Err faults.UnknownId) (Ok S))
+
+-- where no article is left the builder hands out the given spool
+pub finished_is_given : (past : List Paired) (G : Spool) (b : Building) → IsWitness past G → ArticlesLeft (said_by past) G [] b → finished b ≡ Ok G
+finished_is_given past G b witness left =
+    finished_is b G left.is_whole (made_is_given (said_by past) G b witness.given left) (spool_knows profile_31_bits G witness.is_spool)

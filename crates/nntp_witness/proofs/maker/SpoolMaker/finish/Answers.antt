@@ -1,0 +1,7 @@
+use Rattle.std.proofs.Common.{◌≡◌, refl, sym, subst, ◌∙◌}
+use Rattle.nntp_witness.specs.Making.{Makes}
+use Rattle.nntp_witness.proofs.WholeWitness.{finished_is_given}
+use Rattle.nntp_witness.proofs.maker.SpoolMaker.finish.Goals as goal
+
+pub returns-clause-given : goal.returns-clause-given
+returns-clause-given g c past G witness left = subst (λ r. Makes r (λ spool. spool ≡ G)) (sym (c.finish.ensures.value ∙ finished_is_given past G c.args.self.builder witness left)) refl
