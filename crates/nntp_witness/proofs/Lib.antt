@@ -1,2 +1,3 @@
 pub mod GroupNumbers
 pub mod GroupsInOrder
+pub mod Aims
