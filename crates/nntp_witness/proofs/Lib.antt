@@ -1,3 +1,4 @@
 pub mod GroupNumbers
 pub mod GroupsInOrder
 pub mod Aims
+pub mod Faults
