@@ -3,7 +3,6 @@ use Rattle.std.proofs.Common.{List, subst}
 use Rattle.nntp_article.specs.Limit.{profile_31_bits}
 use Rattle.nntp_article.specs.Spool.{Spool}
 use Rattle.nntp_pair.specs.Pairing.{Paired, asked_of, responses_of}
-use Rattle.nntp_wire.specs.Answer.{Asked, Response}
 use Rattle.nntp_facts.specs.Noted.{FactsKept, Stands}
 use Rattle.nntp_facts.specs.Permits.{SomePermits}
 use Rattle.nntp_facts.proofs.Exists.{given_exists, made_for}

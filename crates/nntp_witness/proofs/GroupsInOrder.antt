@@ -1,27 +1,23 @@
 -- The groups that are shown are those of the given spool, in the same order, and the ids that none of them shows come in turn.
-use Rattle.std.proofs.Common.{◌≡◌, ℕ, ◌<◌, ◌^◌, ◌⊎◌, Bool, true, false, cond, ◌++◌, IsTrue, List, [], ◌∷◌, map, Option, None, Some, is_some, IsSome, inl, inr, refl, sym, ap, subst, ◌∙◌, arith}
+use Rattle.std.proofs.Common.{◌≡◌, ℕ, ◌⊎◌, false, cond, ◌++◌, IsTrue, List, [], ◌∷◌, map, Option, None, Some, is_some, IsSome, inl, inr, refl, sym, ap, subst, ◌∙◌, arith}
 use Rattle.std.specs.Prelude.{unwrap_or}
 use Rattle.std.specs.List.{AllByRecursion, list_any, flat_map}
 use Rattle.std.specs.Ordering.{nat_cmp}
 use Rattle.std.specs.Cmp.{nat_cmp_total}
 use Rattle.std.specs.Cmp.Lexicographic.{slice_cmp, same_text, nat_list_cmp_total}
-use Rattle.std.specs.FinMap.{FinMap, get, keys, entries, empty, get-empty, nat_cmp-IsAntisymmetric}
+use Rattle.std.specs.FinMap.{get, entries, empty, get-empty, nat_cmp-IsAntisymmetric}
 use Rattle.nntp_article.specs.Article.{Id}
 use Rattle.nntp_article.specs.Machine.{is_same}
 use Rattle.nntp_article.specs.Spool.{Spool, Name, Numbers, IsGroup, numbers}
-use Rattle.nntp_pair.specs.Pairing.{Paired}
 use Rattle.nntp_facts.specs.Facts.{Fact}
-use Rattle.nntp_facts.specs.Given.{id_shown, unshown_in, unshown_ids, is_shown_group, AreInvented, IsGiven}
+use Rattle.nntp_facts.specs.Given.{id_shown, unshown_in, unshown_ids, AreInvented, IsGiven}
 use Rattle.nntp_facts.specs.Readers.{ShownGroup, HasShownNumbers, AreShownGroups}
-use Rattle.nntp_facts.specs.Noted.{said_by}
 use Rattle.nntp_facts.proofs.Made.{names_apart}
 use Rattle.nntp_facts.proofs.Maps.{in_get}
 use Rattle.nntp_facts.proofs.Members.{In, all_from, any_in, found_in, in_map, from_map}
 use Rattle.nntp_facts.proofs.OneGroup.{same_self}
-use Rattle.nntp_spool.specs.Building.{Building}
 use Rattle.nntp_spool.specs.Content.{no_spool}
-use Rattle.nntp_witness.specs.Making.{given_numbers, unshown_at, unshown_of, IsPart, IsBegun, GroupsLeft}
-use Rattle.nntp_witness.specs.Witness.{IsWitness}
+use Rattle.nntp_witness.specs.Making.{given_numbers, unshown_at, unshown_of, IsPart, GroupsLeft}
 use Rattle.nntp_witness.proofs.GroupNumbers.{keys_listed, given_keys, given_ids}
 
 -- ---- the ids of one group

@@ -1,5 +1,4 @@
 use Rattle.std.proofs.Common.{◌≡◌, sym, subst}
-use Rattle.nntp_article.specs.Spool.{Spool}
 use Rattle.nntp_witness.specs.Witness.{IsWitness}
 use Rattle.nntp_witness.proofs.Aims.{aim}
 use Rattle.nntp_witness.proofs.Faults.{memory_passed, made_so}

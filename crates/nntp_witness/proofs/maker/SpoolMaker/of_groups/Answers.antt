@@ -1,6 +1,5 @@
-use Rattle.std.proofs.Common.{◌≡◌, ◌∷◌, List, [], sym, subst, ap}
+use Rattle.std.proofs.Common.{◌∷◌, sym, subst}
 use Rattle.nntp_facts.specs.Noted.{said_by}
-use Rattle.nntp_facts.specs.Readers.{ShownGroup}
 use Rattle.nntp_spool.specs.Building.{Building}
 use Rattle.nntp_witness.specs.Making.{GroupsLeft}
 use Rattle.nntp_witness.proofs.Faults.{memory_passed}
@@ -14,13 +13,13 @@ loop-group-init g c past G stands witness =
 pub loop-group-preserved : goal.loop-group-preserved
 loop-group-preserved g c past G stands witness =
     let left : GroupsLeft (said_by past) G (c.in-Some.group ∷ c.next.new.self) c.loop-group.maker.builder c.loop-group.maker.next =
-        subst (λ groups. GroupsLeft (said_by past) G groups c.loop-group.maker.builder c.loop-group.maker.next) c.in-Some.ensures.steps (c.loop-group.invariant past G stands witness) in
+    subst (λ groups. GroupsLeft (said_by past) G groups c.loop-group.maker.builder c.loop-group.maker.next) c.in-Some.ensures.steps (c.loop-group.invariant past G stands witness) in
     c.in_ok-add_group.ensures past G c.next.new.self stands witness left
 
 pub returns-in_err-add_group : goal.returns-in_err-add_group
 returns-in_err-add_group g c past G stands witness =
     let left : GroupsLeft (said_by past) G (c.in-Some.group ∷ c.next.new.self) c.loop-group.maker.builder c.loop-group.maker.next =
-        subst (λ groups. GroupsLeft (said_by past) G groups c.loop-group.maker.builder c.loop-group.maker.next) c.in-Some.ensures.steps (c.loop-group.invariant past G stands witness) in
+    subst (λ groups. GroupsLeft (said_by past) G groups c.loop-group.maker.builder c.loop-group.maker.next) c.in-Some.ensures.steps (c.loop-group.invariant past G stands witness) in
     let memory = c.in_err-add_group.ensures past G c.next.new.self stands witness left in
     memory_passed c.from_residual.result _ c.in_err-add_group.field-0.0 c.from_residual.ensures memory
 
