@@ -230,5 +230,6 @@ accepted facts old new past pair saying name is w s moves named adds h = (
     kept = kept_next facts new past pair saying name w s named adds h;
     permitted = subst (λ profile. ArePermitted profile (past ++ pair ∷ [])) (sym moves.profile) h;
     lines = all_both (λ pair. lines_in pair.response < 2 ^ 64) past (pair ∷ []) s.lines (w.few, tt);
+    few = let low = w.low in omega (arith, w.due.index, s.count, length-append past (pair ∷ []));
   },
 )

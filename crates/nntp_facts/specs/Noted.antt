@@ -39,6 +39,7 @@ pub record Stands (facts : FactsKept) (past : List Paired) : Type 0 where
   pub kept : IsKept (said_by past) facts.kept
   pub permitted : SomePermits facts.profile (asked_of past) (responses_of past)
   pub lines : AllByRecursion (λ pair. lines_in pair.response < 2 ^ 64) past
+  pub few : length past < 2 ^ 64
 
 -- the exchange comes next: its index is how many were accepted, and none of them closed the connection
 pub record IsDue (facts : FactsKept) (pair : Paired) : Type 0 where

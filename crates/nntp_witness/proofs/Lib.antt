@@ -4,3 +4,7 @@ pub mod BuilderCalls
 pub mod FaultsNone
 pub mod ArticleSteps
 pub mod WholeWitness
+pub mod GroupNumbers
+pub mod GroupsInOrder
+pub mod Aims
+pub mod Faults

@@ -1,4 +1,4 @@
-use Rattle.std.proofs.Common.{[], refl}
+use Rattle.std.proofs.Common.{[], refl, arith}
 use Rattle.nntp_article.specs.Limit.{profile_31_bits}
 use Rattle.nntp_facts.proofs.FirstBad.{none_permitted}
 use Rattle.nntp_facts.proofs.facts.Facts.new.Goals as goal
@@ -13,4 +13,5 @@ returns g c = record {
   kept = c.new-2.ensures;
   permitted = none_permitted profile_31_bits [] [];
   lines = tt;
+  few = omega arith;
 }

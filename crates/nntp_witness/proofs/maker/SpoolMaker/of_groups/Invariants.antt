@@ -1,0 +1,11 @@
+use Rattle.std.proofs.Common.{List}
+use Rattle.nntp_article.specs.Spool.{Spool as SpoolValue}
+use Rattle.nntp_pair.specs.Pairing.{Paired}
+use Rattle.nntp_facts.specs.Noted.{Stands, said_by}
+use Rattle.nntp_witness.specs.Witness.{IsWitness}
+use Rattle.nntp_witness.specs.Making.{GroupsLeft}
+use Rattle.nntp_witness.proofs.maker.SpoolMaker.of_groups.Given as goal
+
+-- the groups that the iterator has are left
+abbrev pub invariant-loop-group : goal.invariant-loop-group
+invariant-loop-group g l = (past : List Paired) (G : SpoolValue) → Stands l.facts past → IsWitness past G → GroupsLeft (said_by past) G l.groups l.maker.builder l.maker.next
