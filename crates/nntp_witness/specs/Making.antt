@@ -51,9 +51,9 @@ given_text a = record { head = unwrap_or a.head (plain_head a.id); body = unwrap
 -- what is made is part of the spool, and has an article for each id that it has at a number for which none is shown
 pub record IsPart (facts : List Fact) (G made : Spool) : Type 0 where
   pub groups : (name : Name) → IsGroup made name → IsGroup G name
-  pub numbers : (name : Name) (n : ℕ) (id : Id) → get (numbers made name) n ≡ Some id → get (numbers G name) n ≡ Some id
   pub articles : (id : Id) (t : Text) → get made.articles id ≡ Some t → get G.articles id ≡ Some t
   pub unshown : (name : Name) (n : ℕ) (id : Id) → get (numbers made name) n ≡ Some id → id_shown facts name n ≡ None → IsSome (get made.articles id)
+  pub numbers : (name : Name) (n : ℕ) (id : Id) → get (numbers made name) n ≡ Some id → get (numbers G name) n ≡ Some id
 
 -- a part of the spool is made, by a builder that hasn't failed, and its articles are those of ids that were invented with numbers below `next`
 pub record IsBegun (facts : List Fact) (G : Spool) (builder : Building) (next : ℕ) : Type 0 where

@@ -1,5 +1,5 @@
 //! Message-ids that are invented.
-ghost use Rattle.std.specs.Prelude.{◌≡◌, ◌<◌, ◌^◌, ℕ, List, IfOk};
+ghost use Rattle.std.specs.Prelude.{◌≡◌, ◌-◌, ◌<◌, ◌^◌, ℕ, List, IfOk};
 ghost use Rattle.nntp_pair.specs.Pairing.{Paired};
 ghost use Rattle.nntp_facts.specs.Given.{invented, is_mentioned, IsFirstFree};
 ghost use Rattle.nntp_facts.specs.Noted.{Stands, said_by};

@@ -2,7 +2,7 @@
 ghost use Rattle.std.specs.Prelude.{◌≡◌, ℕ, List, [], ◌∷◌, Option};
 ghost use Rattle.std.specs.Option.{option_copied};
 ghost use Rattle.nntp_article.specs.Article.{Id};
-ghost use Rattle.nntp_article.specs.Spool.{Spool};
+ghost use Rattle.nntp_article.specs.Spool.{Spool as SpoolValue};
 ghost use Rattle.nntp_pair.specs.Pairing.{Paired};
 ghost use Rattle.nntp_facts.specs.Noted.{Stands, said_by};
 ghost use Rattle.nntp_facts.specs.Readers.{ShownGroup, ShownArticle};
@@ -27,7 +27,7 @@ pub(crate) struct SpoolMaker<A: Allocator> {
 impl<A: Allocator + Copy> SpoolMaker<A> {
     /// With the groups that are shown, and articles of ids that are invented.
     pub(crate) fn of_groups(alloc: A, facts: &Facts<A>) -> Result<SpoolMaker<A>, SpoolFault>
-        ensures { (past : List Paired) (G : Spool) → Stands facts.now past → IsWitness past G → Makes result (λ maker. GroupsLeft (said_by past) G [] maker.builder maker.next) }
+        ensures { (past : List Paired) (G : SpoolValue) → Stands facts.now past → IsWitness past G → Makes result (λ maker. GroupsLeft (said_by past) G [] maker.builder maker.next) }
     {
         let mut maker = SpoolMaker {
             alloc,
@@ -43,7 +43,7 @@ impl<A: Allocator + Copy> SpoolMaker<A> {
 
     /// Adds a group with its numbers.
     fn add_group(&mut self, facts: &Facts<A>, group: &SeenGroup<'_, A>) -> Result<(), SpoolFault>
-        ensures { (past : List Paired) (G : Spool) (left : List ShownGroup) → Stands facts.now past → IsWitness past G → GroupsLeft (said_by past) G (group.now ∷ left) self.old.builder self.old.next
+        ensures { (past : List Paired) (G : SpoolValue) (left : List ShownGroup) → Stands facts.now past → IsWitness past G → GroupsLeft (said_by past) G (group.now ∷ left) self.old.builder self.old.next
             → Makes result (λ _. GroupsLeft (said_by past) G left self.new.builder self.new.next) }
     {
         self.builder.group(group.name())?;
@@ -58,8 +58,8 @@ impl<A: Allocator + Copy> SpoolMaker<A> {
         mut numbers: SeenNumbers<'_, A>,
         mut unseen: Option<u64>,
     ) -> Result<(), SpoolFault>
-        ensures { (past : List Paired) (G before : Spool) (behind : List Id) → Stands facts.now past → IsWitness past G
-            → NumbersLeft (said_by past) G before name.now behind (with_unseen unseen.entry numbers.entry) self.old.builder self.old.next
+        ensures { (past : List Paired) (G before : SpoolValue) (behind : List Id) → Stands facts.now past → IsWitness past G
+            → NumbersLeft (said_by past) G before name.now behind (with_unseen unseen numbers.entry) self.old.builder self.old.next
             → Makes result (λ _. NumbersLeft (said_by past) G before name.now behind [] self.new.builder self.new.next) }
     {
         while let Some(seen) = numbers.next() {
@@ -85,8 +85,8 @@ impl<A: Allocator + Copy> SpoolMaker<A> {
         number: u64,
         id: Option<&[u8]>,
     ) -> Result<(), SpoolFault>
-        ensures { (past : List Paired) (G before : Spool) (behind : List Id) (left : List (ℕ × Option Id)) → Stands facts.now past → IsWitness past G
-            → NumbersLeft (said_by past) G before name.now behind ((number, option_copied id) ∷ left) self.old.builder self.old.next
+        ensures { (past : List Paired) (G before : SpoolValue) (behind : List Id) (left : List (ℕ × Option Id)) → Stands facts.now past → IsWitness past G
+            → NumbersLeft (said_by past) G before name.now behind ((number, option_copied id.entry) ∷ left) self.old.builder self.old.next
             → Makes result (λ _. NumbersLeft (said_by past) G before name.now behind left self.new.builder self.new.next) }
     {
         if let Some(id) = id {
@@ -105,7 +105,7 @@ impl<A: Allocator + Copy> SpoolMaker<A> {
 
     /// Adds the articles that are shown.
     pub(crate) fn add_articles(&mut self, facts: &Facts<A>) -> Result<(), SpoolFault>
-        ensures { (past : List Paired) (G : Spool) → Stands facts.now past → IsWitness past G → GroupsLeft (said_by past) G [] self.old.builder self.old.next
+        ensures { (past : List Paired) (G : SpoolValue) → Stands facts.now past → IsWitness past G → GroupsLeft (said_by past) G [] self.old.builder self.old.next
             → Makes result (λ _. ArticlesLeft (said_by past) G [] self.new.builder) }
     {
         let mut articles = facts.articles();
@@ -117,7 +117,7 @@ impl<A: Allocator + Copy> SpoolMaker<A> {
 
     /// Adds an article that is shown.
     fn add_article(&mut self, seen: &SeenArticle<'_, A>) -> Result<(), SpoolFault>
-        ensures { (past : List Paired) (G : Spool) (left : List ShownArticle) → IsWitness past G → ArticlesLeft (said_by past) G (seen.now ∷ left) self.old.builder
+        ensures { (past : List Paired) (G : SpoolValue) (left : List ShownArticle) → IsWitness past G → ArticlesLeft (said_by past) G (seen.now ∷ left) self.old.builder
             → Makes result (λ _. ArticlesLeft (said_by past) G left self.new.builder) }
     {
         let Ok(article) = given_article(self.alloc, seen) else {
@@ -128,7 +128,7 @@ impl<A: Allocator + Copy> SpoolMaker<A> {
 
     /// The spool that is made.
     pub(crate) fn finish(self) -> Result<Spool<A>, SpoolFault>
-        ensures { (past : List Paired) (G : Spool) → IsWitness past G → ArticlesLeft (said_by past) G [] self.builder → Makes result (λ spool. spool ≡ G) }
+        ensures { (past : List Paired) (G : SpoolValue) → IsWitness past G → ArticlesLeft (said_by past) G [] self.builder → Makes result (λ spool. spool ≡ G) }
     {
         self.builder.finish()
     }
