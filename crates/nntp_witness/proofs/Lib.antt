@@ -1,1 +1,2 @@
 pub mod GroupNumbers
+pub mod InventedIds
