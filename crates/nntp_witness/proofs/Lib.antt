@@ -1,2 +1,6 @@
 pub mod GroupNumbers
 pub mod InventedIds
+pub mod BuilderCalls
+pub mod FaultsNone
+pub mod MoreMade
+pub mod NumberSteps

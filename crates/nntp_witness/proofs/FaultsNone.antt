@@ -1,0 +1,123 @@
+-- What the given spool has is added to a part of it without a fault.
+use Rattle.std.proofs.Common.{◌≡◌, ℕ, Bool, true, false, cond, not, ◌&&◌, List, [], ◌∷◌, Option, None, Some, is_some, refl, sym, ap, subst, ◌∙◌}
+use Rattle.std.specs.Prelude.{is_none, unwrap_or, IsFalse, bytes_eq}
+use Rattle.std.specs.List.{list_all}
+use Rattle.std.specs.Option.{option_or}
+use Rattle.std.specs.Cmp.{nat_cmp_total}
+use Rattle.std.specs.FinMap.{get, entries, nat_cmp-IsAntisymmetric}
+use Rattle.std.proofs.lemmas.Bool.{true≢false, and_from, false_from_ne_true, or_left, or_right}
+use Rattle.std.proofs.lemmas.Slice.Eq.{bytes_eq-Decides}
+use Rattle.nntp_wire.specs.Decided.{is_group_name, is_message_id}
+use Rattle.nntp_wire.proofs.OptionLemmas.{some_is}
+use Rattle.nntp_article.specs.Article.{Id, Line}
+use Rattle.nntp_article.specs.Limit.{profile_31_bits}
+use Rattle.nntp_article.specs.Machine.{is_num}
+use Rattle.nntp_article.specs.Spool.{Spool, Name, Numbers, Text, IsGroup, IsSpool, numbers, is_line}
+use Rattle.nntp_article.specs.declared.profile.Profile.{Profile}
+use Rattle.nntp_facts.specs.Facts.{Fact, TextIs}
+use Rattle.nntp_facts.specs.Given.{mentions, is_mentioned, first_given, head_in, body_in, plain_head, IsGiven}
+use Rattle.nntp_facts.specs.Articles.{head_sent, body_sent}
+use Rattle.nntp_facts.proofs.GivenHolds.{group_of_number}
+use Rattle.nntp_facts.proofs.Maps.{in_get}
+use Rattle.nntp_facts.proofs.Members.{found_in}
+use Rattle.nntp_facts.proofs.SaidOfArticles.{head_of_text, body_of_text}
+use Rattle.nntp_spool.specs.Building.{group_fault, number_fault, article_fault}
+use Rattle.nntp_spool.specs.Content.{is_head_of}
+use Rattle.nntp_spool.specs.Numbers.{has_id}
+use Rattle.nntp_spool.specs.declared.value.spool_fault.SpoolFault.TheVariants as faults
+use Rattle.nntp_spool.proofs.WholeSpools.{content_of_spool}
+use Rattle.nntp_witness.specs.Making.{IsPart}
+
+-- ---- faults by their tests
+
+-- a test that finds nothing
+passed : {A : Type 0} (b : Bool) (x : A) (o : Option A) → b ≡ false → o ≡ None → cond b (Some x) o ≡ None
+passed true x o e f = absurd (true≢false e)
+passed false x o e f = f
+
+-- a group with a name, that isn't there
+no_group_fault : (S : Spool) (name : Name) → is_group_name name ≡ true → get S.groups name ≡ None → group_fault S name ≡ None
+no_group_fault S name is absent =
+    passed (not (is_group_name name)) faults.BadName _ (ap not is)
+    (passed (is_some (get S.groups name)) faults.DuplicateGroup None (ap is_some absent) refl)
+
+-- a number and an id that may be, and aren't there
+no_number_fault : (profile : Profile) (S : Spool) (name : Name) (n : ℕ) (id : Id) → IsGroup S name → is_num profile n ≡ true → is_message_id id ≡ true → get (numbers S name) n ≡ None → has_id (numbers S name) id ≡ false
+    → number_fault profile S name n id ≡ None
+no_number_fault profile S name n id there num is_id absent fresh =
+    passed (is_none (get S.groups name)) faults.UnknownGroup _ (ap not there)
+    (passed (not (is_num profile n)) faults.BadNumber _ (ap not num)
+    (passed (not (is_message_id id)) faults.BadId _ (ap not is_id)
+    (passed (is_some (get (numbers S name) n)) faults.DuplicateNumber _ (ap is_some absent)
+    (passed (has_id (numbers S name) id) faults.DuplicateId None fresh refl))))
+
+-- an article that may be, and isn't there
+no_article_fault : (S : Spool) (id : Id) (t : Text) → is_message_id id ≡ true → list_all is_line t.head ≡ true → is_head_of id t.head ≡ true → list_all is_line t.body ≡ true → get S.articles id ≡ None
+    → article_fault S id t ≡ None
+no_article_fault S id t is_id lines head body absent =
+    passed (not (is_message_id id)) faults.BadId _ (ap not is_id)
+    (passed (not (list_all is_line t.head && is_head_of id t.head)) faults.BadHead _ (ap not (and_from (list_all is_line t.head) (is_head_of id t.head) lines head))
+    (passed (not (list_all is_line t.body)) faults.BadBody _ (ap not body)
+    (passed (is_some (get S.articles id)) faults.DuplicateId None (ap is_some absent) refl)))
+
+-- ---- what the spool has
+
+-- an id that stands at no number
+no_id : (N : Numbers) (id : Id) → ((m : ℕ) → get N m ≡ Some id → ⊥) → has_id N id ≡ false
+no_id N id nowhere = false_from_ne_true (has_id N id) (λ t.
+    let f = found_in (λ e. bytes_eq e.1 id) (entries N) t in
+    let same : f.0.1 ≡ id = (bytes_eq-Decides f.0.1 id).0 f.2 in
+    nowhere f.0.0 (in_get nat_cmp_total nat_cmp-IsAntisymmetric N f.0.0 f.0.1 f.1 ∙ ap Some same))
+
+none_some : {A : Type 0} (x : A) → None ≡ Some x → ⊥
+none_some x e = cc
+
+module _ (facts : List Fact) (G S : Spool) (is_spool : IsSpool profile_31_bits G) (part : IsPart facts G S) where
+  -- a group of the spool is added
+  pub group_fits : (name : Name) → IsGroup G name → get S.groups name ≡ None → group_fault S name ≡ None
+  group_fits name there absent =
+      let N = some_is (get G.groups name) there in
+      no_group_fault S name ((content_of_spool profile_31_bits G is_spool).groups name N.0 N.1).is_name absent
+
+  -- a number of the spool is added, with its id
+  pub number_fits : (name : Name) (n : ℕ) (id : Id) → IsGroup S name → get (numbers G name) n ≡ Some id → get (numbers S name) n ≡ None → number_fault profile_31_bits S name n id ≡ None
+  number_fits name n id there at absent =
+      let g = group_of_number G name n (ap is_some at) in
+      let are = ((content_of_spool profile_31_bits G is_spool).groups name g.0 g.1).numbers in
+      let may = are.each n id (subst (λ (N : Numbers). get N n ≡ Some id) g.2 at) in
+      no_number_fault profile_31_bits S name n id there may.0 may.1 absent (no_id (numbers S name) id (λ m e.
+      let same : m ≡ n = is_spool.one_to_one name m n id (part.numbers name m id e) at in
+      none_some id (sym absent ∙ ap (get (numbers S name)) (sym same) ∙ e)))
+
+-- an article of the spool is added
+pub article_fits : (G S : Spool) → IsSpool profile_31_bits G → (id : Id) (t : Text) → get G.articles id ≡ Some t → get S.articles id ≡ None → article_fault S id t ≡ None
+article_fits G S is_spool id t at absent =
+    let is = (content_of_spool profile_31_bits G is_spool).articles id t at in
+    no_article_fault S id t is.is_id is.head_lines is.head is.body_lines absent
+
+-- ---- an article of which nothing is sent
+
+-- a fact that does not mention an id sends no head of it
+silent_head : (id : Id) (fact : Fact) → mentions id fact ≡ false → head_in id fact ≡ None
+silent_head id (TextIs what other lines) e = head_of_text what other id lines ∙ ap (λ b. cond b (head_sent what lines) None) e
+silent_head id fact e = refl
+
+-- nor a body
+silent_body : (id : Id) (fact : Fact) → mentions id fact ≡ false → body_in id fact ≡ None
+silent_body id (TextIs what other lines) e = body_of_text what other id lines ∙ ap (λ b. cond b (body_sent what lines) None) e
+silent_body id fact e = refl
+
+-- where no fact mentions it, nothing is given of it
+none_given : (id : Id) (f : Fact → Option (List Line)) (facts : List Fact) → ((fact : Fact) → mentions id fact ≡ false → f fact ≡ None) → is_mentioned facts id ≡ false → first_given f facts ≡ None
+none_given id f [] silent e = refl
+none_given id f (fact ∷ facts) silent e =
+    let here : mentions id fact ≡ false = false_from_ne_true (mentions id fact) (λ t. true≢false (sym (or_left (mentions id fact) (is_mentioned facts id) t) ∙ e)) in
+    let rest : is_mentioned facts id ≡ false = false_from_ne_true (is_mentioned facts id) (λ t. true≢false (sym (or_right (mentions id fact) (is_mentioned facts id) t) ∙ e)) in
+    ap (λ o. option_or o (first_given f facts)) (silent fact here) ∙ none_given id f facts silent rest
+
+-- so the given article is plain
+pub plain_text : (facts : List Fact) (G : Spool) (id : Id) (t : Text) → IsGiven facts G → IsFalse (is_mentioned facts id) → get G.articles id ≡ Some t → t ≡ record { head = plain_head id; body = [] }
+plain_text facts G id t given silent at =
+    let head : t.head ≡ plain_head id = given.heads id t at ∙ ap (λ o. unwrap_or o (plain_head id)) (none_given id (head_in id) facts (silent_head id) silent) in
+    let body : t.body ≡ [] = given.bodies id t at ∙ ap (λ o. unwrap_or o []) (none_given id (body_in id) facts (silent_body id) silent) in
+    λ i. record { head = head i; body = body i }

@@ -1,0 +1,128 @@
+-- A spool with one group more, or one number more, or with the article of one id more.
+use Rattle.std.proofs.Common.{◌≡◌, ◌≢◌, ◌⊎◌, ℕ, Bool, true, false, cond, List, None, Some, is_some, IsSome, inl, inr, refl, sym, ap, subst, ◌∙◌}
+use Rattle.std.specs.Prelude.{unwrap_or}
+use Rattle.std.specs.declared.cmp.Ordering.{Ordering}
+use Rattle.std.specs.Ordering.{nat_cmp, eq_by_cmp}
+use Rattle.std.specs.Cmp.{IsTotalOrder, nat_cmp_total, Equal-is}
+use Rattle.std.specs.Cmp.Lexicographic.{slice_cmp, nat_list_cmp_total}
+use Rattle.std.specs.FinMap.{FinMap, get, insert, empty, get-insert, get-empty, IsAntisymmetric, nat_cmp-IsAntisymmetric}
+use Rattle.nntp_article.proofs.Decide.{dec_texts}
+use Rattle.nntp_article.specs.Article.{Id}
+use Rattle.nntp_article.specs.Spool.{Spool, Name, Numbers, Text, IsGroup, numbers}
+use Rattle.nntp_facts.specs.Facts.{Fact}
+use Rattle.nntp_facts.specs.Given.{id_shown}
+use Rattle.nntp_spool.specs.Content.{with_group}
+use Rattle.nntp_spool.proofs.MapEntries.{tied_itself, got_more}
+use Rattle.nntp_spool.proofs.ShownMaps.{octet_keys}
+use Rattle.nntp_witness.specs.Making.{IsPart}
+
+-- ---- maps
+
+module _ {K X : Type 0} {R : K → K → Ordering} (o : IsTotalOrder R) where
+  -- what was put at a key is found there
+  pub got_here : (m : FinMap R X) (k : K) (v : X) → get (insert m k v) k ≡ Some v
+  got_here m k v = get-insert o m k v k ∙ ap (λ b. cond b (Some v) (get m k)) (tied_itself o k)
+
+  -- and elsewhere what was there before
+  pub got_other : IsAntisymmetric R → (m : FinMap R X) (k : K) (v : X) (q : K) → q ≢ k → get (insert m k v) q ≡ get m q
+  got_other same m k v q apart = get-insert o m k v q ∙ by (eq_by_cmp R q k) refl
+    where
+      by : (b : Bool) → eq_by_cmp R q k ≡ b → cond b (Some v) (get m q) ≡ get m q
+      by true is = absurd (apart (same q k ((Equal-is _).0 is)))
+      by false is = refl
+
+  -- what was there before is there
+  pub got_still : IsAntisymmetric R → (m : FinMap R X) (k : K) (v : X) (q : K) → IsSome (get m q) → IsSome (get (insert m k v) q)
+  got_still same m k v q i = ap is_some (get-insert o m k v q) ∙ by (eq_by_cmp R q k)
+    where
+      by : (b : Bool) → is_some (cond b (Some v) (get m q)) ≡ true
+      by true = refl
+      by false = i
+
+-- ---- groups
+
+module _ (S : Spool) (name : Name) (N : Numbers) where
+  -- the group has the numbers that it was put with
+  pub numbers_here : numbers (with_group S name N) name ≡ N
+  numbers_here = ap (λ o. unwrap_or o empty) (got_here nat_list_cmp_total S.groups name N)
+
+  -- the group is there
+  pub group_here : IsGroup (with_group S name N) name
+  group_here = ap is_some (got_here nat_list_cmp_total S.groups name N)
+
+  -- the others are as they were
+  pub group_other : (other : Name) → other ≢ name → get (with_group S name N).groups other ≡ get S.groups other
+  group_other other apart = got_other nat_list_cmp_total octet_keys S.groups name N other apart
+
+  -- with their numbers
+  pub numbers_other : (other : Name) → other ≢ name → numbers (with_group S name N) other ≡ numbers S other
+  numbers_other other apart = ap (λ o. unwrap_or o empty) (group_other other apart)
+
+  -- each group is that one, or was there before
+  pub group_more : (other : Name) → IsGroup (with_group S name N) other → (other ≡ name) ⊎ IsGroup S other
+  group_more other i = elim (dec_texts other name) [
+    | inl same ↦ inl same
+    | inr apart ↦ inr (ap is_some (sym (group_other other apart)) ∙ i)
+  ]
+
+-- ---- numbers
+
+-- each number is the one that was added, or was there before
+pub number_more : (S : Spool) (name : Name) (n : ℕ) (id : Id) (other : Name) (m : ℕ) (found : Id) → get (numbers (with_group S name (insert (numbers S name) n id)) other) m ≡ Some found
+    → ((other ≡ name) × (m ≡ n) × (found ≡ id)) ⊎ (get (numbers S other) m ≡ Some found)
+number_more S name n id other m found e = by (dec_texts other name)
+  where
+    here : other ≡ name → get (numbers (with_group S name (insert (numbers S name) n id)) other) m ≡ get (insert (numbers S name) n id) m
+    here same = ap (λ q. get (numbers (with_group S name (insert (numbers S name) n id)) q) m) same ∙ ap (λ N. get N m) (numbers_here S name (insert (numbers S name) n id))
+
+    by : (other ≡ name) ⊎ (other ≡ name → ⊥) → ((other ≡ name) × (m ≡ n) × (found ≡ id)) ⊎ (get (numbers S other) m ≡ Some found)
+    by (inl same) = elim (got_more nat_cmp_total nat_cmp-IsAntisymmetric (numbers S name) n id m found (sym (here same) ∙ e)) [
+      | inl new ↦ inl (same, new.0, new.1)
+      | inr old ↦ inr (subst (λ q. get (numbers S q) m ≡ Some found) (sym same) old)
+    ]
+    by (inr apart) = inr (ap (λ N. get N m) (sym (numbers_other S name (insert (numbers S name) n id) other apart)) ∙ e)
+
+-- ---- parts
+
+-- a group of the spool, without numbers, makes more of a part of it
+pub part_with_group : (facts : List Fact) (G S : Spool) (name : Name) → IsPart facts G S → IsGroup G name → IsPart facts G (with_group S name empty)
+part_with_group facts G S name part there = record {
+  groups = λ other i. elim (group_more S name empty other i) [
+    | inl same ↦ subst (λ q. IsGroup G q) (sym same) there
+    | inr old ↦ part.groups other old
+  ];
+  articles = part.articles;
+  unshown = λ other m found e none. part.unshown other m found (old other m found e) none;
+  numbers = λ other m found e. part.numbers other m found (old other m found e);
+}
+  where
+    none_found : (found : Id) → None ≡ Some found → ⊥
+    none_found found e = cc
+
+    old : (other : Name) (m : ℕ) (found : Id) → get (numbers (with_group S name empty) other) m ≡ Some found → get (numbers S other) m ≡ Some found
+    old other m found e = by (dec_texts other name)
+      where
+        by : (other ≡ name) ⊎ (other ≡ name → ⊥) → get (numbers S other) m ≡ Some found
+        by (inl same) = absurd (none_found found (sym (ap (λ q. get (numbers (with_group S name empty) q) m) same ∙ ap (λ N. get N m) (numbers_here S name empty) ∙ get-empty nat_cmp m) ∙ e))
+        by (inr apart) = ap (λ N. get N m) (sym (numbers_other S name empty other apart)) ∙ e
+
+-- a number of the spool makes more of a part of it, if its id has an article there where none is shown
+pub part_with_number : (facts : List Fact) (G S : Spool) (articles : FinMap (slice_cmp nat_cmp) Text) (name : Name) (n : ℕ) (id : Id) → IsPart facts G S → IsGroup S name → get (numbers G name) n ≡ Some id
+    → ((q : Id) → IsSome (get S.articles q) → IsSome (get articles q)) → ((q : Id) (t : Text) → get articles q ≡ Some t → get G.articles q ≡ Some t)
+    → (id_shown facts name n ≡ None → IsSome (get articles id))
+    → IsPart facts G (record { groups = insert S.groups name (insert (numbers S name) n id); articles = articles })
+part_with_number facts G S articles name n id part here at still among has = record {
+  groups = λ other i. elim (group_more S name (insert (numbers S name) n id) other i) [
+    | inl same ↦ subst (λ q. IsGroup G q) (sym same) (part.groups name here)
+    | inr old ↦ part.groups other old
+  ];
+  articles = among;
+  unshown = λ other m found e none. elim (number_more S name n id other m found e) [
+    | inl new ↦ subst (λ q. IsSome (get articles q)) (sym new.2) (has ((λ i. id_shown facts (sym new.0 i) (sym new.1 i)) ∙ none))
+    | inr old ↦ still found (part.unshown other m found old none)
+  ];
+  numbers = λ other m found e. elim (number_more S name n id other m found e) [
+    | inl new ↦ (λ i. get (numbers G (new.0 i)) (new.1 i)) ∙ at ∙ ap Some (sym new.2)
+    | inr old ↦ part.numbers other m found old
+  ];
+}
