@@ -4,3 +4,4 @@ pub mod BuilderCalls
 pub mod FaultsNone
 pub mod MoreMade
 pub mod NumberSteps
+pub mod UnseenInPlace
