@@ -8,3 +8,5 @@ pub mod GroupNumbers
 pub mod GroupsInOrder
 pub mod Aims
 pub mod Faults
+pub mod NumberSteps
+pub mod UnseenInPlace

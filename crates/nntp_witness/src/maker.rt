@@ -65,11 +65,11 @@ impl<A: Allocator + Copy> SpoolMaker<A> {
             → Makes result (λ _. NumbersLeft (said_by past) G before name.now behind [] self.new.builder self.new.next) }
     {
         while let Some(seen) = numbers.next() {
-            if let Some(number) = unseen
-                && number < seen.number
-            {
-                self.add_number(facts, name, number, None)?;
-                unseen = None;
+            if let Some(number) = unseen {
+                if number < seen.number {
+                    self.add_number(facts, name, number, None)?;
+                    unseen = None;
+                }
             }
             self.add_number(facts, name, seen.number, seen.id)?;
         }

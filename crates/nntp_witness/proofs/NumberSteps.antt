@@ -1,0 +1,208 @@
+-- One number more of the group that is made.
+use Rattle.std.proofs.Common.{◌≡◌, ◌≢◌, ◌⊎◌, ℕ, ◌+◌, ◌-◌, ◌<◌, ◌≤◌, ◌^◌, false, ◌==◌, List, [], ◌∷◌, ◌++◌, map, Option, None, Some, is_some, IsSome, IsTrue, Result, Ok, Err, inl, inr, refl, sym, ap, subst, ◌∙◌, arith}
+use Rattle.std.specs.Prelude.{unwrap_or, IsFalse}
+use Rattle.std.specs.List.{AllByRecursion, list_any}
+use Rattle.std.specs.List.Sorted.{IsStrictlySortedBy}
+use Rattle.std.specs.declared.cmp.Ordering.TheVariants.{Less}
+use Rattle.std.specs.Ordering.{nat_cmp}
+use Rattle.std.specs.Cmp.{nat_cmp_total}
+use Rattle.std.proofs.lemmas.Cmp.{tied_itself}
+use Rattle.std.specs.Cmp.Lexicographic.{slice_cmp, nat_list_cmp_total}
+use Rattle.std.specs.FinMap.{FinMap, get, insert, nat_cmp-IsAntisymmetric}
+use Rattle.std.proofs.lemmas.Bool.{or_cases, eqb-true}
+use Rattle.nntp_article.specs.Article.{Id}
+use Rattle.nntp_article.specs.Limit.{profile_31_bits}
+use Rattle.nntp_article.specs.Spool.{Spool, Name, Numbers, Text, IsNumber, IsSpool, numbers}
+use Rattle.nntp_facts.specs.Facts.{Fact}
+use Rattle.nntp_facts.specs.Given.{is_mentioned, invented, plain_head, AreInvented, IsFirstFree, IsGiven}
+use Rattle.nntp_facts.proofs.FirstFree.{first_free_once}
+use Rattle.nntp_facts.proofs.Invented.{invented_number, number-invented}
+use Rattle.nntp_wire.proofs.OptionLemmas.{none_of, some_is}
+use Rattle.nntp_spool.specs.Building.{Building, Builds, number_fault, article_fault}
+use Rattle.nntp_spool.specs.declared.value.spool_fault.SpoolFault.{SpoolFault}
+use Rattle.nntp_spool.specs.declared.value.spool_fault.SpoolFault.TheVariants.{Memory}
+use Rattle.nntp_spool.specs.Content.{with_group, with_article}
+use Rattle.nntp_spool.proofs.MapEntries.{got_more}
+use Rattle.nntp_spool.proofs.ShownMaps.{octet_keys}
+use Rattle.nntp_witness.specs.Making.{Makes, unshown_at, IsBegun, NumbersLeft}
+use Rattle.nntp_witness.proofs.MoreMade.{got_here, got_other, got_still, numbers_here, group_here, group_other, part_with_number}
+use Rattle.nntp_witness.proofs.BuilderCalls.{called, call_done, call_refused}
+use Rattle.nntp_witness.proofs.FaultsNone.{number_fits, article_fits, plain_text}
+
+-- ---- the numbers that are left
+
+-- a number isn't below itself
+not_below : (n m : ℕ) → nat_cmp n m ≡ Less → m ≢ n
+not_below n m less same =
+    let tied : nat_cmp n n ≡ Less = ap (nat_cmp n) (sym same) ∙ less in
+    let itself = tied_itself nat_cmp_total n in
+    cc
+
+-- the numbers behind one that is added aren't there yet
+still_absent : (N : Numbers) (n : ℕ) (id : Id) (left : List (ℕ × Option Id)) → AllByRecursion (λ m. nat_cmp n m ≡ Less) (map (λ e. e.0) left) → AllByRecursion (λ e. get N e.0 ≡ None) left
+    → AllByRecursion (λ e. get (insert N n id) e.0 ≡ None) left
+still_absent N n id [] above absent = tt
+still_absent N n id (e ∷ left) above absent = (got_other nat_cmp_total nat_cmp-IsAntisymmetric N n id e.0 (not_below n e.0 above.0) ∙ absent.0, still_absent N n id left above.1 absent.1)
+
+-- the content with a number of a group more, and these articles
+abbrev with_both : Spool → FinMap (slice_cmp nat_cmp) Text → Name → ℕ → Id → Spool
+with_both S articles name n id = record { groups = insert S.groups name (insert (numbers S name) n id); articles = articles }
+
+-- one number less is left, once it is there
+one_less : (facts : List Fact) (G before : Spool) (name : Name) (behind : List Id) (n : ℕ) (o : Option Id) (left : List (ℕ × Option Id)) (b : Building) (next after : ℕ) (id : Id) (articles : FinMap (slice_cmp nat_cmp) Text)
+    → NumbersLeft facts G before name behind ((n, o) ∷ left) b next → IsBegun facts G (record { spool = with_both b.spool articles name n id; failed = false }) after
+    → AreInvented facts after (unshown_at (numbers G name) left ++ behind)
+    → NumbersLeft facts G before name behind left (record { spool = with_both b.spool articles name n id; failed = false }) after
+unfolding IsStrictlySortedBy
+one_less facts G before name behind n o left b next after id articles l begun to_invent = record {
+  begun = begun;
+  to_invent = to_invent;
+  is_group = group_here b.spool name (insert (numbers b.spool name) n id);
+  ascending = l.ascending.1;
+  of_group = l.of_group.1;
+  not_made = subst (λ N. AllByRecursion (λ (e : ℕ × Option Id). get N e.0 ≡ None) left) (sym (numbers_here b.spool name (insert (numbers b.spool name) n id)))
+      (still_absent (numbers b.spool name) n id left l.ascending.0 l.not_made.1);
+  others = λ m i. by m (l.others m i);
+  other_groups = λ other apart. group_other b.spool name (insert (numbers b.spool name) n id) other apart ∙ l.other_groups other apart;
+}
+  where
+    made : (m : ℕ) → IsNumber (insert (numbers b.spool name) n id) m → IsNumber (numbers (with_both b.spool articles name n id) name) m
+    made m i = subst (λ N. IsNumber N m) (sym (numbers_here b.spool name (insert (numbers b.spool name) n id))) i
+
+    by : (m : ℕ) → IsTrue (list_any (λ e. e.0 == m) ((n, o) ∷ left)) ⊎ IsNumber (numbers b.spool name) m → IsTrue (list_any (λ e. e.0 == m) left) ⊎ IsNumber (numbers (with_both b.spool articles name n id) name) m
+    by m (inl t) = elim (or_cases (n == m) (list_any (λ e. e.0 == m) left) t) [
+      | inl same ↦ inr (made m (subst (λ k. IsNumber (insert (numbers b.spool name) n id) k) (eqb-true n m same) (ap is_some (got_here nat_cmp_total (numbers b.spool name) n id))))
+      | inr more ↦ inl more
+    ]
+    by m (inr i) = inr (made m (got_still nat_cmp_total nat_cmp-IsAntisymmetric (numbers b.spool name) n id m i))
+
+-- ---- a number whose id is shown
+
+module _ (facts : List Fact) (G before : Spool) (given : IsGiven facts G) (is_spool : IsSpool profile_31_bits G) (name : Name) (behind : List Id) (n : ℕ) (left : List (ℕ × Option Id)) (b : Building) (next : ℕ) where
+  some_none : (id : Id) → Some id ≡ None → ⊥
+  some_none id e = cc
+
+  -- the number has the id in the spool
+  shown_there : (id : Id) → NumbersLeft facts G before name behind ((n, Some id) ∷ left) b next → get (numbers G name) n ≡ Some id
+  shown_there id l = given.ids_shown name n id l.of_group.0.0 (sym l.of_group.0.1)
+
+  -- it is added without a fault
+  shown_fits : (id : Id) → NumbersLeft facts G before name behind ((n, Some id) ∷ left) b next → number_fault profile_31_bits b.spool name n id ≡ None
+  shown_fits id l = number_fits facts G b.spool is_spool l.begun.part name n id l.is_group (shown_there id l) l.not_made.0
+
+  -- the others are left
+  shown_made : (id : Id) → NumbersLeft facts G before name behind ((n, Some id) ∷ left) b next → NumbersLeft facts G before name behind left (record { spool = with_both b.spool b.spool.articles name n id; failed = false }) next
+  shown_made id l =
+      one_less facts G before name behind n (Some id) left b next next id b.spool.articles l (record {
+        is_whole = refl;
+        part = part_with_number facts G b.spool b.spool.articles name n id l.begun.part l.is_group (shown_there id l) (λ q i. i) l.begun.part.articles (λ none. absurd (some_none id (l.of_group.0.1 ∙ none)));
+        invented_before = l.begun.invented_before;
+        small = l.begun.small;
+      }) l.to_invent
+
+  -- so the call makes it
+  pub shown_makes : (o : Option Id) (id : Id) (r : Result (Unit {0}) SpoolFault) (new : Building) → o ≡ Some id → NumbersLeft facts G before name behind ((n, o) ∷ left) b next
+      → Builds (number_fault profile_31_bits b.spool name n id) (with_group b.spool name (insert (numbers b.spool name) n id)) r b new → Makes r (λ _. NumbersLeft facts G before name behind left new next)
+  shown_makes o id r new is was h =
+      let l = subst (λ o. NumbersLeft facts G before name behind ((n, o) ∷ left) b next) is was in
+      called (λ c. NumbersLeft facts G before name behind left c next) (number_fault profile_31_bits b.spool name n id) (with_group b.spool name (insert (numbers b.spool name) n id)) r b new l.begun.is_whole (shown_fits id l) (shown_made id l) h
+
+  -- ---- a number for which none is shown
+
+  -- its id is invented
+  module _ (l : NumbersLeft facts G before name behind ((n, None) ∷ left) b next) (j : ℕ) (first : IsFirstFree (λ k. is_mentioned facts (invented k)) next j) (small : j < 2 ^ 64 - 1) where
+    -- with this number
+    same_number : l.to_invent.0 ≡ j
+    same_number = first_free_once (λ k. is_mentioned facts (invented k)) next l.to_invent.0 j l.to_invent.1 first
+
+    -- the number has it in the spool
+    invented_there : get (numbers G name) n ≡ Some (invented j)
+    invented_there =
+        let at = some_is (get (numbers G name) n) l.of_group.0.0 in
+        let is : at.0 ≡ invented l.to_invent.0 = ap (λ o. unwrap_or o []) (sym at.1) ∙ l.to_invent.2 in
+        at.1 ∙ ap Some (is ∙ ap invented same_number)
+
+    -- it is added without a fault
+    invented_fits : number_fault profile_31_bits b.spool name n (invented j) ≡ None
+    invented_fits = number_fits facts G b.spool is_spool l.begun.part name n (invented j) l.is_group invented_there l.not_made.0
+
+    -- the article has nothing but the id
+    abbrev plain : Text
+    plain = record { head = plain_head (invented j); body = [] }
+
+    -- that is its article in the spool
+    plain_there : get G.articles (invented j) ≡ Some plain
+    plain_there =
+        let t = some_is (get G.articles (invented j)) (is_spool.ids_have_articles name n (invented j) invented_there) in
+        t.1 ∙ ap Some (plain_text facts G (invented j) t.0 given first.1 t.1)
+
+    -- and isn't there yet, since the ids before have lesser numbers
+    plain_absent : get b.spool.articles (invented j) ≡ None
+    plain_absent = none_of (get b.spool.articles (invented j)) (λ i.
+        let r = l.begun.invented_before (invented j) i in
+        let lt : r.0 < next = r.1 in
+        let le : next ≤ j = first.0 in
+        let same : r.0 ≡ j = sym (number-invented r.0 (omega arith)) ∙ ap invented_number (sym r.2) ∙ number-invented j (omega arith) in
+        omega arith)
+
+    -- it is added without a fault
+    plain_fits : article_fault (with_group b.spool name (insert (numbers b.spool name) n (invented j))) (invented j) plain ≡ None
+    plain_fits = article_fits G (with_group b.spool name (insert (numbers b.spool name) n (invented j))) is_spool (invented j) plain plain_there plain_absent
+
+    -- the articles with it
+    abbrev more : FinMap (slice_cmp nat_cmp) Text
+    more = insert b.spool.articles (invented j) plain
+
+    -- they are the spool's
+    more_there : (q : Id) (t : Text) → get more q ≡ Some t → get G.articles q ≡ Some t
+    more_there q t e = elim (got_more nat_list_cmp_total octet_keys b.spool.articles (invented j) plain q t e) [
+      | inl new ↦ ap (get G.articles) new.0 ∙ plain_there ∙ ap Some (sym new.1)
+      | inr old ↦ l.begun.part.articles q t old
+    ]
+
+    -- their ids were invented before the next
+    more_before : (q : Id) → IsSome (get more q) → (k : ℕ) × (k < j + 1) × (q ≡ invented k) × IsFalse (is_mentioned facts q)
+    more_before q i =
+        let t = some_is (get more q) i in
+        elim (got_more nat_list_cmp_total octet_keys b.spool.articles (invented j) plain q t.0 t.1) [
+          | inl new ↦ (j, omega arith, new.0, ap (is_mentioned facts) new.0 ∙ first.1)
+          | inr old ↦ (let r = l.begun.invented_before q (ap is_some old) in let lt : r.0 < next = r.1 in let le : next ≤ j = first.0 in (r.0, omega arith, r.2, r.3))
+        ]
+
+    -- the others are left
+    invented_made : NumbersLeft facts G before name behind left (record { spool = with_both b.spool more name n (invented j); failed = false }) (j + 1)
+    invented_made =
+        one_less facts G before name behind n None left b next (j + 1) (invented j) more l (record {
+          is_whole = refl;
+          part = part_with_number facts G b.spool more name n (invented j) l.begun.part l.is_group invented_there (λ q i. got_still nat_list_cmp_total octet_keys b.spool.articles (invented j) plain q i) more_there
+              (λ _. ap is_some (got_here nat_list_cmp_total b.spool.articles (invented j) plain));
+          invented_before = more_before;
+          small = omega arith;
+        }) (subst (λ k. AreInvented facts (k + 1) (unshown_at (numbers G name) left ++ behind)) same_number l.to_invent.3)
+
+  -- what the call of the number gives, with the id as the code has it
+  abbrev Numbered : Id → Result (Unit {0}) SpoolFault → Building → Type 0
+  Numbered id r new = Builds (number_fault profile_31_bits b.spool name n id) (with_group b.spool name (insert (numbers b.spool name) n id)) r b new
+
+  -- a refusal of the number is want of memory
+  pub unshown_refused : (o : Option Id) (id : Id) (j : ℕ) (x : SpoolFault) (new : Building) → o ≡ None → NumbersLeft facts G before name behind ((n, o) ∷ left) b next
+      → id ≡ invented j → IsFirstFree (λ k. is_mentioned facts (invented k)) next j → j < 2 ^ 64 - 1 → Numbered id (Err x) new → x ≡ Memory
+  unshown_refused o id j x new none was is first small h =
+      let l = subst (λ o. NumbersLeft facts G before name behind ((n, o) ∷ left) b next) none was in
+      call_refused (number_fault profile_31_bits b.spool name n (invented j)) (with_group b.spool name (insert (numbers b.spool name) n (invented j))) x b new l.begun.is_whole (invented_fits l j first small)
+      (subst (λ id. Numbered id (Err x) new) is h)
+
+  -- the two calls make the number and the article
+  pub unshown_makes : (o : Option Id) (id other : Id) (t : Text) (j : ℕ) (x : Unit {0}) (r : Result (Unit {0}) SpoolFault) (mid new : Building) → o ≡ None → NumbersLeft facts G before name behind ((n, o) ∷ left) b next
+      → id ≡ invented j → other ≡ invented j → t ≡ record { head = plain_head other; body = [] } → IsFirstFree (λ k. is_mentioned facts (invented k)) next j → j < 2 ^ 64 - 1
+      → Numbered id (Ok x) mid → Builds (article_fault mid.spool other t) (with_article mid.spool other t) r mid new → Makes r (λ _. NumbersLeft facts G before name behind left new (j + 1))
+  unshown_makes o id other t j x r mid new none was is also text first small h g =
+      let l = subst (λ o. NumbersLeft facts G before name behind ((n, o) ∷ left) b next) none was in
+      let S : Spool = with_group b.spool name (insert (numbers b.spool name) n (invented j)) in
+      let middle : mid ≡ record { spool = S; failed = false } = call_done (number_fault profile_31_bits b.spool name n (invented j)) S x b mid l.begun.is_whole (invented_fits l j first small) (subst (λ id. Numbered id (Ok x) mid) is h) in
+      let plain_is : t ≡ plain l j first small = text ∙ (λ i. record { head = plain_head (also i); body = [] }) in
+      called (λ c. NumbersLeft facts G before name behind left c (j + 1)) (article_fault S (invented j) (plain l j first small)) (with_article S (invented j) (plain l j first small)) r (record { spool = S; failed = false }) new
+      refl (plain_fits l j first small) (invented_made l j first small)
+      (subst (λ m. Builds (article_fault m.spool (invented j) (plain l j first small)) (with_article m.spool (invented j) (plain l j first small)) r m new) middle
+      (subst (λ u. Builds (article_fault mid.spool (invented j) u) (with_article mid.spool (invented j) u) r mid new) plain_is
+      (subst (λ q. Builds (article_fault mid.spool q t) (with_article mid.spool q t) r mid new) also g)))
