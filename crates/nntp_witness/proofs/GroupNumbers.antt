@@ -1,18 +1,18 @@
 -- The numbers of a group that are given: they ascend, and are those that the given spool has in it.
-use Rattle.std.proofs.Common.{◌≡◌, ℕ, ◌<◌, ◌⊎◌, Bool, true, false, cond, ◌&&◌, ◌==◌, T, IsTrue, List, [], ◌∷◌, map, Option, None, Some, is_some, IsSome, inl, inr, refl, sym, ap, subst, ◌∙◌, arith}
-use Rattle.std.specs.Prelude.{MatchOption, nat_lt}
-use Rattle.std.specs.List.{AllByRecursion, list_any}
+use Rattle.std.proofs.Common.{◌≡◌, ℕ, ◌<◌, ◌⊎◌, Bool, true, false, cond, ◌&&◌, ◌==◌, IsTrue, List, [], ◌∷◌, map, Option, None, Some, IsSome, inl, inr, refl, sym, ap, subst, ◌∙◌, arith}
+use Rattle.std.specs.Prelude.{nat_lt}
+use Rattle.std.specs.List.{AllByRecursion}
 use Rattle.std.specs.List.Sorted.{IsStrictlySortedBy}
 use Rattle.std.specs.declared.cmp.Ordering.{Ordering}
 use Rattle.std.specs.declared.cmp.Ordering.TheVariants.{Less, Equal, Greater}
 use Rattle.std.specs.Ordering.{nat_cmp}
 use Rattle.std.specs.Cmp.{IsTotalOrder, nat_cmp_total}
 use Rattle.std.specs.FinMap.{FinMap, get, keys, entries, entries_sorted, IsAntisymmetric, nat_cmp-IsAntisymmetric}
-use Rattle.std.proofs.lemmas.Bool.{and_parts, and_from, true≢false, eq-eqb, eqb-true, lt-ltb, ltb-true, ltb-false, cases_lt}
+use Rattle.std.proofs.lemmas.Bool.{true≢false, eq-eqb, eqb-true, lt-ltb, ltb-true, ltb-false, cases_lt}
 use Rattle.std.proofs.lemmas.Cmp.{ranked, tied_itself}
 use Rattle.nntp_article.specs.Article.{Id}
 use Rattle.nntp_article.specs.Machine.{is_same}
-use Rattle.nntp_article.specs.Spool.{Spool, Name, IsGroup, IsNumber, numbers}
+use Rattle.nntp_article.specs.Spool.{Spool, Name, IsGroup, numbers}
 use Rattle.nntp_facts.specs.Asks.{Ask, Has}
 use Rattle.nntp_facts.specs.Facts.{Fact, IdAt}
 use Rattle.nntp_facts.specs.Given.{asks_in, asks_of, shows, is_shown, IsOneMore, id_in, id_shown, is_denied, IsGivenNumber, IsGiven}
@@ -20,7 +20,6 @@ use Rattle.nntp_facts.specs.Readers.{ShownGroup, HasShownNumbers, IsUnseen}
 use Rattle.nntp_facts.proofs.FirstFree.{first_free_once}
 use Rattle.nntp_facts.proofs.Maps.{sorted_keys, key_of, of_key}
 use Rattle.nntp_facts.proofs.Members.{In, all_at, any_in, found_in, in_map, from_map, to_flat, first_found}
-use Rattle.nntp_wire.proofs.OptionLemmas.{none_of, some_is}
 use Rattle.nntp_witness.specs.Making.{with_unseen, given_numbers}
 
 -- ---- lists in order as the keys of a map

@@ -5,3 +5,4 @@ pub mod FaultsNone
 pub mod MoreMade
 pub mod NumberSteps
 pub mod UnseenInPlace
+pub mod GroupSteps
