@@ -10,3 +10,4 @@ pub mod Aims
 pub mod Faults
 pub mod NumberSteps
 pub mod UnseenInPlace
+pub mod GroupSteps

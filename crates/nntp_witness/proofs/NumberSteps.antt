@@ -79,6 +79,7 @@ one_less facts G before name behind n o left b next after id articles l begun to
 -- ---- a number whose id is shown
 
 module _ (facts : List Fact) (G before : Spool) (given : IsGiven facts G) (is_spool : IsSpool profile_31_bits G) (name : Name) (behind : List Id) (n : ℕ) (left : List (ℕ × Option Id)) (b : Building) (next : ℕ) where
+  -- an id that is shown isn't none
   some_none : (id : Id) → Some id ≡ None → ⊥
   some_none id e = cc
 

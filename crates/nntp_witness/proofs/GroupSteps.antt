@@ -1,0 +1,163 @@
+-- One group more of the spool that is made.
+use Rattle.std.proofs.Common.{◌≡◌, ◌≢◌, ◌⊎◌, ℕ, false, ◌==◌, List, [], ◌∷◌, map, Option, None, Some, is_some, IsSome, IsTrue, Result, Ok, Err, inl, inr, refl, sym, ap, subst, ◌∙◌}
+use Rattle.std.specs.Prelude.{unwrap_or}
+use Rattle.std.specs.List.{AllByRecursion, list_any}
+use Rattle.std.specs.List.Sorted.{IsStrictlySortedBy}
+use Rattle.std.specs.declared.cmp.Ordering.TheVariants.{Less}
+use Rattle.std.specs.Ordering.{nat_cmp}
+use Rattle.std.specs.Cmp.{nat_cmp_total}
+use Rattle.std.specs.Cmp.Lexicographic.{slice_cmp, nat_list_cmp_total, same_text}
+use Rattle.std.specs.FinMap.{get, empty, keys, get-empty, same_map, nat_cmp-IsAntisymmetric}
+use Rattle.std.proofs.lemmas.Bool.{true≢false, or_cases, eq-eqb}
+use Rattle.std.proofs.lemmas.Cmp.{tied_itself}
+use Rattle.nntp_wire.proofs.OptionLemmas.{none_of}
+use Rattle.nntp_article.proofs.Decide.{dec_texts}
+use Rattle.nntp_article.specs.Article.{Id}
+use Rattle.nntp_article.specs.Limit.{profile_31_bits}
+use Rattle.nntp_article.specs.Machine.{is_same}
+use Rattle.nntp_article.specs.Spool.{Spool, Name, Numbers, IsNumber, IsSpool, numbers}
+use Rattle.nntp_facts.specs.Facts.{Fact}
+use Rattle.nntp_facts.specs.Given.{id_shown, IsGiven}
+use Rattle.nntp_facts.specs.Readers.{ShownGroup}
+use Rattle.nntp_facts.proofs.Maps.{key_of, of_key}
+use Rattle.nntp_facts.proofs.Members.{In, all_at, all_from, any_in, in_map, from_map}
+use Rattle.nntp_spool.specs.Building.{Building, Builds, group_fault}
+use Rattle.nntp_spool.specs.Content.{with_group}
+use Rattle.nntp_spool.specs.declared.value.spool_fault.SpoolFault.{SpoolFault}
+use Rattle.nntp_spool.specs.declared.value.spool_fault.SpoolFault.TheVariants.{Memory}
+use Rattle.nntp_witness.specs.Making.{Makes, with_unseen, given_numbers, unshown_of, GroupsLeft, NumbersLeft}
+use Rattle.nntp_witness.proofs.BuilderCalls.{call_done, call_refused}
+use Rattle.nntp_witness.proofs.FaultsNone.{group_fits}
+use Rattle.nntp_witness.proofs.GroupNumbers.{given_keys, given_ascends, given_ids}
+use Rattle.nntp_witness.proofs.MoreMade.{numbers_here, group_here, group_other, part_with_group}
+
+-- ---- names
+
+-- a name that comes after another is none of it
+not_after : (name other : Name) → slice_cmp nat_cmp name other ≡ Less → other ≢ name
+not_after name other less same =
+    let tied : slice_cmp nat_cmp name name ≡ Less = ap (slice_cmp nat_cmp name) (sym same) ∙ less in
+    let itself = tied_itself nat_list_cmp_total name in
+    cc
+
+-- what is there is its value
+some_value : (o : Option Numbers) → IsSome o → o ≡ Some (unwrap_or o empty)
+some_value None i = cc
+some_value (Some N) i = refl
+
+module _ (facts : List Fact) (G : Spool) (given : IsGiven facts G) (is_spool : IsSpool profile_31_bits G) (g : ShownGroup) (left : List ShownGroup) (b : Building) (next : ℕ) (l : GroupsLeft facts G (g ∷ left) b next) where
+  -- ---- the group without its numbers
+
+  -- it is added without a fault
+  group_added : group_fault b.spool g.name ≡ None
+  group_added = group_fits facts G b.spool is_spool l.begun.part g.name l.of_spool.0 l.not_made.0
+
+  -- the content with it
+  abbrev bare : Spool
+  bare = with_group b.spool g.name empty
+
+  -- its numbers are those of the spool
+  keys_given : map (λ e. e.0) (given_numbers g) ≡ keys (numbers G g.name)
+  keys_given = given_keys facts G g given l.of_spool.0 l.shown.0
+
+  -- one that is given is there
+  given_there : (e : ℕ × Option Id) → In e (given_numbers g) → IsNumber (numbers G g.name) e.0
+  given_there e i = of_key nat_cmp_total nat_cmp-IsAntisymmetric (numbers G g.name) e.0 (subst (λ ks. In e.0 ks) keys_given (in_map (λ e. e.0) e (given_numbers g) i))
+
+  -- and one that is there is given
+  there_given : (n : ℕ) → IsNumber (numbers G g.name) n → IsTrue (list_any (λ e. e.0 == n) (given_numbers g))
+  there_given n i =
+      let f = from_map (λ (e : ℕ × Option Id). e.0) n (given_numbers g) (subst (λ ks. In n ks) (sym keys_given) (key_of nat_cmp_total nat_cmp-IsAntisymmetric (numbers G g.name) n i)) in
+      any_in (λ (e : ℕ × Option Id). e.0 == n) f.0 (given_numbers g) f.1 (eq-eqb f.0.0 n f.2)
+
+  -- all of them are left
+  all_left : NumbersLeft facts G b.spool g.name (unshown_of G left) (given_numbers g) (record { spool = bare; failed = false }) next
+  all_left = record {
+    begun = record {
+      is_whole = refl;
+      part = part_with_group facts G b.spool g.name l.begun.part l.of_spool.0;
+      invented_before = l.begun.invented_before;
+      small = l.begun.small;
+    };
+    to_invent = l.to_invent;
+    is_group = group_here b.spool g.name empty;
+    ascending = given_ascends facts g l.shown.0;
+    of_group = all_from (λ (e : ℕ × Option Id). IsNumber (numbers G g.name) e.0 × (e.1 ≡ id_shown facts g.name e.0)) (given_numbers g)
+        (λ e i. (given_there e i, all_at (λ (e : ℕ × Option Id). e.1 ≡ id_shown facts g.name e.0) e (given_numbers g) (given_ids facts g l.shown.0) i));
+    not_made = all_from (λ (e : ℕ × Option Id). get (numbers bare g.name) e.0 ≡ None) (given_numbers g) (λ e i. ap (λ N. get N e.0) (numbers_here b.spool g.name empty) ∙ get-empty nat_cmp e.0);
+    others = λ n i. inl (there_given n i);
+    other_groups = λ other apart. group_other b.spool g.name empty other apart;
+  }
+
+  -- ---- the group with all of them
+
+  module _ (c : Building) (after : ℕ) (done : NumbersLeft facts G b.spool g.name (unshown_of G left) [] c after) where
+    -- a number that isn't made isn't in the spool
+    absent_too : (n : ℕ) → get (numbers c.spool g.name) n ≡ None → get (numbers G g.name) n ≡ None
+    absent_too n absent = none_of (get (numbers G g.name) n) (λ i. elim (done.others n i) [
+      | inl never ↦ true≢false (sym never)
+      | inr there ↦ true≢false (sym there ∙ ap is_some absent)
+    ])
+
+    -- each number has the id that it has in the spool
+    same_ids : (n : ℕ) → get (numbers c.spool g.name) n ≡ get (numbers G g.name) n
+    same_ids n = by (get (numbers c.spool g.name) n) refl
+      where
+        by : (o : Option Id) → get (numbers c.spool g.name) n ≡ o → get (numbers c.spool g.name) n ≡ get (numbers G g.name) n
+        by None e = e ∙ sym (absent_too n e)
+        by (Some id) e = e ∙ sym (done.begun.part.numbers g.name n id e)
+
+    -- so the group is the spool's
+    same_group : get c.spool.groups g.name ≡ get G.groups g.name
+    same_group =
+        some_value (get c.spool.groups g.name) done.is_group ∙ ap Some (same_map nat_cmp_total nat_cmp-IsAntisymmetric (numbers c.spool g.name) (numbers G g.name) same_ids)
+        ∙ sym (some_value (get G.groups g.name) l.of_spool.0)
+
+    -- the groups behind it aren't there yet
+    still_absent : (hs : List ShownGroup) → AllByRecursion (λ name. slice_cmp nat_cmp g.name name ≡ Less) (map (λ h. h.name) hs) → AllByRecursion (λ h. get b.spool.groups h.name ≡ None) hs
+        → AllByRecursion (λ h. get c.spool.groups h.name ≡ None) hs
+    still_absent [] above absent = tt
+    still_absent (h ∷ hs) above absent = (done.other_groups h.name (not_after g.name h.name above.0) ∙ absent.0, still_absent hs above.1 absent.1)
+
+    -- the others are the spool's, or left
+    other_left : (name : Name) → name ≢ g.name → IsTrue (list_any (λ h. is_same h.name name) (g ∷ left)) ⊎ (get b.spool.groups name ≡ get G.groups name)
+        → IsTrue (list_any (λ h. is_same h.name name) left) ⊎ (get c.spool.groups name ≡ get G.groups name)
+    other_left name apart (inl t) = elim (or_cases (is_same g.name name) (list_any (λ h. is_same h.name name) left) t) [
+      | inl same ↦ absurd (apart (sym (same_text g.name name (sym same))))
+      | inr more ↦ inl more
+    ]
+    other_left name apart (inr same) = inr (done.other_groups name apart ∙ same)
+
+    -- one group less is left
+    group_made : GroupsLeft facts G left c after
+    unfolding IsStrictlySortedBy
+    group_made = record {
+      begun = done.begun;
+      to_invent = done.to_invent;
+      shown = l.shown.1;
+      ascending = l.ascending.1;
+      of_spool = l.of_spool.1;
+      not_made = still_absent left l.ascending.0 l.not_made.1;
+      others = λ name. elim (dec_texts name g.name) [
+        | inl same ↦ inr (subst (λ q. get c.spool.groups q ≡ get G.groups q) (sym same) same_group)
+        | inr apart ↦ other_left name apart (l.others name)
+      ];
+    }
+
+  -- ---- the calls, with the name as the code has it
+
+  -- a refusal of the group is want of memory
+  pub group_refused : (name : Name) (x : SpoolFault) (new : Building) → name ≡ g.name → Builds (group_fault b.spool name) (with_group b.spool name empty) (Err x) b new → x ≡ Memory
+  group_refused name x new is h = call_refused (group_fault b.spool g.name) bare x b new l.begun.is_whole group_added (subst (λ q. Builds (group_fault b.spool q) (with_group b.spool q empty) (Err x) b new) is h)
+
+  -- where it is added, its numbers are left
+  pub numbers_next : (name other : Name) (ns : List (ℕ × Option Id)) (unseen : Option ℕ) (x : Unit {0}) (new : Building) → name ≡ g.name → other ≡ g.name → ns ≡ g.numbers → unseen ≡ g.unseen
+      → Builds (group_fault b.spool name) (with_group b.spool name empty) (Ok x) b new → NumbersLeft facts G b.spool other (unshown_of G left) (with_unseen unseen ns) new next
+  numbers_next name other ns unseen x new is also numbers_are unseen_is h =
+      let built : new ≡ record { spool = bare; failed = false } = call_done (group_fault b.spool g.name) bare x b new l.begun.is_whole group_added (subst (λ q. Builds (group_fault b.spool q) (with_group b.spool q empty) (Ok x) b new) is h) in
+      subst (λ (t : Type 0). t) (λ i. NumbersLeft facts G b.spool (sym also i) (unshown_of G left) (with_unseen (sym unseen_is i) (sym numbers_are i)) (sym built i) next) all_left
+
+  -- and once they are made, one group less is left
+  pub group_makes : (other : Name) (r : Result (Unit {0}) SpoolFault) (c : Building) (after : ℕ) → other ≡ g.name → Makes r (λ _. NumbersLeft facts G b.spool other (unshown_of G left) [] c after) → Makes r (λ _. GroupsLeft facts G left c after)
+  group_makes other (Ok x) c after is done = group_made c after (subst (λ q. NumbersLeft facts G b.spool q (unshown_of G left) [] c after) is done)
+  group_makes other (Err x) c after is refused = refused
