@@ -1,5 +1,5 @@
 -- How a judgement goes through the exchanges of two streams.
-use Rattle.std.proofs.Common.{◌≡◌, ◌≢◌, ◌∙◌, sym, subst, refl, ℕ, ◌+◌, List, [], ◌∷◌, ◌++◌, Option, None, Some, MatchOption, Result, Ok, Err, IfOk, ◌<◌, ◌^◌, length, ap, inr, arith}
+use Rattle.std.proofs.Common.{◌≡◌, ◌≢◌, ◌∙◌, sym, subst, refl, ℕ, ◌+◌, List, [], ◌∷◌, ◌++◌, Option, None, Some, MatchOption, Result, Ok, Err, IfOk, ◌<◌, length, ap, inr, arith}
 use Rattle.std.specs.Option.{option_map}
 use Rattle.std.proofs.lemmas.List.{length_push, append_assoc}
 use Rattle.nntp_wire.specs.Octets.{crlf}
@@ -9,7 +9,7 @@ use Rattle.nntp_article.specs.Limit.{profile_31_bits}
 use Rattle.nntp_article.specs.Machine.{Visible, visible_after, start, fits}
 use Rattle.nntp_article.specs.Spool.{Spool}
 use Rattle.nntp_article.proofs.Closing.{after-closes}
-use Rattle.nntp_pair.specs.Pairing.{Paired, Unpaired, IsNext, AreNext, Ends, IsBad, end, bad as pair_end, line_ahead, streams, asked_at, asked_of, responses_of}
+use Rattle.nntp_pair.specs.Pairing.{Paired, Unpaired, IsNext, AreNext, Ends, IsBad, IsPairing, end, bad as pair_end, line_ahead, streams, asked_at, asked_of, responses_of}
 use Rattle.nntp_pair.specs.declared.class.PairClass.{PairClass}
 use Rattle.nntp_pair.specs.declared.class.PairClass.TheVariants as pair
 use Rattle.nntp_pair.proofs.PairingLemmas.{AreNext-push, index-counts}
@@ -21,6 +21,7 @@ use Rattle.nntp_facts.specs.Classes.{class_of, class_by, visible_from}
 use Rattle.nntp_facts.specs.Headline.{Yes, No, IsHeadline}
 use Rattle.nntp_facts.specs.Noted.{FactsKept, Stands, IsDue, IsNoted}
 use Rattle.nntp_facts.specs.Permits.{SomePermits}
+use Rattle.nntp_facts.proofs.Size.{pairs_size}
 use Rattle.nntp_facts.proofs.Headlines.{same_answers, headline_at_end, headline_at_octets, headline_at_response, headline_at_unfitting}
 use Rattle.nntp_spool.specs.Text.{IsWritten}
 use Rattle.nntp_spool.specs.Verifying.{IsVerified}
@@ -170,12 +171,12 @@ octets-right client server facts left answers class p ends k at of is =
     (subst (λ profile. SomePermits profile (asked_of p.pairs) (responses_of p.pairs)) p.stands.profile p.stands.permitted))
 
 -- where no octet is left, and the spool is a witness of the exchanges that passed, it is a yes
-pub at-end : (client server : List ℕ) (facts : FactsKept) (left : Unpaired) (answers unanswered : ℕ) (S : Spool) → length server < 2 ^ 210 → (p : Passed client server facts left answers) → Ends left (end unanswered)
+pub at-end : (client server : List ℕ) (facts : FactsKept) (left : Unpaired) (answers unanswered : ℕ) (S : Spool) → (p : Passed client server facts left answers) → Ends left (end unanswered)
     → IsWitness p.pairs S → IsWritten profile_31_bits S → IsYes client server S answers
-at-end client server facts left answers unanswered S small p ends witness written =
-    let pairing = record { left = left; paired = p.before; ends = ends } in
+at-end client server facts left answers unanswered S p ends witness written =
+    let pairing : IsPairing client server p.pairs (end unanswered) = record { left = left; paired = p.before; ends = ends } in
     let permitted = subst (λ profile. SomePermits profile (asked_of p.pairs) (responses_of p.pairs)) p.stands.profile p.stands.permitted in
-    let headline = subst (λ n. IsHeadline profile_31_bits client server (Yes S n)) (sym p.count) (headline_at_end profile_31_bits client server p.pairs unanswered S small pairing permitted witness.given) in
+    let headline = subst (λ n. IsHeadline profile_31_bits client server (Yes S n)) (sym p.count) (headline_at_end profile_31_bits client server p.pairs unanswered S (pairs_size p.pairs p.stands.lines p.stands.few) pairing permitted witness.given) in
     record {
       headline = headline;
       throughout = record { pairs = p.pairs; unanswered = unanswered; pairing = pairing; count = p.count };

@@ -43,11 +43,11 @@ few_facts profile S client server n x small =
     omega arith
 
 -- where some spool explains two streams, the given one is their least explanation
-pub given_explains : (profile : Profile) (S G : Spool) (client server : List ℕ) (n : ℕ) (x : Explains profile S client server n) → length server < 2 ^ 210
+pub given_explains : (profile : Profile) (S G : Spool) (client server : List ℕ) (n : ℕ) (x : Explains profile S client server n) → size (facts_of_session (prompts_of client) x.answers) < 2 ^ 210
     → IsGiven (facts_of_session (prompts_of client) x.answers) G → IsLeastExplanation profile client server G n
 given_explains profile S G client server n x small given =
     let s = stands profile S (prompts_of client) x.answers x.is_spool x.run in
-    let g = given_permits profile G (prompts_of client) x.answers s.0 s.1 (few_facts profile S client server n x small) given in
+    let g = given_permits profile G (prompts_of client) x.answers s.0 s.1 small given in
     record {
       explains = record { is_spool = g.0; answers = x.answers; octets = x.octets; count = x.count; run = g.1; spelled = x.spelled; whole = x.whole };
       given = given;
@@ -77,8 +77,9 @@ pub some_headline : (profile : Profile) (client server : List ℕ) → length se
 some_headline profile client server small = elim (explained_or_bad profile client server small) [
   | inl (S, n, x) ↦
       let G = made_for profile (prompts_of client) x.answers in
-      let given = given_exists profile (prompts_of client) x.answers (stands profile S (prompts_of client) x.answers x.is_spool x.run).0 (few_facts profile S client server n x small) in
-      (Yes G n, given_explains profile S G client server n x small given)
+      let few = few_facts profile S client server n x small in
+      let given = given_exists profile (prompts_of client) x.answers (stands profile S (prompts_of client) x.answers x.is_spool x.run).0 few in
+      (Yes G n, given_explains profile S G client server n x few given)
   | inr (k, is_bad) ↦ let c = one_class profile client server k is_bad in (No k c.0, (is_bad, c.1))
 ]
 
@@ -90,14 +91,14 @@ yes_explained profile client server (No k class) x = (λ t. absurd (true≢false
 -- ---- the ways to it
 
 -- at the end of the server's octets
-pub headline_at_end : (profile : Profile) (client server : List ℕ) (pairs : List Paired) (unanswered : ℕ) (G : Spool) → length server < 2 ^ 210 → IsPairing client server pairs (end unanswered)
+pub headline_at_end : (profile : Profile) (client server : List ℕ) (pairs : List Paired) (unanswered : ℕ) (G : Spool) → size (facts_of_session (asked_of pairs) (responses_of pairs)) < 2 ^ 210 → IsPairing client server pairs (end unanswered)
     → SomePermits profile (asked_of pairs) (responses_of pairs) → IsGiven (facts_of_session (asked_of pairs) (responses_of pairs)) G → IsHeadline profile client server (Yes G (length pairs))
 headline_at_end profile client server pairs unanswered G small pairing permitted given =
     let p = (pairs_permitted profile client server pairs pairing.left pairing.paired).1 permitted in
     let x = explained_end profile p.0 client server pairs unanswered pairing p.1 p.2 in
     let answers : responses_of pairs ≡ x.answers = (by_all_pairs profile p.0 client server (length pairs) pairs (end unanswered) pairing x).0 in
     let facts = sym (facts_by_pairs client server pairs pairing.left pairing.paired) ∙ ap (facts_of_session (prompts_of client)) answers in
-    given_explains profile p.0 G client server (length pairs) x small (subst (λ facts. IsGiven facts G) facts given)
+    given_explains profile p.0 G client server (length pairs) x (subst (λ facts. size facts < 2 ^ 210) facts small) (subst (λ facts. IsGiven facts G) facts given)
 
 -- at octets that answer nothing
 pub headline_at_octets : (profile : Profile) (client server : List ℕ) (pairs : List Paired) (class : PairClass) → IsPairing client server pairs (bad class)

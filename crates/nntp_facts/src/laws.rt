@@ -283,7 +283,8 @@ pub fn streams_have_one_headline()
 /// Where the pairing comes to the end of the server's octets, and some spool permits its responses,
 /// the headline is a yes with the given spool.
 pub fn headline_at_the_end()
-    ensures { (profile : Profile) (client server : List ℕ) (pairs : List Paired) (unanswered : ℕ) (G : Spool) → length server < 2 ^ 210
+    ensures { (profile : Profile) (client server : List ℕ) (pairs : List Paired) (unanswered : ℕ) (G : Spool)
+        → size (facts_of_session (asked_of pairs) (responses_of pairs)) < 2 ^ 210
         → IsPairing client server pairs (end unanswered) → SomePermits profile (asked_of pairs) (responses_of pairs)
         → IsGiven (facts_of_session (asked_of pairs) (responses_of pairs)) G → IsHeadline profile client server (Yes G (length pairs)) }
 {}

@@ -36,5 +36,5 @@ returns-in-Bad g c =
 
 pub returns-in-End : goal.returns-in-End
 returns-in-End g c =
-    at-end c.args.client.now c.args.server.now c.loop-exchange.facts c.loop-exchange.pairs c.loop-exchange.answers c.in-End.unanswered _ ? c.loop-exchange.invariant c.in-End.ensures.step.0
-    (c.in_ok-spool.ensures.given c.loop-exchange.invariant.pairs c.loop-exchange.invariant.stands) c.in_ok-spool.ensures.is_written
+    at-end c.args.client.now c.args.server.now c.loop-exchange.facts c.loop-exchange.pairs c.loop-exchange.answers c.in-End.unanswered c.in_ok-spool-in-End.spool c.loop-exchange.invariant c.in-End.ensures.step.0
+    (c.in_ok-spool-in-End.ensures.given c.loop-exchange.invariant.pairs c.loop-exchange.invariant.stands) c.in_ok-spool-in-End.ensures.is_written
