@@ -14,11 +14,10 @@ use Rattle.nntp_article.specs.Machine.{is_same}
 use Rattle.nntp_facts.specs.Asks.{Ask, Has}
 use Rattle.nntp_facts.specs.Facts.{Fact, Asks, IdAt, TextIs}
 use Rattle.nntp_facts.specs.Given.{asks_of, shows_group, is_shown_group, first_given, id_in, head_in, body_in, is_mentioned, mentions, is_sent, gives_article}
-use Rattle.nntp_facts.specs.Together.{Join, denies_group, number_in, shows_article, denies_article}
-use Rattle.nntp_facts.specs.Kept.{Kept, IsKept, Told, told, IsUntold, IsKeptGroup, KeptGroup, AreKept, KeptNames, AreKeptNames, KeptArticle, IsKeptArticle, AreKeptArticles, with_asks, with_id, Changes}
-use Rattle.nntp_facts.specs.SayingView.{facts_said, facts_placed, asks_placed, MaySay}
+use Rattle.nntp_facts.specs.Together.{denies_group, number_in, shows_article, denies_article}
+use Rattle.nntp_facts.specs.Kept.{told, IsUntold, IsKeptGroup, KeptGroup, AreKept, KeptNames, AreKeptNames, KeptArticle, IsKeptArticle, AreKeptArticles, with_asks, with_id, Changes}
+use Rattle.nntp_facts.specs.SayingView.{facts_placed, asks_placed}
 use Rattle.nntp_facts.specs.declared.ask.Position.{Position}
-use Rattle.nntp_facts.specs.declared.saying.Saying.{Saying}
 use Rattle.nntp_facts.proofs.Gives.{any_silent, given_append, given_silent}
 use Rattle.nntp_facts.proofs.Joined.{asks_append}
 use Rattle.nntp_facts.proofs.NamesKept.{not_before}
@@ -114,10 +113,6 @@ kept_alike facts more other articles same kept id = by (get articles id) (kept i
     }
 
 -- ---- what an answer says
-
--- what is kept after an answer is added
-abbrev pub KeepsToo : {A : Type 0} → Kept → Kept → Name → Saying A → Type 0
-KeepsToo old new here saying = (facts : List Fact) → IsKept facts old → MaySay facts here saying → Join facts (facts_said here saying) → IsKept (facts ++ facts_said here saying) new
 
 module _ (facts : List Fact) (here : Name) where
   -- a group that was shown is shown still

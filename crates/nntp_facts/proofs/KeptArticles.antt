@@ -16,7 +16,7 @@ use Rattle.nntp_facts.specs.Facts.{Fact, IdAt, TextIs, NoArticle}
 use Rattle.nntp_facts.specs.Given.{mentions, is_mentioned, gives_article, first_given, head_in, body_in}
 use Rattle.nntp_facts.specs.Together.{shows_article, denies_article, GiveSame, JoinArticles}
 use Rattle.nntp_facts.specs.Kept.{KeptArticle, AreKeptArticles}
-use Rattle.nntp_facts.specs.Articles.{head_sent, body_sent, AreSame, MayBeSent, denied, unsent, with_sent, with_new, articles_in}
+use Rattle.nntp_facts.specs.Articles.{head_sent, body_sent, AreSame, MayBeSent, denied, unsent, with_sent, articles_in}
 use Rattle.nntp_wire.proofs.ShownMaps.{equal_is}
 use Rattle.nntp_facts.proofs.Maps.{get_in, in_get}
 use Rattle.nntp_facts.proofs.Members.{In}
@@ -39,6 +39,10 @@ get_elsewhere articles id q a e = get-insert nat_list_cmp_total articles id a q 
 -- and at its place
 get_there : (articles : FinMap (slice_cmp nat_cmp) KeptArticle) (id : Id) (a : KeptArticle) → get (insert articles id a) id ≡ Some a
 get_there articles id a = get-insert nat_list_cmp_total articles id a id ∙ ap (λ b. cond b (Some a) (get articles id)) ((eq_by_cmp_equiv nat_list_cmp_total).refl id)
+
+-- a is kept of the id, if nothing is kept of it yet
+abbrev pub with_new : FinMap (slice_cmp nat_cmp) KeptArticle → Id → KeptArticle → FinMap (slice_cmp nat_cmp) KeptArticle
+with_new articles id a = cond (is_some (get articles id)) articles (insert articles id a)
 
 -- the same, where it is put in if it wasn't there
 new_elsewhere : (articles : FinMap (slice_cmp nat_cmp) KeptArticle) (id q : Id) (a : KeptArticle) → is_same id q ≡ false → get (with_new articles id a) q ≡ get articles q
@@ -87,9 +91,8 @@ may_stand_known facts articles name n id a b kept known is =
 
 -- and of an unknown one
 pub may_stand_unknown : (facts : List Fact) (articles : FinMap (slice_cmp nat_cmp) KeptArticle) (name : Name) (n : ℕ) (id : Id) → AreKeptArticles facts articles
-    → None ≡ get articles id → IsTrue true ↔ JoinArticles facts (IdAt name n id ∷ [])
-may_stand_unknown facts articles name n id kept unknown =
-    (λ t. (may_stand facts articles name n id kept).1 (ap (λ o. option_map_or (λ a. a.is_denied) o false) (sym unknown)), λ j. refl)
+    → None ≡ get articles id → JoinArticles facts (IdAt name n id ∷ [])
+may_stand_unknown facts articles name n id kept unknown = (may_stand facts articles name n id kept).1 (ap (λ o. option_map_or (λ a. a.is_denied) o false) (sym unknown))
 
 -- what is said then of an id that isn't denied
 says_more : (facts : List Fact) (fact : Fact) (id : Id) (o : Option KeptArticle) (a : KeptArticle) → Says facts id o
@@ -158,9 +161,8 @@ may_lack_known facts articles id a b kept known is =
 
 -- and of an unknown one
 pub may_lack_unknown : (facts : List Fact) (articles : FinMap (slice_cmp nat_cmp) KeptArticle) (id : Id) → AreKeptArticles facts articles
-    → None ≡ get articles id → IsTrue true ↔ JoinArticles facts (NoArticle id ∷ [])
-may_lack_unknown facts articles id kept unknown =
-    (λ t. (may_lack facts articles id kept).1 (ap (λ o. option_map_or (λ a. not a.is_denied) o false) (sym unknown)), λ j. refl)
+    → None ≡ get articles id → JoinArticles facts (NoArticle id ∷ [])
+may_lack_unknown facts articles id kept unknown = (may_lack facts articles id kept).1 (ap (λ o. option_map_or (λ a. not a.is_denied) o false) (sym unknown))
 
 -- what is said then of an id that isn't shown
 says_denied : (facts : List Fact) (id : Id) (o : Option KeptArticle) (a : KeptArticle) → Says facts id o → option_map_or (λ a. not a.is_denied) o false ≡ false → a.is_denied ≡ true
@@ -253,23 +255,22 @@ may_send facts articles what id lines kept = (
     back None s h = (s.denied, subst (AreSame (head_sent what lines)) (sym s.head) (unknown (head_sent what lines)), subst (AreSame (body_sent what lines)) (sym s.body) (unknown (body_sent what lines)))
     back (Some a) s h = (s.denied ∙ h.0, subst (AreSame (head_sent what lines)) (sym s.head) h.1, subst (AreSame (body_sent what lines)) (sym s.body) h.2)
 
--- the test of an id of which something is known
-pub may_send_known : (facts : List Fact) (articles : FinMap (slice_cmp nat_cmp) KeptArticle) (what : What) (id : Id) (lines : Option (List Line)) (head body : Option (List Line)) (a : KeptArticle) (b : Bool)
-    → AreKeptArticles facts articles → Some a ≡ get articles id → head ≡ head_sent what lines → body ≡ body_sent what lines → IsTrue b ↔ MayBeSent a head body → IsTrue b ↔ JoinArticles facts (TextIs what id lines ∷ [])
-may_send_known facts articles what id lines head body a b kept known heads bodies test =
+-- what an id of which something is known has to meet
+pub may_send_known : (facts : List Fact) (articles : FinMap (slice_cmp nat_cmp) KeptArticle) (what : What) (id : Id) (lines : Option (List Line)) (head body : Option (List Line)) (a : KeptArticle)
+    → AreKeptArticles facts articles → Some a ≡ get articles id → head ≡ head_sent what lines → body ≡ body_sent what lines → MayBeSent a head body ↔ JoinArticles facts (TextIs what id lines ∷ [])
+may_send_known facts articles what id lines head body a kept known heads bodies =
     let iff = may_send facts articles what id lines kept in
     let same : MayBeSent a head body ≡ MayBeSentOf (get articles id) (head_sent what lines) (body_sent what lines) = (λ i. MayBeSentOf (known i) (heads i) (bodies i)) in
-    (λ t. iff.1 (subst (λ T. T) same (test.0 t)), λ j. test.1 (subst (λ T. T) (sym same) (iff.0 j)))
+    (λ m. iff.1 (subst (λ T. T) same m), λ j. subst (λ T. T) (sym same) (iff.0 j))
 
 -- and of an unknown one
 pub may_send_unknown : (facts : List Fact) (articles : FinMap (slice_cmp nat_cmp) KeptArticle) (what : What) (id : Id) (lines : Option (List Line)) → AreKeptArticles facts articles
-    → None ≡ get articles id → IsTrue true ↔ JoinArticles facts (TextIs what id lines ∷ [])
-may_send_unknown facts articles what id lines kept unknown =
-    (λ t. (may_send facts articles what id lines kept).1 (subst (λ o. MayBeSentOf o (head_sent what lines) (body_sent what lines)) unknown tt), λ j. refl)
+    → None ≡ get articles id → JoinArticles facts (TextIs what id lines ∷ [])
+may_send_unknown facts articles what id lines kept unknown = (may_send facts articles what id lines kept).1 (subst (λ o. MayBeSentOf o (head_sent what lines) (body_sent what lines)) unknown tt)
 
 -- what is sent is kept
 pub sends : (facts : List Fact) (old new : FinMap (slice_cmp nat_cmp) KeptArticle) (what : What) (id : Id) (lines : Option (List Line)) (head body : Option (List Line)) (a b : KeptArticle)
-    → a ≡ unwrap_or (get old id) unsent → head ≡ head_sent what lines → body ≡ body_sent what lines → (a.is_denied ≡ false → b ≡ with_sent a head body) → new ≡ insert old id b
+    → a ≡ unwrap_or (get old id) unsent → head ≡ head_sent what lines → body ≡ body_sent what lines → b ≡ with_sent a head body → new ≡ insert old id b
     → AreKeptArticles facts old → JoinArticles facts (TextIs what id lines ∷ []) → AreKeptArticles (facts ++ TextIs what id lines ∷ []) new
 sends facts old new what id lines head body a b was heads bodies becomes is kept joins =
     still_kept facts fact old new kept
@@ -295,14 +296,9 @@ sends facts old new what id lines head body a b was heads bodies becomes is kept
     free : option_map_or (λ a. a.is_denied) (get old id) false ≡ false
     free = sym (says facts old id kept).denied ∙ ((send_joins facts what id lines).0 joins).0
 
-    unmet : (o : Option KeptArticle) → option_map_or (λ a. a.is_denied) o false ≡ false → (unwrap_or o unsent).is_denied ≡ false
-    unmet None e = refl
-    unmet (Some b) e = e
-
     here : Says (facts ++ fact ∷ []) id (get new id)
     here =
-        let then : b ≡ with_sent a head body = becomes (ap (λ a. a.is_denied) was ∙ unmet (get old id) free) in
-        let there : get new id ≡ Some (with_sent a head body) = ap (λ m. get m id) is ∙ get_there old id b ∙ ap Some then in
+        let there : get new id ≡ Some (with_sent a head body) = ap (λ m. get m id) is ∙ get_there old id b ∙ ap Some becomes in
         subst (Says (facts ++ fact ∷ []) id) (sym there) (subst (λ a. Says (facts ++ fact ∷ []) id (Some (with_sent a head body))) (sym was) (by (get old id) (says facts old id kept) free))
 
 -- ---- the ids that have articles

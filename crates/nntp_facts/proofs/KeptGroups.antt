@@ -1,18 +1,20 @@
 -- What is kept of groups, once more is told of one.
 use Rattle.std.proofs.Common.{◌≡◌, ℕ, Bool, true, false, ◌==◌, cond, List, ◌++◌, Option, None, Some, is_some, MatchOption, refl, sym, ap, subst, ◌∙◌}
 use Rattle.std.specs.Option.{option_or}
-use Rattle.std.specs.FinMap.{FinMap, get, insert, empty, get-insert, get-empty}
+use Rattle.std.specs.FinMap.{FinMap, get, insert, empty, get-insert, get-empty, slice_cmp-IsAntisymmetric, nat_cmp-IsAntisymmetric}
 use Rattle.std.specs.Ordering.{nat_cmp, eq_by_cmp}
 use Rattle.std.specs.Cmp.{nat_cmp_total, IsTotalOrder}
 use Rattle.std.specs.declared.cmp.Ordering.{Ordering}
 use Rattle.std.specs.Cmp.Lexicographic.{slice_cmp, same_text, nat_list_cmp_total}
 use Rattle.std.proofs.lemmas.Bool.{true≢false, eqb-true}
+use Rattle.nntp_wire.proofs.ShownMaps.{insert-same}
 use Rattle.nntp_article.specs.Article.{Id}
 use Rattle.nntp_article.specs.Spool.{Name}
 use Rattle.nntp_article.specs.Machine.{is_same}
 use Rattle.nntp_facts.specs.Asks.{Ask}
+use Rattle.nntp_facts.specs.Together.{AsksStand}
 use Rattle.nntp_facts.specs.Summary.{IsSummary}
-use Rattle.nntp_facts.specs.Kept.{KeptGroup, Told, IsKeptGroup, IsUntold, AreKept, with_asks, with_id, Changes}
+use Rattle.nntp_facts.specs.Kept.{KeptGroup, Told, IsKeptGroup, IsUntold, AreKept, with_asks, with_id, Changes, IsAddedIf}
 use Rattle.nntp_facts.proofs.OneGroup.{IsOr, flip_number, flip_text}
 use Rattle.nntp_facts.proofs.Silent.{kept_at}
 
@@ -46,6 +48,16 @@ asks_kept before after groups name g h asks kept is changes sum ids places =
       ids = λ n. ap (λ m. get m n) ids ∙ was.ids n;
       places = λ id. ap (λ m. get m id) places ∙ was.places id;
     }))
+
+-- the same where it is asked only if it stands together with what was asked
+pub tested_kept : (before after : Name → Told) (groups new : Groups) (name : Name) (g h : KeptGroup) (asks : List Ask) (does : Bool) → AreKept before groups → get groups name ≡ Some g → new ≡ insert groups name h
+    → Changes before after name (with_asks (before name) asks)
+    → IsAddedIf (AsksStand ((before name).asks ++ asks)) (λ k. IsSummary k.numbers ((before name).asks ++ asks) × (k.ids ≡ g.ids) × (k.places ≡ g.places)) g h does
+    → IsAddedIf (AsksStand ((before name).asks ++ asks)) (AreKept after) groups new does
+tested_kept before after groups new name g h asks true kept is put_in changes added =
+    (added.0, subst (AreKept after) (sym put_in) (asks_kept before after groups name g h asks kept is changes added.1.0 added.1.1 added.1.2))
+tested_kept before after groups new name g h asks false kept is put_in changes added =
+    (added.0, put_in ∙ ap (insert groups name) added.1 ∙ insert-same nat_list_cmp_total (slice_cmp-IsAntisymmetric nat_cmp-IsAntisymmetric) groups name g is)
 
 -- one thing more is kept in a map
 grown : {K X : Type 0} {R : K → K → Ordering} (o : IsTotalOrder R) (m : FinMap R X) (p : Option X) (q k : K) (x : X) (b : Bool)

@@ -1,15 +1,14 @@
--- Tests of what is kept, as what each kind of answer has to join.
-use Rattle.std.proofs.Common.{◌≡◌, ℕ, Bool, true, false, not, ◌||◌, IsTrue, List, [], ◌∷◌, ◌++◌, Option, None, Some, refl, sym, subst, ◌∙◌}
-use Rattle.std.specs.Prelude.{◌↔◌, IsFalse, IfSome}
+-- Tests of what is kept, as what each kind of answer has to join, and what is added then.
+use Rattle.std.proofs.Common.{◌≡◌, ℕ, Bool, true, false, not, IsTrue, List, refl, sym, ◌∙◌}
+use Rattle.std.specs.Prelude.{◌↔◌, IsFalse}
 use Rattle.std.specs.List.{AllByRecursion}
-use Rattle.std.specs.Option.{option_or}
 use Rattle.std.proofs.lemmas.Bool.{true≢false, eqb-true}
 use Rattle.nntp_article.specs.Spool.{Name}
 use Rattle.nntp_facts.specs.Asks.{Position, Nowhere, First, Known, StandsAt}
 use Rattle.nntp_facts.specs.Facts.{Fact}
-use Rattle.nntp_facts.specs.Together.{IsWellFormed, Together, Join}
+use Rattle.nntp_facts.specs.Together.{IsWellFormed, Together}
 use Rattle.nntp_facts.specs.Summary.{ShowsNoOther}
-use Rattle.nntp_facts.specs.Kept.{Kept, IsKept}
+use Rattle.nntp_facts.specs.Kept.{Kept, IsKept, IsAddedIf, AreAdded}
 use Rattle.nntp_facts.specs.SayingView.{facts_said, MaySay}
 use Rattle.nntp_facts.specs.declared.saying.Saying.{Saying}
 
@@ -52,8 +51,19 @@ stands_shows First n m e = eqb-true n m e
 stands_shows Nowhere n m e = absurd (true≢false (sym e))
 stands_shows (Known c) n m e = absurd (true≢false (sym e))
 
+-- ---- what is added
+
+-- what is kept already is added where the test is met
+pub tested : {K P : Type 0} (Q : K → Type 0) (b : Bool) (k : K) → (IsTrue b ↔ P) → (P → Q k) → IsAddedIf P Q k k b
+tested Q true k test has = (test.0 refl, has (test.0 refl))
+tested Q false k test has = (λ p. absurd (true≢false (sym (test.1 p))), refl)
+
+-- where the test isn't met, nothing may be added
+pub unmet : {P : Type 0} (b : Bool) → b ≡ false → (IsTrue b ↔ P) → P → ⊥
+unmet b e test p = true≢false (sym (test.1 p) ∙ e)
+
 -- ---- what an answer says
 
--- the test tells whether what is said joins
-abbrev pub TellsJoin : {A : Type 0} → Kept → Name → Saying A → Bool → Type 0
-TellsJoin k here saying does = (facts : List Fact) → IsKept facts k → Together facts → AllByRecursion IsWellFormed (facts_said here saying) → MaySay facts here saying → IsTrue does ↔ Join facts (facts_said here saying)
+-- what is said is added, if it joins
+abbrev pub AddsSaid : {A : Type 0} → Kept → Kept → Name → Saying A → Bool → Type 0
+AddsSaid old new here saying does = (facts : List Fact) → IsKept facts old → Together facts → AllByRecursion IsWellFormed (facts_said here saying) → MaySay facts here saying → AreAdded facts (facts_said here saying) old new does

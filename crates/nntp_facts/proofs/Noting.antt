@@ -1,8 +1,7 @@
 -- Noting an exchange: when it is permitted behind those that were accepted, and what stands then.
-use Rattle.std.proofs.Common.{◌≡◌, ◌+◌, ◌<◌, ◌≤◌, ◌^◌, ◌↔◌, Bool, false, true, IsTrue, List, [], ◌∷◌, ◌++◌, length, refl, sym, ap, subst, ◌∙◌, arith, length-append}
+use Rattle.std.proofs.Common.{◌≡◌, ◌+◌, ◌<◌, ◌≤◌, ◌^◌, ◌↔◌, Bool, false, true, IsTrue, List, [], ◌∷◌, ◌++◌, length, sym, ap, subst, ◌∙◌, arith, length-append}
 use Rattle.std.specs.List.{AllByRecursion}
 use Rattle.std.proofs.Math.Path.{ap₂}
-use Rattle.std.proofs.lemmas.Bool.{true≢false}
 use Rattle.std.proofs.lemmas.List.{length-map, map-append}
 use Rattle.nntp_wire.specs.Answer.{Asked, Response}
 use Rattle.nntp_article.specs.declared.profile.Profile.{Profile}
@@ -12,10 +11,10 @@ use Rattle.nntp_pair.specs.Pairing.{Paired, IsSpelled, asked_at, asked_of, respo
 use Rattle.nntp_facts.specs.Asks.{Position, Nowhere, position_after}
 use Rattle.nntp_facts.specs.Facts.{Fact, here, facts_of}
 use Rattle.nntp_facts.specs.Given.{facts_of_session, size}
-use Rattle.nntp_facts.specs.Together.{IsWellFormed, Together, Join}
+use Rattle.nntp_facts.specs.Together.{IsWellFormed, Join}
 use Rattle.nntp_facts.specs.Permits.{SomePermits}
 use Rattle.nntp_facts.specs.Classes.{visible_from, position_from}
-use Rattle.nntp_facts.specs.Kept.{IsKept}
+use Rattle.nntp_facts.specs.Kept.{Kept, IsKept, AreAdded}
 use Rattle.nntp_facts.specs.SayingView.{facts_said, IsSelectedShown, MaySay}
 use Rattle.nntp_facts.specs.Noted.{FactsKept, Stands, IsDue, ArePermitted, IsNoted}
 use Rattle.nntp_facts.specs.declared.saying.Saying.{Saying}
@@ -24,6 +23,7 @@ use Rattle.nntp_facts.proofs.Members.{all_both}
 use Rattle.nntp_facts.proofs.Prompts.{permitted_longer, facts_longer, visible_longer, position_longer, next_behind}
 use Rattle.nntp_facts.proofs.Grow.{facts_grow, visible_grows, position_grows}
 use Rattle.nntp_facts.proofs.Joined.{permitted_more}
+use Rattle.nntp_facts.proofs.KeptJoins.{AddsSaid}
 use Rattle.nntp_facts.proofs.GivenPermits.{stands}
 use Rattle.nntp_facts.proofs.WellFormed.{spelled_formed}
 use Rattle.nntp_facts.proofs.Size.{pairs_size}
@@ -163,48 +163,46 @@ may_say facts past pair saying name w s is =
     let shown = subst (λ v. IsSelectedShown v (facts_of_session ps answers)) (sym s.visible) (selected_shown facts.profile ps answers together.0) in
     subst (λ name. MaySay (facts_of_session ps answers) name saying) (sym is) (w.may (facts_of_session ps answers) shown)
 
--- ---- the test
+-- ---- what is added
 
--- a test whether it joins tells whether some spool permits it
-pub tells : {A : Type 0} (facts : FactsKept) (past : List Paired) (pair : Paired) (saying : Saying A) (name : Name) (does : Bool) → Weighed facts pair saying → Stands facts past → name ≡ here facts.visible
-    → ((all : List Fact) → IsKept all facts.kept → Together all → AllByRecursion IsWellFormed (facts_said name saying) → MaySay all name saying → IsTrue does ↔ Join all (facts_said name saying))
-    → IsTrue does ↔ ArePermitted facts.profile (past ++ pair ∷ [])
-tells facts past pair saying name does w s is test =
+-- what is added of what it says
+added_here : {A : Type 0} (facts : FactsKept) (kept : Kept) (past : List Paired) (pair : Paired) (saying : Saying A) (name : Name) (does : Bool) → Weighed facts pair saying → Stands facts past → name ≡ here facts.visible
+    → AddsSaid facts.kept kept name saying does → AreAdded (facts_of_session (asked_of past) (responses_of past)) (facts_said (here facts.visible) saying) facts.kept kept does
+added_here facts kept past pair saying name does w s is adds =
     let ps = asked_of past in
     let answers = responses_of past in
     let all = facts_of_session ps answers in
     let together = (stands facts.profile s.permitted.0 ps answers s.permitted.1 s.permitted.2).1 in
     let formed = spelled_formed facts.visible facts.position (asked_at pair.line) pair.response _ w.spelled.spells w.spelled.octets in
     let same : facts_said name saying ≡ facts_said (here facts.visible) saying = ap (λ name. facts_said name saying) is in
-    let joins = test all s.kept together (subst (AllByRecursion IsWellFormed) (sym (same ∙ w.said)) formed) (may_say facts past pair saying name w s is) in
-    let permitted = permitted_if facts past pair saying w s in (
-      λ t. permitted.1 (subst (Join all) same (joins.0 t)),
-      λ h. joins.1 (subst (Join all) (sym same) (permitted.0 h)),
-    )
+    subst (λ said. AreAdded all said facts.kept kept does) same (adds all s.kept together (subst (AllByRecursion IsWellFormed) (sym (same ∙ w.said)) formed) (may_say facts past pair saying name w s is))
 
--- where it fails no spool does
-pub refused : {A : Type 0} (facts old : FactsKept) (past : List Paired) (pair : Paired) (saying : Saying A) (does : Bool) → facts ≡ old → Weighed facts pair saying
-    → (IsTrue does ↔ ArePermitted facts.profile (past ++ pair ∷ [])) → does ≡ false → IsNoted past pair old old Contradiction
-refused facts old past pair saying does is w test fails =
-    let fitting = subst (λ (f : FactsKept). IsTrue (fits f.profile f.visible (asked_at pair.line) pair.response)) is w.fitting in
-    (fitting, λ h. true≢false (sym (test.1 (subst (λ (f : FactsKept). ArePermitted f.profile (past ++ pair ∷ [])) (sym is) h)) ∙ fails), refl)
+-- the same facts, of which this is kept
+abbrev pub with_kept : FactsKept → Kept → FactsKept
+with_kept facts kept = record { profile = facts.profile; count = facts.count; visible = facts.visible; position = facts.position; kept = kept; has_failed = facts.has_failed }
+
+-- where nothing is added, no spool permits it
+pub refused : {A : Type 0} (facts old : FactsKept) (kept : Kept) (past : List Paired) (pair : Paired) (saying : Saying A) (name : Name) → facts ≡ old → Weighed facts pair saying → Stands facts past
+    → name ≡ here facts.visible → AddsSaid facts.kept kept name saying false → IsNoted past pair old (with_kept facts kept) Contradiction
+refused facts old kept past pair saying name is w s named adds =
+    let added = added_here facts kept past pair saying name false w s named adds in (
+      subst (λ (f : FactsKept). IsTrue (fits f.profile f.visible (asked_at pair.line) pair.response)) is w.fitting,
+      λ h. added.0 ((permitted_if facts past pair saying w s).0 (subst (λ (f : FactsKept). ArePermitted f.profile (past ++ pair ∷ [])) (sym is) h)),
+      ap (with_kept facts) added.1 ∙ is,
+    )
 
 -- ---- what stands then
 
 -- what is kept of it as well
-pub kept_next : {A : Type 0} (facts new : FactsKept) (past : List Paired) (pair : Paired) (saying : Saying A) (name : Name) → Weighed facts pair saying → Stands facts past → name ≡ here facts.visible
-    → ((all : List Fact) → IsKept all facts.kept → MaySay all name saying → Join all (facts_said name saying) → IsKept (all ++ facts_said name saying) new.kept)
-    → ArePermitted facts.profile (past ++ pair ∷ []) → IsKept (facts_of_session (asked_of (past ++ pair ∷ [])) (responses_of (past ++ pair ∷ []))) new.kept
-kept_next facts new past pair saying name w s is adds h =
+kept_next : {A : Type 0} (facts : FactsKept) (kept : Kept) (past : List Paired) (pair : Paired) (saying : Saying A) → Weighed facts pair saying → Stands facts past
+    → IsKept (facts_of_session (asked_of past) (responses_of past) ++ facts_said (here facts.visible) saying) kept → IsKept (facts_of_session (asked_of (past ++ pair ∷ [])) (responses_of (past ++ pair ∷ []))) kept
+kept_next facts kept past pair saying w s now =
     let ps = asked_of past in
     let answers = responses_of past in
     let all = facts_of_session ps answers in
-    let same : facts_said name saying ≡ facts_said (here facts.visible) saying = ap (λ name. facts_said name saying) is in
-    let joins = subst (Join all) (sym same) ((permitted_if facts past pair saying w s).0 h) in
-    let now = adds all s.kept (may_say facts past pair saying name w s is) joins in
     let new_facts = ap₂ (λ v at. facts_of v at (asked_at pair.line) pair.response) s.visible s.position in
     let whole = ap (λ q. facts_of_session q.0 q.1) (ends past pair) ∙ facts_next ps answers (asked_at pair.line) pair.response (as_many past) in
-    subst (λ facts. IsKept facts new.kept) (ap (λ more. all ++ more) (same ∙ w.said ∙ new_facts) ∙ sym whole) now
+    subst (λ facts. IsKept facts kept) (ap (λ more. all ++ more) (w.said ∙ new_facts) ∙ sym whole) now
 
 -- what the call leaves, beside what is kept
 pub record Moves (facts new : FactsKept) (pair : Paired) : Type 0 where
@@ -216,20 +214,20 @@ pub record Moves (facts new : FactsKept) (pair : Paired) : Type 0 where
 
 -- so the exchange is accepted
 pub accepted : {A : Type 0} (facts old new : FactsKept) (past : List Paired) (pair : Paired) (saying : Saying A) (name : Name) → facts ≡ old → Weighed facts pair saying → Stands facts past
-    → Moves facts new pair → name ≡ here facts.visible
-    → ((all : List Fact) → IsKept all facts.kept → MaySay all name saying → Join all (facts_said name saying) → IsKept (all ++ facts_said name saying) new.kept)
-    → ArePermitted facts.profile (past ++ pair ∷ []) → IsNoted past pair old new Consistent
-accepted facts old new past pair saying name is w s moves named adds h = (
-  subst (λ (f : FactsKept). ArePermitted f.profile (past ++ pair ∷ [])) is h,
-  record {
-    profile = moves.profile ∙ s.profile;
-    is_whole = moves.has_failed ∙ s.is_whole;
-    count = omega (arith, moves.count, w.due.index, s.count, length-append past (pair ∷ []));
-    visible = moves.visible ∙ ap (λ v. visible_after v (asked_at pair.line) pair.response) s.visible ∙ sym (ap (λ q. visible_from start.visible q.0 q.1) (ends past pair) ∙ visible_next (asked_of past) (responses_of past) (asked_at pair.line) pair.response (as_many past));
-    position = moves.position ∙ ap (λ at. position_after at (asked_at pair.line) pair.response) s.position ∙ sym (ap (λ q. position_from Nowhere q.0 q.1) (ends past pair) ∙ position_next (asked_of past) (responses_of past) (asked_at pair.line) pair.response (as_many past));
-    kept = kept_next facts new past pair saying name w s named adds h;
-    permitted = subst (λ profile. ArePermitted profile (past ++ pair ∷ [])) (sym moves.profile) h;
-    lines = all_both (λ pair. lines_in pair.response < 2 ^ 64) past (pair ∷ []) s.lines (w.few, tt);
-    few = let low = w.low in omega (arith, w.due.index, s.count, length-append past (pair ∷ []));
-  },
-)
+    → Moves facts new pair → name ≡ here facts.visible → AddsSaid facts.kept new.kept name saying true → IsNoted past pair old new Consistent
+accepted facts old new past pair saying name is w s moves named adds =
+    let added = added_here facts new.kept past pair saying name true w s named adds in
+    let h = (permitted_if facts past pair saying w s).1 added.0 in (
+      subst (λ (f : FactsKept). ArePermitted f.profile (past ++ pair ∷ [])) is h,
+      record {
+        profile = moves.profile ∙ s.profile;
+        is_whole = moves.has_failed ∙ s.is_whole;
+        count = omega (arith, moves.count, w.due.index, s.count, length-append past (pair ∷ []));
+        visible = moves.visible ∙ ap (λ v. visible_after v (asked_at pair.line) pair.response) s.visible ∙ sym (ap (λ q. visible_from start.visible q.0 q.1) (ends past pair) ∙ visible_next (asked_of past) (responses_of past) (asked_at pair.line) pair.response (as_many past));
+        position = moves.position ∙ ap (λ at. position_after at (asked_at pair.line) pair.response) s.position ∙ sym (ap (λ q. position_from Nowhere q.0 q.1) (ends past pair) ∙ position_next (asked_of past) (responses_of past) (asked_at pair.line) pair.response (as_many past));
+        kept = kept_next facts new.kept past pair saying w s added.1;
+        permitted = subst (λ profile. ArePermitted profile (past ++ pair ∷ [])) (sym moves.profile) h;
+        lines = all_both (λ pair. lines_in pair.response < 2 ^ 64) past (pair ∷ []) s.lines (w.few, tt);
+        few = let low = w.low in omega (arith, w.due.index, s.count, length-append past (pair ∷ []));
+      },
+    )

@@ -1,16 +1,10 @@
 -- How one more fact fits in with what is kept of articles.
-use Rattle.std.specs.Prelude.{◌≡◌, true, false, not, if◌then◌else◌, IsTrue, IsFalse, List, Option, None, Some, is_some, IfSome}
-use Rattle.std.specs.List.{list_any, filter}
+use Rattle.std.specs.Prelude.{◌≡◌, true, false, not, List, Option, None, Some, IfSome}
+use Rattle.std.specs.List.{filter}
 use Rattle.std.specs.Option.{option_or}
-use Rattle.std.specs.Ordering.{nat_cmp}
-use Rattle.std.specs.Cmp.Lexicographic.{slice_cmp}
-use Rattle.std.specs.FinMap.{FinMap, get, insert}
 use Rattle.nntp_wire.specs.declared.command.What.{What}
 use Rattle.nntp_wire.specs.declared.command.What.TheVariants.{Article, Head, Body}
 use Rattle.nntp_article.specs.Article.{head_part, body_part, Id, Line}
-use Rattle.nntp_facts.specs.Facts.{Fact}
-use Rattle.nntp_facts.specs.Given.{first_given, head_in, body_in}
-use Rattle.nntp_facts.specs.Together.{shows_article, denies_article}
 use Rattle.nntp_facts.specs.Kept.{KeptArticle}
 
 -- ---- what is sent of an article
@@ -48,10 +42,6 @@ unsent = record { is_denied = false; is_sent = false; head = None; body = None }
 -- of an article, after a success: what was sent first
 abbrev pub with_sent : KeptArticle → Option (List Line) → Option (List Line) → KeptArticle
 with_sent a head body = record { is_denied = a.is_denied; is_sent = true; head = option_or a.head head; body = option_or a.body body }
-
--- a is kept of the id, if nothing is kept of it yet
-abbrev pub with_new : FinMap (slice_cmp nat_cmp) KeptArticle → Id → KeptArticle → FinMap (slice_cmp nat_cmp) KeptArticle
-with_new articles id a = if is_some (get articles id) then articles else insert articles id a
 
 -- the ids that have articles, of all that are kept
 abbrev pub articles_in : List (Id × KeptArticle) → List (Id × KeptArticle)

@@ -1,5 +1,5 @@
 -- What is kept of all that a session says: of each group, of each id, and of the names that are no groups.
-use Rattle.std.specs.Prelude.{◌≡◌, ℕ, Bool, true, false, not, ◌||◌, ◌==◌, if◌then◌else◌, List, [], ◌++◌, Option, None, Some, MatchOption, IsTrue}
+use Rattle.std.specs.Prelude.{◌≡◌, ℕ, Bool, true, false, not, ◌||◌, ◌==◌, if◌then◌else◌, List, [], ◌∷◌, ◌++◌, Option, None, Some, MatchOption, IsTrue}
 use Rattle.std.specs.Option.{option_or}
 use Rattle.std.specs.List.{list_any, AllByRecursion}
 use Rattle.std.specs.Ordering.{nat_cmp}
@@ -13,8 +13,15 @@ use Rattle.nntp_article.specs.Machine.{is_same}
 use Rattle.nntp_facts.specs.Asks.{Ask}
 use Rattle.nntp_facts.specs.Facts.{Fact}
 use Rattle.nntp_facts.specs.Given.{asks_of, is_shown_group, first_given, id_in, is_mentioned, is_sent, head_in, body_in}
-use Rattle.nntp_facts.specs.Together.{number_in, denies_group, shows_article, denies_article}
+use Rattle.nntp_facts.specs.Together.{number_in, denies_group, shows_article, denies_article, JoinArticles, Join}
 use Rattle.nntp_facts.specs.Summary.{Summary, IsSummary}
+
+-- ---- what is added
+
+-- what is new has something added, if it may be added, and else is what was old
+abbrev pub IsAddedIf : {K : Type 0} → Type 0 → (K → Type 0) → K → K → Bool → Type 0
+IsAddedIf May Has old new true = May × Has new
+IsAddedIf May Has old new false = (May → ⊥) × (new ≡ old)
 
 -- ---- groups
 
@@ -120,6 +127,10 @@ pub record IsKeptArticle (facts : List Fact) (id : Id) (a : KeptArticle) : Type 
 abbrev pub AreKeptArticles : List Fact → FinMap (slice_cmp nat_cmp) KeptArticle → Type 0
 AreKeptArticles facts articles = (id : Id) → MatchOption (get articles id) (is_mentioned facts id ≡ false) (IsKeptArticle facts id)
 
+-- one more fact is added, if it joins those before as far as articles go
+abbrev pub IsFactAdded : List Fact → Fact → FinMap (slice_cmp nat_cmp) KeptArticle → FinMap (slice_cmp nat_cmp) KeptArticle → Bool → Type 0
+IsFactAdded facts fact old new does = IsAddedIf (JoinArticles facts (fact ∷ [])) (AreKeptArticles (facts ++ fact ∷ [])) old new does
+
 -- ---- the whole
 
 -- of all that was said
@@ -133,3 +144,7 @@ pub record IsKept (facts : List Fact) (k : Kept) : Type 0 where
   pub groups : AreKeptGroups facts k.groups
   pub names : AreKeptNames facts k.names
   pub articles : AreKeptArticles facts k.articles
+
+-- more facts are added, if they join those before
+abbrev pub AreAdded : List Fact → List Fact → Kept → Kept → Bool → Type 0
+AreAdded facts more old new does = IsAddedIf (Join facts more) (IsKept (facts ++ more)) old new does

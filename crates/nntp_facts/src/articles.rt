@@ -1,13 +1,11 @@
 //! What answers say of articles.
-ghost use Rattle.std.specs.Prelude.{◌≡◌, ◌++◌, ◌∷◌, [], ◌↔◌, ℕ, IsTrue, List, OnOk, is_some, option_map};
+ghost use Rattle.std.specs.Prelude.{◌≡◌, ℕ, IsTrue, List, IfOk, OnOk, is_some, option_map};
 ghost use Rattle.std.specs.FinMap as map;
 ghost use Rattle.nntp_article.specs.Spool.{Name};
 ghost use Rattle.nntp_article.specs.Machine.{head_fits};
 ghost use Rattle.nntp_facts.specs.Facts.{Fact, IdAt, TextIs, NoArticle};
 ghost use Rattle.nntp_facts.specs.Given.{is_mentioned};
-ghost use Rattle.nntp_facts.specs.Kept.{AreKeptArticles};
-ghost use Rattle.nntp_facts.specs.Articles.{unsent, with_new};
-ghost use Rattle.nntp_facts.specs.Together.{JoinArticles};
+ghost use Rattle.nntp_facts.specs.Kept.{AreKeptArticles, IsFactAdded};
 ghost use Rattle.nntp_facts.specs.Readers.{shown_articles};
 ghost use Rattle.nntp_facts.specs.ArticleView.{known_value};
 
@@ -60,38 +58,6 @@ impl<A: Allocator> Articles<A> {
     {
         self.known.contains_key(id)
     }
-
-    /// Whether it may be said that this is sent of the id's article.
-    pub(crate) fn may_send(&self, what: What, id: &[u8], block: &Option<Block<'_>>) -> bool
-        ensures { (facts : List Fact) → AreKeptArticles facts self.now → IsTrue (head_fits what id.now block.now)
-            → IsTrue result ↔ JoinArticles facts (TextIs what id.now block.now ∷ []) }
-    {
-        match self.get(id) {
-            Some(known) => known.may_send(&Sent::of(what, block)),
-            None => true,
-        }
-    }
-
-    /// Whether it may be said that the id has an article.
-    pub(crate) fn may_stand(&self, id: &[u8]) -> bool
-        ensures { (facts : List Fact) (name : Name) (n : ℕ) → AreKeptArticles facts self.now
-            → IsTrue result ↔ JoinArticles facts (IdAt name n id.now ∷ []) }
-    {
-        match self.get(id) {
-            Some(known) => !known.is_denied(),
-            None => true,
-        }
-    }
-
-    /// Whether it may be said that the id has no article.
-    pub(crate) fn may_lack(&self, id: &[u8]) -> bool
-        ensures { (facts : List Fact) → AreKeptArticles facts self.now → IsTrue result ↔ JoinArticles facts (NoArticle id.now ∷ []) }
-    {
-        match self.get(id) {
-            Some(known) => known.is_denied(),
-            None => true,
-        }
-    }
 }
 
 impl<A: Allocator> Articles<A> {
@@ -114,16 +80,6 @@ impl<A: Allocator + Copy> Articles<A> {
         }
     }
 
-    /// Adds an id, if nothing is known of it yet.
-    fn add(&mut self, id: &[u8], new: Known<A>) -> Result<(), AllocError>
-        ensures { OnOk result (self.new ≡ with_new self.old id.now (known_value new)) }
-    {
-        if !self.mentions(id) {
-            self.put(id, new)?;
-        }
-        Ok(())
-    }
-
     /// Adds an id, or puts what is known of it in the place of what was.
     fn put(&mut self, id: &[u8], new: Known<A>) -> Result<(), AllocError>
         ensures { OnOk result (self.new ≡ map.insert self.old id.now (known_value new)) }
@@ -132,45 +88,55 @@ impl<A: Allocator + Copy> Articles<A> {
         Ok(())
     }
 
-    /// Adds that this is sent of the id's article. After an error the articles say nothing of use.
-    pub(crate) fn send(
+    /// Adds that this is sent of the id's article, if it may be so, and tells whether it may. After an
+    /// error the articles say nothing of use.
+    pub(crate) fn note_sent(
         &mut self,
         what: What,
         id: &[u8],
         block: &Option<Block<'_>>,
-    ) -> Result<(), AllocError>
-        ensures { OnOk result ((facts : List Fact) → AreKeptArticles facts self.old → IsTrue (head_fits what id.now block.now)
-            → JoinArticles facts (TextIs what id.now block.now ∷ []) → AreKeptArticles (facts ++ TextIs what id.now block.now ∷ []) self.new) }
+    ) -> Result<bool, AllocError>
+        ensures { IfOk result (λ does. (facts : List Fact) → AreKeptArticles facts self.old → IsTrue (head_fits what id.now block.now)
+            → IsFactAdded facts (TextIs what id.now block.now) self.old self.new does) }
     {
         let sent = Sent::of(what, block);
         if let Some(known) = self.known.get_mut(id) {
-            return known.send(self.alloc, &sent);
+            return known.note(self.alloc, &sent);
         }
         let known = Known::of_sent(self.alloc, &sent)?;
-        self.put(id, known)
+        self.put(id, known)?;
+        Ok(true)
     }
 
-    /// Adds that the id has an article. After an error the articles say nothing of use.
-    pub(crate) fn stand(&mut self, id: &[u8]) -> Result<(), AllocError>
-        ensures is { OnOk result (self.new ≡ with_new self.old id.now unsent) }
-        ensures facts { OnOk result ((facts : List Fact) (name : Name) (n : ℕ) → AreKeptArticles facts self.old
-            → JoinArticles facts (IdAt name n id.now ∷ []) → AreKeptArticles (facts ++ IdAt name n id.now ∷ []) self.new) }
+    /// Adds that the id has an article, if it may be so, and tells whether it may. After an error the
+    /// articles say nothing of use.
+    pub(crate) fn note_there(&mut self, id: &[u8]) -> Result<bool, AllocError>
+        ensures { IfOk result (λ does. (facts : List Fact) (name : Name) (n : ℕ) → AreKeptArticles facts self.old
+            → IsFactAdded facts (IdAt name n id.now) self.old self.new does) }
     {
-        self.add(
+        if let Some(known) = self.get(id) {
+            return Ok(!known.is_denied());
+        }
+        self.put(
             id,
             Known::There(Seen {
                 is_sent: false,
                 head: None,
                 body: None,
             }),
-        )
+        )?;
+        Ok(true)
     }
 
-    /// Adds that the id has no article. After an error the articles say nothing of use.
-    pub(crate) fn lack(&mut self, id: &[u8]) -> Result<(), AllocError>
-        ensures { OnOk result ((facts : List Fact) → AreKeptArticles facts self.old → JoinArticles facts (NoArticle id.now ∷ [])
-            → AreKeptArticles (facts ++ NoArticle id.now ∷ []) self.new) }
+    /// Adds that the id has no article, if it may be so, and tells whether it may. After an error the
+    /// articles say nothing of use.
+    pub(crate) fn note_lack(&mut self, id: &[u8]) -> Result<bool, AllocError>
+        ensures { IfOk result (λ does. (facts : List Fact) → AreKeptArticles facts self.old → IsFactAdded facts (NoArticle id.now) self.old self.new does) }
     {
-        self.add(id, Known::Denied)
+        if let Some(known) = self.get(id) {
+            return Ok(known.is_denied());
+        }
+        self.put(id, Known::Denied)?;
+        Ok(true)
     }
 }

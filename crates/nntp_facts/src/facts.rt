@@ -97,10 +97,9 @@ impl<A: Allocator + Copy> Facts<A> {
             return Ok(Noted::OutOfPlace);
         }
         let saying = Saying::of(self.alloc, self.position, prompt, answer)?;
-        if !self.kept.joins(self.visible.selected_name(), &saying)? {
+        if !self.kept.note(self.visible.selected_name(), &saying)? {
             return Ok(Noted::Contradiction);
         }
-        self.kept.add(self.visible.selected_name(), &saying)?;
         self.visible.advance(prompt, answer)?;
         self.position = self.position.after(prompt, answer);
         self.count = index + 1;

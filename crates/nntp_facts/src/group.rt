@@ -7,7 +7,7 @@ ghost use Rattle.nntp_facts.specs.Given.{IsOneMore};
 ghost use Rattle.nntp_facts.specs.Together.{AsksStand};
 ghost use Rattle.nntp_facts.specs.Summary.{said, Says, IsSummary, Stands};
 ghost use Rattle.nntp_facts.specs.Listing.{AreListable};
-ghost use Rattle.nntp_facts.specs.Kept.{Agree};
+ghost use Rattle.nntp_facts.specs.Kept.{Agree, IsAddedIf};
 ghost use Rattle.nntp_facts.specs.Readers.{unseen_in};
 ghost use Rattle.nntp_facts.specs.ListingView.{asks_listed};
 
@@ -71,6 +71,19 @@ impl<A: Allocator + Copy> Group<A> {
             ids: BTreeMap::new(alloc),
             places: BTreeMap::new(alloc),
         }
+    }
+
+    /// Adds what the part says, if it stands together with all before, and tells whether it does. After an
+    /// error the value says nothing of use.
+    pub(crate) fn note(&mut self, part: &Part) -> Result<bool, AllocError>
+        ensures { IfOk result (λ does. (asks more : List Ask) → IsSummary self.old.numbers asks → AsksStand asks → Says (said part.now) more
+            → IsAddedIf (AsksStand (asks ++ more)) (λ g. IsSummary g.numbers (asks ++ more) × (g.ids ≡ self.old.ids) × (g.places ≡ self.old.places)) self.old self.new does) }
+    {
+        if !self.joins(part) {
+            return Ok(false);
+        }
+        self.add(part)?;
+        Ok(true)
     }
 
     /// Adds what the part says. After an error the value says nothing of use.

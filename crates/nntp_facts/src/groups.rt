@@ -8,7 +8,7 @@ ghost use Rattle.nntp_facts.specs.Together.{AsksStand};
 ghost use Rattle.nntp_facts.specs.Summary.{said, Says};
 ghost use Rattle.nntp_facts.specs.Listing.{AreListable};
 ghost use Rattle.nntp_facts.specs.ListingView.{asks_listed};
-ghost use Rattle.nntp_facts.specs.Kept.{Told, AreKept, Agree, with_asks, with_id, Changes};
+ghost use Rattle.nntp_facts.specs.Kept.{Told, AreKept, Agree, with_asks, with_id, Changes, IsAddedIf};
 ghost use Rattle.nntp_facts.specs.Readers.{shown_groups};
 
 mod listed;
@@ -55,8 +55,21 @@ impl<A: Allocator + Copy> Groups<A> {
         }
     }
 
+    /// Adds what the part says of a group that is shown, if it stands together with all before, and tells
+    /// whether it does. After an error the value says nothing of use.
+    pub(crate) fn note(&mut self, name: &[u8], part: &Part) -> Result<bool, AllocError>
+        ensures { IfOk result (λ does. (before after : Name → Told) (asks : List asks_said.Ask) → AreKept before self.old → (before name.now).is_shown ≡ true → AsksStand (before name.now).asks
+            → Says (said part.now) asks → Changes before after name.now (with_asks (before name.now) asks)
+            → IsAddedIf (AsksStand ((before name.now).asks ++ asks)) (AreKept after) self.old self.new does) }
+    {
+        if let Some(group) = self.groups.get_mut(name) {
+            return group.note(part);
+        }
+        Ok(false)
+    }
+
     /// Adds what the part says of a group that is shown. After an error the value says nothing of use.
-    pub(crate) fn add(&mut self, name: &[u8], part: &Part) -> Result<(), AllocError>
+    fn add(&mut self, name: &[u8], part: &Part) -> Result<(), AllocError>
         ensures { OnOk result ((before after : Name → Told) (asks : List asks_said.Ask) → AreKept before self.old → (before name.now).is_shown ≡ true → Says (said part.now) asks
             → Changes before after name.now (with_asks (before name.now) asks) → AreKept after self.new) }
     {
@@ -199,13 +212,16 @@ impl<A: Allocator> Groups<A> {
         }
     }
 
-    /// Whether the number of a group that is shown may have the id.
-    pub(crate) fn may_have_id(&self, name: &[u8], number: u64, id: &[u8]) -> bool
-        ensures { (tells : Name → Told) → AreKept tells self.now → (tells name.now).is_shown ≡ true → Agree number id.now ((tells name.now).ids number) ((tells name.now).places id.now)
-            → IsTrue result ↔ (IfSome ((tells name.now).ids number) (λ other. id.now ≡ other) × IfSome ((tells name.now).places id.now) (λ other. number ≡ other)) }
+    /// Whether what the part says of a group that is shown stands together with all before, and the number
+    /// may have the id.
+    pub(crate) fn may_place(&self, name: &[u8], part: &Part, number: u64, id: &[u8]) -> bool
+        ensures { (tells : Name → Told) (asks : List asks_said.Ask) → AreKept tells self.now → (tells name.now).is_shown ≡ true → AsksStand (tells name.now).asks → Says (said part.now) asks
+            → Agree number id.now ((tells name.now).ids number) ((tells name.now).places id.now)
+            → IsTrue result ↔ (AsksStand ((tells name.now).asks ++ asks)
+            × (IfSome ((tells name.now).ids number) (λ other. id.now ≡ other) × IfSome ((tells name.now).places id.now) (λ other. number ≡ other))) }
     {
         match self.get(name) {
-            Some(group) => group.may_have_id(number, id),
+            Some(group) => group.joins(part) && group.may_have_id(number, id),
             None => false,
         }
     }

@@ -1,16 +1,16 @@
 //! What all answers so far say of the spool.
-ghost use Rattle.std.specs.Prelude.{◌≡◌, ◌↔◌, ◌++◌, ◌∷◌, [], true, List, IsTrue, IsFalse, IfSome, IfOk, OnOk};
+ghost use Rattle.std.specs.Prelude.{◌≡◌, ◌↔◌, ◌++◌, ◌∷◌, [], true, List, IsTrue, IsFalse, IfSome, IfOk};
 ghost use Rattle.std.specs.List.{AllByRecursion, list_any};
 ghost use Rattle.nntp_article.specs.Machine.{head_fits};
 ghost use Rattle.nntp_facts.specs.Asks as asks_said;
 ghost use Rattle.nntp_facts.specs.Asks.{Estimates, ListsIn};
-ghost use Rattle.nntp_facts.specs.Facts.{Fact, Asks, IdAt};
+ghost use Rattle.nntp_facts.specs.Facts.{Fact, ThereIs, ThereIsNo, Asks, IdAt, TextIs, NoArticle};
 ghost use Rattle.nntp_facts.specs.Given.{asks_of, is_shown_group, is_mentioned, first_given, id_in};
-ghost use Rattle.nntp_facts.specs.Together.{IsWellFormed, AsksStand, denies_group, number_in, Together, Join};
+ghost use Rattle.nntp_facts.specs.Together.{IsWellFormed, AsksStand, denies_group, number_in, Together};
 ghost use Rattle.nntp_facts.specs.Summary.{said, Says, ShowsNoOther};
 ghost use Rattle.nntp_facts.specs.Listing.{AreListable};
 ghost use Rattle.nntp_facts.specs.ListingView.{asks_listed};
-ghost use Rattle.nntp_facts.specs.Kept.{IsKept};
+ghost use Rattle.nntp_facts.specs.Kept.{IsKept, AreAdded};
 ghost use Rattle.nntp_facts.specs.Readers.{shown_groups, shown_articles};
 ghost use Rattle.nntp_facts.specs.AskView.{ask_of};
 ghost use Rattle.nntp_facts.specs.SayingView.{facts_said, facts_placed, asks_placed, MaySay};
@@ -62,79 +62,100 @@ impl<A: Allocator + Copy> Kept<A> {
         }
     }
 
-    /// Whether what an answer says stands together with all before, where the group `here` is selected.
-    pub(crate) fn joins(&self, here: &[u8], saying: &Saying<'_, A>) -> Result<bool, AllocError>
-        ensures { IfOk result (λ does. (facts : List Fact) → IsKept facts self.now → Together facts → AllByRecursion IsWellFormed (facts_said here.now saying.now)
-            → MaySay facts here.now saying.now → IsTrue does ↔ Join facts (facts_said here.now saying.now)) }
+    /// Adds what an answer says, where the group `here` is selected, if it stands together with all before,
+    /// and tells whether it does. If not, the value stays as it was. After an error it says nothing of use.
+    pub(crate) fn note(&mut self, here: &[u8], saying: &Saying<'_, A>) -> Result<bool, AllocError>
+        ensures { IfOk result (λ does. (facts : List Fact) → IsKept facts self.old → Together facts → AllByRecursion IsWellFormed (facts_said here.now saying.now)
+            → MaySay facts here.now saying.now → AreAdded facts (facts_said here.now saying.now) self.old self.new does) }
     {
         match saying {
             Saying::Nothing => Ok(true),
-            Saying::NoGroup(name) => Ok(!self.groups.is_shown(*name)),
-            Saying::NoArticle(id) => Ok(self.articles.may_lack(*id)),
-            Saying::Asks(ask) => Ok(self.groups.joins(here, &Part::of(*ask))),
-            Saying::Group { marks, name } => {
-                Ok(self.may_select(*name, &Part::of(Ask::estimates(*marks))))
-            }
+            Saying::NoGroup(name) => self.note_no_group(*name),
+            Saying::NoArticle(id) => self.note_no_article(*id),
+            Saying::Asks(ask) => self.note_ask(here, *ask),
+            Saying::Group { marks, name } => self.note_group(*marks, *name),
             Saying::Numbers {
                 marks,
                 name,
                 range,
                 numbers,
-            } => self.may_list(*name, &listing(*marks, *range, numbers.as_slice())),
+            } => self.note_numbers(*marks, *name, *range, numbers.as_slice()),
             Saying::StepUp { at, number, id } => {
-                Ok(self.may_step(here, Ask::StepsUp(*at, *number), *number, *id))
+                self.note_step(here, Ask::StepsUp(*at, *number), *number, *id)
             }
             Saying::StepDown { at, number, id } => {
-                Ok(self.may_step(here, Ask::StepsDown(*at, *number), *number, *id))
+                self.note_step(here, Ask::StepsDown(*at, *number), *number, *id)
             }
-            Saying::Text { what, id, block } => Ok(self.articles.may_send(*what, *id, *block)),
+            Saying::Text { what, id, block } => self.note_text(*what, *id, *block),
             Saying::Placed {
                 what,
                 id,
                 block,
                 at,
                 number,
-            } => Ok(self.may_send_at(here, *what, *id, *block, *at, *number)),
-            Saying::Groups { wildmat, block } => self.may_list_groups(*wildmat, *block),
+            } => self.note_placed(here, *what, *id, *block, *at, *number),
+            Saying::Groups { wildmat, block } => self.note_groups(*wildmat, *block),
         }
     }
 
-    /// Adds what an answer says. After an error the value says nothing of use.
-    pub(crate) fn add(&mut self, here: &[u8], saying: &Saying<'_, A>) -> Result<(), AllocError>
-        ensures { OnOk result ((facts : List Fact) → IsKept facts self.old → MaySay facts here.now saying.now → Join facts (facts_said here.now saying.now)
-            → IsKept (facts ++ facts_said here.now saying.now) self.new) }
+    /// Adds that there is no such group, if none is shown, and tells whether none is.
+    fn note_no_group(&mut self, name: &[u8]) -> Result<bool, AllocError>
+        ensures { IfOk result (λ does. (facts : List Fact) → IsKept facts self.old → Together facts → AreAdded facts (ThereIsNo name.now ∷ []) self.old self.new does) }
     {
-        match saying {
-            Saying::Nothing => Ok(()),
-            Saying::NoGroup(name) => self.names.deny(self.alloc, *name),
-            Saying::NoArticle(id) => self.articles.lack(*id),
-            Saying::Asks(ask) => self.groups.add(here, &Part::of(*ask)),
-            Saying::Group { marks, name } => self.groups.select(name.as_slice(), *marks),
-            Saying::Numbers {
-                marks,
-                name,
-                range,
-                numbers,
-            } => {
-                let listing = listing(*marks, *range, numbers.as_slice());
-                self.groups.list(name.as_slice(), &listing)
-            }
-            Saying::StepUp { at, number, id } => {
-                self.step(here, Ask::StepsUp(*at, *number), *number, *id)
-            }
-            Saying::StepDown { at, number, id } => {
-                self.step(here, Ask::StepsDown(*at, *number), *number, *id)
-            }
-            Saying::Text { what, id, block } => self.articles.send(*what, *id, *block),
-            Saying::Placed {
-                what,
-                id,
-                block,
-                at,
-                number,
-            } => self.send_at(here, *what, *id, *block, *at, *number),
-            Saying::Groups { wildmat, block } => self.list_groups(*wildmat, *block),
+        if self.groups.is_shown(name) {
+            return Ok(false);
         }
+        self.names.deny(self.alloc, name)?;
+        Ok(true)
+    }
+
+    /// Adds that the id has no article, if it may be so, and tells whether it may.
+    fn note_no_article(&mut self, id: &[u8]) -> Result<bool, AllocError>
+        ensures { IfOk result (λ does. (facts : List Fact) → IsKept facts self.old → Together facts → AreAdded facts (NoArticle id.now ∷ []) self.old self.new does) }
+    {
+        self.articles.note_lack(id)
+    }
+
+    /// Adds something of the numbers of a group that is shown, if it may be so, and tells whether it may.
+    fn note_ask(&mut self, name: &[u8], ask: Ask) -> Result<bool, AllocError>
+        ensures { IfOk result (λ does. (facts : List Fact) → IsKept facts self.old → Together facts → is_shown_group facts name.now ≡ true
+            → AreAdded facts (Asks name.now (ask_of ask) ∷ []) self.old self.new does) }
+    {
+        self.groups.note(name, &Part::of(ask))
+    }
+
+    /// Adds that there is such a group, with so many numbers at most, between the marks, if it may be so,
+    /// and tells whether it may.
+    fn note_group(&mut self, marks: WaterMarks, name: &GroupName<'_>) -> Result<bool, AllocError>
+        ensures { IfOk result (λ does. (facts : List Fact) → IsKept facts self.old → Together facts
+            → AllByRecursion IsWellFormed (ThereIs name.now ∷ Asks name.now (Estimates marks) ∷ [])
+            → AreAdded facts (ThereIs name.now ∷ Asks name.now (Estimates marks) ∷ []) self.old self.new does) }
+    {
+        if !self.may_select(name, &Part::of(Ask::estimates(marks))) {
+            return Ok(false);
+        }
+        self.groups.select(name.as_slice(), marks)?;
+        Ok(true)
+    }
+
+    /// Adds the same with the numbers in the range, if it may be so, and tells whether it may.
+    fn note_numbers(
+        &mut self,
+        marks: WaterMarks,
+        name: &GroupName<'_>,
+        range: Range,
+        numbers: &[u64],
+    ) -> Result<bool, AllocError>
+        ensures { IfOk result (λ does. (facts : List Fact) → IsKept facts self.old → Together facts → AreListable range numbers.now
+            → AllByRecursion IsWellFormed (ThereIs name.now ∷ Asks name.now (Estimates marks) ∷ Asks name.now (ListsIn range numbers.now) ∷ [])
+            → AreAdded facts (ThereIs name.now ∷ Asks name.now (Estimates marks) ∷ Asks name.now (ListsIn range numbers.now) ∷ []) self.old self.new does) }
+    {
+        let listing = listing(marks, range, numbers);
+        if !self.may_list(name, &listing)? {
+            return Ok(false);
+        }
+        self.groups.list(name.as_slice(), &listing)?;
+        Ok(true)
     }
 
     /// Whether the name may be that of a group of which LISTGROUP says this.
@@ -148,19 +169,44 @@ impl<A: Allocator + Copy> Kept<A> {
         self.groups.joins_listing(name.as_slice(), listing)
     }
 
-    /// Adds a step in a group that is shown. After an error the value says nothing of use.
-    fn step(&mut self, name: &[u8], ask: Ask, number: u64, id: &[u8]) -> Result<(), AllocError>
-        ensures { OnOk result ((facts : List Fact) → IsKept facts self.old → is_shown_group facts name.now ≡ true → ShowsNoOther (ask_of ask) number
-            → Join facts (Asks name.now (ask_of ask) ∷ IdAt name.now number id.now ∷ [])
-            → IsKept (facts ++ Asks name.now (ask_of ask) ∷ IdAt name.now number id.now ∷ []) self.new) }
+    /// Adds a step in a group that is shown, if it may be so, and tells whether it may.
+    fn note_step(
+        &mut self,
+        name: &[u8],
+        ask: Ask,
+        number: u64,
+        id: &[u8],
+    ) -> Result<bool, AllocError>
+        ensures { IfOk result (λ does. (facts : List Fact) → IsKept facts self.old → Together facts → is_shown_group facts name.now ≡ true → ShowsNoOther (ask_of ask) number
+            → AllByRecursion IsWellFormed (Asks name.now (ask_of ask) ∷ IdAt name.now number id.now ∷ [])
+            → AreAdded facts (Asks name.now (ask_of ask) ∷ IdAt name.now number id.now ∷ []) self.old self.new does) }
     {
         let part = Part::of(ask).with_number(number);
+        if !self.may_place(name, &part, number, id) {
+            return Ok(false);
+        }
+        if !self.articles.note_there(id)? {
+            return Ok(false);
+        }
         self.groups.place(name, &part, number, id)?;
-        self.articles.stand(id)
+        Ok(true)
     }
 
-    /// Adds a success with a number of a group that is shown. After an error the value says nothing of use.
-    fn send_at(
+    /// Adds that this is sent of the id's article, if it may be so, and tells whether it may.
+    fn note_text(
+        &mut self,
+        what: What,
+        id: &[u8],
+        block: &Option<Block<'_>>,
+    ) -> Result<bool, AllocError>
+        ensures { IfOk result (λ does. (facts : List Fact) → IsKept facts self.old → Together facts → IsTrue (head_fits what id.now block.now)
+            → AllByRecursion IsWellFormed (TextIs what id.now block.now ∷ []) → AreAdded facts (TextIs what id.now block.now ∷ []) self.old self.new does) }
+    {
+        self.articles.note_sent(what, id, block)
+    }
+
+    /// Adds a success with a number of a group that is shown, if it may be so, and tells whether it may.
+    fn note_placed(
         &mut self,
         name: &[u8],
         what: What,
@@ -168,12 +214,20 @@ impl<A: Allocator + Copy> Kept<A> {
         block: &Option<Block<'_>>,
         at: Option<Position>,
         number: u64,
-    ) -> Result<(), AllocError>
-        ensures { OnOk result ((facts : List Fact) → IsKept facts self.old → is_shown_group facts name.now ≡ true → IsTrue (head_fits what id.now block.now)
-            → Join facts (facts_placed name.now what id.now block.now at number) → IsKept (facts ++ facts_placed name.now what id.now block.now at number) self.new) }
+    ) -> Result<bool, AllocError>
+        ensures { IfOk result (λ does. (facts : List Fact) → IsKept facts self.old → Together facts → is_shown_group facts name.now ≡ true → IsTrue (head_fits what id.now block.now)
+            → AllByRecursion IsWellFormed (facts_placed name.now what id.now block.now at number)
+            → AreAdded facts (facts_placed name.now what id.now block.now at number) self.old self.new does) }
     {
-        self.groups.place(name, &placing(at, number), number, id)?;
-        self.articles.send(what, id, block)
+        let part = placing(at, number);
+        if !self.may_place(name, &part, number, id) {
+            return Ok(false);
+        }
+        if !self.articles.note_sent(what, id, block)? {
+            return Ok(false);
+        }
+        self.groups.place(name, &part, number, id)?;
+        Ok(true)
     }
 }
 
@@ -193,41 +247,13 @@ impl<A: Allocator> Kept<A> {
         self.may_be(name) && self.groups.joins(name.as_slice(), part)
     }
 
-    /// Whether a step in a group that is shown may be so.
-    fn may_step(&self, name: &[u8], ask: Ask, number: u64, id: &[u8]) -> bool
-        ensures { (facts : List Fact) → IsKept facts self.now → Together facts → is_shown_group facts name.now ≡ true → ShowsNoOther (ask_of ask) number
-            → AllByRecursion IsWellFormed (Asks name.now (ask_of ask) ∷ IdAt name.now number id.now ∷ [])
-            → IsTrue result ↔ Join facts (Asks name.now (ask_of ask) ∷ IdAt name.now number id.now ∷ []) }
-    {
-        let part = Part::of(ask).with_number(number);
-        self.may_place(name, &part, number, id) && self.articles.may_stand(id)
-    }
-
-    /// Whether a success with a number of a group that is shown may be so.
-    fn may_send_at(
-        &self,
-        name: &[u8],
-        what: What,
-        id: &[u8],
-        block: &Option<Block<'_>>,
-        at: Option<Position>,
-        number: u64,
-    ) -> bool
-        ensures { (facts : List Fact) → IsKept facts self.now → Together facts → is_shown_group facts name.now ≡ true → IsTrue (head_fits what id.now block.now)
-            → AllByRecursion IsWellFormed (facts_placed name.now what id.now block.now at number)
-            → IsTrue result ↔ Join facts (facts_placed name.now what id.now block.now at number) }
-    {
-        self.may_place(name, &placing(at, number), number, id)
-            && self.articles.may_send(what, id, block)
-    }
-
     /// Whether the number of a group that is shown may be what the part says, and have the id.
     fn may_place(&self, name: &[u8], part: &Part, number: u64, id: &[u8]) -> bool
         ensures { (facts : List Fact) (asks : List asks_said.Ask) → IsKept facts self.now → Together facts → is_shown_group facts name.now ≡ true → Says (said part.now) asks
             → IsTrue result ↔ (AsksStand (asks_of name.now facts ++ asks)
             × (IfSome (first_given (id_in name.now number) facts) (λ other. id.now ≡ other) × IfSome (first_given (number_in name.now id.now) facts) (λ other. number ≡ other))) }
     {
-        self.groups.joins(name, part) && self.groups.may_have_id(name, number, id)
+        self.groups.may_place(name, part, number, id)
     }
 }
 

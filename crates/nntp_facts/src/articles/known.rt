@@ -4,6 +4,7 @@ ghost use Rattle.std.specs.Option.{option_or};
 ghost use Rattle.nntp_article.specs.Article.{Id};
 ghost use Rattle.nntp_article.specs.Machine.{head_fits};
 ghost use Rattle.nntp_facts.specs.Articles.{head_sent, body_sent, AreSame, MayBeSent, unsent, with_sent};
+ghost use Rattle.nntp_facts.specs.Kept.{IsAddedIf};
 ghost use Rattle.nntp_facts.specs.ArticleView.{lines_held, seen_value, known_value};
 
 use nntp_article::Parts;
@@ -124,7 +125,7 @@ impl<A: Allocator> Known<A> {
     }
 
     /// Whether this may be sent of its article.
-    pub(crate) fn may_send(&self, sent: &Sent<'_>) -> bool
+    fn may_send(&self, sent: &Sent<'_>) -> bool
         ensures { IsTrue result ↔ MayBeSent (known_value self.now) sent.now.head sent.now.body }
     {
         match self {
@@ -150,8 +151,20 @@ impl<A: Allocator + Copy> Known<A> {
         Ok(Known::There(seen))
     }
 
+    /// Holds what a success sends, if it may be sent, and tells whether it may.
+    pub(crate) fn note(&mut self, alloc: A, sent: &Sent<'_>) -> Result<bool, AllocError>
+        ensures { IfOk result (λ may. IsAddedIf (MayBeSent (known_value self.old) sent.now.head sent.now.body)
+            (λ known. known ≡ with_sent (known_value self.old) sent.now.head sent.now.body) (known_value self.old) (known_value self.new) may) }
+    {
+        if !self.may_send(sent) {
+            return Ok(false);
+        }
+        self.send(alloc, sent)?;
+        Ok(true)
+    }
+
     /// Holds what a success sends, where there is an article.
-    pub(crate) fn send(&mut self, alloc: A, sent: &Sent<'_>) -> Result<(), AllocError>
+    fn send(&mut self, alloc: A, sent: &Sent<'_>) -> Result<(), AllocError>
         ensures { OnOk result ((known_value self.old).is_denied ≡ false → known_value self.new ≡ with_sent (known_value self.old) sent.now.head sent.now.body) }
     {
         match self {

@@ -6,7 +6,7 @@ ghost use Rattle.nntp_wire.specs.View.{active_value};
 ghost use Rattle.nntp_article.specs.Machine.{names_differ};
 ghost use Rattle.nntp_facts.specs.Facts.{Fact, GroupsAre};
 ghost use Rattle.nntp_facts.specs.Together.{IsWellFormed, Together, Join};
-ghost use Rattle.nntp_facts.specs.Kept.{IsKept};
+ghost use Rattle.nntp_facts.specs.Kept.{IsKept, AreAdded};
 ghost use Rattle.nntp_facts.specs.ListedGroups.{LineJoins};
 
 use crate::ask::Ask;
@@ -16,8 +16,25 @@ use nntp_wire::{ActiveLine, Block, Wildmat};
 use std::alloc::{AllocError, Allocator};
 
 impl<A: Allocator + Copy> Kept<A> {
+    /// Adds the groups that an answer lists, all that match, if they stand together with all before, and
+    /// tells whether they do. After an error the value says nothing of use.
+    pub(crate) fn note_groups(
+        &mut self,
+        wildmat: &Option<Wildmat<'_>>,
+        block: &Block<'_>,
+    ) -> Result<bool, AllocError>
+        ensures { IfOk result (λ does. (facts : List Fact) → IsKept facts self.old → Together facts → AllByRecursion IsWellFormed (GroupsAre wildmat.now (active_groups block.now) ∷ [])
+            → names_differ (active_groups block.now) ≡ true → AreAdded facts (GroupsAre wildmat.now (active_groups block.now) ∷ []) self.old self.new does) }
+    {
+        if !self.may_list_groups(wildmat, block)? {
+            return Ok(false);
+        }
+        self.list_groups(wildmat, block)?;
+        Ok(true)
+    }
+
     /// Whether the groups that an answer lists, all that match, stand together with all before.
-    pub(crate) fn may_list_groups(
+    fn may_list_groups(
         &self,
         wildmat: &Option<Wildmat<'_>>,
         block: &Block<'_>,
@@ -32,7 +49,7 @@ impl<A: Allocator + Copy> Kept<A> {
     }
 
     /// Adds that the groups that match are those. After an error the value says nothing of use.
-    pub(crate) fn list_groups(
+    fn list_groups(
         &mut self,
         wildmat: &Option<Wildmat<'_>>,
         block: &Block<'_>,
