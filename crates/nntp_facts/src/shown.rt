@@ -105,10 +105,11 @@ pub(crate) fn none_outside<A: Allocator>(shown: &BTreeSet<u64, A>, low: u64, hig
 fn none_below<A: Allocator>(shown: &BTreeSet<u64, A>, low: u64) -> bool
     ensures { IsTrue result ↔ ((n : ℕ) → has shown.now.keys n ≡ true → nat_lt n low ≡ false) }
 {
-    match shown.first() {
-        Some(first) => low <= *first,
-        None => true,
-    }
+    low == 0
+        || match shown.first() {
+            Some(first) => low <= *first,
+            None => true,
+        }
 }
 
 /// Whether no shown number is above `high`.
