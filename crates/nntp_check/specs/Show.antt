@@ -25,10 +25,9 @@ group_line name = codes "  group " ++ escaped name ++ codes "\n"
 
 -- ---- what is told of a head
 
--- the word behind the name of a group that is to be moderated
-abbrev pub moderated_text : Bool → List ℕ
-moderated_text true = codes " moderated"
-moderated_text false = []
+-- a word behind its space, if it is told
+abbrev pub word_if : Bool → List ℕ → List ℕ
+word_if is_told word = if is_told then codes " " ++ word else []
 
 -- a content behind its space; an empty one has none
 abbrev pub content_text : List ℕ → List ℕ
@@ -38,7 +37,7 @@ content_text (c ∷ cs) = codes " " ++ escaped (c ∷ cs)
 -- the line of a Control header
 abbrev pub control_line : ControlValue → List ℕ
 control_line (cancel id) = codes "  control cancel " ++ escaped id ++ codes "\n"
-control_line (new_group name moderated) = codes "  control newgroup " ++ escaped name ++ moderated_text moderated ++ codes "\n"
+control_line (new_group name moderated) = codes "  control newgroup " ++ escaped name ++ word_if moderated (codes "moderated") ++ codes "\n"
 control_line (rm_group name) = codes "  control rmgroup " ++ escaped name ++ codes "\n"
 control_line (other content) = codes "  control other" ++ content_text content ++ codes "\n"
 
@@ -46,15 +45,11 @@ control_line (other content) = codes "  control other" ++ content_text content +
 abbrev pub is_one_missing : Missing → Bool
 is_one_missing m = m.from || m.date || m.newsgroups || m.subject || m.message_id || m.path
 
--- a name behind its space, where it is missing
-abbrev pub name_if : Bool → List ℕ → List ℕ
-name_if is_missing name = if is_missing then codes " " ++ name else []
-
 -- the names of the required headers that are missing
 abbrev pub missing_names : Missing → List ℕ
 missing_names m =
-    name_if m.from (codes "From") ++ name_if m.date (codes "Date") ++ name_if m.newsgroups (codes "Newsgroups")
-    ++ name_if m.subject (codes "Subject") ++ name_if m.message_id (codes "Message-ID") ++ name_if m.path (codes "Path")
+    word_if m.from (codes "From") ++ word_if m.date (codes "Date") ++ word_if m.newsgroups (codes "Newsgroups")
+    ++ word_if m.subject (codes "Subject") ++ word_if m.message_id (codes "Message-ID") ++ word_if m.path (codes "Path")
 
 -- the line of what is missing, if anything is
 abbrev pub missing_line : Missing → List ℕ
@@ -97,9 +92,13 @@ under (plain code) = []
 abbrev pub exchange_text : Paired → List ℕ
 exchange_text pair = exchange_line pair ++ under pair.response
 
+-- the last line where no octet of the server is left: how many answers there are, and how many lines have none
+abbrev pub end_line : ℕ → ℕ → List ℕ
+end_line answers unanswered = codes "end answers=" ++ decimal answers ++ codes " unanswered=" ++ decimal unanswered ++ codes "\n"
+
 -- the last line, behind so many answers
 abbrev pub ending_line : ℕ → Ending → List ℕ
-ending_line answers (end unanswered) = codes "end answers=" ++ decimal answers ++ codes " unanswered=" ++ decimal unanswered ++ codes "\n"
+ending_line answers (end unanswered) = end_line answers unanswered
 ending_line answers (bad class) = bad_line answers (class_of class)
 
 -- the report on a session: its exchanges, and how it ends

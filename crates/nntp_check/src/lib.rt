@@ -8,10 +8,10 @@
 
 mod capture;
 mod command_line;
-mod escape;
 mod input;
 mod judge;
 pub mod laws;
+mod printing;
 mod report;
 mod run;
 mod run_fault;

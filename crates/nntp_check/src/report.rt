@@ -5,7 +5,7 @@ ghost use Rattle.nntp_spool.specs.Text.{spool_text};
 ghost use Rattle.nntp_check.specs.Report.{report_of, verified_report, bad_line, class_word, command_line};
 ghost use Rattle.nntp_check.specs.Verdict.{verdict_shown};
 
-use crate::escape::put_escaped_line;
+use crate::printing::{put_escaped_line, put_number};
 use crate::verdict::Verdict;
 use itoa::Buffer;
 use nntp_facts::Class;
@@ -62,9 +62,8 @@ pub(crate) fn verified_report<A: Allocator + Copy>(
         Verified::Permits { answers } => (b"permits answers=", answers),
         Verified::Refuses { index } => (b"refuses answer ", index),
     };
-    let mut buffer = Buffer::new();
-    let mut text = Vec::from_slice(alloc, label)?;
-    text.extend_from_slice(buffer.format(number).as_bytes())?;
+    let mut text = Vec::new(alloc);
+    put_number(&mut text, label, number)?;
     text.push(b'\n')?;
     Ok(text)
 }
@@ -99,9 +98,7 @@ pub(crate) fn put_bad_line<A: Allocator + Copy>(
 ) -> Result<(), AllocError>
     ensures { OnOk result (text.new.items ≡ text.old.items ++ bad_line answer class) }
 {
-    let mut buffer = Buffer::new();
-    text.extend_from_slice(b"bad answer ")?;
-    text.extend_from_slice(buffer.format(answer).as_bytes())?;
+    put_number(text, b"bad answer ", answer)?;
     text.push(b' ')?;
     text.extend_from_slice(word(class))?;
     text.push(b'\n')?;

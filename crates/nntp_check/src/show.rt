@@ -3,15 +3,13 @@ ghost use Rattle.std.specs.Prelude.{◌≡◌, ◌++◌, List, ℕ, map, IfOk, O
 ghost use Rattle.std.specs.List.{flat_map};
 ghost use Rattle.std.specs.Option.{option_copied};
 ghost use Rattle.nntp_wire.specs.AnswerView.{response};
-ghost use Rattle.nntp_pair.specs.Pairing.{end};
 ghost use Rattle.nntp_article.specs.Control.{new_group, other};
 ghost use Rattle.nntp_article.specs.View.{control_value};
 ghost use Rattle.nntp_check.specs.Run.{ShowReports};
-ghost use Rattle.nntp_check.specs.Show.{exchange_text, exchange_line, prompt_text, under, under_article, under_head, control_line, missing_line, is_one_missing, name_if, ending_line};
+ghost use Rattle.nntp_check.specs.Show.{exchange_text, exchange_line, prompt_text, under, under_article, under_head, control_line, missing_line, missing_names, is_one_missing, word_if, end_line};
 
-use crate::escape::{put_escaped, put_escaped_line};
+use crate::printing::{put_escaped, put_escaped_line, put_number};
 use crate::report::put_bad_line;
-use itoa::Buffer;
 use nntp_article::{Control, Head, Missing, Parts, control, missing};
 use nntp_facts::Class;
 use nntp_pair::{Exchange, Pairs, Step};
@@ -69,13 +67,10 @@ fn put_end<A: Allocator + Copy>(
     answers: u64,
     unanswered: u64,
 ) -> Result<(), AllocError>
-    ensures { OnOk result (text.new.items ≡ text.old.items ++ ending_line answers (end unanswered)) }
+    ensures { OnOk result (text.new.items ≡ text.old.items ++ end_line answers unanswered) }
 {
-    let mut buffer = Buffer::new();
-    text.extend_from_slice(b"end answers=")?;
-    text.extend_from_slice(buffer.format(answers).as_bytes())?;
-    text.extend_from_slice(b" unanswered=")?;
-    text.extend_from_slice(buffer.format(unanswered).as_bytes())?;
+    put_number(text, b"end answers=", answers)?;
+    put_number(text, b" unanswered=", unanswered)?;
     text.push(b'\n')?;
     Ok(())
 }
@@ -99,8 +94,7 @@ fn put_exchange_line<A: Allocator + Copy>(
 ) -> Result<(), AllocError>
     ensures { OnOk result (text.new.items ≡ text.old.items ++ exchange_line exchange.now) }
 {
-    let mut buffer = Buffer::new();
-    text.extend_from_slice(buffer.format(exchange.index()).as_bytes())?;
+    put_number(text, b"", exchange.index())?;
     text.push(b' ')?;
     put_prompt(text, exchange.line())?;
     put_escaped_line(text, b" -> ", exchange.initial())
@@ -213,9 +207,7 @@ fn put_new_group<A: Allocator + Copy>(
 {
     text.extend_from_slice(b"  control newgroup ")?;
     put_escaped(text, name)?;
-    if moderated {
-        text.extend_from_slice(b" moderated")?;
-    }
+    put_word_if(text, moderated, b"moderated")?;
     text.push(b'\n')?;
     Ok(())
 }
@@ -241,14 +233,24 @@ fn put_missing<A: Allocator + Copy>(
         return Ok(());
     }
     text.extend_from_slice(b"  missing")?;
-    put_name_if(text, missing.from, b"From")?;
-    put_name_if(text, missing.date, b"Date")?;
-    put_name_if(text, missing.newsgroups, b"Newsgroups")?;
-    put_name_if(text, missing.subject, b"Subject")?;
-    put_name_if(text, missing.message_id, b"Message-ID")?;
-    put_name_if(text, missing.path, b"Path")?;
+    put_missing_names(text, missing)?;
     text.push(b'\n')?;
     Ok(())
+}
+
+/// Adds the names of the headers that are missing.
+fn put_missing_names<A: Allocator + Copy>(
+    text: &mut Vec<u8, A>,
+    missing: Missing,
+) -> Result<(), AllocError>
+    ensures { OnOk result (text.new.items ≡ text.old.items ++ missing_names missing) }
+{
+    put_word_if(text, missing.from, b"From")?;
+    put_word_if(text, missing.date, b"Date")?;
+    put_word_if(text, missing.newsgroups, b"Newsgroups")?;
+    put_word_if(text, missing.subject, b"Subject")?;
+    put_word_if(text, missing.message_id, b"Message-ID")?;
+    put_word_if(text, missing.path, b"Path")
 }
 
 /// Whether one of the headers is missing.
@@ -263,17 +265,17 @@ fn is_one_missing(missing: Missing) -> bool
         || missing.path
 }
 
-/// Adds a space and the name, if it is missing.
-fn put_name_if<A: Allocator + Copy>(
+/// Adds a space and the word, if it is told.
+fn put_word_if<A: Allocator + Copy>(
     text: &mut Vec<u8, A>,
-    is_missing: bool,
-    name: &[u8],
+    is_told: bool,
+    word: &[u8],
 ) -> Result<(), AllocError>
-    ensures { OnOk result (text.new.items ≡ text.old.items ++ name_if is_missing name.now) }
+    ensures { OnOk result (text.new.items ≡ text.old.items ++ word_if is_told word.now) }
 {
-    if is_missing {
+    if is_told {
         text.push(b' ')?;
-        text.extend_from_slice(name)?;
+        text.extend_from_slice(word)?;
     }
     Ok(())
 }

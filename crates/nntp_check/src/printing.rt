@@ -1,8 +1,22 @@
-//! Octets as reports print them.
-ghost use Rattle.std.specs.Prelude.{◌≡◌, ◌<◌, ◌++◌, ◌∷◌, [], OnOk};
+//! Octets and numbers as reports print them.
+ghost use Rattle.std.specs.Prelude.{◌≡◌, ◌<◌, ◌++◌, ◌∷◌, [], OnOk, decimal};
 ghost use Rattle.nntp_check.specs.Report.{escaped, escaped_octet, hexadecimal_digit};
 
+use itoa::Buffer;
 use std::alloc::{AllocError, Allocator};
+
+/// Adds a label and a number.
+pub(crate) fn put_number<A: Allocator + Copy>(
+    text: &mut Vec<u8, A>,
+    label: &[u8],
+    number: u64,
+) -> Result<(), AllocError>
+    ensures { OnOk result (text.new.items ≡ text.old.items ++ label.now ++ decimal number) }
+{
+    let mut buffer = Buffer::new();
+    text.extend_from_slice(label)?;
+    text.extend_from_slice(buffer.format(number).as_bytes())
+}
 
 /// Adds a line of a label and escaped octets.
 pub(crate) fn put_escaped_line<A: Allocator + Copy>(
