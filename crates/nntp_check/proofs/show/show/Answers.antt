@@ -1,4 +1,4 @@
-use Rattle.std.proofs.Common.{◌≡◌, ◌∙◌, ap, sym, ◌++◌}
+use Rattle.std.proofs.Common.{◌∙◌, ap, ◌++◌}
 use Rattle.nntp_pair.specs.Pairing.{end, bad}
 use Rattle.nntp_check.specs.Report.{bad_line}
 use Rattle.nntp_check.proofs.ShowLemmas.{one-more, at-ending}
