@@ -1,9 +1,13 @@
 -- How a report goes through the exchanges of two streams.
-use Rattle.std.proofs.Common.{◌≡◌, ◌∙◌, sym, ap, refl, ℕ, ◌+◌, List, [], ◌∷◌, ◌++◌, length}
+use Rattle.std.proofs.Common.{◌≡◌, ◌∙◌, sym, ap, refl, ℕ, ◌+◌, false, List, [], ◌∷◌, ◌++◌, length}
 use Rattle.std.specs.List.{flat_map}
 use Rattle.std.proofs.lemmas.List.{flat_map_more}
-use Rattle.nntp_pair.specs.Pairing.{Paired, Unpaired, IsNext, AreNext, Ends, Ending, streams}
+use Rattle.nntp_pair.specs.Pairing.{Paired, Unpaired, IsNext, AreNext, Ends, Ending, bad, streams}
+use Rattle.nntp_pair.specs.declared.class.PairClass.{PairClass}
 use Rattle.nntp_pair.proofs.PairingLemmas.{AreNext-push, index-counts}
+use Rattle.nntp_facts.specs.Classes.{class_of}
+use Rattle.nntp_facts.specs.declared.class.Class.{Class}
+use Rattle.nntp_check.specs.Report.{bad_line}
 use Rattle.nntp_check.specs.Run.{ShowReports}
 use Rattle.nntp_check.specs.Show.{exchange_text, ending_line, is_end}
 
@@ -36,3 +40,9 @@ at-ending client server left answers text new ending p ends k at more spool =
       text_is = more ∙ ap (λ octets. octets ++ ending_line k ending) p.text_is ∙ ap (λ n. flat_map exchange_text p.pairs ++ ending_line n ending) place;
       answer_is = refl;
     }
+
+-- the same at octets that answer nothing
+pub at-octets : (client server : List ℕ) (left : Unpaired) (answers : ℕ) (text new : List ℕ) (class : PairClass) → Passed client server left answers text → Ends left (bad class)
+    → (k : ℕ) → k ≡ left.index → (of : Class) → of ≡ class_of class → new ≡ text ++ bad_line k of → (spool : List ℕ) → ShowReports client server spool new false
+at-octets client server left answers text new class p ends k at of is more =
+    at-ending client server left answers text new (bad class) p ends k at (more ∙ ap (λ c. text ++ bad_line k c) is)

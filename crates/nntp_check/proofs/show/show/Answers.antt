@@ -1,7 +1,5 @@
-use Rattle.std.proofs.Common.{◌∙◌, ap, ◌++◌}
-use Rattle.nntp_pair.specs.Pairing.{end, bad}
-use Rattle.nntp_check.specs.Report.{bad_line}
-use Rattle.nntp_check.proofs.ShowLemmas.{one-more, at-ending}
+use Rattle.nntp_pair.specs.Pairing.{end}
+use Rattle.nntp_check.proofs.ShowLemmas.{one-more, at-ending, at-octets}
 use Rattle.nntp_check.proofs.show.show.Goals as goal
 
 pub loop-exchange-preserved : goal.loop-exchange-preserved
@@ -12,9 +10,8 @@ loop-exchange-preserved g c =
 pub returns-in-Bad : goal.returns-in-Bad
 returns-in-Bad g c =
     let ends = c.in-Bad.ensures.step in
-    at-ending c.args.client.now c.args.server.now c.loop-exchange.pairs c.loop-exchange.answers c.loop-exchange.text.items c.put_bad_line.new.text.items (bad c.in-Bad.class)
-    c.loop-exchange.invariant ends.1 c.in-Bad.index ends.0
-    (c.in_ok-put_bad_line-in-Bad.ensures ∙ ap (λ class. c.loop-exchange.text.items ++ bad_line c.in-Bad.index class) c.from.ensures)
+    at-octets c.args.client.now c.args.server.now c.loop-exchange.pairs c.loop-exchange.answers c.loop-exchange.text.items c.put_bad_line.new.text.items c.in-Bad.class
+    c.loop-exchange.invariant ends.1 c.in-Bad.index ends.0 c.from.result c.from.ensures c.in_ok-put_bad_line-in-Bad.ensures
 
 pub returns-in-End : goal.returns-in-End
 returns-in-End g c =
