@@ -1,4 +1,4 @@
--- What a run writes, and the report of `verify` on streams that are borrowed.
+-- What a run writes, and reports on streams that are borrowed.
 use Rattle.std.proofs.Common.{◌≡◌, ◌∙◌, sym, subst, ℕ, Bool, List, [], Option}
 use Rattle.std.proofs.lemmas.List.{append-nil}
 use Rattle.std.specs.Io.KnownBytes.{Appends}
@@ -9,7 +9,7 @@ use Rattle.nntp_spool.specs.Verifying.{IsVerified}
 use Rattle.nntp_spool.specs.Writing.{Wrote}
 use Rattle.nntp_spool.specs.declared.verification.verified.Verified.{Verified}
 use Rattle.nntp_check.specs.Report.{verified_report, is_permitted}
-use Rattle.nntp_check.specs.Run.{VerifyReports}
+use Rattle.nntp_check.specs.Run.{Input, ReadsCapture, VerifyReports, IsCutShort}
 
 pub wrote-all : (old new : Option (List ℕ)) (octets lent : List ℕ) → lent ≡ octets → Wrote old new lent [] → Appends old new octets
 wrote-all old new octets lent is w = subst (λ (front : List ℕ). Appends old new front) (sym (append-nil w.0) ∙ sym w.1 ∙ is) w.2
@@ -27,4 +27,27 @@ verify-reports S is_spool client server spool lent_client lent_server lent_spool
       (subst (λ (octets : List ℕ). IsVerified profile_31_bits S octets lent_server verified) client-is exact);
   text_is = text-is;
   answer_is = answer-is;
+}
+
+-- a report on borrowed streams is one on the streams
+pub lent-reports : (Reports : List ℕ → List ℕ → List ℕ → List ℕ → Bool → Type 0) (client server spool text lent_client lent_server : List ℕ) (answer : Bool) → lent_client ≡ client → lent_server ≡ server
+    → Reports lent_client lent_server spool text answer → Reports client server spool text answer
+lent-reports Reports client server spool text lent_client lent_server answer client-is server-is reports =
+    subst (λ (octets : List ℕ). Reports client octets spool text answer) server-is
+    (subst (λ (octets : List ℕ). Reports octets lent_server spool text answer) client-is reports)
+
+-- a report of which the writer took a front is cut short
+pub cut-short : (Reports : List ℕ → List ℕ → List ℕ → List ℕ → Bool → Type 0) (input : Input) (old new : Option (List ℕ)) (client server spool text lent left : List ℕ) (answer : Bool)
+    → ReadsCapture input client server spool → Reports client server spool text answer → lent ≡ text → Wrote old new lent left
+    → IsCutShort Reports input (record { before = old; after = new })
+cut-short Reports input old new client server spool text lent left answer capture reports is wrote = record {
+  client = client;
+  server = server;
+  spool = spool;
+  capture = capture;
+  text = text;
+  answer = answer;
+  reports = reports;
+  left = left;
+  front = subst (λ (octets : List ℕ). Wrote old new octets left) is wrote;
 }

@@ -34,6 +34,10 @@ class_word Malformed = codes "Malformed"
 class_word OutOfPlace = codes "OutOfPlace"
 class_word Contradiction = codes "Contradiction"
 
+-- which answer is bad, and why
+abbrev pub bad_line : ℕ → Class → List ℕ
+bad_line answer class = codes "bad answer " ++ decimal answer ++ codes " " ++ class_word class ++ codes "\n"
+
 -- the line of the command that a bad answer is for
 abbrev pub command_line : Option (List ℕ) → List ℕ
 command_line None = codes "no command\n"
@@ -46,8 +50,7 @@ report_of (consistent spool answers) =
     ++ codes " numbers=" ++ decimal (numbers_in spool) ++ codes " articles=" ++ decimal (len spool.articles) ++ codes "\n"
     ++ spool_text spool
 report_of (bad answer class command reply) =
-    codes "bad answer " ++ decimal answer ++ codes " " ++ class_word class ++ codes "\n"
-    ++ command_line command ++ codes "answer " ++ escaped reply ++ codes "\n"
+    bad_line answer class ++ command_line command ++ codes "answer " ++ escaped reply ++ codes "\n"
 
 -- the report on a given spool
 abbrev pub verified_report : Verified → List ℕ

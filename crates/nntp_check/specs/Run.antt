@@ -2,6 +2,7 @@
 use Rattle.std.specs.Prelude.{◌≡◌, ℕ, ◌≤◌, ◌<◌, Bool, List, length, Option, ⊤}
 use Rattle.std.specs.Io.KnownBytes.{Appends, Consumes, IsAtEnd}
 use Rattle.nntp_article.specs.Spool.{Spool, IsSpool}
+use Rattle.nntp_pair.specs.Pairing.{Paired, Ending, IsPairing}
 use Rattle.nntp_spool.specs.Faults.{IsFirstFault}
 use Rattle.nntp_article.specs.Limit.{profile_31_bits}
 use Rattle.nntp_spool.specs.Text.{spool_text}
@@ -14,6 +15,7 @@ use Rattle.nntp_spool.specs.declared.watched.Watched.{Watched}
 use Rattle.nntp_check.specs.Capture.{AreStreams, IsBadPiece}
 use Rattle.nntp_check.specs.Judging.{IsVerdict}
 use Rattle.nntp_check.specs.Report.{report_of, verified_report, is_permitted}
+use Rattle.nntp_check.specs.Show.{shown_report, is_end}
 use Rattle.nntp_check.specs.Verdict.{Judgement, is_consistent}
 use Rattle.nntp_check.specs.declared.run_fault.RunFault.{RunFault}
 use Rattle.nntp_check.specs.declared.run_fault.RunFault.TheVariants as faults
@@ -87,6 +89,14 @@ pub record VerifyReports (client server spool text : List ℕ) (answer : Bool) :
   pub text_is : text ≡ verified_report verified
   pub answer_is : answer ≡ is_permitted verified
 
+-- the report of `show` on them, and its answer: the spool's text makes no difference
+pub record ShowReports (client server spool text : List ℕ) (answer : Bool) : Type 0 where
+  pub pairs : List Paired
+  pub ending : Ending
+  pub pairing : IsPairing client server pairs ending
+  pub text_is : text ≡ shown_report pairs ending
+  pub answer_is : answer ≡ is_end ending
+
 -- what was read is a capture, and what was written is the report on it
 pub record IsReported (Reports : List ℕ → List ℕ → List ℕ → List ℕ → Bool → Type 0) (input : Input) (output : Output) (answer : Bool) : Type 0 where
   pub client : List ℕ
@@ -117,13 +127,20 @@ pub record ReadsNoSpool (input : Input) (fault : ReadFault) : Type 0 where
   pub capture : ReadsCapture input client server spool
   pub first : IsFirstFault profile_31_bits spool fault
 
--- why `check` gives no answer: a fault of the input, or a report that is cut short
+-- why a run that reads no spool gives no answer: a fault of the input, or a report that is cut short
+abbrev pub IsFaultOf : (List ℕ → List ℕ → List ℕ → List ℕ → Bool → Type 0) → Input → Output → RunFault → Type 0
+IsFaultOf Reports input output faults.Write = IsCutShort Reports input output
+IsFaultOf Reports input output fault = IsInputFault input fault
+
+-- why `check` gives no answer
 abbrev pub IsCheckFault : Input → Output → RunFault → Type 0
-IsCheckFault input output faults.Write = IsCutShort CheckReports input output
-IsCheckFault input output fault = IsInputFault input fault
+IsCheckFault = IsFaultOf CheckReports
+
+-- why `show` gives no answer
+abbrev pub IsShowFault : Input → Output → RunFault → Type 0
+IsShowFault = IsFaultOf ShowReports
 
 -- why `verify` gives no answer: the same, or the text of no spool
 abbrev pub IsVerifyFault : Input → Output → RunFault → Type 0
-IsVerifyFault input output faults.Write = IsCutShort VerifyReports input output
 IsVerifyFault input output (faults.Spool fault) = ReadsNoSpool input fault
-IsVerifyFault input output fault = IsInputFault input fault
+IsVerifyFault input output fault = IsFaultOf VerifyReports input output fault

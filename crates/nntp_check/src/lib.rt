@@ -1,8 +1,9 @@
 //! Judges recorded NNTP sessions: whether one fixed spool explains all that a server answered.
 //!
 //! `check` judges the two streams of a session. `run_check` judges those of a capture and writes the
-//! report on them; `run_verify` tells whether the spool of a capture explains its session. `job` and
-//! `status` are the program's command line and its exit status.
+//! report on them; `run_verify` tells whether the spool of a capture explains its session; `run_show`
+//! writes the session as a reader sees it. `job` and `status` are the program's command line and its
+//! exit status.
 #![tactic(auto)]
 
 mod capture;
@@ -10,15 +11,17 @@ mod command_line;
 mod input;
 mod judge;
 pub mod laws;
+mod printing;
 mod report;
 mod run;
 mod run_fault;
+mod show;
 mod verdict;
 
 pub use command_line::{Failure, Task, job, status};
 pub use judge::check;
 pub use nntp_facts::Class;
 pub use nntp_spool::{Counts, Kind, ReadFault, Spool, Watched, WriteFault};
-pub use run::{run_check, run_verify};
+pub use run::{run_check, run_show, run_verify};
 pub use run_fault::RunFault;
 pub use verdict::Verdict;

@@ -1,10 +1,11 @@
 //! The reports of `check` and `verify`.
-ghost use Rattle.std.specs.Prelude.{◌≡◌, ◌<◌, ◌++◌, ◌∷◌, [], OnOk, IfOk, codes, decimal};
+ghost use Rattle.std.specs.Prelude.{◌≡◌, ◌++◌, OnOk, IfOk, codes, decimal};
 ghost use Rattle.std.specs.Option.{option_map};
 ghost use Rattle.nntp_spool.specs.Text.{spool_text};
-ghost use Rattle.nntp_check.specs.Report.{report_of, verified_report, class_word, command_line, escaped, escaped_octet, hexadecimal_digit};
+ghost use Rattle.nntp_check.specs.Report.{report_of, verified_report, bad_line, class_word, command_line};
 ghost use Rattle.nntp_check.specs.Verdict.{verdict_shown};
 
+use crate::printing::{put_escaped_line, put_number};
 use crate::verdict::Verdict;
 use itoa::Buffer;
 use nntp_facts::Class;
@@ -29,7 +30,8 @@ pub(crate) fn report<A: Allocator + Copy>(
             command,
             reply,
         } => {
-            let mut text = bad_line(alloc, *answer, *class)?;
+            let mut text = Vec::new(alloc);
+            put_bad_line(&mut text, *answer, *class)?;
             put_command(&mut text, command)?;
             put_escaped_line(&mut text, b"answer ", reply)?;
             Ok(text)
@@ -60,9 +62,8 @@ pub(crate) fn verified_report<A: Allocator + Copy>(
         Verified::Permits { answers } => (b"permits answers=", answers),
         Verified::Refuses { index } => (b"refuses answer ", index),
     };
-    let mut buffer = Buffer::new();
-    let mut text = Vec::from_slice(alloc, label)?;
-    text.extend_from_slice(buffer.format(number).as_bytes())?;
+    let mut text = Vec::new(alloc);
+    put_number(&mut text, label, number)?;
     text.push(b'\n')?;
     Ok(text)
 }
@@ -89,21 +90,19 @@ fn consistent_line<A: Allocator + Copy>(
     Ok(text)
 }
 
-/// Which answer is bad, and why.
-fn bad_line<A: Allocator + Copy>(
-    alloc: A,
+/// Adds the line of a bad answer: which it is, and why.
+pub(crate) fn put_bad_line<A: Allocator + Copy>(
+    text: &mut Vec<u8, A>,
     answer: u64,
     class: Class,
-) -> Result<Vec<u8, A>, AllocError>
-    ensures { IfOk result (λ text. text.items ≡ codes "bad answer " ++ decimal answer ++ codes " " ++ class_word class ++ codes "\n") }
+) -> Result<(), AllocError>
+    ensures { OnOk result (text.new.items ≡ text.old.items ++ bad_line answer class) }
 {
-    let mut buffer = Buffer::new();
-    let mut text = Vec::from_slice(alloc, b"bad answer ")?;
-    text.extend_from_slice(buffer.format(answer).as_bytes())?;
+    put_number(text, b"bad answer ", answer)?;
     text.push(b' ')?;
     text.extend_from_slice(word(class))?;
     text.push(b'\n')?;
-    Ok(text)
+    Ok(())
 }
 
 /// The word that is printed for a class.
@@ -130,47 +129,4 @@ fn put_command<A: Allocator + Copy>(
         Some(line) => put_escaped_line(text, b"command ", line),
         None => text.extend_from_slice(b"no command\n"),
     }
-}
-
-/// Adds a line of a word and escaped octets.
-fn put_escaped_line<A: Allocator + Copy>(
-    text: &mut Vec<u8, A>,
-    label: &[u8],
-    octets: &[u8],
-) -> Result<(), AllocError>
-    ensures { OnOk result (text.new.items ≡ text.old.items ++ label.now ++ escaped octets.now ++ 10 ∷ []) }
-{
-    text.extend_from_slice(label)?;
-    for octet in octets {
-        put_escaped(text, *octet)?;
-    }
-    text.push(b'\n')?;
-    Ok(())
-}
-
-/// Adds an octet as it is printed.
-fn put_escaped<A: Allocator + Copy>(text: &mut Vec<u8, A>, octet: u8) -> Result<(), AllocError>
-    ensures { OnOk result (text.new.items ≡ text.old.items ++ escaped_octet octet) }
-{
-    match octet {
-        b'\\' => text.extend_from_slice(b"\\\\"),
-        0x20..=0x7E => {
-            text.push(octet)?;
-            Ok(())
-        }
-        _ => text.extend_from_slice(&[
-            b'\\',
-            b'x',
-            hexadecimal_digit(octet / 16),
-            hexadecimal_digit(octet % 16),
-        ]),
-    }
-}
-
-/// The digit of a number below 16, in lower case.
-fn hexadecimal_digit(n: u8) -> u8
-    requires { n < 16 }
-    ensures { result ≡ hexadecimal_digit n }
-{
-    if n < 10 { b'0' + n } else { b'a' - 10 + n }
 }

@@ -3,12 +3,13 @@ ghost use Rattle.std.specs.Prelude.{◌≡◌, ◌≢◌, ◌↔◌, ◌||◌, f
 ghost use Rattle.nntp_spool.specs.Watched.{inner_of, has_failed_of};
 ghost use Rattle.nntp_spool.specs.Writing.{Writes};
 ghost use Rattle.nntp_check.specs.Report.{is_permitted};
-ghost use Rattle.nntp_check.specs.Run.{read_by, written_by, CheckReports, VerifyReports, IsReported, IsCheckFault, IsVerifyFault};
+ghost use Rattle.nntp_check.specs.Run.{read_by, written_by, CheckReports, VerifyReports, ShowReports, IsReported, IsCheckFault, IsVerifyFault, IsShowFault};
 
 use crate::input::read_streams;
 use crate::judge::check;
 use crate::report::{report, verified_report};
 use crate::run_fault::RunFault;
+use crate::show::show;
 use nntp_spool::{Spool, Verified, Watched, WriteFault, put, verify};
 use std::alloc::Allocator;
 use std::io::{Read, Write};
@@ -87,4 +88,28 @@ pub fn run_verify<A: Allocator + Copy, R: Read, W: Write>(
     let text = verified_report(alloc, verified)?;
     print(&text, output)?;
     Ok(is_permitted(verified))
+}
+
+/// Writes the session of the capture that the input has as a reader sees it: the answer is whether all
+/// octets of the server are answers. It reads and writes as `run_check` does.
+pub fn run_show<A: Allocator + Copy, R: Read, W: Write>(
+    alloc: A,
+    input: &mut Watched<R>,
+    output: &mut Watched<W>,
+    most: u64,
+) -> Result<bool, RunFault>
+    // What was read is a capture, and what was written is what its streams show.
+    ensures ok { IfOk result (IsReported ShowReports (read_by R.remaining input.old input.new most) (written_by W.contents output.old output.new)) }
+    // Which fault it is, by what was read and written.
+    ensures err { IfErr result (IsShowFault (read_by R.remaining input.old input.new most) (written_by W.contents output.old output.new)) }
+    // Before the report is whole, the writer isn't touched.
+    ensures unwritten { IfErr result (λ e. e ≢ RunFault.Write → output.new ≡ output.old) }
+
+    ensures read_failed { has_failed_of input.old ≡ false → (IsErrOf result RunFault.Read ↔ (has_failed_of input.new ≡ true)) }
+    ensures write_failed { has_failed_of output.old ≡ false → (IsErrOf result RunFault.Write ↔ (has_failed_of output.new ≡ true)) }
+{
+    let streams = read_streams(alloc, input, most)?;
+    let shown = show(alloc, &streams.client, &streams.server)?;
+    print(&shown.text, output)?;
+    Ok(shown.is_answered)
 }

@@ -19,13 +19,15 @@ fn words_that_ask_for_a_task(rt: HostRuntime) -> Result<(), Fail> {
     assert_eq!(rt; job(rt.alloc(), &check)?, Task::Check);
     let verify = words(rt.alloc(), &["nntpcheck", "verify"])?;
     assert_eq!(rt; job(rt.alloc(), &verify)?, Task::Verify);
+    let show = words(rt.alloc(), &["nntpcheck", "show"])?;
+    assert_eq!(rt; job(rt.alloc(), &show)?, Task::Show);
     Ok(())
 }
 
 #[test]
 fn words_that_ask_for_no_task(rt: HostRuntime) -> Result<(), Fail> {
     let alloc = rt.alloc();
-    let rows: [(&[&str], ErrorKind, u8); 8] = [
+    let rows: [(&[&str], ErrorKind, u8); 10] = [
         (&["nntpcheck"], ErrorKind::MissingSubcommand, 2),
         (&["nntpcheck", "check", "x"], ErrorKind::UnknownArgument, 2),
         (
@@ -34,9 +36,11 @@ fn words_that_ask_for_no_task(rt: HostRuntime) -> Result<(), Fail> {
             2,
         ),
         (&["nntpcheck", "verify", "x"], ErrorKind::UnknownArgument, 2),
-        (&["nntpcheck", "show"], ErrorKind::InvalidSubcommand, 2),
+        (&["nntpcheck", "show", "x"], ErrorKind::UnknownArgument, 2),
+        (&["nntpcheck", "tell"], ErrorKind::InvalidSubcommand, 2),
         (&["nntpcheck", "--help"], ErrorKind::DisplayHelp, 0),
         (&["nntpcheck", "check", "-h"], ErrorKind::DisplayHelp, 0),
+        (&["nntpcheck", "show", "--help"], ErrorKind::DisplayHelp, 0),
         (&["nntpcheck", "--version"], ErrorKind::DisplayVersion, 0),
     ];
     for (of, kind, code) in rows {
@@ -47,6 +51,60 @@ fn words_that_ask_for_no_task(rt: HostRuntime) -> Result<(), Fail> {
                 assert_eq!(rt; error.kind(), kind);
                 assert_eq!(rt; error.use_stderr(), code == 2);
                 assert_eq!(rt; status(&Err(Failure::Words(error))), code);
+            }
+        }
+    }
+    Ok(())
+}
+
+#[test]
+fn help_tells_what_is_read_and_written(rt: HostRuntime) -> Result<(), Fail> {
+    let alloc = rt.alloc();
+    let rows: [(&[&str], &[&str]); 4] = [
+        (
+            &["nntpcheck", "--help"],
+            &[
+                "  check ",
+                "  verify ",
+                "  show ",
+                "Example:\n  printf 'client 15\\nGROUP g",
+                "docs/FORMATS.md",
+            ],
+        ),
+        (
+            &["nntpcheck", "check", "--help"],
+            &[
+                "\nReads a capture",
+                "\nWrites to standard output",
+                "\nExit status: 0 if",
+            ],
+        ),
+        (
+            &["nntpcheck", "verify", "--help"],
+            &[
+                "\nReads a capture",
+                "\nWrites to standard output",
+                "\nExit status: 0 if",
+            ],
+        ),
+        (
+            &["nntpcheck", "show", "-h"],
+            &[
+                "\nReads a capture",
+                "\nWrites to standard output",
+                "\nExit status: 0 if",
+            ],
+        ),
+    ];
+    for (of, wanted) in rows {
+        let words = words(alloc, of)?;
+        match job(alloc, &words) {
+            Ok(_) => assert!(rt; false, "no help"),
+            Err(error) => {
+                let help = format!(in alloc; "{error}")?;
+                for part in wanted {
+                    assert!(rt; help.as_str().contains(*part), "{part}: {help}");
+                }
             }
         }
     }

@@ -17,6 +17,8 @@ mod runs;
 #[cfg(test)]
 mod sessions;
 #[cfg(test)]
+mod shows;
+#[cfg(test)]
 mod slow_judge;
 #[cfg(test)]
 mod slowly_judged;

@@ -1,6 +1,6 @@
 //! Runs over captures, by readers and writers that give and take a little or fail.
 use crate::fakes::{EndlessReader, Full, reader, writer};
-use nntp_check::{Failure, RunFault, Task, Watched, run_check, run_verify, status};
+use nntp_check::{Failure, RunFault, Task, Watched, run_check, run_show, run_verify, status};
 use std::alloc::Global;
 use std::io::{Read, Write};
 use std::process::Abort;
@@ -21,7 +21,7 @@ pub(crate) const CAPTURE: &[u8] =
 pub(crate) const REPORT: &[u8] =
     b"consistent answers=3 groups=1 numbers=0 articles=0\nspool 1\ngroup g 0\nend\n";
 
-const RUNS: [Run; 2] = [
+const RUNS: [Run; 3] = [
     Run {
         task: Task::Check,
         capture: CAPTURE,
@@ -31,6 +31,11 @@ const RUNS: [Run; 2] = [
         task: Task::Verify,
         capture: b"client 15\nGROUP g\r\nQUIT\r\nserver 30\n200 hi\r\n211 0 1 0 g\r\n205 bye\r\nspool 22\nspool 1\ngroup g 0\nend\n",
         report: b"permits answers=3\n",
+    },
+    Run {
+        task: Task::Show,
+        capture: CAPTURE,
+        report: b"0 greeting -> 200 hi\n1 GROUP g -> 211 0 1 0 g\n  group g\n2 QUIT -> 205 bye\nend answers=3 unanswered=0\n",
     },
 ];
 
@@ -44,6 +49,7 @@ fn perform<R: Read, W: Write>(
     match task {
         Task::Check => run_check(alloc, input, output, most),
         Task::Verify => run_verify(alloc, input, output, most),
+        Task::Show => run_show(alloc, input, output, most),
     }
 }
 
@@ -105,7 +111,7 @@ fn no_capture_or_too_long(rt: HostRuntime) {
         ),
     ];
     for (octets, most, fault) in rows {
-        for task in [Task::Check, Task::Verify] {
+        for task in [Task::Check, Task::Verify, Task::Show] {
             let mut input = reader(octets, 4096, 0);
             let mut output = writer(rt.alloc(), 1000, 1000, Full::Fails);
             let outcome = perform(rt.alloc(), task, &mut input, &mut output, most);
@@ -120,7 +126,7 @@ fn no_capture_or_too_long(rt: HostRuntime) {
 
 #[test]
 fn an_input_without_end_is_too_long(rt: HostRuntime) {
-    for task in [Task::Check, Task::Verify] {
+    for task in [Task::Check, Task::Verify, Task::Show] {
         let mut input = Watched::new(EndlessReader);
         let mut output = writer(rt.alloc(), 1000, 1000, Full::Fails);
         let outcome = perform(rt.alloc(), task, &mut input, &mut output, 1000);

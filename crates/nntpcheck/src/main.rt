@@ -2,7 +2,7 @@
 #![tactic(auto)]
 
 use clap::error::ErrorKind;
-use nntp_check::{Failure, RunFault, Task, Watched, job, run_check, run_verify, status};
+use nntp_check::{Failure, RunFault, Task, Watched, job, run_check, run_show, run_verify, status};
 use std::process::ExitCode;
 use std::{env, io};
 
@@ -38,6 +38,7 @@ fn run(rt: &HostRuntime) -> Result<bool, Failure> {
     let outcome = match task {
         Task::Check => run_check(rt.alloc(), &mut input, &mut output, MOST),
         Task::Verify => run_verify(rt.alloc(), &mut input, &mut output, MOST),
+        Task::Show => run_show(rt.alloc(), &mut input, &mut output, MOST),
     };
     outcome.map_err(Failure::Run)
 }

@@ -3,7 +3,10 @@ use super::{Ended, refuse_each, right_if};
 use crate::fakes::{FakeWriter, Full, reader, writer};
 use crate::runs::{CAPTURE, REPORT};
 use crate::sessions::{Session, TABLES, capture, verified_report, with_spool};
-use nntp_check::{Failure, Kind, ReadFault, RunFault, Task, run_check, run_verify, status};
+use crate::shows::SHOWN;
+use nntp_check::{
+    Failure, Kind, ReadFault, RunFault, Task, run_check, run_show, run_verify, status,
+};
 use nntp_refusing::Refusing;
 use std::alloc::Global;
 use std::process::Abort;
@@ -41,6 +44,7 @@ impl<'a> Run<'a> {
         let outcome = match self.task {
             Task::Check => run_check(heap, &mut input, &mut output, self.most),
             Task::Verify => run_verify(heap, &mut input, &mut output, self.most),
+            Task::Show => run_show(heap, &mut input, &mut output, self.most),
         };
         self.compare(outcome, &output.into_inner())
     }
@@ -153,6 +157,26 @@ fn runs_over_worked_sessions(rt: HostRuntime) -> Result<(), Fail> {
             refuse_check(&rt, rt.alloc(), session)?;
             refuse_verify(&rt, rt.alloc(), session)?;
         }
+    }
+    Ok(())
+}
+
+#[test]
+fn runs_that_show_sessions(rt: HostRuntime) -> Result<(), Fail> {
+    for session in SHOWN {
+        let capture = session.capture(rt.alloc())?;
+        refuse(
+            &rt,
+            rt.alloc(),
+            Run {
+                name: session.name,
+                task: Task::Show,
+                input: &capture,
+                most: 1 << 30,
+                answer: Ok(session.is_answered),
+                report: session.report,
+            },
+        );
     }
     Ok(())
 }

@@ -1,0 +1,18 @@
+use Rattle.std.proofs.lemmas.Result.{err_from_is_err_and}
+use Rattle.nntp_check.specs.Run.{read_by, ShowReports}
+use Rattle.nntp_check.proofs.RunLemmas.{lent-reports, cut-short}
+use Rattle.nntp_check.proofs.run.run_show.Goals as goal
+
+pub returns-in_err-print-clause-err : goal.returns-in_err-print-clause-err
+returns-in_err-print-clause-err g c =
+    let exit = err_from_is_err_and c.from_residual-in_err-print.result c.from_residual-in_err-print.ensures.1 in
+    let streams = c.in_ok-streams.streams in
+    let shown = c.in_ok-shown.shown in
+    rw (exit.1, exit.2)
+    (cut-short ShowReports (read_by g.R.Read.remaining c.args.input.now c.read_streams.new.input c.args.most)
+    (g.W.Write.contents c.args.output.now.inner) (g.W.Write.contents c.print.new.output.inner)
+    streams.client.items streams.server.items streams.spool.items shown.text.items c.deref-3.result.now c.in_err-print.ensures.text.0 shown.is_answered
+    c.in_ok-streams.ensures.ok
+    (lent-reports ShowReports streams.client.items streams.server.items streams.spool.items shown.text.items c.deref.result.now c.deref-2.result.now shown.is_answered
+    c.deref.ensures.value c.deref-2.ensures.value (c.in_ok-shown.ensures streams.spool.items))
+    c.deref-3.ensures.value c.in_err-print.ensures.text.1)
