@@ -13,8 +13,8 @@ returns-in_err-print-clause-err g c =
     let streams = c.in_ok-streams.streams in
     let verified = c.in_ok-verified.verified in
     let reports = verify-reports c.in_ok-spool.spool (subst (λ (T : Spool). IsSpool profile_31_bits T) c.spool.view_is c.spool.invariant) streams.client.items streams.server.items streams.spool.items
-        c.deref-2.result.now c.deref-3.result.now c.deref.result.now c.deref-2.ensures.value c.deref-3.ensures.value c.deref.ensures.value
-        c.in_ok-spool.ensures.spool verified c.in_ok-verified.ensures c.in_ok-text.text.items c.in_ok-text.ensures (is_permitted verified) refl in
+    c.deref-2.result.now c.deref-3.result.now c.deref.result.now c.deref-2.ensures.value c.deref-3.ensures.value c.deref.ensures.value
+    c.in_ok-spool.ensures.spool verified c.in_ok-verified.ensures c.in_ok-text.text.items c.in_ok-text.ensures (is_permitted verified) refl in
     rw (exit.1, exit.2)
     (cut-short VerifyReports (read_by g.R.Read.remaining c.args.input.now c.read_streams.new.input c.args.most)
     (g.W.Write.contents c.args.output.now.inner) (g.W.Write.contents c.print.new.output.inner)
