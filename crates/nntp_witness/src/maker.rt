@@ -65,17 +65,33 @@ impl<A: Allocator + Copy> SpoolMaker<A> {
             → Makes result (λ _. NumbersLeft (said_by past) G before name.now behind [] self.new.builder self.new.next) }
     {
         while let Some(seen) = numbers.next() {
-            if let Some(number) = unseen {
-                if number < seen.number {
-                    self.add_number(facts, name, number, None)?;
-                    unseen = None;
-                }
-            }
+            unseen = self.add_unseen(facts, name, unseen, seen.number)?;
             self.add_number(facts, name, seen.number, seen.id)?;
         }
         match unseen {
             Some(number) => self.add_number(facts, name, number, None),
             None => Ok(()),
+        }
+    }
+
+    /// Adds the one more number, if it is below the number that comes next; then none is left.
+    fn add_unseen(
+        &mut self,
+        facts: &Facts<A>,
+        name: &[u8],
+        unseen: Option<u64>,
+        next: u64,
+    ) -> Result<Option<u64>, SpoolFault>
+        ensures { (past : List Paired) (G before : SpoolValue) (behind : List Id) (id : Option Id) (left : List (ℕ × Option Id)) → Stands facts.now past → IsWitness past G
+            → NumbersLeft (said_by past) G before name.now behind (with_unseen unseen ((next, id) ∷ left)) self.old.builder self.old.next
+            → Makes result (λ unseen. NumbersLeft (said_by past) G before name.now behind ((next, id) ∷ with_unseen unseen left) self.new.builder self.new.next) }
+    {
+        match unseen {
+            Some(number) if number < next => {
+                self.add_number(facts, name, number, None)?;
+                Ok(None)
+            }
+            _ => Ok(unseen),
         }
     }
 
