@@ -1,13 +1,13 @@
 //! What is kept of one group: its numbers, and the ids that are shown at numbers.
-ghost use Rattle.std.specs.Prelude.{◌≡◌, ℕ, ◌↔◌, List, [], ◌∷◌, ◌++◌, IsTrue, IfSome, IfOk, OnOk, MatchOption};
+ghost use Rattle.std.specs.Prelude.{◌≡◌, ℕ, ◌↔◌, List, [], ◌∷◌, ◌++◌, IsTrue, IfSome, IsSome, IfOk, OnOk, MatchOption};
 ghost use Rattle.std.specs.Option.{option_copied};
 ghost use Rattle.std.specs.FinMap.{get, insert, empty};
 ghost use Rattle.nntp_facts.specs.Asks.{Ask, Estimates, Bounds};
 ghost use Rattle.nntp_facts.specs.Given.{IsOneMore};
 ghost use Rattle.nntp_facts.specs.Together.{AsksStand};
-ghost use Rattle.nntp_facts.specs.Summary.{said, Says, IsSummary, Stands};
+ghost use Rattle.nntp_facts.specs.Summary.{said, Says, SaysOnly, IsSummary, Stands};
 ghost use Rattle.nntp_facts.specs.Listing.{AreListable};
-ghost use Rattle.nntp_facts.specs.Kept.{Agree, IsAddedIf};
+ghost use Rattle.nntp_facts.specs.Kept.{Agree, IsShownWith, IsAddedIf};
 ghost use Rattle.nntp_facts.specs.Readers.{unseen_in};
 ghost use Rattle.nntp_facts.specs.ListingView.{asks_listed};
 
@@ -95,6 +95,27 @@ impl<A: Allocator + Copy> Group<A> {
         Ok(())
     }
 
+    /// Adds what the part says, and that the number has the id, if no other id is shown at it. After an
+    /// error the value says nothing of use.
+    pub(crate) fn add_with_id(
+        &mut self,
+        alloc: A,
+        part: &Part,
+        number: u64,
+        id: &[u8],
+    ) -> Result<(), AllocError>
+        ensures { OnOk result ((asks more : List Ask) → IsSummary self.old.numbers asks → Says (said part.now) more → IsShownWith asks number (get self.old.ids number)
+            → Agree number id.now (get self.old.ids number) (get self.old.places id.now) → IfSome (get self.old.ids number) (λ other. id.now ≡ other)
+            → IsSummary self.new.numbers (asks ++ more) × (self.new.ids ≡ insert self.old.ids number id.now) × (self.new.places ≡ insert self.old.places id.now number)) }
+    {
+        if self.knows(part, number) {
+            return Ok(());
+        }
+        self.add(part)?;
+        self.identify(alloc, number, id)?;
+        Ok(())
+    }
+
     /// Adds what the answer to LISTGROUP says. After an error the value says nothing of use.
     pub(crate) fn add_listing(&mut self, listing: &Listing<'_>) -> Result<(), AllocError>
         ensures numbers { OnOk result ((asks : List Ask) → IsSummary self.old.numbers asks → AreListable listing.now.range listing.now.numbers.now
@@ -107,7 +128,7 @@ impl<A: Allocator + Copy> Group<A> {
 
     /// Adds that the number has the id, if no other id is shown at it. After an error the value says
     /// nothing of use.
-    pub(crate) fn identify(&mut self, alloc: A, number: u64, id: &[u8]) -> Result<(), AllocError>
+    fn identify(&mut self, alloc: A, number: u64, id: &[u8]) -> Result<(), AllocError>
         ensures { OnOk result (Agree number id.now (get self.old.ids number) (get self.old.places id.now) → IfSome (get self.old.ids number) (λ other. id.now ≡ other)
             → self.new ≡ record self.old { ids = insert self.old.ids number id.now; places = insert self.old.places id.now number }) }
     {
@@ -129,6 +150,23 @@ impl<A: Allocator> Group<A> {
         self.numbers.joins(part)
     }
 
+    /// Whether what the part says stands together with all before, and the number may have the id.
+    pub(crate) fn joins_with_id(&self, part: &Part, number: u64, id: &[u8]) -> bool
+        ensures { (asks more : List Ask) → IsSummary self.now.numbers asks → AsksStand asks → Says (said part.now) more → IsShownWith asks number (get self.now.ids number)
+            → Agree number id.now (get self.now.ids number) (get self.now.places id.now)
+            → IsTrue result ↔ (AsksStand (asks ++ more)
+            × (IfSome (get self.now.ids number) (λ other. id.now ≡ other) × IfSome (get self.now.places id.now) (λ other. number ≡ other))) }
+    {
+        (self.knows(part, number) || self.joins(part)) && self.may_have_id(number, id)
+    }
+
+    /// Whether the part says nothing but that the number is there, and an id is shown at it.
+    fn knows(&self, part: &Part, number: u64) -> bool
+        ensures { IsTrue result → SaysOnly (said part.now) number × IsSome (get self.now.ids number) }
+    {
+        part.shows_only(number) && self.id(number).is_some()
+    }
+
     /// Whether what the answer to LISTGROUP says stands together with all before.
     pub(crate) fn joins_listing(&self, listing: &Listing<'_>) -> bool
         ensures { (asks : List Ask) → Stands self.now.numbers asks → AreListable listing.now.range listing.now.numbers.now
@@ -138,7 +176,7 @@ impl<A: Allocator> Group<A> {
     }
 
     /// Whether the number may have the id: no other id is shown at it, and the id at no other number.
-    pub(crate) fn may_have_id(&self, number: u64, id: &[u8]) -> bool
+    fn may_have_id(&self, number: u64, id: &[u8]) -> bool
         ensures { Agree number id.now (get self.now.ids number) (get self.now.places id.now)
             → IsTrue result ↔ (IfSome (get self.now.ids number) (λ other. id.now ≡ other) × IfSome (get self.now.places id.now) (λ other. number ≡ other)) }
     {
