@@ -3,7 +3,7 @@ use Rattle.std.proofs.Common.{◌≡◌, ℕ, Bool, true, false, ◌&&◌, ◌==
 use Rattle.std.specs.Prelude.{◌↔◌}
 use Rattle.std.specs.FinMap.{get, insert, nat_cmp-IsAntisymmetric, slice_cmp-IsAntisymmetric}
 use Rattle.std.specs.Cmp.{nat_cmp_total}
-use Rattle.std.specs.Cmp.Lexicographic.{same_text, nat_list_cmp_total}
+use Rattle.std.specs.Cmp.Lexicographic.{nat_list_cmp_total}
 use Rattle.std.proofs.lemmas.Bool.{eqb-true}
 use Rattle.nntp_wire.proofs.ShownMaps.{insert-same}
 use Rattle.nntp_article.specs.Article.{Id}
@@ -77,19 +77,6 @@ given_kept t g n id was given = subst (λ o. IsOr o id) (sym (was.ids n)) given
 -- which is shown, if it is told with an id
 pub shown_kept_with : (t : Told) (g : KeptGroup) (n : ℕ) → IsKeptGroup t g → IsShownWith t.asks n (t.ids n) → IsShownWith t.asks n (get g.ids n)
 shown_kept_with t g n was shown there = shown (ap is_some (sym (was.ids n)) ∙ there)
-
--- the id that is shown at a number is this one exactly if neither has another
-pub shown_there : (n : ℕ) (id other : Id) (at : Option Id) (place : Option ℕ) (b : Bool) → Some other ≡ at → b ≡ is_same other id → Agree n id at place → IsTrue b ↔ (IsOr at id × IsOr place n)
-shown_there n id other at place b is same agree = (
-  λ t.
-      let here : at ≡ Some id = sym is ∙ ap Some (same_text other id (sym t ∙ same)) in
-      (subst (λ o. IsOr o id) (sym here) refl, subst (λ o. IsOr o n) (sym (agree here)) refl),
-  λ h. same ∙ ap (λ x. is_same other x) (subst (λ o. IsOr o id) (sym is) h.0) ∙ same_self other,
-)
-
--- where none is shown, it is the number of the id that tells
-pub none_there : (n : ℕ) (id : Id) (at : Option Id) (place : Option ℕ) (b : Bool) → None ≡ at → IsTrue b ↔ IsOr place n → IsTrue b ↔ (IsOr at id × IsOr place n)
-none_there n id at place b is test = (λ t. (subst (λ o. IsOr o id) is tt, test.0 t), λ h. test.1 h.1)
 
 -- to add an id that is shown at the number changes nothing
 pub known_again : (g : KeptGroup) (n : ℕ) (id : Id) → is_some (get g.ids n) ≡ true → Agree n id (get g.ids n) (get g.places id) → IsOr (get g.ids n) id
