@@ -89,7 +89,7 @@ not_right : (a b : Bool) → (a || b) ≡ false → b ≡ false
 not_right true b e = cc
 not_right false b e = e
 
-are_possible : (asks : List Ask) → list_all is_possible asks ≡ true → ArePossible asks
+pub are_possible : (asks : List Ask) → list_all is_possible asks ≡ true → ArePossible asks
 are_possible [] t = tt
 are_possible (ask ∷ asks) t = let p = and_parts (is_possible ask) (list_all is_possible asks) t in (p.0, are_possible asks p.1)
 

@@ -73,16 +73,14 @@ grown {K} {X} {R} o m p q k x b same had agrees = get-insert o m q x k ∙ ap (�
 -- and a number has an id
 pub id_kept : (before after : Name → Told) (groups : Groups) (name : Name) (g h : KeptGroup) (asks : List Ask) (n : ℕ) (id : Id) → AreKept before groups → get groups name ≡ Some g
     → IsOr ((before name).ids n) id → IsOr ((before name).places id) n → Changes before after name (with_id (before name) asks n id)
-    → IsSummary h.numbers ((before name).asks ++ asks) → h.ids ≡ g.ids → h.places ≡ g.places
-    → AreKept after (insert groups name (record { numbers = h.numbers; ids = insert h.ids n id; places = insert h.places id n }))
+    → IsSummary h.numbers ((before name).asks ++ asks) → h.ids ≡ insert g.ids n id → h.places ≡ insert g.places id n → AreKept after (insert groups name h)
 id_kept before after groups name g h asks n id kept is id_was n_was changes sum ids places =
     let was = kept_of before groups name (Some g) is kept in
-    let new : KeptGroup = record { numbers = h.numbers; ids = insert h.ids n id; places = insert h.places id n } in
-    kept_at before after groups name new kept changes.elsewhere (subst (λ t. IsKeptGroup t new) (sym changes.here) (record {
+    kept_at before after groups name h kept changes.elsewhere (subst (λ t. IsKeptGroup t h) (sym changes.here) (record {
       shown = refl;
       numbers = sum;
-      ids = λ m. grown nat_cmp_total h.ids ((before name).ids m) n m id (n == m) (flip_number m n) (ap (λ f. get f m) ids ∙ was.ids m) (λ e. subst (λ m. IsOr ((before name).ids m) id) (eqb-true n m e) id_was);
-      places = λ i. grown nat_list_cmp_total h.places ((before name).places i) id i n (is_same id i) (flip_text i id) (ap (λ f. get f i) places ∙ was.places i)
+      ids = λ m. ap (λ f. get f m) ids ∙ grown nat_cmp_total g.ids ((before name).ids m) n m id (n == m) (flip_number m n) (was.ids m) (λ e. subst (λ m. IsOr ((before name).ids m) id) (eqb-true n m e) id_was);
+      places = λ i. ap (λ f. get f i) places ∙ grown nat_list_cmp_total g.places ((before name).places i) id i n (is_same id i) (flip_text i id) (was.places i)
           (λ e. subst (λ i. IsOr ((before name).places i) n) (same_text id i (sym e)) n_was);
     }))
 

@@ -1,19 +1,20 @@
 -- An id that is shown at a number has this number.
-use Rattle.std.proofs.Common.{◌≡◌, ℕ, Bool, true, false, ◌&&◌, ◌==◌, cond, IsTrue, List, Option, None, Some, is_some, refl, sym, ap, subst, ◌∙◌}
+use Rattle.std.proofs.Common.{◌≡◌, ℕ, Bool, true, false, ◌&&◌, ◌==◌, cond, IsTrue, List, [], ◌∷◌, Option, None, Some, is_some, inl, refl, sym, ap, subst, ◌∙◌}
 use Rattle.std.specs.Prelude.{◌↔◌}
 use Rattle.std.specs.FinMap.{get, insert, nat_cmp-IsAntisymmetric, slice_cmp-IsAntisymmetric}
 use Rattle.std.specs.Cmp.{nat_cmp_total}
-use Rattle.std.specs.Cmp.Lexicographic.{same_text, nat_list_cmp_total}
+use Rattle.std.specs.Cmp.Lexicographic.{nat_list_cmp_total}
 use Rattle.std.proofs.lemmas.Bool.{eqb-true}
 use Rattle.nntp_wire.proofs.ShownMaps.{insert-same}
 use Rattle.nntp_article.specs.Article.{Id}
 use Rattle.nntp_article.specs.Spool.{Name}
 use Rattle.nntp_article.specs.Machine.{is_same}
+use Rattle.nntp_facts.specs.Asks.{Has}
 use Rattle.nntp_facts.specs.Facts.{Fact, IdAt}
-use Rattle.nntp_facts.specs.Given.{first_given, id_in}
+use Rattle.nntp_facts.specs.Given.{shows, is_shown, asks_in, asks_of, first_given, id_in}
 use Rattle.nntp_facts.specs.Together.{number_in, GiveOne}
-use Rattle.nntp_facts.specs.Kept.{KeptGroup, Told, IsKeptGroup, Agree}
-use Rattle.nntp_facts.proofs.Members.{first_found, first_there}
+use Rattle.nntp_facts.specs.Kept.{KeptGroup, Told, IsKeptGroup, Agree, IsShownWith}
+use Rattle.nntp_facts.proofs.Members.{In, any_in, to_flat, first_found, first_there}
 use Rattle.nntp_facts.proofs.GivenHolds.{one_given}
 use Rattle.nntp_facts.proofs.OneGroup.{IsOr, same_self}
 
@@ -32,6 +33,24 @@ placed_by name n id (IdAt g m other) e = by (is_same g name) (m == n) refl e
     by false b is e = cc
 placed_by name n id fact e = cc
 
+-- where facts give an id, they show the number
+pub shown_with_id : (facts : List Fact) (name : Name) (n : ℕ) → IsShownWith (asks_of name facts) n (first_given (id_in name n) facts)
+shown_with_id facts name n = given (first_given (id_in name n) facts) refl
+  where
+    by : (fact : Fact) (id : Id) → In fact facts → id_in name n fact ≡ Some id → IsTrue (is_shown (asks_of name facts) n)
+    by (IdAt g m other) id i e = one (is_same g name) refl (m == n) refl e
+      where
+        one : (a : Bool) → is_same g name ≡ a → (b : Bool) → (m == n) ≡ b → cond (a && b) (Some other) None ≡ Some id → IsTrue (is_shown (asks_of name facts) n)
+        one true same true at e =
+            any_in (λ ask. shows ask n) (Has m) (asks_of name facts) (to_flat (asks_in name) (IdAt g m other) (Has m) facts i (subst (λ b. In (Has m) (cond b (Has m ∷ []) [])) (sym same) (inl refl))) at
+        one true same false at e = cc
+        one false same b at e = cc
+    by fact id i e = cc
+
+    given : (o : Option Id) → first_given (id_in name n) facts ≡ o → is_some o ≡ true → IsTrue (is_shown (asks_of name facts) n)
+    given None is t = cc
+    given (Some id) is t = let f = first_found (id_in name n) facts id is in by f.0 id f.1 f.2
+
 -- facts that stand together agree
 pub agree_together : (facts : List Fact) (name : Name) (n : ℕ) (id : Id) → GiveOne (number_in name id) facts → Agree n id (first_given (id_in name n) facts) (first_given (number_in name id) facts)
 agree_together facts name n id one e =
@@ -48,25 +67,16 @@ agree_alone facts name n id was e =
 -- ---- of what is kept
 
 -- what is kept agrees where what is told does
-pub agree_kept : (t : Told) (g h : KeptGroup) (n : ℕ) (id : Id) → IsKeptGroup t g → h.ids ≡ g.ids → h.places ≡ g.places → Agree n id (t.ids n) (t.places id) → Agree n id (get h.ids n) (get h.places id)
-agree_kept t g h n id was ids places agree e = ap (λ m. get m id) places ∙ was.places id ∙ agree (sym (ap (λ m. get m n) ids ∙ was.ids n) ∙ e)
+pub agree_kept : (t : Told) (g : KeptGroup) (n : ℕ) (id : Id) → IsKeptGroup t g → Agree n id (t.ids n) (t.places id) → Agree n id (get g.ids n) (get g.places id)
+agree_kept t g n id was agree e = was.places id ∙ agree (sym (was.ids n) ∙ e)
 
 -- and has what was told at the number
-pub given_kept : (t : Told) (g h : KeptGroup) (n : ℕ) (id : Id) → IsKeptGroup t g → h.ids ≡ g.ids → IsOr (t.ids n) id → IsOr (get h.ids n) id
-given_kept t g h n id was ids given = subst (λ o. IsOr o id) (sym (ap (λ m. get m n) ids ∙ was.ids n)) given
+pub given_kept : (t : Told) (g : KeptGroup) (n : ℕ) (id : Id) → IsKeptGroup t g → IsOr (t.ids n) id → IsOr (get g.ids n) id
+given_kept t g n id was given = subst (λ o. IsOr o id) (sym (was.ids n)) given
 
--- the id that is shown at a number is this one exactly if neither has another
-pub shown_there : (n : ℕ) (id other : Id) (at : Option Id) (place : Option ℕ) (b : Bool) → Some other ≡ at → b ≡ is_same other id → Agree n id at place → IsTrue b ↔ (IsOr at id × IsOr place n)
-shown_there n id other at place b is same agree = (
-  λ t.
-      let here : at ≡ Some id = sym is ∙ ap Some (same_text other id (sym t ∙ same)) in
-      (subst (λ o. IsOr o id) (sym here) refl, subst (λ o. IsOr o n) (sym (agree here)) refl),
-  λ h. same ∙ ap (λ x. is_same other x) (subst (λ o. IsOr o id) (sym is) h.0) ∙ same_self other,
-)
-
--- where none is shown, it is the number of the id that tells
-pub none_there : (n : ℕ) (id : Id) (at : Option Id) (place : Option ℕ) (b : Bool) → None ≡ at → IsTrue b ↔ IsOr place n → IsTrue b ↔ (IsOr at id × IsOr place n)
-none_there n id at place b is test = (λ t. (subst (λ o. IsOr o id) is tt, test.0 t), λ h. test.1 h.1)
+-- which is shown, if it is told with an id
+pub shown_kept_with : (t : Told) (g : KeptGroup) (n : ℕ) → IsKeptGroup t g → IsShownWith t.asks n (t.ids n) → IsShownWith t.asks n (get g.ids n)
+shown_kept_with t g n was shown there = shown (ap is_some (sym (was.ids n)) ∙ there)
 
 -- to add an id that is shown at the number changes nothing
 pub known_again : (g : KeptGroup) (n : ℕ) (id : Id) → is_some (get g.ids n) ≡ true → Agree n id (get g.ids n) (get g.places id) → IsOr (get g.ids n) id
@@ -83,3 +93,9 @@ known_again g n id there agree was = λ i. record {
 
     here : get g.ids n ≡ Some id
     here = by (get g.ids n) there was
+
+-- a test of what is kept at the number and of the id tests what is told
+pub test_told : {P : Type 0} (t : Told) (g : KeptGroup) (n : ℕ) (id : Id) (b : Bool) → IsKeptGroup t g → IsTrue b ↔ (P × (IsOr (get g.ids n) id × IsOr (get g.places id) n))
+    → IsTrue b ↔ (P × (IsOr (t.ids n) id × IsOr (t.places id) n))
+test_told {P} t g n id b was test =
+    subst (λ at. IsTrue b ↔ (P × (IsOr at id × IsOr (t.places id) n))) (was.ids n) (subst (λ place. IsTrue b ↔ (P × (IsOr (get g.ids n) id × IsOr place n))) (was.places id) test)

@@ -1,9 +1,9 @@
 -- Whether what is asked stands together, from what is shown, the first free number, how many there are, and the demand.
-use Rattle.std.proofs.Common.{◌≡◌, ℕ, ◌+◌, Bool, true, false, ◌&&◌, IsTrue, List, [], ◌∷◌, Option, None, Some, inl, inr, refl, sym, ap, subst, ◌∙◌}
+use Rattle.std.proofs.Common.{◌≡◌, ℕ, ◌+◌, true, false, ◌&&◌, IsTrue, List, [], ◌∷◌, Option, None, Some, inl, inr, refl, sym, ap, subst, ◌∙◌}
 use Rattle.std.specs.Prelude.{IsFalse, ◌↔◌}
 use Rattle.std.specs.List.{AllByRecursion}
 use Rattle.std.specs.FinMap.{len, insert}
-use Rattle.std.proofs.lemmas.Bool.{true≢false, and_parts, and_from, false_from_ne_true, cases_order, ltb-true, lt-ltb, le-leb, leb-true}
+use Rattle.std.proofs.lemmas.Bool.{true≢false, and_parts, and_from, false_from_ne_true, ltb-true, lt-ltb, le-leb, leb-true}
 use Rattle.nntp_article.specs.Spool.{Numbers, IsNumber}
 use Rattle.nntp_facts.specs.Asks.{Ask, Estimates}
 use Rattle.nntp_facts.specs.Given.{is_shown, is_denied, Demand, NoDemand, NotEmpty, OnlyOne, SecondIs, Impossible, demand, wants, IsOneMore, IsGivenNumber, HasGivenNumbers}
@@ -27,7 +27,7 @@ within_one N (Estimates m) h = le-leb (len N) m.estimate h
 within_one N ask h = refl
 
 -- as few as each ask estimates
-few_for : (N : Numbers) (asks : List Ask) → IsTrue (is_within_all asks (len N)) → AllByRecursion (IsFewFor N) asks
+pub few_for : (N : Numbers) (asks : List Ask) → IsTrue (is_within_all asks (len N)) → AllByRecursion (IsFewFor N) asks
 few_for N [] t = tt
 few_for N (ask ∷ asks) t = let p = and_parts (is_within (estimate_in ask) (len N)) (is_within_all asks (len N)) t in (few_for_one N ask p.0, few_for N asks p.1)
 

@@ -1,5 +1,5 @@
 -- What is kept of all that a session says: of each group, of each id, and of the names that are no groups.
-use Rattle.std.specs.Prelude.{◌≡◌, ℕ, Bool, true, false, not, ◌||◌, ◌==◌, if◌then◌else◌, List, [], ◌∷◌, ◌++◌, Option, None, Some, MatchOption, IsTrue}
+use Rattle.std.specs.Prelude.{◌≡◌, ℕ, Bool, true, false, not, ◌||◌, ◌==◌, if◌then◌else◌, List, [], ◌∷◌, ◌++◌, Option, None, Some, MatchOption, IsTrue, IsSome}
 use Rattle.std.specs.Option.{option_or}
 use Rattle.std.specs.List.{list_any, AllByRecursion}
 use Rattle.std.specs.Ordering.{nat_cmp}
@@ -12,7 +12,7 @@ use Rattle.nntp_article.specs.Spool.{Name}
 use Rattle.nntp_article.specs.Machine.{is_same}
 use Rattle.nntp_facts.specs.Asks.{Ask}
 use Rattle.nntp_facts.specs.Facts.{Fact}
-use Rattle.nntp_facts.specs.Given.{asks_of, is_shown_group, first_given, id_in, is_mentioned, is_sent, head_in, body_in}
+use Rattle.nntp_facts.specs.Given.{is_shown, asks_of, is_shown_group, first_given, id_in, is_mentioned, is_sent, head_in, body_in}
 use Rattle.nntp_facts.specs.Together.{number_in, denies_group, shows_article, denies_article, JoinArticles, Join}
 use Rattle.nntp_facts.specs.Summary.{Summary, IsSummary}
 
@@ -56,6 +56,10 @@ pub record IsKeptGroup (t : Told) (g : KeptGroup) : Type 0 where
 -- what is told of a number and of an id agrees: if this id is at the number, this number is that of the id
 abbrev pub Agree : ℕ → Id → Option Id → Option ℕ → Type 0
 Agree n id at place = at ≡ Some id → place ≡ Some n
+
+-- a number at which there is an id is shown
+abbrev pub IsShownWith : List Ask → ℕ → Option Id → Type 0
+IsShownWith asks n at = IsSome at → IsTrue (is_shown asks n)
 
 -- nothing is told of the group
 pub record IsUntold (t : Told) : Type 0 where

@@ -107,6 +107,14 @@ part_denies p n = nat_lt n p.low || nat_lt p.high n || is_between p.first p.last
 abbrev pub said : Part → Said
 said p = record { possible = p.is_possible; shows = part_shows p.shows; denies = part_denies p; estimate = p.estimate; demand = demand_of p.need }
 
+-- nothing is said but that n is there
+pub record SaysOnly (p : Said) (n : ℕ) : Type 0 where
+  pub can_be : IsTrue p.possible
+  pub no_other : (m : ℕ) → p.shows m ≡ true → n ≡ m
+  pub denies_none : (m : ℕ) → m < 2 ^ 64 → p.denies m ≡ false
+  pub no_estimate : p.estimate ≡ None
+  pub no_demand : p.demand ≡ NoDemand
+
 -- ---- whether what is asked stands together, from little
 
 -- how many pass the test

@@ -3,11 +3,11 @@ ghost use Rattle.std.specs.Prelude.{◌≡◌, ℕ, ◌↔◌, List, [], ◌∷�
 ghost use Rattle.std.specs.Option.{option_copied};
 ghost use Rattle.std.specs.FinMap.{get, insert, empty};
 ghost use Rattle.nntp_facts.specs.Asks.{Ask, Estimates, Bounds};
-ghost use Rattle.nntp_facts.specs.Given.{IsOneMore};
+ghost use Rattle.nntp_facts.specs.Given.{is_shown, IsOneMore};
 ghost use Rattle.nntp_facts.specs.Together.{AsksStand};
 ghost use Rattle.nntp_facts.specs.Summary.{said, Says, IsSummary, Stands};
 ghost use Rattle.nntp_facts.specs.Listing.{AreListable};
-ghost use Rattle.nntp_facts.specs.Kept.{Agree, IsAddedIf};
+ghost use Rattle.nntp_facts.specs.Kept.{Agree, IsShownWith, IsAddedIf};
 ghost use Rattle.nntp_facts.specs.Readers.{unseen_in};
 ghost use Rattle.nntp_facts.specs.ListingView.{asks_listed};
 
@@ -95,6 +95,38 @@ impl<A: Allocator + Copy> Group<A> {
         Ok(())
     }
 
+    /// Adds what the part says, and that the number has the id, if no other id is shown at it. After an
+    /// error the value says nothing of use.
+    pub(crate) fn add_with_id(
+        &mut self,
+        alloc: A,
+        part: &Part,
+        number: u64,
+        id: &[u8],
+    ) -> Result<(), AllocError>
+        ensures { OnOk result ((asks more : List Ask) → IsSummary self.old.numbers asks → Says (said part.now) more → IsShownWith asks number (get self.old.ids number)
+            → Agree number id.now (get self.old.ids number) (get self.old.places id.now) → IfSome (get self.old.ids number) (λ other. id.now ≡ other)
+            → IsSummary self.new.numbers (asks ++ more) × (self.new.ids ≡ insert self.old.ids number id.now) × (self.new.places ≡ insert self.old.places id.now number)) }
+    {
+        if self.id(number).is_some() {
+            return self.add_shown(part, number);
+        }
+        self.add(part)?;
+        self.identify(alloc, number, id)
+    }
+
+    /// Adds what the part says, where the number is shown. After an error the value says nothing of use.
+    fn add_shown(&mut self, part: &Part, number: u64) -> Result<(), AllocError>
+        ensures numbers { OnOk result ((asks more : List Ask) → IsSummary self.old.numbers asks → Says (said part.now) more → IsTrue (is_shown asks number)
+            → IsSummary self.new.numbers (asks ++ more)) }
+        ensures ids { OnOk result ((self.new.ids ≡ self.old.ids) × (self.new.places ≡ self.old.places)) }
+    {
+        if part.shows_only(number) {
+            return Ok(());
+        }
+        self.add(part)
+    }
+
     /// Adds what the answer to LISTGROUP says. After an error the value says nothing of use.
     pub(crate) fn add_listing(&mut self, listing: &Listing<'_>) -> Result<(), AllocError>
         ensures numbers { OnOk result ((asks : List Ask) → IsSummary self.old.numbers asks → AreListable listing.now.range listing.now.numbers.now
@@ -105,15 +137,10 @@ impl<A: Allocator + Copy> Group<A> {
         Ok(())
     }
 
-    /// Adds that the number has the id, if no other id is shown at it. After an error the value says
-    /// nothing of use.
-    pub(crate) fn identify(&mut self, alloc: A, number: u64, id: &[u8]) -> Result<(), AllocError>
-        ensures { OnOk result (Agree number id.now (get self.old.ids number) (get self.old.places id.now) → IfSome (get self.old.ids number) (λ other. id.now ≡ other)
-            → self.new ≡ record self.old { ids = insert self.old.ids number id.now; places = insert self.old.places id.now number }) }
+    /// Adds that the number has the id. After an error the value says nothing of use.
+    fn identify(&mut self, alloc: A, number: u64, id: &[u8]) -> Result<(), AllocError>
+        ensures { OnOk result (self.new ≡ record self.old { ids = insert self.old.ids number id.now; places = insert self.old.places id.now number }) }
     {
-        if self.id(number).is_some() {
-            return Ok(());
-        }
         self.ids.insert(number, Vec::from_slice(alloc, id)?)?;
         self.places.insert(Vec::from_slice(alloc, id)?, number)?;
         Ok(())
@@ -129,23 +156,34 @@ impl<A: Allocator> Group<A> {
         self.numbers.joins(part)
     }
 
+    /// Whether what the part says stands together with all before, and the number may have the id: no other
+    /// id is shown at it, and the id at no other number.
+    pub(crate) fn joins_with_id(&self, part: &Part, number: u64, id: &[u8]) -> bool
+        ensures { (asks more : List Ask) → IsSummary self.now.numbers asks → AsksStand asks → Says (said part.now) more → IsShownWith asks number (get self.now.ids number)
+            → Agree number id.now (get self.now.ids number) (get self.now.places id.now)
+            → IsTrue result ↔ (AsksStand (asks ++ more)
+            × (IfSome (get self.now.ids number) (λ other. id.now ≡ other) × IfSome (get self.now.places id.now) (λ other. number ≡ other))) }
+    {
+        match self.id(number) {
+            Some(other) => self.joins_shown(part, number) && other == id,
+            None => self.joins(part) && self.has_no_other_place(number, id),
+        }
+    }
+
+    /// Whether what the part says stands together with all before, where the number is shown.
+    fn joins_shown(&self, part: &Part, number: u64) -> bool
+        ensures { (asks more : List Ask) → IsSummary self.now.numbers asks → AsksStand asks → Says (said part.now) more → IsTrue (is_shown asks number)
+            → IsTrue result ↔ AsksStand (asks ++ more) }
+    {
+        part.shows_only(number) || self.joins(part)
+    }
+
     /// Whether what the answer to LISTGROUP says stands together with all before.
     pub(crate) fn joins_listing(&self, listing: &Listing<'_>) -> bool
         ensures { (asks : List Ask) → Stands self.now.numbers asks → AreListable listing.now.range listing.now.numbers.now
             → IsTrue result ↔ AsksStand (asks ++ asks_listed listing.now) }
     {
         self.numbers.joins_listing(listing)
-    }
-
-    /// Whether the number may have the id: no other id is shown at it, and the id at no other number.
-    pub(crate) fn may_have_id(&self, number: u64, id: &[u8]) -> bool
-        ensures { Agree number id.now (get self.now.ids number) (get self.now.places id.now)
-            → IsTrue result ↔ (IfSome (get self.now.ids number) (λ other. id.now ≡ other) × IfSome (get self.now.places id.now) (λ other. number ≡ other)) }
-    {
-        match self.id(number) {
-            Some(other) => other == id,
-            None => self.has_no_other_place(number, id),
-        }
     }
 
     /// The number that is shown nowhere, and has to be there.

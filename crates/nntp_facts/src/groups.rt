@@ -8,7 +8,7 @@ ghost use Rattle.nntp_facts.specs.Together.{AsksStand};
 ghost use Rattle.nntp_facts.specs.Summary.{said, Says};
 ghost use Rattle.nntp_facts.specs.Listing.{AreListable};
 ghost use Rattle.nntp_facts.specs.ListingView.{asks_listed};
-ghost use Rattle.nntp_facts.specs.Kept.{Told, AreKept, Agree, with_asks, with_id, Changes, IsAddedIf};
+ghost use Rattle.nntp_facts.specs.Kept.{Told, AreKept, Agree, IsShownWith, with_asks, with_id, Changes, IsAddedIf};
 ghost use Rattle.nntp_facts.specs.Readers.{shown_groups};
 
 mod listed;
@@ -89,13 +89,12 @@ impl<A: Allocator + Copy> Groups<A> {
         id: &[u8],
     ) -> Result<(), AllocError>
         ensures { OnOk result ((before after : Name → Told) (asks : List asks_said.Ask) → AreKept before self.old → (before name.now).is_shown ≡ true → Says (said part.now) asks
-            → Agree number id.now ((before name.now).ids number) ((before name.now).places id.now)
+            → IsShownWith (before name.now).asks number ((before name.now).ids number) → Agree number id.now ((before name.now).ids number) ((before name.now).places id.now)
             → IfSome ((before name.now).ids number) (λ other. id.now ≡ other) → IfSome ((before name.now).places id.now) (λ other. number ≡ other)
             → Changes before after name.now (with_id (before name.now) asks number id.now) → AreKept after self.new) }
     {
         if let Some(group) = self.groups.get_mut(name) {
-            group.add(part)?;
-            group.identify(self.alloc, number, id)?;
+            group.add_with_id(self.alloc, part, number, id)?;
         }
         Ok(())
     }
@@ -216,12 +215,12 @@ impl<A: Allocator> Groups<A> {
     /// may have the id.
     pub(crate) fn may_place(&self, name: &[u8], part: &Part, number: u64, id: &[u8]) -> bool
         ensures { (tells : Name → Told) (asks : List asks_said.Ask) → AreKept tells self.now → (tells name.now).is_shown ≡ true → AsksStand (tells name.now).asks → Says (said part.now) asks
-            → Agree number id.now ((tells name.now).ids number) ((tells name.now).places id.now)
+            → IsShownWith (tells name.now).asks number ((tells name.now).ids number) → Agree number id.now ((tells name.now).ids number) ((tells name.now).places id.now)
             → IsTrue result ↔ (AsksStand ((tells name.now).asks ++ asks)
             × (IfSome ((tells name.now).ids number) (λ other. id.now ≡ other) × IfSome ((tells name.now).places id.now) (λ other. number ≡ other))) }
     {
         match self.get(name) {
-            Some(group) => group.joins(part) && group.may_have_id(number, id),
+            Some(group) => group.joins_with_id(part, number, id),
             None => false,
         }
     }

@@ -1,6 +1,6 @@
 //! What is said of the first number of a group where it isn't seen.
-ghost use Rattle.std.specs.Prelude.{◌≡◌};
-ghost use Rattle.nntp_facts.specs.Given.{join, wants};
+ghost use Rattle.std.specs.Prelude.{◌≡◌, IsTrue};
+ghost use Rattle.nntp_facts.specs.Given.{NoDemand, join, wants};
 ghost use Rattle.nntp_facts.specs.Summary.{demand_of};
 
 /// What is said of the first number.
@@ -32,6 +32,13 @@ impl Need {
             (Need::Below(m), Need::Below(k)) if m == k => Need::Below(m),
             _ => Need::Never,
         }
+    }
+
+    /// Whether nothing is said.
+    pub(crate) fn is_nothing(self) -> bool
+        ensures { IsTrue result → demand_of self ≡ NoDemand }
+    {
+        matches!(self, Need::Nothing)
     }
 
     /// Whether the number would do as the first one.

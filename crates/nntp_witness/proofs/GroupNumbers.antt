@@ -1,5 +1,5 @@
 -- The numbers of a group that are given: they ascend, and are those that the given spool has in it.
-use Rattle.std.proofs.Common.{◌≡◌, ℕ, ◌<◌, ◌⊎◌, Bool, true, false, cond, ◌&&◌, ◌==◌, IsTrue, List, [], ◌∷◌, map, Option, None, Some, IsSome, inl, inr, refl, sym, ap, subst, ◌∙◌, arith}
+use Rattle.std.proofs.Common.{◌≡◌, ℕ, ◌<◌, ◌⊎◌, Bool, true, false, cond, ◌==◌, IsTrue, List, [], ◌∷◌, map, Option, None, Some, is_some, IsSome, inl, inr, refl, sym, ap, subst, ◌∙◌, arith}
 use Rattle.std.specs.Prelude.{nat_lt}
 use Rattle.std.specs.List.{AllByRecursion}
 use Rattle.std.specs.List.Sorted.{IsStrictlySortedBy}
@@ -11,15 +11,15 @@ use Rattle.std.specs.FinMap.{FinMap, get, keys, entries, entries_sorted, IsAntis
 use Rattle.std.proofs.lemmas.Bool.{true≢false, eq-eqb, eqb-true, lt-ltb, ltb-true, ltb-false, cases_lt}
 use Rattle.std.proofs.lemmas.Cmp.{ranked, tied_itself}
 use Rattle.nntp_article.specs.Article.{Id}
-use Rattle.nntp_article.specs.Machine.{is_same}
-use Rattle.nntp_article.specs.Spool.{Spool, Name, IsGroup, numbers}
-use Rattle.nntp_facts.specs.Asks.{Ask, Has}
-use Rattle.nntp_facts.specs.Facts.{Fact, IdAt}
-use Rattle.nntp_facts.specs.Given.{asks_in, asks_of, shows, is_shown, IsOneMore, id_in, id_shown, is_denied, IsGivenNumber, IsGiven}
+use Rattle.nntp_article.specs.Spool.{Spool, IsGroup, numbers}
+use Rattle.nntp_facts.specs.Asks.{Ask}
+use Rattle.nntp_facts.specs.Facts.{Fact}
+use Rattle.nntp_facts.specs.Given.{asks_of, is_shown, IsOneMore, id_shown, is_denied, IsGivenNumber, IsGiven}
 use Rattle.nntp_facts.specs.Readers.{ShownGroup, HasShownNumbers, IsUnseen}
 use Rattle.nntp_facts.proofs.FirstFree.{first_free_once}
 use Rattle.nntp_facts.proofs.Maps.{sorted_keys, key_of, of_key}
-use Rattle.nntp_facts.proofs.Members.{In, all_at, any_in, found_in, in_map, from_map, to_flat, first_found}
+use Rattle.nntp_facts.proofs.Members.{In, all_at, any_in, found_in, in_map, from_map}
+use Rattle.nntp_facts.proofs.OnePlace.{shown_with_id}
 use Rattle.nntp_witness.specs.Making.{with_unseen, given_numbers}
 
 -- ---- lists in order as the keys of a map
@@ -146,20 +146,6 @@ all_with P n (e ∷ es) p h = by (nat_lt n e.0) (all_with P n es p h.1)
 unseen_hidden : (asks : List Ask) (n : ℕ) → IsOneMore asks n → IsTrue (is_shown asks n) → ⊥
 unseen_hidden asks n more shown = true≢false (sym more.wanted ∙ more.needed n shown)
 
--- where an id is shown, the number is
-shown_with_id : (facts : List Fact) (name : Name) (n : ℕ) (id : Id) → id_shown facts name n ≡ Some id → IsTrue (is_shown (asks_of name facts) n)
-shown_with_id facts name n id e = let f = first_found (id_in name n) facts id e in by f.0 f.1 f.2
-  where
-    by : (fact : Fact) → In fact facts → id_in name n fact ≡ Some id → IsTrue (is_shown (asks_of name facts) n)
-    by (IdAt g m other) i e = one (is_same g name) refl (m == n) refl e
-      where
-        one : (a : Bool) → is_same g name ≡ a → (b : Bool) → (m == n) ≡ b → cond (a && b) (Some other) None ≡ Some id → IsTrue (is_shown (asks_of name facts) n)
-        one true same true at e =
-            any_in (λ ask. shows ask n) (Has m) (asks_of name facts) (to_flat (asks_in name) (IdAt g m other) (Has m) facts i (subst (λ b. In (Has m) (cond b (Has m ∷ []) [])) (sym same) (inl refl))) at
-        one true same false at e = cc
-        one false same b at e = cc
-    by fact i e = cc
-
 -- a number in the list is shown
 listed_shown : (facts : List Fact) (g : ShownGroup) (n : ℕ) → HasShownNumbers facts g → In n (map (λ e. e.0) g.numbers) → IsTrue (is_shown (asks_of g.name facts) n)
 listed_shown facts g n h i =
@@ -188,7 +174,7 @@ given_ids facts g h = by g.unseen h.unseen
   where
     none : (n : ℕ) → IsOneMore (asks_of g.name facts) n → (o : Option Id) → id_shown facts g.name n ≡ o → None ≡ id_shown facts g.name n
     none n u None e = sym e
-    none n u (Some id) e = absurd (unseen_hidden (asks_of g.name facts) n u (shown_with_id facts g.name n id e))
+    none n u (Some id) e = absurd (unseen_hidden (asks_of g.name facts) n u (shown_with_id facts g.name n (ap is_some e)))
 
     by : (unseen : Option ℕ) → IsUnseen facts g.name unseen → AllByRecursion (λ (e : ℕ × Option Id). e.1 ≡ id_shown facts g.name e.0) (with_unseen unseen g.numbers)
     by None u = h.numbers.ids

@@ -5,7 +5,7 @@ use Rattle.nntp_facts.specs.SayingView.{facts_placed, asks_placed}
 use Rattle.nntp_facts.proofs.KeptAdds.{names_kept, placing_changes, placing_same, kept_alike}
 use Rattle.nntp_facts.proofs.KeptJoins.{unmet}
 use Rattle.nntp_facts.proofs.NotedKept.{same_articles}
-use Rattle.nntp_facts.proofs.OnePlace.{agree_alone}
+use Rattle.nntp_facts.proofs.OnePlace.{agree_alone, shown_with_id}
 use Rattle.nntp_facts.proofs.Shapes.{placing_joins, placing_names}
 use Rattle.nntp_facts.proofs.kept.Kept.note_placed.Goals as goal
 
@@ -42,7 +42,7 @@ returns g c facts kept together shown fits wf =
     let sent = subst (IsFactAdded facts (TextIs what id lines) c.self.inside.articles c.note_sent.new.self) c.if-not-branch.false (c.in_ok-note_sent.ensures facts inside.articles fits) in (
       (placing_joins here facts what id lines at n together wf).1 (placed.0, placed.1, sent.0),
       record {
-        groups = c.in_ok-place.ensures (told facts) (told (facts ++ more)) (asks_placed at n) inside.groups shown c.placing-part.ensures (agree_alone facts here n id placed.1.1) placed.1.0 placed.1.1 (placing_changes facts here what id lines at n shown);
+        groups = c.in_ok-place.ensures (told facts) (told (facts ++ more)) (asks_placed at n) inside.groups shown c.placing-part.ensures (shown_with_id facts here n) (agree_alone facts here n id placed.1.1) placed.1.0 placed.1.1 (placing_changes facts here what id lines at n shown);
         names = names_kept facts more c.self.inside.names (λ name. (placing_names here what id lines at n).denied name) inside.names;
         articles = kept_alike facts (TextIs what id lines ∷ []) more _ (placing_same facts here what id lines at n) sent.1;
       },

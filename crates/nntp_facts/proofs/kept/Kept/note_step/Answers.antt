@@ -6,7 +6,7 @@ use Rattle.nntp_facts.specs.Kept.{Kept, IsKept, IsFactAdded, told}
 use Rattle.nntp_facts.proofs.KeptAdds.{names_kept, stepping_changes, stepping_same, kept_alike}
 use Rattle.nntp_facts.proofs.KeptJoins.{unmet}
 use Rattle.nntp_facts.proofs.NotedKept.{same_articles}
-use Rattle.nntp_facts.proofs.OnePlace.{agree_alone}
+use Rattle.nntp_facts.proofs.OnePlace.{agree_alone, shown_with_id}
 use Rattle.nntp_facts.proofs.Shapes.{stepping_joins}
 use Rattle.nntp_facts.proofs.kept.Kept.note_step.Goals as goal
 
@@ -43,7 +43,7 @@ returns g c facts kept together shown no_other wf =
     let there = subst (IsFactAdded facts (IdAt here n id) c.self.inside.articles c.note_there.new.self) c.if-not-branch.false (c.in_ok-note_there.ensures facts here n inside.articles) in (
       (stepping_joins here facts ask n id together wf).1 (placed.0, placed.1, there.0),
       record {
-        groups = c.in_ok-place.ensures (told facts) (told (facts ++ more)) asks inside.groups shown says (agree_alone facts here n id placed.1.1) placed.1.0 placed.1.1 (stepping_changes facts here ask n id shown);
+        groups = c.in_ok-place.ensures (told facts) (told (facts ++ more)) asks inside.groups shown says (shown_with_id facts here n) (agree_alone facts here n id placed.1.1) placed.1.0 placed.1.1 (stepping_changes facts here ask n id shown);
         names = names_kept facts more c.self.inside.names (λ name. refl) inside.names;
         articles = kept_alike facts (IdAt here n id ∷ []) more _ (stepping_same facts here ask n id) there.1;
       },
