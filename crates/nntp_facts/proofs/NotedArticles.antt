@@ -1,5 +1,5 @@
 -- What is added of articles, once an id is noted.
-use Rattle.std.proofs.Common.{◌≡◌, ℕ, Bool, true, false, cond, not, List, [], ◌∷◌, ◌++◌, Option, None, Some, is_some, sym, ap, ◌∙◌}
+use Rattle.std.proofs.Common.{◌≡◌, ℕ, Bool, true, false, cond, not, List, [], ◌∷◌, ◌++◌, Option, None, Some, is_some, MatchOption, sym, ap, subst, ◌∙◌}
 use Rattle.std.specs.Prelude.{unwrap_or}
 use Rattle.std.specs.Ordering.{nat_cmp}
 use Rattle.std.specs.Cmp.Lexicographic.{slice_cmp, nat_list_cmp_total}
@@ -9,8 +9,9 @@ use Rattle.nntp_wire.proofs.ShownMaps.{insert-same}
 use Rattle.nntp_article.specs.Article.{Id, Line}
 use Rattle.nntp_article.specs.Spool.{Name}
 use Rattle.nntp_facts.specs.Facts.{Fact, IdAt, TextIs, NoArticle}
+use Rattle.nntp_facts.specs.Given.{is_mentioned}
 use Rattle.nntp_facts.specs.Together.{JoinArticles}
-use Rattle.nntp_facts.specs.Kept.{KeptArticle, AreKeptArticles, IsAddedIf, IsFactAdded}
+use Rattle.nntp_facts.specs.Kept.{KeptArticle, IsKeptArticle, AreKeptArticles, IsAddedIf, IsFactAdded}
 use Rattle.nntp_facts.specs.Articles.{head_sent, body_sent, MayBeSent, denied, unsent, with_sent}
 use Rattle.nntp_facts.proofs.KeptArticles.{with_new, may_stand_known, may_stand_unknown, stands, may_lack_known, may_lack_unknown, lacks, may_send_known, may_send_unknown, sends}
 use Rattle.nntp_facts.proofs.KeptJoins.{tested}
@@ -27,6 +28,10 @@ same_if_known articles id a b known = ap (λ o. cond (is_some o) articles (inser
 -- of an unknown one it is what is put in
 new_if_unknown : (old new : Articles) (id : Id) (a : KeptArticle) → None ≡ get old id → new ≡ insert old id a → new ≡ with_new old id a
 new_if_unknown old new id a unknown is = is ∙ ap (λ o. cond (is_some o) old (insert old id a)) unknown
+
+-- of an id of which nothing is known, no answer makes mention
+pub unmentioned : (facts : List Fact) (articles : Articles) (id : Id) → AreKeptArticles facts articles → None ≡ get articles id → is_mentioned facts id ≡ false
+unmentioned facts articles id kept unknown = subst (λ o. MatchOption o (is_mentioned facts id ≡ false) (IsKeptArticle facts id)) (sym unknown) (kept id)
 
 -- ---- an id stands at a number
 

@@ -20,6 +20,10 @@ with_articles k articles = record { groups = k.groups; names = k.names; articles
 abbrev pub with_groups : Kept → FinMap (slice_cmp nat_cmp) KeptGroup → Kept
 with_groups k groups = record { groups = groups; names = k.names; articles = k.articles }
 
+-- what has the same parts is the same
+pub kept_is : (a b : Kept) → a.groups ≡ b.groups → a.names ≡ b.names → a.articles ≡ b.articles → a ≡ b
+kept_is a b groups names articles = λ i. record { groups = groups i; names = names i; articles = articles i }
+
 -- with the same articles, it is the same
 pub same_articles : (k : Kept) (articles : FinMap (slice_cmp nat_cmp) KeptArticle) → articles ≡ k.articles → with_articles k articles ≡ k
 same_articles k articles same = λ i. record { groups = k.groups; names = k.names; articles = same i }

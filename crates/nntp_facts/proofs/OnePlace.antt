@@ -1,6 +1,5 @@
 -- An id that is shown at a number has this number.
 use Rattle.std.proofs.Common.{◌≡◌, ℕ, Bool, true, false, ◌&&◌, ◌==◌, cond, IsTrue, List, [], ◌∷◌, Option, None, Some, is_some, inl, refl, sym, ap, subst, ◌∙◌}
-use Rattle.std.specs.Prelude.{◌↔◌}
 use Rattle.std.specs.FinMap.{get, insert, nat_cmp-IsAntisymmetric, slice_cmp-IsAntisymmetric}
 use Rattle.std.specs.Cmp.{nat_cmp_total}
 use Rattle.std.specs.Cmp.Lexicographic.{nat_list_cmp_total}
@@ -70,32 +69,14 @@ agree_alone facts name n id was e =
 pub agree_kept : (t : Told) (g : KeptGroup) (n : ℕ) (id : Id) → IsKeptGroup t g → Agree n id (t.ids n) (t.places id) → Agree n id (get g.ids n) (get g.places id)
 agree_kept t g n id was agree e = was.places id ∙ agree (sym (was.ids n) ∙ e)
 
--- and has what was told at the number
-pub given_kept : (t : Told) (g : KeptGroup) (n : ℕ) (id : Id) → IsKeptGroup t g → IsOr (t.ids n) id → IsOr (get g.ids n) id
-given_kept t g n id was given = subst (λ o. IsOr o id) (sym (was.ids n)) given
-
--- which is shown, if it is told with an id
+-- and the number is shown, if it is told with an id
 pub shown_kept_with : (t : Told) (g : KeptGroup) (n : ℕ) → IsKeptGroup t g → IsShownWith t.asks n (t.ids n) → IsShownWith t.asks n (get g.ids n)
 shown_kept_with t g n was shown there = shown (ap is_some (sym (was.ids n)) ∙ there)
 
 -- to add an id that is shown at the number changes nothing
-pub known_again : (g : KeptGroup) (n : ℕ) (id : Id) → is_some (get g.ids n) ≡ true → Agree n id (get g.ids n) (get g.places id) → IsOr (get g.ids n) id
-    → g ≡ record { numbers = g.numbers; ids = insert g.ids n id; places = insert g.places id n }
-known_again g n id there agree was = λ i. record {
+pub known_again : (g : KeptGroup) (n : ℕ) (id : Id) → get g.ids n ≡ Some id → get g.places id ≡ Some n → g ≡ record { numbers = g.numbers; ids = insert g.ids n id; places = insert g.places id n }
+known_again g n id here place = λ i. record {
   numbers = g.numbers;
   ids = sym (insert-same nat_cmp_total nat_cmp-IsAntisymmetric g.ids n id here) i;
-  places = sym (insert-same nat_list_cmp_total (slice_cmp-IsAntisymmetric nat_cmp-IsAntisymmetric) g.places id n (agree here)) i;
+  places = sym (insert-same nat_list_cmp_total (slice_cmp-IsAntisymmetric nat_cmp-IsAntisymmetric) g.places id n place) i;
 }
-  where
-    by : (o : Option Id) → is_some o ≡ true → IsOr o id → o ≡ Some id
-    by None t was = cc
-    by (Some x) t was = ap Some (sym was)
-
-    here : get g.ids n ≡ Some id
-    here = by (get g.ids n) there was
-
--- a test of what is kept at the number and of the id tests what is told
-pub test_told : {P : Type 0} (t : Told) (g : KeptGroup) (n : ℕ) (id : Id) (b : Bool) → IsKeptGroup t g → IsTrue b ↔ (P × (IsOr (get g.ids n) id × IsOr (get g.places id) n))
-    → IsTrue b ↔ (P × (IsOr (t.ids n) id × IsOr (t.places id) n))
-test_told {P} t g n id b was test =
-    subst (λ at. IsTrue b ↔ (P × (IsOr at id × IsOr (t.places id) n))) (was.ids n) (subst (λ place. IsTrue b ↔ (P × (IsOr (get g.ids n) id × IsOr place n))) (was.places id) test)

@@ -1,5 +1,5 @@
 -- What is kept of all that a session says: of each group, of each id, and of the names that are no groups.
-use Rattle.std.specs.Prelude.{◌≡◌, ℕ, Bool, true, false, not, ◌||◌, ◌==◌, if◌then◌else◌, List, [], ◌∷◌, ◌++◌, Option, None, Some, MatchOption, IsTrue, IsSome}
+use Rattle.std.specs.Prelude.{◌≡◌, ℕ, Bool, true, false, not, ◌||◌, ◌==◌, if◌then◌else◌, List, [], ◌∷◌, ◌++◌, Option, None, Some, MatchOption, IsTrue, IsSome, IfSome}
 use Rattle.std.specs.Option.{option_or}
 use Rattle.std.specs.List.{list_any, AllByRecursion}
 use Rattle.std.specs.Ordering.{nat_cmp}
@@ -15,6 +15,8 @@ use Rattle.nntp_facts.specs.Facts.{Fact}
 use Rattle.nntp_facts.specs.Given.{is_shown, asks_of, is_shown_group, first_given, id_in, is_mentioned, is_sent, head_in, body_in}
 use Rattle.nntp_facts.specs.Together.{number_in, denies_group, shows_article, denies_article, JoinArticles, Join}
 use Rattle.nntp_facts.specs.Summary.{Summary, IsSummary}
+use Rattle.nntp_facts.specs.declared.fit.Fit.{Fit}
+use Rattle.nntp_facts.specs.declared.fit.Fit.TheVariants.{Never, Again, New}
 
 -- ---- what is added
 
@@ -22,6 +24,12 @@ use Rattle.nntp_facts.specs.Summary.{Summary, IsSummary}
 abbrev pub IsAddedIf : {K : Type 0} → Type 0 → (K → Type 0) → K → K → Bool → Type 0
 IsAddedIf May Has old new true = May × Has new
 IsAddedIf May Has old new false = (May → ⊥) × (new ≡ old)
+
+-- it may be, as it fits what was said before
+abbrev pub may_be : Fit → Bool
+may_be Never = false
+may_be Again = true
+may_be New = true
 
 -- ---- groups
 
@@ -60,6 +68,18 @@ Agree n id at place = at ≡ Some id → place ≡ Some n
 -- a number at which there is an id is shown
 abbrev pub IsShownWith : List Ask → ℕ → Option Id → Type 0
 IsShownWith asks n at = IsSome at → IsTrue (is_shown asks n)
+
+-- how it fits that the number has the id, where this has to stand, and this id is at the number
+abbrev pub FitsAt : Type 0 → Id → Option Id → Fit → Type 0
+FitsAt Stand id at Never = (Stand × IfSome at (λ other. id ≡ other)) → ⊥
+FitsAt Stand id at Again = Stand × (at ≡ Some id)
+FitsAt Stand id at New = Stand × (at ≡ None)
+
+-- the same where the id is to be at no other number than n, and is at this one
+abbrev pub FitsOnce : Type 0 → ℕ → Id → Option Id → Option ℕ → Fit → Type 0
+FitsOnce Stand n id at place Never = (Stand × (IfSome at (λ other. id ≡ other) × IfSome place (λ other. n ≡ other))) → ⊥
+FitsOnce Stand n id at place Again = Stand × (at ≡ Some id)
+FitsOnce Stand n id at place New = Stand × (at ≡ None) × IfSome place (λ other. n ≡ other)
 
 -- nothing is told of the group
 pub record IsUntold (t : Told) : Type 0 where

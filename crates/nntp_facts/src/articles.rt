@@ -1,17 +1,19 @@
 //! What answers say of articles.
-ghost use Rattle.std.specs.Prelude.{◌≡◌, ℕ, IsTrue, List, IfOk, OnOk, is_some, option_map};
+ghost use Rattle.std.specs.Prelude.{◌≡◌, ℕ, false, IsTrue, List, IfOk, OnOk, is_some, option_map};
 ghost use Rattle.std.specs.FinMap as map;
 ghost use Rattle.nntp_article.specs.Spool.{Name};
 ghost use Rattle.nntp_article.specs.Machine.{head_fits};
 ghost use Rattle.nntp_facts.specs.Facts.{Fact, IdAt, TextIs, NoArticle};
 ghost use Rattle.nntp_facts.specs.Given.{is_mentioned};
-ghost use Rattle.nntp_facts.specs.Kept.{AreKeptArticles, IsFactAdded};
+ghost use Rattle.nntp_facts.specs.Kept.{AreKeptArticles, IsFactAdded, may_be};
+ghost use Rattle.nntp_facts.specs.declared.fit.Fit.TheVariants.{Again, New};
 ghost use Rattle.nntp_facts.specs.Readers.{shown_articles};
 ghost use Rattle.nntp_facts.specs.ArticleView.{known_value};
 
 mod known;
 mod seen_articles;
 
+use crate::fit::Fit;
 use known::{Known, Seen, Sent};
 use nntp_wire::{Block, What};
 pub use seen_articles::{SeenArticle, SeenArticles};
@@ -108,24 +110,19 @@ impl<A: Allocator + Copy> Articles<A> {
         Ok(true)
     }
 
-    /// Adds that the id has an article, if it may be so, and tells whether it may. After an error the
-    /// articles say nothing of use.
-    pub(crate) fn note_there(&mut self, id: &[u8]) -> Result<bool, AllocError>
-        ensures { IfOk result (λ does. (facts : List Fact) (name : Name) (n : ℕ) → AreKeptArticles facts self.old
-            → IsFactAdded facts (IdAt name n id.now) self.old self.new does) }
+    /// Adds that the id has an article, if it may be so, and tells how that fits: it is new, where no answer
+    /// mentioned the id. After an error the articles say nothing of use.
+    pub(crate) fn note_there(&mut self, id: &[u8]) -> Result<Fit, AllocError>
+        ensures added { IfOk result (λ fit. (facts : List Fact) (name : Name) (n : ℕ) → AreKeptArticles facts self.old
+            → IsFactAdded facts (IdAt name n id.now) self.old self.new (may_be fit)) }
+        ensures again { IfOk result (λ fit. fit ≡ Again → self.new ≡ self.old) }
+        ensures new { IfOk result (λ fit. (facts : List Fact) → AreKeptArticles facts self.old → fit ≡ New → is_mentioned facts id.now ≡ false) }
     {
         if let Some(known) = self.get(id) {
-            return Ok(!known.is_denied());
+            return Ok(known.fit());
         }
-        self.put(
-            id,
-            Known::There(Seen {
-                is_sent: false,
-                head: None,
-                body: None,
-            }),
-        )?;
-        Ok(true)
+        self.put(id, Known::There(Seen::unsent()))?;
+        Ok(Fit::New)
     }
 
     /// Adds that the id has no article, if it may be so, and tells whether it may. After an error the

@@ -1,5 +1,5 @@
 //! What is kept of one group: its numbers, and the ids that are shown at numbers.
-ghost use Rattle.std.specs.Prelude.{◌≡◌, ℕ, ◌↔◌, List, [], ◌∷◌, ◌++◌, IsTrue, IfSome, IfOk, OnOk, MatchOption};
+ghost use Rattle.std.specs.Prelude.{◌≡◌, ℕ, ◌↔◌, List, [], ◌∷◌, ◌++◌, IsTrue, IfSome, IfOk, OnOk, MatchOption, Some};
 ghost use Rattle.std.specs.Option.{option_copied};
 ghost use Rattle.std.specs.FinMap.{get, insert, empty};
 ghost use Rattle.nntp_facts.specs.Asks.{Ask, Estimates, Bounds};
@@ -7,10 +7,12 @@ ghost use Rattle.nntp_facts.specs.Given.{is_shown, IsOneMore};
 ghost use Rattle.nntp_facts.specs.Together.{AsksStand};
 ghost use Rattle.nntp_facts.specs.Summary.{said, Says, IsSummary, Stands};
 ghost use Rattle.nntp_facts.specs.Listing.{AreListable};
-ghost use Rattle.nntp_facts.specs.Kept.{Agree, IsShownWith, IsAddedIf};
+ghost use Rattle.nntp_facts.specs.Kept.{Agree, IsShownWith, FitsAt, IsAddedIf};
+ghost use Rattle.nntp_facts.specs.declared.fit.Fit.TheVariants.{Again};
 ghost use Rattle.nntp_facts.specs.Readers.{unseen_in};
 ghost use Rattle.nntp_facts.specs.ListingView.{asks_listed};
 
+use crate::fit::Fit;
 use crate::listing::Listing;
 use crate::numbers::Numbers;
 use crate::part::Part;
@@ -95,20 +97,21 @@ impl<A: Allocator + Copy> Group<A> {
         Ok(())
     }
 
-    /// Adds what the part says, and that the number has the id, if no other id is shown at it. After an
-    /// error the value says nothing of use.
+    /// Adds what the part says, and that the number has the id, as it fits all before. After an error the
+    /// value says nothing of use.
     pub(crate) fn add_with_id(
         &mut self,
         alloc: A,
         part: &Part,
         number: u64,
         id: &[u8],
+        fit: Fit,
     ) -> Result<(), AllocError>
         ensures { OnOk result ((asks more : List Ask) → IsSummary self.old.numbers asks → Says (said part.now) more → IsShownWith asks number (get self.old.ids number)
-            → Agree number id.now (get self.old.ids number) (get self.old.places id.now) → IfSome (get self.old.ids number) (λ other. id.now ≡ other)
+            → Agree number id.now (get self.old.ids number) (get self.old.places id.now) → (fit ≡ Again → get self.old.ids number ≡ Some id.now)
             → IsSummary self.new.numbers (asks ++ more) × (self.new.ids ≡ insert self.old.ids number id.now) × (self.new.places ≡ insert self.old.places id.now number)) }
     {
-        if self.id(number).is_some() {
+        if let Fit::Again = fit {
             return self.add_shown(part, number);
         }
         self.add(part)?;
@@ -156,17 +159,16 @@ impl<A: Allocator> Group<A> {
         self.numbers.joins(part)
     }
 
-    /// Whether what the part says stands together with all before, and the number may have the id: no other
-    /// id is shown at it, and the id at no other number.
-    pub(crate) fn joins_with_id(&self, part: &Part, number: u64, id: &[u8]) -> bool
+    /// How what the part says, and that the number has the id, fits all before, but for other numbers of
+    /// the id: never, where another id is shown at the number, and again, where this one is.
+    pub(crate) fn fit(&self, part: &Part, number: u64, id: &[u8]) -> Fit
         ensures { (asks more : List Ask) → IsSummary self.now.numbers asks → AsksStand asks → Says (said part.now) more → IsShownWith asks number (get self.now.ids number)
-            → Agree number id.now (get self.now.ids number) (get self.now.places id.now)
-            → IsTrue result ↔ (AsksStand (asks ++ more)
-            × (IfSome (get self.now.ids number) (λ other. id.now ≡ other) × IfSome (get self.now.places id.now) (λ other. number ≡ other))) }
+            → FitsAt (AsksStand (asks ++ more)) id.now (get self.now.ids number) result }
     {
         match self.id(number) {
-            Some(other) => self.joins_shown(part, number) && other == id,
-            None => self.joins(part) && self.has_no_other_place(number, id),
+            Some(other) if other == id && self.joins_shown(part, number) => Fit::Again,
+            None if self.joins(part) => Fit::New,
+            _ => Fit::Never,
         }
     }
 
@@ -219,7 +221,7 @@ impl<A: Allocator> Group<A> {
     }
 
     /// Whether the id is shown at no other number.
-    fn has_no_other_place(&self, number: u64, id: &[u8]) -> bool
+    pub(crate) fn has_no_other_place(&self, number: u64, id: &[u8]) -> bool
         ensures { IsTrue result ↔ IfSome (get self.now.places id.now) (λ other. number ≡ other) }
     {
         match self.place(id) {

@@ -1,5 +1,5 @@
 //! What answers say of groups.
-ghost use Rattle.std.specs.Prelude.{◌≡◌, ℕ, ◌↔◌, true, false, List, [], ◌∷◌, ◌++◌, IsTrue, IfSome, IfOk, Option, OnOk, option_copied};
+ghost use Rattle.std.specs.Prelude.{◌≡◌, ℕ, ◌↔◌, true, false, List, [], ◌∷◌, ◌++◌, IsTrue, IfSome, IfOk, Option, Some, OnOk, option_copied};
 ghost use Rattle.std.specs.FinMap as map;
 ghost use Rattle.nntp_article.specs.Spool.{Name};
 ghost use Rattle.nntp_facts.specs.Asks as asks_said;
@@ -8,12 +8,14 @@ ghost use Rattle.nntp_facts.specs.Together.{AsksStand};
 ghost use Rattle.nntp_facts.specs.Summary.{said, Says};
 ghost use Rattle.nntp_facts.specs.Listing.{AreListable};
 ghost use Rattle.nntp_facts.specs.ListingView.{asks_listed};
-ghost use Rattle.nntp_facts.specs.Kept.{Told, AreKept, Agree, IsShownWith, with_asks, with_id, Changes, IsAddedIf};
+ghost use Rattle.nntp_facts.specs.Kept.{Told, AreKept, Agree, IsShownWith, FitsAt, FitsOnce, with_asks, with_id, Changes, IsAddedIf};
+ghost use Rattle.nntp_facts.specs.declared.fit.Fit.TheVariants.{Again};
 ghost use Rattle.nntp_facts.specs.Readers.{shown_groups};
 
 mod listed;
 
 use crate::ask::Ask;
+use crate::fit::Fit;
 use crate::group::Group;
 use crate::listing::Listing;
 use crate::part::Part;
@@ -79,22 +81,24 @@ impl<A: Allocator + Copy> Groups<A> {
         Ok(())
     }
 
-    /// Adds what the part says of a group that is shown, and that the number has the id. After an
-    /// error the value says nothing of use.
+    /// Adds what the part says of a group that is shown, and that the number has the id, as it fits all
+    /// before. After an error the value says nothing of use.
     pub(crate) fn place(
         &mut self,
         name: &[u8],
         part: &Part,
         number: u64,
         id: &[u8],
+        fit: Fit,
     ) -> Result<(), AllocError>
         ensures { OnOk result ((before after : Name → Told) (asks : List asks_said.Ask) → AreKept before self.old → (before name.now).is_shown ≡ true → Says (said part.now) asks
             → IsShownWith (before name.now).asks number ((before name.now).ids number) → Agree number id.now ((before name.now).ids number) ((before name.now).places id.now)
             → IfSome ((before name.now).ids number) (λ other. id.now ≡ other) → IfSome ((before name.now).places id.now) (λ other. number ≡ other)
+            → (fit ≡ Again → (before name.now).ids number ≡ Some id.now)
             → Changes before after name.now (with_id (before name.now) asks number id.now) → AreKept after self.new) }
     {
         if let Some(group) = self.groups.get_mut(name) {
-            group.add_with_id(self.alloc, part, number, id)?;
+            group.add_with_id(self.alloc, part, number, id, fit)?;
         }
         Ok(())
     }
@@ -211,17 +215,40 @@ impl<A: Allocator> Groups<A> {
         }
     }
 
-    /// Whether what the part says of a group that is shown stands together with all before, and the number
-    /// may have the id.
-    pub(crate) fn may_place(&self, name: &[u8], part: &Part, number: u64, id: &[u8]) -> bool
+    /// How what the part says of a group that is shown, and that the number has the id, fits all before, but
+    /// for other numbers of the id.
+    pub(crate) fn fit_number(&self, name: &[u8], part: &Part, number: u64, id: &[u8]) -> Fit
         ensures { (tells : Name → Told) (asks : List asks_said.Ask) → AreKept tells self.now → (tells name.now).is_shown ≡ true → AsksStand (tells name.now).asks → Says (said part.now) asks
-            → IsShownWith (tells name.now).asks number ((tells name.now).ids number) → Agree number id.now ((tells name.now).ids number) ((tells name.now).places id.now)
-            → IsTrue result ↔ (AsksStand ((tells name.now).asks ++ asks)
-            × (IfSome ((tells name.now).ids number) (λ other. id.now ≡ other) × IfSome ((tells name.now).places id.now) (λ other. number ≡ other))) }
+            → IsShownWith (tells name.now).asks number ((tells name.now).ids number)
+            → FitsAt (AsksStand ((tells name.now).asks ++ asks)) id.now ((tells name.now).ids number) result }
     {
         match self.get(name) {
-            Some(group) => group.joins_with_id(part, number, id),
+            Some(group) => group.fit(part, number, id),
+            None => Fit::Never,
+        }
+    }
+
+    /// Whether the id is shown at no other number of a group that is shown.
+    pub(crate) fn has_no_other_place(&self, name: &[u8], number: u64, id: &[u8]) -> bool
+        ensures { (tells : Name → Told) → AreKept tells self.now → (tells name.now).is_shown ≡ true
+            → IsTrue result ↔ IfSome ((tells name.now).places id.now) (λ other. number ≡ other) }
+    {
+        match self.get(name) {
+            Some(group) => group.has_no_other_place(number, id),
             None => false,
+        }
+    }
+
+    /// How what the part says of a group that is shown, and that the number has the id, fits all before.
+    pub(crate) fn fit(&self, name: &[u8], part: &Part, number: u64, id: &[u8]) -> Fit
+        ensures { (tells : Name → Told) (asks : List asks_said.Ask) → AreKept tells self.now → (tells name.now).is_shown ≡ true → AsksStand (tells name.now).asks → Says (said part.now) asks
+            → IsShownWith (tells name.now).asks number ((tells name.now).ids number)
+            → FitsOnce (AsksStand ((tells name.now).asks ++ asks)) number id.now ((tells name.now).ids number) ((tells name.now).places id.now) result }
+    {
+        let fit = self.fit_number(name, part, number, id);
+        match fit {
+            Fit::New if !self.has_no_other_place(name, number, id) => Fit::Never,
+            _ => fit,
         }
     }
 }

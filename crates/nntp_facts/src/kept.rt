@@ -6,11 +6,11 @@ ghost use Rattle.nntp_facts.specs.Asks as asks_said;
 ghost use Rattle.nntp_facts.specs.Asks.{Estimates, ListsIn};
 ghost use Rattle.nntp_facts.specs.Facts.{Fact, ThereIs, ThereIsNo, Asks, IdAt, TextIs, NoArticle};
 ghost use Rattle.nntp_facts.specs.Given.{asks_of, is_shown_group, is_mentioned, first_given, id_in};
-ghost use Rattle.nntp_facts.specs.Together.{IsWellFormed, AsksStand, denies_group, number_in, Together};
+ghost use Rattle.nntp_facts.specs.Together.{IsWellFormed, AsksStand, denies_group, number_in, Together, JoinArticles};
 ghost use Rattle.nntp_facts.specs.Summary.{said, Says, ShowsNoOther};
 ghost use Rattle.nntp_facts.specs.Listing.{AreListable};
 ghost use Rattle.nntp_facts.specs.ListingView.{asks_listed};
-ghost use Rattle.nntp_facts.specs.Kept.{IsKept, AreAdded};
+ghost use Rattle.nntp_facts.specs.Kept.{FitsAt, IsKept, IsAddedIf, AreKeptArticles, AreAdded};
 ghost use Rattle.nntp_facts.specs.Readers.{shown_groups, shown_articles};
 ghost use Rattle.nntp_facts.specs.AskView.{ask_of};
 ghost use Rattle.nntp_facts.specs.SayingView.{facts_said, facts_placed, asks_placed, MaySay};
@@ -19,6 +19,7 @@ mod listed_groups;
 
 use crate::articles::{Articles, SeenArticles};
 use crate::ask::{Ask, Position};
+use crate::fit::Fit;
 use crate::groups::Groups;
 use crate::listing::Listing;
 use crate::names::Names;
@@ -182,14 +183,44 @@ impl<A: Allocator + Copy> Kept<A> {
             → AreAdded facts (Asks name.now (ask_of ask) ∷ IdAt name.now number id.now ∷ []) self.old self.new does) }
     {
         let part = Part::of(ask).with_number(number);
-        if !self.may_place(name, &part, number, id) {
+        let fit = self.groups.fit_number(name, &part, number, id);
+        if !self.note_id(name, number, id, fit)? {
             return Ok(false);
         }
-        if !self.articles.note_there(id)? {
-            return Ok(false);
-        }
-        self.groups.place(name, &part, number, id)?;
+        self.groups.place(name, &part, number, id, fit)?;
         Ok(true)
+    }
+
+    /// Adds that the id has an article, where it fits so that a number of a group that is shown has the id,
+    /// if it may be so, and tells whether it may. Where that is said again, nothing is new.
+    fn note_id(&mut self, name: &[u8], number: u64, id: &[u8], fit: Fit) -> Result<bool, AllocError>
+        ensures rest { (self.new.groups ≡ self.old.groups) × (self.new.names ≡ self.old.names) }
+        ensures added { IfOk result (λ does. (facts : List Fact) (asks : List asks_said.Ask) → IsKept facts self.old → Together facts → is_shown_group facts name.now ≡ true
+            → FitsAt (AsksStand (asks_of name.now facts ++ asks)) id.now (first_given (id_in name.now number) facts) fit
+            → IsAddedIf (AsksStand (asks_of name.now facts ++ asks)
+            × (IfSome (first_given (id_in name.now number) facts) (λ other. id.now ≡ other) × IfSome (first_given (number_in name.now id.now) facts) (λ other. number ≡ other))
+            × JoinArticles facts (IdAt name.now number id.now ∷ []))
+            (AreKeptArticles (facts ++ IdAt name.now number id.now ∷ [])) self.old.articles self.new.articles does) }
+    {
+        match fit {
+            Fit::Never => Ok(false),
+            Fit::Again => Ok(true),
+            Fit::New => self.note_id_there(name, number, id),
+        }
+    }
+
+    /// The same where no id is shown at the number.
+    fn note_id_there(&mut self, name: &[u8], number: u64, id: &[u8]) -> Result<bool, AllocError>
+        ensures rest { (self.new.groups ≡ self.old.groups) × (self.new.names ≡ self.old.names) }
+        ensures added { IfOk result (λ does. (facts : List Fact) → IsKept facts self.old → is_shown_group facts name.now ≡ true
+            → IsAddedIf (JoinArticles facts (IdAt name.now number id.now ∷ []) × IfSome (first_given (number_in name.now id.now) facts) (λ other. number ≡ other))
+            (AreKeptArticles (facts ++ IdAt name.now number id.now ∷ [])) self.old.articles self.new.articles does) }
+    {
+        match self.articles.note_there(id)? {
+            Fit::Never => Ok(false),
+            Fit::Again => Ok(self.groups.has_no_other_place(name, number, id)),
+            Fit::New => Ok(true),
+        }
     }
 
     /// Adds that this is sent of the id's article, if it may be so, and tells whether it may.
@@ -220,13 +251,14 @@ impl<A: Allocator + Copy> Kept<A> {
             → AreAdded facts (facts_placed name.now what id.now block.now at number) self.old self.new does) }
     {
         let part = placing(at, number);
-        if !self.may_place(name, &part, number, id) {
+        let fit = self.groups.fit(name, &part, number, id);
+        if let Fit::Never = fit {
             return Ok(false);
         }
         if !self.articles.note_sent(what, id, block)? {
             return Ok(false);
         }
-        self.groups.place(name, &part, number, id)?;
+        self.groups.place(name, &part, number, id, fit)?;
         Ok(true)
     }
 }
@@ -245,15 +277,6 @@ impl<A: Allocator> Kept<A> {
             → IsTrue result ↔ (IsFalse (list_any (denies_group name.now) facts) × AsksStand (asks_of name.now facts ++ asks)) }
     {
         self.may_be(name) && self.groups.joins(name.as_slice(), part)
-    }
-
-    /// Whether the number of a group that is shown may be what the part says, and have the id.
-    fn may_place(&self, name: &[u8], part: &Part, number: u64, id: &[u8]) -> bool
-        ensures { (facts : List Fact) (asks : List asks_said.Ask) → IsKept facts self.now → Together facts → is_shown_group facts name.now ≡ true → Says (said part.now) asks
-            → IsTrue result ↔ (AsksStand (asks_of name.now facts ++ asks)
-            × (IfSome (first_given (id_in name.now number) facts) (λ other. id.now ≡ other) × IfSome (first_given (number_in name.now id.now) facts) (λ other. number ≡ other))) }
-    {
-        self.groups.may_place(name, part, number, id)
     }
 }
 

@@ -1,12 +1,14 @@
 //! What is known of one message-id.
-ghost use Rattle.std.specs.Prelude.{◌≡◌, ◌↔◌, false, IsTrue, IfOk, OnOk, option_map};
+ghost use Rattle.std.specs.Prelude.{◌≡◌, ◌≢◌, ◌↔◌, false, not, IsTrue, IfOk, OnOk, option_map};
 ghost use Rattle.std.specs.Option.{option_or};
 ghost use Rattle.nntp_article.specs.Article.{Id};
 ghost use Rattle.nntp_article.specs.Machine.{head_fits};
 ghost use Rattle.nntp_facts.specs.Articles.{head_sent, body_sent, AreSame, MayBeSent, unsent, with_sent};
-ghost use Rattle.nntp_facts.specs.Kept.{IsAddedIf};
+ghost use Rattle.nntp_facts.specs.Kept.{IsAddedIf, may_be};
+ghost use Rattle.nntp_facts.specs.declared.fit.Fit.TheVariants.{New};
 ghost use Rattle.nntp_facts.specs.ArticleView.{lines_held, seen_value, known_value};
 
+use crate::fit::Fit;
 use nntp_article::Parts;
 use nntp_wire::{Block, What};
 use std::alloc::{AllocError, Allocator};
@@ -113,6 +115,19 @@ impl<A: Allocator + Copy> Seen<A> {
     }
 }
 
+impl<A: Allocator> Seen<A> {
+    /// Of an article that no success named.
+    pub(crate) fn unsent() -> Seen<A>
+        ensures { seen_value result ≡ unsent }
+    {
+        Seen {
+            is_sent: false,
+            head: None,
+            body: None,
+        }
+    }
+}
+
 impl<A: Allocator> Known<A> {
     /// Whether it has no article.
     pub(crate) fn is_denied(&self) -> bool
@@ -121,6 +136,17 @@ impl<A: Allocator> Known<A> {
         match self {
             Known::Denied => true,
             Known::There(_) => false,
+        }
+    }
+
+    /// How it fits that it has an article.
+    pub(crate) fn fit(&self) -> Fit
+        ensures may { may_be result ≡ not (known_value self.now).is_denied }
+        ensures known { result ≢ New }
+    {
+        match self {
+            Known::Denied => Fit::Never,
+            Known::There(_) => Fit::Again,
         }
     }
 
@@ -142,11 +168,7 @@ impl<A: Allocator + Copy> Known<A> {
     pub(crate) fn of_sent(alloc: A, sent: &Sent<'_>) -> Result<Known<A>, AllocError>
         ensures { IfOk result (λ known. known_value known ≡ with_sent unsent sent.now.head sent.now.body) }
     {
-        let mut seen = Seen {
-            is_sent: false,
-            head: None,
-            body: None,
-        };
+        let mut seen = Seen::unsent();
         seen.send(alloc, sent)?;
         Ok(Known::There(seen))
     }

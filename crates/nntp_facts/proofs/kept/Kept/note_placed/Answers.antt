@@ -1,21 +1,27 @@
 use Rattle.std.proofs.Common.{[], ◌∷◌, ◌++◌, refl, sym, subst, ◌∙◌}
 use Rattle.nntp_facts.specs.Facts.{TextIs}
-use Rattle.nntp_facts.specs.Kept.{Kept, IsKept, IsFactAdded, told}
+use Rattle.nntp_facts.specs.Given.{asks_of, first_given, id_in}
+use Rattle.nntp_facts.specs.Together.{AsksStand, number_in}
+use Rattle.nntp_facts.specs.Kept.{Kept, IsKept, IsFactAdded, FitsOnce, told}
 use Rattle.nntp_facts.specs.SayingView.{facts_placed, asks_placed}
+use Rattle.nntp_facts.proofs.Fits.{fits_once, may_once}
 use Rattle.nntp_facts.proofs.KeptAdds.{names_kept, placing_changes, placing_same, kept_alike}
-use Rattle.nntp_facts.proofs.KeptJoins.{unmet}
 use Rattle.nntp_facts.proofs.NotedKept.{same_articles}
-use Rattle.nntp_facts.proofs.OnePlace.{agree_alone, shown_with_id}
+use Rattle.nntp_facts.proofs.OnePlace.{agree_together, shown_with_id}
 use Rattle.nntp_facts.proofs.Shapes.{placing_joins, placing_names}
 use Rattle.nntp_facts.proofs.kept.Kept.note_placed.Goals as goal
 
-pub returns-then-not-may_place : goal.returns-then-not-may_place
-returns-then-not-may_place g c facts kept together shown fits wf =
+pub returns-in-Never : goal.returns-in-Never
+returns-in-Never g c facts kept together shown fits wf =
+    let here = c.args.name.now in
     let at = c.args.at in
     let n = c.args.number in
-    let joins = placing_joins c.args.name.now facts c.args.what c.args.id.now c.args.block.now at n together wf in
-    let test = c.may_place.ensures facts (asks_placed at n) kept together shown c.placing-part.ensures in
-    (λ j. unmet c.may_place.result c.if-not-may_place.true test ((joins.0 j).0, (joins.0 j).1), refl)
+    let id = c.args.id.now in
+    let joins = placing_joins here facts c.args.what id c.args.block.now at n together wf in
+    let inside = subst (IsKept facts) (sym c.self.view_is) kept in
+    let fit = c.fit-fit.ensures (told facts) (asks_placed at n) inside.groups shown (together.numbers here) c.placing-part.ensures (shown_with_id facts here n) in
+    let never = subst (FitsOnce (AsksStand (asks_of here facts ++ asks_placed at n)) n id (first_given (id_in here n) facts) (first_given (number_in here id) facts)) c.in-Never.is fit in
+    (λ j. never ((joins.0 j).0, (joins.0 j).1), refl)
 
 pub returns-then-not-branch : goal.returns-then-not-branch
 returns-then-not-branch g c facts kept together shown fits wf =
@@ -38,11 +44,17 @@ returns g c facts kept together shown fits wf =
     let n = c.args.number in
     let more = facts_placed here what id lines at n in
     let inside = subst (IsKept facts) (sym c.self.view_is) kept in
-    let placed = (c.may_place.ensures facts (asks_placed at n) kept together shown c.placing-part.ensures).0 c.if-not-may_place.false in
+    let Stand = AsksStand (asks_of here facts ++ asks_placed at n) in
+    let shown_at = first_given (id_in here n) facts in
+    let place = first_given (number_in here id) facts in
+    let agree = agree_together facts here n id (together.ids_once here id) in
+    let fit = c.fit-fit.ensures (told facts) (asks_placed at n) inside.groups shown (together.numbers here) c.placing-part.ensures (shown_with_id facts here n) in
+    let placed = may_once Stand n id shown_at place c.fit-fit.result c.in_default.not-Never agree fit in
     let sent = subst (IsFactAdded facts (TextIs what id lines) c.self.inside.articles c.note_sent.new.self) c.if-not-branch.false (c.in_ok-note_sent.ensures facts inside.articles fits) in (
       (placing_joins here facts what id lines at n together wf).1 (placed.0, placed.1, sent.0),
       record {
-        groups = c.in_ok-place.ensures (told facts) (told (facts ++ more)) (asks_placed at n) inside.groups shown c.placing-part.ensures (shown_with_id facts here n) (agree_alone facts here n id placed.1.1) placed.1.0 placed.1.1 (placing_changes facts here what id lines at n shown);
+        groups = c.in_ok-place.ensures (told facts) (told (facts ++ more)) (asks_placed at n) inside.groups shown c.placing-part.ensures (shown_with_id facts here n) agree placed.1.0 placed.1.1
+            (fits_once Stand n id shown_at place c.fit-fit.result fit) (placing_changes facts here what id lines at n shown);
         names = names_kept facts more c.self.inside.names (λ name. (placing_names here what id lines at n).denied name) inside.names;
         articles = kept_alike facts (TextIs what id lines ∷ []) more _ (placing_same facts here what id lines at n) sent.1;
       },
