@@ -14,13 +14,11 @@ use Rattle.nntp_article.specs.declared.profile.Profile.{Profile}
 use Rattle.nntp_spool.specs.declared.value.spool_fault.SpoolFault.TheVariants as faults
 use Rattle.nntp_spool.specs.Numbers.{has_id}
 use Rattle.nntp_spool.specs.Content.{is_head_of, with_group, with_article, no_spool}
-use Rattle.nntp_spool.specs.Numbers.{with_number}
 use Rattle.nntp_spool.specs.Building.{group_fault, number_fault, article_fault}
 use Rattle.nntp_spool.specs.Content.{AreNumbers, IsNamed, IsArticle, IsContent}
 use Rattle.nntp_spool.proofs.MapEntries.{got_more}
 use Rattle.nntp_spool.proofs.NumbersInOrder.{no_numbers, one_more}
 use Rattle.nntp_spool.proofs.ShownMaps.{octet_keys}
-use Rattle.nntp_spool.proofs.NumberIds.{free_number}
 
 -- a test that found no fault
 no_fault : {A : Type 0} (b : Bool) (x : A) (o : Option A) → cond b (Some x) o ≡ None → (b ≡ false) × (o ≡ None)
@@ -33,10 +31,6 @@ not_not false e = absurd (true≢false e)
 
 none : {A : Type 0} (x : A) → None ≡ Some x → ⊥
 none x e = cc
-
-none_there : {A : Type 0} (o : Option A) → is_some o ≡ false → o ≡ None
-none_there None e = refl
-none_there (Some x) e = absurd (true≢false e)
 
 pub nothing : (profile : Profile) → IsContent profile no_spool
 nothing profile = record {
@@ -57,15 +51,14 @@ module _ (profile : Profile) (S : Spool) (content : IsContent profile S) where
       let a = no_fault (not (is_group_name name)) faults.BadName _ e in
       with_named name empty (record { is_name = not_not (is_group_name name) a.0; numbers = no_numbers profile })
 
-  pub number_added : (name : Name) (n : ℕ) (id : Id) → number_fault profile S name n id ≡ None → IsContent profile (with_group S name (with_number (numbers S name) n id))
+  pub number_added : (name : Name) (n : ℕ) (id : Id) → number_fault profile S name n id ≡ None → IsContent profile (with_group S name (insert (numbers S name) n id))
   number_added name n id e =
       let a = no_fault (is_none (get S.groups name)) faults.UnknownGroup _ e in
       let b = no_fault (not (is_num profile n)) faults.BadNumber _ a.1 in
       let c = no_fault (not (is_message_id id)) faults.BadId _ b.1 in
       let d = no_fault (is_some (get (numbers S name) n)) faults.DuplicateNumber _ c.1 in
       let f = no_fault (has_id (numbers S name) id) faults.DuplicateId None d.1 in
-      let is = free_number (numbers S name) n id (none_there (get (numbers S name) n) d.0) f.0 in
-      subst (λ N. IsContent profile (with_group S name N)) (sym is) (by (get S.groups name) refl a.0 (not_not (is_num profile n) b.0) (not_not (is_message_id id) c.0) f.0)
+      by (get S.groups name) refl a.0 (not_not (is_num profile n) b.0) (not_not (is_message_id id) c.0) f.0
     where
       by : (o : Option Numbers) → get S.groups name ≡ o → is_none (get S.groups name) ≡ false → is_num profile n ≡ true → is_message_id id ≡ true → has_id (numbers S name) id ≡ false
           → IsContent profile (with_group S name (insert (numbers S name) n id))

@@ -1,11 +1,11 @@
 //! Groups and articles, as they are taken in before all of a spool is there.
-ghost use Rattle.std.specs.Prelude.{◌≡◌, OnOk, OnErr, option_map, option_copied, is_some};
+ghost use Rattle.std.specs.Prelude.{◌≡◌, None, false, OnOk, OnErr, option_map, option_copied, is_some};
 ghost use Rattle.std.specs.FinMap as map;
 ghost use Rattle.nntp_article.specs.Spool.{IsGroup, numbers as numbers_of};
 ghost use Rattle.nntp_spool.specs.Counts.{numbers_in};
 ghost use Rattle.nntp_spool.specs.Ascending.{is_last};
 ghost use Rattle.nntp_spool.specs.Content.{with_group, with_article, all_known, ids_have_articles, no_spool};
-ghost use Rattle.nntp_spool.specs.Numbers.{with_number};
+ghost use Rattle.nntp_spool.specs.Numbers.{has_id};
 ghost use Rattle.nntp_spool.specs.ArticleLines.{text_of_article};
 ghost use Rattle.nntp_spool.specs.Text.{HasLineCounts};
 
@@ -60,7 +60,7 @@ impl<A: Allocator + Copy> Content<A> {
         Ok(())
     }
 
-    /// Adds a number to a group that is there, unless the group has the number or the id already.
+    /// Adds a number, with its id, to a group that is there and has neither.
     pub(crate) fn put_number(
         &mut self,
         alloc: A,
@@ -68,12 +68,12 @@ impl<A: Allocator + Copy> Content<A> {
         number: u64,
         id: &[u8],
     ) -> Result<(), AllocError>
-        requires { IsGroup self.old name.now }
-        ensures ok { OnOk result (self.new ≡ with_group self.old name.now (with_number (numbers_of self.old name.now) number id.now)) }
+        requires { IsGroup self.old name.now × (map.get (numbers_of self.old name.now) number ≡ None) × (has_id (numbers_of self.old name.now) id.now ≡ false) }
+        ensures ok { OnOk result (self.new ≡ with_group self.old name.now (map.insert (numbers_of self.old name.now) number id.now)) }
         ensures err { OnErr result (self.new ≡ self.old) }
     {
         if let Some(group) = self.groups.get_mut(name) {
-            group.insert(alloc, number, id)?;
+            group.put(alloc, number, id)?;
         }
         Ok(())
     }

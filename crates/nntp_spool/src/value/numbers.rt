@@ -1,5 +1,5 @@
 //! The numbers of one group, with the id at each.
-ghost use Rattle.std.specs.Prelude.{◌≡◌, ℕ, OnOk, OnErr, IfOk, option_map, MatchOption, ◌≤◌};
+ghost use Rattle.std.specs.Prelude.{◌≡◌, ℕ, None, false, OnOk, OnErr, IfOk, option_map, MatchOption, ◌≤◌};
 ghost use Rattle.std.specs.FinMap as map;
 ghost use Rattle.nntp_article.specs.Spool.{IsFirst, IsNextAbove, IsNextBelow, NoneAbove, NoneBelow, IsNumber};
 ghost use Rattle.nntp_spool.specs.Ascending.{is_last};
@@ -56,10 +56,20 @@ impl<A: Allocator + Copy> Numbers<A> {
         if self.id(number).is_some() || self.has_some_id(id) {
             return Ok(false);
         }
+        self.put(alloc, number, id)?;
+        Ok(true)
+    }
+
+    /// Adds a number with its id, of which neither is there.
+    pub(crate) fn put(&mut self, alloc: A, number: u64, id: &[u8]) -> Result<(), AllocError>
+        requires { (map.get self.old number ≡ None) × (has_id self.old id.now ≡ false) }
+        ensures ok { OnOk result (self.new ≡ map.insert self.old number id.now) }
+        ensures err { OnErr result (self.new ≡ self.old) }
+    {
         let held = Vec::from_slice(alloc, id)?;
         self.known.insert(Vec::from_slice(alloc, id)?)?;
         match self.ids.insert(number, held) {
-            Ok(_) => Ok(true),
+            Ok(_) => Ok(()),
             Err(_) => {
                 self.known.remove(id);
                 Err(AllocError)

@@ -1,34 +1,16 @@
-use Rattle.std.proofs.Common.{◌≡◌, None, false, sym, ap, subst, ◌∙◌}
-use Rattle.std.specs.Ordering.{nat_cmp}
-use Rattle.std.specs.Cmp.{nat_cmp_total}
+use Rattle.std.proofs.Common.{◌≡◌, None, false, sym, ◌∙◌}
 use Rattle.std.specs.FinMap as map
 use Rattle.nntp_spool.specs.Numbers.{has_id}
-use Rattle.nntp_spool.specs.Numbers.{AreIdsOf}
-use Rattle.nntp_spool.proofs.NumberIds.{none_found, free_number, one_id_more, id_taken_back}
-use Rattle.nntp_wire.proofs.ShownMaps.{insert-shown, shown}
+use Rattle.nntp_spool.proofs.NumberIds.{none_found, free_number}
 use Rattle.nntp_spool.proofs.value.numbers.Numbers.insert.Goals as goal
 
-pub invariant_of-self-in-Ok : goal.invariant_of-self-in-Ok
-invariant_of-self-in-Ok g c =
-    let N = c.args.self.now in
-    let absent : map.get N c.args.number ≡ None = none_found (λ id. id.now.items) c.id.result _ c.is_some.result c.id.ensures c.is_some.ensures c.if-is_some.false in
-    let are = subst (AreIdsOf c.self.inside.known.keys) c.self.view_is c.self.invariant in
-    let more = one_id_more c.self.inside.known.keys c.insert.new.self.keys N c.args.number c.args.id.now c.in_ok-from_slice.field-0 are absent c.in_ok-from_slice.ensures.items c.in_ok-insert.ensures.keys in
-    let is = insert-shown nat_cmp (λ k. k) (λ v. v.items) nat_cmp_total map.nat_cmp-IsAntisymmetric _ _ c.args.number c.in_ok-held.held c.in-Ok.ensures.entries ∙ ap (λ m. map.insert m c.args.number c.in_ok-held.held.items) c.self.view_is ∙ ap (map.insert N c.args.number) c.in_ok-held.ensures.items in
-    subst (AreIdsOf c.insert.new.self.keys) (sym is) more
+pub put-requires : goal.put-requires
+put-requires g c =
+    (none_found (λ id. id.now.items) c.id.result _ c.is_some.result c.id.ensures c.is_some.ensures c.if-is_some.false, sym c.has_some_id.ensures ∙ c.if-has_some_id.false)
 
-pub returns-in-Ok-clause-ok : goal.returns-in-Ok-clause-ok
-returns-in-Ok-clause-ok g c =
+pub returns-clause-ok : goal.returns-clause-ok
+returns-clause-ok g c =
     let N = c.args.self.now in
     let absent : map.get N c.args.number ≡ None = none_found (λ id. id.now.items) c.id.result _ c.is_some.result c.id.ensures c.is_some.ensures c.if-is_some.false in
     let fresh : has_id N c.args.id.now ≡ false = sym c.has_some_id.ensures ∙ c.if-has_some_id.false in
-    let is = insert-shown nat_cmp (λ k. k) (λ v. v.items) nat_cmp_total map.nat_cmp-IsAntisymmetric _ _ c.args.number c.in_ok-held.held c.in-Ok.ensures.entries ∙ ap (λ m. map.insert m c.args.number c.in_ok-held.held.items) c.self.view_is ∙ ap (map.insert N c.args.number) c.in_ok-held.ensures.items in
-    is ∙ sym (free_number N c.args.number c.args.id.now absent fresh)
-
-pub invariant_of-self-2 : goal.invariant_of-self-2
-invariant_of-self-2 g c =
-    let N = c.args.self.now in
-    let fresh : has_id N c.args.id.now ≡ false = sym c.has_some_id.ensures ∙ c.if-has_some_id.false in
-    let are = subst (AreIdsOf c.self.inside.known.keys) c.self.view_is c.self.invariant in
-    let same = ap (shown nat_cmp (λ k. k) (λ v. v.items)) c.in-Err.ensures.err ∙ c.self.view_is in
-    id_taken_back c.self.inside.known.keys c.insert.new.self.keys c.remove.new.self.keys N _ c.args.id.now c.in_ok-from_slice.field-0 are fresh c.in_ok-from_slice.ensures.items c.in_ok-insert.ensures.keys c.remove.ensures.keys same
+    c.in_ok-put.ensures.ok ∙ sym (free_number N c.args.number c.args.id.now absent fresh)
