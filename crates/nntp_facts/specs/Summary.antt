@@ -107,9 +107,10 @@ part_denies p n = nat_lt n p.low || nat_lt p.high n || is_between p.first p.last
 abbrev pub said : Part → Said
 said p = record { possible = p.is_possible; shows = part_shows p.shows; denies = part_denies p; estimate = p.estimate; demand = demand_of p.need }
 
--- nothing is said but that n is there
+-- it is said that n is there, and nothing else
 pub record SaysOnly (p : Said) (n : ℕ) : Type 0 where
   pub can_be : IsTrue p.possible
+  pub there : p.shows n ≡ true
   pub no_other : (m : ℕ) → p.shows m ≡ true → n ≡ m
   pub denies_none : (m : ℕ) → m < 2 ^ 64 → p.denies m ≡ false
   pub no_estimate : p.estimate ≡ None

@@ -1,5 +1,5 @@
 //! What is said of the first number of a group where it isn't seen.
-ghost use Rattle.std.specs.Prelude.{◌≡◌, IsTrue};
+ghost use Rattle.std.specs.Prelude.{◌≡◌, ◌↔◌, IsTrue};
 ghost use Rattle.nntp_facts.specs.Given.{NoDemand, join, wants};
 ghost use Rattle.nntp_facts.specs.Summary.{demand_of};
 
@@ -36,7 +36,7 @@ impl Need {
 
     /// Whether nothing is said.
     pub(crate) fn is_nothing(self) -> bool
-        ensures { IsTrue result → demand_of self ≡ NoDemand }
+        ensures { IsTrue result ↔ demand_of self ≡ NoDemand }
     {
         matches!(self, Need::Nothing)
     }

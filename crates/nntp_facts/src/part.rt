@@ -1,5 +1,5 @@
 //! What an answer says at once of the numbers of a group.
-ghost use Rattle.std.specs.Prelude.{◌≡◌, ℕ, ◌<◌, ◌^◌, false, IsTrue, [], ◌∷◌};
+ghost use Rattle.std.specs.Prelude.{◌≡◌, ℕ, ◌<◌, ◌^◌, ◌↔◌, false, IsTrue, [], ◌∷◌};
 ghost use Rattle.nntp_facts.specs.Asks.{StandsAt, StandsNowhere, StepsUp, StepsDown, IsTop, IsBottom};
 ghost use Rattle.nntp_facts.specs.AskView.{position_of, ask_of};
 ghost use Rattle.nntp_facts.specs.Summary.{part_denies, said, Says, SaysToo, SaysOnly};
@@ -106,9 +106,9 @@ impl Part {
         n < self.low || self.high < n || (self.first <= n && n <= self.last)
     }
 
-    /// Whether the part says nothing but that the number is there.
+    /// Whether the part says that the number is there, and nothing else.
     pub(crate) fn shows_only(&self, n: u64) -> bool
-        ensures { IsTrue result → SaysOnly (said self.now) n }
+        ensures { IsTrue result ↔ SaysOnly (said self.now) n }
     {
         self.shows == Some(n)
             && self.is_possible
@@ -119,7 +119,7 @@ impl Part {
 
     /// Whether the part says of no number that it isn't there.
     fn denies_none(&self) -> bool
-        ensures { IsTrue result → (m : ℕ) → m < 2 ^ 64 → part_denies self.now m ≡ false }
+        ensures { IsTrue result ↔ ((m : ℕ) → m < 2 ^ 64 → part_denies self.now m ≡ false) }
     {
         self.low == 0 && self.high == u64::MAX && self.last < self.first
     }
