@@ -1,6 +1,9 @@
 -- What the code's values keep of articles.
 use Rattle.std.specs.Prelude.{ℕ, false, List, Vec, Option, option_map, map, refl}
 use Rattle.std.specs.Coded.{Coded, code_by, coded×, coded_ℕ, coded_list, coded_option, coded_bool}
+use Rattle.std.specs.Ordering.{nat_cmp, is_eq}
+use Rattle.std.specs.Cmp.Lexicographic.{slice_cmp}
+use Rattle.std.specs.Map.{lookup}
 use Rattle.nntp_wire.specs.Held.{held}
 use Rattle.nntp_article.specs.Article.{Id, Line}
 use Rattle.nntp_facts.specs.Kept.{KeptArticle}
@@ -25,6 +28,10 @@ known_value (There s) = seen_value s
 -- what is kept of ids, one after the other
 abbrev pub entries_value : {A : Type 0} → List (Vec ℕ A × Known A) → List (Id × KeptArticle)
 entries_value entries = map (λ e. (e.0.items, known_value e.1)) entries
+
+-- what is known of the id
+abbrev pub known_of : {A : Type 0} → Id → List (Vec ℕ A × Known A) → Option (Known A)
+known_of id entries = lookup (λ k. is_eq (slice_cmp nat_cmp id k.items)) entries
 
 abbrev pub coded_kept : Coded KeptArticle
 coded_kept =

@@ -1,6 +1,9 @@
 //! What answers say of articles.
-ghost use Rattle.std.specs.Prelude.{◌≡◌, ℕ, false, IsTrue, List, IfOk, OnOk, is_some, option_map};
+ghost use Rattle.std.specs.Prelude.{◌≡◌, ◌≢◌, ◌↔◌, ℕ, false, not, IfSome, IsTrue, List, IfOk, OnOk, is_some, option_map};
 ghost use Rattle.std.specs.FinMap as map;
+ghost use Rattle.std.specs.BTreeMap.{insert_entry};
+ghost use Rattle.std.specs.Ordering.{nat_cmp};
+ghost use Rattle.std.specs.Cmp.Lexicographic.{slice_cmp};
 ghost use Rattle.nntp_article.specs.Spool.{Name};
 ghost use Rattle.nntp_article.specs.Machine.{head_fits};
 ghost use Rattle.nntp_facts.specs.Facts.{Fact, IdAt, TextIs, NoArticle};
@@ -8,7 +11,7 @@ ghost use Rattle.nntp_facts.specs.Given.{is_mentioned};
 ghost use Rattle.nntp_facts.specs.Kept.{AreKeptArticles, IsFactAdded, may_be};
 ghost use Rattle.nntp_facts.specs.declared.fit.Fit.TheVariants.{Again, New};
 ghost use Rattle.nntp_facts.specs.Readers.{shown_articles};
-ghost use Rattle.nntp_facts.specs.ArticleView.{known_value};
+ghost use Rattle.nntp_facts.specs.ArticleView.{known_value, known_of};
 
 mod known;
 mod seen_articles;
@@ -19,6 +22,7 @@ use nntp_wire::{Block, What};
 pub use seen_articles::{SeenArticle, SeenArticles};
 use std::alloc::{AllocError, Allocator, Global};
 use std::collections::BTreeMap;
+use std::collections::btree_map::Entry;
 use std::marker::Model;
 
 /// What all answers so far say of articles, by message-id.
@@ -118,11 +122,8 @@ impl<A: Allocator + Copy> Articles<A> {
         ensures again { IfOk result (λ fit. fit ≡ Again → self.new ≡ self.old) }
         ensures new { IfOk result (λ fit. (facts : List Fact) → AreKeptArticles facts self.old → fit ≡ New → is_mentioned facts id.now ≡ false) }
     {
-        if let Some(known) = self.get(id) {
-            return Ok(known.fit());
-        }
-        self.put(id, Known::There(Seen::unsent()))?;
-        Ok(Fit::New)
+        let id = Vec::from_slice(self.alloc, id)?;
+        put_new(&mut self.known, id, Known::There(Seen::unsent()))
     }
 
     /// Adds that the id has no article, if it may be so, and tells whether it may. After an error the
@@ -135,5 +136,25 @@ impl<A: Allocator + Copy> Articles<A> {
         }
         self.put(id, Known::Denied)?;
         Ok(true)
+    }
+}
+
+/// Puts in what is known of an id, if nothing is; else tells how it fits that the id has an article.
+fn put_new<A: Allocator + Copy>(
+    all: &mut BTreeMap<Vec<u8, A>, Known<A>, A>,
+    id: Vec<u8, A>,
+    new: Known<A>,
+) -> Result<Fit, AllocError>
+    ensures same { IfOk result (λ fit. fit ≢ New → all.new.entries ≡ all.old.entries) }
+    ensures known { IfOk result (λ fit. fit ≢ New → IfSome (known_of id.items all.old.entries) (λ k. may_be fit ≡ not (known_value k).is_denied)) }
+    ensures new { IfOk result (λ fit. fit ≡ New → all.new.entries ≡ insert_entry (λ a b. slice_cmp nat_cmp a.items b.items) all.old.entries id new) }
+    ensures absent { IfOk result (λ fit. is_some (known_of id.items all.old.entries) ≡ false ↔ fit ≡ New) }
+{
+    match all.entry(id)? {
+        Entry::Occupied(known) => Ok(known.get().fit()),
+        Entry::Vacant(place) => {
+            place.insert(new);
+            Ok(Fit::New)
+        }
     }
 }
