@@ -1,9 +1,8 @@
-use Rattle.std.proofs.Common.{◌≡◌, None, is_some, option_map, sym, ap, ◌∙◌}
+use Rattle.std.proofs.Common.{sym, ap, ◌∙◌}
 use Rattle.std.specs.Ordering.{nat_cmp}
 use Rattle.std.specs.Cmp.Lexicographic.{slice_cmp, nat_list_cmp_total}
 use Rattle.std.specs.FinMap as map
 use Rattle.nntp_wire.proofs.ShownMaps.{get-shown, insert-shown, shown}
-use Rattle.nntp_facts.specs.Articles.{unsent}
 use Rattle.nntp_facts.specs.ArticleView.{known_value, seen_value}
 use Rattle.nntp_facts.specs.declared.articles.known.Known.TheVariants.{There}
 use Rattle.nntp_facts.proofs.NotedArticles.{none_known, there_either, unmentioned}
