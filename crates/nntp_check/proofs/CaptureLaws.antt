@@ -1,7 +1,7 @@
 -- Octets are a capture or have a first bad piece, and that in one way.
 use Rattle.std.proofs.Common.{◌≡◌, ◌≢◌, ◌⊎◌, ℕ, zero, suc, ◌+◌, ◌≤◌, List, [], ◌∷◌, ◌++◌, length, flat_map, inl, inr, refl, sym, ap, subst, ◌∙◌, append_assoc, arith, length-append}
 use Rattle.std.specs.List.{AllByRecursion}
-use Rattle.nntp_check.specs.Capture.{Part, spelled, IsPiece, BeginsNoPiece, octets_from, Begins, AreStreams, IsCapture, IsBadPiece}
+use Rattle.nntp_check.specs.Capture.{Part, spelled, IsPiece, BeginsNoPiece, octets_from, Begins, AreStreams, IsCapture, IsBadPiece, BeginsCapture, IsBadPieceForGood}
 use Rattle.nntp_check.specs.declared.capture.Source.TheVariants.{Client, Server, Spool}
 use Rattle.nntp_check.proofs.CaptureLemmas.{spelled-length}
 use Rattle.nntp_check.proofs.FirstPiece.{one-piece, dec_piece}
@@ -9,7 +9,7 @@ use Rattle.nntp_check.proofs.FirstPiece.{one-piece, dec_piece}
 -- ---- one of both
 
 -- pieces, and then the end, or octets that begin no piece
-abbrev HasEnd : List ℕ → Type 0
+abbrev pub HasEnd : List ℕ → Type 0
 HasEnd bytes = (parts : List Part) × (rest : List ℕ) × Begins bytes parts rest × ((rest ≡ []) ⊎ ((rest ≢ []) × BeginsNoPiece rest))
 
 -- a piece more in front
@@ -27,7 +27,7 @@ behind-shorter n bytes more p few e =
     omega arith
 
 -- octets, at most so many, have an end
-has-end : (n : ℕ) (bytes : List ℕ) → length bytes ≤ n → HasEnd bytes
+pub has-end : (n : ℕ) (bytes : List ℕ) → length bytes ≤ n → HasEnd bytes
 has-end zero [] few = ([], [], record { whole = refl; each = tt }, inl refl)
 has-end zero (b ∷ bytes) few = absurd (omega arith)
 has-end (suc n) [] few = ([], [], record { whole = refl; each = tt }, inl refl)
@@ -93,3 +93,11 @@ one-capture octets client other_client server other_server spool other_spool s t
 -- and so is the number of the first bad piece
 pub one-bad-piece : (octets : List ℕ) (number other : ℕ) → IsBadPiece octets number → IsBadPiece octets other → number ≡ other
 one-bad-piece octets number other b c = b.place ∙ ap (λ parts. length parts + 1) (one-begin octets b.parts c.parts b.rest c.rest b.pieces c.pieces b.none c.none).0 ∙ sym c.place
+
+-- a piece that is bad for good stays so
+pub stays-bad : (octets : List ℕ) (number : ℕ) → IsBadPieceForGood octets number → (more : List ℕ) → IsBadPieceForGood (octets ++ more) number
+stays-bad octets number b more after = subst (λ (all : List ℕ). IsBadPiece all number) (sym (append_assoc octets more after)) (b (more ++ after))
+
+-- and the octets begin no capture
+pub begins-none : (octets : List ℕ) (number : ℕ) → IsBadPieceForGood octets number → BeginsCapture octets → ⊥
+begins-none octets number b (more, capture) = not-both (octets ++ more) number capture (b more)

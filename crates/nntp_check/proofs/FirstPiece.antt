@@ -6,7 +6,7 @@ use Rattle.std.proofs.Math.Seq.{take-append_seam}
 use Rattle.std.specs.List.{list_all}
 use Rattle.std.specs.Char.{is_ascii_digit}
 use Rattle.nntp_wire.proofs.Decide.{Dec, dec_by}
-use Rattle.nntp_check.specs.Capture.{Part, word_of, spelled, IsPiece, BeginsNoWord, BeginsNoPiece, count_of}
+use Rattle.nntp_check.specs.Capture.{Part, word_of, spelled, IsPiece, BeginsNoPiece, count_of}
 use Rattle.nntp_check.specs.declared.capture.Source.{Source}
 use Rattle.nntp_check.specs.declared.capture.Source.TheVariants.{Client, Server, Spool}
 use Rattle.nntp_check.proofs.CaptureLemmas.{one_word, spelled-append, counted, piece_line}
@@ -14,7 +14,7 @@ use Rattle.nntp_check.proofs.CaptureLemmas.{one_word, spelled-append, counted, p
 -- ---- one piece
 
 -- digits up to LF, and what follows it
-one_line : (ds es after more : List ℕ) → list_all is_ascii_digit ds ≡ true → list_all is_ascii_digit es ≡ true → ds ++ 10 ∷ after ≡ es ++ 10 ∷ more → (ds ≡ es) × (after ≡ more)
+pub one_line : (ds es after more : List ℕ) → list_all is_ascii_digit ds ≡ true → list_all is_ascii_digit es ≡ true → ds ++ 10 ∷ after ≡ es ++ 10 ∷ more → (ds ≡ es) × (after ≡ more)
 one_line [] [] after more h i e = (refl, cc)
 one_line [] (c ∷ es) after more h i e = let is : c ≡ 10 = cc in absurd (true≢false (sym i ∙ ap (λ x. list_all is_ascii_digit (x ∷ es)) is))
 one_line (b ∷ ds) [] after more h i e = let is : b ≡ 10 = cc in absurd (true≢false (sym h ∙ ap (λ x. list_all is_ascii_digit (x ∷ ds)) is))
@@ -49,6 +49,10 @@ dec_front (c ∷ front) (b ∷ bytes) = elim (cases_eq b c) [
   | inl is ↦ dec_by (λ h. (h.0, λ k. is k ∷ h.1 k)) (λ h. (h.0, (let e = h.1 in cc))) (dec_front front bytes)
   | inr other ↦ inr (λ h. other (let e = h.1 in cc))
 ]
+
+-- no word is at the front
+abbrev BeginsNoWord : List ℕ → Type 0
+BeginsNoWord bytes = (s : Source) (more : List ℕ) → bytes ≢ word_of s ++ more
 
 -- octets begin with the word of this source
 abbrev HasWord : List ℕ → Source → Type 0

@@ -1,5 +1,5 @@
 -- How a judgement goes through the exchanges of two streams.
-use Rattle.std.proofs.Common.{◌≡◌, ◌≢◌, ◌∙◌, sym, subst, refl, ℕ, ◌+◌, List, [], ◌∷◌, ◌++◌, Option, None, Some, MatchOption, Result, Ok, Err, IfOk, ◌<◌, length, ap, inr, arith}
+use Rattle.std.proofs.Common.{◌≡◌, ◌≢◌, ◌∙◌, sym, subst, refl, ℕ, ◌+◌, List, [], ◌∷◌, ◌++◌, Option, None, Some, MatchOption, Result, Ok, Err, IfOk, length, ap, inr, arith}
 use Rattle.std.specs.Option.{option_map}
 use Rattle.std.proofs.lemmas.List.{length_push, append_assoc}
 use Rattle.nntp_wire.specs.Octets.{crlf}
@@ -31,8 +31,9 @@ use Rattle.nntp_spool.proofs.PermittedPairs.{explained-unrefused}
 use Rattle.nntp_spool.proofs.WholeSpools.{written_is_read}
 use Rattle.nntp_witness.specs.Witness.{IsWitness}
 use Rattle.nntp_check.specs.declared.verdict.Verdict.{Verdict}
-use Rattle.nntp_check.specs.Judging.{IsFirstLine, StopsAt, IsYes, IsVerdict, HasNext, SuitsClass, shown, pair_class_of, class_noted}
-use Rattle.nntp_check.specs.Verdict.{bad, verdict_shown}
+use Rattle.nntp_check.specs.Judging.{IsFirstLine, StopsAt, IsYes, IsVerdict, SuitsClass, Passed, StopsHere, shown, pair_class_of, class_noted}
+use Rattle.nntp_pair.specs.Feeding.{HasNext}
+use Rattle.nntp_check.specs.Verdict.{Judgement, bad, verdict_shown}
 
 -- the visible state that the exchanges leave
 abbrev visible_left : List Paired → Visible
@@ -44,13 +45,6 @@ closed-by v before left [] same e = ap (λ (u : Unpaired). u.is_closed) (sym e) 
 closed-by v before left (pair ∷ pairs) same (between, first, more) =
     closed-by (visible_after v (asked_at pair.line) pair.response) between left pairs (first.closing ∙ sym (after-closes v (asked_at pair.line) pair.response (sym same ∙ first.is_open))) more
 
--- so many exchanges have passed, of which the facts are kept, and then this is left
-pub record Passed (client server : List ℕ) (facts : FactsKept) (left : Unpaired) (answers : ℕ) : Type 0 where
-  pub pairs : List Paired
-  pub before : AreNext (streams client server) pairs left
-  pub count : answers ≡ length pairs
-  pub stands : Stands facts pairs
-
 -- the next exchange is due
 pub is-due : (client server : List ℕ) (facts : FactsKept) (left behind : Unpaired) (answers : ℕ) (x : Paired) → Passed client server facts left answers → IsNext left x behind → IsDue facts x
 is-due client server facts left behind answers x p next = record {
@@ -59,19 +53,23 @@ is-due client server facts left behind answers x p next = record {
 }
 
 -- and then it has passed
-pub one-more : (client server : List ℕ) (old new : FactsKept) (left behind : Unpaired) (answers : ℕ) (x : Paired) (noted : Noted) → Passed client server old left answers → IsNext left x behind
-    → ((past : List Paired) → Stands old past → IsNoted past x old new noted) → class_noted noted ≡ None → (k : ℕ) → k ≡ x.index → Passed client server new behind (k + 1)
+pub one-more : (client server : List ℕ) (old new : FactsKept) (left behind : Unpaired) (answers : ℕ) (x : Paired) (noted : Noted) → (p : Passed client server old left answers) → IsNext left x behind
+    → ((past : List Paired) → Stands old past → IsNoted past x old new noted) → class_noted noted ≡ None → (k : ℕ) → k ≡ x.index
+    → (now : Passed client server new behind (k + 1)) × (now.pairs ≡ p.pairs ++ (x ∷ []))
 one-more client server old new left behind answers x noted p next notes good k at = by noted good (notes p.pairs p.stands)
   where
-    by : (noted : Noted) → class_noted noted ≡ None → IsNoted p.pairs x old new noted → Passed client server new behind (k + 1)
-    by kinds.Consistent none h = record {
-      pairs = p.pairs ++ (x ∷ []);
-      before = AreNext-push p.pairs (streams client server) left behind x p.before next;
-      count = ap (λ n. n + 1) (at ∙ next.index ∙ index-counts client server p.pairs left p.before) ∙ sym (length_push p.pairs x);
-      stands = h.1;
-    }
-    by kinds.OutOfPlace none h = cc
-    by kinds.Contradiction none h = cc
+    by : (noted : Noted) → class_noted noted ≡ None → IsNoted p.pairs x old new noted → (now : Passed client server new behind (k + 1)) × (now.pairs ≡ p.pairs ++ (x ∷ []))
+    by kinds.Consistent none h = (
+      record {
+        pairs = p.pairs ++ (x ∷ []);
+        before = AreNext-push p.pairs (streams client server) left behind x p.before next;
+        count = ap (λ n. n + 1) (at ∙ next.index ∙ index-counts client server p.pairs left p.before) ∙ sym (length_push p.pairs x);
+        stands = h.1;
+      },
+      refl,
+    )
+    by kinds.OutOfPlace none h = absurd (let e : Some OutOfPlace ≡ None = none in cc)
+    by kinds.Contradiction none h = absurd (let e : Some Contradiction ≡ None = none in cc)
 
 some-octets : (line rest : List ℕ) → line ++ crlf ++ rest ≢ []
 some-octets [] rest e = cc
@@ -112,19 +110,19 @@ of-pair pair.Cut left is = is
 of-pair pair.Malformed left is = is
 
 -- octets that answer nothing
-pub at-octets : (client server : List ℕ) (facts : FactsKept) (left : Unpaired) (answers : ℕ) (class : PairClass) → Passed client server facts left answers → Ends left (pair_end class)
-    → (k : ℕ) → k ≡ left.index → (of : Class) → of ≡ class_of class → (line : Option (List ℕ)) → line ≡ line_ahead left.places → (octets first : List ℕ) → octets ≡ left.server → IsFirstLine octets first
-    → StopsAt client server k of (option_map shown line) (shown first)
-at-octets client server facts left answers class p ends k at of of-is line line-is octets first octets-are is-first = record {
+pub at-octets : (client server : List ℕ) (facts : FactsKept) (left : Unpaired) (answers index : ℕ) (class : PairClass) (line : Option (List ℕ)) (octets first : List ℕ)
+    → Passed client server facts left answers → StopsHere left index class line octets → (of : Class) → of ≡ class_of class → IsFirstLine octets first
+    → StopsAt client server index of (option_map shown line) (shown first)
+at-octets client server facts left answers index class line octets first p stop of of-is is-first = record {
   pairs = p.pairs;
   left = left;
   before = p.before;
-  place = at ∙ index-counts client server p.pairs left p.before;
-  some = ends.0;
-  suits = subst (λ c. SuitsClass c left) (sym of-is) (of-pair class left ends.1);
-  command_is = ap (option_map shown) line-is;
+  place = stop.index_is ∙ index-counts client server p.pairs left p.before;
+  some = stop.ends.0;
+  suits = subst (λ c. SuitsClass c left) (sym of-is) (of-pair class left stop.ends.1);
+  command_is = ap (option_map shown) stop.line_is;
   line = first;
-  first = subst (λ o. IsFirstLine o first) octets-are is-first;
+  first = stop.first first is-first;
   reply_is = refl;
 }
 
@@ -184,9 +182,36 @@ at-end client server facts left answers unanswered S p ends witness written =
       permits = only-permits S client server answers headline.explains;
     }
 
--- a verdict that shows such an answer is the verdict of both streams
-pub refused : {A E : Type 0} (r : Result (Verdict A) E) (client server : List ℕ) (k : ℕ) (class : Class) (command : Option (List ℕ)) (reply : List ℕ)
-    → IsHeadline profile_31_bits client server (No k class) → StopsAt client server k class command reply
-    → IfOk r (λ v. verdict_shown v ≡ bad k class command reply) → IfOk r (λ v. IsVerdict client server (verdict_shown v))
-refused (Ok v) client server k class command reply headline place ok = subst (IsVerdict client server) (sym ok) (record { headline = headline; place = place })
-refused (Err e) client server k class command reply headline place ok = ok
+-- what is so of a judgement is so of a verdict that shows it
+pub told : {A E : Type 0} (r : Result (Verdict A) E) (P : Judgement → Type 0) (j : Judgement) → P j → IfOk r (λ v. verdict_shown v ≡ j) → IfOk r (λ v. P (verdict_shown v))
+told (Ok v) P j p ok = subst P (sym ok) p
+told (Err e) P j p ok = ok
+
+-- an exchange that isn't accepted, with what is shown of it, is a verdict
+pub refused : (client server : List ℕ) (old new : FactsKept) (left behind : Unpaired) (answers : ℕ) (x : Paired) (noted : Noted) (class : Class) → Passed client server old left answers → IsNext left x behind
+    → ((past : List Paired) → Stands old past → IsNoted past x old new noted) → Some class ≡ class_noted noted → (k : ℕ) → k ≡ x.index
+    → (line : Option (List ℕ)) → line ≡ x.line → (initial : List ℕ) → initial ≡ x.initial → IsVerdict client server (bad k class (option_map shown line) (shown initial))
+refused client server old new left behind answers x noted class p next notes judged k at line line-is initial initial-is = record {
+  headline = exchange-right client server old new left behind answers x noted class p next notes judged k at;
+  place = at-exchange client server old left behind answers x noted class p next judged k at line line-is initial initial-is;
+}
+
+-- and so are octets that answer nothing
+pub stopped : (client server : List ℕ) (facts : FactsKept) (left : Unpaired) (answers index : ℕ) (class : PairClass) (line : Option (List ℕ)) (octets first : List ℕ)
+    → Passed client server facts left answers → StopsHere left index class line octets → (of : Class) → of ≡ class_of class → IsFirstLine octets first → IsVerdict client server (bad index of (option_map shown line) (shown first))
+stopped client server facts left answers index class line octets first p stop of of-is is-first = record {
+  headline = octets-right client server facts left answers class p stop.ends index stop.index_is of of-is;
+  place = at-octets client server facts left answers index class line octets first p stop of of-is is-first;
+}
+
+-- what follows of each value from what is so of it
+pub told_of : {T E : Type 0} (r : Result T E) (P Q : T → Type 0) → IfOk r P → ((v : T) → P v → Q v) → IfOk r Q
+told_of (Ok v) P Q p then = then v p
+told_of (Err e) P Q p then = p
+
+-- where a verdict is told it is so of it, and else of what is left
+pub refuses : {A : Type 0} (told : Option (Verdict A)) (v : Verdict A) (N : Type 0) (P : Verdict A → Type 0) → told ≡ Some v → MatchOption told N P → P v
+refuses told v N P is h = subst (λ o. MatchOption o N P) is h
+
+pub passes : {A : Type 0} (told : Option (Verdict A)) (N : Type 0) (P : Verdict A → Type 0) → told ≡ None → MatchOption told N P → N
+passes told N P is h = subst (λ o. MatchOption o N P) is h

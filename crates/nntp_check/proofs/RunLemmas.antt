@@ -29,13 +29,6 @@ verify-reports S is_spool client server spool lent_client lent_server lent_spool
   answer_is = answer-is;
 }
 
--- a report on borrowed streams is one on the streams
-pub lent-reports : (Reports : List ℕ → List ℕ → List ℕ → List ℕ → Bool → Type 0) (client server spool text lent_client lent_server : List ℕ) (answer : Bool) → lent_client ≡ client → lent_server ≡ server
-    → Reports lent_client lent_server spool text answer → Reports client server spool text answer
-lent-reports Reports client server spool text lent_client lent_server answer client-is server-is reports =
-    subst (λ (octets : List ℕ). Reports client octets spool text answer) server-is
-    (subst (λ (octets : List ℕ). Reports octets lent_server spool text answer) client-is reports)
-
 -- a report of which the writer took a front is cut short
 pub cut-short : (Reports : List ℕ → List ℕ → List ℕ → List ℕ → Bool → Type 0) (input : Input) (old new : Option (List ℕ)) (client server spool text lent left : List ℕ) (answer : Bool)
     → ReadsCapture input client server spool → Reports client server spool text answer → lent ≡ text → Wrote old new lent left

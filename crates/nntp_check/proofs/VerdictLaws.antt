@@ -1,5 +1,5 @@
 -- Two streams have one verdict, and it is a yes exactly if some spool explains them.
-use Rattle.std.proofs.Common.{◌≡◌, ◌⊎◌, ◌∙◌, ◌↔◌, sym, ap, subst, refl, ℕ, ◌+◌, suc, Bool, true, false, IsTrue, List, [], ◌∷◌, ◌++◌, length, Option, None, Some, inl, inr, append_assoc}
+use Rattle.std.proofs.Common.{◌≡◌, ◌∙◌, ◌↔◌, sym, ap, subst, ℕ, IsTrue, List, [], ◌∷◌, ◌++◌, length, Option, None, inl, inr, append_assoc}
 use Rattle.std.specs.Option.{option_map}
 use Rattle.nntp_wire.specs.Octets.{crlf}
 use Rattle.nntp_wire.specs.Lines.{HasNoCrlf}
@@ -11,7 +11,7 @@ use Rattle.nntp_article.specs.Spool.{Spool}
 use Rattle.nntp_pair.specs.Pairing.{Paired, Unpaired, AreNext, line_ahead, streams}
 use Rattle.nntp_pair.proofs.NextLemmas.{one-next}
 use Rattle.nntp_facts.specs.declared.class.Class.{Class}
-use Rattle.nntp_facts.specs.Headline.{Headline, Yes, No, IsHeadline}
+use Rattle.nntp_facts.specs.Headline.{Headline, Yes, No}
 use Rattle.nntp_facts.proofs.Headlines.{one_headline, yes_explained}
 use Rattle.nntp_check.specs.Judging.{IsFirstLine, StopsAt, IsVerdict, shown}
 use Rattle.nntp_check.specs.Verdict.{Judgement, consistent, bad, is_consistent}
@@ -27,7 +27,7 @@ same-left (x ∷ pairs) (y ∷ others) a b c e (m, first, more) (n, also, rest) 
     same-left pairs others n b c few (subst (λ (u : Unpaired). AreNext u pairs b) same more) rest
 
 -- a line with CRLF behind it has one
-no-line : (octets line rest : List ℕ) → HasNoCrlf octets → octets ≡ line ++ crlf ++ rest → ⊥
+pub no-line : (octets line rest : List ℕ) → HasNoCrlf octets → octets ≡ line ++ crlf ++ rest → ⊥
 no-line octets line rest none e = none (length line) (subst (λ (o : List ℕ). OccursAt o crlf (length line)) (sym (append_assoc line crlf rest) ∙ sym e) (occurs-behind line crlf rest))
 
 -- octets have one first line

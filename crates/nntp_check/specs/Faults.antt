@@ -2,15 +2,13 @@
 use Rattle.nntp_spool.specs.declared.text.read_fault.Kind.{Kind}
 use Rattle.nntp_spool.specs.declared.text.read_fault.Kind.TheVariants as kinds
 use Rattle.nntp_spool.specs.declared.text.read_fault.ReadFault.{ReadFault}
-use Rattle.nntp_check.specs.declared.capture.CaptureFault.{CaptureFault}
-use Rattle.nntp_check.specs.declared.capture.CaptureFault.TheVariants as pieces
+use Rattle.nntp_check.specs.declared.capture_reader.BadPiece.{BadPiece}
 use Rattle.nntp_check.specs.declared.run_fault.RunFault.{RunFault}
 use Rattle.nntp_check.specs.declared.run_fault.RunFault.TheVariants.{Capture, Spool, Memory}
 
--- a bad piece of the capture, or want of memory
-abbrev pub of_capture : CaptureFault → RunFault
-of_capture (pieces.Piece piece) = Capture piece
-of_capture pieces.Memory = Memory
+-- a bad piece of the capture
+abbrev pub of_capture : BadPiece → RunFault
+of_capture bad = Capture bad.piece
 
 -- want of memory while a text is read is told as such
 abbrev pub of_kind : ReadFault → Kind → RunFault

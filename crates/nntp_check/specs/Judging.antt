@@ -1,9 +1,10 @@
 -- What a verdict on two streams says, and where it stands: at the end of their pairing, or at the exchange or the octets that are bad (RFC 3977, section 3.5).
-use Rattle.std.specs.Prelude.{◌≡◌, ◌≢◌, ◌⊎◌, ℕ, List, [], ◌++◌, Option, None, Some, MatchOption, Ok, length, take}
+use Rattle.std.specs.Prelude.{◌≡◌, ◌≢◌, ◌⊎◌, ℕ, Bool, true, false, IsTrue, ⊤, List, [], ◌++◌, Option, None, Some, MatchOption, Ok, length, take}
 use Rattle.std.specs.Option.{option_map}
 use Rattle.nntp_wire.specs.Octets.{crlf}
 use Rattle.nntp_wire.specs.Lines.{HasNoCrlf}
-use Rattle.nntp_pair.specs.Pairing.{Paired, Unpaired, IsNext, AreNext, IsBad, IsPairing, end, line_ahead, streams}
+use Rattle.nntp_pair.specs.Pairing.{Paired, Unpaired, AreNext, IsBad, Ends, IsPairing, end, bad as pair_end, line_ahead, streams}
+use Rattle.nntp_pair.specs.Feeding.{HasNext}
 use Rattle.nntp_pair.specs.declared.class.PairClass.{PairClass}
 use Rattle.nntp_pair.specs.declared.class.PairClass.TheVariants as pair
 use Rattle.nntp_facts.specs.declared.class.Class.{Class}
@@ -11,6 +12,7 @@ use Rattle.nntp_facts.specs.declared.class.Class.TheVariants.{Surplus, Cut, Malf
 use Rattle.nntp_facts.specs.declared.noted.Noted.{Noted}
 use Rattle.nntp_facts.specs.declared.noted.Noted.TheVariants as noted
 use Rattle.nntp_facts.specs.Headline.{Yes, No, IsHeadline}
+use Rattle.nntp_facts.specs.Noted.{FactsKept, Stands}
 use Rattle.nntp_article.specs.Limit.{profile_31_bits}
 use Rattle.nntp_article.specs.Spool.{Spool}
 use Rattle.nntp_spool.specs.Reading.{spool_at}
@@ -27,10 +29,6 @@ IsFirstLine octets line = HasNoCrlf line × ((octets ≡ line) ⊎ ((rest : List
 -- as much of a line as a verdict shows
 abbrev pub shown : List ℕ → List ℕ
 shown line = take 512 line
-
--- an exchange comes next
-abbrev pub HasNext : Unpaired → Type 0
-HasNext left = (next : Paired) × (behind : Unpaired) × IsNext left next behind
 
 -- the class of octets that answer nothing: the other classes are of an exchange
 abbrev pub pair_class_of : Class → Option PairClass
@@ -86,3 +84,33 @@ pub record IsNo (client server : List ℕ) (answer : ℕ) (class : Class) (comma
 abbrev pub IsVerdict : List ℕ → List ℕ → Judgement → Type 0
 IsVerdict client server (consistent S answers) = IsYes client server S answers
 IsVerdict client server (bad answer class command reply) = IsNo client server answer class command reply
+
+-- so many exchanges have passed, of which the facts are kept, and then this is left
+pub record Passed (client server : List ℕ) (facts : FactsKept) (left : Unpaired) (answers : ℕ) : Type 0 where
+  pub pairs : List Paired
+  pub before : AreNext (streams client server) pairs left
+  pub count : answers ≡ length pairs
+  pub stands : Stands facts pairs
+
+-- the pairing ends here at octets of this class, and these are their index, their line, and octets with their first line
+pub record StopsHere (left : Unpaired) (index : ℕ) (class : PairClass) (line : Option (List ℕ)) (octets : List ℕ) : Type 0 where
+  pub ends : Ends left (pair_end class)
+  pub index_is : index ≡ left.index
+  pub line_is : line ≡ line_ahead left.places
+  pub first : (first : List ℕ) → IsFirstLine octets first → IsFirstLine left.server first
+
+-- the answer of this class is whole
+abbrev pub is_whole : Class → Bool
+is_whole Surplus = false
+is_whole Cut = false
+is_whole class = true
+
+-- a no at a whole answer, which no octets that follow can mend
+abbrev pub IsNoForGood : Judgement → Type 0
+IsNoForGood (consistent S answers) = ⊥
+IsNoForGood (bad answer class command reply) = IsTrue (is_whole class)
+
+-- where octets spell nothing
+abbrev pub OnMalformed : PairClass → Type 0 → Type 0
+OnMalformed pair.Malformed P = P
+OnMalformed class P = ⊤

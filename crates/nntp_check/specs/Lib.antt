@@ -1,8 +1,14 @@
 pub mod Capture
+pub mod CaptureReading
+pub mod Sinks
 pub mod Verdict
 pub mod Judging
 pub mod Report
 pub mod Show
+pub mod Showing
 pub mod Faults
 pub mod Run
 pub mod CommandLine
+pub mod Checking
+pub mod Coded
+pub mod CheckerView

@@ -1,5 +1,5 @@
 -- What a run reads and writes, at any reader and writer: known octets are those of the traits.
-use Rattle.std.specs.Prelude.{◌≡◌, ℕ, ◌≤◌, ◌<◌, Bool, List, length, Option, ⊤}
+use Rattle.std.specs.Prelude.{◌≡◌, ◌⊎◌, ℕ, ◌≤◌, ◌<◌, Bool, List, [], ◌++◌, length, take, Option, ⊤}
 use Rattle.std.specs.Io.KnownBytes.{Appends, Consumes, IsAtEnd}
 use Rattle.nntp_article.specs.Spool.{Spool, IsSpool}
 use Rattle.nntp_pair.specs.Pairing.{Paired, Ending, IsPairing}
@@ -12,7 +12,7 @@ use Rattle.nntp_spool.specs.Writing.{Wrote}
 use Rattle.nntp_spool.specs.declared.text.read_fault.ReadFault.{ReadFault}
 use Rattle.nntp_spool.specs.declared.verification.verified.Verified.{Verified}
 use Rattle.nntp_spool.specs.declared.watched.Watched.{Watched}
-use Rattle.nntp_check.specs.Capture.{AreStreams, IsBadPiece}
+use Rattle.nntp_check.specs.Capture.{AreStreams, BeginsCapture, IsBadPieceForGood, IsBadPiece}
 use Rattle.nntp_check.specs.Judging.{IsVerdict}
 use Rattle.nntp_check.specs.Report.{report_of, verified_report, is_permitted}
 use Rattle.nntp_check.specs.Show.{shown_report, is_end}
@@ -45,11 +45,12 @@ pub record ReadsAll (input : Input) (octets : List ℕ) : Type 0 where
   pub end : IsAtEnd input.after
   pub few : length octets ≤ input.most
 
--- more octets came than may be read
+-- more octets came than may be read, and as many as may be begin a capture
 pub record ReadsMore (input : Input) : Type 0 where
   pub octets : List ℕ
   pub consumed : Consumes input.before input.after octets
   pub many : input.most < length octets
+  pub begun : BeginsCapture (take input.most octets)
 
 -- what was read is a capture of these streams
 pub record ReadsCapture (input : Input) (client server spool : List ℕ) : Type 0 where
@@ -57,11 +58,13 @@ pub record ReadsCapture (input : Input) (client server spool : List ℕ) : Type 
   pub all : ReadsAll input octets
   pub capture : AreStreams octets client server spool
 
--- what was read is no capture: this piece of it is the first that is none
+-- what was read has this bad piece: a front of it, of no more octets than may be, whatever follows; or all of it, if the input ends there
 pub record ReadsBadPiece (input : Input) (piece : ℕ) : Type 0 where
-  pub octets : List ℕ
-  pub all : ReadsAll input octets
-  pub bad : IsBadPiece octets piece
+  pub front : List ℕ
+  pub rest : List ℕ
+  pub consumed : Consumes input.before input.after (front ++ rest)
+  pub few : length front ≤ input.most
+  pub bad : IsBadPieceForGood front piece ⊎ (IsBadPiece front piece × (rest ≡ []) × IsAtEnd input.after)
 
 -- why no capture was read
 abbrev pub IsInputFault : Input → RunFault → Type 0

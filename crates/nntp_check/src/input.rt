@@ -1,51 +1,76 @@
 //! What a run reads: a capture, to its end.
-ghost use Rattle.std.specs.Prelude.{◌≡◌, ◌↔◌, false, true, IfOk, IfErr, IsErrOf};
+ghost use Rattle.std.specs.Prelude.{◌≡◌, ◌↔◌, ◌<◌, [], ℕ, List, length, false, true, IfOk, OnOk, IfErr, IsErrOf};
 ghost use Rattle.nntp_spool.specs.Watched.{has_failed_of};
-ghost use Rattle.nntp_check.specs.Run.{read_by, ReadsAll, ReadsCapture, IsInputFault};
+ghost use Rattle.nntp_check.specs.Run.{read_by, ReadsCapture, IsInputFault};
+ghost use Rattle.nntp_check.specs.Sinks.{FitBehind, PassesOn, StopsBehind};
 
-use crate::capture::{Streams, split};
+use crate::capture_reader::CaptureReader;
 use crate::run_fault::RunFault;
+use crate::sink::Sink;
 use nntp_spool::Watched;
-use std::alloc::Allocator;
 use std::io::Read;
 
-/// Reads to the end, at most `most` octets.
-fn read_all<A: Allocator + Copy, R: Read>(
-    alloc: A,
+/// How many octets are asked for at a read.
+const READ_OCTETS: usize = 1 << 16;
+
+/// Reads the capture that the input has into a sink, at most `most` octets. Behind a fault nothing more is read.
+pub(crate) fn read_capture<R: Read, S: Sink>(
     input: &mut Watched<R>,
+    sink: &mut S,
     most: u64,
-) -> Result<Vec<u8, A>, RunFault>
-    ensures ok { IfOk result (λ bytes. ReadsAll (read_by R.remaining input.old input.new most) bytes.items) }
+) -> Result<(), RunFault>
+    requires { S.stands sink.old [] [] [] }
+    ensures ok { OnOk result ((client : List ℕ) × (server : List ℕ) × (spool : List ℕ) × ReadsCapture (read_by R.remaining input.old input.new most) client server spool × S.stands sink.new client server spool) }
     ensures err { IfErr result (IsInputFault (read_by R.remaining input.old input.new most)) }
     ensures failed { has_failed_of input.old ≡ false → (IsErrOf result RunFault.Read ↔ (has_failed_of input.new ≡ true)) }
 {
-    let mut bytes = Vec::new(alloc);
-    let mut buffer = [0u8; 4096];
+    let mut reader = CaptureReader::new();
+    let mut buffer = [0u8; READ_OCTETS];
+    let mut came = 0u64;
     loop {
         let Ok(count) = input.read(&mut buffer) else {
             return Err(RunFault::Read);
         };
         if count == 0 {
-            return Ok(bytes);
+            reader.finish()?;
+            return Ok(());
         }
-        if most - (bytes.len() as u64) < count as u64 {
+        let fitting = (count as u64).min(most - came);
+        pass_on(&mut reader, sink, &buffer[..fitting as usize])?;
+        if fitting < count as u64 {
             return Err(RunFault::TooLong);
         }
-        bytes.extend_from_slice(&buffer[..count])?;
+        came += fitting;
     }
 }
 
-/// The streams of the capture that the input has.
-pub(crate) fn read_streams<A: Allocator + Copy, R: Read>(
-    alloc: A,
-    input: &mut Watched<R>,
-    most: u64,
-) -> Result<Streams<A>, RunFault>
-    ensures ok { IfOk result (λ s. ReadsCapture (read_by R.remaining input.old input.new most) s.client.items s.server.items s.spool.items) }
-    ensures err { IfErr result (IsInputFault (read_by R.remaining input.old input.new most)) }
-    ensures failed { has_failed_of input.old ≡ false → (IsErrOf result RunFault.Read ↔ (has_failed_of input.new ≡ true)) }
+/// Passes octets of a capture on to a sink, up to the first fault.
+fn pass_on<S: Sink>(reader: &mut CaptureReader, sink: &mut S, octets: &[u8]) -> Result<(), RunFault>
+    requires room { FitBehind reader.old (S.stands sink.old) octets.now }
+    ensures ok { OnOk result (PassesOn reader.old reader.new (S.stands sink.old) (S.stands sink.new) octets.now []) }
+    ensures err { IfErr result (StopsBehind reader.old (S.stands sink.old) octets.now) }
 {
-    let bytes = read_all(alloc, input, most)?;
-    let streams = split(alloc, &bytes)?;
-    Ok(streams)
+    let mut rest = octets;
+    while !rest.is_empty() {
+        rest = pass_front(reader, sink, rest)?;
+    }
+    Ok(())
+}
+
+/// Passes a front of the octets on, and gives the rest.
+fn pass_front<'a, S: Sink>(
+    reader: &mut CaptureReader,
+    sink: &mut S,
+    octets: &'a [u8],
+) -> Result<&'a [u8], RunFault>
+    requires some { 0 < length octets.now }
+    requires room { FitBehind reader.old (S.stands sink.old) octets.now }
+    ensures ok { IfOk result (λ rest. PassesOn reader.old reader.new (S.stands sink.old) (S.stands sink.new) octets.now rest.now × (length rest.now < length octets.now)) }
+    ensures err { IfErr result (StopsBehind reader.old (S.stands sink.old) octets.now) }
+{
+    let taken = reader.take(octets)?;
+    if let Some(source) = taken.source {
+        sink.take(source, taken.octets)?;
+    }
+    Ok(taken.rest)
 }

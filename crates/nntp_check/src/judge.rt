@@ -1,12 +1,15 @@
 //! The verdict on two streams.
-ghost use Rattle.std.specs.Prelude.{◌≡◌, IfOk};
+ghost use Rattle.std.specs.Prelude.{◌≡◌, ℕ, List, [], ◌∷◌, ◌++◌, IfOk, MatchOption, ⊤};
 ghost use Rattle.std.specs.Option.{option_copied, option_map};
-ghost use Rattle.nntp_check.specs.Judging.{IsFirstLine, IsVerdict, class_noted, shown};
+ghost use Rattle.nntp_pair.specs.Pairing.{Unpaired, IsNext, Ends, end};
+ghost use Rattle.nntp_facts.specs.Noted.{Stands, IsDue};
+ghost use Rattle.nntp_witness.specs.Witness.{StandForSome};
+ghost use Rattle.nntp_check.specs.Judging.{IsFirstLine, IsVerdict, Passed, StopsHere, IsNoForGood, OnMalformed, class_noted, shown};
 ghost use Rattle.nntp_check.specs.Verdict.{bad, verdict_shown};
 
 use crate::verdict::Verdict;
 use nntp_facts::{Class, Facts, Noted};
-use nntp_pair::{Pairs, Step};
+use nntp_pair::{Ahead, Exchange, PairClass, Pairs, Step};
 use nntp_wire::split_first_line;
 use nntp_witness::witness;
 use std::alloc::{AllocError, Allocator};
@@ -23,36 +26,99 @@ pub fn check<A: Allocator + Copy>(
 ) -> Result<Verdict<A>, AllocError>
     ensures { IfOk result (λ verdict. IsVerdict client.now server.now (verdict_shown verdict)) }
 {
-    let mut facts = Facts::new(alloc);
+    let mut judge = Judge::new(alloc);
     let mut pairs = Pairs::new(client, server);
-    let mut answers = 0;
     loop {
         match pairs.next() {
             Step::Exchange(exchange) => {
-                let Ok(noted) = facts.note(&exchange) else {
-                    return Err(AllocError);
-                };
-                if let Some(class) = class_of(noted) {
-                    return bad(
-                        alloc,
-                        exchange.index(),
-                        class,
-                        exchange.line(),
-                        exchange.initial(),
-                    );
+                if let Some(verdict) = judge.note(&exchange)? {
+                    return Ok(verdict);
                 }
-                answers = exchange.index() + 1;
             }
-            Step::Bad { index, class } => {
-                let ahead = pairs.ahead();
-                let reply = first_line(ahead.rest);
-                return bad(alloc, index, Class::from(class), ahead.line, reply);
-            }
-            Step::End { .. } => {
-                let spool = witness(alloc, &facts)?;
-                return Ok(Verdict::Consistent { spool, answers });
-            }
+            Step::Bad { index, class } => return judge.stopped(index, class, pairs.ahead()),
+            Step::End { .. } => return judge.ended(),
         }
+    }
+}
+
+/// Judges one exchange after the other. It holds what those say that passed.
+#[derive(Drop)]
+pub(crate) struct Judge<A: Allocator> {
+    alloc: A,
+    facts: Facts<A>,
+    /// How many exchanges passed.
+    answers: u64,
+}
+
+impl<A: Allocator + Copy> Judge<A> {
+    /// No exchange has passed yet. It takes no memory.
+    pub(crate) fn new(alloc: A) -> Judge<A>
+        ensures facts { Stands result.facts [] }
+        ensures answers { result.answers ≡ 0 }
+    {
+        Judge {
+            alloc,
+            facts: Facts::new(alloc),
+            answers: 0,
+        }
+    }
+
+    /// Lets the next exchange pass, if some spool permits it together with those before it. If none does, the
+    /// verdict is that its answer is bad.
+    pub(crate) fn note(&mut self, exchange: &Exchange<'_>) -> Result<Option<Verdict<A>>, AllocError>
+        requires { IsDue self.old.facts exchange.now }
+        ensures judged { IfOk result (λ told. (client server : List ℕ) (left behind : Unpaired)
+            → (before : Passed client server self.old.facts left self.old.answers) → IsNext left exchange.now behind
+            → MatchOption told ((now : Passed client server self.new.facts behind self.new.answers) × (now.pairs ≡ before.pairs ++ exchange.now ∷ []))
+            (λ verdict. IsVerdict client server (verdict_shown verdict))) }
+        ensures for_good { IfOk result (λ told. MatchOption told ⊤ (λ verdict. IsNoForGood (verdict_shown verdict))) }
+    {
+        let Ok(noted) = self.facts.note(exchange) else {
+            return Err(AllocError);
+        };
+        let Some(class) = class_of(noted) else {
+            self.answers = exchange.index() + 1;
+            return Ok(None);
+        };
+        let verdict = bad(
+            self.alloc,
+            exchange.index(),
+            class,
+            exchange.line(),
+            exchange.initial(),
+        )?;
+        Ok(Some(verdict))
+    }
+
+    /// The verdict where octets are left that answer nothing. The index is that of their place, and `ahead` has
+    /// the line that is answered there, and the octets up to the end of their first line or beyond.
+    pub(crate) fn stopped(
+        &self,
+        index: u64,
+        class: PairClass,
+        ahead: Ahead<'_>,
+    ) -> Result<Verdict<A>, AllocError>
+        ensures verdict { IfOk result (λ verdict. (client server : List ℕ) (left : Unpaired)
+            → Passed client server self.now.facts left self.now.answers → StopsHere left index class (option_copied ahead.entry.line) ahead.entry.rest.now
+            → IsVerdict client server (verdict_shown verdict)) }
+        ensures for_good { IfOk result (λ verdict. OnMalformed class (IsNoForGood (verdict_shown verdict))) }
+    {
+        let reply = first_line(ahead.rest);
+        bad(self.alloc, index, Class::from(class), ahead.line, reply)
+    }
+
+    /// The verdict where no octet of the server is left: that the given spool explains both streams.
+    pub(crate) fn ended(&self) -> Result<Verdict<A>, AllocError>
+        requires { StandForSome self.now.facts }
+        ensures { IfOk result (λ verdict. (client server : List ℕ) (left : Unpaired) (unanswered : ℕ)
+            → Passed client server self.now.facts left self.now.answers → Ends left (end unanswered)
+            → IsVerdict client server (verdict_shown verdict)) }
+    {
+        let spool = witness(self.alloc, &self.facts)?;
+        Ok(Verdict::Consistent {
+            spool,
+            answers: self.answers,
+        })
     }
 }
 

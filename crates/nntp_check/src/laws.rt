@@ -1,11 +1,13 @@
 //! Laws of captures: octets are pieces, one after the other, in one way. And of verdicts: two streams
-//! have one, and it is a yes exactly if some spool explains them.
-ghost use Rattle.std.specs.Prelude.{◌≡◌, ◌↔◌, ◌++◌, ◌⊎◌, ℕ, List, IsTrue};
+//! have one, and it is a yes exactly if some spool explains them; and what is bad for good stays so.
+ghost use Rattle.std.specs.Prelude.{◌≡◌, ◌↔◌, ◌++◌, ◌⊎◌, ℕ, List, Option, is_some, IsTrue};
 ghost use Rattle.nntp_article.specs.Explains.{Explains};
 ghost use Rattle.nntp_article.specs.Limit.{profile_31_bits};
 ghost use Rattle.nntp_article.specs.Spool.{Spool};
-ghost use Rattle.nntp_check.specs.Capture.{AreStreams, IsBadPiece, IsCapture, IsPiece, Part, spelled};
+ghost use Rattle.nntp_check.specs.Capture.{AreStreams, BeginsCapture, IsBadPieceForGood, IsBadPiece, IsCapture, IsPiece, Part, spelled};
+ghost use Rattle.nntp_check.specs.Checking.{IsBadForGood, IsToldBad};
 ghost use Rattle.nntp_check.specs.Judging.{IsVerdict};
+ghost use Rattle.nntp_facts.specs.declared.class.Class.{Class};
 ghost use Rattle.nntp_check.specs.Verdict.{Judgement, is_consistent};
 
 /// Octets begin with one piece.
@@ -36,6 +38,16 @@ pub fn one_bad_piece()
     ensures { (octets : List ℕ) (number other : ℕ) → IsBadPiece octets number → IsBadPiece octets other → number ≡ other }
 {}
 
+/// Octets begin a capture, or a piece of theirs is bad whatever follows.
+pub fn begun_or_bad()
+    ensures { (octets : List ℕ) → BeginsCapture octets ⊎ ((number : ℕ) × IsBadPieceForGood octets number) }
+{}
+
+/// A piece that is bad whatever follows stays bad, and the octets begin no capture.
+pub fn bad_piece_for_good()
+    ensures { (octets : List ℕ) (number : ℕ) → IsBadPieceForGood octets number → ((more : List ℕ) → IsBadPieceForGood (octets ++ more) number) × (¬ (BeginsCapture octets)) }
+{}
+
 /// Two streams have one verdict.
 pub fn one_verdict()
     ensures { (client server : List ℕ) (verdict other : Judgement) → IsVerdict client server verdict → IsVerdict client server other → verdict ≡ other }
@@ -45,4 +57,17 @@ pub fn one_verdict()
 pub fn yes_where_a_spool_explains()
     ensures { (client server : List ℕ) (verdict : Judgement) → IsVerdict client server verdict
         → IsTrue (is_consistent verdict) ↔ ((S : Spool) × (n : ℕ) × Explains profile_31_bits S client server n) }
+{}
+
+/// An answer that is bad for good is so whatever octets follow.
+pub fn bad_for_good_stays()
+    ensures { (client server client_more server_more : List ℕ) (answer : ℕ) (class : Class)
+        → IsBadForGood client server answer class → IsBadForGood (client ++ client_more) (server ++ server_more) answer class }
+{}
+
+/// What may be told of two streams as bad is one thing; and where an answer is told, it is told whatever octets follow.
+pub fn one_is_told_bad()
+    ensures one { (client server : List ℕ) (told other : Option (ℕ × Class)) → IsToldBad client server told → IsToldBad client server other → told ≡ other }
+    ensures stays { (client server client_more server_more : List ℕ) (told other : Option (ℕ × Class)) → IsTrue (is_some told)
+        → IsToldBad client server told → IsToldBad (client ++ client_more) (server ++ server_more) other → other ≡ told }
 {}

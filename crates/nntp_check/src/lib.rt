@@ -1,12 +1,16 @@
 //! Judges recorded NNTP sessions: whether one fixed spool explains all that a server answered.
 //!
-//! `check` judges the two streams of a session. `run_check` judges those of a capture and writes the
-//! report on them; `run_verify` tells whether the spool of a capture explains its session; `run_show`
-//! writes the session as a reader sees it. `job` and `status` are the program's command line and its
-//! exit status.
+//! `check` judges the two streams of a session, and `Checker` judges them as they come. `run_check`
+//! judges those of a capture and writes the report on them; `run_verify` tells whether the spool of a
+//! capture explains its session; `run_show` writes the session as a reader sees it. `job` and `status`
+//! are the program's command line and its exit status.
 #![tactic(auto)]
 
 mod capture;
+mod capture_reader;
+mod check_error;
+mod checker;
+mod checker_sink;
 mod command_line;
 mod input;
 mod judge;
@@ -16,8 +20,13 @@ mod report;
 mod run;
 mod run_fault;
 mod show;
+mod shower;
+mod sink;
+mod streams;
 mod verdict;
 
+pub use check_error::CheckError;
+pub use checker::Checker;
 pub use command_line::{Failure, Task, job, status};
 pub use judge::check;
 pub use nntp_facts::Class;

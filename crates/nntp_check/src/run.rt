@@ -1,17 +1,24 @@
 //! Runs: what one reads is a capture, and what it writes is the report on it.
-ghost use Rattle.std.specs.Prelude.{◌≡◌, ◌≢◌, ◌↔◌, ◌||◌, false, true, is_err, IfOk, IfErr, IsErrOf};
+ghost use Rattle.std.specs.Prelude.{◌≡◌, ◌≢◌, ◌↔◌, ◌||◌, ℕ, List, false, true, is_err, IfOk, IfErr, IsErrOf};
 ghost use Rattle.nntp_spool.specs.Watched.{inner_of, has_failed_of};
 ghost use Rattle.nntp_spool.specs.Writing.{Writes};
+ghost use Rattle.nntp_check.specs.CheckerView.{checked};
+ghost use Rattle.nntp_check.specs.Checking.{StandsFor};
+ghost use Rattle.nntp_check.specs.Judging.{IsVerdict};
 ghost use Rattle.nntp_check.specs.Report.{is_permitted};
+ghost use Rattle.nntp_check.specs.Verdict.{verdict_shown};
 ghost use Rattle.nntp_check.specs.Run.{read_by, written_by, CheckReports, VerifyReports, ShowReports, IsReported, IsCheckFault, IsVerifyFault, IsShowFault};
 
-use crate::input::read_streams;
-use crate::judge::check;
+use crate::check_error::CheckError;
+use crate::checker::Checker;
+use crate::input::read_capture;
 use crate::report::{report, verified_report};
 use crate::run_fault::RunFault;
-use crate::show::show;
+use crate::shower::Shower;
+use crate::streams::Streams;
+use crate::verdict::Verdict;
 use nntp_spool::{Spool, Verified, Watched, WriteFault, put, verify};
-use std::alloc::Allocator;
+use std::alloc::{AllocError, Allocator};
 use std::io::{Read, Write};
 
 /// Writes the text, and then flushes once.
@@ -36,10 +43,22 @@ fn is_permitted(verified: Verified) -> bool
     }
 }
 
-/// Judges the session of the capture that the input has, and writes the report on it: the answer is
-/// whether the session is consistent. It reads to the input's end, at most `most` octets, and passes
-/// over spool pieces. The whole report is made before its first octet is written; one flush follows
-/// the last.
+/// The verdict on all that came to a checker to which no memory was refused.
+fn verdict<A: Allocator + Copy>(checker: Checker<A>) -> Result<Verdict<A>, AllocError>
+    requires { (client : List ℕ) × (server : List ℕ) × StandsFor (checked checker) client server }
+    ensures { IfOk result (λ verdict. (client server : List ℕ) → StandsFor (checked checker) client server → IsVerdict client server (verdict_shown verdict)) }
+{
+    match checker.finish() {
+        Ok(verdict) => Ok(verdict),
+        Err(CheckError::Memory) => Err(AllocError),
+        Err(CheckError::Failed | CheckError::TooLong) => unreachable!(),
+    }
+}
+
+/// Judges the session of the capture that the input has, as it comes, and writes the report on it: the
+/// answer is whether the session is consistent. It reads to the input's end, behind a bad answer too, at
+/// most `most` octets, and passes over spool pieces; at the first fault it ends. The whole report is made
+/// before its first octet is written; one flush follows the last.
 pub fn run_check<A: Allocator + Copy, R: Read, W: Write>(
     alloc: A,
     input: &mut Watched<R>,
@@ -56,8 +75,9 @@ pub fn run_check<A: Allocator + Copy, R: Read, W: Write>(
     ensures read_failed { has_failed_of input.old ≡ false → (IsErrOf result RunFault.Read ↔ (has_failed_of input.new ≡ true)) }
     ensures write_failed { has_failed_of output.old ≡ false → (IsErrOf result RunFault.Write ↔ (has_failed_of output.new ≡ true)) }
 {
-    let streams = read_streams(alloc, input, most)?;
-    let verdict = check(alloc, &streams.client, &streams.server)?;
+    let mut checker = Checker::new(alloc);
+    read_capture(input, &mut checker, most)?;
+    let verdict = verdict(checker)?;
     let text = report(alloc, &verdict)?;
     print(&text, output)?;
     Ok(verdict.is_consistent())
@@ -82,7 +102,8 @@ pub fn run_verify<A: Allocator + Copy, R: Read, W: Write>(
     ensures read_failed { has_failed_of input.old ≡ false → (IsErrOf result RunFault.Read ↔ (has_failed_of input.new ≡ true)) }
     ensures write_failed { has_failed_of output.old ≡ false → (IsErrOf result RunFault.Write ↔ (has_failed_of output.new ≡ true)) }
 {
-    let streams = read_streams(alloc, input, most)?;
+    let mut streams = Streams::new(alloc);
+    read_capture(input, &mut streams, most)?;
     let spool = Spool::read(alloc, &streams.spool)?;
     let verified = verify(alloc, &spool, &streams.client, &streams.server)?;
     let text = verified_report(alloc, verified)?;
@@ -108,8 +129,9 @@ pub fn run_show<A: Allocator + Copy, R: Read, W: Write>(
     ensures read_failed { has_failed_of input.old ≡ false → (IsErrOf result RunFault.Read ↔ (has_failed_of input.new ≡ true)) }
     ensures write_failed { has_failed_of output.old ≡ false → (IsErrOf result RunFault.Write ↔ (has_failed_of output.new ≡ true)) }
 {
-    let streams = read_streams(alloc, input, most)?;
-    let shown = show(alloc, &streams.client, &streams.server)?;
+    let mut shower = Shower::new(alloc);
+    read_capture(input, &mut shower, most)?;
+    let shown = shower.finish()?;
     print(&shown.text, output)?;
     Ok(shown.is_answered)
 }

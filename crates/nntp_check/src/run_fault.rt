@@ -3,7 +3,7 @@ ghost use Rattle.std.specs.Prelude.{◌≡◌};
 ghost use Rattle.nntp_check.specs.Faults.{of_capture, of_text};
 ghost use Rattle.nntp_check.specs.declared.run_fault.RunFault.TheVariants.{Memory, Write};
 
-use crate::capture::CaptureFault;
+use crate::capture_reader::BadPiece;
 use nntp_spool::{Kind, ReadFault, WriteFault};
 use std::alloc::AllocError;
 use thiserror::Error;
@@ -49,14 +49,11 @@ impl From<WriteFault> for RunFault {
     }
 }
 
-impl From<CaptureFault> for RunFault {
-    ghost from_gives = { λ fault result. result ≡ of_capture fault };
+impl From<BadPiece> for RunFault {
+    ghost from_gives = { λ bad fault. fault ≡ of_capture bad };
 
-    fn from(fault: CaptureFault) -> RunFault {
-        match fault {
-            CaptureFault::Piece(piece) => RunFault::Capture { piece },
-            CaptureFault::Memory => RunFault::Memory,
-        }
+    fn from(bad: BadPiece) -> RunFault {
+        RunFault::Capture { piece: bad.piece }
     }
 }
 

@@ -1,68 +1,20 @@
-//! A session as a reader sees it: its exchanges, and what their answers say of groups and articles.
-ghost use Rattle.std.specs.Prelude.{◌≡◌, ◌++◌, List, ℕ, map, IfOk, OnOk};
+//! An exchange as a reader sees it: its line, and what its answer says of groups and articles.
+ghost use Rattle.std.specs.Prelude.{◌≡◌, ◌++◌, map, OnOk};
 ghost use Rattle.std.specs.List.{flat_map};
 ghost use Rattle.std.specs.Option.{option_copied};
 ghost use Rattle.nntp_wire.specs.AnswerView.{response};
 ghost use Rattle.nntp_article.specs.Control.{new_group, other};
 ghost use Rattle.nntp_article.specs.View.{control_value};
-ghost use Rattle.nntp_check.specs.Run.{ShowReports};
 ghost use Rattle.nntp_check.specs.Show.{exchange_text, exchange_line, prompt_text, under, under_article, under_head, control_line, missing_line, missing_names, is_one_missing, word_if, end_line};
 
 use crate::printing::{put_escaped, put_escaped_line, put_number};
-use crate::report::put_bad_line;
 use nntp_article::{Control, Head, Missing, Parts, control, missing};
-use nntp_facts::Class;
-use nntp_pair::{Exchange, Pairs, Step};
+use nntp_pair::Exchange;
 use nntp_wire::{Answer, Block};
 use std::alloc::{AllocError, Allocator};
 
-/// What is shown of a session.
-#[derive(Drop)]
-pub(crate) struct Shown<A: Allocator> {
-    /// The report, whole.
-    pub text: Vec<u8, A>,
-    /// Whether all octets of the server are answers.
-    pub is_answered: bool,
-}
-
-/// Shows the exchanges of the octets that a client and a server sent, and how their pairing ends.
-pub(crate) fn show<A: Allocator + Copy>(
-    alloc: A,
-    client: &[u8],
-    server: &[u8],
-) -> Result<Shown<A>, AllocError>
-    // Whatever the text of a spool is.
-    ensures { IfOk result (λ shown. (spool : List ℕ) → ShowReports client.now server.now spool shown.text.items shown.is_answered) }
-{
-    let mut text = Vec::new(alloc);
-    let mut pairs = Pairs::new(client, server);
-    let mut answers = 0;
-    loop {
-        match pairs.next() {
-            Step::Exchange(exchange) => {
-                put_exchange(alloc, &mut text, &exchange)?;
-                answers = exchange.index() + 1;
-            }
-            Step::Bad { index, class } => {
-                put_bad_line(&mut text, index, Class::from(class))?;
-                return Ok(Shown {
-                    text,
-                    is_answered: false,
-                });
-            }
-            Step::End { unanswered } => {
-                put_end(&mut text, answers, unanswered)?;
-                return Ok(Shown {
-                    text,
-                    is_answered: true,
-                });
-            }
-        }
-    }
-}
-
 /// Adds the last line, where no octet of the server is left.
-fn put_end<A: Allocator + Copy>(
+pub(crate) fn put_end<A: Allocator + Copy>(
     text: &mut Vec<u8, A>,
     answers: u64,
     unanswered: u64,
@@ -76,7 +28,7 @@ fn put_end<A: Allocator + Copy>(
 }
 
 /// Adds an exchange: its line, and what its answer says.
-fn put_exchange<A: Allocator + Copy>(
+pub(crate) fn put_exchange<A: Allocator + Copy>(
     alloc: A,
     text: &mut Vec<u8, A>,
     exchange: &Exchange<'_>,

@@ -16,7 +16,7 @@ use Rattle.nntp_pair.specs.Pairing.{IsCut, IsMalformed}
 use Rattle.nntp_facts.proofs.Prompts.{prompts_joined, spelled_longer, run_longer, run_shorter, spelled_count, visible_longer, asked_longer, asked_count}
 use Rattle.nntp_facts.specs.declared.class.Class.{Class}
 use Rattle.nntp_facts.specs.declared.class.Class.TheVariants.{Surplus, Cut, Malformed, OutOfPlace, Contradiction}
-use Rattle.nntp_facts.specs.Classes.{visible_from, asked_next, AnswersFirst, BeginsWithAnswer, IsOpenClass, IsClass, left_visible, HasClass, IsSettled}
+use Rattle.nntp_facts.specs.Classes.{visible_from, asked_next, AnswersFirst, BeginsWithAnswer, IsOpenClass, IsClass, left_visible, HasClass, IsClosedBefore, IsSettled}
 
 -- ---- one answer more
 
@@ -233,6 +233,24 @@ class_longer false profile v ps qs answers octets more class s h = by (asked_nex
     by : (next : Option Asked) → asked_next ps answers ≡ next → IsClass false profile v next octets class → IsClass false profile v (asked_next (ps ++ qs) answers) (octets ++ more) class
     by None e h = absurd (not_open class h s)
     by (Some asked) e h = subst (λ next. IsClass false profile v next (octets ++ more) class) (sym (asked_longer ps qs answers asked e)) (open_longer profile v asked octets more class s h)
+
+-- a connection that is closed before an answer stays so
+closed_longer : (client server more_client more_server : List ℕ) (k : ℕ) → IsClosedBefore client server k → IsClosedBefore (client ++ more_client) (server ++ more_server) k
+unfolding before_longer
+closed_longer client server more_client more_server k c =
+    let b = c.before in
+    let q = prompts_joined client more_client in
+    let same : visible_from start.visible (prompts_of (client ++ more_client)) b.answers ≡ left_visible client server k b =
+    ap (λ ps. visible_from start.visible ps b.answers) q.1 ∙ visible_longer start.visible (prompts_of client) q.0 b.answers (spelled_count (prompts_of client) b.answers b.octets b.spelled) in
+    record { before = before_longer client server more_client more_server k b; closed = ap (λ (v : Visible). v.closed) same ∙ c.closed }
+
+-- and a settled class stays settled
+pub settled_stays : (client server more_client more_server : List ℕ) (k : ℕ) (class : Class) → IsSettled client server k class → IsSettled (client ++ more_client) (server ++ more_server) k class
+settled_stays client server more_client more_server k Surplus s = closed_longer client server more_client more_server k s
+settled_stays client server more_client more_server k Cut s = s
+settled_stays client server more_client more_server k Malformed s = s
+settled_stays client server more_client more_server k OutOfPlace s = s
+settled_stays client server more_client more_server k Contradiction s = s
 
 -- below, answer k is bad, of a settled class
 module _ (profile : Profile) (client server more_client more_server : List ℕ) (k : ℕ) (class : Class) (h : HasClass profile client server k class) (s : IsSettled client server k class) where

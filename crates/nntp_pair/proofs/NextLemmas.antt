@@ -61,7 +61,7 @@ awaited : (a b : Unpaired) (x : Paired) (place : Option (List ℕ)) → IsNext a
 awaited a b x place next awaits = let places : x.line ∷ b.places ≡ place ∷ awaits.places = sym next.place ∙ awaits.first in cc
 
 -- one place is awaited
-one-awaited : (a : Unpaired) (place other : Option (List ℕ)) → Awaits a place → Awaits a other → place ≡ other
+pub one-awaited : (a : Unpaired) (place other : Option (List ℕ)) → Awaits a place → Awaits a other → place ≡ other
 one-awaited a place other p q = let places : place ∷ p.places ≡ other ∷ q.places = sym p.first ∙ q.first in cc
 
 -- where a pair comes next, nothing is bad

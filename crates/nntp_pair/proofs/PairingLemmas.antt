@@ -65,11 +65,11 @@ one-pairing client server pairs others ending other p q =
     (one.0, one-end ending other q.left (subst (λ u. Ends u ending) one.1 p.ends) q.ends)
 
 -- a frame stays with octets behind it
-frame-more : (place : Option (List ℕ)) (server line : List ℕ) (block : Option (List ℕ)) (rest octets : List ℕ) → HasFrame (asked_at place) server line block rest → HasFrame (asked_at place) (server ++ octets) line block (rest ++ octets)
+pub frame-more : (place : Option (List ℕ)) (server line : List ℕ) (block : Option (List ℕ)) (rest octets : List ℕ) → HasFrame (asked_at place) server line block rest → HasFrame (asked_at place) (server ++ octets) line block (rest ++ octets)
 frame-more place server line block rest octets f =
     record { whole = ap (λ t. t ++ octets) f.whole ∙ append_assoc (frame_octets line block) rest octets; is_line = f.is_line; due = f.due; before_dot_line = f.before_dot_line }
 
-next-more : (places : List (Option (List ℕ))) (octets : List ℕ) (a b : Unpaired) (x : Paired) → IsNext a x b → IsNext (with_more places octets a) x (with_more places octets b)
+pub next-more : (places : List (Option (List ℕ))) (octets : List ℕ) (a b : Unpaired) (x : Paired) → IsNext a x b → IsNext (with_more places octets a) x (with_more places octets b)
 next-more places octets a b x next =
     record {
       index = next.index;
@@ -102,7 +102,7 @@ awaits-more : (places : List (Option (List ℕ))) (octets : List ℕ) (left : Un
 awaits-more places octets left place awaits = record { is_open = awaits.is_open; places = awaits.places ++ places; first = ap (λ p. p ++ places) awaits.first }
 
 -- what no octets can mend stays bad
-bad-stays : (class : PairClass) (places : List (Option (List ℕ))) (octets : List ℕ) (left : Unpaired) → IsLasting class left → IsBad class left → IsBad class (with_more places octets left)
+pub bad-stays : (class : PairClass) (places : List (Option (List ℕ))) (octets : List ℕ) (left : Unpaired) → IsLasting class left → IsBad class left → IsBad class (with_more places octets left)
 bad-stays Surplus places octets left lasting why = inl lasting
 bad-stays Cut places octets left lasting why = absurd lasting
 bad-stays Malformed places octets left lasting (place, awaits, why) = (
@@ -111,7 +111,7 @@ bad-stays Malformed places octets left lasting (place, awaits, why) = (
   record { initial = why.initial; block = why.block; rest = why.rest ++ octets; frame = frame-more place left.server why.initial why.block why.rest octets why.frame; nothing = why.nothing },
 )
 
-some-stay : (octets more : List ℕ) → octets ≢ [] → octets ++ more ≢ []
+pub some-stay : (octets more : List ℕ) → octets ≢ [] → octets ++ more ≢ []
 some-stay [] more some none = some refl
 some-stay (b ∷ octets) more some none = cc
 

@@ -1,2 +1,4 @@
 pub mod Pairing
 pub mod Step
+pub mod Feeding
+pub mod Searching

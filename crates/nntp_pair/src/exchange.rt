@@ -1,16 +1,17 @@
 //! A response with what it answers.
-ghost use Rattle.std.specs.Prelude.{◌≡◌, ◌<◌, ◌^◌, MatchResult};
+ghost use Rattle.std.specs.Prelude.{◌≡◌, ◌<◌, ◌^◌, drop, MatchResult};
 ghost use Rattle.std.specs.Option.{option_copied};
 ghost use Rattle.nntp_wire.specs.AnswerView.{response};
+ghost use Rattle.nntp_wire.specs.Frame.{HasFrame};
 ghost use Rattle.nntp_wire.specs.Session.{closes};
 ghost use Rattle.nntp_wire.specs.View.{asked};
-ghost use Rattle.nntp_pair.specs.Pairing.{IsAnswered, IsUnanswered, IsSpelled, asked_at, lines_in};
+ghost use Rattle.nntp_pair.specs.Pairing.{IsAnswered, IsUnanswered, IsMalformed, IsSpelled, asked_at, lines_in};
 
 use crate::class::PairClass;
-use nntp_wire::{Answer, Command, Prompt, frame};
+use nntp_wire::{Answer, Command, Frame, Malformed, Prompt, frame};
 use std::marker::Model;
 
-/// A response of the server with what it answers. `Pairs::next` alone makes one.
+/// A response of the server with what it answers. Only `Pairs::next` and `Feed::peek` make one.
 #[derive(Drop)]
 pub struct Exchange<'a> {
     index: u64,
@@ -35,7 +36,7 @@ impl<'a> Model for Exchange<'a> {
 }
 
 /// What is answered at a place.
-fn prompt_at<'a>(line: Option<&'a [u8]>) -> Prompt<'a>
+pub(crate) fn prompt_at<'a>(line: Option<&'a [u8]>) -> Prompt<'a>
     ensures { asked result ≡ asked_at (option_copied line.entry) }
 {
     match line {
@@ -60,19 +61,39 @@ impl<'a> Exchange<'a> {
         let Some(frame) = frame(&prompt, server) else {
             return Err(PairClass::Cut);
         };
-        let Ok(answer) = Answer::parse(&prompt, &frame) else {
-            return Err(PairClass::Malformed);
-        };
         let (_, rest) = server.split_at(frame.len());
+        match Exchange::of_frame(index, line, prompt, &frame, server) {
+            Ok(exchange) => Ok((exchange, rest)),
+            Err(Malformed) => Err(PairClass::Malformed),
+        }
+    }
+
+    /// The exchange at a place, of which the response has this frame, at the front of the server's octets.
+    pub(crate) fn of_frame(
+        index: u64,
+        line: Option<&'a [u8]>,
+        prompt: Prompt<'a>,
+        frame: &Frame<'a>,
+        server: &'a [u8],
+    ) -> Result<Exchange<'a>, Malformed>
+        requires index { index < 2 ^ 63 }
+        requires prompt { asked prompt ≡ asked_at (option_copied line) }
+        requires frame { HasFrame (asked_at (option_copied line)) server.now frame.now.initial frame.now.block (drop frame.now.len server.now) }
+        ensures { MatchResult result
+            (λ e. (e.index ≡ index) × (e.line ≡ option_copied line.entry) × IsAnswered (option_copied line.entry) server.now e.initial e.response (drop frame.now.len server.now))
+            (λ error. IsMalformed (asked_at (option_copied line.entry)) server.now) }
+    {
+        let Ok(answer) = Answer::parse(&prompt, frame) else {
+            return Err(Malformed);
+        };
         let initial = frame.initial();
-        let exchange = Exchange {
+        Ok(Exchange {
             index,
             line,
             initial,
             prompt,
             answer,
-        };
-        Ok((exchange, rest))
+        })
     }
 
     /// Its place in the session: 0 is the greeting's, k that of the client's k-th line. Less than 2^63.

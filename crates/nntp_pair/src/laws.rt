@@ -1,8 +1,12 @@
 //! Laws of pairings, and of octets that are spellings one after the other.
-ghost use Rattle.std.specs.Prelude.{◌≡◌, ℕ, List, [], ◌++◌, Option, length, map, drop};
+ghost use Rattle.std.specs.Prelude.{◌≡◌, ◌≢◌, ℕ, List, [], ◌++◌, Option, length, map, drop};
 ghost use Rattle.nntp_wire.specs.Answer.{Response};
 ghost use Rattle.nntp_wire.specs.Session.{prompts_of, AreSpelled, StaysOpen};
 ghost use Rattle.nntp_pair.specs.declared.class.PairClass.{PairClass};
+ghost use Rattle.nntp_pair.specs.declared.peek.Peek.{Peek};
+ghost use Rattle.nntp_pair.specs.declared.peek.Peek.TheVariants.{Nothing};
+ghost use Rattle.nntp_pair.specs.declared.ending.Ending.TheVariants.{End, Bad};
+ghost use Rattle.nntp_pair.specs.Feeding.{Fed, IsFed, IsPeek, IsEnding, left_of, with_client, with_server};
 ghost use Rattle.nntp_pair.specs.Pairing.{Paired, Unpaired, IsNext, AreNext, Ending, end, bad, Ends, IsPairing, IsLasting, HasPairs, responses_of, asked_at, places_of, streams, with_more};
 
 /// One pair comes next, and then one thing is left.
@@ -88,4 +92,33 @@ pub fn bad_end_is_unspelled()
     ensures { (client server : List ℕ) (pairs : List Paired) (class : PairClass) (responses : List Response)
         → IsPairing client server pairs (bad class) → StaysOpen (prompts_of client) responses
         → ¬ (AreSpelled (prompts_of client) responses server []) }
+{}
+
+/// What a feed tells is determined by what it holds.
+pub fn one_peek()
+    ensures { (fed : Fed) (peek other : Peek) → IsPeek fed peek → IsPeek fed other → peek ≡ other }
+{}
+
+/// With more octets of both streams it tells the same, unless it told that nothing waits.
+pub fn peek_stays()
+    ensures { (fed : Fed) (client_more server_more : List ℕ) (peek : Peek) → IsPeek fed peek → peek ≢ Nothing
+        → IsPeek (with_server server_more (with_client client_more fed)) peek }
+{}
+
+/// The pairs that a feed has passed are the first of the pairing of what came, what it holds is left, and its index counts them.
+pub fn fed_is_paired()
+    ensures { (fed : Fed) (client server : List ℕ) (pairs : List Paired) → IsFed fed client server pairs
+        → AreNext (streams client server) pairs (left_of fed) × (fed.index ≡ length pairs) }
+{}
+
+/// Where a feed ends with no octet left, these pairs are the pairing of what came.
+pub fn end_of_a_feed()
+    ensures { (fed : Fed) (client server : List ℕ) (pairs : List Paired) (unanswered : ℕ) → IsFed fed client server pairs
+        → IsEnding fed (End unanswered) → IsPairing client server pairs (end unanswered) }
+{}
+
+/// And so they are where it ends at octets that answer nothing: those of the place behind the pairs.
+pub fn bad_end_of_a_feed()
+    ensures { (fed : Fed) (client server : List ℕ) (pairs : List Paired) (index : ℕ) (class : PairClass) → IsFed fed client server pairs
+        → IsEnding fed (Bad index class) → IsPairing client server pairs (bad class) × (index ≡ length pairs) }
 {}

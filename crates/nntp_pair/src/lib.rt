@@ -1,18 +1,29 @@
 //! Pairing: which response of the server answers which line of the client (RFC 3977, section 3.5).
 //!
 //! `Pairs` goes over both recorded streams. Each step is an exchange, or how the pairing ends.
+//! `Feed` tells the same of streams that come in pieces.
 #![tactic(auto)]
 
+mod buffer;
 mod class;
+mod ending;
 mod exchange;
+mod feed;
 pub mod laws;
+mod pair_error;
 mod pairs;
+mod peek;
 mod places;
+mod searches;
 mod step;
 #[cfg(test)]
 mod tests;
 
 pub use class::PairClass;
+pub use ending::Ending;
 pub use exchange::Exchange;
+pub use feed::Feed;
+pub use pair_error::PairError;
 pub use pairs::{Ahead, Pairs};
+pub use peek::Peek;
 pub use step::Step;

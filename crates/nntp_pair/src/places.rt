@@ -63,7 +63,7 @@ impl<'a> Places<'a> {
 }
 
 /// How many lines a stream has.
-fn count_lines(stream: &[u8]) -> u64
+pub(crate) fn count_lines(stream: &[u8]) -> u64
     ensures { result ≡ length (lines_of_stream stream.now) }
 {
     let mut count = 0;

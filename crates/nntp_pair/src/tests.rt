@@ -1,4 +1,6 @@
 //! Worked rows: what the definition of a pairing is meant to say.
+mod feeds;
+
 use crate::{PairClass, Pairs, Step};
 use nntp_wire::{Answer, Command, Prompt};
 use std::process::Abort;

@@ -7,6 +7,8 @@ use std::io::{Read, Write};
 /// Gives its octets a few at a read, and fails at the read of this number, counted from 1.
 #[derive(Drop)]
 pub(crate) struct FakeReader<'a> {
+    /// The octets that come first. No read gives some of them and some of those behind.
+    front: &'a [u8],
     left: &'a [u8],
     most: usize,
     reads: u64,
@@ -19,10 +21,16 @@ impl<'a> Read for FakeReader<'a> {
         if self.reads == self.fails_at {
             return Err(io::Error::from(io::ErrorKind::Interrupted));
         }
-        let count = self.left.len().min(buf.len()).min(self.most);
-        let (front, rest) = self.left.split_at(count);
-        buf[..count].copy_from_slice(front);
-        self.left = rest;
+        let is_cut = !self.front.is_empty();
+        let octets = if is_cut { self.front } else { self.left };
+        let count = octets.len().min(buf.len()).min(self.most);
+        let (given, rest) = octets.split_at(count);
+        buf[..count].copy_from_slice(given);
+        if is_cut {
+            self.front = rest;
+        } else {
+            self.left = rest;
+        }
         Ok(count)
     }
 }
@@ -30,6 +38,7 @@ impl<'a> Read for FakeReader<'a> {
 /// Gives these octets, `most` at a read. It fails at no read where `fails_at` is 0.
 pub(crate) fn reader(left: &[u8], most: usize, fails_at: u64) -> Watched<FakeReader<'_>> {
     Watched::new(FakeReader {
+        front: &[],
         left,
         most,
         reads: 0,
@@ -37,15 +46,39 @@ pub(crate) fn reader(left: &[u8], most: usize, fails_at: u64) -> Watched<FakeRea
     })
 }
 
-/// Gives octets for ever.
-#[derive(Drop)]
-pub(crate) struct EndlessReader;
+/// Gives these octets in two reads, the first of which ends at this place.
+pub(crate) fn cut_reader(octets: &[u8], at: usize) -> Watched<FakeReader<'_>> {
+    let (front, left) = octets.split_at(at.min(octets.len()));
+    Watched::new(FakeReader {
+        front,
+        left,
+        most: octets.len(),
+        reads: 0,
+        fails_at: 0,
+    })
+}
 
-impl Read for EndlessReader {
+/// Gives a front, and then one octet for ever.
+#[derive(Drop)]
+pub(crate) struct EndlessReader<'a> {
+    front: &'a [u8],
+    octet: u8,
+}
+
+impl<'a> Read for EndlessReader<'a> {
     fn read(&mut self, buf: &mut [u8]) -> io::Result<usize> {
-        buf.fill(b'x');
+        let count = self.front.len().min(buf.len());
+        let (front, rest) = self.front.split_at(count);
+        buf.fill(self.octet);
+        buf[..count].copy_from_slice(front);
+        self.front = rest;
         Ok(buf.len())
     }
+}
+
+/// Gives the front, and then the octet for ever.
+pub(crate) fn endless_reader(front: &[u8], octet: u8) -> Watched<EndlessReader<'_>> {
+    Watched::new(EndlessReader { front, octet })
 }
 
 /// What a full sink does.

@@ -3,6 +3,8 @@
 #![tactic(auto)]
 
 #[cfg(test)]
+mod checkers;
+#[cfg(test)]
 mod command_lines;
 #[cfg(test)]
 mod fakes;

@@ -1,5 +1,6 @@
 //! Want of memory: each request of a call refused in turn.
 mod articles;
+mod checkers;
 mod runs;
 mod spools;
 mod verdicts;

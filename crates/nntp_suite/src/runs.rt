@@ -1,7 +1,7 @@
 //! Runs over captures, by readers and writers that give and take a little or fail.
-use crate::fakes::{EndlessReader, Full, reader, writer};
+use crate::fakes::{Full, cut_reader, endless_reader, reader, writer};
 use nntp_check::{Failure, RunFault, Task, Watched, run_check, run_show, run_verify, status};
-use std::alloc::Global;
+use std::alloc::{AllocError, Global};
 use std::io::{Read, Write};
 use std::process::Abort;
 use std::test::Fail;
@@ -38,6 +38,8 @@ const RUNS: [Run; 3] = [
         report: b"0 greeting -> 200 hi\n1 GROUP g -> 211 0 1 0 g\n  group g\n2 QUIT -> 205 bye\nend answers=3 unanswered=0\n",
     },
 ];
+
+const TASKS: [Task; 3] = [Task::Check, Task::Verify, Task::Show];
 
 fn perform<R: Read, W: Write>(
     alloc: Global,
@@ -93,9 +95,21 @@ fn pieces_of_one_stream_are_joined(rt: HostRuntime) -> Result<(), Fail> {
 
 #[test]
 fn no_capture_or_too_long(rt: HostRuntime) {
-    let rows: [(&[u8], u64, RunFault); 11] = [
+    let rows: [(&[u8], u64, RunFault); 19] = [
         (CAPTURE, 10, RunFault::TooLong),
         (CAPTURE, 64, RunFault::TooLong),
+        (b"z", 0, RunFault::TooLong),
+        (b"client 0\nz", 9, RunFault::TooLong),
+        (b"client 0\nz", 10, RunFault::Capture { piece: 2 }),
+        (b"client 0\nzz", 10, RunFault::Capture { piece: 2 }),
+        (b"spoon 0\n", 100, RunFault::Capture { piece: 1 }),
+        (b"clientserver 0\n", 100, RunFault::Capture { piece: 1 }),
+        (b"server 12345678901\n", 100, RunFault::Capture { piece: 1 }),
+        (
+            b"client 0\nclient 0\nclient 5\nQUIT",
+            100,
+            RunFault::Capture { piece: 3 },
+        ),
         (b"client 5\nQUIT", 100, RunFault::Capture { piece: 1 }),
         (b"x", 100, RunFault::Capture { piece: 1 }),
         (b"client", 100, RunFault::Capture { piece: 1 }),
@@ -111,7 +125,7 @@ fn no_capture_or_too_long(rt: HostRuntime) {
         ),
     ];
     for (octets, most, fault) in rows {
-        for task in [Task::Check, Task::Verify, Task::Show] {
+        for task in TASKS {
             let mut input = reader(octets, 4096, 0);
             let mut output = writer(rt.alloc(), 1000, 1000, Full::Fails);
             let outcome = perform(rt.alloc(), task, &mut input, &mut output, most);
@@ -125,14 +139,91 @@ fn no_capture_or_too_long(rt: HostRuntime) {
 }
 
 #[test]
-fn an_input_without_end_is_too_long(rt: HostRuntime) {
-    for task in [Task::Check, Task::Verify, Task::Show] {
-        let mut input = Watched::new(EndlessReader);
-        let mut output = writer(rt.alloc(), 1000, 1000, Full::Fails);
-        let outcome = perform(rt.alloc(), task, &mut input, &mut output, 1000);
-        assert_eq!(rt; outcome, Err(RunFault::TooLong));
-        assert!(rt; output.into_inner().held.is_empty());
+fn inputs_without_end(rt: HostRuntime) {
+    let rows: [(&[u8], u8, RunFault); 3] = [
+        (b"client 9999999999\n", b'x', RunFault::TooLong),
+        (b"spool 0\nserver 9999999999\n", b'\n', RunFault::TooLong),
+        (b"", b'z', RunFault::Capture { piece: 1 }),
+    ];
+    for (front, octet, fault) in rows {
+        for task in TASKS {
+            let mut input = endless_reader(front, octet);
+            let mut output = writer(rt.alloc(), 1000, 1000, Full::Fails);
+            let outcome = perform(rt.alloc(), task, &mut input, &mut output, 1000);
+            assert_eq!(rt; outcome, Err(fault));
+            assert!(rt; output.into_inner().held.is_empty());
+        }
     }
+}
+
+#[test]
+fn the_first_fault_is_told(rt: HostRuntime) {
+    // One octet at a read, of which the read of this number fails.
+    let rows: [(&[u8], u64, u64, RunFault); 8] = [
+        (b"z", 1, 100, RunFault::Read),
+        (b"z", 2, 100, RunFault::Capture { piece: 1 }),
+        (b"z", 2, 0, RunFault::TooLong),
+        (b"client 0\nz", 10, 100, RunFault::Read),
+        (b"client 0\nz", 11, 100, RunFault::Capture { piece: 2 }),
+        (b"client 0\nz", 11, 9, RunFault::TooLong),
+        (b"client 0\nz", 10, 9, RunFault::Read),
+        (b"client 0\nclient", 16, 100, RunFault::Read),
+    ];
+    for (octets, fails_at, most, fault) in rows {
+        for task in TASKS {
+            let mut input = reader(octets, 1, fails_at);
+            let mut output = writer(rt.alloc(), 1000, 1000, Full::Fails);
+            let outcome = perform(rt.alloc(), task, &mut input, &mut output, most);
+            assert_eq!(rt;
+                outcome,
+                Err(fault),
+                "{task:?}, read {fails_at} of at most {most}"
+            );
+        }
+    }
+}
+
+/// A capture of a session with a dot line and a line of 512 octets, in pieces of both streams and of a spool.
+fn long_capture(alloc: Global) -> Result<Vec<u8>, AllocError> {
+    let mut capture = Vec::from_slice(
+        alloc,
+        b"client 17\nGROUP g\r\nHEAD 1\r\nserver 54\n200 hi\r\n211 1 1 1 g\r\n221 1 <a@b>\r\n..X: a\r\nControl: b\r\n",
+    )?;
+    capture.extend_from_slice(b"client 512\n")?;
+    for _ in 0..510 {
+        capture.push(b'X')?;
+    }
+    capture.extend_from_slice(
+        b"\r\nspool 0000000032\nspool 1\ngroup g 1\n1 <a@b>\narticlserver 18\n.\r\n500 no\r\n205 bye",
+    )?;
+    capture.extend_from_slice(
+        b"spool 35\ne <a@b> 2 0\n|.X: a\n|Control: b\nend\nserver 2\n\r\nclient 6\nQUIT\r\n",
+    )?;
+    Ok(capture)
+}
+
+#[test]
+fn captures_cut_at_every_octet(rt: HostRuntime) -> Result<(), Fail> {
+    let capture = long_capture(rt.alloc())?;
+    for task in TASKS {
+        let mut input = reader(&capture, capture.len(), 0);
+        let mut output = writer(rt.alloc(), 10000, 10000, Full::Fails);
+        let whole = perform(rt.alloc(), task, &mut input, &mut output, 1 << 30);
+        assert_eq!(rt; whole, Ok(true), "{task:?}");
+        let report = output.into_inner().held;
+        for at in 1..capture.len() {
+            let mut input = cut_reader(&capture, at);
+            let mut output = writer(rt.alloc(), 10000, 10000, Full::Fails);
+            let outcome = perform(rt.alloc(), task, &mut input, &mut output, 1 << 30);
+            assert_eq!(rt; outcome, whole, "{task:?}, cut at {at}");
+            assert_eq!(rt;
+                output.into_inner().held.as_slice(),
+                report.as_slice(),
+                "{task:?}, cut at {at}"
+            );
+        }
+    }
+    Ok(())
 }
 
 #[test]

@@ -12,6 +12,8 @@ pub mod Decided
 pub mod Listing
 pub mod Answer
 pub mod Frame
+pub mod Prompts
+pub mod Search
 pub mod View
 pub mod Keyword
 pub mod AnswerView

@@ -1,12 +1,17 @@
 //! When the server closes the connection (RFC 3977, sections 3.2.1, 5.1, 5.3 and 5.4).
 ghost use Rattle.std.specs.Prelude.{◌≡◌};
-ghost use Rattle.nntp_wire.specs.Answer.{plain};
+ghost use Rattle.nntp_wire.specs.Answer.{Asked, Response, plain, Spells};
 ghost use Rattle.nntp_wire.specs.AnswerView.{response};
+ghost use Rattle.nntp_wire.specs.Frame.{frame_octets};
+ghost use Rattle.nntp_wire.specs.Prompts.{prompt_kind};
 ghost use Rattle.nntp_wire.specs.Session.{closes};
 ghost use Rattle.nntp_wire.specs.View.{asked};
 
 use crate::answer::Answer;
-use crate::command::{Command, Prompt};
+use crate::command::Prompt;
+use crate::prompt_kind::PromptKind;
+use crate::response::Frame;
+use crate::status::code;
 
 impl<'a> Answer<'a> {
     /// Whether the server closes the connection after this answer: after 400, after 205 to QUIT,
@@ -15,19 +20,31 @@ impl<'a> Answer<'a> {
         ensures { result ≡ closes (asked prompt.now) (response self.now) }
     {
         match self {
-            Answer::Plain { code } => closes_by(prompt, *code),
+            Answer::Plain { code } => closes_by(prompt.kind(), *code),
             _ => false,
         }
     }
 }
 
+impl<'a> Frame<'a> {
+    /// The same of the answer that it spells. It looks at the code alone.
+    pub fn closes(&self, kind: PromptKind) -> bool
+        ensures { (asked : Asked) (response : Response) → prompt_kind asked ≡ kind → Spells asked response (frame_octets self.now.initial self.now.block) → result ≡ closes asked response }
+    {
+        match code(self.initial()) {
+            Some(code) => closes_by(kind, code),
+            None => false,
+        }
+    }
+}
+
 /// The same of an answer that is no more than its code.
-fn closes_by(prompt: &Prompt<'_>, code: u64) -> bool
-    ensures { result ≡ closes (asked prompt.now) (plain code) }
+fn closes_by(kind: PromptKind, code: u64) -> bool
+    ensures { (asked : Asked) → prompt_kind asked ≡ kind → result ≡ closes asked (plain code) }
 {
-    match prompt {
-        Prompt::Greeting | Prompt::To(Command::ModeReader) => code == 400 || code == 502,
-        Prompt::To(Command::Quit) => code == 400 || code == 205,
+    match kind {
+        PromptKind::Greeting | PromptKind::ModeReader => code == 400 || code == 502,
+        PromptKind::Quit => code == 400 || code == 205,
         _ => code == 400,
     }
 }

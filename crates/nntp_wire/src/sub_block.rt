@@ -3,7 +3,7 @@ ghost use Rattle.std.specs.Prelude.{◌≡◌, ◌++◌, take, drop};
 ghost use Rattle.nntp_wire.specs.Block.{IsSent, Sends, received, sent};
 
 use crate::block::Block;
-use crate::framing::split_line;
+use crate::stream::split_first_line;
 
 impl<'a> Block<'a> {
     /// The block of the first `count` lines, or of all where there are fewer, and the block of
@@ -34,7 +34,7 @@ fn skip_lines(bytes: &[u8], count: usize) -> &[u8]
 {
     let mut rest = bytes;
     for _line in 0..count {
-        let Some((_, others)) = split_line(rest) else {
+        let Some((_, others)) = split_first_line(rest) else {
             return rest;
         };
         rest = others;

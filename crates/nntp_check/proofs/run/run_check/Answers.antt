@@ -2,26 +2,23 @@ use Rattle.std.proofs.Common.{refl}
 use Rattle.std.proofs.lemmas.Result.{err_from_is_err_and}
 use Rattle.nntp_check.specs.Run.{read_by, CheckReports}
 use Rattle.nntp_check.specs.Verdict.{verdict_shown, is_consistent}
-use Rattle.nntp_check.proofs.RunLemmas.{lent-reports, cut-short}
+use Rattle.nntp_check.proofs.RunLemmas.{cut-short}
 use Rattle.nntp_check.proofs.run.run_check.Goals as goal
 
 pub returns-in_err-print-clause-err : goal.returns-in_err-print-clause-err
 returns-in_err-print-clause-err g c =
     let exit = err_from_is_err_and c.from_residual-in_err-print.result c.from_residual-in_err-print.ensures.1 in
-    let streams = c.in_ok-streams.streams in
+    let read = c.in_ok-read_capture.ensures.ok in
     let judgement = verdict_shown c.in_ok-verdict.verdict in
-    let text = c.in_ok-text.text.items in
     rw (exit.1, exit.2)
-    (cut-short CheckReports (read_by g.R.Read.remaining c.args.input.now c.read_streams.new.input c.args.most)
+    (cut-short CheckReports (read_by g.R.Read.remaining c.args.input.now c.read_capture.new.input c.args.most)
     (g.W.Write.contents c.args.output.now.inner) (g.W.Write.contents c.print.new.output.inner)
-    streams.client.items streams.server.items streams.spool.items text c.deref-3.result.now c.in_err-print.ensures.text.0 (is_consistent judgement)
-    c.in_ok-streams.ensures.ok
-    (lent-reports CheckReports streams.client.items streams.server.items streams.spool.items text c.deref.result.now c.deref-2.result.now (is_consistent judgement)
-    c.deref.ensures.value c.deref-2.ensures.value
+    read.0 read.1 read.2 c.in_ok-text.text.items c.deref.result.now c.in_err-print.ensures.text.0 (is_consistent judgement)
+    read.3
     (record {
       judgement = judgement;
-      verdict = c.in_ok-verdict.ensures;
+      verdict = c.in_ok-verdict.ensures read.0 read.1 read.4;
       text_is = c.in_ok-text.ensures;
       answer_is = refl;
-    }))
-    c.deref-3.ensures.value c.in_err-print.ensures.text.1)
+    })
+    c.deref.ensures.value c.in_err-print.ensures.text.1)

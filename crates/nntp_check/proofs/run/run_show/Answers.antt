@@ -1,18 +1,29 @@
 use Rattle.std.proofs.lemmas.Result.{err_from_is_err_and}
 use Rattle.nntp_check.specs.Run.{read_by, ShowReports}
-use Rattle.nntp_check.proofs.RunLemmas.{lent-reports, cut-short}
+use Rattle.nntp_check.proofs.RunLemmas.{wrote-all, cut-short}
 use Rattle.nntp_check.proofs.run.run_show.Goals as goal
 
 pub returns-in_err-print-clause-err : goal.returns-in_err-print-clause-err
 returns-in_err-print-clause-err g c =
     let exit = err_from_is_err_and c.from_residual-in_err-print.result c.from_residual-in_err-print.ensures.1 in
-    let streams = c.in_ok-streams.streams in
+    let read = c.in_ok-read_capture.ensures.ok in
     let shown = c.in_ok-shown.shown in
     rw (exit.1, exit.2)
-    (cut-short ShowReports (read_by g.R.Read.remaining c.args.input.now c.read_streams.new.input c.args.most)
+    (cut-short ShowReports (read_by g.R.Read.remaining c.args.input.now c.read_capture.new.input c.args.most)
     (g.W.Write.contents c.args.output.now.inner) (g.W.Write.contents c.print.new.output.inner)
-    streams.client.items streams.server.items streams.spool.items shown.text.items c.deref-3.result.now c.in_err-print.ensures.text.0 shown.is_answered
-    c.in_ok-streams.ensures.ok
-    (lent-reports ShowReports streams.client.items streams.server.items streams.spool.items shown.text.items c.deref.result.now c.deref-2.result.now shown.is_answered
-    c.deref.ensures.value c.deref-2.ensures.value (c.in_ok-shown.ensures streams.spool.items))
-    c.deref-3.ensures.value c.in_err-print.ensures.text.1)
+    read.0 read.1 read.2 shown.text.items c.deref.result.now c.in_err-print.ensures.text.0 shown.is_answered
+    read.3 (c.in_ok-shown.ensures read.0 read.1 read.2 read.4) c.deref.ensures.value c.in_err-print.ensures.text.1)
+
+pub returns-clause-ok : goal.returns-clause-ok
+returns-clause-ok g c =
+    let read = c.in_ok-read_capture.ensures.ok in
+    let shown = c.in_ok-shown.shown in
+    record {
+      client = read.0;
+      server = read.1;
+      spool = read.2;
+      capture = read.3;
+      text = shown.text.items;
+      reports = c.in_ok-shown.ensures read.0 read.1 read.2 read.4;
+      whole = wrote-all (g.W.Write.contents c.args.output.now.inner) (g.W.Write.contents c.print.new.output.inner) shown.text.items c.deref.result.now c.deref.ensures.value c.in_ok-print.ensures.text;
+    }

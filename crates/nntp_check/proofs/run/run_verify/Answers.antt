@@ -1,4 +1,4 @@
-use Rattle.std.proofs.Common.{refl, subst}
+use Rattle.std.proofs.Common.{◌∙◌, refl, subst}
 use Rattle.std.proofs.lemmas.Result.{err_from_is_err_and}
 use Rattle.nntp_article.specs.Spool.{Spool, IsSpool}
 use Rattle.nntp_article.specs.Limit.{profile_31_bits}
@@ -10,28 +10,28 @@ use Rattle.nntp_check.proofs.run.run_verify.Goals as goal
 pub returns-in_err-print-clause-err : goal.returns-in_err-print-clause-err
 returns-in_err-print-clause-err g c =
     let exit = err_from_is_err_and c.from_residual-in_err-print.result c.from_residual-in_err-print.ensures.1 in
-    let streams = c.in_ok-streams.streams in
+    let read = c.in_ok-read_capture.ensures.ok in
     let verified = c.in_ok-verified.verified in
-    let reports = verify-reports c.in_ok-spool.spool (subst (λ (T : Spool). IsSpool profile_31_bits T) c.spool.view_is c.spool.invariant) streams.client.items streams.server.items streams.spool.items
-    c.deref-2.result.now c.deref-3.result.now c.deref.result.now c.deref-2.ensures.value c.deref-3.ensures.value c.deref.ensures.value
+    let reports = verify-reports c.in_ok-spool.spool (subst (λ (T : Spool). IsSpool profile_31_bits T) c.spool.view_is c.spool.invariant) read.0 read.1 read.2
+    c.deref-2.result.now c.deref-3.result.now c.deref.result.now (c.deref-2.ensures.value ∙ read.4.0) (c.deref-3.ensures.value ∙ read.4.1) (c.deref.ensures.value ∙ read.4.2)
     c.in_ok-spool.ensures.spool verified c.in_ok-verified.ensures c.in_ok-text.text.items c.in_ok-text.ensures (is_permitted verified) refl in
     rw (exit.1, exit.2)
-    (cut-short VerifyReports (read_by g.R.Read.remaining c.args.input.now c.read_streams.new.input c.args.most)
+    (cut-short VerifyReports (read_by g.R.Read.remaining c.args.input.now c.read_capture.new.input c.args.most)
     (g.W.Write.contents c.args.output.now.inner) (g.W.Write.contents c.print.new.output.inner)
-    streams.client.items streams.server.items streams.spool.items c.in_ok-text.text.items c.deref-4.result.now c.in_err-print.ensures.text.0 (is_permitted verified)
-    c.in_ok-streams.ensures.ok reports c.deref-4.ensures.value c.in_err-print.ensures.text.1)
+    read.0 read.1 read.2 c.in_ok-text.text.items c.deref-4.result.now c.in_err-print.ensures.text.0 (is_permitted verified)
+    read.3 reports c.deref-4.ensures.value c.in_err-print.ensures.text.1)
 
 pub returns-clause-ok : goal.returns-clause-ok
 returns-clause-ok g c =
-    let streams = c.in_ok-streams.streams in
+    let read = c.in_ok-read_capture.ensures.ok in
     record {
-      client = streams.client.items;
-      server = streams.server.items;
-      spool = streams.spool.items;
-      capture = c.in_ok-streams.ensures.ok;
+      client = read.0;
+      server = read.1;
+      spool = read.2;
+      capture = read.3;
       text = c.in_ok-text.text.items;
-      reports = verify-reports c.in_ok-spool.spool (subst (λ (T : Spool). IsSpool profile_31_bits T) c.spool.view_is c.spool.invariant) streams.client.items streams.server.items streams.spool.items
-          c.deref-2.result.now c.deref-3.result.now c.deref.result.now c.deref-2.ensures.value c.deref-3.ensures.value c.deref.ensures.value
+      reports = verify-reports c.in_ok-spool.spool (subst (λ (T : Spool). IsSpool profile_31_bits T) c.spool.view_is c.spool.invariant) read.0 read.1 read.2
+          c.deref-2.result.now c.deref-3.result.now c.deref.result.now (c.deref-2.ensures.value ∙ read.4.0) (c.deref-3.ensures.value ∙ read.4.1) (c.deref.ensures.value ∙ read.4.2)
           c.in_ok-spool.ensures.spool c.in_ok-verified.verified c.in_ok-verified.ensures c.in_ok-text.text.items c.in_ok-text.ensures c.is_permitted.result c.is_permitted.ensures;
       whole = wrote-all (g.W.Write.contents c.args.output.now.inner) (g.W.Write.contents c.print.new.output.inner) c.in_ok-text.text.items c.deref-4.result.now c.deref-4.ensures.value c.in_ok-print.ensures.text;
     }

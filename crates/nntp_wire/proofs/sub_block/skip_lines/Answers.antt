@@ -6,13 +6,13 @@ pub loop-line-init : goal.loop-line-init
 loop-line-init c = passed-none c.args.bytes.now c.requires
 
 pub loop-line-preserved : goal.loop-line-preserved
-loop-line-preserved c = passed-more c.loop-line._line c.args.bytes.now c.loop-line.rest.now c.in-Some.field-0-0.now c.in-Some.others.now c.loop-line.invariant c.in-Some.ensures.0 c.in-Some.ensures.1
+loop-line-preserved c = passed-more c.loop-line._line c.args.bytes.now c.loop-line.rest.now c.in-Some.field-0-0.now c.in-Some.others.now c.loop-line.invariant c.in-Some.ensures.parts.0 c.in-Some.ensures.parts.1
 
 pub returns-in_default-clause-front : goal.returns-in_default-clause-front
-returns-in_default-clause-front c = (passed-end c.loop-line._line c.args.count c.args.bytes.now c.loop-line.rest.now c.loop-line.invariant (omega arith) c.in_default.ensures).front
+returns-in_default-clause-front c = (passed-end c.loop-line._line c.args.count c.args.bytes.now c.loop-line.rest.now c.loop-line.invariant (omega arith) c.in_default.ensures.parts).front
 
 pub returns-in_default-clause-back : goal.returns-in_default-clause-back
-returns-in_default-clause-back c = (passed-end c.loop-line._line c.args.count c.args.bytes.now c.loop-line.rest.now c.loop-line.invariant (omega arith) c.in_default.ensures).back
+returns-in_default-clause-back c = (passed-end c.loop-line._line c.args.count c.args.bytes.now c.loop-line.rest.now c.loop-line.invariant (omega arith) c.in_default.ensures.parts).back
 
 pub returns-clause-front : goal.returns-clause-front
 returns-clause-front c = (subst (λ k. IsBehind k c.args.bytes.now c.loop-line.rest.now) (omega arith) (passed-all c.loop-line._line c.args.bytes.now c.loop-line.rest.now c.loop-line.invariant)).front

@@ -1,0 +1,86 @@
+-- What a run has read, read by read.
+use Rattle.std.proofs.Common.{◌≡◌, ◌||◌, Bool, true, false, ◌≢◌, ◌∙◌, ℕ, ◌+◌, ◌<◌, ◌≤◌, List, [], ◌∷◌, ◌++◌, Option, length, take, drop, inl, inr, refl, sym, ap, subst, append_assoc, arith, length-append}
+use Rattle.std.proofs.Math.Bool.{or-false}
+use Rattle.std.proofs.lemmas.Bool.{true≢false}
+use Rattle.std.specs.Io.KnownBytes.{Consumes, IsAtEnd}
+use Rattle.std.proofs.KnownBytes.{Consumes-trans}
+use Rattle.std.proofs.lemmas.List.{append-nil, take-append-drop, take-take}
+use Rattle.std.proofs.Math.Seq.{take-append_seam}
+use Rattle.nntp_check.specs.Capture.{BeginsCapture, IsBadPiece}
+use Rattle.nntp_check.specs.CaptureReading.{HasBadFront}
+use Rattle.nntp_check.specs.Run.{ReadsMore, ReadsBadPiece, IsInputFault}
+use Rattle.nntp_check.specs.Sinks.{StopsWithin, BothStand, PassesOn}
+use Rattle.nntp_check.specs.declared.capture_reader.CaptureReader.{CaptureReader}
+use Rattle.nntp_check.specs.declared.run_fault.RunFault.{RunFault}
+use Rattle.nntp_check.specs.declared.run_fault.RunFault.TheVariants as faults
+
+-- a front of a front
+pub take-split : (n m : ℕ) (xs : List ℕ) → n ≤ m → take m xs ≡ take n xs ++ drop n (take m xs)
+take-split n m xs le = sym (take-append-drop n (take m xs)) ∙ ap (λ t. t ++ drop n (take m xs)) (take-take n m xs le)
+
+-- where all octets are passed on, both stand for them
+pub all-passed : (before after : CaptureReader) (Stood Stands : List ℕ → List ℕ → List ℕ → Type 0) (came octets : List ℕ) → PassesOn before after Stood Stands octets [] → BothStand before Stood came → BothStand after Stands (came ++ octets)
+all-passed before after Stood Stands came octets p both = subst (λ (front : List ℕ). BothStand after Stands (came ++ front)) (sym (p.cut ∙ append-nil p.front)) (p.stands came both)
+
+-- at the input's end a piece is bad
+pub ends-bad : (before old after : Option (List ℕ)) (most piece : ℕ) (octets got : List ℕ) → Consumes before old octets → Consumes old after got → length got ≡ 0 → IsAtEnd after → length octets ≤ most → IsBadPiece octets piece
+    → ReadsBadPiece (record { before = before; after = after; most = most }) piece
+ends-bad before old after most piece octets [] read gave none end few bad = record {
+  front = octets;
+  rest = [];
+  consumed = Consumes-trans before old after octets [] read gave;
+  few = few;
+  bad = inr (bad, refl, end);
+}
+ends-bad before old after most piece octets (b ∷ got) read gave none end few bad = absurd (omega arith)
+
+-- within what may be read a piece is bad
+bad-within : (before old after : Option (List ℕ)) (most piece : ℕ) (octets got fitting rest : List ℕ) → Consumes before old octets → Consumes old after got → got ≡ fitting ++ rest → length octets + length fitting ≤ most → HasBadFront octets fitting piece
+    → ReadsBadPiece (record { before = before; after = after; most = most }) piece
+bad-within before old after most piece octets got fitting rest read gave cut few h =
+    let all : octets ++ got ≡ (octets ++ h.front) ++ (h.rest ++ rest) =
+    ap (λ t. octets ++ t) (cut ∙ ap (λ t. t ++ rest) h.cut ∙ append_assoc h.front h.rest rest) ∙ sym (append_assoc octets h.front (h.rest ++ rest)) in
+    let many : length fitting ≡ length h.front + length h.rest = ap length h.cut ∙ length-append h.front h.rest in
+    let front : length (octets ++ h.front) ≡ length octets + length h.front = length-append octets h.front in
+    record {
+      front = octets ++ h.front;
+      rest = h.rest ++ rest;
+      consumed = subst (Consumes before after) all (Consumes-trans before old after octets got read gave);
+      few = omega arith;
+      bad = inl h.bad;
+    }
+
+-- why reading stops within it
+pub stops-bad : (before old after : Option (List ℕ)) (most : ℕ) (octets got fitting rest : List ℕ) (fault : RunFault) → Consumes before old octets → Consumes old after got → got ≡ fitting ++ rest → length octets + length fitting ≤ most
+    → StopsWithin octets fitting fault → IsInputFault (record { before = before; after = after; most = most }) fault
+stops-bad before old after most octets got fitting rest (faults.Capture piece) read gave cut few stops = bad-within before old after most piece octets got fitting rest read gave cut few stops
+stops-bad before old after most octets got fitting rest faults.Memory read gave cut few stops = stops
+stops-bad before old after most octets got fitting rest faults.Read read gave cut few stops = absurd stops
+stops-bad before old after most octets got fitting rest faults.TooLong read gave cut few stops = absurd stops
+stops-bad before old after most octets got fitting rest (faults.Spool fault) read gave cut few stops = absurd stops
+stops-bad before old after most octets got fitting rest faults.Write read gave cut few stops = absurd stops
+
+-- no failed read is a reason
+pub stops-unread : (octets fitting : List ℕ) (fault : RunFault) → StopsWithin octets fitting fault → fault ≢ faults.Read
+stops-unread octets fitting fault stops e = subst (StopsWithin octets fitting) e stops
+
+-- more came than may be
+pub reads-more : (before old after : Option (List ℕ)) (most : ℕ) (octets got fitting rest : List ℕ) → Consumes before old octets → Consumes old after got → got ≡ fitting ++ rest → length octets + length fitting ≡ most → 0 < length rest
+    → BeginsCapture (octets ++ fitting) → ReadsMore (record { before = before; after = after; most = most })
+reads-more before old after most octets got fitting rest read gave cut many some begun =
+    let all : octets ++ got ≡ (octets ++ fitting) ++ rest = ap (λ t. octets ++ t) cut ∙ sym (append_assoc octets fitting rest) in
+    let front : length (octets ++ fitting) ≡ most = length-append octets fitting ∙ many in
+    record {
+      octets = octets ++ got;
+      consumed = Consumes-trans before old after octets got read gave;
+      many = omega (arith, ap length all, length-append (octets ++ fitting) rest);
+      begun = subst BeginsCapture (sym (ap (take most) all ∙ ap (λ n. take n ((octets ++ fitting) ++ rest)) (sym front) ∙ take-append_seam (octets ++ fitting) rest)) begun;
+    }
+
+-- a read that didn't fail leaves what is remembered
+pub stays-same : (new old first : Bool) → new ≡ (old || false) → old ≡ first → new ≡ first
+stays-same new old first e same = e ∙ or-false old ∙ same
+
+-- so nothing failed where nothing had
+pub still-fresh : (new old first : Bool) → new ≡ (old || false) → old ≡ first → first ≡ false → new ≡ true → ⊥
+still-fresh new old first e same fresh failed = true≢false (sym failed ∙ stays-same new old first e same ∙ fresh)

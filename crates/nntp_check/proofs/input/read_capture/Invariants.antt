@@ -1,0 +1,16 @@
+use Rattle.std.proofs.Common.{◌≡◌, ◌≤◌, ◌-◌, ℕ, List, length}
+use Rattle.std.specs.Io.KnownBytes.{Consumes}
+use Rattle.nntp_check.specs.Sinks.{BothStand}
+use Rattle.nntp_check.proofs.input.read_capture.Given as goal
+
+abbrev pub invariant-loop-count : goal.invariant-loop-count
+invariant-loop-count g l = ((octets : List ℕ) × record {
+  read : Consumes (g.R.Read.remaining l.fn.input.inner) (g.R.Read.remaining l.input.inner) octets;
+  many : l.came ≡ length octets;
+  few : length octets ≤ l.most;
+  stands : BothStand l.reader (g.S.Sink.stands l.sink) octets;
+  same : l.input.has_failed ≡ l.fn.input.has_failed;
+})
+
+abbrev pub decreases-loop-count : goal.decreases-loop-count
+decreases-loop-count g l = l.most - l.came

@@ -1,0 +1,300 @@
+-- What a feed holds, and how it goes on with more octets and behind an exchange.
+use Rattle.std.proofs.Common.{◌≡◌, ◌≢◌, ℕ, ◌+◌, ◌-◌, ◌*◌, ◌^◌, ◌<◌, ◌≤◌, List, [], ◌∷◌, ◌++◌, length, drop, map, arith, Option, None, Some, Bool, true, false, refl, sym, ◌∙◌, ap, subst, append_assoc, length-append, MatchOption, inl, inr}
+use Rattle.std.proofs.lemmas.List.{append-nil, map-append, drop_at}
+use Rattle.std.proofs.lemmas.Bool.{false≢true, eqb-true, eqb-false}
+use Rattle.std.specs.Prelude.{◌==◌, nat_lt, ⊤}
+use Rattle.nntp_wire.specs.Octets.{crlf}
+use Rattle.nntp_wire.specs.Lines.{HasNoCrlf, lines_of_stream}
+use Rattle.nntp_wire.specs.Answer.{Asked, Response, Spells}
+use Rattle.nntp_wire.specs.Frame.{HasFrame, framed, frame_octets}
+use Rattle.nntp_wire.specs.Prompts.{prompt_kind}
+use Rattle.nntp_wire.specs.Search.{IsFrameThrough}
+use Rattle.nntp_wire.specs.Session.{closes}
+use Rattle.nntp_wire.specs.declared.framing.FrameSearch.{FrameSearch}
+use Rattle.nntp_wire.proofs.SearchLemmas.{line_searched-more, frame_searched-more}
+use Rattle.nntp_wire.proofs.SpellLemmas.{one-frame}
+use Rattle.nntp_wire.proofs.StreamLemmas.{lines-first, lines-joined}
+use Rattle.nntp_pair.specs.declared.class.PairClass.{PairClass}
+use Rattle.nntp_pair.specs.declared.class.PairClass.TheVariants.{Surplus, Cut, Malformed}
+use Rattle.nntp_pair.specs.declared.searches.Searches.{Searches}
+use Rattle.nntp_pair.specs.Pairing.{Paired, Unpaired, IsNext, IsAnswered, Awaits, AreNext, IsBad, IsCut, IsMalformed, streams, asked_at, places_from}
+use Rattle.nntp_pair.specs.Feeding.{Fed, IsFed, HasNext, EndsForGood, left_of, with_client, with_server}
+use Rattle.nntp_pair.specs.Searching.{left_from, BeginsWithPlace, IsForNext, AreSearched, AreThrough, IsInStep}
+use Rattle.nntp_pair.proofs.NextLemmas.{one-awaited}
+use Rattle.nntp_pair.proofs.PairingLemmas.{AreNext-push, frame-more}
+
+pub is-empty : (octets : List ℕ) → (length octets == 0) ≡ true → octets ≡ []
+is-empty [] e = refl
+is-empty (b ∷ octets) e = absurd (let none : length (b ∷ octets) ≡ 0 = eqb-true (length (b ∷ octets)) 0 e in omega arith)
+
+pub not-empty : (octets : List ℕ) → (length octets == 0) ≡ false → octets ≢ []
+not-empty octets e none = eqb-false (length octets) 0 e (ap length none)
+
+-- ---- the next place
+
+-- with more octets the places are the same, and more
+pub places-more : (is_greeted : Bool) (client more : List ℕ) → (later : List (Option (List ℕ))) × (places_from is_greeted (client ++ more) ≡ places_from is_greeted client ++ later)
+places-more is_greeted client more = at is_greeted where
+  later : List (List ℕ)
+  later = (lines-joined client more).0
+
+  lines : map Some (lines_of_stream (client ++ more)) ≡ map Some (lines_of_stream client) ++ map Some later
+  lines = ap (map Some) (lines-joined client more).1 ∙ map-append Some (lines_of_stream client) later
+
+  at : (is_greeted : Bool) → (later : List (Option (List ℕ))) × (places_from is_greeted (client ++ more) ≡ places_from is_greeted client ++ later)
+  at true = (map Some later, lines)
+  at false = (map Some later, ap (λ places. None ∷ places) lines)
+
+awaits-client : (index : ℕ) (is_closed : Bool) (client server piece : List ℕ) (place : Option (List ℕ)) → Awaits (left_from index is_closed client server) place → Awaits (left_from index is_closed (client ++ piece) server) place
+awaits-client index is_closed client server piece place awaits =
+    let more = places-more (nat_lt 0 index) client piece in
+    record { is_open = awaits.is_open; places = awaits.places ++ more.0; first = more.1 ∙ ap (λ places. places ++ more.0) awaits.first }
+
+is_greeted : (index : ℕ) → 0 < index → nat_lt 0 index ≡ true
+is_greeted index some = grind (arith)
+
+-- behind the greeting the octets begin with the place of their first line
+pub line-place : (index : ℕ) (client line rest : List ℕ) → 0 < index → HasNoCrlf line → client ≡ (line ++ crlf) ++ rest → BeginsWithPlace (nat_lt 0 index) client (Some line) rest
+line-place index client line rest some is_line whole =
+    let greeted = is_greeted index some in
+    record {
+      front = line ++ crlf;
+      whole = whole;
+      places = λ more. ap (λ b. places_from b (client ++ more)) greeted
+          ∙ ap (λ t. map Some (lines_of_stream t)) (ap (λ t. t ++ more) whole ∙ append_assoc (line ++ crlf) rest more)
+          ∙ ap (map Some) (lines-first line (rest ++ more) is_line);
+    }
+
+-- at no octets more
+pub begins-here : (index : ℕ) (client : List ℕ) (place : Option (List ℕ)) (rest : List ℕ) → BeginsWithPlace (nat_lt 0 index) client place rest → places_from (nat_lt 0 index) client ≡ place ∷ places_from true rest
+begins-here index client place rest begins =
+    ap (places_from (nat_lt 0 index)) (sym (append-nil client)) ∙ begins.places [] ∙ ap (λ t. place ∷ places_from true t) (append-nil rest)
+
+-- so an open connection awaits it
+pub begins-awaits : (index : ℕ) (is_closed : Bool) (client server : List ℕ) (place : Option (List ℕ)) (rest : List ℕ) → is_closed ≡ false → BeginsWithPlace (nat_lt 0 index) client place rest
+    → Awaits (left_from index is_closed client server) place
+begins-awaits index is_closed client server place rest is_open begins = record { is_open = is_open; places = places_from true rest; first = begins-here index client place rest begins }
+
+-- ---- the searches
+
+-- the search is for what is asked at the awaited place
+pub for-next : (left : Unpaired) (search : FrameSearch) (place : Option (List ℕ)) → IsForNext left search → Awaits left place → prompt_kind (asked_at place) ≡ search.kind
+for-next left search place is awaits = ap (λ p. prompt_kind (asked_at p)) (one-awaited left place is.place awaits is.awaits) ∙ sym is.kind
+
+client-searched : (index : ℕ) (is_closed : Bool) (client server piece : List ℕ) (frame : Option FrameSearch)
+    → MatchOption frame ⊤ (IsForNext (left_from index is_closed client server)) → MatchOption frame ⊤ (IsForNext (left_from index is_closed (client ++ piece) server))
+client-searched index is_closed client server piece None is = tt
+client-searched index is_closed client server piece (Some search) is =
+    record { place = is.place; awaits = awaits-client index is_closed client server piece is.place is.awaits; kind = is.kind; searched = is.searched }
+
+server-searched : (index : ℕ) (is_closed : Bool) (client server piece : List ℕ) (frame : Option FrameSearch)
+    → MatchOption frame ⊤ (IsForNext (left_from index is_closed client server)) → MatchOption frame ⊤ (IsForNext (left_from index is_closed client (server ++ piece)))
+server-searched index is_closed client server piece None is = tt
+server-searched index is_closed client server piece (Some search) is =
+    record {
+      place = is.place;
+      awaits = record { is_open = is.awaits.is_open; places = is.awaits.places; first = is.awaits.first };
+      kind = is.kind;
+      searched = frame_searched-more server piece search is.searched;
+    }
+
+-- with more octets of the client the searches have come as far
+pub searched-client : (index : ℕ) (is_closed : Bool) (client server piece : List ℕ) (searches : Searches) → AreSearched (left_from index is_closed client server) client searches
+    → AreSearched (left_from index is_closed (client ++ piece) server) (client ++ piece) searches
+searched-client index is_closed client server piece searches are =
+    record { line = line_searched-more client piece searches.line are.line; frame = client-searched index is_closed client server piece searches.frame are.frame }
+
+-- and with more octets of the server
+pub searched-server : (index : ℕ) (is_closed : Bool) (client server piece : List ℕ) (searches : Searches) → AreSearched (left_from index is_closed client server) client searches
+    → AreSearched (left_from index is_closed client (server ++ piece)) client searches
+searched-server index is_closed client server piece searches are =
+    record { line = are.line; frame = server-searched index is_closed client server piece searches.frame are.frame }
+
+-- searches that have gone through the octets that are held
+pub in-step : (index : ℕ) (is_closed : Bool) (client server held_client held_server : List ℕ) (count : ℕ) (searches : Searches) → client ≡ held_client → server ≡ held_server
+    → 2 * index + length held_server ≤ count → count < 2 ^ 64 → AreSearched (left_from index is_closed client server) client searches → AreThrough (left_from index is_closed client server) client searches
+    → IsInStep index is_closed held_client held_server count searches
+in-step index is_closed client server held_client held_server count searches same_client same_server counted small searched through = record {
+  counted = counted;
+  small = small;
+  searched = subst (λ t. AreSearched (left_from index is_closed held_client t) held_client searches) same_server (subst (λ t. AreSearched (left_from index is_closed t server) t searches) same_client searched);
+  through = subst (λ t. AreThrough (left_from index is_closed held_client t) held_client searches) same_server (subst (λ t. AreThrough (left_from index is_closed t server) t searches) same_client through);
+}
+
+-- ---- what waits
+
+-- where no response is whole, no exchange comes next, and no octets are bad for good
+pub nothing : (left : Unpaired) → left.is_closed ≡ false → ((place : Option (List ℕ)) → Awaits left place → IsCut (asked_at place) left.server)
+    → (¬ (HasNext left)) × ((class : PairClass) → ¬ (EndsForGood class left))
+nothing left is_open cut = (λ next. no_next next.0 next.1 next.2, for_good) where
+  no_next : (pair : Paired) (behind : Unpaired) → IsNext left pair behind → ⊥
+  no_next pair behind next =
+      cut pair.line (record { is_open = next.is_open; places = behind.places; first = next.place }) pair.initial next.answered.block behind.server next.answered.frame
+
+  for_good : (class : PairClass) → ¬ (EndsForGood class left)
+  for_good Surplus (ends, closed) = false≢true (sym is_open ∙ closed)
+  for_good Cut (ends, lasting) = absurd lasting
+  for_good Malformed ((some, (place, awaits, why)), lasting) = cut place awaits why.initial why.block why.rest why.frame
+
+-- a response to what is asked at the awaited place comes next
+pub next-of : (left : Unpaired) (place : Option (List ℕ)) (pair : Paired) (rest : List ℕ) → Awaits left place → pair.index ≡ left.index → pair.line ≡ place
+    → IsAnswered place left.server pair.initial pair.response rest → (behind : Unpaired) × IsNext left pair behind
+next-of left place pair rest awaits index line answered = (
+  record { index = left.index + 1; places = awaits.places; server = rest; is_closed = closes (asked_at pair.line) pair.response },
+  record {
+    index = index;
+    is_open = awaits.is_open;
+    place = awaits.first ∙ ap (λ p. p ∷ awaits.places) (sym line);
+    answered = subst (λ p. IsAnswered p left.server pair.initial pair.response rest) (sym line) answered;
+    next_index = refl;
+    closing = refl;
+  },
+)
+
+-- a frame takes two octets at least
+pub frame-shorter : (place : Option (List ℕ)) (server initial : List ℕ) (block : Option (List ℕ)) (rest : List ℕ) → HasFrame (asked_at place) server initial block rest → length rest + 2 ≤ length server
+frame-shorter place server initial block rest has =
+    let whole : length server ≡ length (frame_octets initial block ++ rest) = ap length has.whole in
+    omega (arith, whole, length-append (frame_octets initial block) rest, length-append (initial ++ crlf) (framed block), length-append initial crlf)
+
+-- a frame that spells nothing is bad for good
+pub malformed-for_good : (left : Unpaired) (place : Option (List ℕ)) → Awaits left place → IsMalformed (asked_at place) left.server → EndsForGood Malformed left
+malformed-for_good left place awaits why = (
+  (λ none. let short = frame-shorter place left.server why.initial why.block why.rest why.frame in let empty : length left.server ≡ 0 = ap length none in absurd (omega arith), (place, awaits, why)),
+  tt,
+)
+
+-- where an exchange comes next, its frame is searched
+pub search-there : (left : Unpaired) (frame : Option FrameSearch) → frame ≡ None → MatchOption frame ((place : Option (List ℕ)) → ¬ (Awaits left place)) (IsFrameThrough left.server) → HasNext left → ⊥
+search-there left frame is through (pair, behind, next) =
+    let none = subst (λ f. MatchOption f ((place : Option (List ℕ)) → ¬ (Awaits left place)) (IsFrameThrough left.server)) is through in
+    none pair.line (record { is_open = next.is_open; places = behind.places; first = next.place })
+
+-- where neither an exchange comes next nor octets are bad for good, an awaited place has no whole frame
+pub cut-left : (left : Unpaired) (place : Option (List ℕ)) → Awaits left place → ¬ (HasNext left) → ((class : PairClass) → ¬ (EndsForGood class left)) → IsCut (asked_at place) left.server
+cut-left left place awaits no_next no_good initial block rest has =
+    no_good Malformed (malformed-for_good left place awaits (record {
+      initial = initial;
+      block = block;
+      rest = rest;
+      frame = has;
+      nothing = λ response spells.
+          let pair : Paired = record { index = left.index; line = place; initial = initial; response = response } in
+          let next = next-of left place pair rest awaits refl refl (record { block = block; frame = has; spells = spells }) in
+          no_next (pair, next.0, next.1);
+    }))
+
+-- where no place is awaited, octets are Surplus
+pub surplus-left : (left : Unpaired) → ((place : Option (List ℕ)) → ¬ (Awaits left place)) → IsBad Surplus left
+surplus-left left none = at left.is_closed refl left.places refl where
+  at : (is_closed : Bool) → left.is_closed ≡ is_closed → (places : List (Option (List ℕ))) → left.places ≡ places → IsBad Surplus left
+  at true closed places first = inl closed
+  at false is_open [] first = inr first
+  at false is_open (place ∷ places) first = absurd (none place (record { is_open = is_open; places = places; first = first }))
+
+-- ---- what came
+
+-- more octets of the client came
+pub fed-client : (fed : Fed) (piece client server : List ℕ) (pairs : List Paired) → IsFed fed client server pairs → IsFed (with_client piece fed) (client ++ piece) server pairs
+fed-client fed piece client server pairs is = record {
+  paired = λ client_more server_more.
+      subst (λ t. AreNext (streams t (server ++ server_more)) pairs (left_of (with_server server_more (with_client client_more (with_client piece fed))))) (sym (append_assoc client piece client_more))
+      (subst (λ t. AreNext (streams (client ++ (piece ++ client_more)) (server ++ server_more)) pairs (left_from fed.index fed.is_closed t (fed.server ++ server_more))) (sym (append_assoc fed.client piece client_more))
+      (is.paired (piece ++ client_more) server_more));
+  client_came = ap (λ n. n + length piece) is.client_came ∙ sym (length-append client piece);
+  server_came = is.server_came;
+}
+
+-- more octets of the server came
+pub fed-server : (fed : Fed) (piece client server : List ℕ) (pairs : List Paired) → IsFed fed client server pairs → IsFed (with_server piece fed) client (server ++ piece) pairs
+fed-server fed piece client server pairs is = record {
+  paired = λ client_more server_more.
+      subst (λ t. AreNext (streams (client ++ client_more) t) pairs (left_of (with_server server_more (with_client client_more (with_server piece fed))))) (sym (append_assoc server piece server_more))
+      (subst (λ t. AreNext (streams (client ++ client_more) (server ++ (piece ++ server_more))) pairs (left_from fed.index fed.is_closed (fed.client ++ client_more) t)) (sym (append_assoc fed.server piece server_more))
+      (is.paired client_more (piece ++ server_more)));
+  client_came = is.client_came;
+  server_came = ap (λ n. n + length piece) is.server_came ∙ sym (length-append server piece);
+}
+
+-- the same of what is held then
+pub held-client : (fed : Fed) (piece held : List ℕ) (count : ℕ) (client server : List ℕ) (pairs : List Paired) → held ≡ fed.client ++ piece → count ≡ fed.client_count + length piece
+    → IsFed fed client server pairs → IsFed (record fed { client = held; client_count = count }) (client ++ piece) server pairs
+held-client fed piece held count client server pairs same counted is =
+    subst (λ t. IsFed (record fed { client = t; client_count = count }) (client ++ piece) server pairs) (sym same)
+    (subst (λ n. IsFed (record fed { client = fed.client ++ piece; client_count = n }) (client ++ piece) server pairs) (sym counted) (fed-client fed piece client server pairs is))
+
+pub held-server : (fed : Fed) (piece held : List ℕ) (count : ℕ) (client server : List ℕ) (pairs : List Paired) → held ≡ fed.server ++ piece → count ≡ fed.server_count + length piece
+    → IsFed fed client server pairs → IsFed (record fed { server = held; server_count = count }) client (server ++ piece) pairs
+held-server fed piece held count client server pairs same counted is =
+    subst (λ t. IsFed (record fed { server = t; server_count = count }) client (server ++ piece) pairs) (sym same)
+    (subst (λ n. IsFed (record fed { server = fed.server ++ piece; server_count = n }) client (server ++ piece) pairs) (sym counted) (fed-server fed piece client server pairs is))
+
+-- ---- behind an exchange
+
+-- the octets behind the next place
+pub behind-place : (is_greeted : Bool) (client slice : List ℕ) (place : Option (List ℕ)) (rest : List ℕ) → slice ≡ client → BeginsWithPlace is_greeted client place rest → drop (length slice - length rest) client ≡ rest
+behind-place is_greeted client slice place rest same begins =
+    let long : length slice ≡ length client = ap length same in
+    let parts : length client ≡ length (begins.front ++ rest) = ap length begins.whole in
+    let size : length begins.front ≡ length slice - length rest = omega (arith, length-append begins.front rest) in
+    ap (drop (length slice - length rest)) begins.whole ∙ drop_at begins.front rest (length slice - length rest) size
+
+-- the frame that the search found is that of the response to the next place
+pub next-frame : (index : ℕ) (is_closed : Bool) (client server slice rest behind : List ℕ) (place : Option (List ℕ)) (search : FrameSearch) (initial : List ℕ) (block : Option (List ℕ)) (len : ℕ)
+    → is_closed ≡ false → BeginsWithPlace (nat_lt 0 index) client place rest → IsForNext (left_from index is_closed client server) search → slice ≡ server → behind ≡ drop len server
+    → ((asked : Asked) → prompt_kind asked ≡ search.kind → HasFrame asked slice initial block (drop len slice))
+    → (prompt_kind (asked_at place) ≡ search.kind) × HasFrame (asked_at place) server initial block behind
+next-frame index is_closed client server slice rest behind place search initial block len is_open begins is same drops found =
+    let kind = for-next (left_from index is_closed client server) search place is (begins-awaits index is_closed client server place rest is_open begins) in
+    (kind, subst (HasFrame (asked_at place) server initial block) (sym drops) (subst (λ t. HasFrame (asked_at place) t initial block (drop len t)) same (found (asked_at place) kind)))
+
+-- the next pair, with more octets behind both streams
+pub next-behind : (index : ℕ) (is_closed closes_behind : Bool) (client server rest behind_server initial : List ℕ) (block : Option (List ℕ)) (place : Option (List ℕ)) (pair : Paired) (behind : Unpaired)
+    → IsNext (left_from index is_closed client server) pair behind
+    → BeginsWithPlace (nat_lt 0 index) client place rest
+    → HasFrame (asked_at place) server initial block behind_server
+    → ((response : Response) → Spells (asked_at place) response (frame_octets initial block) → closes_behind ≡ closes (asked_at place) response)
+    → (client_more server_more : List ℕ)
+    → IsNext (left_from index is_closed (client ++ client_more) (server ++ server_more)) pair (left_from (index + 1) closes_behind (rest ++ client_more) (behind_server ++ server_more))
+next-behind index is_closed closes_behind client server rest behind_server initial block place pair behind next begins has closing client_more server_more =
+    let line : pair.line ≡ place = one-awaited (left_from index is_closed client server) pair.line place
+    (record { is_open = next.is_open; places = behind.places; first = next.place }) (begins-awaits index is_closed client server place rest next.is_open begins) in
+    let here : IsAnswered place server pair.initial pair.response behind.server = subst (λ p. IsAnswered p server pair.initial pair.response behind.server) line next.answered in
+    let same = one-frame (asked_at place) server pair.initial initial here.block block behind.server behind_server here.frame has in
+    let octets : frame_octets pair.initial here.block ≡ frame_octets initial block = ap (λ l. frame_octets l here.block) same.0 ∙ ap (frame_octets initial) same.1 in
+    let greeted = is_greeted (index + 1) (omega arith) in
+    record {
+      index = next.index;
+      is_open = next.is_open;
+      place = begins.places client_more ∙ ap (λ p. p ∷ places_from true (rest ++ client_more)) (sym line) ∙ ap (λ b. pair.line ∷ places_from b (rest ++ client_more)) (sym greeted);
+      answered = record {
+        block = next.answered.block;
+        frame = frame-more pair.line server pair.initial next.answered.block behind_server server_more
+            (subst (λ t. HasFrame (asked_at pair.line) server pair.initial next.answered.block t) same.2 next.answered.frame);
+        spells = next.answered.spells;
+      };
+      next_index = refl;
+      closing = closing pair.response (subst (Spells (asked_at place) pair.response) octets here.spells) ∙ ap (λ p. closes (asked_at p) pair.response) (sym line);
+    }
+
+-- the same with none
+pub next-here : (index : ℕ) (is_closed closes_behind : Bool) (client server rest behind_server : List ℕ) (pair : Paired)
+    → ((client_more server_more : List ℕ) → IsNext (left_from index is_closed (client ++ client_more) (server ++ server_more)) pair (left_from (index + 1) closes_behind (rest ++ client_more) (behind_server ++ server_more)))
+    → IsNext (left_from index is_closed client server) pair (left_from (index + 1) closes_behind rest behind_server)
+next-here index is_closed closes_behind client server rest behind_server pair next =
+    subst (λ t. IsNext (left_from index is_closed t server) pair (left_from (index + 1) closes_behind rest behind_server)) (append-nil client)
+    (subst (λ t. IsNext (left_from index is_closed (client ++ []) t) pair (left_from (index + 1) closes_behind rest behind_server)) (append-nil server)
+    (subst (λ t. IsNext (left_from index is_closed (client ++ []) (server ++ [])) pair (left_from (index + 1) closes_behind t behind_server)) (append-nil rest)
+    (subst (λ t. IsNext (left_from index is_closed (client ++ []) (server ++ [])) pair (left_from (index + 1) closes_behind (rest ++ []) t)) (append-nil behind_server) (next [] []))))
+
+-- one more pair came
+pub fed-push : (fed after : Fed) (client server : List ℕ) (pairs : List Paired) (pair : Paired) → IsFed fed client server pairs
+    → ((client_more server_more : List ℕ) → IsNext (left_of (with_server server_more (with_client client_more fed))) pair (left_of (with_server server_more (with_client client_more after))))
+    → after.client_count ≡ fed.client_count → after.server_count ≡ fed.server_count → IsFed after client server (pairs ++ pair ∷ [])
+fed-push fed after client server pairs pair is next client_count server_count = record {
+  paired = λ client_more server_more.
+      AreNext-push pairs (streams (client ++ client_more) (server ++ server_more)) (left_of (with_server server_more (with_client client_more fed))) (left_of (with_server server_more (with_client client_more after))) pair
+      (is.paired client_more server_more) (next client_more server_more);
+  client_came = client_count ∙ is.client_came;
+  server_came = server_count ∙ is.server_came;
+}

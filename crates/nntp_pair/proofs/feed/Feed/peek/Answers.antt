@@ -1,0 +1,60 @@
+use Rattle.std.proofs.Common.{ℕ, List, Option, MatchOption, refl, sym, subst, arith, drop}
+use Rattle.std.specs.Prelude.{⊤}
+use Rattle.std.specs.Option.{option_copied}
+use Rattle.nntp_wire.specs.Frame.{HasFrame}
+use Rattle.nntp_wire.specs.Search.{IsFrameThrough}
+use Rattle.nntp_pair.specs.Pairing.{Awaits, IsAnswered, IsMalformed, asked_at}
+use Rattle.nntp_pair.specs.Feeding.{IsPeek}
+use Rattle.nntp_pair.specs.Searching.{left_from, IsForNext}
+use Rattle.nntp_pair.specs.declared.class.PairClass.TheVariants.{Malformed}
+use Rattle.nntp_pair.specs.declared.peek.Peek.TheVariants as peek
+use Rattle.nntp_pair.proofs.FeedLemmas.{nothing, begins-awaits, for-next, next-of, malformed-for_good}
+use Rattle.nntp_pair.proofs.feed.Feed.peek.Goals as goal
+
+pub returns-in_default-frame : goal.returns-in_default-frame
+returns-in_default-frame g c =
+    let left = left_from c.self.inside.index c.self.inside.is_closed c.self.inside.client c.self.inside.server in
+    let none = subst (λ f. MatchOption f ((place : Option (List ℕ)) → ¬ (Awaits left place)) (IsFrameThrough left.server)) c.in_default-frame.is c.self.invariant.through.frame in
+    let both = nothing left c.if-self-2.false (λ place awaits. absurd (none place awaits)) in
+    subst (λ fed. IsPeek fed peek.Nothing) c.self.view_is (c.if-self.false, both.0, both.1)
+
+pub returns-in_default-frame-2 : goal.returns-in_default-frame-2
+returns-in_default-frame-2 g c =
+    let left = left_from c.self.inside.index c.self.inside.is_closed c.self.inside.client c.self.inside.server in
+    let is = subst (λ f. MatchOption f ⊤ (IsForNext left)) c.in-Some-frame.is c.self.invariant.searched.frame in
+    let both = nothing left c.if-self-2.false
+    (λ place awaits initial block rest has. c.in_default-frame-2.ensures.none (asked_at place) initial block rest (for-next left c.in-Some-frame.search place is awaits)
+    (subst (λ t. HasFrame (asked_at place) t initial block rest) (sym c.as_slice-server.ensures) has)) in
+    subst (λ fed. IsPeek fed peek.Nothing) c.self.view_is (c.if-self.false, both.0, both.1)
+
+pub of_frame-requires-clause-index : goal.of_frame-requires-clause-index
+of_frame-requires-clause-index g c = let counted = c.self.invariant.counted in let small = c.self.invariant.small in omega arith
+
+pub of_frame-requires-clause-frame : goal.of_frame-requires-clause-frame
+of_frame-requires-clause-frame g c =
+    let left = left_from c.self.inside.index c.self.inside.is_closed c.self.inside.client c.self.inside.server in
+    let place = option_copied c.in-Some.line in
+    let is = subst (λ f. MatchOption f ⊤ (IsForNext left)) c.in-Some-frame.is c.self.invariant.searched.frame in
+    let begins = rw c.as_slice-client.ensures at c.in-Some.ensures in
+    let awaits = begins-awaits c.self.inside.index c.self.inside.is_closed c.self.inside.client c.self.inside.server place c.in-Some.field-0-1.now c.if-self-2.false begins in
+    c.in-Some-frame-2.ensures.found (asked_at place) (for-next left c.in-Some-frame.search place is awaits)
+
+pub returns-in-Ok : goal.returns-in-Ok
+returns-in-Ok g c =
+    let left = left_from c.self.inside.index c.self.inside.is_closed c.self.inside.client c.self.inside.server in
+    let place = option_copied c.in-Some.line in
+    let begins = rw c.as_slice-client.ensures at c.in-Some.ensures in
+    let awaits = begins-awaits c.self.inside.index c.self.inside.is_closed c.self.inside.client c.self.inside.server place c.in-Some.field-0-1.now c.if-self-2.false begins in
+    let rest = drop c.in-Some-frame-2.frame.len c.as_slice-server.result.now in
+    let answered = subst (λ t. IsAnswered place t c.in-Ok.exchange.initial c.in-Ok.exchange.response rest) c.as_slice-server.ensures c.in-Ok.ensures.2 in
+    let next = next-of left place c.in-Ok.exchange rest awaits c.in-Ok.ensures.0 c.in-Ok.ensures.1 answered in
+    subst (λ fed. IsPeek fed (peek.Whole c.in-Ok.exchange)) c.self.view_is (c.if-self.false, next.0, next.1)
+
+pub returns-in-Err : goal.returns-in-Err
+returns-in-Err g c =
+    let left = left_from c.self.inside.index c.self.inside.is_closed c.self.inside.client c.self.inside.server in
+    let place = option_copied c.in-Some.line in
+    let begins = rw c.as_slice-client.ensures at c.in-Some.ensures in
+    let awaits = begins-awaits c.self.inside.index c.self.inside.is_closed c.self.inside.client c.self.inside.server place c.in-Some.field-0-1.now c.if-self-2.false begins in
+    let why = subst (λ t. IsMalformed (asked_at place) t) c.as_slice-server.ensures c.in-Err.ensures in
+    subst (λ fed. IsPeek fed (peek.Bad c.self.inside.index Malformed)) c.self.view_is (c.if-self.false, refl, malformed-for_good left place awaits why)

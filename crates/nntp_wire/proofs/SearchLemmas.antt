@@ -1,0 +1,89 @@
+-- How far a search has come stays true when more octets follow, and how it goes on.
+use Rattle.std.proofs.Common.{◌≡◌, ℕ, ◌+◌, ◌-◌, ◌<◌, ◌≤◌, List, [], ◌++◌, length, drop, sym, ◌∙◌, subst, arith, append_assoc, length-append, length-drop, get_or, ap, ◌⊎◌, inl, inr}
+use Rattle.std.proofs.lemmas.List.{get_or_append_left, get_or-drop}
+use Rattle.std.proofs.lemmas.Bool.{cases_lt}
+use Rattle.memchr.specs.Find.{OccursAt, NoneBefore, Nowhere}
+use Rattle.nntp_wire.specs.Octets.{crlf}
+use Rattle.nntp_wire.specs.Block.{end_of_block}
+use Rattle.nntp_wire.specs.Search.{IsPassed, IsSearched, IsLineSearched, IsFrameSearched}
+use Rattle.nntp_wire.specs.declared.search.Search.{Search}
+use Rattle.nntp_wire.specs.declared.search.Search.TheVariants.{Passed, Found}
+use Rattle.nntp_wire.specs.declared.stream.LineSearch.{LineSearch}
+use Rattle.nntp_wire.specs.declared.framing.FrameSearch.{FrameSearch}
+
+-- a needle stands in a stream also when more follows
+pub occurs-more : (s more p : List ℕ) (k : ℕ) → OccursAt s p k → OccursAt (s ++ more) p k
+occurs-more s more p k at = record {
+  fits = let fits = at.fits in omega (arith, length-append s more);
+  reads = λ j h. get_or_append_left s more 0 (k + j) (let fits = at.fits in omega arith) ∙ at.reads j h;
+}
+
+-- a needle that stands in a stream's front stands there without what follows
+pub occurs-front : (s more p : List ℕ) (k : ℕ) → k + length p ≤ length s → OccursAt (s ++ more) p k → OccursAt s p k
+occurs-front s more p k fits at = record {
+  fits = fits;
+  reads = λ j h. sym (get_or_append_left s more 0 (k + j) (omega arith)) ∙ at.reads j h;
+}
+
+-- a needle behind the first n octets
+occurs-ahead : (s p : List ℕ) (n k : ℕ) → n ≤ k → OccursAt s p k → OccursAt (drop n s) p (k - n)
+occurs-ahead s p n k low at = record {
+  fits = let fits = at.fits in omega (arith, length-drop n s);
+  reads = λ j h. get_or-drop n s ((k - n) + j) 0 ∙ ap (λ i. get_or s i 0) (let same : n + ((k - n) + j) ≡ k + j = omega arith in same) ∙ at.reads j h;
+}
+
+occurs-back : (s p : List ℕ) (n k : ℕ) → n ≤ length s → OccursAt (drop n s) p k → OccursAt s p (n + k)
+occurs-back s p n k low at = record {
+  fits = let fits = at.fits in omega (arith, length-drop n s);
+  reads = λ j h. ap (λ i. get_or s i 0) (let same : (n + k) + j ≡ n + (k + j) = omega arith in same) ∙ sym (get_or-drop n s (k + j) 0) ∙ at.reads j h;
+}
+
+-- where more octets follow, as many are passed
+passed-more : (p s more : List ℕ) (n : ℕ) → IsPassed p s n → IsPassed p (s ++ more) n
+passed-more p s more n passed = record {
+  within = let within = passed.within in omega (arith, length-append s more);
+  nowhere = λ later k low at. passed.nowhere (more ++ later) k low (subst (λ t. OccursAt t p k) (append_assoc s more later) at);
+}
+
+pub searched-more : (p s more : List ℕ) (search : Search) → IsSearched p s search → IsSearched p (s ++ more) search
+searched-more p s more (Passed n) passed = passed-more p s more n passed
+searched-more p s more (Found n) (passed, at) = (passed-more p s more n passed, occurs-more s more p n at)
+
+pub line_searched-more : (s more : List ℕ) (search : LineSearch) → IsLineSearched s search → IsLineSearched (s ++ more) search
+line_searched-more s more search searched = searched-more crlf s more search.end searched
+
+pub frame_searched-more : (s more : List ℕ) (search : FrameSearch) → IsFrameSearched s search → IsFrameSearched (s ++ more) search
+frame_searched-more s more search searched = record { line = line_searched-more s more search.line searched.line; block = searched-more end_of_block s more search.block_end searched.block }
+
+-- in the stream itself a needle begins at none of the octets that are passed
+pub passed-here : (p s : List ℕ) (n k : ℕ) → IsPassed p s n → k < n → ¬ (OccursAt s p k)
+passed-here p s n k passed low at = passed.nowhere [] k low (occurs-more s [] p k at)
+
+-- it begins at none of the first m octets, if it fits behind each of these and begins at none of them
+passed-fits : (p s : List ℕ) (m : ℕ) → m ≤ length s → ((k : ℕ) → k < m → k + length p ≤ length s) → ((k : ℕ) → k < m → ¬ (OccursAt s p k)) → IsPassed p s m
+passed-fits p s m within fits none = record { within = within; nowhere = λ more k low at. none k low (occurs-front s more p k (fits k low) at) }
+
+-- the needle is found behind what is passed
+pub found-ahead : (p s : List ℕ) (n e : ℕ) → IsPassed p s n → NoneBefore (OccursAt (drop n s) p) 0 (length (drop n s) + 1) e × OccursAt (drop n s) p e
+    → IsPassed p s (n + e) × OccursAt s p (n + e)
+found-ahead p s n e passed (none, at) =
+    let within = passed.within in
+    let here : OccursAt s p (n + e) = occurs-back s p n e within at in
+    let fits = here.fits in (
+      passed-fits p s (n + e) (omega arith) (λ k low. omega arith) (λ k low. before k low (cases_lt k n)),
+      here,
+    ) where
+      before : (k : ℕ) → k < n + e → (k < n) ⊎ (n ≤ k) → ¬ (OccursAt s p k)
+      before k low (inl less) at = passed-here p s n k passed less at
+      before k low (inr more) at = none.before (k - n) (omega arith) (omega arith) (occurs-ahead s p n k more at)
+
+-- it is found nowhere
+pub nowhere-ahead : (p s : List ℕ) (n k : ℕ) → IsPassed p s n → Nowhere (OccursAt (drop n s) p) 0 (length (drop n s) + 1) → ¬ (OccursAt s p k)
+nowhere-ahead p s n k passed none at = by (cases_lt k n) where
+  by : (k < n) ⊎ (n ≤ k) → ⊥
+  by (inl less) = passed-here p s n k passed less at
+  by (inr more) = none (k - n) (omega arith) (let fits = at.fits in omega (arith, length-drop n s)) (occurs-ahead s p n k more at)
+
+-- so all octets are passed but the last ones, among which it may begin
+pub all-passed : (p s : List ℕ) (m : ℕ) → 0 < length p → m ≡ (length s + 1) - length p → ((k : ℕ) → ¬ (OccursAt s p k)) → IsPassed p s m
+all-passed p s m some is none = passed-fits p s m (omega arith) (λ k low. omega arith) (λ k low. none k)

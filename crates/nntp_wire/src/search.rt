@@ -1,0 +1,41 @@
+//! The search for some octets in a stream that grows.
+ghost use Rattle.std.specs.Prelude.{◌<◌, ℕ, List, length};
+ghost use Rattle.nntp_wire.specs.Search.{IsSearched, IsThrough};
+
+use memchr::memmem;
+
+/// How far the search for some octets, its needle, has come in a stream that grows. No octet that can't begin or end
+/// the needle any more is looked at again.
+#[derive(Clone, Copy, Debug, PartialEq, Eq)]
+pub(crate) enum Search {
+    /// It begins at none of so many octets at the front of the stream, whatever follows.
+    Passed(usize),
+    /// It begins behind so many octets, and nowhere before.
+    Found(usize),
+}
+
+impl Search {
+    /// A search that begins.
+    pub(crate) fn new() -> Search
+        ensures { (needle stream : List ℕ) → IsSearched needle stream result }
+    {
+        Search::Passed(0)
+    }
+
+    /// Goes on to the end of the stream, of which it has seen this or a front.
+    pub(crate) fn go_on(&mut self, needle: &[u8], stream: &[u8])
+        requires some { 0 < length needle.now }
+        requires searched { IsSearched needle.now stream.now self.old }
+        ensures searched { IsSearched needle.now stream.now self.new }
+        ensures through { IsThrough needle.now stream.now self.new }
+    {
+        let Search::Passed(passed) = *self else {
+            return;
+        };
+        let (_, ahead) = stream.split_at(passed);
+        *self = match memmem::find(ahead, needle) {
+            Some(end) => Search::Found(passed + end),
+            None => Search::Passed((stream.len() + 1).saturating_sub(needle.len())),
+        };
+    }
+}
