@@ -21,6 +21,7 @@ pub mod PermittedPairs
 pub mod Firsts
 pub mod ListedNumbers
 pub mod ListedGroups
+pub mod AskedCounts
 pub mod VerifiedPairs
 pub mod NumberIds
 pub mod GreatestKeys

@@ -15,4 +15,5 @@ pub mod Building
 pub mod Sessions
 pub mod ListedNumbers
 pub mod ListedGroups
+pub mod AskedCounts
 pub mod Verifying

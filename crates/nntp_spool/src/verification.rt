@@ -4,6 +4,7 @@ ghost use Rattle.nntp_article.specs.Limit.{profile_31_bits};
 ghost use Rattle.nntp_spool.specs.Verifying.{IsVerified};
 
 mod agreement;
+mod asked_counts;
 mod listed_groups;
 mod lookups;
 mod sent_lines;
@@ -11,6 +12,7 @@ mod session;
 mod verified;
 
 use crate::value::Spool;
+use asked_counts::AskedCounts;
 use nntp_article::PROFILE_31_BITS;
 use nntp_pair::{Pairs, Step};
 use session::Session;
@@ -30,11 +32,12 @@ pub fn verify<A: Allocator + Copy>(
     let content = spool.content();
     let mut pairs = Pairs::new(client, server);
     let mut session = Session::new(alloc);
+    let mut counts = AskedCounts::new(alloc);
     let mut answers = 0;
     loop {
         match pairs.next() {
             Step::Exchange(exchange) => {
-                if !session.may_answer(PROFILE_31_BITS, content, &exchange)? {
+                if !session.may_answer(PROFILE_31_BITS, content, &mut counts, &exchange)? {
                     return Ok(Verified::Refuses { index: answers });
                 }
                 session.advance(content, &exchange)?;

@@ -1,5 +1,5 @@
 //! Whether an answer agrees with a spool, a row of the machine's table at a time.
-ghost use Rattle.std.specs.Prelude.{◌≡◌, ℕ, ◌↔◌, true, IsTrue, List, Option};
+ghost use Rattle.std.specs.Prelude.{◌≡◌, ℕ, ◌↔◌, true, IsTrue, IfOk, List, Option};
 ghost use Rattle.nntp_wire.specs.View.{asked, request, target};
 ghost use Rattle.nntp_wire.specs.AnswerView.{response};
 ghost use Rattle.nntp_wire.specs.Answer.{plain, sends, group_is, numbers_are, active_are};
@@ -7,29 +7,34 @@ ghost use Rattle.nntp_wire.specs.Listing.{listed_numbers, active_groups};
 ghost use Rattle.nntp_wire.specs.Name.{IsGroupName};
 ghost use Rattle.nntp_article.specs.Machine.{is_ascending, names_differ, Agrees, Bound, CodeAgrees, NumberAgrees};
 ghost use Rattle.nntp_article.specs.Spool.{Name, IsGroup, HasText, Lists, numbers as numbers_of};
+ghost use Rattle.nntp_spool.specs.AskedCounts.{AreCounted};
 ghost use Rattle.nntp_spool.specs.Sessions.{is_in_order};
 
 use crate::value::content::Content;
+use crate::verification::asked_counts::AskedCounts;
 use crate::verification::listed_groups::lists_groups;
 use crate::verification::sent_lines::has_text;
 use crate::verification::session::Session;
 use nntp_article::{is_generic_failure, is_success};
 use nntp_wire::{Answer, Block, Command, Prompt, Range, WaterMarks, What, Which};
-use std::alloc::Allocator;
+use std::alloc::{AllocError, Allocator};
 
 impl<A: Allocator + Copy> Session<A> {
     /// Whether an answer that fits agrees with the spool.
     pub(crate) fn agrees(
         &self,
         spool: &Content<A>,
+        counts: &mut AskedCounts<A>,
         prompt: &Prompt<'_>,
         answer: &Answer<'_>,
-    ) -> bool
+    ) -> Result<bool, AllocError>
         requires names { (name : Name) → IsGroup spool.now name → IsGroupName name }
         requires order { is_in_order (response answer.now) ≡ true }
-        ensures { IsTrue result ↔ Agrees spool.now self.now (asked prompt.now) (response answer.now) }
+        requires counted { AreCounted spool.now counts.old }
+        ensures counted { IfOk result (λ _. AreCounted spool.now counts.new) }
+        ensures agrees { IfOk result (λ agrees. IsTrue agrees ↔ Agrees spool.now self.now (asked prompt.now) (response answer.now)) }
     {
-        match answer {
+        Ok(match answer {
             Answer::Plain { code } => self.agrees_plain(spool, prompt, *code),
             Answer::Group {
                 estimate,
@@ -56,8 +61,8 @@ impl<A: Allocator + Copy> Session<A> {
                 id,
                 block,
             } => self.agrees_sent(spool, prompt, *code, *number, id.as_slice(), block),
-            Answer::Active(block) => self.agrees_active(spool, prompt, block),
-        }
+            Answer::Active(block) => self.agrees_active(spool, counts, prompt, block)?,
+        })
     }
 
     /// A code alone.
@@ -194,14 +199,25 @@ impl<A: Allocator + Copy> Session<A> {
     }
 
     /// 215 to LIST ACTIVE.
-    fn agrees_active(&self, spool: &Content<A>, prompt: &Prompt<'_>, block: &Block<'_>) -> bool
+    fn agrees_active(
+        &self,
+        spool: &Content<A>,
+        counts: &mut AskedCounts<A>,
+        prompt: &Prompt<'_>,
+        block: &Block<'_>,
+    ) -> Result<bool, AllocError>
         requires names { (name : Name) → IsGroup spool.now name → IsGroupName name }
         requires differ { names_differ (active_groups block.now) ≡ true }
-        ensures { IsTrue result ↔ Agrees spool.now self.now (asked prompt.now) (active_are block.now) }
+        requires counted { AreCounted spool.now counts.old }
+        ensures counted { IfOk result (λ _. AreCounted spool.now counts.new) }
+        ensures agrees { IfOk result (λ agrees. IsTrue agrees ↔ Agrees spool.now self.now (asked prompt.now) (active_are block.now)) }
     {
         match prompt {
-            Prompt::To(Command::ListActive(wildmat)) => lists_groups(spool, wildmat, block),
-            _ => false,
+            Prompt::To(Command::ListActive(wildmat)) => {
+                let lists = lists_groups(spool, counts, wildmat, block)?;
+                Ok(lists)
+            }
+            _ => Ok(false),
         }
     }
 }

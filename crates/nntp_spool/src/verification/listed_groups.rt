@@ -1,18 +1,19 @@
 //! Whether the groups that LIST ACTIVE lists are those of a spool (RFC 3977, section 7.6.3).
-ghost use Rattle.std.specs.Prelude.{◌≡◌, ℕ, ◌≤◌, ◌↔◌, true, length, IsTrue};
-ghost use Rattle.std.specs.List.{count_by, AllByRecursion};
-ghost use Rattle.std.specs.FinMap as map;
+ghost use Rattle.std.specs.Prelude.{◌≡◌, ℕ, ◌≤◌, ◌↔◌, true, length, IsTrue, IfOk};
+ghost use Rattle.std.specs.List.{AllByRecursion};
 ghost use Rattle.nntp_wire.specs.Name.{IsGroupName};
 ghost use Rattle.nntp_wire.specs.Listing.{active_groups};
 ghost use Rattle.nntp_wire.specs.View.{active_value};
 ghost use Rattle.nntp_article.specs.Spool.{Name, IsGroup, IsNumber, numbers as numbers_of};
 ghost use Rattle.nntp_article.specs.Machine.{names_differ, ActivesAgree};
+ghost use Rattle.nntp_spool.specs.AskedCounts.{AreCounted, asked_count};
 ghost use Rattle.nntp_spool.specs.ListedGroups.{LineAgrees, is_asked};
 
 use crate::value::content::Content;
+use crate::verification::asked_counts::AskedCounts;
 use nntp_wire::laws::{group_names_are_decided, matching_is_decided};
 use nntp_wire::{ActiveLine, Block, GroupName, Wildmat, matches_if_given};
-use std::alloc::Allocator;
+use std::alloc::{AllocError, Allocator};
 
 /// Whether a listed group is one of the spool, matches, and has its numbers between the marks.
 fn agrees_line<A: Allocator>(
@@ -65,8 +66,8 @@ fn is_asked(wildmat: &Option<Wildmat<'_>>, name: &[u8]) -> bool
 
 impl<A: Allocator> Content<A> {
     /// How many groups match.
-    fn count_asked(&self, wildmat: &Option<Wildmat<'_>>) -> usize
-        ensures { result ≡ count_by (λ e. is_asked wildmat.now e.0) (map.entries self.now.groups) }
+    pub(crate) fn count_asked(&self, wildmat: &Option<Wildmat<'_>>) -> usize
+        ensures { result ≡ asked_count self.now wildmat.now }
     {
         self.groups
             .iter()
@@ -84,15 +85,21 @@ fn count_listed(block: &Block<'_>) -> usize
 
 /// Whether exactly the matching groups are listed, and the marks bound their numbers. No group is
 /// listed twice, so none is missing where as many are listed as match.
-pub(crate) fn lists_groups<A: Allocator>(
+pub(crate) fn lists_groups<A: Allocator + Copy>(
     spool: &Content<A>,
+    counts: &mut AskedCounts<A>,
     wildmat: &Option<Wildmat<'_>>,
     block: &Block<'_>,
-) -> bool
+) -> Result<bool, AllocError>
     requires differ { names_differ (active_groups block.now) ≡ true }
     requires names { (name : Name) → IsGroup spool.now name → IsGroupName name }
-    ensures { IsTrue result ↔ ActivesAgree spool.now wildmat.now (active_groups block.now) }
+    requires counted { AreCounted spool.now counts.old }
+    ensures counted { IfOk result (λ _. AreCounted spool.now counts.new) }
+    ensures lists { IfOk result (λ lists. IsTrue lists ↔ ActivesAgree spool.now wildmat.now (active_groups block.now)) }
 {
     matching_is_decided();
-    agree_lines(spool, wildmat, block) && spool.count_asked(wildmat) == count_listed(block)
+    if !agree_lines(spool, wildmat, block) {
+        return Ok(false);
+    }
+    Ok(counts.count(spool, wildmat)? == count_listed(block))
 }

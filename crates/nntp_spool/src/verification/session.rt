@@ -5,10 +5,12 @@ ghost use Rattle.nntp_wire.specs.AnswerView.{response};
 ghost use Rattle.nntp_pair.specs.Pairing.{asked_at};
 ghost use Rattle.nntp_article.specs.Machine.{start, MayAnswer, after, current_after, selected_numbers};
 ghost use Rattle.nntp_article.specs.Spool.{IsSpool, least, numbers as numbers_of};
+ghost use Rattle.nntp_spool.specs.AskedCounts.{AreCounted};
 ghost use Rattle.std.specs.FinMap as map;
 
 use crate::value::content::Content;
 use crate::value::numbers::Numbers;
+use crate::verification::asked_counts::AskedCounts;
 use nntp_article::laws::first_is_least;
 use nntp_article::{Profile, Visible};
 use nntp_pair::Exchange;
@@ -52,17 +54,20 @@ impl<A: Allocator + Copy> Session<A> {
         &self,
         profile: Profile,
         spool: &Content<A>,
+        counts: &mut AskedCounts<A>,
         exchange: &Exchange<'_>,
     ) -> Result<bool, AllocError>
-        requires { IsSpool profile spool.now }
-        ensures { IfOk result (λ may. IsTrue may ↔ MayAnswer profile spool.now self.now (asked_at exchange.now.line) exchange.now.response) }
+        requires spool { IsSpool profile spool.now }
+        requires counted { AreCounted spool.now counts.old }
+        ensures counted { IfOk result (λ _. AreCounted spool.now counts.new) }
+        ensures may { IfOk result (λ may. IsTrue may ↔ MayAnswer profile spool.now self.now (asked_at exchange.now.line) exchange.now.response) }
     {
         let prompt = exchange.prompt();
         let answer = exchange.answer();
         if self.visible.is_closed() || !self.visible.fits(profile, prompt, answer)? {
             return Ok(false);
         }
-        Ok(self.agrees(spool, prompt, answer))
+        self.agrees(spool, counts, prompt, answer)
     }
 
     /// Goes on to the state that the exchange leaves.

@@ -1,0 +1,25 @@
+-- Counts of matching groups that are remembered.
+use Rattle.std.proofs.Common.{◌≡◌, ℕ, Bool, true, false, cond, List, Option, None, Some, refl, sym, subst}
+use Rattle.std.specs.Prelude.{IfSome}
+use Rattle.std.specs.Ordering.{nat_cmp, eq_by_cmp}
+use Rattle.std.specs.Cmp.Lexicographic.{slice_cmp, nat_list_cmp_total}
+use Rattle.std.specs.FinMap.{get, get-insert}
+use Rattle.nntp_wire.proofs.ShownMaps.{equal_is}
+use Rattle.nntp_article.specs.Spool.{Spool}
+use Rattle.nntp_spool.specs.AskedCounts.{AskedCounts, AreCounted, asked_count, with_count}
+use Rattle.nntp_spool.proofs.ShownMaps.{octet_keys}
+
+pub counts_are : (a b : AskedCounts) → a.all ≡ b.all → a.by_wildmat ≡ b.by_wildmat → a ≡ b
+counts_are a b e f i = record { all = e i; by_wildmat = f i }
+
+-- one more count, if it is that of the spool
+pub one_more : (S : Spool) (counts : AskedCounts) (p : Option (List ℕ)) (n : ℕ) → n ≡ asked_count S p → AreCounted S counts → AreCounted S (with_count p n counts)
+one_more S counts None n e all None = e
+one_more S counts None n e all (Some v) = all (Some v)
+one_more S counts (Some w) n e all None = all None
+one_more S counts (Some w) n e all (Some v) =
+    subst (λ o. IfSome o (λ m. m ≡ asked_count S (Some v))) (sym (get-insert nat_list_cmp_total counts.by_wildmat w n v)) (by (eq_by_cmp (slice_cmp nat_cmp) v w) refl)
+  where
+    by : (b : Bool) → eq_by_cmp (slice_cmp nat_cmp) v w ≡ b → IfSome (cond b (Some n) (get counts.by_wildmat v)) (λ m. m ≡ asked_count S (Some v))
+    by true t = subst (λ w. n ≡ asked_count S (Some w)) (sym (octet_keys v w (equal_is (slice_cmp nat_cmp v w) t))) e
+    by false f = all (Some v)

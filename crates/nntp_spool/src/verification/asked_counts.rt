@@ -1,0 +1,89 @@
+//! How many groups of a spool match the wildmats of LIST ACTIVE, each counted once (RFC 3977, section 7.6.3).
+ghost use Rattle.std.specs.Prelude.{◌≡◌, IfOk, OnOk};
+ghost use Rattle.nntp_article.specs.Spool.{Spool as SpoolValue};
+ghost use Rattle.nntp_spool.specs.AskedCounts.{AreCounted, asked_count, remembered, with_count};
+
+use crate::value::content::Content;
+use nntp_wire::Wildmat;
+use std::alloc::{AllocError, Allocator};
+use std::collections::BTreeMap;
+use std::marker::Model;
+
+/// How many groups match each wildmat that was asked for.
+#[derive(Drop)]
+pub(crate) struct AskedCounts<A: Allocator> {
+    alloc: A,
+    /// How many groups there are, once no wildmat was given.
+    all: Option<usize>,
+    by_wildmat: BTreeMap<Vec<u8, A>, usize, A>,
+}
+
+impl<A: Allocator> Model for AskedCounts<A> {
+    ghost use Rattle.std.specs.Prelude.{map};
+    ghost use Rattle.std.specs.FinMap.{from_entries};
+    ghost use Rattle.nntp_spool.specs.AskedCounts.{AskedCounts as Counts};
+    ghost use Rattle.nntp_spool.specs.Codes.{coded_counts};
+
+    ghost Value = { Counts };
+
+    ghost coded = { coded_counts };
+
+    ghost view = { λ a. record { all = a.all; by_wildmat = from_entries (map (λ e. (e.0.items, e.1)) a.by_wildmat.entries) } };
+}
+
+impl<A: Allocator + Copy> AskedCounts<A> {
+    /// Nothing was counted yet.
+    pub(crate) fn new(alloc: A) -> AskedCounts<A>
+        ensures { (S : SpoolValue) → AreCounted S result }
+    {
+        AskedCounts {
+            alloc,
+            all: None,
+            by_wildmat: BTreeMap::new(alloc),
+        }
+    }
+
+    /// How many groups match. The spool's groups are gone through at the first time alone that this is asked for.
+    pub(crate) fn count(
+        &mut self,
+        spool: &Content<A>,
+        wildmat: &Option<Wildmat<'_>>,
+    ) -> Result<usize, AllocError>
+        requires { AreCounted spool.now self.old }
+        ensures count { IfOk result (λ count. count ≡ asked_count spool.now wildmat.now) }
+        ensures counted { IfOk result (λ _. AreCounted spool.now self.new) }
+    {
+        if let Some(count) = self.remembered(wildmat) {
+            return Ok(count);
+        }
+        let count = spool.count_asked(wildmat);
+        self.remember(wildmat, count)?;
+        Ok(count)
+    }
+
+    /// Remembers a count.
+    fn remember(&mut self, wildmat: &Option<Wildmat<'_>>, count: usize) -> Result<(), AllocError>
+        ensures { OnOk result (self.new ≡ with_count wildmat.now count self.old) }
+    {
+        match wildmat {
+            Some(wildmat) => {
+                let octets = Vec::from_slice(self.alloc, wildmat.as_slice())?;
+                self.by_wildmat.insert(octets, count)?;
+            }
+            None => self.all = Some(count),
+        }
+        Ok(())
+    }
+}
+
+impl<A: Allocator> AskedCounts<A> {
+    /// The count that is remembered.
+    fn remembered(&self, wildmat: &Option<Wildmat<'_>>) -> Option<usize>
+        ensures { result ≡ remembered self.now wildmat.now }
+    {
+        match wildmat {
+            Some(wildmat) => self.by_wildmat.get(wildmat.as_slice()).copied(),
+            None => self.all,
+        }
+    }
+}
