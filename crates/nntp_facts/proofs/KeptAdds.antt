@@ -20,7 +20,7 @@ use Rattle.nntp_facts.specs.SayingView.{facts_placed, asks_placed}
 use Rattle.nntp_facts.specs.declared.ask.Position.{Position}
 use Rattle.nntp_facts.proofs.Gives.{any_silent, given_append, given_silent}
 use Rattle.nntp_facts.proofs.Joined.{asks_append}
-use Rattle.nntp_facts.proofs.NamesKept.{not_before}
+use Rattle.nntp_facts.proofs.NamesKept.{not_before, counted_still, all_still}
 use Rattle.nntp_facts.proofs.Silent.{GiveNoIds, told_same}
 use Rattle.nntp_facts.proofs.OneGroup.{AskOf, asked_here, asked_elsewhere, GiveId, same_self, shown_still}
 use Rattle.nntp_facts.proofs.Shapes.{asking_asks, asking_ids, stepping_asks, stepping_ids, placing_asks, placing_ids, placing_names, selecting, selecting_asks, selecting_ids, selecting_shown}
@@ -30,7 +30,8 @@ use Rattle.nntp_facts.proofs.Shapes.{asking_asks, asking_ids, stepping_asks, ste
 -- more facts that deny no name leave what is kept of names
 pub names_kept : (facts more : List Fact) (k : KeptNames) → ((name : Name) → list_any (denies_group name) more ≡ false) → AreKeptNames facts k → AreKeptNames (facts ++ more) k
 names_kept facts more k none kept = record {
-  wildmats = kept.wildmats;
+  wildmats = counted_still facts more k kept;
+  all_listed = all_still facts more k kept;
   denied = λ name not_shown. any_silent (denies_group name) facts more (none name) ∙ kept.denied name (not_before facts more name not_shown);
 }
 

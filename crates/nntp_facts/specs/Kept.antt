@@ -1,5 +1,5 @@
 -- What is kept of all that a session says: of each group, of each id, and of the names that are no groups.
-use Rattle.std.specs.Prelude.{◌≡◌, ℕ, Bool, true, false, not, ◌||◌, ◌==◌, if◌then◌else◌, List, [], ◌∷◌, ◌++◌, Option, None, Some, MatchOption, IsTrue, IsSome, IfSome}
+use Rattle.std.specs.Prelude.{◌≡◌, ℕ, Bool, true, false, not, ◌||◌, ◌==◌, if◌then◌else◌, List, [], ◌∷◌, ◌++◌, Option, None, Some, MatchOption, IsTrue, IsSome, IfSome, is_some}
 use Rattle.std.specs.Option.{option_or}
 use Rattle.std.specs.List.{list_any, AllByRecursion}
 use Rattle.std.specs.Ordering.{nat_cmp}
@@ -15,6 +15,7 @@ use Rattle.nntp_facts.specs.Facts.{Fact}
 use Rattle.nntp_facts.specs.Given.{is_shown, asks_of, is_shown_group, first_given, id_in, is_mentioned, is_sent, head_in, body_in}
 use Rattle.nntp_facts.specs.Together.{number_in, denies_group, shows_article, denies_article, JoinArticles, Join}
 use Rattle.nntp_facts.specs.Summary.{Summary, IsSummary}
+use Rattle.nntp_facts.specs.ListedGroups.{WereListed}
 use Rattle.nntp_facts.specs.declared.fit.Fit.{Fit}
 use Rattle.nntp_facts.specs.declared.fit.Fit.TheVariants.{Never, Again, New}
 
@@ -115,19 +116,24 @@ pub record Changes (before after : Name → Told) (name : Name) (t : Told) : Typ
 
 -- ---- names
 
--- of names: those that are said to be no group, the wildmats that LIST ACTIVE answered, and whether it answered without one
+-- of names: those that are said to be no group, the wildmats that LIST ACTIVE answered, each with how many groups it listed, and how many it listed without one, if it did
 pub record KeptNames : Type 0 where
   pub denied : List Name
-  pub wildmats : List (List ℕ)
-  pub all_listed : Bool
+  pub wildmats : List (List ℕ × ℕ)
+  pub all_listed : Option ℕ
 
 -- the name is denied, if it isn't shown: it is said to be no group, or LIST ACTIVE would have listed it
 abbrev pub is_denied_name : KeptNames → Name → Bool
-is_denied_name k name = list_any (λ g. is_same g name) k.denied || k.all_listed || list_any (λ w. matches_name w name) k.wildmats
+is_denied_name k name = list_any (λ g. is_same g name) k.denied || is_some k.all_listed || list_any (λ e. matches_name e.0 name) k.wildmats
+
+-- this is a wildmat, for which so many groups were listed
+abbrev pub WasAnswered : List Fact → List ℕ × ℕ → Type 0
+WasAnswered facts e = IsTrue (is_wildmat e.0) × WereListed facts (Some e.0) e.1
 
 -- k is kept of what the facts say of names
 pub record AreKeptNames (facts : List Fact) (k : KeptNames) : Type 0 where
-  pub wildmats : AllByRecursion (λ w. IsTrue (is_wildmat w)) k.wildmats
+  pub wildmats : AllByRecursion (WasAnswered facts) k.wildmats
+  pub all_listed : IfSome k.all_listed (WereListed facts None)
   pub denied : (name : Name) → is_shown_group facts name ≡ false → list_any (denies_group name) facts ≡ is_denied_name k name
 
 -- ---- ids

@@ -12,7 +12,7 @@ use Rattle.nntp_facts.specs.Noted.{FactsKept}
 
 abbrev pub coded_names : Coded KeptNames
 coded_names =
-    code_by _ (coded× (coded_list (coded_list coded_ℕ)) (coded× (coded_list (coded_list coded_ℕ)) coded_bool))
+    code_by _ (coded× (coded_list (coded_list coded_ℕ)) (coded× (coded_list (coded× (coded_list coded_ℕ) coded_ℕ)) (coded_option coded_ℕ)))
     (λ k. (k.denied, (k.wildmats, k.all_listed)))
     (λ p. record { denied = p.0; wildmats = p.1.0; all_listed = p.1.1 }) (λ _. refl)
 

@@ -4,13 +4,14 @@ use Rattle.nntp_article.specs.Article.{Id, Line}
 use Rattle.nntp_article.specs.Spool.{Name}
 use Rattle.nntp_wire.specs.declared.command.What.{What}
 use Rattle.nntp_wire.specs.Listing.{active_groups}
-use Rattle.nntp_article.specs.Machine.{Visible, head_fits, names_differ}
+use Rattle.nntp_article.specs.Machine.{Visible, head_fits}
 use Rattle.nntp_facts.specs.Asks.{Ask, Estimates, ListsIn, Has, StandsAt, StepsUp, StepsDown}
 use Rattle.nntp_facts.specs.Facts.{Fact, ThereIs, ThereIsNo, Asks, IdAt, TextIs, NoArticle, GroupsAre}
 use Rattle.nntp_facts.specs.Given.{is_shown_group}
 use Rattle.nntp_facts.specs.AskView.{ask_of, position_of}
 use Rattle.nntp_facts.specs.declared.ask.Position.{Position}
 use Rattle.nntp_facts.specs.Listing.{AreListable}
+use Rattle.nntp_facts.specs.ListedGroups.{MayList}
 use Rattle.nntp_facts.specs.declared.saying.Saying.{Saying}
 use Rattle.nntp_facts.specs.declared.saying.Saying.TheVariants as say
 
@@ -42,7 +43,7 @@ facts_said here (say.Groups wildmat block) = GroupsAre wildmat.now (active_group
 abbrev pub IsSelectedShown : Visible → List Fact → Type 0
 IsSelectedShown v facts = IfSome v.selected (λ name. is_shown_group facts name ≡ true)
 
--- an answer that fits says it behind these facts: the selected group is shown where it speaks of it, listed numbers ascend in their range, a head is one, and no group is listed twice
+-- an answer that fits says it behind these facts: the selected group is shown where it speaks of it, listed numbers ascend in their range, a head is one, and listed groups match, none twice
 abbrev pub MaySay : {A : Type 0} → List Fact → Name → Saying A → Type 0
 MaySay facts here (say.Asks ask) = is_shown_group facts here ≡ true
 MaySay facts here (say.Numbers marks name range numbers) = AreListable range numbers.items
@@ -50,5 +51,5 @@ MaySay facts here (say.StepUp at number id) = is_shown_group facts here ≡ true
 MaySay facts here (say.StepDown at number id) = is_shown_group facts here ≡ true
 MaySay facts here (say.Text what id block) = IsTrue (head_fits what id.now block.now)
 MaySay facts here (say.Placed what id block at number) = (is_shown_group facts here ≡ true) × IsTrue (head_fits what id.now block.now)
-MaySay facts here (say.Groups wildmat block) = names_differ (active_groups block.now) ≡ true
+MaySay facts here (say.Groups wildmat block) = MayList wildmat.now (active_groups block.now)
 MaySay facts here saying = ⊤

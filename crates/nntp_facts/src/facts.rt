@@ -63,7 +63,7 @@ impl<A: Allocator + Copy> Facts<A> {
     /// none does, the facts stay as they were. The exchange has to be the next one: its index is the number
     /// of those that were accepted, and none of them closed the connection. For k numbers that it lists, and
     /// n of its group that are kept, it takes time in the order of (k + 1) log n; for LIST ACTIVE in the
-    /// order of the lines and of the groups that are shown.
+    /// order of the lines, and of the groups that are shown where the wildmat wasn't answered before.
     ///
     /// # Errors
     ///

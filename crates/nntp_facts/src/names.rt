@@ -1,6 +1,7 @@
-//! The names that are no groups.
-ghost use Rattle.std.specs.Prelude.{◌≡◌, ◌&&◌, ◌||◌, ◌++◌, ◌∷◌, [], false, List, OnOk};
+//! The names that are no groups, and the wildmats that were answered.
+ghost use Rattle.std.specs.Prelude.{◌≡◌, ◌&&◌, ◌||◌, ◌++◌, ◌∷◌, [], false, List, length, IfSome, OnOk};
 ghost use Rattle.std.specs.List.{list_any};
+ghost use Rattle.std.specs.BTreeMap.{keys};
 ghost use Rattle.nntp_wire.specs.Decided.{matches_name};
 ghost use Rattle.nntp_wire.specs.Wildmat.{is_wildmat};
 ghost use Rattle.nntp_wire.specs.Listing.{ActiveValue};
@@ -9,11 +10,12 @@ ghost use Rattle.nntp_facts.specs.Facts.{Fact, ThereIsNo, GroupsAre};
 ghost use Rattle.nntp_facts.specs.Given.{is_shown_group};
 ghost use Rattle.nntp_facts.specs.Together.{denies_group};
 ghost use Rattle.nntp_facts.specs.Kept.{AreKeptNames};
+ghost use Rattle.nntp_facts.specs.ListedGroups.{MayList, WereListed};
 
 use nntp_wire::laws::matching_is_decided;
 use nntp_wire::{GroupName, Wildmat};
 use std::alloc::{AllocError, Allocator, Global};
-use std::collections::BTreeSet;
+use std::collections::{BTreeMap, BTreeSet};
 use std::marker::Model;
 
 /// What answers say of names that they don't show as groups.
@@ -21,10 +23,10 @@ use std::marker::Model;
 pub(crate) struct Names<A: Allocator = Global> {
     /// The names of which it was said that there is no such group.
     denied: BTreeSet<Vec<u8, A>, A>,
-    /// The wildmats for which the matching groups were listed.
-    wildmats: BTreeSet<Vec<u8, A>, A>,
-    /// Whether all groups were listed.
-    all_listed: bool,
+    /// The wildmats for which the matching groups were listed, each with how many these are.
+    wildmats: BTreeMap<Vec<u8, A>, usize, A>,
+    /// How many groups there are, if all were listed.
+    all_listed: Option<usize>,
 }
 
 impl<A: Allocator> Model for Names<A> {
@@ -33,7 +35,7 @@ impl<A: Allocator> Model for Names<A> {
 
     ghost Value = { KeptNames };
 
-    ghost view = { λ a. record { denied = map (λ name. name.items) a.denied.keys; wildmats = map (λ wildmat. wildmat.items) a.wildmats.keys; all_listed = a.all_listed } };
+    ghost view = { λ a. record { denied = map (λ name. name.items) a.denied.keys; wildmats = map (λ e. (e.0.items, e.1)) a.wildmats.entries; all_listed = a.all_listed } };
 }
 
 impl<A: Allocator + Copy> Names<A> {
@@ -42,8 +44,8 @@ impl<A: Allocator + Copy> Names<A> {
     {
         Names {
             denied: BTreeSet::new(alloc),
-            wildmats: BTreeSet::new(alloc),
-            all_listed: false,
+            wildmats: BTreeMap::new(alloc),
+            all_listed: None,
         }
     }
 
@@ -55,16 +57,22 @@ impl<A: Allocator + Copy> Names<A> {
         Ok(())
     }
 
-    /// Adds that the groups that match, or all of them, were listed.
-    pub(crate) fn list(&mut self, alloc: A, wildmat: &Option<Wildmat<'_>>) -> Result<(), AllocError>
-        ensures { OnOk result ((facts : List Fact) (lines : List ActiveValue) → AreKeptNames facts self.old → AreKeptNames (facts ++ GroupsAre wildmat.now lines ∷ []) self.new) }
+    /// Adds that the groups that match, or all of them, were listed, and how many these are.
+    pub(crate) fn list(
+        &mut self,
+        alloc: A,
+        wildmat: &Option<Wildmat<'_>>,
+        count: usize,
+    ) -> Result<(), AllocError>
+        ensures { OnOk result ((facts : List Fact) (lines : List ActiveValue) → AreKeptNames facts self.old → MayList wildmat.now lines → length lines ≡ count
+            → AreKeptNames (facts ++ GroupsAre wildmat.now lines ∷ []) self.new) }
     {
         match wildmat {
             Some(wildmat) => {
                 self.wildmats
-                    .insert(Vec::from_slice(alloc, wildmat.as_slice())?)?;
+                    .insert(Vec::from_slice(alloc, wildmat.as_slice())?, count)?;
             }
-            None => self.all_listed = true,
+            None => self.all_listed = Some(count),
         }
         Ok(())
     }
@@ -75,7 +83,22 @@ impl<A: Allocator> Names<A> {
     pub(crate) fn denies(&self, name: &GroupName<'_>) -> bool
         ensures { (facts : List Fact) → AreKeptNames facts self.now → is_shown_group facts name.now ≡ false → result ≡ list_any (denies_group name.now) facts }
     {
-        is_denied(&self.denied, self.all_listed, &self.wildmats, name)
+        is_denied(
+            &self.denied,
+            self.all_listed.is_some(),
+            &self.wildmats,
+            name,
+        )
+    }
+
+    /// How many groups were listed for the wildmat, or without one, if that was answered.
+    pub(crate) fn listed(&self, wildmat: &Option<Wildmat<'_>>) -> Option<usize>
+        ensures { (facts : List Fact) → AreKeptNames facts self.now → IfSome result (WereListed facts wildmat.now) }
+    {
+        match wildmat {
+            Some(wildmat) => self.wildmats.get(wildmat.as_slice()).copied(),
+            None => self.all_listed,
+        }
     }
 }
 
@@ -83,11 +106,11 @@ impl<A: Allocator> Names<A> {
 fn is_denied<A: Allocator>(
     denied: &BTreeSet<Vec<u8, A>, A>,
     all_listed: bool,
-    wildmats: &BTreeSet<Vec<u8, A>, A>,
+    wildmats: &BTreeMap<Vec<u8, A>, usize, A>,
     name: &GroupName<'_>,
 ) -> bool
     ensures { result ≡ (list_any (λ other. is_same other.items name.now) denied.now.keys || all_listed
-        || list_any (λ wildmat. is_wildmat wildmat.items && matches_name wildmat.items name.now) wildmats.now.keys) }
+        || list_any (λ wildmat. is_wildmat wildmat.items && matches_name wildmat.items name.now) (keys wildmats.now)) }
 {
     is_one_of(denied, name.as_slice()) || all_listed || some_matches(wildmats, name)
 }
@@ -100,11 +123,14 @@ fn is_one_of<A: Allocator>(names: &BTreeSet<Vec<u8, A>, A>, name: &[u8]) -> bool
 }
 
 /// Whether one of the wildmats matches the name.
-fn some_matches<A: Allocator>(wildmats: &BTreeSet<Vec<u8, A>, A>, name: &GroupName<'_>) -> bool
-    ensures { result ≡ list_any (λ wildmat. is_wildmat wildmat.items && matches_name wildmat.items name.now) wildmats.now.keys }
+fn some_matches<A: Allocator>(
+    wildmats: &BTreeMap<Vec<u8, A>, usize, A>,
+    name: &GroupName<'_>,
+) -> bool
+    ensures { result ≡ list_any (λ wildmat. is_wildmat wildmat.items && matches_name wildmat.items name.now) (keys wildmats.now) }
 {
     wildmats
-        .iter()
+        .keys()
         .any(|wildmat| matches(wildmat.as_slice(), name))
 }
 

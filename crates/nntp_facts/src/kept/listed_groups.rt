@@ -1,13 +1,12 @@
 //! What an answer to LIST ACTIVE says, beside all before (RFC 3977, section 7.6.3).
-ghost use Rattle.std.specs.Prelude.{◌≡◌, ◌↔◌, ◌++◌, ◌∷◌, [], true, List, IsTrue, IfOk, OnOk};
+ghost use Rattle.std.specs.Prelude.{◌≡◌, ◌↔◌, ◌++◌, ◌∷◌, [], List, length, IsTrue, IfOk, OnOk};
 ghost use Rattle.std.specs.List.{AllByRecursion};
 ghost use Rattle.nntp_wire.specs.Listing.{active_groups};
 ghost use Rattle.nntp_wire.specs.View.{active_value};
-ghost use Rattle.nntp_article.specs.Machine.{names_differ};
 ghost use Rattle.nntp_facts.specs.Facts.{Fact, GroupsAre};
 ghost use Rattle.nntp_facts.specs.Together.{IsWellFormed, Together, Join};
 ghost use Rattle.nntp_facts.specs.Kept.{IsKept, AreAdded};
-ghost use Rattle.nntp_facts.specs.ListedGroups.{LineJoins};
+ghost use Rattle.nntp_facts.specs.ListedGroups.{MayList, LineJoins, NoneIsMissing};
 
 use crate::ask::Ask;
 use crate::kept::Kept;
@@ -24,7 +23,7 @@ impl<A: Allocator + Copy> Kept<A> {
         block: &Block<'_>,
     ) -> Result<bool, AllocError>
         ensures { IfOk result (λ does. (facts : List Fact) → IsKept facts self.old → Together facts → AllByRecursion IsWellFormed (GroupsAre wildmat.now (active_groups block.now) ∷ [])
-            → names_differ (active_groups block.now) ≡ true → AreAdded facts (GroupsAre wildmat.now (active_groups block.now) ∷ []) self.old self.new does) }
+            → MayList wildmat.now (active_groups block.now) → AreAdded facts (GroupsAre wildmat.now (active_groups block.now) ∷ []) self.old self.new does) }
     {
         if !self.may_list_groups(wildmat, block)? {
             return Ok(false);
@@ -40,12 +39,29 @@ impl<A: Allocator + Copy> Kept<A> {
         block: &Block<'_>,
     ) -> Result<bool, AllocError>
         ensures { IfOk result (λ may. (facts : List Fact) → IsKept facts self.now → Together facts → AllByRecursion IsWellFormed (GroupsAre wildmat.now (active_groups block.now) ∷ [])
-            → names_differ (active_groups block.now) ≡ true → IsTrue may ↔ Join facts (GroupsAre wildmat.now (active_groups block.now) ∷ [])) }
+            → MayList wildmat.now (active_groups block.now) → IsTrue may ↔ Join facts (GroupsAre wildmat.now (active_groups block.now) ∷ [])) }
     {
         if !self.may_bound_all(block) {
             return Ok(false);
         }
-        self.groups.are_listed(wildmat, block)
+        self.none_is_missing(wildmat, block)
+    }
+
+    /// Whether each group that is shown and matches is listed, where each listed group may be there. Groups
+    /// that are listed again for a wildmat are among those that were listed for it before, and so all of
+    /// these if they are as many.
+    fn none_is_missing(
+        &self,
+        wildmat: &Option<Wildmat<'_>>,
+        block: &Block<'_>,
+    ) -> Result<bool, AllocError>
+        ensures { IfOk result (λ none. (facts : List Fact) → IsKept facts self.now → Together facts → MayList wildmat.now (active_groups block.now) → AllByRecursion (LineJoins facts) (active_groups block.now)
+            → IsTrue none ↔ NoneIsMissing facts wildmat.now (active_groups block.now)) }
+    {
+        match self.names.listed(wildmat) {
+            Some(count) => Ok(count_of(block) == count),
+            None => self.groups.are_listed(wildmat, block),
+        }
     }
 
     /// Adds that the groups that match are those. After an error the value says nothing of use.
@@ -54,11 +70,11 @@ impl<A: Allocator + Copy> Kept<A> {
         wildmat: &Option<Wildmat<'_>>,
         block: &Block<'_>,
     ) -> Result<(), AllocError>
-        ensures { OnOk result ((facts : List Fact) → IsKept facts self.old → names_differ (active_groups block.now) ≡ true → Join facts (GroupsAre wildmat.now (active_groups block.now) ∷ [])
+        ensures { OnOk result ((facts : List Fact) → IsKept facts self.old → MayList wildmat.now (active_groups block.now) → Join facts (GroupsAre wildmat.now (active_groups block.now) ∷ [])
             → IsKept (facts ++ GroupsAre wildmat.now (active_groups block.now) ∷ []) self.new) }
     {
         self.groups.bound_all(block)?;
-        self.names.list(self.alloc, wildmat)?;
+        self.names.list(self.alloc, wildmat, count_of(block))?;
         Ok(())
     }
 }
@@ -86,4 +102,11 @@ impl<A: Allocator> Kept<A> {
         });
         self.may_be(&line.name) && self.groups.joins(line.name.as_slice(), &part)
     }
+}
+
+/// How many groups the lines list.
+fn count_of(block: &Block<'_>) -> usize
+    ensures { result ≡ length (active_groups block.now) }
+{
+    block.groups().count()
 }

@@ -3,7 +3,7 @@ use super::Session;
 use super::texts::{EMPTY_GROUP, EMPTY_GROUPS, NOTHING, OTHER_GROUP, TWO_GROUPS};
 use nntp_spool::Verified;
 
-pub(crate) const SESSIONS: [Session; 16] = [
+pub(crate) const SESSIONS: [Session; 19] = [
     Session {
         name: "no group is listed",
         client: "LIST ACTIVE\r\n",
@@ -59,6 +59,30 @@ pub(crate) const SESSIONS: [Session; 16] = [
         verdict: "bad answer 1 OutOfPlace\ncommand LIST ACTIVE h\nanswer 215 list\n",
         given: (NOTHING, Verified::Refuses { index: 1 }),
         others: &[(TWO_GROUPS, Verified::Refuses { index: 1 })],
+    },
+    Session {
+        name: "groups are listed again in another order",
+        client: "LIST ACTIVE\r\nLIST ACTIVE\r\n",
+        server: "200 hi\r\n215 list\r\nh 9 9 y\r\ng 1 1 y\r\n.\r\n215 list\r\ng 1 1 y\r\nh 9 9 y\r\n.\r\n",
+        verdict: "consistent answers=3 groups=2 numbers=0 articles=0\n",
+        given: (EMPTY_GROUPS, Verified::Permits { answers: 3 }),
+        others: &[(TWO_GROUPS, Verified::Permits { answers: 3 })],
+    },
+    Session {
+        name: "one of two listed groups isn't listed again",
+        client: "LIST ACTIVE *\r\nLIST ACTIVE *\r\n",
+        server: "200 hi\r\n215 list\r\nh 9 9 y\r\ng 1 1 y\r\n.\r\n215 list\r\nh 9 9 y\r\n.\r\n",
+        verdict: "bad answer 2 Contradiction\ncommand LIST ACTIVE *\nanswer 215 list\n",
+        given: (EMPTY_GROUPS, Verified::Refuses { index: 2 }),
+        others: &[(OTHER_GROUP, Verified::Refuses { index: 1 })],
+    },
+    Session {
+        name: "one of two listed groups matches another wildmat",
+        client: "LIST ACTIVE\r\nLIST ACTIVE h\r\n",
+        server: "200 hi\r\n215 list\r\nh 9 9 y\r\ng 1 1 y\r\n.\r\n215 list\r\nh 9 9 y\r\n.\r\n",
+        verdict: "consistent answers=3 groups=2 numbers=0 articles=0\n",
+        given: (EMPTY_GROUPS, Verified::Permits { answers: 3 }),
+        others: &[(TWO_GROUPS, Verified::Permits { answers: 3 })],
     },
     Session {
         name: "a listed high mark below the number",

@@ -38,7 +38,7 @@ returns-in-Text g c =
 pub returns-in-Groups : goal.returns-in-Groups
 returns-in-Groups g c =
     if_ok c.note_groups.result (λ does adds. subst (λ s. AddsSaid c.args.self.now c.note_groups.new.self c.args.here.now s does) (sym c.in-Groups.is)
-    (λ facts kept together wf differ. adds facts kept together wf differ)) c.note_groups.ensures
+    (λ facts kept together wf may. adds facts kept together wf may)) c.note_groups.ensures
 
 pub returns-in-Numbers : goal.returns-in-Numbers
 returns-in-Numbers g c =

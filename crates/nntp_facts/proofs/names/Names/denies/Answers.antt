@@ -8,5 +8,5 @@ returns g c facts kept not_shown =
     let before = subst (AreKeptNames facts) (sym c.self.view_is) kept in
     let name = c.args.name.now in
     c.is_denied.ensures
-    ∙ (λ i. key_text (λ k. k.items) name c.self.inside.denied.keys i || c.self.inside.all_listed || some_matches (λ k. k.items) name c.self.inside.wildmats.keys before.wildmats i)
+    ∙ (λ i. key_text (λ k. k.items) name c.self.inside.denied.keys i || c.is_some.ensures i || some_matches (λ k. k.items) facts name c.self.inside.wildmats.entries before.wildmats i)
     ∙ sym (before.denied name not_shown)

@@ -1,6 +1,6 @@
-use Rattle.std.proofs.Common.{◌≡◌, IsTrue, sym, ap, subst, ◌∙◌}
+use Rattle.std.proofs.Common.{IsTrue, sym, ap, subst, ◌∙◌}
 use Rattle.std.specs.Option.{option_copied}
-use Rattle.nntp_wire.specs.Answer.{Asked, Response, to, numbers_are}
+use Rattle.nntp_wire.specs.Answer.{Asked, Response, to, numbers_are, active_are}
 use Rattle.nntp_wire.specs.Command.{retrieve}
 use Rattle.nntp_wire.specs.View.{request, target}
 use Rattle.nntp_wire.specs.AnswerView.{response}
@@ -8,7 +8,7 @@ use Rattle.nntp_article.specs.Machine.{fits}
 use Rattle.nntp_facts.specs.Facts.{facts_of}
 use Rattle.nntp_facts.specs.AskView.{position_of}
 use Rattle.nntp_facts.specs.Listing.{AreListable}
-use Rattle.nntp_facts.proofs.Fitted.{numbers_listable}
+use Rattle.nntp_facts.proofs.Fitted.{numbers_listable, groups_may_list}
 use Rattle.nntp_facts.proofs.saying.Saying.to.Goals as goal
 
 pub returns-in_default-Plain-clause-fitting : goal.returns-in_default-Plain-clause-fitting
@@ -39,3 +39,9 @@ returns-in-Retrieve-Sent-clause-fitting g c profile v facts may shown =
     let fits_command : IsTrue (fits profile v asked (response c.args.answer.now)) = subst (λ r. IsTrue (fits profile v (to (request r)) (response c.args.answer.now))) here.is-0 may in
     let fits_answer = subst (λ a. IsTrue (fits profile v asked (response a))) here.is-1 fits_command in
     c.by_success.ensures.fitting profile v facts _ fits_answer shown
+
+pub returns-in-ListActive-Active-clause-fitting : goal.returns-in-ListActive-Active-clause-fitting
+returns-in-ListActive-Active-clause-fitting g c profile v facts may shown =
+    let here = c.in-ListActive-Active in
+    let fits_both : IsTrue (fits profile v (to (request c.args.command.now)) (active_are here.block)) = subst (λ a. IsTrue (fits profile v (to (request c.args.command.now)) (response a))) here.is-1 may in
+    groups_may_list profile v here.wildmat here.block (subst (λ r. IsTrue (fits profile v (to (request r)) (active_are here.block))) here.is-0 fits_both)
