@@ -1,4 +1,4 @@
-//! An allocator for tests, which refuses exactly one of the requests for memory that reach it.
+//! An allocator for tests, which refuses some of the requests for memory that reach it.
 #![tactic(auto)]
 
 use std::alloc::{AllocError, Allocator};
@@ -7,41 +7,71 @@ use std::cell::Cell;
 #[cfg(test)]
 mod tests;
 
-/// Passes each call on to another allocator, but refuses one request for memory. A reference to it
+/// Which requests for memory are refused. The first has number 1.
+#[derive(Clone, Copy, Debug, PartialEq, Eq)]
+pub enum Refusal {
+    Never,
+    /// The one of this number.
+    One(u64),
+    /// The one of this number, and all later ones.
+    From(u64),
+    /// The second, the fourth, and so on.
+    EverySecond,
+}
+
+impl Refusal {
+    /// Whether the request of this number is refused.
+    fn refuses(self, number: u64) -> bool {
+        match self {
+            Refusal::Never => false,
+            Refusal::One(refused) => number == refused,
+            Refusal::From(first) => first <= number,
+            Refusal::EverySecond => number % 2 == 0,
+        }
+    }
+}
+
+/// Passes each call on to another allocator, but refuses some requests for memory. A reference to it
 /// is an allocator too, which can be copied. A collection that grows or shrinks makes one request, for
 /// its new block.
 #[derive(Drop)]
 pub struct Refusing<A: Allocator> {
     inner: A,
-    refused: u64,
+    refusal: Refusal,
     requests: Cell<u64>,
+    has_refused: Cell<bool>,
 }
 
 impl<A: Allocator> Refusing<A> {
-    /// Refuses the request of this number, counted from 1. At 0 it refuses none.
-    pub fn new(inner: A, refused: u64) -> Refusing<A> {
+    /// No request has come yet.
+    pub fn new(inner: A, refusal: Refusal) -> Refusing<A> {
         Refusing {
             inner,
-            refused,
+            refusal,
             requests: Cell::new(0),
+            has_refused: Cell::new(false),
         }
     }
 
-    /// How many requests there were, the refused one among them.
+    /// How many requests there were, refused ones among them.
     pub fn requests(&self) -> u64 {
         self.requests.get()
     }
 
-    /// Whether the request that is to be refused has come.
+    /// Whether a request was refused.
     pub fn has_refused(&self) -> bool {
-        0 < self.refused && self.refused <= self.requests.get()
+        self.has_refused.get()
     }
 
-    /// Counts a request, and tells whether it is the one that is refused.
+    /// Counts a request, and tells whether it is refused.
     fn refuses(&self) -> bool {
         let number = self.requests.get().saturating_add(1);
         self.requests.set(number);
-        number == self.refused
+        let is_refused = self.refusal.refuses(number);
+        if is_refused {
+            self.has_refused.set(true);
+        }
+        is_refused
     }
 }
 

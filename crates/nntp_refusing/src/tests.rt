@@ -1,28 +1,37 @@
-//! Which request is refused, and what it leaves behind.
-use crate::Refusing;
+//! Which requests are refused, and what that leaves behind.
+use crate::{Refusal, Refusing};
 use std::process::Abort;
 use std::test::Fail;
 
 #[test]
-fn exactly_one_request_is_refused(rt: HostRuntime) {
-    for refused in 0..=5u64 {
-        let heap = Refusing::new(rt.alloc(), refused);
-        for number in 1..=4u64 {
+fn requests_that_are_refused(rt: HostRuntime) {
+    let rows: [(Refusal, [bool; 5]); 9] = [
+        (Refusal::Never, [false; 5]),
+        (Refusal::One(0), [false; 5]),
+        (Refusal::One(1), [true, false, false, false, false]),
+        (Refusal::One(3), [false, false, true, false, false]),
+        (Refusal::One(6), [false; 5]),
+        (Refusal::From(1), [true; 5]),
+        (Refusal::From(3), [false, false, true, true, true]),
+        (Refusal::From(6), [false; 5]),
+        (Refusal::EverySecond, [false, true, false, true, false]),
+    ];
+    for (refusal, refused) in rows {
+        let heap = Refusing::new(rt.alloc(), refusal);
+        let mut has_refused = false;
+        for is_refused in refused {
             let outcome = Vec::from_slice(&heap, b"octets");
-            assert_eq!(rt;
-                outcome.is_err(),
-                number == refused,
-                "request {number} of {refused}"
-            );
-            assert_eq!(rt; heap.requests(), number);
-            assert_eq!(rt; heap.has_refused(), refused != 0 && refused <= number);
+            has_refused = has_refused || is_refused;
+            assert_eq!(rt; outcome.is_err(), is_refused, "{refusal:?}");
+            assert_eq!(rt; heap.has_refused(), has_refused, "{refusal:?}");
         }
+        assert_eq!(rt; heap.requests(), 5, "{refusal:?}");
     }
 }
 
 #[test]
 fn refused_growth_leaves_the_vector(rt: HostRuntime) -> Result<(), Fail> {
-    let heap = Refusing::new(rt.alloc(), 2);
+    let heap = Refusing::new(rt.alloc(), Refusal::One(2));
     let mut octets = Vec::from_slice(&heap, b"abc")?;
     assert!(rt; octets.extend_from_slice(b"0123456789").is_err());
     assert_eq!(rt; octets.as_slice(), b"abc".as_slice());
@@ -34,7 +43,7 @@ fn refused_growth_leaves_the_vector(rt: HostRuntime) -> Result<(), Fail> {
 
 #[test]
 fn only_requests_for_memory_count(rt: HostRuntime) -> Result<(), Fail> {
-    let heap = Refusing::new(rt.alloc(), 3);
+    let heap = Refusing::new(rt.alloc(), Refusal::One(3));
     let mut lines = Vec::with_capacity(&heap, 2)?;
     lines.push(Vec::from_slice(&heap, b"kept")?)?;
     drop(lines);

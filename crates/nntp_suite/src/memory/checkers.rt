@@ -1,17 +1,17 @@
 //! Want of memory while worked sessions come in pieces.
-use super::{Ended, refuse_each, right_if};
+use super::{Ended, give_each, refuse_each, right_if};
 use crate::sessions::{Session, TABLES};
 use crate::verdicts::shown;
 use nntp_check::{CheckError, Checker};
-use nntp_refusing::Refusing;
-use std::alloc::Global;
+use std::alloc::{Allocator, Global};
 use std::process::Abort;
 use std::test::Fail;
 
-type Heap<'a> = &'a Refusing<Global>;
-
 /// Feeds both streams, each in two pieces.
-fn feed(checker: &mut Checker<Heap<'_>>, session: &Session) -> Result<(), CheckError> {
+fn feed<A: Allocator + Copy>(
+    checker: &mut Checker<A>,
+    session: &Session,
+) -> Result<(), CheckError> {
     let client = session.client.as_bytes();
     let server = session.server.as_bytes();
     let (client_front, client_rest) = client.split_at(client.len() / 2);
@@ -23,7 +23,7 @@ fn feed(checker: &mut Checker<Heap<'_>>, session: &Session) -> Result<(), CheckE
 }
 
 /// How a call ended that wants memory: from then on each one has to answer Failed, and nothing is bad.
-fn after_want(mut checker: Checker<Heap<'_>>) -> Ended {
+fn after_want<A: Allocator + Copy>(mut checker: Checker<A>) -> Ended {
     let is_client_taken = checker.feed_client(b"QUIT\r\n") != Err(CheckError::Failed);
     let is_server_taken = checker.feed_server(b"200 hi\r\n") != Err(CheckError::Failed);
     if is_client_taken || is_server_taken || checker.bad().is_some() {
@@ -36,7 +36,7 @@ fn after_want(mut checker: Checker<Heap<'_>>) -> Ended {
 }
 
 /// By a checker.
-fn judge(alloc: Global, heap: Heap<'_>, session: &Session, wanted: &str) -> Ended {
+fn judge<A: Allocator + Copy>(alloc: Global, heap: A, session: &Session, wanted: &str) -> Ended {
     let mut checker = Checker::new(heap);
     match feed(&mut checker, session) {
         Ok(()) => {}
@@ -61,6 +61,19 @@ fn sessions_in_pieces(rt: HostRuntime) -> Result<(), Fail> {
             refuse_each(&rt, rt.alloc(), session.name, |heap| {
                 judge(rt.alloc(), heap, session, wanted.as_str())
             });
+        }
+    }
+    Ok(())
+}
+
+#[test]
+fn sessions_in_pieces_with_few_octets(rt: HostRuntime) -> Result<(), Fail> {
+    for table in TABLES {
+        for session in table {
+            let wanted = session.report(rt.alloc())?;
+            give_each(&rt, rt.alloc(), session.name, |heap| {
+                judge(rt.alloc(), heap, session, wanted.as_str())
+            })?;
         }
     }
     Ok(())

@@ -1,5 +1,5 @@
 //! Want of memory in a run: nothing is written, and the exit status is 3.
-use super::{Ended, refuse_each, right_if};
+use super::{Ended, give_each, refuse_each, right_if};
 use crate::fakes::{FakeWriter, Full, reader, writer};
 use crate::runs::{CAPTURE, REPORT};
 use crate::sessions::{Session, TABLES, capture, verified_report, with_spool};
@@ -7,8 +7,7 @@ use crate::shows::SHOWN;
 use nntp_check::{
     Failure, Kind, ReadFault, RunFault, Task, run_check, run_show, run_verify, status,
 };
-use nntp_refusing::Refusing;
-use std::alloc::Global;
+use std::alloc::{AllocError, Allocator, Global};
 use std::process::Abort;
 use std::test::Fail;
 
@@ -38,7 +37,7 @@ impl<'a> Run<'a> {
     }
 
     /// Runs with a few octets at a read.
-    fn end(&self, alloc: Global, heap: &Refusing<Global>) -> Ended {
+    fn end<A: Allocator + Copy>(&self, alloc: Global, heap: A) -> Ended {
         let mut input = reader(self.input, 7, 0);
         let mut output = writer(alloc, 10000, 10000, Full::Fails);
         let outcome = match self.task {
@@ -126,6 +125,18 @@ fn refuse(rt: &impl Abort, alloc: Global, run: Run<'_>) {
     assert!(rt; refused > 0, "{refused}");
 }
 
+/// The run of `check` over a session, of which these are the capture and the report.
+fn run_of<'a>(session: &'a Session, capture: &'a str, report: &'a str) -> Run<'a> {
+    Run {
+        name: session.name,
+        task: Task::Check,
+        input: capture.as_bytes(),
+        most: 1 << 30,
+        answer: Ok(session.is_consistent()),
+        report: report.as_bytes(),
+    }
+}
+
 /// Refuses each request of a run of `check` over the session.
 fn refuse_check(rt: &impl Abort, alloc: Global, session: &Session) -> Result<(), Fail> {
     let capture = session.capture(alloc)?;
@@ -133,14 +144,7 @@ fn refuse_check(rt: &impl Abort, alloc: Global, session: &Session) -> Result<(),
     refuse(
         rt,
         alloc,
-        Run {
-            name: session.name,
-            task: Task::Check,
-            input: capture.as_bytes(),
-            most: 1 << 30,
-            answer: Ok(session.is_consistent()),
-            report: report.as_bytes(),
-        },
+        run_of(session, capture.as_str(), report.as_str()),
     );
     Ok(())
 }
@@ -193,6 +197,34 @@ fn runs_that_show_sessions(rt: HostRuntime) -> Result<(), Fail> {
                 report: session.report,
             },
         );
+    }
+    Ok(())
+}
+
+/// Gives a run a few octets of memory, and then more.
+fn give(rt: &impl Abort, alloc: Global, run: Run<'_>) -> Result<(), AllocError> {
+    let enough = give_each(rt, alloc, run.name, |heap| run.end(alloc, heap))?;
+    assert!(rt; enough > 16, "{enough}");
+    Ok(())
+}
+
+/// Gives a run of `check` over the session a few octets of memory, and then more.
+fn give_check(rt: &impl Abort, alloc: Global, session: &Session) -> Result<(), AllocError> {
+    let capture = session.capture(alloc)?;
+    let report = session.report(alloc)?;
+    give(
+        rt,
+        alloc,
+        run_of(session, capture.as_str(), report.as_str()),
+    )
+}
+
+#[test]
+fn runs_with_few_octets(rt: HostRuntime) -> Result<(), Fail> {
+    for table in TABLES {
+        for session in table {
+            give_check(&rt, rt.alloc(), session)?;
+        }
     }
     Ok(())
 }

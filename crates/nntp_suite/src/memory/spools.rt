@@ -1,13 +1,15 @@
 //! Want of memory while a spool is built, read and put to a session.
-use super::{Ended, refuse_each, right_if};
+use super::{AMPLE, Ended, give_each, refuse_each, right_if};
 use crate::sessions::{Session, TABLES};
+use linked_list_allocator::LocalHeap;
 use nntp_check::Watched;
-use nntp_refusing::Refusing;
+use nntp_refusing::{Refusal, Refusing};
 use nntp_spool::{
     Article, Counts, Kind, ReadFault, Spool, SpoolBuilder, SpoolFault, Verified, verify,
 };
-use std::alloc::{AllocError, Global};
+use std::alloc::{AllocError, Allocator, Global};
 use std::process::Abort;
+use std::test::Fail;
 
 type Heap<'a> = &'a Refusing<Global>;
 
@@ -89,6 +91,13 @@ impl Call {
     }
 }
 
+/// Whether the next two calls fail.
+fn still_fails(builder: &mut SpoolBuilder<Heap<'_>>) -> bool {
+    let first = builder.group(b"h");
+    let second = builder.number(b"g", 2, b"<e@f>");
+    first == Err(SpoolFault::Failed) && second == Err(SpoolFault::Failed)
+}
+
 /// Makes the calls, and `finish` behind them. The call of which a request was refused wants memory,
 /// and each later one fails.
 fn build<'a>(
@@ -115,6 +124,9 @@ fn build<'a>(
             return Ended::Wrong;
         }
     }
+    if has_failed && !still_fails(&mut builder) {
+        return Ended::Wrong;
+    }
     let finished = builder.finish().map(|spool| spool.counts());
     if has_failed && finished == Err(SpoolFault::Failed) {
         return Ended::Memory;
@@ -138,7 +150,7 @@ fn spools_that_are_built(rt: HostRuntime) {
         ),
         ("a spool of one article", CALLS.as_slice(), Ok(counts)),
     ];
-    let ample = Refusing::new(rt.alloc(), 0);
+    let ample = Refusing::new(rt.alloc(), Refusal::Never);
     for (name, calls, wanted) in rows {
         let refused = refuse_each(&rt, rt.alloc(), name, |heap| {
             build(heap, &ample, calls, wanted)
@@ -148,7 +160,12 @@ fn spools_that_are_built(rt: HostRuntime) {
 }
 
 /// Reads octets as the text of a spool, and writes the spool again.
-fn read(alloc: Global, heap: Heap<'_>, text: &[u8], wanted: Option<ReadFault>) -> Ended {
+fn read<A: Allocator + Copy>(
+    alloc: Global,
+    heap: A,
+    text: &[u8],
+    wanted: Option<ReadFault>,
+) -> Ended {
     match Spool::read(heap, text) {
         Ok(spool) => {
             let mut output = Watched::new(Vec::new(alloc));
@@ -209,9 +226,9 @@ fn texts_of_no_spool_are_read(rt: HostRuntime) {
 }
 
 /// Puts the spool of a text, which is made of `ample` memory, to a session.
-fn put<'a>(
-    heap: Heap<'a>,
-    ample: Heap<'a>,
+fn put<A: Allocator + Copy>(
+    heap: A,
+    ample: A,
     session: &Session,
     (text, wanted): (&str, Verified),
 ) -> Ended {
@@ -231,7 +248,7 @@ fn put<'a>(
 
 #[test]
 fn spools_that_are_put_to_worked_sessions(rt: HostRuntime) {
-    let ample = Refusing::new(rt.alloc(), 0);
+    let ample = Refusing::new(rt.alloc(), Refusal::Never);
     let mut most = 0;
     for table in TABLES {
         for session in table {
@@ -242,4 +259,30 @@ fn spools_that_are_put_to_worked_sessions(rt: HostRuntime) {
         }
     }
     assert!(rt; most > 3, "{most}");
+}
+
+#[test]
+fn spools_with_few_octets(rt: HostRuntime) -> Result<(), Fail> {
+    for table in TABLES {
+        for session in table {
+            let (text, _) = session.given;
+            give_each(&rt, rt.alloc(), session.name, |heap| {
+                read(rt.alloc(), heap, text.as_bytes(), None)
+            })?;
+        }
+    }
+    Ok(())
+}
+
+#[test]
+fn spools_that_are_put_with_few_octets(rt: HostRuntime) -> Result<(), Fail> {
+    let ample = LocalHeap::new(rt.alloc(), AMPLE)?;
+    for table in TABLES {
+        for session in table {
+            give_each(&rt, rt.alloc(), session.name, |heap| {
+                put(heap, &ample, session, session.given)
+            })?;
+        }
+    }
+    Ok(())
 }

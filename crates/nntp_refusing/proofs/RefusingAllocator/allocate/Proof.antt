@@ -1,4 +1,4 @@
--- One request is refused, and for every other what the allocator inside answers is handed on.
+-- A request is refused, or what the allocator inside answers is handed on.
 use Rattle.std.proofs.Common.{List, [], ◌∷◌, ◌≡◌, w64, refl, ap, false}
 use Rattle.std.proofs.raw_atomic.Walks.{proved}
 use Rattle.std.proofs.alloc.Shapes.{after}

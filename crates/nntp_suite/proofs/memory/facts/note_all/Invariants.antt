@@ -1,0 +1,9 @@
+use Rattle.std.proofs.Common.{length}
+use Rattle.nntp_check.specs.Judging.{Passed}
+use Rattle.nntp_suite.proofs.memory.facts.note_all.Given as goal
+
+abbrev pub invariant-loop-exchange : goal.invariant-loop-exchange
+invariant-loop-exchange g l = Passed l.client l.server l.facts l.pairs l.answers
+
+abbrev pub decreases-loop-exchange : goal.decreases-loop-exchange
+decreases-loop-exchange g l = length l.pairs.server

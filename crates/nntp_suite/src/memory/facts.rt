@@ -1,0 +1,161 @@
+//! Want of memory while exchanges are noted, and while the spool is made of what was noted.
+ghost use Rattle.std.specs.Prelude.{◌≡◌, true, IfOk};
+ghost use Rattle.nntp_witness.specs.Witness.{StandForSome};
+
+use super::{Ended, refuse_each, right_if};
+use crate::sessions::{Session, TABLES};
+use nntp_facts::{Class, Facts, FactsError, Noted};
+use nntp_pair::{Exchange, Pairs, Step};
+use nntp_refusing::{Refusal, Refusing};
+use nntp_spool::{Spool, Watched};
+use nntp_witness::witness;
+use std::alloc::{AllocError, Allocator, Global};
+use std::process::Abort;
+use std::test::Fail;
+
+/// What stops the noting of a session's exchanges.
+#[derive(Clone, Copy, Debug, PartialEq, Eq)]
+enum Stop {
+    /// An answer that is bad.
+    Bad { answer: u64, class: Class },
+    /// Want of memory, and each later call failed.
+    Memory,
+    /// Any other outcome.
+    Wrong,
+}
+
+/// The facts of a session whose exchanges were all noted.
+#[derive(Drop)]
+struct Whole<A: Allocator> {
+    facts: Facts<A>,
+    answers: u64,
+    /// Of the octets that answer nothing, if some are left.
+    class: Option<Class>,
+}
+
+/// Notes an exchange twice more behind a call that wanted memory.
+fn after_want<A: Allocator + Copy>(mut facts: Facts<A>, exchange: &Exchange<'_>) -> Stop
+    requires { facts.has_failed ≡ true }
+{
+    let first = facts.note(exchange);
+    let second = facts.note(exchange);
+    if first == Err(FactsError::Failed) && second == Err(FactsError::Failed) {
+        Stop::Memory
+    } else {
+        Stop::Wrong
+    }
+}
+
+/// Notes the exchanges of a session one after the other.
+fn note_all<A: Allocator + Copy>(alloc: A, client: &[u8], server: &[u8]) -> Result<Whole<A>, Stop>
+    ensures { IfOk result (λ whole. StandForSome whole.facts) }
+{
+    let mut facts = Facts::new(alloc);
+    let mut answers = 0u64;
+    let mut pairs = Pairs::new(client, server);
+    loop {
+        let exchange = match pairs.next() {
+            Step::Exchange(exchange) => exchange,
+            Step::Bad { class, .. } => {
+                let class = Some(Class::from(class));
+                return Ok(Whole {
+                    facts,
+                    answers,
+                    class,
+                });
+            }
+            Step::End { .. } => {
+                return Ok(Whole {
+                    facts,
+                    answers,
+                    class: None,
+                });
+            }
+        };
+        let answer = exchange.index();
+        match facts.note(&exchange) {
+            Ok(Noted::Consistent) => answers = answer + 1,
+            Ok(Noted::OutOfPlace) => {
+                let class = Class::OutOfPlace;
+                return Err(Stop::Bad { answer, class });
+            }
+            Ok(Noted::Contradiction) => {
+                let class = Class::Contradiction;
+                return Err(Stop::Bad { answer, class });
+            }
+            Err(FactsError::Memory) => return Err(after_want(facts, &exchange)),
+            Err(FactsError::Failed) => return Err(Stop::Wrong),
+        }
+    }
+}
+
+/// How the report on a session begins, by the answer that is bad, or by how many are right.
+fn beginning(alloc: Global, answer: u64, class: Option<Class>) -> Result<String, AllocError> {
+    match class {
+        Some(class) => format!(in alloc; "bad answer {answer} {class}\n"),
+        None => format!(in alloc; "consistent answers={answer} "),
+    }
+}
+
+/// Notes the exchanges of a session, up to the one that its verdict calls bad.
+fn note<A: Allocator + Copy>(alloc: Global, heap: A, session: &Session) -> Ended {
+    let noted = note_all(heap, session.client.as_bytes(), session.server.as_bytes());
+    let (answer, class) = match noted {
+        Ok(whole) => (whole.answers, whole.class),
+        Err(Stop::Bad { answer, class }) => (answer, Some(class)),
+        Err(Stop::Memory) => return Ended::Memory,
+        Err(Stop::Wrong) => return Ended::Wrong,
+    };
+    match beginning(alloc, answer, class) {
+        Ok(words) => right_if(session.verdict.starts_with(words.as_str())),
+        Err(AllocError) => Ended::Wrong,
+    }
+}
+
+#[test]
+fn exchanges_of_worked_sessions_are_noted(rt: HostRuntime) {
+    let mut most = 0;
+    for table in TABLES {
+        for session in table {
+            let refused = refuse_each(&rt, rt.alloc(), session.name, |heap| {
+                note(rt.alloc(), heap, session)
+            });
+            most = refused.max(most);
+        }
+    }
+    assert!(rt; most > 3, "{most}");
+}
+
+/// Whether the spool has this text.
+fn is_written<A: Allocator>(alloc: Global, spool: &Spool<A>, text: &str) -> bool {
+    let mut output = Watched::new(Vec::new(alloc));
+    spool.write(&mut output).is_ok() && output.into_inner().as_slice() == text.as_bytes()
+}
+
+/// Makes the spool that is given for a session, of facts that are kept in `ample` memory.
+fn make<A: Allocator + Copy>(alloc: Global, heap: A, ample: A, session: &Session) -> Ended {
+    let Ok(whole) = note_all(ample, session.client.as_bytes(), session.server.as_bytes()) else {
+        return Ended::Wrong;
+    };
+    match witness(heap, &whole.facts) {
+        Ok(spool) => right_if(is_written(alloc, &spool, session.given.0)),
+        Err(AllocError) => Ended::Memory,
+    }
+}
+
+#[test]
+fn spools_of_worked_sessions_are_made(rt: HostRuntime) {
+    let ample = Refusing::new(rt.alloc(), Refusal::Never);
+    let mut most = 0;
+    for table in TABLES {
+        for session in table {
+            if session.is_consistent() {
+                let refused = refuse_each(&rt, rt.alloc(), session.name, |heap| {
+                    make(rt.alloc(), heap, &ample, session)
+                });
+                most = refused.max(most);
+            }
+        }
+    }
+    assert!(rt; most > 3, "{most}");
+}
