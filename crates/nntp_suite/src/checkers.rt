@@ -13,16 +13,12 @@ fn expect(
     alloc: Global,
     name: &str,
     checker: Checker,
-    wanted: &str,
+    wanted: &[u8],
 ) -> Result<(), Fail> {
     let told = checker.bad();
     let verdict = checker.finish()?;
     assert!(rt; is_told(told, &verdict), "{name}, what is told as bad");
-    assert_eq!(rt;
-        shown(alloc, &verdict)?.as_slice(),
-        wanted.as_bytes(),
-        "{name}"
-    );
+    assert_eq!(rt; shown(alloc, &verdict)?.as_slice(), wanted, "{name}");
     Ok(())
 }
 
@@ -41,12 +37,9 @@ fn is_told(told: Option<(u64, Class)>, verdict: &Verdict) -> bool {
 /// Gives both streams in two pieces each, cut at these places.
 fn feed_cut(
     checker: &mut Checker,
-    session: &Session,
-    at_client: usize,
-    at_server: usize,
+    (client, server): (&[u8], &[u8]),
+    (at_client, at_server): (usize, usize),
 ) -> Result<(), CheckError> {
-    let client = session.client.as_bytes();
-    let server = session.server.as_bytes();
     let (client_front, client_rest) = client.split_at(at_client.min(client.len()));
     let (server_front, server_rest) = server.split_at(at_server.min(server.len()));
     checker.feed_client(client_front)?;
@@ -55,32 +48,38 @@ fn feed_cut(
     checker.feed_server(server_rest)
 }
 
-/// Cuts both streams at these places.
-fn expect_cut(
+/// Expects the verdict of this report where both streams come in two pieces each, cut at these places.
+pub(crate) fn expect_cut(
     rt: &impl Abort,
     alloc: Global,
-    session: &Session,
-    at_client: usize,
-    at_server: usize,
-    wanted: &str,
+    name: &str,
+    streams: (&[u8], &[u8]),
+    places: (usize, usize),
+    wanted: &[u8],
 ) -> Result<(), Fail> {
     let mut checker = Checker::new(alloc);
-    feed_cut(&mut checker, session, at_client, at_server)?;
-    expect(rt, alloc, session.name, checker, wanted)
+    feed_cut(&mut checker, streams, places)?;
+    expect(rt, alloc, name, checker, wanted)
 }
 
 /// Cuts the server's stream at each place, behind the whole stream of the client.
-fn cut_server(rt: &impl Abort, alloc: Global, session: &Session, wanted: &str) -> Result<(), Fail> {
+fn cut_server(rt: &impl Abort, alloc: Global, session: &Session) -> Result<(), Fail> {
+    let wanted = session.report(alloc)?;
+    let streams = session.streams();
     for at_server in 0..session.server.len() {
-        expect_cut(rt, alloc, session, session.client.len(), at_server, wanted)?;
+        let places = (session.client.len(), at_server);
+        expect_cut(rt, alloc, session.name, streams, places, wanted.as_bytes())?;
     }
     Ok(())
 }
 
 /// Cuts the client's stream at each place, round the whole stream of the server.
-fn cut_client(rt: &impl Abort, alloc: Global, session: &Session, wanted: &str) -> Result<(), Fail> {
+fn cut_client(rt: &impl Abort, alloc: Global, session: &Session) -> Result<(), Fail> {
+    let wanted = session.report(alloc)?;
+    let streams = session.streams();
     for at_client in 0..session.client.len() {
-        expect_cut(rt, alloc, session, at_client, session.server.len(), wanted)?;
+        let places = (at_client, session.server.len());
+        expect_cut(rt, alloc, session.name, streams, places, wanted.as_bytes())?;
     }
     Ok(())
 }
@@ -89,9 +88,8 @@ fn cut_client(rt: &impl Abort, alloc: Global, session: &Session, wanted: &str) -
 fn sessions_in_two_pieces(rt: HostRuntime) -> Result<(), Fail> {
     for table in TABLES {
         for session in table {
-            let wanted = session.report(rt.alloc())?;
-            cut_server(&rt, rt.alloc(), session, wanted.as_str())?;
-            cut_client(&rt, rt.alloc(), session, wanted.as_str())?;
+            cut_server(&rt, rt.alloc(), session)?;
+            cut_client(&rt, rt.alloc(), session)?;
         }
     }
     Ok(())
@@ -182,7 +180,7 @@ fn judge_by_octets(
     let wanted = session.report(alloc)?;
     let mut checker = Checker::new(alloc);
     feed_by_octets(rt, &mut checker, session, order)?;
-    expect(rt, alloc, session.name, checker, wanted.as_str())
+    expect(rt, alloc, session.name, checker, wanted.as_bytes())
 }
 
 #[test]
@@ -225,7 +223,7 @@ fn sessions_in_pieces_at_random(rt: HostRuntime) -> Result<(), Fail> {
             let wanted = session.report(rt.alloc())?;
             let mut checker = Checker::new(rt.alloc());
             feed_at_random(&mut checker, &mut random, session)?;
-            expect(&rt, rt.alloc(), session.name, checker, wanted.as_str())?;
+            expect(&rt, rt.alloc(), session.name, checker, wanted.as_bytes())?;
         }
     }
     Ok(())
@@ -247,7 +245,7 @@ fn feed_after_quit(rt: &impl Abort, checker: &mut Checker) -> Result<(), CheckEr
 fn octets_on_a_closed_connection(rt: HostRuntime) -> Result<(), Fail> {
     let mut checker = Checker::new(rt.alloc());
     feed_after_quit(&rt, &mut checker)?;
-    let wanted = "bad answer 2 Surplus\nno command\nanswer xy\n";
+    let wanted = b"bad answer 2 Surplus\nno command\nanswer xy\n";
     expect(&rt, rt.alloc(), "no line follows", checker, wanted)
 }
 
@@ -256,7 +254,7 @@ fn a_line_on_a_closed_connection(rt: HostRuntime) -> Result<(), Fail> {
     let mut checker = Checker::new(rt.alloc());
     feed_after_quit(&rt, &mut checker)?;
     checker.feed_client(b"GROUP g\r\n")?;
-    let wanted = "bad answer 2 Surplus\ncommand GROUP g\nanswer xy\n";
+    let wanted = b"bad answer 2 Surplus\ncommand GROUP g\nanswer xy\n";
     expect(&rt, rt.alloc(), "a line follows", checker, wanted)
 }
 
@@ -273,7 +271,7 @@ fn feed_answer_first(rt: &impl Abort, checker: &mut Checker) -> Result<(), Check
 fn an_answer_that_comes_before_its_line(rt: HostRuntime) -> Result<(), Fail> {
     let mut checker = Checker::new(rt.alloc());
     feed_answer_first(&rt, &mut checker)?;
-    let wanted = "consistent answers=2 groups=0 numbers=0 articles=0\nspool 1\nend\n";
+    let wanted = b"consistent answers=2 groups=0 numbers=0 articles=0\nspool 1\nend\n";
     expect(&rt, rt.alloc(), "an answer first", checker, wanted)
 }
 
@@ -292,6 +290,6 @@ fn feed_out_of_place(rt: &impl Abort, checker: &mut Checker) -> Result<(), Check
 fn a_bad_answer_stays(rt: HostRuntime) -> Result<(), Fail> {
     let mut checker = Checker::new(rt.alloc());
     feed_out_of_place(&rt, &mut checker)?;
-    let wanted = "bad answer 1 OutOfPlace\ncommand NEXT\nanswer 223 1 <a@b>\n";
+    let wanted = b"bad answer 1 OutOfPlace\ncommand NEXT\nanswer 223 1 <a@b>\n";
     expect(&rt, rt.alloc(), "an answer out of place", checker, wanted)
 }

@@ -88,7 +88,7 @@ pub(crate) enum Full {
     TakesNone,
 }
 
-/// Takes at most so many octets at a write, and so many in all.
+/// Takes at most so many octets at a write, and so many in all. Where `is_flushed` is false, each flush fails.
 #[derive(Drop)]
 pub(crate) struct FakeWriter {
     pub(crate) held: Vec<u8>,
@@ -96,6 +96,7 @@ pub(crate) struct FakeWriter {
     most: usize,
     full: Full,
     pub(crate) flushes: u64,
+    is_flushed: bool,
 }
 
 impl Write for FakeWriter {
@@ -114,7 +115,11 @@ impl Write for FakeWriter {
 
     fn flush(&mut self) -> io::Result<()> {
         self.flushes = self.flushes.saturating_add(1);
-        Ok(())
+        if self.is_flushed {
+            Ok(())
+        } else {
+            Err(io::Error::from(io::ErrorKind::BrokenPipe))
+        }
     }
 }
 
@@ -126,5 +131,18 @@ pub(crate) fn writer(alloc: Global, room: usize, most: usize, full: Full) -> Wat
         most,
         full,
         flushes: 0,
+        is_flushed: true,
+    })
+}
+
+/// Takes `room` octets at any number of writes, and fails at each flush.
+pub(crate) fn unflushed_writer(alloc: Global, room: usize) -> Watched<FakeWriter> {
+    Watched::new(FakeWriter {
+        held: Vec::new(alloc),
+        room,
+        most: room,
+        full: Full::Fails,
+        flushes: 0,
+        is_flushed: false,
     })
 }

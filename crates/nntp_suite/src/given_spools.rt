@@ -8,7 +8,7 @@ use std::process::Abort;
 use std::test::Fail;
 
 /// Reads the text of a spool, which has to be written as it was read, and puts the spool to a session.
-fn put(alloc: Global, text: &str, client: &str, server: &str) -> Result<Verified, Fail> {
+pub(crate) fn put(alloc: Global, text: &str, client: &str, server: &str) -> Result<Verified, Fail> {
     let spool = Spool::read(alloc, text.as_bytes())?;
     let mut output = Watched::new(Vec::new(alloc));
     spool.write(&mut output)?;
@@ -36,7 +36,7 @@ fn spools_of_worked_sessions(rt: HostRuntime) -> Result<(), Fail> {
 }
 
 /// What a run over a capture and a spool's text in one piece answers and writes.
-fn run(alloc: Global, capture: &str, text: &str) -> Result<(bool, Vec<u8>), Fail> {
+pub(crate) fn run(alloc: Global, capture: &str, text: &str) -> Result<(bool, Vec<u8>), Fail> {
     let capture = with_spool(alloc, capture, text)?;
     let mut input = reader(capture.as_bytes(), 4096, 0);
     let mut output = writer(alloc, 1000, 1000, Full::Fails);

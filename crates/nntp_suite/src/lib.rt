@@ -7,9 +7,17 @@ mod checkers;
 #[cfg(test)]
 mod command_lines;
 #[cfg(test)]
+mod cuts;
+#[cfg(test)]
 mod fakes;
 #[cfg(test)]
+mod family;
+#[cfg(test)]
+mod faults;
+#[cfg(test)]
 mod given_spools;
+#[cfg(test)]
+mod limits;
 #[cfg(test)]
 mod memory;
 #[cfg(test)]

@@ -41,7 +41,7 @@ const RUNS: [Run; 3] = [
 
 const TASKS: [Task; 3] = [Task::Check, Task::Verify, Task::Show];
 
-fn perform<R: Read, W: Write>(
+pub(crate) fn perform<R: Read, W: Write>(
     alloc: Global,
     task: Task,
     input: &mut Watched<R>,
@@ -224,49 +224,4 @@ fn captures_cut_at_every_octet(rt: HostRuntime) -> Result<(), Fail> {
         }
     }
     Ok(())
-}
-
-#[test]
-fn failing_reads_leave_nothing_written(rt: HostRuntime) {
-    for row in RUNS {
-        let task = row.task;
-        // One read for each seven octets or fewer, and one that finds the end.
-        let reads = row.capture.len().div_ceil(7) as u64 + 1;
-        for fails_at in 1..=reads {
-            let mut input = reader(row.capture, 7, fails_at);
-            let mut output = writer(rt.alloc(), 1000, 1000, Full::Fails);
-            let outcome = perform(rt.alloc(), task, &mut input, &mut output, 1 << 30);
-            assert_eq!(rt; outcome, Err(RunFault::Read), "{task:?} at read {fails_at}");
-            assert!(rt; input.failed());
-            let written = output.into_inner();
-            assert!(rt; written.held.is_empty());
-            assert_eq!(rt; written.flushes, 0);
-        }
-        let mut input = reader(row.capture, 7, reads + 1);
-        let mut output = writer(rt.alloc(), 1000, 1000, Full::Fails);
-        let outcome = perform(rt.alloc(), task, &mut input, &mut output, 1 << 30);
-        assert_eq!(rt;
-            outcome,
-            Ok(true),
-            "{task:?} reads to the end, and no further"
-        );
-    }
-}
-
-#[test]
-fn failing_writes_leave_a_front_of_the_report(rt: HostRuntime) {
-    for row in RUNS {
-        let task = row.task;
-        for full in [Full::Fails, Full::TakesNone] {
-            for room in 0..row.report.len() {
-                let mut input = reader(row.capture, 4096, 0);
-                let mut output = writer(rt.alloc(), room, 5, full);
-                let outcome = perform(rt.alloc(), task, &mut input, &mut output, 1 << 30);
-                assert_eq!(rt; outcome, Err(RunFault::Write), "{task:?} at octet {room}");
-                assert!(rt; output.failed());
-                let written = output.into_inner();
-                assert_eq!(rt; written.held.as_slice(), &row.report[..room]);
-            }
-        }
-    }
 }

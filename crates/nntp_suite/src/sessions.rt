@@ -44,6 +44,11 @@ impl Session {
         self.verdict.starts_with("consistent ")
     }
 
+    /// What the client sent, and what the server sent.
+    pub(crate) fn streams(&self) -> (&'static [u8], &'static [u8]) {
+        (self.client.as_bytes(), self.server.as_bytes())
+    }
+
     /// The report of `check` on it.
     pub(crate) fn report(&self, alloc: Global) -> Result<String, AllocError> {
         let mut report = String::from_str(alloc, self.verdict)?;

@@ -60,8 +60,22 @@ impl Slow {
         }
     }
 
-    /// Compares `check` of two streams, which end behind the last exchange, with it.
+    /// Compares the report on two streams, which end behind the last exchange, with it.
     fn compare(
+        &self,
+        rt: &impl Abort,
+        alloc: Global,
+        name: &str,
+        report: &[u8],
+    ) -> Result<(), Fail> {
+        let first = self.first_line(alloc, true)?;
+        begins(rt, name, report, first.as_str());
+        assert!(rt; report.ends_with(&self.text), "{name}: {first}, the spool");
+        Ok(())
+    }
+
+    /// Compares `check` of such streams with it.
+    fn compare_check(
         &self,
         rt: &impl Abort,
         alloc: Global,
@@ -69,16 +83,28 @@ impl Slow {
         (client, server): (&[u8], &[u8]),
     ) -> Result<(), Fail> {
         let verdict = check(alloc, client, server)?;
-        let shown = shown(alloc, &verdict)?;
-        let first = self.first_line(alloc, true)?;
-        assert!(rt; shown.starts_with(first.as_bytes()), "{name}: {first}");
-        assert!(rt; shown.ends_with(&self.text), "{name}: {first}, the spool");
-        Ok(())
+        self.compare(rt, alloc, name, &shown(alloc, &verdict)?)
     }
 }
 
+/// Compares the report on two streams of so many exchanges, of which all octets are answers, with what the
+/// slow judge says.
+pub(crate) fn compare_report(
+    rt: &impl Abort,
+    alloc: Global,
+    name: &str,
+    streams: (&[u8], &[u8]),
+    count: usize,
+    report: &[u8],
+) -> Result<(), Fail> {
+    let exchanges = exchanges(alloc, streams.0, streams.1)?;
+    assert_eq!(rt; exchanges.len(), count, "{name}, exchanges");
+    let slow = Slow::all(alloc, streams, &exchanges)?;
+    slow.compare(rt, alloc, name, report)
+}
+
 /// A report begins with this line.
-fn begins(rt: &impl Abort, name: &str, report: &[u8], first: &str) {
+pub(crate) fn begins(rt: &impl Abort, name: &str, report: &[u8], first: &str) {
     assert!(rt; report.starts_with(first.as_bytes()), "{name}: {first}");
 }
 
@@ -125,7 +151,7 @@ fn judge_fronts(rt: &impl Abort, alloc: Global, session: &Session) -> Result<(),
         let end = front.last().map_or(0, |answered| answered.end);
         let (server, _) = server.split_at(end.min(server.len()));
         let slow = Slow::all(alloc, (client, server), front)?;
-        slow.compare(rt, alloc, session.name, (client, server))?;
+        slow.compare_check(rt, alloc, session.name, (client, server))?;
     }
     Ok(())
 }
@@ -170,7 +196,7 @@ fn judge_last(
     assert_eq!(rt; exchanges.len(), count);
     let slow = Slow::next(alloc, streams, &exchanges)?;
     let name = format!(in alloc; "{}", streams.0.escape_ascii())?;
-    slow.compare(rt, alloc, name.as_str(), streams)?;
+    slow.compare_check(rt, alloc, name.as_str(), streams)?;
     Ok(slow.judged)
 }
 

@@ -80,9 +80,9 @@ fn verdicts_on_worked_sessions(rt: HostRuntime) -> Result<(), Fail> {
 }
 
 /// What a run answers and writes.
-fn run(alloc: Global, capture: &str) -> Result<(bool, Vec<u8>), Fail> {
+pub(crate) fn run(alloc: Global, capture: &str) -> Result<(bool, Vec<u8>), Fail> {
     let mut input = reader(capture.as_bytes(), 4096, 0);
-    let mut output = writer(alloc, 10000, 10000, Full::Fails);
+    let mut output = writer(alloc, 100_000, 100_000, Full::Fails);
     let answer = run_check(alloc, &mut input, &mut output, 1 << 30)?;
     Ok((answer, output.into_inner().held))
 }

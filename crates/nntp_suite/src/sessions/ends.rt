@@ -3,7 +3,7 @@ use super::Session;
 use super::texts::{EMPTY_GROUP, NOTHING, SUBJECT};
 use nntp_spool::Verified;
 
-pub(crate) const SESSIONS: [Session; 20] = [
+pub(crate) const SESSIONS: [Session; 21] = [
     Session {
         name: "nothing was sent",
         client: "",
@@ -138,6 +138,14 @@ pub(crate) const SESSIONS: [Session; 20] = [
         server: "200 hi\r\n224 data\r\n1 x\r\n.\r\n",
         verdict: "consistent answers=2 groups=0 numbers=0 articles=0\n",
         given: (NOTHING, Verified::Permits { answers: 2 }),
+        others: &[],
+    },
+    Session {
+        name: "an overview with a bare LF in a line",
+        client: "XOVER 1-5\r\n",
+        server: "200 hi\r\n224 data\r\n1 x\n2 y\r\n.\r\n",
+        verdict: "bad answer 1 Malformed\ncommand XOVER 1-5\nanswer 224 data\n",
+        given: (NOTHING, Verified::Refuses { index: 1 }),
         others: &[],
     },
     Session {

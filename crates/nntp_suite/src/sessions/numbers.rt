@@ -6,7 +6,7 @@ use super::texts::{
 };
 use nntp_spool::Verified;
 
-pub(crate) const SESSIONS: [Session; 23] = [
+pub(crate) const SESSIONS: [Session; 25] = [
     Session {
         name: "a step from the first article",
         client: "GROUP g\r\nNEXT\r\n",
@@ -191,6 +191,22 @@ pub(crate) const SESSIONS: [Session; 23] = [
         server: "200 hi\r\n211 1 5 5 g\r\n423 no\r\n",
         verdict: "consistent answers=3 groups=1 numbers=0 articles=0\n",
         given: (EMPTY_GROUP, Verified::Permits { answers: 3 }),
+        others: &[],
+    },
+    Session {
+        name: "a number of seventeen digits is shown",
+        client: "GROUP g\r\nSTAT 00000000000000005\r\n",
+        server: "200 hi\r\n211 1 5 5 g\r\n223 5 <a@b>\r\n",
+        verdict: "bad answer 2 OutOfPlace\ncommand STAT 00000000000000005\nanswer 223 5 <a@b>\n",
+        given: (EMPTY_GROUP, Verified::Refuses { index: 2 }),
+        others: &[],
+    },
+    Session {
+        name: "an answer with a number of seventeen digits",
+        client: "GROUP g\r\nSTAT 00000000000000005\r\n",
+        server: "200 hi\r\n211 1 5 5 g\r\n223 00000000000000005 <a@b>\r\n",
+        verdict: "bad answer 2 Malformed\ncommand STAT 00000000000000005\nanswer 223 00000000000000005 <a@b>\n",
+        given: (EMPTY_GROUP, Verified::Refuses { index: 2 }),
         others: &[],
     },
     Session {

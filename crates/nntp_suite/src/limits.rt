@@ -1,0 +1,150 @@
+//! Lines at their greatest length and past it, and lines with octets that none may have.
+use crate::checkers::expect_cut;
+use crate::sessions::capture;
+use crate::verdicts::{run, shown};
+use nntp_check::check;
+use std::alloc::{AllocError, Global};
+use std::process::Abort;
+use std::test::Fail;
+
+/// Expects a verdict of both streams, and the report that a run writes of it. `told` is the same report with
+/// nothing escaped.
+fn expect(
+    rt: &impl Abort,
+    alloc: Global,
+    (client, server): (&str, &str),
+    told: &str,
+    written: &str,
+) -> Result<(), Fail> {
+    let streams = (client.as_bytes(), server.as_bytes());
+    let verdict = check(alloc, streams.0, streams.1)?;
+    assert_eq!(rt; shown(alloc, &verdict)?.as_slice(), told.as_bytes());
+    let places = (client.len() / 2, server.len() / 2);
+    expect_cut(rt, alloc, written, streams, places, told.as_bytes())?;
+    let (answer, report) = run(alloc, capture(alloc, client, server)?.as_str())?;
+    assert_eq!(rt; report.as_slice(), written.as_bytes());
+    assert_eq!(rt; answer, written.starts_with("consistent "));
+    Ok(())
+}
+
+/// A text, and so many letters `a` behind it.
+#[derive(Clone, Copy)]
+struct Long {
+    text: &'static str,
+    letters: usize,
+}
+
+impl Long {
+    fn spell(&self, alloc: Global) -> Result<String, AllocError> {
+        let mut line = String::from_str(alloc, self.text)?;
+        for _ in 0..self.letters {
+            line.push('a')?;
+        }
+        Ok(line)
+    }
+}
+
+/// What is said of a line and its answer.
+#[derive(Clone, Copy)]
+enum Said {
+    Consistent,
+    Malformed,
+    OutOfPlace,
+}
+
+impl Said {
+    fn report(&self, alloc: Global, line: &str, answer: &str) -> Result<String, AllocError> {
+        let class = match self {
+            Said::Consistent => {
+                return String::from_str(
+                    alloc,
+                    "consistent answers=2 groups=0 numbers=0 articles=0\nspool 1\nend\n",
+                );
+            }
+            Said::Malformed => "Malformed",
+            Said::OutOfPlace => "OutOfPlace",
+        };
+        format!(in alloc; "bad answer 1 {class}\ncommand {line}\nanswer {answer}\n")
+    }
+}
+
+#[test]
+fn lines_of_512_octets_and_more(rt: HostRuntime) -> Result<(), Fail> {
+    let group = Long {
+        text: "GROUP g",
+        letters: 0,
+    };
+    let denied = Long {
+        text: "411 no",
+        letters: 0,
+    };
+    let unknown = Long {
+        text: "XFOO",
+        letters: 0,
+    };
+    let command = |letters: usize| Long {
+        text: "GROUP ",
+        letters,
+    };
+    let answer = |letters: usize| Long {
+        text: "411 ",
+        letters,
+    };
+    let rows = [
+        (command(504), denied, Said::Consistent),
+        (command(505), denied, Said::OutOfPlace),
+        (group, answer(506), Said::Consistent),
+        (group, answer(507), Said::Malformed),
+        (unknown, answer(507), Said::Consistent),
+    ];
+    for (line, answer, said) in rows {
+        let line = line.spell(rt.alloc())?;
+        let answer = answer.spell(rt.alloc())?;
+        let client = format!(in rt.alloc(); "{line}\r\n")?;
+        let server = format!(in rt.alloc(); "200 hi\r\n{answer}\r\n")?;
+        let report = said.report(rt.alloc(), line.as_str(), answer.as_str())?;
+        let streams = (client.as_str(), server.as_str());
+        expect(&rt, rt.alloc(), streams, report.as_str(), report.as_str())?;
+    }
+    Ok(())
+}
+
+#[test]
+fn octets_that_no_line_has(rt: HostRuntime) -> Result<(), Fail> {
+    let rows = [
+        (
+            "",
+            "200 h\0i\r\n",
+            "bad answer 0 Malformed\nno command\nanswer 200 h\0i\n",
+            "bad answer 0 Malformed\nno command\nanswer 200 h\\x00i\n",
+        ),
+        (
+            "",
+            "200 h\ri\r\n",
+            "bad answer 0 Malformed\nno command\nanswer 200 h\ri\n",
+            "bad answer 0 Malformed\nno command\nanswer 200 h\\x0di\n",
+        ),
+        (
+            "",
+            "200 h\ni\r\n",
+            "bad answer 0 Malformed\nno command\nanswer 200 h\ni\n",
+            "bad answer 0 Malformed\nno command\nanswer 200 h\\x0ai\n",
+        ),
+        (
+            "GROUP g\n\r\n",
+            "200 hi\r\n411 no\r\n",
+            "bad answer 1 OutOfPlace\ncommand GROUP g\n\nanswer 411 no\n",
+            "bad answer 1 OutOfPlace\ncommand GROUP g\\x0a\nanswer 411 no\n",
+        ),
+        (
+            "GROUP g\r\r\n",
+            "200 hi\r\n411 no\r\n",
+            "bad answer 1 OutOfPlace\ncommand GROUP g\r\nanswer 411 no\n",
+            "bad answer 1 OutOfPlace\ncommand GROUP g\\x0d\nanswer 411 no\n",
+        ),
+    ];
+    for (client, server, told, written) in rows {
+        expect(&rt, rt.alloc(), (client, server), told, written)?;
+    }
+    Ok(())
+}
