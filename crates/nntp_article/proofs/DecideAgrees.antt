@@ -13,10 +13,12 @@ use Rattle.std.specs.declared.cmp.Ordering.{Ordering}
 use Rattle.std.specs.Cmp.Lexicographic.{nat_list_cmp_total}
 use Rattle.nntp_article.specs.Spool.{Spool, Numbers, IsNumber, numbers, IsNextAbove, IsNextBelow, NoneAbove, NoneBelow, Lists, IsInRange, text_of}
 use Rattle.nntp_article.specs.declared.profile.Profile.{Profile}
-use Rattle.nntp_article.specs.Machine.{State, selected_numbers, Bound, Row, is_opaque, is_greeting, is_generic, CodeAgrees, NumberAgrees, Agrees, ActivesAgree, MayAnswer, Run, fits, after}
+use Rattle.nntp_article.specs.Machine.{State, selected_numbers, AreEnds, Bound, Row, is_opaque, is_greeting, is_generic, CodeAgrees, NumberAgrees, Agrees, ActivesAgree, MayAnswer, Run, fits, after}
 use Rattle.nntp_article.proofs.Decide.{Dec, dec_true, dec_le, dec_both, dec_three, dec_or, dec_by, dec_none, dec_some_text, each_key, dec_some, dec_option, dec_lists, dec_unless, dec_to, passes, fails, dec_all}
 use Rattle.nntp_wire.specs.Answer.{Success, Asked, Response, success_code, greeting, to, group_is, numbers_are, sends, active_are, plain}
 use Rattle.nntp_wire.specs.declared.water_marks.WaterMarks.{WaterMarks}
+use Rattle.nntp_wire.specs.declared.marks.Marks.{Marks}
+use Rattle.nntp_wire.specs.declared.marks.Marks.TheVariants.{Lenient, Strict}
 use Rattle.nntp_wire.specs.declared.range.Range.{Range}
 use Rattle.nntp_wire.specs.Listing.{ActiveValue, listed_numbers, active_groups}
 use Rattle.nntp_wire.specs.Wildmat.{MatchesName}
@@ -43,12 +45,20 @@ dec_none_below N c =
     (λ h m i. elim (cases_lt m c) [ inl l ↦ absurd (not_some (get N m) (h m l) i) | inr g ↦ le-leb c m g ])
     (each_number N (λ m. nat_le c m))
 
-dec_bound : (N : Numbers) (m : WaterMarks) → Dec (Bound N m)
-dec_bound N m =
-    dec_both (dec_le (len N) m.estimate)
+dec_ends : (marks : Marks) (N : Numbers) (m : WaterMarks) → Dec (AreEnds marks N m)
+dec_ends Lenient N m = inl tt
+dec_ends Strict N m =
+    dec_by (λ h n i. and_parts (is_some (get N m.low)) (is_some (get N m.high)) (h n i))
+    (λ h n i. and_from (is_some (get N m.low)) (is_some (get N m.high)) (h n i).0 (h n i).1)
+    (each_number N (λ n. is_some (get N m.low) && is_some (get N m.high)))
+
+dec_bound : (marks : Marks) (N : Numbers) (m : WaterMarks) → Dec (Bound marks N m)
+dec_bound marks N m =
+    dec_three (dec_le (len N) m.estimate)
     (dec_by (λ h n i. let p = and_parts (nat_le m.low n) (nat_le n m.high) (h n i) in (leb-true m.low n p.0, leb-true n m.high p.1))
     (λ h n i. and_from (nat_le m.low n) (nat_le n m.high) (le-leb m.low n (h n i).0) (le-leb n m.high (h n i).1))
     (each_number N (λ n. nat_le m.low n && nat_le n m.high)))
+    (dec_ends marks N m)
 
 dec_next_above : (N : Numbers) (c n : ℕ) → Dec (IsNextAbove N c n)
 dec_next_above N c n =
@@ -164,28 +174,28 @@ dec_code S s (list_active p) code = inr (λ h. h)
 dec_code S s ill_formed code = inr (λ h. h)
 
 -- whether an answer agrees with a spool
-dec_agrees : (S : Spool) (s : State) (p : Asked) (a : Response) → Dec (Agrees S s p a)
-dec_agrees S s greeting (plain code) = dec_true (is_greeting code)
-dec_agrees S s (to command) (plain code) = dec_or (dec_true (is_generic code)) (dec_code S s command code)
-dec_agrees S s (to (group word)) (group_is m name) = dec_both (dec_true (is_some (get S.groups name))) (dec_bound (numbers S name) m)
-dec_agrees S s (to (list_group word range)) (numbers_are m name lines) = dec_three (dec_true (is_some (get S.groups name))) (dec_bound (numbers S name) m) (dec_listing (numbers S name) range (listed_numbers lines))
-dec_agrees S s (to next) (sends sent) =
+dec_agrees : (marks : Marks) (S : Spool) (s : State) (p : Asked) (a : Response) → Dec (Agrees marks S s p a)
+dec_agrees marks S s greeting (plain code) = dec_true (is_greeting code)
+dec_agrees marks S s (to command) (plain code) = dec_or (dec_true (is_generic code)) (dec_code S s command code)
+dec_agrees marks S s (to (group word)) (group_is m name) = dec_both (dec_true (is_some (get S.groups name))) (dec_bound marks (numbers S name) m)
+dec_agrees marks S s (to (list_group word range)) (numbers_are m name lines) = dec_three (dec_true (is_some (get S.groups name))) (dec_bound marks (numbers S name) m) (dec_listing (numbers S name) range (listed_numbers lines))
+dec_agrees marks S s (to next) (sends sent) =
     dec_row sent.code 223 (dec_both (dec_match s.current _ (λ c. dec_next_above (selected_numbers S s.visible) c sent.number)) (dec_some_text (get (selected_numbers S s.visible) sent.number) sent.id))
-dec_agrees S s (to last) (sends sent) =
+dec_agrees marks S s (to last) (sends sent) =
     dec_row sent.code 223 (dec_both (dec_match s.current _ (λ c. dec_next_below (selected_numbers S s.visible) c sent.number)) (dec_some_text (get (selected_numbers S s.visible) sent.number) sent.id))
-dec_agrees S s (to (retrieve what which)) (sends sent) =
+dec_agrees marks S s (to (retrieve what which)) (sends sent) =
     dec_row sent.code (success_code what) (dec_both (dec_some (dec_option dec_lists) (option_map (text_of what) (get S.articles sent.id)) sent.block) (dec_number S s which sent))
-dec_agrees S s (to (list_active p)) (active_are lines) = dec_actives S p (active_groups lines)
-dec_agrees S s p (group_is m name) = inr (λ h. h)
-dec_agrees S s p (numbers_are m name lines) = inr (λ h. h)
-dec_agrees S s p (sends sent) = inr (λ h. h)
-dec_agrees S s p (active_are lines) = inr (λ h. h)
+dec_agrees marks S s (to (list_active p)) (active_are lines) = dec_actives S p (active_groups lines)
+dec_agrees marks S s p (group_is m name) = inr (λ h. h)
+dec_agrees marks S s p (numbers_are m name lines) = inr (λ h. h)
+dec_agrees marks S s p (sends sent) = inr (λ h. h)
+dec_agrees marks S s p (active_are lines) = inr (λ h. h)
 
 -- whether an answer is permitted
 pub dec_may_answer : (profile : Profile) (S : Spool) (s : State) (p : Asked) (a : Response) → Dec (MayAnswer profile S s p a)
 dec_may_answer profile S s p a =
     dec_by (λ h. record { is_open = h.0; fits_visible = h.1; agrees = h.2 }) (λ h. (h.is_open, h.fits_visible, h.agrees))
-    (dec_three (dec_false s.visible.closed) (dec_true (fits profile s.visible p a)) (dec_agrees S s p a))
+    (dec_three (dec_false s.visible.closed) (dec_true (fits profile s.visible p a)) (dec_agrees profile.marks S s p a))
   where
     dec_false : (b : Bool) → Dec (b ≡ false)
     dec_false false = inl refl

@@ -12,10 +12,11 @@ use Rattle.nntp_wire.specs.declared.command.What.TheVariants.{Article, Head, Bod
 use Rattle.nntp_article.specs.Article.{Line}
 use Rattle.nntp_wire.specs.Decided.{matches_name}
 use Rattle.nntp_article.specs.declared.profile.Profile.{Profile}
+use Rattle.nntp_wire.specs.declared.marks.Marks.TheVariants.{Lenient}
 use Rattle.nntp_article.specs.Machine.{Visible, start, fits, visible_after}
 
 abbrev reader : Profile
-reader = record { limit = 2147483647 }
+reader = record { limit = 2147483647; marks = Lenient }
 
 abbrev at_start : Visible
 at_start = start.visible

@@ -8,6 +8,8 @@ use Rattle.std.specs.FinMap.{FinMap, get, insert, len, empty}
 use Rattle.nntp_wire.specs.Command.{Target, by_id, by_number, current, Request, capabilities, mode_reader, next, last, quit, opaque, ill_formed, group, list_group, retrieve, list_active}
 use Rattle.nntp_wire.specs.Answer.{Asked, greeting, to, Success, Response, group_is, numbers_are, sends, active_are, plain, success_code}
 use Rattle.nntp_wire.specs.declared.water_marks.WaterMarks.{WaterMarks}
+use Rattle.nntp_wire.specs.declared.marks.Marks.{Marks}
+use Rattle.nntp_wire.specs.declared.marks.Marks.TheVariants.{Lenient, Strict}
 use Rattle.nntp_wire.specs.Listing.{ActiveValue, listed_numbers, active_groups}
 use Rattle.nntp_wire.specs.Session.{closes}
 use Rattle.nntp_wire.specs.Wildmat.{MatchesName}
@@ -148,9 +150,14 @@ fits profile v asked response = false
 abbrev pub selected_numbers : Spool → Visible → Numbers
 selected_numbers S v = numbers S (unwrap_or v.selected [])
 
--- there are at most as many numbers as estimated, all between the marks
-abbrev pub Bound : Numbers → WaterMarks → Type 0
-Bound N m = (len N ≤ m.estimate) × ((n : ℕ) → IsNumber N n → (m.low ≤ n) × (n ≤ m.high))
+-- where marks are strict, and there is a number, both marks are numbers
+abbrev pub AreEnds : Marks → Numbers → WaterMarks → Type 0
+AreEnds Lenient N m = ⊤
+AreEnds Strict N m = (n : ℕ) → IsNumber N n → IsNumber N m.low × IsNumber N m.high
+
+-- there are at most as many numbers as estimated, all between the marks; so strict marks are the least and the greatest
+abbrev pub Bound : Marks → Numbers → WaterMarks → Type 0
+Bound marks N m = (len N ≤ m.estimate) × ((n : ℕ) → IsNumber N n → (m.low ≤ n) × (n ≤ m.high)) × AreEnds marks N m
 
 -- the code is that of the row, and this holds
 abbrev pub Row : ℕ → ℕ → Type 0 → Type 0
@@ -191,18 +198,18 @@ ActivesAgree S p lines =
     × All (λ line. (n : ℕ) → IsNumber (numbers S line.name) n → (line.low ≤ n) × (n ≤ line.high)) lines
 
 -- the condition over the spool, a row each: what no row names agrees with no spool
-abbrev pub Agrees : Spool → State → Asked → Response → Type 0
-Agrees S s greeting (plain code) = IsTrue (is_greeting code)
-Agrees S s (to command) (plain code) = IsTrue (is_generic code) ⊎ CodeAgrees S s command code
-Agrees S s (to (group word)) (group_is m name) = IsGroup S name × Bound (numbers S name) m
-Agrees S s (to (list_group word range)) (numbers_are m name lines) = IsGroup S name × Bound (numbers S name) m × Lists (numbers S name) range (listed_numbers lines)
-Agrees S s (to next) (sends sent) =
+abbrev pub Agrees : Marks → Spool → State → Asked → Response → Type 0
+Agrees marks S s greeting (plain code) = IsTrue (is_greeting code)
+Agrees marks S s (to command) (plain code) = IsTrue (is_generic code) ⊎ CodeAgrees S s command code
+Agrees marks S s (to (group word)) (group_is m name) = IsGroup S name × Bound marks (numbers S name) m
+Agrees marks S s (to (list_group word range)) (numbers_are m name lines) = IsGroup S name × Bound marks (numbers S name) m × Lists (numbers S name) range (listed_numbers lines)
+Agrees marks S s (to next) (sends sent) =
     Row sent.code 223 (MatchOption s.current ⊥ (λ c. IsNextAbove (selected_numbers S s.visible) c sent.number) × (get (selected_numbers S s.visible) sent.number ≡ Some sent.id))
-Agrees S s (to last) (sends sent) =
+Agrees marks S s (to last) (sends sent) =
     Row sent.code 223 (MatchOption s.current ⊥ (λ c. IsNextBelow (selected_numbers S s.visible) c sent.number) × (get (selected_numbers S s.visible) sent.number ≡ Some sent.id))
-Agrees S s (to (retrieve what which)) (sends sent) = Row sent.code (success_code what) (HasText S what sent.id sent.block × NumberAgrees S s which sent)
-Agrees S s (to (list_active p)) (active_are lines) = ActivesAgree S p (active_groups lines)
-Agrees S s asked response = ⊥
+Agrees marks S s (to (retrieve what which)) (sends sent) = Row sent.code (success_code what) (HasText S what sent.id sent.block × NumberAgrees S s which sent)
+Agrees marks S s (to (list_active p)) (active_are lines) = ActivesAgree S p (active_groups lines)
+Agrees marks S s asked response = ⊥
 
 -- ---- the new state
 
@@ -235,7 +242,7 @@ after S s asked response = record { visible = visible_after s.visible asked resp
 pub record MayAnswer (profile : Profile) (S : Spool) (s : State) (asked : Asked) (response : Response) : Type 0 where
   pub is_open : s.visible.closed ≡ false
   pub fits_visible : IsTrue (fits profile s.visible asked response)
-  pub agrees : Agrees S s asked response
+  pub agrees : Agrees profile.marks S s asked response
 
 -- the answer is permitted, and leads to the new state
 pub record Permits (profile : Profile) (S : Spool) (s : State) (asked : Asked) (response : Response) (new : State) : Type 0 where

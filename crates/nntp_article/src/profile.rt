@@ -1,4 +1,8 @@
 //! What may vary between sessions.
+ghost use Rattle.std.specs.Prelude.{◌≡◌};
+ghost use Rattle.nntp_article.specs.Limit.{profile_of};
+
+use nntp_wire::{Limit, Marks};
 
 /// The greatest article number of 31 bits (RFC 3977, section 6).
 pub const LIMIT: u64 = 2_147_483_647;
@@ -8,7 +12,24 @@ pub const LIMIT: u64 = 2_147_483_647;
 pub struct Profile {
     /// The greatest article number.
     pub limit: u64,
+    /// How the marks of a 211 are read.
+    pub marks: Marks,
+}
+
+impl Profile {
+    /// Of sessions whose article numbers are within the limit, and whose marks are read so.
+    pub fn of(limit: Limit, marks: Marks) -> Profile
+        ensures { result ≡ profile_of limit marks }
+    {
+        Profile {
+            limit: limit.value(),
+            marks,
+        }
+    }
 }
 
 /// What sessions and spools are judged by: article numbers of 31 bits.
-pub const PROFILE_31_BITS: Profile = Profile { limit: LIMIT };
+pub const PROFILE_31_BITS: Profile = Profile {
+    limit: LIMIT,
+    marks: Marks::Lenient,
+};

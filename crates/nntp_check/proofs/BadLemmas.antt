@@ -10,7 +10,7 @@ use Rattle.nntp_wire.proofs.FramesDecided.{dec_frame}
 use Rattle.nntp_article.specs.Limit.{profile_31_bits}
 use Rattle.nntp_pair.specs.declared.class.PairClass.{PairClass}
 use Rattle.nntp_pair.specs.declared.class.PairClass.TheVariants as pair
-use Rattle.nntp_pair.specs.Pairing.{Unpaired, Ends, Ending, end, bad as pair_end, asked_at, asked_of, responses_of}
+use Rattle.nntp_pair.specs.Pairing.{Unpaired, Ends, Ending, end, bad as pair_end, asked_at}
 use Rattle.nntp_pair.specs.Feeding.{HasNext, EndsForGood}
 use Rattle.nntp_pair.proofs.PairingLemmas.{index-counts}
 use Rattle.nntp_facts.specs.declared.class.Class.{Class}
@@ -18,7 +18,6 @@ use Rattle.nntp_facts.specs.declared.class.Class.TheVariants as class
 use Rattle.nntp_facts.specs.Classes.{IsSettled, class_of}
 use Rattle.nntp_facts.specs.Headline.{No, IsHeadline}
 use Rattle.nntp_facts.specs.Noted.{FactsKept}
-use Rattle.nntp_facts.specs.Permits.{SomePermits}
 use Rattle.nntp_facts.proofs.ClassLemmas.{bad_stays as answer_stays, class_stays, settled_stays}
 use Rattle.nntp_facts.proofs.Grow.{pairs_permitted}
 use Rattle.nntp_facts.proofs.Headlines.{one_headline}
@@ -78,7 +77,7 @@ ends-here index (place ∷ places) (b ∷ server) false none = elim (dec_spellin
   ]
 ]
 
-module _ (client server : List ℕ) (facts : FactsKept) (left : Unpaired) (answers : ℕ) (p : Passed client server facts left answers) where
+module _ (client server : List ℕ) (facts : FactsKept) (left : Unpaired) (answers : ℕ) (p : Passed profile_31_bits client server facts left answers) where
   -- an end that stays is bad for good
   pub told : (class : PairClass) → EndsForGood class left → (index : ℕ) → index ≡ left.index → (of : Class) → of ≡ class_of class → IsBadForGood client server index of
   told class ends index at of is = (
@@ -90,7 +89,7 @@ module _ (client server : List ℕ) (facts : FactsKept) (left : Unpaired) (answe
   -- where all answers are explained none is bad
   no-bad-explained : (unanswered : ℕ) → Ends left (end unanswered) → (answer : ℕ) (class : Class) → IsHeadline profile_31_bits client server (No answer class) → ⊥
   no-bad-explained unanswered ends answer class headline =
-      let some = (pairs_permitted profile_31_bits client server p.pairs left p.before).1 (subst (λ profile. SomePermits profile (asked_of p.pairs) (responses_of p.pairs)) p.stands.profile p.stands.permitted) in
+      let some = (pairs_permitted profile_31_bits client server p.pairs left p.before).1 p.stands.permitted in
       explained_not_bad profile_31_bits some.0 client server (length p.pairs) answer
       (explained_end profile_31_bits some.0 client server p.pairs unanswered (record { left = left; paired = p.before; ends = ends }) some.1 some.2) headline.0
 

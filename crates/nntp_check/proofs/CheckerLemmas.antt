@@ -1,6 +1,7 @@
 -- What a checker holds, as octets come.
 use Rattle.std.proofs.Common.{◌≡◌, ◌∙◌, sym, ap, subst, ℕ, ◌+◌, false, List, [], ◌∷◌, ◌++◌, length, arith, append_assoc, length-append}
 use Rattle.std.proofs.lemmas.List.{append-nil}
+use Rattle.nntp_article.specs.Limit.{profile_31_bits}
 use Rattle.nntp_pair.specs.Pairing.{Paired, Unpaired, IsNext, bad as pair_end}
 use Rattle.nntp_pair.specs.declared.class.PairClass.{PairClass}
 use Rattle.nntp_pair.specs.Feeding.{Fed, IsFed, EndsForGood, left_of, unfed}
@@ -14,20 +15,20 @@ use Rattle.nntp_check.proofs.FedLemmas.{longer, fed-pairs}
 
 module _ (facts : FactsKept) (fed : Fed) (answers : ℕ) (client server : List ℕ) (k : Keeps facts fed answers client server) where
   -- the exchanges have passed
-  abbrev pub passed-now : Passed client server facts (left_of fed) answers
+  abbrev pub passed-now : Passed profile_31_bits client server facts (left_of fed) answers
   passed-now = record { pairs = k.pairs; before = fed-pairs fed client server k.pairs k.fed_is; count = k.count; stands = k.stands }
 
   -- whatever follows
-  abbrev pub passed-longer : (client_more server_more : List ℕ) → Passed (client ++ client_more) (server ++ server_more) facts (left_of (longer client_more server_more fed)) answers
+  abbrev pub passed-longer : (client_more server_more : List ℕ) → Passed profile_31_bits (client ++ client_more) (server ++ server_more) facts (left_of (longer client_more server_more fed)) answers
   passed-longer client_more server_more = record { pairs = k.pairs; before = k.fed_is.paired client_more server_more; count = k.count; stands = k.stands }
 
   -- the next one is due
   pub next-due : (x : Paired) (behind : Unpaired) → IsNext (left_of fed) x behind → IsDue facts x
-  next-due x behind next = is-due client server facts (left_of fed) behind answers x passed-now next
+  next-due x behind next = is-due profile_31_bits client server facts (left_of fed) behind answers x passed-now next
 
   -- and one more passes
   pub keeps-one-more : (new : FactsKept) (then : Fed) (more : ℕ) (x : Paired) (behind : Unpaired) → IsNext (left_of fed) x behind
-      → (now : Passed client server new behind more) → now.pairs ≡ k.pairs ++ (x ∷ [])
+      → (now : Passed profile_31_bits client server new behind more) → now.pairs ≡ k.pairs ++ (x ∷ [])
       → ((client server : List ℕ) (pairs : List Paired) (pair : Paired) (behind : Unpaired) → IsFed fed client server pairs → IsNext (left_of fed) pair behind → IsFed then client server (pairs ++ (pair ∷ [])))
       → then.has_failed ≡ fed.has_failed → Keeps new then more client server
   keeps-one-more new then more x behind next now pairs advanced same = record {

@@ -6,6 +6,7 @@ use Rattle.nntp_wire.specs.Octets.{crlf}
 use Rattle.nntp_wire.specs.Frame.{framed, frame_octets}
 use Rattle.nntp_article.specs.Explains.{Explains}
 use Rattle.nntp_article.specs.Limit.{profile_31_bits}
+use Rattle.nntp_article.specs.declared.profile.Profile.{Profile}
 use Rattle.nntp_article.specs.Machine.{Visible, visible_after, start, fits}
 use Rattle.nntp_article.specs.Spool.{Spool}
 use Rattle.nntp_article.proofs.Closing.{after-closes}
@@ -20,7 +21,6 @@ use Rattle.nntp_facts.specs.declared.noted.Noted.TheVariants as kinds
 use Rattle.nntp_facts.specs.Classes.{class_of, class_by, visible_from}
 use Rattle.nntp_facts.specs.Headline.{Yes, No, IsHeadline}
 use Rattle.nntp_facts.specs.Noted.{FactsKept, Stands, IsDue, IsNoted}
-use Rattle.nntp_facts.specs.Permits.{SomePermits}
 use Rattle.nntp_facts.proofs.Size.{pairs_size}
 use Rattle.nntp_facts.proofs.Headlines.{same_answers, headline_at_end, headline_at_octets, headline_at_response, headline_at_unfitting}
 use Rattle.nntp_spool.specs.Text.{IsWritten}
@@ -46,19 +46,19 @@ closed-by v before left (pair ∷ pairs) same (between, first, more) =
     closed-by (visible_after v (asked_at pair.line) pair.response) between left pairs (first.closing ∙ sym (after-closes v (asked_at pair.line) pair.response (sym same ∙ first.is_open))) more
 
 -- the next exchange is due
-pub is-due : (client server : List ℕ) (facts : FactsKept) (left behind : Unpaired) (answers : ℕ) (x : Paired) → Passed client server facts left answers → IsNext left x behind → IsDue facts x
-is-due client server facts left behind answers x p next = record {
+pub is-due : (profile : Profile) (client server : List ℕ) (facts : FactsKept) (left behind : Unpaired) (answers : ℕ) (x : Paired) → Passed profile client server facts left answers → IsNext left x behind → IsDue facts x
+is-due profile client server facts left behind answers x p next = record {
   index = next.index ∙ index-counts client server p.pairs left p.before ∙ sym p.stands.count;
   is_open = ap (λ (v : Visible). v.closed) p.stands.visible ∙ sym (closed-by start.visible (streams client server) left p.pairs refl p.before) ∙ next.is_open;
 }
 
 -- and then it has passed
-pub one-more : (client server : List ℕ) (old new : FactsKept) (left behind : Unpaired) (answers : ℕ) (x : Paired) (noted : Noted) → (p : Passed client server old left answers) → IsNext left x behind
-    → ((past : List Paired) → Stands old past → IsNoted past x old new noted) → class_noted noted ≡ None → (k : ℕ) → k ≡ x.index
-    → (now : Passed client server new behind (k + 1)) × (now.pairs ≡ p.pairs ++ (x ∷ []))
-one-more client server old new left behind answers x noted p next notes good k at = by noted good (notes p.pairs p.stands)
+pub one-more : (profile : Profile) (client server : List ℕ) (old new : FactsKept) (left behind : Unpaired) (answers : ℕ) (x : Paired) (noted : Noted) → (p : Passed profile client server old left answers) → IsNext left x behind
+    → ((past : List Paired) → Stands profile old past → IsNoted profile past x old new noted) → class_noted noted ≡ None → (k : ℕ) → k ≡ x.index
+    → (now : Passed profile client server new behind (k + 1)) × (now.pairs ≡ p.pairs ++ (x ∷ []))
+one-more profile client server old new left behind answers x noted p next notes good k at = by noted good (notes p.pairs p.stands)
   where
-    by : (noted : Noted) → class_noted noted ≡ None → IsNoted p.pairs x old new noted → (now : Passed client server new behind (k + 1)) × (now.pairs ≡ p.pairs ++ (x ∷ []))
+    by : (noted : Noted) → class_noted noted ≡ None → IsNoted profile p.pairs x old new noted → (now : Passed profile client server new behind (k + 1)) × (now.pairs ≡ p.pairs ++ (x ∷ []))
     by kinds.Consistent none h = (
       record {
         pairs = p.pairs ++ (x ∷ []);
@@ -85,7 +85,7 @@ of-exchange kinds.OutOfPlace class is = let same : class ≡ OutOfPlace = cc in 
 of-exchange kinds.Contradiction class is = let same : class ≡ Contradiction = cc in ap pair_class_of same
 
 -- a bad exchange
-pub at-exchange : (client server : List ℕ) (facts : FactsKept) (left behind : Unpaired) (answers : ℕ) (x : Paired) (noted : Noted) (class : Class) → Passed client server facts left answers → IsNext left x behind → Some class ≡ class_noted noted
+pub at-exchange : (client server : List ℕ) (facts : FactsKept) (left behind : Unpaired) (answers : ℕ) (x : Paired) (noted : Noted) (class : Class) → Passed profile_31_bits client server facts left answers → IsNext left x behind → Some class ≡ class_noted noted
     → (k : ℕ) → k ≡ x.index → (line : Option (List ℕ)) → line ≡ x.line → (initial : List ℕ) → initial ≡ x.initial
     → StopsAt client server k class (option_map shown line) (shown initial)
 at-exchange client server facts left behind answers x noted class p next judged k at line line-is initial initial-is =
@@ -111,7 +111,7 @@ of-pair pair.Malformed left is = is
 
 -- octets that answer nothing
 pub at-octets : (client server : List ℕ) (facts : FactsKept) (left : Unpaired) (answers index : ℕ) (class : PairClass) (line : Option (List ℕ)) (octets first : List ℕ)
-    → Passed client server facts left answers → StopsHere left index class line octets → (of : Class) → of ≡ class_of class → IsFirstLine octets first
+    → Passed profile_31_bits client server facts left answers → StopsHere left index class line octets → (of : Class) → of ≡ class_of class → IsFirstLine octets first
     → StopsAt client server index of (option_map shown line) (shown first)
 at-octets client server facts left answers index class line octets first p stop of of-is is-first = record {
   pairs = p.pairs;
@@ -134,47 +134,42 @@ only-permits S client server n x (Permits m) y = ap Permits (sym y.count ∙ ap 
 only-permits S client server n x (Refuses k) r = absurd (explained-unrefused profile_31_bits S x.is_spool client server n k x r)
 
 -- an exchange that isn't accepted is bad, of its class
-pub exchange-right : (client server : List ℕ) (old new : FactsKept) (left behind : Unpaired) (answers : ℕ) (x : Paired) (noted : Noted) (class : Class) → Passed client server old left answers → IsNext left x behind
-    → ((past : List Paired) → Stands old past → IsNoted past x old new noted) → Some class ≡ class_noted noted → (k : ℕ) → k ≡ x.index → IsHeadline profile_31_bits client server (No k class)
+pub exchange-right : (client server : List ℕ) (old new : FactsKept) (left behind : Unpaired) (answers : ℕ) (x : Paired) (noted : Noted) (class : Class) → Passed profile_31_bits client server old left answers → IsNext left x behind
+    → ((past : List Paired) → Stands profile_31_bits old past → IsNoted profile_31_bits past x old new noted) → Some class ≡ class_noted noted → (k : ℕ) → k ≡ x.index → IsHeadline profile_31_bits client server (No k class)
 exchange-right client server old new left behind answers x noted class p next notes judged k at =
     subst (λ n. IsHeadline profile_31_bits client server (No n class)) (sym place) (by noted judged (notes p.pairs p.stands))
   where
     place : k ≡ length p.pairs
     place = at ∙ next.index ∙ index-counts client server p.pairs left p.before
 
-    permitted : SomePermits profile_31_bits (asked_of p.pairs) (responses_of p.pairs)
-    permitted = subst (λ profile. SomePermits profile (asked_of p.pairs) (responses_of p.pairs)) p.stands.profile p.stands.permitted
+    fitting : fits profile_31_bits old.visible (asked_at x.line) x.response ≡ fits profile_31_bits (visible_left p.pairs) (asked_at x.line) x.response
+    fitting i = fits profile_31_bits (p.stands.visible i) (asked_at x.line) x.response
 
-    fitting : fits old.profile old.visible (asked_at x.line) x.response ≡ fits profile_31_bits (visible_left p.pairs) (asked_at x.line) x.response
-    fitting i = fits (p.stands.profile i) (p.stands.visible i) (asked_at x.line) x.response
-
-    by : (noted : Noted) → Some class ≡ class_noted noted → IsNoted p.pairs x old new noted → IsHeadline profile_31_bits client server (No (length p.pairs) class)
+    by : (noted : Noted) → Some class ≡ class_noted noted → IsNoted profile_31_bits p.pairs x old new noted → IsHeadline profile_31_bits client server (No (length p.pairs) class)
     by kinds.Consistent judged h = cc
     by kinds.OutOfPlace judged h =
         let same : OutOfPlace ≡ class = cc in
         subst (λ c. IsHeadline profile_31_bits client server (No (length p.pairs) c)) same
-        (headline_at_unfitting profile_31_bits client server p.pairs x left behind p.before next permitted (sym fitting ∙ h.0))
+        (headline_at_unfitting profile_31_bits client server p.pairs x left behind p.before next p.stands.permitted (sym fitting ∙ h.0))
     by kinds.Contradiction judged h =
         let same : class_by (fits profile_31_bits (visible_left p.pairs) (asked_at x.line) x.response) ≡ class = ap class_by (sym fitting ∙ h.0) ∙ (let c : Contradiction ≡ class = cc in c) in
         subst (λ c. IsHeadline profile_31_bits client server (No (length p.pairs) c)) same
-        (headline_at_response profile_31_bits client server p.pairs x left behind p.before next permitted (λ q. h.1 (subst (λ profile. SomePermits profile (asked_of (p.pairs ++ x ∷ [])) (responses_of (p.pairs ++ x ∷ []))) (sym p.stands.profile) q)))
+        (headline_at_response profile_31_bits client server p.pairs x left behind p.before next p.stands.permitted h.1)
 
 -- octets that answer nothing are bad, of their class
-pub octets-right : (client server : List ℕ) (facts : FactsKept) (left : Unpaired) (answers : ℕ) (class : PairClass) → Passed client server facts left answers → Ends left (pair_end class)
+pub octets-right : (client server : List ℕ) (facts : FactsKept) (left : Unpaired) (answers : ℕ) (class : PairClass) → Passed profile_31_bits client server facts left answers → Ends left (pair_end class)
     → (k : ℕ) → k ≡ left.index → (of : Class) → of ≡ class_of class → IsHeadline profile_31_bits client server (No k of)
 octets-right client server facts left answers class p ends k at of is =
     let place : length p.pairs ≡ k = sym (at ∙ index-counts client server p.pairs left p.before) in
     subst (λ (x : ℕ × Class). IsHeadline profile_31_bits client server (No x.0 x.1)) (λ i. (place i, sym is i))
-    (headline_at_octets profile_31_bits client server p.pairs class (record { left = left; paired = p.before; ends = ends })
-    (subst (λ profile. SomePermits profile (asked_of p.pairs) (responses_of p.pairs)) p.stands.profile p.stands.permitted))
+    (headline_at_octets profile_31_bits client server p.pairs class (record { left = left; paired = p.before; ends = ends }) p.stands.permitted)
 
 -- where no octet is left, and the spool is a witness of the exchanges that passed, it is a yes
-pub at-end : (client server : List ℕ) (facts : FactsKept) (left : Unpaired) (answers unanswered : ℕ) (S : Spool) → (p : Passed client server facts left answers) → Ends left (end unanswered)
-    → IsWitness p.pairs S → IsWritten profile_31_bits S → IsYes client server S answers
+pub at-end : (client server : List ℕ) (facts : FactsKept) (left : Unpaired) (answers unanswered : ℕ) (S : Spool) → (p : Passed profile_31_bits client server facts left answers) → Ends left (end unanswered)
+    → IsWitness profile_31_bits p.pairs S → IsWritten profile_31_bits S → IsYes client server S answers
 at-end client server facts left answers unanswered S p ends witness written =
     let pairing : IsPairing client server p.pairs (end unanswered) = record { left = left; paired = p.before; ends = ends } in
-    let permitted = subst (λ profile. SomePermits profile (asked_of p.pairs) (responses_of p.pairs)) p.stands.profile p.stands.permitted in
-    let headline = subst (λ n. IsHeadline profile_31_bits client server (Yes S n)) (sym p.count) (headline_at_end profile_31_bits client server p.pairs unanswered S (pairs_size p.pairs p.stands.lines p.stands.few) pairing permitted witness.given) in
+    let headline = subst (λ n. IsHeadline profile_31_bits client server (Yes S n)) (sym p.count) (headline_at_end profile_31_bits client server p.pairs unanswered S (pairs_size profile_31_bits.marks p.pairs p.stands.lines p.stands.few) pairing p.stands.permitted witness.given) in
     record {
       headline = headline;
       throughout = record { pairs = p.pairs; unanswered = unanswered; pairing = pairing; count = p.count };
@@ -188,8 +183,8 @@ told (Ok v) P j p ok = subst P (sym ok) p
 told (Err e) P j p ok = ok
 
 -- an exchange that isn't accepted, with what is shown of it, is a verdict
-pub refused : (client server : List ℕ) (old new : FactsKept) (left behind : Unpaired) (answers : ℕ) (x : Paired) (noted : Noted) (class : Class) → Passed client server old left answers → IsNext left x behind
-    → ((past : List Paired) → Stands old past → IsNoted past x old new noted) → Some class ≡ class_noted noted → (k : ℕ) → k ≡ x.index
+pub refused : (client server : List ℕ) (old new : FactsKept) (left behind : Unpaired) (answers : ℕ) (x : Paired) (noted : Noted) (class : Class) → Passed profile_31_bits client server old left answers → IsNext left x behind
+    → ((past : List Paired) → Stands profile_31_bits old past → IsNoted profile_31_bits past x old new noted) → Some class ≡ class_noted noted → (k : ℕ) → k ≡ x.index
     → (line : Option (List ℕ)) → line ≡ x.line → (initial : List ℕ) → initial ≡ x.initial → IsVerdict client server (bad k class (option_map shown line) (shown initial))
 refused client server old new left behind answers x noted class p next notes judged k at line line-is initial initial-is = record {
   headline = exchange-right client server old new left behind answers x noted class p next notes judged k at;
@@ -198,7 +193,7 @@ refused client server old new left behind answers x noted class p next notes jud
 
 -- and so are octets that answer nothing
 pub stopped : (client server : List ℕ) (facts : FactsKept) (left : Unpaired) (answers index : ℕ) (class : PairClass) (line : Option (List ℕ)) (octets first : List ℕ)
-    → Passed client server facts left answers → StopsHere left index class line octets → (of : Class) → of ≡ class_of class → IsFirstLine octets first → IsVerdict client server (bad index of (option_map shown line) (shown first))
+    → Passed profile_31_bits client server facts left answers → StopsHere left index class line octets → (of : Class) → of ≡ class_of class → IsFirstLine octets first → IsVerdict client server (bad index of (option_map shown line) (shown first))
 stopped client server facts left answers index class line octets first p stop of of-is is-first = record {
   headline = octets-right client server facts left answers class p stop.ends index stop.index_is of of-is;
   place = at-octets client server facts left answers index class line octets first p stop of of-is is-first;

@@ -37,14 +37,14 @@ server_count failed = 0
 pub record HasPassed (facts : FactsKept) (fed : Fed) (client server : List ℕ) : Type 0 where
   pub pairs : List Paired
   pub fed_is : IsFed fed client server pairs
-  pub stands : Stands facts pairs
+  pub stands : Stands profile_31_bits facts pairs
   pub all : ¬ (HasNext (left_of fed))
 
 -- some spool permits the exchanges that passed, as many as there are answers, and the facts are theirs
 pub record Keeps (facts : FactsKept) (fed : Fed) (answers : ℕ) (client server : List ℕ) : Type 0 where
   pub pairs : List Paired
   pub fed_is : IsFed fed client server pairs
-  pub stands : Stands facts pairs
+  pub stands : Stands profile_31_bits facts pairs
   pub is_whole : fed.has_failed ≡ false
   pub count : answers ≡ length pairs
 

@@ -13,6 +13,7 @@ use Rattle.nntp_facts.specs.declared.noted.Noted.{Noted}
 use Rattle.nntp_facts.specs.declared.noted.Noted.TheVariants as noted
 use Rattle.nntp_facts.specs.Headline.{Yes, No, IsHeadline}
 use Rattle.nntp_facts.specs.Noted.{FactsKept, Stands}
+use Rattle.nntp_article.specs.declared.profile.Profile.{Profile}
 use Rattle.nntp_article.specs.Limit.{profile_31_bits}
 use Rattle.nntp_article.specs.Spool.{Spool}
 use Rattle.nntp_spool.specs.Reading.{spool_at}
@@ -86,11 +87,11 @@ IsVerdict client server (consistent S answers) = IsYes client server S answers
 IsVerdict client server (bad answer class command reply) = IsNo client server answer class command reply
 
 -- so many exchanges have passed, of which the facts are kept, and then this is left
-pub record Passed (client server : List ℕ) (facts : FactsKept) (left : Unpaired) (answers : ℕ) : Type 0 where
+pub record Passed (profile : Profile) (client server : List ℕ) (facts : FactsKept) (left : Unpaired) (answers : ℕ) : Type 0 where
   pub pairs : List Paired
   pub before : AreNext (streams client server) pairs left
   pub count : answers ≡ length pairs
-  pub stands : Stands facts pairs
+  pub stands : Stands profile facts pairs
 
 -- the pairing ends here at octets of this class, and these are their index, their line, and octets with their first line
 pub record StopsHere (left : Unpaired) (index : ℕ) (class : PairClass) (line : Option (List ℕ)) (octets : List ℕ) : Type 0 where

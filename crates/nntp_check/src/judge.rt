@@ -2,6 +2,7 @@
 ghost use Rattle.std.specs.Prelude.{◌≡◌, ℕ, List, [], ◌∷◌, ◌++◌, IfOk, MatchOption, ⊤};
 ghost use Rattle.std.specs.Option.{option_copied, option_map};
 ghost use Rattle.nntp_pair.specs.Pairing.{Unpaired, IsNext, Ends, end};
+ghost use Rattle.nntp_article.specs.Limit.{profile_31_bits};
 ghost use Rattle.nntp_facts.specs.Noted.{Stands, IsDue};
 ghost use Rattle.nntp_witness.specs.Witness.{StandForSome};
 ghost use Rattle.nntp_check.specs.Judging.{IsFirstLine, IsVerdict, Passed, StopsHere, IsNoForGood, OnMalformed, class_noted, shown};
@@ -10,7 +11,7 @@ ghost use Rattle.nntp_check.specs.Verdict.{bad, verdict_shown};
 use crate::verdict::Verdict;
 use nntp_facts::{Class, Facts, Noted};
 use nntp_pair::{Ahead, Exchange, PairClass, Pairs, Step};
-use nntp_wire::split_first_line;
+use nntp_wire::{Limit, Marks, split_first_line};
 use nntp_witness::witness;
 use std::alloc::{AllocError, Allocator};
 
@@ -53,12 +54,12 @@ pub(crate) struct Judge<A: Allocator> {
 impl<A: Allocator + Copy> Judge<A> {
     /// No exchange has passed yet. It takes no memory.
     pub(crate) fn new(alloc: A) -> Judge<A>
-        ensures facts { Stands result.facts [] }
+        ensures facts { Stands profile_31_bits result.facts [] }
         ensures answers { result.answers ≡ 0 }
     {
         Judge {
             alloc,
-            facts: Facts::new(alloc),
+            facts: Facts::new(alloc, Limit::Narrow, Marks::Lenient),
             answers: 0,
         }
     }
@@ -68,8 +69,8 @@ impl<A: Allocator + Copy> Judge<A> {
     pub(crate) fn note(&mut self, exchange: &Exchange<'_>) -> Result<Option<Verdict<A>>, AllocError>
         requires { IsDue self.old.facts exchange.now }
         ensures judged { IfOk result (λ told. (client server : List ℕ) (left behind : Unpaired)
-            → (before : Passed client server self.old.facts left self.old.answers) → IsNext left exchange.now behind
-            → MatchOption told ((now : Passed client server self.new.facts behind self.new.answers) × (now.pairs ≡ before.pairs ++ exchange.now ∷ []))
+            → (before : Passed profile_31_bits client server self.old.facts left self.old.answers) → IsNext left exchange.now behind
+            → MatchOption told ((now : Passed profile_31_bits client server self.new.facts behind self.new.answers) × (now.pairs ≡ before.pairs ++ exchange.now ∷ []))
             (λ verdict. IsVerdict client server (verdict_shown verdict))) }
         ensures for_good { IfOk result (λ told. MatchOption told ⊤ (λ verdict. IsNoForGood (verdict_shown verdict))) }
     {
@@ -99,7 +100,7 @@ impl<A: Allocator + Copy> Judge<A> {
         ahead: Ahead<'_>,
     ) -> Result<Verdict<A>, AllocError>
         ensures verdict { IfOk result (λ verdict. (client server : List ℕ) (left : Unpaired)
-            → Passed client server self.now.facts left self.now.answers → StopsHere left index class (option_copied ahead.entry.line) ahead.entry.rest.now
+            → Passed profile_31_bits client server self.now.facts left self.now.answers → StopsHere left index class (option_copied ahead.entry.line) ahead.entry.rest.now
             → IsVerdict client server (verdict_shown verdict)) }
         ensures for_good { IfOk result (λ verdict. OnMalformed class (IsNoForGood (verdict_shown verdict))) }
     {
@@ -109,9 +110,9 @@ impl<A: Allocator + Copy> Judge<A> {
 
     /// The verdict where no octet of the server is left: that the given spool explains both streams.
     pub(crate) fn ended(&self) -> Result<Verdict<A>, AllocError>
-        requires { StandForSome self.now.facts }
+        requires { StandForSome profile_31_bits self.now.facts }
         ensures { IfOk result (λ verdict. (client server : List ℕ) (left : Unpaired) (unanswered : ℕ)
-            → Passed client server self.now.facts left self.now.answers → Ends left (end unanswered)
+            → Passed profile_31_bits client server self.now.facts left self.now.answers → Ends left (end unanswered)
             → IsVerdict client server (verdict_shown verdict)) }
     {
         let spool = witness(self.alloc, &self.facts)?;

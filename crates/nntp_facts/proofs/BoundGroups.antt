@@ -1,6 +1,5 @@
 -- What is told of groups, once more of them are listed.
-use Rattle.std.proofs.Common.{◌≡◌, ℕ, Bool, true, false, ◌||◌, cond, List, [], ◌∷◌, ◌++◌, Option, MatchOption, refl, sym, ap, subst, ◌∙◌, append-nil, append_assoc}
-use Rattle.std.specs.List.{list_any}
+use Rattle.std.proofs.Common.{◌≡◌, ℕ, Bool, true, false, ◌||◌, cond, List, [], ◌∷◌, ◌++◌, Option, None, MatchOption, refl, sym, ap, subst, ◌∙◌, append-nil, append_assoc}
 use Rattle.std.specs.FinMap.{get}
 use Rattle.std.proofs.lemmas.Bool.{or_left, or_right}
 use Rattle.std.proofs.lemmas.List.Folds.{list_any-append}
@@ -9,13 +8,13 @@ use Rattle.nntp_wire.specs.Listing.{ActiveValue}
 use Rattle.nntp_article.specs.Article.{Id}
 use Rattle.nntp_article.specs.Spool.{Name}
 use Rattle.nntp_article.specs.Machine.{is_same}
-use Rattle.nntp_facts.specs.Asks.{Ask, Bounds}
+use Rattle.nntp_facts.specs.Asks.{Bounds}
 use Rattle.nntp_facts.specs.Facts.{Fact, GroupsAre}
 use Rattle.nntp_facts.specs.Given.{asks_of, shows_group, is_shown_group, first_given, id_in}
 use Rattle.nntp_facts.specs.Together.{number_in}
-use Rattle.nntp_facts.specs.Kept.{told, IsKeptGroup, IsUntold, AreKeptGroups, with_asks, Changes}
+use Rattle.nntp_facts.specs.Kept.{told, IsKeptGroup, IsUntold, AreKeptGroups, with_part, Changes}
 use Rattle.nntp_facts.specs.ListedGroups.{is_listed}
-use Rattle.nntp_facts.proofs.Gives.{any_more, given_silent}
+use Rattle.nntp_facts.proofs.Gives.{any_more, given_silent, or_none}
 use Rattle.nntp_facts.proofs.Joined.{asks_append}
 use Rattle.nntp_facts.proofs.Silent.{told_same}
 use Rattle.nntp_facts.proofs.OneGroup.{same_self}
@@ -74,13 +73,13 @@ module _ (facts : List Fact) (p : Option (List ℕ)) where
         ∙ sym (any_more (shows_group name) facts (GroupsAre p lines))
 
     -- of the group of one line more its bounds are told
-    pub one_more_bound : Changes (told (listing lines)) (told (listing (lines ++ line ∷ []))) line.name (with_asks (told (listing lines) line.name) (Bounds line.low line.high ∷ []))
+    pub one_more_bound : Changes (told (listing lines)) (told (listing (lines ++ line ∷ []))) line.name (with_part (told (listing lines) line.name) (Bounds line.low line.high ∷ []) None)
     one_more_bound = record {
       here = λ i. record {
         is_shown = shown_here i;
         asks = asks_more line.name true (same_self line.name) i;
-        ids = λ n. same_ids line.name n (lines ++ line ∷ []) lines i;
-        places = λ id. same_places line.name id (lines ++ line ∷ []) lines i;
+        ids = λ n. (same_ids line.name n (lines ++ line ∷ []) lines ∙ sym (or_none _)) i;
+        places = λ id. (same_places line.name id (lines ++ line ∷ []) lines ∙ sym (or_none _)) i;
       };
       elsewhere = λ name e i. record {
         is_shown = shown_elsewhere name e i;

@@ -1,4 +1,4 @@
--- The given numbers are those that are shown, and the one more.
+-- The given numbers are those that are known, and the one more.
 use Rattle.std.proofs.Common.{refl, ◌≡◌, ℕ, ◌+◌, ◌↔◌, cond, IsTrue, List, [], Some, is_some, inl, inr, sym, ap, subst, ◌∙◌, arith}
 use Rattle.std.specs.Ordering.{nat_cmp, eq_by_cmp}
 use Rattle.std.specs.Cmp.{nat_cmp_total, unsigned_tied}
@@ -6,18 +6,20 @@ use Rattle.std.specs.FinMap.{get, len, insert, get-insert, len-insert}
 use Rattle.std.proofs.lemmas.Bool.{true≢false, cases_eq, eq-eqb, ne_eqb, false_from_ne_true, ltb-true, lt-ltb}
 use Rattle.nntp_article.specs.Spool.{Numbers, IsNumber}
 use Rattle.nntp_facts.specs.Asks.{Ask}
-use Rattle.nntp_facts.specs.Given.{is_shown, Demand, NoDemand, NotEmpty, OnlyOne, SecondIs, Impossible, demand, wants, IsOneMore, IsGivenNumber, HasGivenNumbers}
-use Rattle.nntp_facts.proofs.MetNumbers.{one_more_once, second_shown}
+use Rattle.nntp_facts.specs.Given.{is_known, demand, wants, IsOneMore, IsGivenNumber, HasGivenNumbers}
+use Rattle.nntp_facts.specs.declared.demand.Demand.{Demand}
+use Rattle.nntp_facts.specs.declared.demand.Demand.TheVariants.{NoDemand, NotEmpty, OnlyOne, SecondIs, Impossible}
+use Rattle.nntp_facts.proofs.MetNumbers.{one_more_once, second_shown, shown_known}
 use Rattle.nntp_facts.proofs.GivenNumbers.{same_demand}
 use Rattle.nntp_facts.specs.Together.{MeetsDemand}
 use Rattle.nntp_facts.proofs.Maps.{len_le}
 
--- the one more isn't shown
-more_unshown : (asks : List Ask) (e : ℕ) → IsOneMore asks e → IsTrue (is_shown asks e) → ⊥
+-- the one more isn't known
+more_unshown : (asks : List Ask) (e : ℕ) → IsOneMore asks e → IsTrue (is_known asks e) → ⊥
 more_unshown asks e x s = true≢false (sym x.wanted ∙ x.needed e s)
 
-module _ (asks : List Ask) (M : Numbers) (shown : (n : ℕ) → IsNumber M n ↔ IsTrue (is_shown asks n)) where
-  -- where there is no more, those that are shown are given
+module _ (asks : List Ask) (M : Numbers) (shown : (n : ℕ) → IsNumber M n ↔ IsTrue (is_known asks n)) where
+  -- where there is no more, those that are known are given
   pub none_more : ((e : ℕ) → IsOneMore asks e → ⊥) → HasGivenNumbers asks M
   none_more none = λ n. (λ i. inl ((shown n).0 i), λ g. elim g [ inl s ↦ (shown n).1 s | inr x ↦ absurd (none n x) ])
 
@@ -62,7 +64,7 @@ more_meets asks e x = by (demand asks) refl
       λ m g. elim g [ inl s ↦ absurd (true≢false (sym (ap (λ d. wants d m) is) ∙ x.needed m s)) | inr y ↦ one_more_once asks m e y x ],
     )
     by (SecondIs k) is = (
-      inl (second_shown asks k is),
+      inl (shown_known asks k (second_shown asks k is)),
       e,
       ltb-true e k (sym (ap (λ d. wants d e) is) ∙ x.wanted),
       inr x,
@@ -70,10 +72,10 @@ more_meets asks e x = by (demand asks) refl
     )
     by Impossible is = true≢false (sym x.wanted ∙ ap (λ d. wants d e) is)
 
--- else if those that are shown meet it
-pub shown_meet : (asks : List Ask) → ((e : ℕ) → IsOneMore asks e → ⊥) → MeetsDemand (demand asks) (IsGivenNumber asks) ↔ MeetsDemand (demand asks) (λ n. IsTrue (is_shown asks n))
-shown_meet asks none =
-    let given_shown : (n : ℕ) → IsGivenNumber asks n → IsTrue (is_shown asks n) = λ n g. elim g [ inl s ↦ s | inr x ↦ absurd (none n x) ] in (
-      same_demand (IsGivenNumber asks) (λ n. IsTrue (is_shown asks n)) given_shown (λ n s. inl s) (demand asks),
-      same_demand (λ n. IsTrue (is_shown asks n)) (IsGivenNumber asks) (λ n s. inl s) given_shown (demand asks),
+-- else if those that are known meet it
+pub known_meet : (asks : List Ask) → ((e : ℕ) → IsOneMore asks e → ⊥) → MeetsDemand (demand asks) (IsGivenNumber asks) ↔ MeetsDemand (demand asks) (λ n. IsTrue (is_known asks n))
+known_meet asks none =
+    let given_known : (n : ℕ) → IsGivenNumber asks n → IsTrue (is_known asks n) = λ n g. elim g [ inl s ↦ s | inr x ↦ absurd (none n x) ] in (
+      same_demand (IsGivenNumber asks) (λ n. IsTrue (is_known asks n)) given_known (λ n s. inl s) (demand asks),
+      same_demand (λ n. IsTrue (is_known asks n)) (IsGivenNumber asks) (λ n s. inl s) given_known (demand asks),
     )

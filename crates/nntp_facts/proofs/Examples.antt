@@ -1,4 +1,5 @@
 -- Small sessions: what they say, and which numbers they show, deny and need.
+use Rattle.nntp_wire.specs.declared.marks.Marks.TheVariants.{Lenient}
 use Rattle.std.proofs.Common.{◌≡◌, ℕ, ◌<◌, ◌≤◌, true, false, IsTrue, List, [], ◌∷◌, ◌++◌, None, Some, map, inl, inr, refl, ap, subst, sym, arith}
 use Rattle.std.specs.Prelude.{codes}
 use Rattle.std.proofs.lemmas.Bool.{cases_eq, eqb-true, le-ltb, or_cases}
@@ -7,18 +8,20 @@ use Rattle.nntp_wire.specs.Answer.{Response, greeting, to, group_is, numbers_are
 use Rattle.nntp_wire.specs.declared.water_marks.WaterMarks.{WaterMarks}
 use Rattle.nntp_wire.specs.declared.command.What.TheVariants.{Head, Stat}
 use Rattle.nntp_wire.specs.Command.{Request, by_id, by_number, current, group, list_group, from_one, next, last, retrieve}
-use Rattle.nntp_facts.specs.Asks.{First, Known, Ask, Estimates, StepsUp, StepsDown, StandsAt, IsTop, IsBottom, Has, Lacks}
+use Rattle.nntp_facts.specs.Asks.{Ask, Estimates, StepsUp, StepsDown, StandsAt, IsTop, IsBottom, Has, Lacks}
+use Rattle.nntp_facts.specs.declared.position.Position.TheVariants.{First, Known}
 use Rattle.nntp_facts.specs.Facts.{Fact, ThereIs, Asks, IdAt}
 use Rattle.nntp_facts.specs.Together.{number_in, AsksStand, Together}
 use Rattle.std.proofs.lemmas.Bool.Decides.{nat_tests}
-use Rattle.nntp_facts.specs.Given.{IsGivenNumber, asks_of, is_shown, is_denied, demand, NotEmpty, SecondIs, IsOneMore, AreInvented, invented, facts_of_session, is_mentioned, id_shown, first_given, head_in}
+use Rattle.nntp_facts.specs.Given.{IsGivenNumber, asks_of, is_shown, is_denied, demand, IsOneMore, AreInvented, invented, facts_of_session, is_mentioned, id_shown, first_given, head_in, is_known}
+use Rattle.nntp_facts.specs.declared.demand.Demand.TheVariants.{NotEmpty, SecondIs}
 
 abbrev g : List ℕ
 g = codes "g"
 
 -- a session after its greeting
 abbrev session : List Request → List Response → List Fact
-session commands answers = facts_of_session (greeting ∷ map (λ command. to command) commands) (plain 200 ∷ answers)
+session commands answers = facts_of_session Lenient (greeting ∷ map (λ command. to command) commands) (plain 200 ∷ answers)
 
 -- what it asks of the numbers of g
 abbrev asks : List Request → List Response → List Ask
@@ -41,10 +44,10 @@ selected estimate low high = group_is (marks estimate low high) (codes "g")
 abbrev stepped : List Fact
 stepped = session (group (codes "g") ∷ next ∷ []) (selected 3 1 5 ∷ found 4 (codes "<b@x>") ∷ [])
 
-stepped_says : stepped ≡ ThereIs (codes "g") ∷ Asks (codes "g") (Estimates (marks 3 1 5)) ∷ Asks (codes "g") (StepsUp First 4) ∷ IdAt (codes "g") 4 (codes "<b@x>") ∷ []
+stepped_says : stepped ≡ ThereIs (codes "g") ∷ Asks (codes "g") (Estimates Lenient (marks 3 1 5)) ∷ Asks (codes "g") (StepsUp First 4) ∷ IdAt (codes "g") 4 (codes "<b@x>") ∷ []
 stepped_says = refl
 
-stepped_asks : asks_of (codes "g") stepped ≡ Estimates (marks 3 1 5) ∷ StepsUp First 4 ∷ Has 4 ∷ []
+stepped_asks : asks_of (codes "g") stepped ≡ Estimates Lenient (marks 3 1 5) ∷ StepsUp First 4 ∷ Has 4 ∷ []
 stepped_asks = refl
 
 four_has_its_id : id_shown stepped (codes "g") 4 ≡ Some (codes "<b@x>")
@@ -54,11 +57,15 @@ one_has_none : id_shown stepped (codes "g") 1 ≡ None
 one_has_none = refl
 
 -- no number below 4 is shown
-four_is_least : (n : ℕ) → IsTrue (is_shown (asks_of (codes "g") stepped) n) → 4 ≤ n
-four_is_least n t = elim (or_cases _ _ t) [
+four_is_shown_least : (n : ℕ) → IsTrue (is_shown (asks_of (codes "g") stepped) n) → 4 ≤ n
+four_is_shown_least n t = elim (or_cases _ _ t) [
   | inl e ↦ (let same = eqb-true 4 n e in omega arith)
   | inr r ↦ elim (or_cases _ _ r) [ inl e ↦ (let same = eqb-true 4 n e in omega arith) | inr f ↦ cc ]
 ]
+
+-- and none is known, as the marks are lenient
+four_is_least : (n : ℕ) → IsTrue (is_known (asks_of (codes "g") stepped) n) → 4 ≤ n
+four_is_least n t = elim (or_cases (is_shown (asks_of (codes "g") stepped) n) _ t) [ inl s ↦ four_is_shown_least n s | inr f ↦ cc ]
 
 -- so one more is needed below it, and that is 1
 stepped_demands : demand (asks_of (codes "g") stepped) ≡ SecondIs 4
@@ -78,11 +85,14 @@ two_is_denied = refl
 six_is_denied : is_denied denied 6 ≡ true
 six_is_denied = refl
 
-still_least : (n : ℕ) → IsTrue (is_shown denied n) → 4 ≤ n
-still_least n t = elim (or_cases _ _ t) [
+still_shown_least : (n : ℕ) → IsTrue (is_shown denied n) → 4 ≤ n
+still_shown_least n t = elim (or_cases _ _ t) [
   | inl e ↦ (let same = eqb-true 4 n e in omega arith)
   | inr r ↦ elim (or_cases _ _ r) [ inl e ↦ (let same = eqb-true 4 n e in omega arith) | inr f ↦ cc ]
 ]
+
+still_least : (n : ℕ) → IsTrue (is_known denied n) → 4 ≤ n
+still_least n t = elim (or_cases (is_shown denied n) _ t) [ inl s ↦ still_shown_least n s | inr f ↦ cc ]
 
 below_three : (m : ℕ) → 1 ≤ m → m < 3 → IsTrue (is_denied denied m)
 below_three m some low = elim (cases_eq m 1) [
@@ -105,7 +115,7 @@ all_denied = refl
 abbrev seen : List Ask
 seen = asks (group (codes "g") ∷ retrieve Stat current ∷ last ∷ []) (selected 5 1 5 ∷ found 3 (codes "<a@b>") ∷ plain 422 ∷ [])
 
-seen_asks : seen ≡ Estimates (marks 5 1 5) ∷ StandsAt First 3 ∷ Has 3 ∷ IsBottom (Known 3) ∷ []
+seen_asks : seen ≡ Estimates Lenient (marks 5 1 5) ∷ StandsAt First 3 ∷ Has 3 ∷ IsBottom (Known 3) ∷ []
 seen_asks = refl
 
 seen_denies_below : is_denied seen 2 ≡ true
@@ -122,7 +132,7 @@ seen_needs_none n x = let w = x.wanted in cc
 abbrev emptied : List Ask
 emptied = asks (group (codes "g") ∷ stat 5 ∷ last ∷ []) (selected 1 5 5 ∷ plain 423 ∷ plain 422 ∷ [])
 
-emptied_asks : emptied ≡ Estimates (marks 1 5 5) ∷ Lacks 5 ∷ IsBottom First ∷ []
+emptied_asks : emptied ≡ Estimates Lenient (marks 1 5 5) ∷ Lacks 5 ∷ IsBottom First ∷ []
 emptied_asks = refl
 
 emptied_needs_one : demand emptied ≡ NotEmpty
@@ -209,7 +219,7 @@ head_is_sent = refl
 abbrev at_limit : List Ask
 at_limit = asks (group (codes "g") ∷ stat 2147483647 ∷ next ∷ []) (selected 1 2147483647 2147483647 ∷ found 2147483647 (codes "<m@x>") ∷ plain 421 ∷ [])
 
-at_limit_asks : at_limit ≡ Estimates (marks 1 2147483647 2147483647) ∷ Has 2147483647 ∷ IsTop (Known 2147483647) ∷ []
+at_limit_asks : at_limit ≡ Estimates Lenient (marks 1 2147483647 2147483647) ∷ Has 2147483647 ∷ IsTop (Known 2147483647) ∷ []
 at_limit_asks = refl
 
 -- ---- NEXT from the unseen first number, and LAST back to it
@@ -217,7 +227,7 @@ at_limit_asks = refl
 abbrev returned : List Ask
 returned = asks (group (codes "g") ∷ next ∷ last ∷ []) (selected 3 1 5 ∷ found 4 (codes "<b@x>") ∷ found 2 (codes "<a@x>") ∷ [])
 
-returned_asks : returned ≡ Estimates (marks 3 1 5) ∷ StepsUp First 4 ∷ Has 4 ∷ StepsDown (Known 4) 2 ∷ Has 2 ∷ []
+returned_asks : returned ≡ Estimates Lenient (marks 3 1 5) ∷ StepsUp First 4 ∷ Has 4 ∷ StepsDown (Known 4) 2 ∷ Has 2 ∷ []
 returned_asks = refl
 
 step_is_a_gap : is_denied returned 3 ≡ true

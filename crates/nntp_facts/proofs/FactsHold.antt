@@ -1,4 +1,5 @@
 -- A spool permits a session exactly if each answer fits and all that the answers say holds of it.
+use Rattle.nntp_wire.specs.declared.marks.Marks.{Marks}
 use Rattle.std.proofs.Common.{◌≡◌, ℕ, Bool, true, false, cond, ◌==◌, ◌&&◌, ◌||◌, ◌↔◌, ◌⊎◌, inl, inr, IsTrue, List, [], ◌∷◌, ◌++◌, None, Some, is_some, refl, sym, subst, ◌∙◌, arith}
 use Rattle.std.specs.Prelude.{IsFalse, is_none}
 use Rattle.std.specs.List.{AllByRecursion}
@@ -7,7 +8,8 @@ use Rattle.std.proofs.lemmas.Bool.Decides.{nat_tests}
 use Rattle.nntp_article.specs.Spool.{Spool}
 use Rattle.nntp_article.specs.declared.profile.Profile.{Profile}
 use Rattle.nntp_article.specs.Machine.{Visible, Agrees, visible_after, Row, CodeAgrees, is_generic, is_one_of, is_num, code_fits, number_fits, head_fits, fits}
-use Rattle.nntp_facts.specs.Asks.{Position, state_at, position_after, RunsAt}
+use Rattle.nntp_facts.specs.Asks.{state_at, position_after, RunsAt}
+use Rattle.nntp_facts.specs.declared.position.Position.{Position}
 use Rattle.nntp_facts.specs.Facts.{Fact, Holds, facts_of, facts_of_code, facts_from, on, FitsAll}
 use Rattle.nntp_wire.specs.Answer.{Asked, Response, Success, success_code, greeting, to, group_is, numbers_are, sends, active_are, plain}
 use Rattle.nntp_wire.specs.Command.{Request, Target, by_id, by_number, current, capabilities, mode_reader, quit, opaque, ill_formed, group, list_group, next, last, retrieve, list_active}
@@ -73,19 +75,19 @@ one_of_two a b code t = elim (or_cases (a == code) ((b == code) || false) t) [
   | inr r ↦ elim (or_cases (b == code) false r) [ inl e ↦ inr (same_code b code e) | inr f ↦ absurd (false≢true f) ]
 ]
 
-code_holds : (S : Spool) (v : Visible) (at : Position) (command : Request) (code : ℕ) → Agrees S (state_at S v at) (to command) (plain code) → AllByRecursion (Holds S) (facts_of_code v at command code)
-code_holds S v at (group word) code h = on_from S (code == 411) _ (λ t. (past_generic code 411 refl t h).1)
-code_holds S v at (list_group (Some word) range) code h = on_from S (code == 411) _ (λ t. (past_generic code 411 refl t h).1)
-code_holds S v at next code h =
+code_holds : (how : Marks) (S : Spool) (v : Visible) (at : Position) (command : Request) (code : ℕ) → Agrees how S (state_at S v at) (to command) (plain code) → AllByRecursion (Holds S) (facts_of_code v at command code)
+code_holds how S v at (group word) code h = on_from S (code == 411) _ (λ t. (past_generic code 411 refl t h).1)
+code_holds how S v at (list_group (Some word) range) code h = on_from S (code == 411) _ (λ t. (past_generic code 411 refl t h).1)
+code_holds how S v at next code h =
     both S (on code 420 _) (on code 421 _) (on_from S (code == 420) _ (λ t. first code 420 421 refl t (past code 412 420 refl t (past_generic code 420 refl t h))))
     (on_from S (code == 421) _ (λ t. (past code 420 421 refl t (past code 412 421 refl t (past_generic code 421 refl t h))).1))
-code_holds S v at last code h =
+code_holds how S v at last code h =
     both S (on code 420 _) (on code 422 _) (on_from S (code == 420) _ (λ t. first code 420 422 refl t (past code 412 420 refl t (past_generic code 420 refl t h))))
     (on_from S (code == 422) _ (λ t. (past code 420 422 refl t (past code 412 422 refl t (past_generic code 422 refl t h))).1))
-code_holds S v at (retrieve what (by_id word)) code h = on_from S (code == 430) _ (λ t. (past_generic code 430 refl t h).1)
-code_holds S v at (retrieve what (by_number (Some n))) code h = on_from S (code == 423) _ (λ t. (past code 412 423 refl t (past_generic code 423 refl t h)).1)
-code_holds S v at (retrieve what current) code h = on_from S (code == 420) _ (λ t. (past code 412 420 refl t (past_generic code 420 refl t h)).1)
-code_holds S v at command code h = tt
+code_holds how S v at (retrieve what (by_id word)) code h = on_from S (code == 430) _ (λ t. (past_generic code 430 refl t h).1)
+code_holds how S v at (retrieve what (by_number (Some n))) code h = on_from S (code == 423) _ (λ t. (past code 412 423 refl t (past_generic code 423 refl t h)).1)
+code_holds how S v at (retrieve what current) code h = on_from S (code == 420) _ (λ t. (past code 412 420 refl t (past_generic code 420 refl t h)).1)
+code_holds how S v at command code h = tt
 
 -- the row of a code that fits
 row_from : (S : Spool) (v : Visible) (at : Position) (command : Request) (code : ℕ) → IsTrue (code_fits v command code) → AllByRecursion (Holds S) (facts_of_code v at command code) → CodeAgrees S (state_at S v at) command code
@@ -140,20 +142,20 @@ succeeded profile v what which sent f =
 -- ---- what an answer says
 
 -- from that it agrees
-facts_hold : (S : Spool) (v : Visible) (at : Position) (p : Asked) (a : Response) → Agrees S (state_at S v at) p a → AllByRecursion (Holds S) (facts_of v at p a)
-facts_hold S v at (to (group word)) (group_is m name) h = (h.0, (h.1, tt))
-facts_hold S v at (to (list_group word range)) (numbers_are m name lines) h = (h.0, (h.1, (h.2, tt)))
-facts_hold S v at (to next) (sends sent) h = (h.1.0, (h.1.1, tt))
-facts_hold S v at (to last) (sends sent) h = (h.1.0, (h.1.1, tt))
-facts_hold S v at (to (retrieve what (by_id word))) (sends sent) h = (h.1.0, off_from S (sent.number == 0) _ h.1.1)
-facts_hold S v at (to (retrieve what (by_number n))) (sends sent) h = (h.1.0, (h.1.1, tt))
-facts_hold S v at (to (retrieve what current)) (sends sent) h = (h.1.0, (h.1.1.0, (h.1.1.1, tt)))
-facts_hold S v at (to (list_active p)) (active_are lines) h = (h, tt)
-facts_hold S v at (to command) (plain code) h = code_holds S v at command code h
-facts_hold S v at p a h = tt
+facts_hold : (how : Marks) (S : Spool) (v : Visible) (at : Position) (p : Asked) (a : Response) → Agrees how S (state_at S v at) p a → AllByRecursion (Holds S) (facts_of how v at p a)
+facts_hold how S v at (to (group word)) (group_is m name) h = (h.0, (h.1, tt))
+facts_hold how S v at (to (list_group word range)) (numbers_are m name lines) h = (h.0, (h.1, (h.2, tt)))
+facts_hold how S v at (to next) (sends sent) h = (h.1.0, (h.1.1, tt))
+facts_hold how S v at (to last) (sends sent) h = (h.1.0, (h.1.1, tt))
+facts_hold how S v at (to (retrieve what (by_id word))) (sends sent) h = (h.1.0, off_from S (sent.number == 0) _ h.1.1)
+facts_hold how S v at (to (retrieve what (by_number n))) (sends sent) h = (h.1.0, (h.1.1, tt))
+facts_hold how S v at (to (retrieve what current)) (sends sent) h = (h.1.0, (h.1.1.0, (h.1.1.1, tt)))
+facts_hold how S v at (to (list_active p)) (active_are lines) h = (h, tt)
+facts_hold how S v at (to command) (plain code) h = code_holds how S v at command code h
+facts_hold how S v at p a h = tt
 
 -- and back, where it fits
-agrees_from : (profile : Profile) (S : Spool) (v : Visible) (at : Position) (p : Asked) (a : Response) → IsTrue (fits profile v p a) → AllByRecursion (Holds S) (facts_of v at p a) → Agrees S (state_at S v at) p a
+agrees_from : (profile : Profile) (S : Spool) (v : Visible) (at : Position) (p : Asked) (a : Response) → IsTrue (fits profile v p a) → AllByRecursion (Holds S) (facts_of profile.marks v at p a) → Agrees profile.marks S (state_at S v at) p a
 agrees_from profile S v at greeting (plain code) f h = f
 agrees_from profile S v at (to command) (plain code) f h = elim (or_cases (is_generic code) (code_fits v command code) f) [ inl g ↦ inl g | inr c ↦ inr (row_from S v at command code c h) ]
 agrees_from profile S v at (to (group word)) (group_is m name) f h = (h.0, h.1.0)
@@ -169,22 +171,22 @@ agrees_from profile S v at p (numbers_are m name lines) f h = absurd (false≢tr
 agrees_from profile S v at p (sends sent) f h = absurd (false≢true f)
 agrees_from profile S v at p (active_are lines) f h = absurd (false≢true f)
 
-pub run_of_facts : (profile : Profile) (S : Spool) (v : Visible) (at : Position) (ps : List Asked) (answers : List Response) → FitsAll profile v ps answers → AllByRecursion (Holds S) (facts_from v at ps answers) → RunsAt profile S v at ps answers
+pub run_of_facts : (profile : Profile) (S : Spool) (v : Visible) (at : Position) (ps : List Asked) (answers : List Response) → FitsAll profile v ps answers → AllByRecursion (Holds S) (facts_from profile.marks v at ps answers) → RunsAt profile S v at ps answers
 run_of_facts profile S v at ps [] f h = tt
 run_of_facts profile S v at [] (a ∷ more) f h = f
 run_of_facts profile S v at (p ∷ ps) (a ∷ more) f h = (
-  record { is_open = f.0; fits_visible = f.1; agrees = agrees_from profile S v at p a f.1 (front S (facts_of v at p a) _ h) },
-  run_of_facts profile S (visible_after v p a) (position_after at p a) ps more f.2 (back S (facts_of v at p a) (facts_from (visible_after v p a) (position_after at p a) ps more) h),
+  record { is_open = f.0; fits_visible = f.1; agrees = agrees_from profile S v at p a f.1 (front S (facts_of profile.marks v at p a) _ h) },
+  run_of_facts profile S (visible_after v p a) (position_after at p a) ps more f.2 (back S (facts_of profile.marks v at p a) (facts_from profile.marks (visible_after v p a) (position_after at p a) ps more) h),
 )
 
-pub facts_of_run : (profile : Profile) (S : Spool) (v : Visible) (at : Position) (ps : List Asked) (answers : List Response) → RunsAt profile S v at ps answers → FitsAll profile v ps answers × AllByRecursion (Holds S) (facts_from v at ps answers)
+pub facts_of_run : (profile : Profile) (S : Spool) (v : Visible) (at : Position) (ps : List Asked) (answers : List Response) → RunsAt profile S v at ps answers → FitsAll profile v ps answers × AllByRecursion (Holds S) (facts_from profile.marks v at ps answers)
 facts_of_run profile S v at [] [] r = (tt, tt)
 facts_of_run profile S v at (p ∷ ps) [] r = (tt, tt)
 facts_of_run profile S v at [] (a ∷ more) r = absurd r
 facts_of_run profile S v at (p ∷ ps) (a ∷ more) r =
     let rest = facts_of_run profile S (visible_after v p a) (position_after at p a) ps more r.1 in
-    ((r.0.is_open, r.0.fits_visible, rest.0), both S (facts_of v at p a) _ (facts_hold S v at p a r.0.agrees) rest.1)
+    ((r.0.is_open, r.0.fits_visible, rest.0), both S (facts_of profile.marks v at p a) _ (facts_hold profile.marks S v at p a r.0.agrees) rest.1)
 
 -- a spool permits a session exactly if each answer fits and all that the answers say holds of it
-pub permits_by_facts : (profile : Profile) (S : Spool) (v : Visible) (at : Position) (ps : List Asked) (answers : List Response) → RunsAt profile S v at ps answers ↔ (FitsAll profile v ps answers × AllByRecursion (Holds S) (facts_from v at ps answers))
+pub permits_by_facts : (profile : Profile) (S : Spool) (v : Visible) (at : Position) (ps : List Asked) (answers : List Response) → RunsAt profile S v at ps answers ↔ (FitsAll profile v ps answers × AllByRecursion (Holds S) (facts_from profile.marks v at ps answers))
 permits_by_facts profile S v at ps answers = (facts_of_run profile S v at ps answers, λ h. run_of_facts profile S v at ps answers h.0 h.1)

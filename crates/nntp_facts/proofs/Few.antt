@@ -1,4 +1,5 @@
 -- A session that says little is given a small spool.
+use Rattle.nntp_wire.specs.declared.marks.Marks.TheVariants.{Lenient, Strict}
 use Rattle.std.proofs.Common.{◌≡◌, ℕ, ◌+◌, ◌<◌, ◌≤◌, ◌^◌, Bool, true, false, cond, not, ◌==◌, IsTrue, List, [], ◌∷◌, ◌++◌, map, length, Some, is_some, inl, inr, refl, sym, ap, subst, ◌∙◌, arith, length-append}
 use Rattle.std.specs.Prelude.{unwrap_or}
 use Rattle.std.specs.List.{list_any, flat_map, IsDistinct, AllByRecursion}
@@ -6,16 +7,17 @@ use Rattle.std.specs.Ordering.{nat_cmp, eq_by_cmp}
 use Rattle.std.specs.Cmp.{nat_cmp_total, eq_by_cmp_equiv}
 use Rattle.std.specs.Cmp.Lexicographic.{slice_cmp, same_text, nat_list_cmp_total, nat_list_eq_equiv}
 use Rattle.std.specs.FinMap.{get, empty, get-entries, keys, entries, entries_sorted}
-use Rattle.std.proofs.lemmas.Bool.{cases_Bool, eqb-true, not-true, true≢false}
+use Rattle.std.proofs.lemmas.Bool.{cases_Bool, eqb-true, not-true, true≢false, or_cases, and_parts}
 use Rattle.std.proofs.lemmas.List.{length-map}
 use Rattle.std.proofs.lemmas.Map.Keys.{IsDistinct-from_sorted}
 use Rattle.nntp_article.specs.Spool.{Spool, Numbers, IsNumber, IsGroup, numbers, Name}
 use Rattle.nntp_article.specs.Machine.{is_same}
-use Rattle.nntp_facts.specs.Asks.{First, Ask, Estimates, Bounds, ListsIn, Has, Lacks, StandsAt, StandsNowhere, StepsUp, StepsDown, IsTop, IsBottom}
+use Rattle.nntp_facts.specs.Asks.{Ask, Estimates, Bounds, ListsIn, Has, Lacks, StandsAt, StandsNowhere, StepsUp, StepsDown, IsTop, IsBottom}
+use Rattle.nntp_facts.specs.declared.position.Position.TheVariants.{First}
 use Rattle.nntp_facts.specs.Facts.{Fact, ThereIs, ThereIsNo, Asks, IdAt, TextIs, NoArticle, GroupsAre}
-use Rattle.nntp_facts.specs.Given.{shows, is_shown, IsOneMore, HasGivenNumbers, asks_in, asks_of, shows_group, is_shown_group, id_shown, unshown_in, unshown_ids, size_in, size}
+use Rattle.nntp_facts.specs.Given.{shows, is_shown, IsOneMore, HasGivenNumbers, asks_in, asks_of, shows_group, is_shown_group, id_shown, unshown_in, unshown_ids, size_in, size, is_known, is_given_end, is_end, says_some}
 use Rattle.nntp_facts.proofs.Members.{In, any_in, found_in, in_map, from_map, to_flat, from_flat, parts_few}
-use Rattle.nntp_facts.proofs.MetNumbers.{one_more_once, any_unshown, key_in, key_is}
+use Rattle.nntp_facts.proofs.MetNumbers.{one_more_once, any_unknown, key_in, key_is}
 use Rattle.nntp_article.specs.Article.{Id}
 use Rattle.nntp_wire.specs.Listing.{ActiveValue}
 use Rattle.nntp_facts.proofs.Fresh.{mentioned}
@@ -33,18 +35,19 @@ names_in fact = []
 pub names_of : List Fact → List Name
 names_of facts = flat_map names_in facts
 
--- the numbers that an ask shows
-abbrev pub shown_by : Ask → List ℕ
-shown_by (ListsIn r ns) = ns
-shown_by (Has m) = m ∷ []
-shown_by (StandsAt First m) = m ∷ []
-shown_by (StepsUp at m) = m ∷ []
-shown_by (StepsDown at m) = m ∷ []
-shown_by ask = []
+-- the numbers that an ask shows, and its strict marks
+abbrev pub named_by : Ask → List ℕ
+named_by (Estimates Strict m) = m.low ∷ m.high ∷ []
+named_by (ListsIn r ns) = ns
+named_by (Has m) = m ∷ []
+named_by (StandsAt First m) = m ∷ []
+named_by (StepsUp at m) = m ∷ []
+named_by (StepsDown at m) = m ∷ []
+named_by ask = []
 
 -- the numbers of a group that a fact shows
 abbrev pub numbers_in : Name → Fact → List ℕ
-numbers_in name fact = flat_map shown_by (asks_in name fact)
+numbers_in name fact = flat_map named_by (asks_in name fact)
 
 -- the numbers of a group that are shown
 pub shown_numbers : Name → List Fact → List ℕ
@@ -78,8 +81,13 @@ pub name_shown : (facts : List Fact) (name : Name) → In name (names_of facts) 
 unfolding names_of
 name_shown facts name i = let f = from_flat names_in name facts i in any_in (shows_group name) f.0 facts f.1 (names_back name f.0 f.2)
 
+-- a strict mark is one of the ask's
+end_named : (ask : Ask) (n : ℕ) → is_end ask n ≡ true → In n (named_by ask)
+end_named (Estimates Strict m) n t = elim (or_cases (m.low == n) (m.high == n) t) [ inl e ↦ inl (eqb-true m.low n e) | inr e ↦ inr (inl (eqb-true m.high n e)) ]
+end_named ask n t = cc
+
 -- a number that is shown is one of the ask's
-pub one_shown : (ask : Ask) (n : ℕ) → shows ask n ≡ true → In n (shown_by ask)
+pub one_shown : (ask : Ask) (n : ℕ) → shows ask n ≡ true → In n (named_by ask)
 one_shown (ListsIn r ns) n t = let f = found_in (λ m. n == m) ns t in subst (λ m. In m ns) (sym (eqb-true n f.0 f.2)) f.1
 one_shown (Has m) n t = inl (eqb-true m n t)
 one_shown (StandsAt First m) n t = inl (eqb-true m n t)
@@ -87,13 +95,20 @@ one_shown (StepsUp at m) n t = inl (eqb-true m n t)
 one_shown (StepsDown at m) n t = inl (eqb-true m n t)
 one_shown ask n t = cc
 
--- a number that is shown is one of the numbers
-pub shown_number : (name : Name) (facts : List Fact) (n : ℕ) → IsTrue (is_shown (asks_of name facts) n) → In n (shown_numbers name facts)
+-- a number that is known is one of an ask's
+pub known_named : (asks : List Ask) (n : ℕ) → IsTrue (is_known asks n) → (ask : Ask) × In ask asks × In n (named_by ask)
+known_named asks n t = elim (or_cases (is_shown asks n) (is_given_end asks n) t) [
+  | inl s ↦ (let f = found_in (λ ask. shows ask n) asks s in (f.0, f.1, one_shown f.0 n f.2))
+  | inr g ↦ (let f = found_in (λ ask. is_end ask n) asks (and_parts (list_any says_some asks) _ g).1 in (f.0, f.1, end_named f.0 n f.2))
+]
+
+-- and of the numbers
+pub known_number : (name : Name) (facts : List Fact) (n : ℕ) → IsTrue (is_known (asks_of name facts) n) → In n (shown_numbers name facts)
 unfolding shown_numbers
-shown_number name facts n t =
-    let f = found_in (λ ask. shows ask n) (asks_of name facts) t in
+known_number name facts n t =
+    let f = known_named (asks_of name facts) n t in
     let g = from_flat (asks_in name) f.0 facts f.1 in
-    to_flat (numbers_in name) g.0 n facts g.1 (to_flat shown_by f.0 n (asks_in name g.0) g.2 (one_shown f.0 n f.2))
+    to_flat (numbers_in name) g.0 n facts g.1 (to_flat named_by f.0 n (asks_in name g.0) g.2 f.2)
 
 -- ---- how many there are
 
@@ -114,19 +129,20 @@ names_few (TextIs what id lines ∷ facts) = let rest = names_few facts in omega
 names_few (NoArticle id ∷ facts) = let rest = names_few facts in omega arith
 
 -- marks show no number
-no_number : (name : Name) (lines : List ActiveValue) → flat_map shown_by (flat_map (λ line. cond (is_same line.name name) (Bounds line.low line.high ∷ []) []) lines) ≡ []
+no_number : (name : Name) (lines : List ActiveValue) → flat_map named_by (flat_map (λ line. cond (is_same line.name name) (Bounds line.low line.high ∷ []) []) lines) ≡ []
 no_number name [] = refl
 no_number name (line ∷ lines) =
-    elim (is_same line.name name) as (λ b. flat_map shown_by (cond b (Bounds line.low line.high ∷ []) [] ++ flat_map (λ line. cond (is_same line.name name) (Bounds line.low line.high ∷ []) []) lines) ≡ []) [
+    elim (is_same line.name name) as (λ b. flat_map named_by (cond b (Bounds line.low line.high ∷ []) [] ++ flat_map (λ line. cond (is_same line.name name) (Bounds line.low line.high ∷ []) []) lines) ≡ []) [
       | true ↦ no_number name lines
       | false ↦ no_number name lines
     ]
 
 -- an ask shows few numbers
-asked_few : (g : Name) (ask : Ask) (b : Bool) → length (flat_map shown_by (cond b (ask ∷ []) [])) ≤ size_in (Asks g ask)
+asked_few : (g : Name) (ask : Ask) (b : Bool) → length (flat_map named_by (cond b (ask ∷ []) [])) ≤ size_in (Asks g ask)
 asked_few g (ListsIn r ns) true = omega (arith, length-append ns [])
 asked_few g (Has m) true = omega arith
-asked_few g (Estimates m) true = omega arith
+asked_few g (Estimates Lenient m) true = omega arith
+asked_few g (Estimates Strict m) true = omega arith
 asked_few g (Bounds low high) true = omega arith
 asked_few g (Lacks m) true = omega arith
 asked_few g (StandsAt First m) true = omega arith
@@ -143,30 +159,30 @@ asked_few g ask false = omega arith
 
 -- an ask shows numbers of one group: no other has the same name
 none_left : (g : Name) (ask : Ask) (name : Name) (names : List Name) → is_same g name ≡ true → AllByRecursion (λ other. eq_by_cmp (slice_cmp nat_cmp) name other ≡ false) names
-    → length (flat_map (λ n. flat_map shown_by (cond (is_same g n) (ask ∷ []) [])) names) ≡ 0
+    → length (flat_map (λ n. flat_map named_by (cond (is_same g n) (ask ∷ []) [])) names) ≡ 0
 none_left g ask name [] same apart = refl
 none_left g ask name (other ∷ names) same apart = by (is_same g other) refl (none_left g ask name names same apart.1)
   where
-    by : (b : Bool) → is_same g other ≡ b → length (flat_map (λ n. flat_map shown_by (cond (is_same g n) (ask ∷ []) [])) names) ≡ 0
-        → length (flat_map shown_by (cond b (ask ∷ []) []) ++ flat_map (λ n. flat_map shown_by (cond (is_same g n) (ask ∷ []) [])) names) ≡ 0
+    by : (b : Bool) → is_same g other ≡ b → length (flat_map (λ n. flat_map named_by (cond (is_same g n) (ask ∷ []) [])) names) ≡ 0
+        → length (flat_map named_by (cond b (ask ∷ []) []) ++ flat_map (λ n. flat_map named_by (cond (is_same g n) (ask ∷ []) [])) names) ≡ 0
     by true e rest =
         let one : name ≡ other = sym (same_text g name (sym same)) ∙ same_text g other (sym e) in
         absurd (true≢false (sym (subst (λ n. eq_by_cmp (slice_cmp nat_cmp) name n ≡ true) one ((eq_by_cmp_equiv nat_list_cmp_total).refl name)) ∙ apart.0))
     by false e rest = rest
 
 -- what an ask shows of several groups is no more than its size
-ask_few : (g : Name) (ask : Ask) (names : List Name) → IsDistinct (eq_by_cmp (slice_cmp nat_cmp)) names → length (flat_map (λ n. flat_map shown_by (cond (is_same g n) (ask ∷ []) [])) names) ≤ size_in (Asks g ask)
+ask_few : (g : Name) (ask : Ask) (names : List Name) → IsDistinct (eq_by_cmp (slice_cmp nat_cmp)) names → length (flat_map (λ n. flat_map named_by (cond (is_same g n) (ask ∷ []) [])) names) ≤ size_in (Asks g ask)
 unfolding IsDistinct
 ask_few g ask [] d = omega arith
 ask_few g ask (name ∷ names) d = by (is_same g name) refl d.0 (ask_few g ask names d.1)
   where
     by : (b : Bool) → is_same g name ≡ b → AllByRecursion (λ other. eq_by_cmp (slice_cmp nat_cmp) name other ≡ false) names
-        → length (flat_map (λ n. flat_map shown_by (cond (is_same g n) (ask ∷ []) [])) names) ≤ size_in (Asks g ask)
-        → length (flat_map shown_by (cond b (ask ∷ []) []) ++ flat_map (λ n. flat_map shown_by (cond (is_same g n) (ask ∷ []) [])) names) ≤ size_in (Asks g ask)
+        → length (flat_map (λ n. flat_map named_by (cond (is_same g n) (ask ∷ []) [])) names) ≤ size_in (Asks g ask)
+        → length (flat_map named_by (cond b (ask ∷ []) []) ++ flat_map (λ n. flat_map named_by (cond (is_same g n) (ask ∷ []) [])) names) ≤ size_in (Asks g ask)
     by true e apart rest =
         let here = asked_few g ask true in
         let left = none_left g ask name names e apart in
-        let parts = length-append (flat_map shown_by (ask ∷ [])) (flat_map (λ n. flat_map shown_by (cond (is_same g n) (ask ∷ []) [])) names) in
+        let parts = length-append (flat_map named_by (ask ∷ [])) (flat_map (λ n. flat_map named_by (cond (is_same g n) (ask ∷ []) [])) names) in
         omega arith
     by false e apart rest = rest
 
@@ -214,17 +230,17 @@ mentioned_few (GroupsAre p lines ∷ facts) = let rest = mentioned_few facts in 
 
 -- ---- the spool that is given
 
--- there is one number more than are shown, at most
+-- there is one number more than are known, at most
 pub given_few : (name : Name) (facts : List Fact) (N : Numbers) → HasGivenNumbers (asks_of name facts) N → length (entries N) ≤ 1 + length (shown_numbers name facts)
 given_few name facts N given =
     let asks = asks_of name facts in
-    elim (cases_Bool (list_any (λ n. not (is_shown asks n)) (keys N))) [
-      | inr none ↦ (let le = keys_among nat_cmp_total N (shown_numbers name facts) (λ n i. shown_number name facts n (any_unshown asks (keys N) none n (key_in N n i))) in omega arith)
+    elim (cases_Bool (list_any (λ n. not (is_known asks n)) (keys N))) [
+      | inr none ↦ (let le = keys_among nat_cmp_total N (shown_numbers name facts) (λ n i. known_number name facts n (any_unknown asks (keys N) none n (key_in N n i))) in omega arith)
       | inl some ↦
-          let f = found_in (λ n. not (is_shown asks n)) (keys N) some in
-          let unshown : (n : ℕ) → IsNumber N n → is_shown asks n ≡ false → IsOneMore asks n = λ n i h. elim ((given n).0 i) [ inl t ↦ absurd (true≢false (sym t ∙ h)) | inr x ↦ x ] in
+          let f = found_in (λ n. not (is_known asks n)) (keys N) some in
+          let unshown : (n : ℕ) → IsNumber N n → is_known asks n ≡ false → IsOneMore asks n = λ n i h. elim ((given n).0 i) [ inl t ↦ absurd (true≢false (sym t ∙ h)) | inr x ↦ x ] in
           let one = unshown f.0 (key_is N f.0 f.1) (not-true _ f.2) in
-          let le = keys_among nat_cmp_total N (f.0 ∷ shown_numbers name facts) (λ n i. elim (cases_Bool (is_shown asks n)) [ inl t ↦ inr (shown_number name facts n t) | inr h ↦ inl (one_more_once asks f.0 n one (unshown n i h)) ]) in
+          let le = keys_among nat_cmp_total N (f.0 ∷ shown_numbers name facts) (λ n i. elim (cases_Bool (is_known asks n)) [ inl t ↦ inr (known_number name facts n t) | inr h ↦ inl (one_more_once asks f.0 n one (unshown n i h)) ]) in
           omega arith
     ]
 

@@ -1,4 +1,5 @@
 -- Some spool permits a session, or exactly one answer is the first that none does.
+use Rattle.nntp_wire.specs.declared.marks.Marks.{Marks}
 use Rattle.std.proofs.Common.{◌≡◌, ℕ, zero, suc, ◌+◌, ◌<◌, ◌≤◌, ◌^◌, ◌⊎◌, List, [], ◌∷◌, ◌++◌, length, take, Option, None, Some, is_some, inl, inr, sym, ap, subst, ◌∙◌, arith}
 use Rattle.std.specs.Prelude.{unwrap_or}
 use Rattle.std.specs.Ordering.{nat_cmp}
@@ -9,7 +10,9 @@ use Rattle.std.proofs.lemmas.Bool.{cases_order, true≢false}
 use Rattle.nntp_article.specs.Spool.{Spool, Numbers, IsSpool, numbers, Name}
 use Rattle.nntp_article.specs.declared.profile.Profile.{Profile}
 use Rattle.nntp_article.specs.Machine.{State, Visible, Run, start, visible_after}
-use Rattle.nntp_facts.specs.Asks.{Position, Nowhere, position_after}
+use Rattle.nntp_facts.specs.Asks.{position_after}
+use Rattle.nntp_facts.specs.declared.position.Position.{Position}
+use Rattle.nntp_facts.specs.declared.position.Position.TheVariants.{Nowhere}
 use Rattle.nntp_facts.specs.Facts.{Fact, facts_of, facts_from}
 use Rattle.nntp_facts.specs.Given.{facts_of_session, size}
 use Rattle.nntp_facts.specs.Permits.{SomePermits, IsFirstUnpermitted}
@@ -37,15 +40,15 @@ size-append [] ys = omega arith
 size-append (x ∷ xs) ys = let rest = size-append xs ys in omega arith
 
 -- fewer answers say less
-size_fewer : (v : Visible) (at : Position) (ps : List Asked) (answers : List Response) (n : ℕ) → size (facts_from v at ps (take n answers)) ≤ size (facts_from v at ps answers)
-size_fewer v at [] answers n = omega arith
-size_fewer v at (p ∷ ps) [] zero = omega arith
-size_fewer v at (p ∷ ps) [] (suc n) = omega arith
-size_fewer v at (p ∷ ps) (a ∷ more) zero = omega arith
-size_fewer v at (p ∷ ps) (a ∷ more) (suc n) =
-    let rest = size_fewer (visible_after v p a) (position_after at p a) ps more n in
-    let all = size-append (facts_of v at p a) (facts_from (visible_after v p a) (position_after at p a) ps more) in
-    let few = size-append (facts_of v at p a) (facts_from (visible_after v p a) (position_after at p a) ps (take n more)) in
+size_fewer : (how : Marks) (v : Visible) (at : Position) (ps : List Asked) (answers : List Response) (n : ℕ) → size (facts_from how v at ps (take n answers)) ≤ size (facts_from how v at ps answers)
+size_fewer how v at [] answers n = omega arith
+size_fewer how v at (p ∷ ps) [] zero = omega arith
+size_fewer how v at (p ∷ ps) [] (suc n) = omega arith
+size_fewer how v at (p ∷ ps) (a ∷ more) zero = omega arith
+size_fewer how v at (p ∷ ps) (a ∷ more) (suc n) =
+    let rest = size_fewer how (visible_after v p a) (position_after at p a) ps more n in
+    let all = size-append (facts_of how v at p a) (facts_from how (visible_after v p a) (position_after at p a) ps more) in
+    let few = size-append (facts_of how v at p a) (facts_from how (visible_after v p a) (position_after at p a) ps (take n more)) in
     omega arith
 
 -- ---- no answers
@@ -87,10 +90,10 @@ none_permitted profile ps answers = (no_spool, empty_is_spool profile, tt)
 -- ---- the first bad answer
 
 -- some spool permits the first m answers, or one of them is bad
-bad_before : (profile : Profile) (ps : List Asked) (answers : List Response) → size (facts_of_session ps answers) < 2 ^ 210 → (m : ℕ) → m ≤ length answers → SomePermits profile ps (take m answers) ⊎ ((k : ℕ) × IsFirstUnpermitted profile ps answers k)
+bad_before : (profile : Profile) (ps : List Asked) (answers : List Response) → size (facts_of_session profile.marks ps answers) < 2 ^ 210 → (m : ℕ) → m ≤ length answers → SomePermits profile ps (take m answers) ⊎ ((k : ℕ) × IsFirstUnpermitted profile ps answers k)
 bad_before profile ps answers small zero le = inl (none_permitted profile ps answers)
 bad_before profile ps answers small (suc m) le =
-    let fits : size (facts_of_session ps (take (m + 1) answers)) < 2 ^ 210 = (let s = size_fewer start.visible Nowhere ps answers (m + 1) in omega arith) in
+    let fits : size (facts_of_session profile.marks ps (take (m + 1) answers)) < 2 ^ 210 = (let s = size_fewer profile.marks start.visible Nowhere ps answers (m + 1) in omega arith) in
     elim (bad_before profile ps answers small m (omega arith)) [
       | inr bad ↦ inr bad
       | inl good ↦ elim (some_or_none profile ps (take (m + 1) answers) fits) [
@@ -100,7 +103,7 @@ bad_before profile ps answers small (suc m) le =
     ]
 
 -- some spool permits the session, or an answer is bad
-pub permitted_or_bad : (profile : Profile) (ps : List Asked) (answers : List Response) → size (facts_of_session ps answers) < 2 ^ 210 → SomePermits profile ps answers ⊎ ((k : ℕ) × IsFirstUnpermitted profile ps answers k)
+pub permitted_or_bad : (profile : Profile) (ps : List Asked) (answers : List Response) → size (facts_of_session profile.marks ps answers) < 2 ^ 210 → SomePermits profile ps answers ⊎ ((k : ℕ) × IsFirstUnpermitted profile ps answers k)
 permitted_or_bad profile ps answers small = subst (λ all. SomePermits profile ps all ⊎ ((k : ℕ) × IsFirstUnpermitted profile ps answers k)) (take-length answers) (bad_before profile ps answers small (length answers) (omega arith))
 
 -- and never both

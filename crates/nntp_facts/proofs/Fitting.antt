@@ -8,7 +8,9 @@ use Rattle.nntp_article.specs.Spool.{Name}
 use Rattle.nntp_article.specs.declared.profile.Profile.{Profile}
 use Rattle.nntp_article.specs.Machine.{Visible, visible_after, start, fits, marks_fit, are_zeros, is_ascending, is_same, is_num, is_in_range, number_fits, head_fits, active_fits}
 use Rattle.nntp_wire.specs.Listing.{listed_numbers, active_groups}
-use Rattle.nntp_facts.specs.Asks.{Position, Nowhere, position_after, Estimates, ListsIn, Has, StandsAt, StepsUp, StepsDown}
+use Rattle.nntp_facts.specs.Asks.{position_after, Estimates, ListsIn, Has, StandsAt, StepsUp, StepsDown}
+use Rattle.nntp_facts.specs.declared.position.Position.{Position}
+use Rattle.nntp_facts.specs.declared.position.Position.TheVariants.{Nowhere}
 use Rattle.nntp_facts.specs.Facts.{Fact, Asks, IdAt, TextIs, GroupsAre, on, facts_of_code, facts_of, facts_from, FitsAll}
 use Rattle.nntp_facts.specs.Given.{facts_of_session}
 use Rattle.nntp_facts.proofs.Members.{all_both, all_from, each_of}
@@ -17,9 +19,9 @@ use Rattle.nntp_wire.specs.declared.water_marks.WaterMarks.{WaterMarks}
 use Rattle.nntp_wire.specs.Command.{Request, Target, by_id, by_number, current, group, list_group, next, last, retrieve, list_active}
 use Rattle.nntp_wire.specs.declared.command.What.{What}
 
--- marks and numbers are within the limit, a text has the parts that were asked for, and listed groups match
+-- marks and numbers are within the limit, a low mark of 0 estimates no number, a text has the parts that were asked for, and listed groups match
 abbrev pub IsFitting : Profile → Fact → Type 0
-IsFitting profile (Asks name (Estimates m)) = m.high ≤ profile.limit
+IsFitting profile (Asks name (Estimates how m)) = (m.high ≤ profile.limit) × (m.low ≡ 0 → m.estimate ≡ 0)
 IsFitting profile (Asks name (ListsIn r ns)) = AllByRecursion (λ n. IsTrue (is_num profile n)) ns
 IsFitting profile (Asks name (Has n)) = IsTrue (is_num profile n)
 IsFitting profile (Asks name (StandsAt at n)) = IsTrue (is_num profile n)
@@ -42,6 +44,24 @@ marks_within profile v name m f =
           let b = (and_parts (within && room) _ a).0 in
           leb-true m.high profile.limit (and_parts (nat_le 1 m.low) _ (and_parts within _ b).0).1
     ]
+
+-- where the low mark is 0, so is the estimate
+marks_of_none : (profile : Profile) (v : Visible) (name : Name) (m : WaterMarks) → IsTrue (marks_fit profile v name m) → m.low ≡ 0 → m.estimate ≡ 0
+marks_of_none profile v name m f zero =
+    elim (or_cases (are_zeros m) _ f) [
+      | inl z ↦ eqb-true m.estimate 0 (and_parts (m.estimate == 0) _ z).0
+      | inr r ↦
+          let room = nat_le m.low (m.high + 1) in
+          let within = nat_le 1 m.low && nat_le m.high profile.limit in
+          let a = (and_parts (within && room && nat_le m.estimate (m.high + 1 - m.low)) _ r).0 in
+          let b = (and_parts (within && room) _ a).0 in
+          let low = leb-true 1 m.low (and_parts (nat_le 1 m.low) _ (and_parts within _ b).0).0 in
+          absurd (omega arith)
+    ]
+
+-- marks fit
+marks_fitting : (profile : Profile) (v : Visible) (name : Name) (m : WaterMarks) → IsTrue (marks_fit profile v name m) → IsFitting profile (Asks name (Estimates profile.marks m))
+marks_fitting profile v name m f = (marks_within profile v name m f, marks_of_none profile v name m f)
 
 -- a fact under a test
 on_fitting : (profile : Profile) (b : Bool) (fact : Fact) → IsFitting profile fact → AllByRecursion (IsFitting profile) (cond b (fact ∷ []) [])
@@ -71,15 +91,15 @@ success_fits profile v what which sent f =
     ((and_parts (sent.code == success_code what) _ p.0).1, p.1)
 
 -- what an answer that fits says
-answer_fitting : (profile : Profile) (v : Visible) (at : Position) (p : Asked) (a : Response) → IsTrue (fits profile v p a) → AllByRecursion (IsFitting profile) (facts_of v at p a)
-answer_fitting profile v at (to (group word)) (group_is m name) f = (tt, (marks_within profile v name m (and_parts (is_same name word) _ f).1, tt))
+pub answer_fitting : (profile : Profile) (v : Visible) (at : Position) (p : Asked) (a : Response) → IsTrue (fits profile v p a) → AllByRecursion (IsFitting profile) (facts_of profile.marks v at p a)
+answer_fitting profile v at (to (group word)) (group_is m name) f = (tt, (marks_fitting profile v name m (and_parts (is_same name word) _ f).1, tt))
 answer_fitting profile v at (to (list_group word range)) (numbers_are m name lines) f =
     let named = option_map_or (is_same name) (option_or word v.selected) false in
     let each = and_parts (named && marks_fit profile v name m && is_ascending (listed_numbers lines)) _ f in
     let marks = (and_parts named _ (and_parts (named && marks_fit profile v name m) _ each.0).0).1 in (
       tt,
       (
-        marks_within profile v name m marks,
+        marks_fitting profile v name m marks,
         (
           all_from (λ n. IsTrue (is_num profile n)) (listed_numbers lines)
               (λ n i. (and_parts (is_num profile n) _ (each_of (λ n. is_num profile n && is_in_range range n) (listed_numbers lines) n each.1 i)).0),
@@ -108,12 +128,12 @@ answer_fitting profile v at (to command) (plain code) f = code_fitting profile v
 answer_fitting profile v at p a f = tt
 
 -- what answers that fit say, from any state on
-from_fitting : (profile : Profile) (v : Visible) (at : Position) (ps : List Asked) (answers : List Response) → FitsAll profile v ps answers → AllByRecursion (IsFitting profile) (facts_from v at ps answers)
+from_fitting : (profile : Profile) (v : Visible) (at : Position) (ps : List Asked) (answers : List Response) → FitsAll profile v ps answers → AllByRecursion (IsFitting profile) (facts_from profile.marks v at ps answers)
 from_fitting profile v at [] answers f = tt
 from_fitting profile v at (p ∷ ps) [] f = tt
 from_fitting profile v at (p ∷ ps) (a ∷ more) f =
-    all_both (IsFitting profile) (facts_of v at p a) _ (answer_fitting profile v at p a f.1) (from_fitting profile (visible_after v p a) (position_after at p a) ps more f.2)
+    all_both (IsFitting profile) (facts_of profile.marks v at p a) _ (answer_fitting profile v at p a f.1) (from_fitting profile (visible_after v p a) (position_after at p a) ps more f.2)
 
 -- what a session that fits says
-pub session_fitting : (profile : Profile) (ps : List Asked) (answers : List Response) → FitsAll profile start.visible ps answers → AllByRecursion (IsFitting profile) (facts_of_session ps answers)
+pub session_fitting : (profile : Profile) (ps : List Asked) (answers : List Response) → FitsAll profile start.visible ps answers → AllByRecursion (IsFitting profile) (facts_of_session profile.marks ps answers)
 session_fitting profile ps answers f = from_fitting profile start.visible Nowhere ps answers f

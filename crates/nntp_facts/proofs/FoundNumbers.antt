@@ -1,6 +1,5 @@
 -- How many of some ascending numbers pass a test.
 use Rattle.std.proofs.Common.{◌≡◌, ◌≢◌, ℕ, Bool, true, false, ◌&&◌, ◌||◌, ◌==◌, List, [], ◌∷◌, refl, sym, ap, subst, ◌∙◌, inl, inr}
-use Rattle.std.specs.Prelude.{Some}
 use Rattle.std.specs.List.{filter}
 use Rattle.std.specs.List.Sorted.{IsStrictlySortedBy}
 use Rattle.std.specs.declared.cmp.Ordering.TheVariants.{Less}
@@ -11,8 +10,7 @@ use Rattle.std.proofs.lemmas.Bool.{true≢false, and_parts, and_from, or_left, o
 use Rattle.std.proofs.lemmas.List.Kept.{IsStrictlySortedBy-filter}
 use Rattle.std.proofs.lemmas.Map.Views.{tells_apart, any-filter_same}
 use Rattle.std.proofs.lemmas.Map.Lookups.{exact_unsigned}
-use Rattle.nntp_facts.specs.Given.{wants, Demand}
-use Rattle.nntp_facts.specs.Summary.{has, Finds, one_more, shown_after, part_shows}
+use Rattle.nntp_facts.specs.Summary.{has, Finds, one_more}
 use Rattle.nntp_facts.specs.declared.shown.Found.{Found}
 use Rattle.nntp_facts.specs.declared.shown.Found.TheVariants.{Absent, Single, Several}
 
@@ -71,11 +69,3 @@ parted false true true h = refl
 parted false true false h = refl
 parted false false true h = sym (h refl)
 parted false false false h = refl
-
-module _ (ns : List ℕ) (d : Demand) (n : ℕ) (w : Found) (found : Finds (λ m. has ns m && wants d m) w) where
-  -- that is shown now, and wanted
-  pub found_more : wants d n ≡ true → has ns n ≡ false → Finds (λ m. shown_after ns (part_shows (Some n)) m && wants d m) (one_more w)
-  found_more wanted fresh = subst {A = ℕ → Bool} (λ p. Finds p (one_more w)) (λ i m. same m i) (and_one (λ m. has ns m && wants d m) n w found (ap (λ b. b && wants d n) fresh))
-    where
-      same : (m : ℕ) → ((has ns m && wants d m) || n == m) ≡ (shown_after ns (part_shows (Some n)) m && wants d m)
-      same m = parted (has ns m) (wants d m) (n == m) (λ e. subst (λ k. wants d k ≡ true) (eqb-true n m e) wanted)

@@ -31,6 +31,7 @@ use Rattle.nntp_wire.specs.Wildmat.{MatchesName}
 use Rattle.nntp_wire.specs.Decided.{matches_name}
 use Rattle.nntp_facts.proofs.Maps.{entry_in}
 use Rattle.nntp_wire.proofs.OptionLemmas.{none_of, some_is}
+use Rattle.nntp_wire.specs.declared.marks.Marks.{Marks}
 
 -- an id at a number is one of the entries
 pub entry_of_number : (N : Numbers) (n : ℕ) (id : Id) → get N n ≡ Some id → In (n, id) (entries N)
@@ -68,14 +69,15 @@ pub record Setting (profile : Profile) (B : ℕ) (G : Spool) (facts : List Fact)
   pub small : (i : ℕ) → i < B → invented_number (invented i) ≡ i
   pub ids : (i : ℕ) → i < B → IsMessageId (invented i)
   pub fitting : AllByRecursion (IsFitting profile) facts
-  pub placed : AllByRecursion (Placed facts) facts
+  pub how : Marks
+  pub placed : AllByRecursion (Placed how facts) facts
   pub together : Together facts
   pub given : IsGiven facts G
   pub few : length (mentioned facts) + length (unshown_ids facts G) < B
 
 module _ (profile : Profile) (B : ℕ) (G : Spool) (facts : List Fact) (s : Setting profile B G facts) where
   -- a group that a 211 selected is one of G
-  group_there : (name : Name) → IsSelectable facts name → IsGroup G name
+  group_there : (name : Name) → IsSelectable s.how facts name → IsGroup G name
   group_there name h = (s.given.groups name).1 (any_in (shows_group name) (ThereIs name) facts h.there (same_itself name))
 
   -- the numbers of a group of G meet what is asked of them
@@ -209,7 +211,7 @@ module _ (profile : Profile) (B : ℕ) (G : Spool) (facts : List Fact) (s : Sett
       )
 
   -- what was said holds of G
-  fact_holds : (fact : Fact) → In fact facts → IsFitting profile fact → Placed facts fact → Holds G fact
+  fact_holds : (fact : Fact) → In fact facts → IsFitting profile fact → Placed s.how facts fact → Holds G fact
   fact_holds (ThereIs name) i f p = (s.given.groups name).1 (any_in (shows_group name) (ThereIs name) facts i (same_itself name))
   fact_holds (ThereIsNo name) i f p = none_of (get G.groups name) (λ g. true≢false (sym (same_itself name) ∙ not_denied_group name (ThereIsNo name) i g))
   fact_holds (Asks name ask) i f p = if_same_name (Meets (numbers G name)) name ask (all_part (Meets (numbers G name)) (asks_in name) (Asks name ask) facts i (meets name (group_there name p)))
@@ -231,4 +233,4 @@ module _ (profile : Profile) (B : ℕ) (G : Spool) (facts : List Fact) (s : Sett
 
   -- all that is said holds of G
   pub all_hold : AllByRecursion (Holds G) facts
-  all_hold = all_from (Holds G) facts (λ fact i. fact_holds fact i (all_at (IsFitting profile) fact facts s.fitting i) (all_at (Placed facts) fact facts s.placed i))
+  all_hold = all_from (Holds G) facts (λ fact i. fact_holds fact i (all_at (IsFitting profile) fact facts s.fitting i) (all_at (Placed s.how facts) fact facts s.placed i))

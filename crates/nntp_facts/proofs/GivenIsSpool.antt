@@ -1,24 +1,27 @@
 -- The spool that is given is a spool.
-use Rattle.std.proofs.Common.{◌≡◌, ℕ, ◌≤◌, Bool, true, false, cond, ◌&&◌, IsTrue, List, [], ◌∷◌, ◌++◌, Option, None, Some, is_some, IsSome, inl, inr, refl, sym, ap, subst, ◌∙◌}
+use Rattle.std.specs.Ordering.{nat_cmp}
+use Rattle.nntp_facts.proofs.Firsts.{not_number}
+use Rattle.nntp_facts.proofs.Settled.{within_one}
+use Rattle.std.proofs.Common.{◌≡◌, ℕ, ◌≤◌, Bool, true, false, cond, ◌&&◌, IsTrue, List, [], ◌∷◌, ◌++◌, Option, None, Some, is_some, IsSome, inl, inr, refl, sym, ap, subst, ◌∙◌, arith}
 use Rattle.std.specs.Prelude.{unwrap_or}
 use Rattle.std.specs.List.{AllByRecursion, list_any}
 use Rattle.std.specs.Option.{option_map_or}
-use Rattle.std.specs.FinMap.{get}
+use Rattle.std.specs.FinMap.{get, len, empty_of_len, get-empty}
 use Rattle.std.specs.Cmp.Lexicographic.{same_text}
-use Rattle.std.proofs.lemmas.Bool.{true≢false, and_parts}
+use Rattle.std.proofs.lemmas.Bool.{true≢false, and_parts, or_cases, cases_eq}
 use Rattle.std.proofs.lemmas.List.Elements.{All-from_recursion}
 use Rattle.nntp_article.specs.Article.{is_empty, is_head, said_id, head_part, body_part, Id, Line}
-use Rattle.nntp_article.specs.Spool.{Spool, Text, IsNumber, IsGroup, numbers, IsSpool, Name, is_line}
+use Rattle.nntp_article.specs.Spool.{Spool, Text, IsNumber, IsGroup, numbers, IsSpool, Name, is_line, Numbers}
 use Rattle.nntp_article.specs.declared.profile.Profile.{Profile}
 use Rattle.nntp_article.specs.Machine.{is_same, says_own_id}
 use Rattle.nntp_facts.specs.Facts.{Fact, TextIs}
-use Rattle.nntp_facts.specs.Given.{mentions, is_mentioned, gives_article, id_shown, first_given, head_in, body_in, plain_head}
-use Rattle.nntp_facts.specs.Together.{IsWellFormed, number_in}
+use Rattle.nntp_facts.specs.Given.{mentions, is_mentioned, gives_article, id_shown, first_given, head_in, body_in, plain_head, asks_of, is_shown, is_given_end, says_some}
+use Rattle.nntp_facts.specs.Together.{IsWellFormed, number_in, IsFewFor}
 use Rattle.nntp_facts.proofs.Members.{In, all_at, all_both, any_in, found_in, first_found}
 use Rattle.nntp_facts.proofs.ShownNames.{shown_named}
 use Rattle.nntp_facts.proofs.PlainHead.{plain_says, plain_is_head, plain_is_clean}
 use Rattle.nntp_facts.proofs.Fitting.{IsFitting}
-use Rattle.nntp_facts.proofs.Limits.{free_in_limit, shown_in_limit}
+use Rattle.nntp_facts.proofs.Limits.{free_in_limit, shown_in_limit, end_in_limit}
 use Rattle.nntp_facts.proofs.GivenHolds.{Setting, one_given, group_of_number, id_cases, shown_at, unshown_once}
 use Rattle.nntp_wire.specs.Name.{IsGroupName, IsMessageId}
 use Rattle.nntp_wire.specs.declared.command.What.TheVariants.{Article, Head, Body}
@@ -45,6 +48,10 @@ body_lines P ((c ∷ cs) ∷ lines) h = body_lines P lines h.1
 own_id : (id : Id) (head : List Line) → says_own_id id head ≡ true → (said : Id) → said_id head ≡ Some said → said ≡ id
 own_id id head t said e = same_text said id (sym (subst (λ o. option_map_or (λ said. is_same said id) o true ≡ true) e t))
 
+-- where there is a number, one is counted
+some_counted : (N : Numbers) (n : ℕ) → IsNumber N n → 1 ≤ len N
+some_counted N n i = elim (cases_eq (len N) 0) [ inl e ↦ absurd (not_number N n (ap (λ m. get m n) (empty_of_len N e) ∙ get-empty nat_cmp n) i) | inr ne ↦ omega arith ]
+
 module _ (profile : Profile) (B : ℕ) (G : Spool) (facts : List Fact) (s : Setting profile B G facts) where
   -- a fact fits and is well formed
   fitting : (fact : Fact) → In fact facts → IsFitting profile fact
@@ -63,8 +70,15 @@ module _ (profile : Profile) (B : ℕ) (G : Spool) (facts : List Fact) (s : Sett
       let g = group_of_number G name n i in
       let group : IsGroup G name = ap is_some g.1 in
       elim ((s.given.numbers_given name group n).0 i) [
-        | inl shown ↦ shown_in_limit profile facts s.fitting s.placed name n shown
-        | inr more ↦ (more.first.0, free_in_limit profile facts s.fitting s.placed name ((s.given.groups name).0 group) n more.first.1)
+        | inl known ↦ elim (or_cases (is_shown (asks_of name facts) n) (is_given_end (asks_of name facts) n) known) [
+          | inl shown ↦ shown_in_limit profile facts s.how s.fitting s.placed name n shown
+          | inr end ↦
+              let stand = s.together.numbers name in
+              let few = stand.few (numbers G name) (s.given.numbers_given name group) in
+              end_in_limit profile facts s.how s.fitting s.placed name n (len (numbers G name)) (and_parts (list_any says_some (asks_of name facts)) _ end).1
+              (λ ask i. within_one (numbers G name) ask (all_at (IsFewFor (numbers G name)) ask (asks_of name facts) few i)) (some_counted (numbers G name) n i) (stand.not_denied n (inl known))
+        ]
+        | inr more ↦ (more.first.0, free_in_limit profile facts s.how s.fitting s.placed name ((s.given.groups name).0 group) n more.first.1)
       ]
 
   -- an id that is shown is mentioned

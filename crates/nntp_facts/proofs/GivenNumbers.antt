@@ -1,18 +1,23 @@
 -- The given numbers meet what is asked of them, if that stands together.
-use Rattle.std.proofs.Common.{◌≡◌, ℕ, ◌≤◌, ◌⊎◌, Bool, true, false, ◌==◌, IsTrue, List, [], ◌∷◌, Some, inl, inr, refl, sym, ap, subst, ◌∙◌, arith}
+use Rattle.nntp_wire.specs.declared.marks.Marks.TheVariants.{Lenient, Strict}
+use Rattle.nntp_wire.specs.declared.marks.Marks.{Marks}
+use Rattle.std.proofs.Common.{◌≡◌, ℕ, ◌≤◌, ◌⊎◌, Bool, true, false, ◌==◌, IsTrue, List, [], ◌∷◌, Some, inl, inr, refl, sym, ap, subst, ◌∙◌, arith, ◌||◌}
 use Rattle.std.specs.Prelude.{IsFalse, cond}
-use Rattle.std.specs.List.{AllByRecursion}
-use Rattle.std.proofs.lemmas.Bool.{true≢false, and_cases, false_from_ne_true, eqb-true, ltb-true, ltb-false, cases_lt, eq-eqb, not-false}
+use Rattle.std.specs.List.{AllByRecursion, list_any}
+use Rattle.std.proofs.lemmas.Bool.{true≢false, and_cases, false_from_ne_true, eqb-true, ltb-true, ltb-false, cases_lt, eq-eqb, not-false, or_cases, or_left, or_right, and_parts, and_from, cases_Bool}
 use Rattle.std.proofs.lemmas.Bool.Decides.{nat_tests}
 use Rattle.std.specs.FinMap.{get}
 use Rattle.nntp_article.specs.Spool.{Numbers, IsNumber, IsNextAbove, NoneAbove, NoneBelow}
-use Rattle.nntp_article.specs.Machine.{is_in_range}
-use Rattle.nntp_facts.specs.Asks.{Nowhere, First, Known, Ask, Meets, Estimates, Bounds, ListsIn, Has, Lacks, StandsAt, StandsNowhere, StepsUp, StepsDown, IsTop, IsBottom}
-use Rattle.nntp_facts.specs.Given.{shows, denies, is_denied, Demand, NoDemand, NotEmpty, OnlyOne, SecondIs, Impossible, demand_in, join, demand, IsGivenNumber, HasGivenNumbers}
+use Rattle.nntp_article.specs.Machine.{is_in_range, AreEnds}
+use Rattle.nntp_facts.specs.Asks.{Ask, Meets, Estimates, Bounds, ListsIn, Has, Lacks, StandsAt, StandsNowhere, StepsUp, StepsDown, IsTop, IsBottom}
+use Rattle.nntp_facts.specs.declared.position.Position.TheVariants.{Nowhere, First, Known}
+use Rattle.nntp_facts.specs.Given.{shows, denies, is_denied, demand_in, join, demand, IsGivenNumber, HasGivenNumbers, is_shown, says_some, is_end, is_given_end, wants}
+use Rattle.nntp_facts.specs.declared.demand.Demand.{Demand}
+use Rattle.nntp_facts.specs.declared.demand.Demand.TheVariants.{NoDemand, NotEmpty, OnlyOne, SecondIs, Impossible}
 use Rattle.nntp_facts.specs.Together.{is_possible, MeetsDemand, IsFewFor, AsksStand}
-use Rattle.nntp_facts.proofs.Members.{In, all_at, all_from, any_in, in_contains, each_of}
+use Rattle.nntp_facts.proofs.Members.{In, all_at, all_from, any_in, in_contains, each_of, found_in}
 use Rattle.nntp_facts.proofs.Firsts.{Empty, Begins, firsts, least_is, least_none}
-use Rattle.nntp_facts.proofs.MetNumbers.{of_first, listed_in, finds, in_range, in_range_back}
+use Rattle.nntp_facts.proofs.MetNumbers.{of_first, listed_in, finds, in_range, in_range_back, shown_known}
 use Rattle.nntp_wire.proofs.OptionLemmas.{none_of}
 
 -- numbers that meet two demands as one meet each
@@ -53,6 +58,47 @@ same_demand P Q f g OnlyOne h = (h.0, f h.0 h.1, λ m q. h.2 m (g m q))
 same_demand P Q f g (SecondIs k) h = (f k h.0, h.1, h.2, f h.1 h.3, λ m l q. h.4 m l (g m q))
 same_demand P Q f g Impossible h = h
 
+-- ---- whether it is said that there is a number
+
+-- an ask that shows a number says so
+pub shows_some : (ask : Ask) (n : ℕ) → shows ask n ≡ true → says_some ask ≡ true
+shows_some (ListsIn r []) n t = t
+shows_some (ListsIn r (m ∷ ns)) n t = refl
+shows_some (Has m) n t = refl
+shows_some (StandsAt First m) n t = refl
+shows_some (StepsUp at m) n t = refl
+shows_some (StepsDown at m) n t = refl
+shows_some ask n t = cc
+
+-- one that doesn't demands nothing
+none_demanded : (ask : Ask) → says_some ask ≡ false → demand_in ask ≡ NoDemand
+none_demanded (IsTop First) f = cc
+none_demanded (IsBottom First) f = cc
+none_demanded (StepsUp First m) f = cc
+none_demanded ask f = refl
+
+-- and so of all
+pub no_demand : (asks : List Ask) → list_any says_some asks ≡ false → demand asks ≡ NoDemand
+no_demand [] f = refl
+no_demand (ask ∷ asks) f =
+    let p = neither (says_some ask) (list_any says_some asks) f in
+    ap (λ d. join d (demand asks)) (none_demanded ask p.0) ∙ no_demand asks p.1
+  where
+    neither : (a b : Bool) → (a || b) ≡ false → (a ≡ false) × (b ≡ false)
+    neither true b e = cc
+    neither false b e = (refl, e)
+
+-- where a number is given, it is said that there is one
+pub some_said : (asks : List Ask) (n : ℕ) → IsGivenNumber asks n → IsTrue (list_any says_some asks)
+some_said asks n (inl t) = elim (or_cases (is_shown asks n) (is_given_end asks n) t) [
+  | inl s ↦ (let f = found_in (λ ask. shows ask n) asks s in any_in says_some f.0 asks f.1 (shows_some f.0 n f.2))
+  | inr g ↦ (and_parts (list_any says_some asks) _ g).0
+]
+some_said asks n (inr x) = elim (cases_Bool (list_any says_some asks)) [
+  | inl t ↦ t
+  | inr f ↦ absurd (true≢false (sym x.wanted ∙ ap (λ d. wants d n) (no_demand asks f)))
+]
+
 module _ (asks : List Ask) (G : Numbers) (stand : AsksStand asks) (given : HasGivenNumbers asks G) where
   -- a given number isn't denied
   not_denied_in_G : (ask : Ask) → In ask asks → (n : ℕ) → IsNumber G n → IsFalse (denies ask n)
@@ -62,14 +108,26 @@ module _ (asks : List Ask) (G : Numbers) (stand : AsksStand asks) (given : HasGi
 
   -- and what is shown is given
   shown_in_G : (ask : Ask) → In ask asks → (n : ℕ) → IsTrue (shows ask n) → IsNumber G n
-  shown_in_G ask i n s = (given n).1 (inl (any_in (λ ask. shows ask n) ask asks i s))
+  shown_in_G ask i n s = (given n).1 (inl (shown_known asks n (any_in (λ ask. shows ask n) ask asks i s)))
+
+  -- strict marks are given, where a number is
+  end_in_G : (ask : Ask) → In ask asks → (n k : ℕ) → IsNumber G k → IsTrue (is_end ask n) → IsNumber G n
+  end_in_G ask i n k there e =
+      (given n).1 (inl (or_right (is_shown asks n) _ (and_from (list_any says_some asks) _ (some_said asks k ((given k).0 there)) (any_in (λ ask. is_end ask n) ask asks i e))))
 
   -- the given numbers meet each demand
   demand_in_G : (ask : Ask) → In ask asks → MeetsDemand (demand_in ask) (IsNumber G)
   demand_in_G ask i = demand_of_one (IsNumber G) ask asks i (same_demand (IsGivenNumber asks) (IsNumber G) (λ n. (given n).1) (λ n. (given n).0) (demand asks) stand.demand_met)
 
   meets_in_G : (ask : Ask) → In ask asks → IsTrue (is_possible ask) → IsFewFor G ask → Meets G ask
-  meets_in_G (Estimates m) i p few = (few, λ n j. let f = not_denied_in_G (Estimates m) i n j in (grind (arith, nat_tests), grind (arith, nat_tests)))
+  meets_in_G (Estimates how m) i p few = (few, λ n j. let f = not_denied_in_G (Estimates how m) i n j in (grind (arith, nat_tests), grind (arith, nat_tests)), ends how i)
+    where
+      ends : (how : Marks) → In (Estimates how m) asks → AreEnds how G m
+      ends Lenient i = tt
+      ends Strict i = λ k there. (
+        end_in_G (Estimates Strict m) i m.low k there (or_left (m.low == m.low) _ (eq-eqb m.low m.low refl)),
+        end_in_G (Estimates Strict m) i m.high k there (or_right (m.low == m.high) _ (eq-eqb m.high m.high refl)),
+      )
   meets_in_G (Bounds low high) i p few = λ n j. let f = not_denied_in_G (Bounds low high) i n j in (grind (arith, nat_tests), grind (arith, nat_tests))
   meets_in_G (ListsIn r ns) i p few = λ n. (
     λ listed. (shown_in_G (ListsIn r ns) i n (finds ns n listed), in_range r n (each_of (is_in_range r) ns n p (in_contains n ns listed))),

@@ -4,7 +4,8 @@ use Rattle.std.specs.List.{AllByRecursion}
 use Rattle.nntp_article.specs.Spool.{Spool, IsSpool, numbers, Name}
 use Rattle.nntp_article.specs.declared.profile.Profile.{Profile}
 use Rattle.nntp_article.specs.Machine.{Run, start}
-use Rattle.nntp_facts.specs.Asks.{Nowhere, Meets}
+use Rattle.nntp_facts.specs.Asks.{Meets}
+use Rattle.nntp_facts.specs.declared.position.Position.TheVariants.{Nowhere}
 use Rattle.nntp_facts.specs.Facts.{Holds, FitsAll}
 use Rattle.nntp_facts.specs.Given.{IsGiven, facts_of_session, unshown_ids, asks_of, size, HasAtLeast}
 use Rattle.nntp_facts.specs.Together.{Together}
@@ -22,33 +23,33 @@ use Rattle.nntp_facts.proofs.GivenIsSpool.{given_is_spool}
 use Rattle.nntp_wire.specs.Answer.{Asked, Response}
 
 -- what a session that a spool permits says, and that it holds of the spool
-pub said : (profile : Profile) (S : Spool) (ps : List Asked) (answers : List Response) → Run profile S start ps answers → FitsAll profile start.visible ps answers × AllByRecursion (Holds S) (facts_of_session ps answers)
+pub said : (profile : Profile) (S : Spool) (ps : List Asked) (answers : List Response) → Run profile S start ps answers → FitsAll profile start.visible ps answers × AllByRecursion (Holds S) (facts_of_session profile.marks ps answers)
 said profile S ps answers run = facts_of_run profile S start.visible Nowhere ps answers (read_off profile S start.visible Nowhere ps answers run)
 
 -- what some spool permits fits and stands together
-pub stands : (profile : Profile) (S : Spool) (ps : List Asked) (answers : List Response) → IsSpool profile S → Run profile S start ps answers → FitsAll profile start.visible ps answers × Together (facts_of_session ps answers)
-stands profile S ps answers spool run = let says = said profile S ps answers run in (says.0, stand profile S (facts_of_session ps answers) spool says.1)
+pub stands : (profile : Profile) (S : Spool) (ps : List Asked) (answers : List Response) → IsSpool profile S → Run profile S start ps answers → FitsAll profile start.visible ps answers × Together (facts_of_session profile.marks ps answers)
+stands profile S ps answers spool run = let says = said profile S ps answers run in (says.0, stand profile S (facts_of_session profile.marks ps answers) spool says.1)
 
 -- what the laws below stand on
-setting : (profile : Profile) (G : Spool) (ps : List Asked) (answers : List Response) → FitsAll profile start.visible ps answers → Together (facts_of_session ps answers) → size (facts_of_session ps answers) < 2 ^ 210
-    → IsGiven (facts_of_session ps answers) G → Setting profile (10 ^ 64) G (facts_of_session ps answers)
+setting : (profile : Profile) (G : Spool) (ps : List Asked) (answers : List Response) → FitsAll profile start.visible ps answers → Together (facts_of_session profile.marks ps answers) → size (facts_of_session profile.marks ps answers) < 2 ^ 210
+    → IsGiven (facts_of_session profile.marks ps answers) G → Setting profile (10 ^ 64) G (facts_of_session profile.marks ps answers)
 setting profile G ps answers fits together small given =
-    let facts = facts_of_session ps answers in
+    let facts = facts_of_session profile.marks ps answers in
     let few = few_enough facts (length (unshown_ids facts G)) small (unshown_ids_few facts G (λ name. (given.groups name).0) given.numbers_given) in
-    record { small = number-invented; ids = invented_is_id; fitting = session_fitting profile ps answers fits; placed = session_placed profile ps answers fits; together = together; given = given; few = few }
+    record { small = number-invented; ids = invented_is_id; fitting = session_fitting profile ps answers fits; how = profile.marks; placed = session_placed profile ps answers fits; together = together; given = given; few = few }
 
 -- the spool that is given for what fits and stands together is a spool and permits the session
-pub given_permits : (profile : Profile) (G : Spool) (ps : List Asked) (answers : List Response) → FitsAll profile start.visible ps answers → Together (facts_of_session ps answers) → size (facts_of_session ps answers) < 2 ^ 210
-    → IsGiven (facts_of_session ps answers) G → IsSpool profile G × Run profile G start ps answers
+pub given_permits : (profile : Profile) (G : Spool) (ps : List Asked) (answers : List Response) → FitsAll profile start.visible ps answers → Together (facts_of_session profile.marks ps answers) → size (facts_of_session profile.marks ps answers) < 2 ^ 210
+    → IsGiven (facts_of_session profile.marks ps answers) G → IsSpool profile G × Run profile G start ps answers
 given_permits profile G ps answers fits together small given =
-    let facts = facts_of_session ps answers in
+    let facts = facts_of_session profile.marks ps answers in
     let s = setting profile G ps answers fits together small given in
     (given_is_spool profile (10 ^ 64) G facts s, run_from profile G start.visible Nowhere ps answers (run_of_facts profile G start.visible Nowhere ps answers fits (all_hold profile (10 ^ 64) G facts s)))
 
 -- a spool that permits a session has what the session shows, and as many numbers as are given
-pub given_is_least : (profile : Profile) (S G : Spool) (ps : List Asked) (answers : List Response) → IsSpool profile S → Run profile S start ps answers → IsGiven (facts_of_session ps answers) G → HasAtLeast (facts_of_session ps answers) G S
+pub given_is_least : (profile : Profile) (S G : Spool) (ps : List Asked) (answers : List Response) → IsSpool profile S → Run profile S start ps answers → IsGiven (facts_of_session profile.marks ps answers) G → HasAtLeast (facts_of_session profile.marks ps answers) G S
 given_is_least profile S G ps answers spool run given =
-    let facts = facts_of_session ps answers in
+    let facts = facts_of_session profile.marks ps answers in
     let holds = (said profile S ps answers run).1 in
     let met : (name : Name) → AllByRecursion (Meets (numbers S name)) (asks_of name facts) = λ name. met_by_facts S name facts holds in
     record {

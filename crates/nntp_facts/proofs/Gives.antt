@@ -68,13 +68,14 @@ given_append {A} f (x ∷ xs) ys = by (f x) (given_append f xs ys)
     by None rest = rest
     by (Some y) rest = refl
 
+-- where nothing more is given, what was is
+pub or_none : {A : Type 0} (o : Option A) → option_or o None ≡ o
+or_none None = refl
+or_none (Some x) = refl
+
 -- where more facts give nothing, what is given is as before
 pub given_silent : {A : Type 0} (f : Fact → Option A) (facts more : List Fact) → first_given f more ≡ None → first_given f (facts ++ more) ≡ first_given f facts
-given_silent {A} f facts more none = given_append f facts more ∙ ap (λ o. option_or (first_given f facts) o) none ∙ or_none (first_given f facts)
-  where
-    or_none : (o : Option A) → option_or o None ≡ o
-    or_none None = refl
-    or_none (Some x) = refl
+given_silent f facts more none = given_append f facts more ∙ ap (λ o. option_or (first_given f facts) o) none ∙ or_none (first_given f facts)
 
 -- one fact gives one thing
 pub one_gives_one : {A : Type 0} (f : Fact → Option A) (fact : Fact) → IfSome (f fact) (λ x. option_or (f fact) None ≡ Some x)

@@ -1,8 +1,11 @@
 -- Answers one by one: what one more says, and what pairs say.
+use Rattle.nntp_wire.specs.declared.marks.Marks.{Marks}
 use Rattle.std.proofs.Common.{◌≡◌, ℕ, ◌≤◌, ◌↔◌, false, IsTrue, List, [], ◌∷◌, ◌++◌, map, length, Some, sym, ap, subst, ◌∙◌, arith, append_assoc, append-nil, length-append}
 use Rattle.nntp_article.specs.declared.profile.Profile.{Profile}
 use Rattle.nntp_article.specs.Machine.{Visible, start, fits, visible_after}
-use Rattle.nntp_facts.specs.Asks.{Position, Nowhere, position_after}
+use Rattle.nntp_facts.specs.Asks.{position_after}
+use Rattle.nntp_facts.specs.declared.position.Position.{Position}
+use Rattle.nntp_facts.specs.declared.position.Position.TheVariants.{Nowhere}
 use Rattle.nntp_facts.specs.Facts.{facts_of, facts_from, FitsAll}
 use Rattle.nntp_facts.specs.Given.{facts_of_session, size}
 use Rattle.nntp_facts.specs.Classes.{visible_from, position_from, asked_next}
@@ -23,16 +26,16 @@ asked_first : (p asked : Asked) → Some p ≡ Some asked → p ≡ asked
 asked_first p asked e = cc
 
 -- what it says stands behind what those before say
-pub facts_grow : (v : Visible) (at : Position) (ps : List Asked) (answers : List Response) (asked : Asked) (response : Response) → asked_next ps answers ≡ Some asked
-    → facts_from v at ps (answers ++ response ∷ []) ≡ facts_from v at ps answers ++ facts_of (visible_from v ps answers) (position_from at ps answers) asked response
-facts_grow v at [] answers asked response e = cc
-facts_grow v at (p ∷ []) [] asked response e = append-nil (facts_of v at p response) ∙ ap (λ p. facts_of v at p response) (asked_first p asked e)
-facts_grow v at (p ∷ (q ∷ ps)) [] asked response e = append-nil (facts_of v at p response) ∙ ap (λ p. facts_of v at p response) (asked_first p asked e)
-facts_grow v at (p ∷ ps) (a ∷ more) asked response e =
-    let here = facts_of v at p a in
+pub facts_grow : (how : Marks) (v : Visible) (at : Position) (ps : List Asked) (answers : List Response) (asked : Asked) (response : Response) → asked_next ps answers ≡ Some asked
+    → facts_from how v at ps (answers ++ response ∷ []) ≡ facts_from how v at ps answers ++ facts_of how (visible_from v ps answers) (position_from at ps answers) asked response
+facts_grow how v at [] answers asked response e = cc
+facts_grow how v at (p ∷ []) [] asked response e = append-nil (facts_of how v at p response) ∙ ap (λ p. facts_of how v at p response) (asked_first p asked e)
+facts_grow how v at (p ∷ (q ∷ ps)) [] asked response e = append-nil (facts_of how v at p response) ∙ ap (λ p. facts_of how v at p response) (asked_first p asked e)
+facts_grow how v at (p ∷ ps) (a ∷ more) asked response e =
+    let here = facts_of how v at p a in
     let w = visible_after v p a in
     let to = position_after at p a in
-    ap (λ rest. here ++ rest) (facts_grow w to ps more asked response e) ∙ sym (append_assoc here (facts_from w to ps more) (facts_of (visible_from w ps more) (position_from to ps more) asked response))
+    ap (λ rest. here ++ rest) (facts_grow how w to ps more asked response e) ∙ sym (append_assoc here (facts_from how w to ps more) (facts_of how (visible_from w ps more) (position_from to ps more) asked response))
 
 -- what it leaves visible
 pub visible_grows : (v : Visible) (ps : List Asked) (answers : List Response) (asked : Asked) (response : Response) → asked_next ps answers ≡ Some asked
@@ -85,24 +88,24 @@ pairs_permitted profile client server pairs left paired =
     subst (λ ps. SomePermits profile ps (responses_of pairs) ↔ SomePermits profile (asked_of pairs) (responses_of pairs)) (sym more.1) (permitted_longer profile (asked_of pairs) more.0 (responses_of pairs) (as_few pairs))
 
 -- and what they say is said by these alone
-pub facts_by_pairs : (client server : List ℕ) (pairs : List Paired) (left : Unpaired) → AreNext (streams client server) pairs left
-    → facts_of_session (prompts_of client) (responses_of pairs) ≡ facts_of_session (asked_of pairs) (responses_of pairs)
-facts_by_pairs client server pairs left paired =
+pub facts_by_pairs : (how : Marks) (client server : List ℕ) (pairs : List Paired) (left : Unpaired) → AreNext (streams client server) pairs left
+    → facts_of_session how (prompts_of client) (responses_of pairs) ≡ facts_of_session how (asked_of pairs) (responses_of pairs)
+facts_by_pairs how client server pairs left paired =
     let more = prompts_of_pairs client server pairs left paired in
-    ap (λ ps. facts_of_session ps (responses_of pairs)) more.1 ∙ facts_longer start.visible Nowhere (asked_of pairs) more.0 (responses_of pairs) (as_few pairs)
+    ap (λ ps. facts_of_session how ps (responses_of pairs)) more.1 ∙ facts_longer how start.visible Nowhere (asked_of pairs) more.0 (responses_of pairs) (as_few pairs)
 
 -- ---- octets
 
 -- what answers say is bounded by the octets that spell them
-pub size_by_octets : (ps : List Asked) (answers : List Response) (octets : List ℕ) → Spelled ps answers octets → size (facts_of_session ps answers) ≤ length octets
-size_by_octets ps answers octets spelled = let a = session_size ps answers in let b = light ps answers octets spelled in omega arith
+pub size_by_octets : (how : Marks) (ps : List Asked) (answers : List Response) (octets : List ℕ) → Spelled ps answers octets → size (facts_of_session how ps answers) ≤ length octets
+size_by_octets how ps answers octets spelled = let a = session_size how ps answers in let b = light ps answers octets spelled in omega arith
 
 -- and what pairs say by the server's
-pub size_by_pairs : (client server : List ℕ) (pairs : List Paired) (left : Unpaired) → AreNext (streams client server) pairs left → size (facts_of_session (asked_of pairs) (responses_of pairs)) ≤ length server
-size_by_pairs client server pairs left paired =
+pub size_by_pairs : (how : Marks) (client server : List ℕ) (pairs : List Paired) (left : Unpaired) → AreNext (streams client server) pairs left → size (facts_of_session how (asked_of pairs) (responses_of pairs)) ≤ length server
+size_by_pairs how client server pairs left paired =
     let spelled = (pairs-spelled client server pairs left paired).0 in
-    let same = facts_by_pairs client server pairs left paired in
-    let most = size_by_octets (prompts_of client) (responses_of pairs) spelled.0 spelled.1 in
+    let same = facts_by_pairs how client server pairs left paired in
+    let most = size_by_octets how (prompts_of client) (responses_of pairs) spelled.0 spelled.1 in
     let whole = ap length spelled.2 ∙ length-append spelled.0 left.server in
     let equal = ap size same in
     omega arith

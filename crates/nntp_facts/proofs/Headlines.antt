@@ -36,15 +36,15 @@ same_answers profile S T client server n m x y =
     sym p.3 ∙ ap responses_of one.0 ∙ q.3
 
 -- what they say is bounded by the octets
-few_facts : (profile : Profile) (S : Spool) (client server : List ℕ) (n : ℕ) (x : Explains profile S client server n) → length server < 2 ^ 210 → size (facts_of_session (prompts_of client) x.answers) < 2 ^ 210
+few_facts : (profile : Profile) (S : Spool) (client server : List ℕ) (n : ℕ) (x : Explains profile S client server n) → length server < 2 ^ 210 → size (facts_of_session profile.marks (prompts_of client) x.answers) < 2 ^ 210
 few_facts profile S client server n x small =
-    let most = size_by_octets (prompts_of client) x.answers x.octets x.spelled in
+    let most = size_by_octets profile.marks (prompts_of client) x.answers x.octets x.spelled in
     let whole = ap length x.whole ∙ length-append x.octets [] in
     omega arith
 
 -- where some spool explains two streams, the given one is their least explanation
-pub given_explains : (profile : Profile) (S G : Spool) (client server : List ℕ) (n : ℕ) (x : Explains profile S client server n) → size (facts_of_session (prompts_of client) x.answers) < 2 ^ 210
-    → IsGiven (facts_of_session (prompts_of client) x.answers) G → IsLeastExplanation profile client server G n
+pub given_explains : (profile : Profile) (S G : Spool) (client server : List ℕ) (n : ℕ) (x : Explains profile S client server n) → size (facts_of_session profile.marks (prompts_of client) x.answers) < 2 ^ 210
+    → IsGiven (facts_of_session profile.marks (prompts_of client) x.answers) G → IsLeastExplanation profile client server G n
 given_explains profile S G client server n x small given =
     let s = stands profile S (prompts_of client) x.answers x.is_spool x.run in
     let g = given_permits profile G (prompts_of client) x.answers s.0 s.1 small given in
@@ -62,7 +62,7 @@ one_headline profile client server (Yes S n) (Yes T m) x y =
     let answers = same_answers profile S T client server n m x.explains y.explains in
     let count : n ≡ m = sym x.explains.count ∙ ap length answers ∙ y.explains.count in
     let spool : S ≡ T =
-    given_once (facts_of_session (prompts_of client) y.explains.answers) S T (subst (λ answers. IsGiven (facts_of_session (prompts_of client) answers) S) answers x.given) y.given in
+    given_once (facts_of_session profile.marks (prompts_of client) y.explains.answers) S T (subst (λ answers. IsGiven (facts_of_session profile.marks (prompts_of client) answers) S) answers x.given) y.given in
     λ i. Yes (spool i) (count i)
 one_headline profile client server (Yes S n) (No k class) x y = absurd (explained_not_bad profile S client server n k x.explains y.0)
 one_headline profile client server (No k class) (Yes S n) x y = absurd (explained_not_bad profile S client server n k y.explains x.0)
@@ -91,13 +91,13 @@ yes_explained profile client server (No k class) x = (λ t. absurd (true≢false
 -- ---- the ways to it
 
 -- at the end of the server's octets
-pub headline_at_end : (profile : Profile) (client server : List ℕ) (pairs : List Paired) (unanswered : ℕ) (G : Spool) → size (facts_of_session (asked_of pairs) (responses_of pairs)) < 2 ^ 210 → IsPairing client server pairs (end unanswered)
-    → SomePermits profile (asked_of pairs) (responses_of pairs) → IsGiven (facts_of_session (asked_of pairs) (responses_of pairs)) G → IsHeadline profile client server (Yes G (length pairs))
+pub headline_at_end : (profile : Profile) (client server : List ℕ) (pairs : List Paired) (unanswered : ℕ) (G : Spool) → size (facts_of_session profile.marks (asked_of pairs) (responses_of pairs)) < 2 ^ 210 → IsPairing client server pairs (end unanswered)
+    → SomePermits profile (asked_of pairs) (responses_of pairs) → IsGiven (facts_of_session profile.marks (asked_of pairs) (responses_of pairs)) G → IsHeadline profile client server (Yes G (length pairs))
 headline_at_end profile client server pairs unanswered G small pairing permitted given =
     let p = (pairs_permitted profile client server pairs pairing.left pairing.paired).1 permitted in
     let x = explained_end profile p.0 client server pairs unanswered pairing p.1 p.2 in
     let answers : responses_of pairs ≡ x.answers = (by_all_pairs profile p.0 client server (length pairs) pairs (end unanswered) pairing x).0 in
-    let facts = sym (facts_by_pairs client server pairs pairing.left pairing.paired) ∙ ap (facts_of_session (prompts_of client)) answers in
+    let facts = sym (facts_by_pairs profile.marks client server pairs pairing.left pairing.paired) ∙ ap (facts_of_session profile.marks (prompts_of client)) answers in
     given_explains profile p.0 G client server (length pairs) x (subst (λ facts. size facts < 2 ^ 210) facts small) (subst (λ facts. IsGiven facts G) facts given)
 
 -- at octets that answer nothing

@@ -1,4 +1,5 @@
 -- More facts behind those that stand together.
+use Rattle.nntp_wire.specs.declared.marks.Marks.{Marks}
 use Rattle.std.proofs.Common.{◌≡◌, ℕ, ◌<◌, ◌^◌, ◌↔◌, Bool, true, false, ◌||◌, ◌==◌, not, IsTrue, List, [], ◌∷◌, ◌++◌, Option, Some, refl, sym, subst, ◌∙◌}
 use Rattle.std.specs.Prelude.{if◌then◌else◌}
 use Rattle.std.specs.List.{AllByRecursion, list_any}
@@ -9,7 +10,9 @@ use Rattle.nntp_article.specs.Article.{Id}
 use Rattle.nntp_article.specs.Spool.{Name}
 use Rattle.nntp_article.specs.declared.profile.Profile.{Profile}
 use Rattle.nntp_article.specs.Machine.{Visible, start, fits, is_same}
-use Rattle.nntp_facts.specs.Asks.{Ask, Position, Nowhere, Estimates, ListsIn, StandsAt, StandsNowhere, StepsUp, StepsDown, IsTop, IsBottom, Lacks}
+use Rattle.nntp_facts.specs.Asks.{Ask, Estimates, ListsIn, StandsAt, StandsNowhere, StepsUp, StepsDown, IsTop, IsBottom, Lacks}
+use Rattle.nntp_facts.specs.declared.position.Position.{Position}
+use Rattle.nntp_facts.specs.declared.position.Position.TheVariants.{Nowhere}
 use Rattle.nntp_facts.specs.Facts.{Fact, Holds, ThereIs, ThereIsNo, Asks, IdAt, TextIs, NoArticle, GroupsAre, here, facts_of_code, facts_of, FitsAll}
 use Rattle.nntp_facts.specs.Given.{asks_in, asks_of, shows_group, id_in, head_in, body_in, facts_of_session, size}
 use Rattle.nntp_facts.specs.Together.{IsWellFormed, AsksStand, denies_group, number_in, shows_article, denies_article, Together, AgreeWithin, Join}
@@ -171,49 +174,49 @@ by_id_agrees true what id lines name n = text_agrees what id lines
 by_id_agrees false what id lines name n = placed_agrees what id lines name n
 
 -- what an answer says agrees with itself
-pub answer_agrees : (v : Visible) (at : Position) (asked : Asked) (response : Response) → AgreeWithin (facts_of v at asked response)
-answer_agrees v at (to command) (plain code) = code_agrees v at command code
-answer_agrees v at (to (group word)) (group_is m name) = group_agrees name (Estimates m)
-answer_agrees v at (to (list_group word range)) (numbers_are m name lines) = listing_agrees name (Estimates m) (ListsIn range (listed_numbers lines))
-answer_agrees v at (to next) (sends sent) = step_agrees (here v) (StepsUp at sent.number) sent.number sent.id
-answer_agrees v at (to last) (sends sent) = step_agrees (here v) (StepsDown at sent.number) sent.number sent.id
-answer_agrees v at (to (retrieve what (by_id word))) (sends sent) = by_id_agrees (sent.number == 0) what sent.id sent.block (here v) sent.number
-answer_agrees v at (to (retrieve what (by_number n))) (sends sent) = placed_agrees what sent.id sent.block (here v) sent.number
-answer_agrees v at (to (retrieve what current)) (sends sent) = current_agrees what sent.id sent.block (here v) (StandsAt at sent.number) sent.number
-answer_agrees v at (to (list_active p)) (active_are lines) = groups_agree p (active_groups lines)
-answer_agrees v at asked (plain code) = none_agrees
-answer_agrees v at asked (group_is m name) = none_agrees
-answer_agrees v at asked (numbers_are m name lines) = none_agrees
-answer_agrees v at asked (sends sent) = none_agrees
-answer_agrees v at asked (active_are lines) = none_agrees
+pub answer_agrees : (how : Marks) (v : Visible) (at : Position) (asked : Asked) (response : Response) → AgreeWithin (facts_of how v at asked response)
+answer_agrees how v at (to command) (plain code) = code_agrees v at command code
+answer_agrees how v at (to (group word)) (group_is m name) = group_agrees name (Estimates how m)
+answer_agrees how v at (to (list_group word range)) (numbers_are m name lines) = listing_agrees name (Estimates how m) (ListsIn range (listed_numbers lines))
+answer_agrees how v at (to next) (sends sent) = step_agrees (here v) (StepsUp at sent.number) sent.number sent.id
+answer_agrees how v at (to last) (sends sent) = step_agrees (here v) (StepsDown at sent.number) sent.number sent.id
+answer_agrees how v at (to (retrieve what (by_id word))) (sends sent) = by_id_agrees (sent.number == 0) what sent.id sent.block (here v) sent.number
+answer_agrees how v at (to (retrieve what (by_number n))) (sends sent) = placed_agrees what sent.id sent.block (here v) sent.number
+answer_agrees how v at (to (retrieve what current)) (sends sent) = current_agrees what sent.id sent.block (here v) (StandsAt at sent.number) sent.number
+answer_agrees how v at (to (list_active p)) (active_are lines) = groups_agree p (active_groups lines)
+answer_agrees how v at asked (plain code) = none_agrees
+answer_agrees how v at asked (group_is m name) = none_agrees
+answer_agrees how v at asked (numbers_are m name lines) = none_agrees
+answer_agrees how v at asked (sends sent) = none_agrees
+answer_agrees how v at asked (active_are lines) = none_agrees
 
 -- ---- an answer more
 
 -- behind answers that some spool permits, some spool permits one more exactly if it fits and what it says joins
 pub permitted_more : (profile : Profile) (ps : List Asked) (answers : List Response) (asked : Asked) (response : Response) → asked_next ps answers ≡ Some asked
-    → size (facts_of_session ps (answers ++ response ∷ [])) < 2 ^ 210 → SomePermits profile ps answers
+    → size (facts_of_session profile.marks ps (answers ++ response ∷ [])) < 2 ^ 210 → SomePermits profile ps answers
     → SomePermits profile ps (answers ++ response ∷ [])
     ↔ (((visible_from start.visible ps answers).closed ≡ false) × IsTrue (fits profile (visible_from start.visible ps answers) asked response)
-    × Join (facts_of_session ps answers) (facts_of (visible_from start.visible ps answers) (position_from Nowhere ps answers) asked response))
+    × Join (facts_of_session profile.marks ps answers) (facts_of profile.marks (visible_from start.visible ps answers) (position_from Nowhere ps answers) asked response))
 permitted_more profile ps answers asked response comes small (S, spool, run) = (
   λ h.
       let says = said profile h.0 ps (answers ++ response ∷ []) h.2 in
       let f = grown.0 says.0 in
-      (f.1, f.2, joins.0 (subst Together same (stand profile h.0 (facts_of_session ps (answers ++ response ∷ [])) h.1 says.1))),
+      (f.1, f.2, joins.0 (subst Together same (stand profile h.0 (facts_of_session profile.marks ps (answers ++ response ∷ [])) h.1 says.1))),
   λ h. (permitted_together profile ps (answers ++ response ∷ []) small).1 (grown.1 (before.0, h.0, h.1), subst Together (sym same) (joins.1 h.2)),
 )
   where
     new : List Fact
-    new = facts_of (visible_from start.visible ps answers) (position_from Nowhere ps answers) asked response
+    new = facts_of profile.marks (visible_from start.visible ps answers) (position_from Nowhere ps answers) asked response
 
-    same : facts_of_session ps (answers ++ response ∷ []) ≡ facts_of_session ps answers ++ new
-    same = facts_grow start.visible Nowhere ps answers asked response comes
+    same : facts_of_session profile.marks ps (answers ++ response ∷ []) ≡ facts_of_session profile.marks ps answers ++ new
+    same = facts_grow profile.marks start.visible Nowhere ps answers asked response comes
 
-    before : FitsAll profile start.visible ps answers × AllByRecursion (Holds S) (facts_of_session ps answers)
+    before : FitsAll profile start.visible ps answers × AllByRecursion (Holds S) (facts_of_session profile.marks ps answers)
     before = said profile S ps answers run
 
-    joins : Together (facts_of_session ps answers ++ new) ↔ Join (facts_of_session ps answers) new
-    joins = together_more (facts_of_session ps answers) new (stand profile S (facts_of_session ps answers) spool before.1) (answer_agrees (visible_from start.visible ps answers) (position_from Nowhere ps answers) asked response)
+    joins : Together (facts_of_session profile.marks ps answers ++ new) ↔ Join (facts_of_session profile.marks ps answers) new
+    joins = together_more (facts_of_session profile.marks ps answers) new (stand profile S (facts_of_session profile.marks ps answers) spool before.1) (answer_agrees profile.marks (visible_from start.visible ps answers) (position_from Nowhere ps answers) asked response)
 
     grown : FitsAll profile start.visible ps (answers ++ response ∷ []) ↔ (FitsAll profile start.visible ps answers × ((visible_from start.visible ps answers).closed ≡ false) × IsTrue (fits profile (visible_from start.visible ps answers) asked response))
     grown = fitting_grows profile start.visible ps answers asked response comes

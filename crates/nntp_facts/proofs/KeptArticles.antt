@@ -21,8 +21,8 @@ use Rattle.nntp_wire.proofs.ShownMaps.{equal_is}
 use Rattle.nntp_facts.proofs.Maps.{get_in, in_get}
 use Rattle.nntp_facts.proofs.Members.{In}
 use Rattle.nntp_facts.proofs.Stand.{same_itself}
-use Rattle.nntp_facts.proofs.Gives.{any_more, given_append}
-use Rattle.nntp_facts.proofs.SaidOfArticles.{Says, says, head_of_text, body_of_text, or_no, or_none, test_still, given_still, still_kept}
+use Rattle.nntp_facts.proofs.Gives.{any_more, given_append, or_none}
+use Rattle.nntp_facts.proofs.SaidOfArticles.{Says, says, head_of_text, body_of_text, or_no, test_still, given_still, still_kept}
 
 -- ---- the map
 

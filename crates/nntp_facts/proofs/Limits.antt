@@ -1,22 +1,27 @@
 -- The numbers of a group are within the limit.
+use Rattle.std.proofs.lemmas.Bool.Decides.{nat_tests}
+use Rattle.nntp_facts.specs.Part.{estimate_in, is_within}
+use Rattle.nntp_wire.specs.declared.marks.Marks.TheVariants.{Strict}
 use Rattle.std.proofs.Common.{◌≡◌, ℕ, ◌≤◌, ◌<◌, Bool, true, false, cond, ◌&&◌, ◌||◌, ◌==◌, ◌+◌, IsTrue, List, [], ◌∷◌, Option, inl, inr, refl, sym, subst, ◌∙◌, arith}
 use Rattle.std.specs.Prelude.{IsFalse, nat_le, nat_lt}
-use Rattle.std.specs.List.{AllByRecursion}
+use Rattle.std.specs.List.{AllByRecursion, list_any}
 use Rattle.std.specs.Cmp.Lexicographic.{same_text}
-use Rattle.std.proofs.lemmas.Bool.{true≢false, and_parts, or_cases, or_right, eqb-true, leb-true, lt-ltb, cases_lt}
+use Rattle.std.proofs.lemmas.Bool.{true≢false, and_parts, or_cases, or_right, eqb-true, leb-true, lt-ltb, cases_lt, cases_eq, false_from_ne_true}
 use Rattle.nntp_article.specs.Spool.{Name}
 use Rattle.nntp_article.specs.declared.profile.Profile.{Profile}
 use Rattle.nntp_article.specs.Machine.{is_same, is_num, active_fits}
-use Rattle.nntp_facts.specs.Asks.{Ask, Estimates, Bounds, ListsIn, Has, StandsAt, StepsUp, StepsDown, First}
+use Rattle.nntp_facts.specs.Asks.{Ask, Estimates, Bounds, ListsIn, Has, StandsAt, StepsUp, StepsDown}
+use Rattle.nntp_facts.specs.declared.position.Position.TheVariants.{First}
 use Rattle.nntp_facts.specs.Facts.{Fact, ThereIs, Asks, IdAt, GroupsAre}
-use Rattle.nntp_facts.specs.Given.{is_shown_group, asks_in, asks_of, shows, denies, is_shown, is_denied, shows_group}
+use Rattle.nntp_facts.specs.Given.{is_shown_group, asks_in, asks_of, shows, denies, is_shown, is_denied, shows_group, is_end}
 use Rattle.nntp_facts.proofs.Members.{In, all_at, any_in, found_in, to_flat, from_flat}
 use Rattle.nntp_facts.proofs.Stand.{same_itself}
 use Rattle.nntp_facts.proofs.Placed.{IsSelectable, Placed}
 use Rattle.nntp_facts.proofs.Fitting.{IsFitting}
 use Rattle.nntp_wire.specs.Listing.{ActiveValue}
+use Rattle.nntp_wire.specs.declared.marks.Marks.{Marks}
 
-module _ (profile : Profile) (facts : List Fact) (fitting : AllByRecursion (IsFitting profile) facts) (placed : AllByRecursion (Placed facts) facts) where
+module _ (profile : Profile) (facts : List Fact) (how : Marks) (fitting : AllByRecursion (IsFitting profile) facts) (placed : AllByRecursion (Placed how facts) facts) where
   fits : (fact : Fact) → In fact facts → IsFitting profile fact
   fits fact i = all_at (IsFitting profile) fact facts fitting i
 
@@ -44,9 +49,9 @@ module _ (profile : Profile) (facts : List Fact) (fitting : AllByRecursion (IsFi
     where
       by : (fact : Fact) → In fact facts → shows_group name fact ≡ true → is_denied (asks_of name facts) n ≡ true
       by (ThereIs g) j t =
-          let g' : IsSelectable facts name = subst (IsSelectable facts) (same_text g name (sym t)) (all_at (Placed facts) (ThereIs g) facts placed j) in
-          let most : g'.marks.high ≤ profile.limit = fits (Asks name (Estimates g'.marks)) g'.estimated in
-          denied_by name (Asks name (Estimates g'.marks)) g'.estimated (Estimates g'.marks) (in_own name (Estimates g'.marks)) n (or_right (nat_lt n g'.marks.low) _ (lt-ltb g'.marks.high n (omega arith)))
+          let g' : IsSelectable how facts name = subst (IsSelectable how facts) (same_text g name (sym t)) (all_at (Placed how facts) (ThereIs g) facts placed j) in
+          let most : g'.marks.high ≤ profile.limit = (fits (Asks name (Estimates how g'.marks)) g'.estimated).0 in
+          denied_by name (Asks name (Estimates how g'.marks)) g'.estimated (Estimates how g'.marks) (in_own name (Estimates how g'.marks)) n (or_right (nat_lt n g'.marks.low) _ (lt-ltb g'.marks.high n (omega arith)))
       by (GroupsAre p lines) j t =
           let f = found_in (λ line. is_same line.name name) lines t in
           let most = line_within p f.0 (all_at (λ line. IsTrue (active_fits profile p line)) f.0 lines (fits (GroupsAre p lines) j) f.1) in
@@ -84,6 +89,38 @@ module _ (profile : Profile) (facts : List Fact) (fitting : AllByRecursion (IsFi
           let none = subst (λ a. shows a n ≡ true) (sym (only (is_same f.0.name name) (Bounds f.0.low f.0.high) ask f.2)) t in
           absurd (true≢false (sym none))
       by fact h ask i t = absurd i
+
+  -- a strict mark that isn't denied is one, where there is a number
+  num_of_end : (name : Name) (ask : Ask) (n count : ℕ) → IsFitting profile (Asks name ask) → is_end ask n ≡ true → IsTrue (is_within (estimate_in ask) count) → 1 ≤ count → IsFalse (denies ask n) → (1 ≤ n) × (n ≤ profile.limit)
+  num_of_end name (Estimates Strict m) n count h t few some free =
+      let within : count ≤ m.estimate = leb-true count m.estimate few in
+      let low : 1 ≤ m.low = (elim (cases_eq m.low 0) [ inl z ↦ (let e = h.1 z in absurd (omega arith)) | inr ne ↦ omega arith ]) in
+      let most = h.0 in
+      (grind (arith, nat_tests), grind (arith, nat_tests))
+  num_of_end name ask n count h t few some free = cc
+
+  -- and so is one of all
+  pub end_in_limit : (name : Name) (n count : ℕ) → IsTrue (list_any (λ ask. is_end ask n) (asks_of name facts)) → ((ask : Ask) → In ask (asks_of name facts) → IsTrue (is_within (estimate_in ask) count)) → 1 ≤ count
+      → IsFalse (is_denied (asks_of name facts) n) → (1 ≤ n) × (n ≤ profile.limit)
+  end_in_limit name n count t few some free =
+      let f = found_in (λ ask. is_end ask n) (asks_of name facts) t in
+      let g = from_flat (asks_in name) f.0 facts f.1 in
+      let not_denied : IsFalse (denies f.0 n) = false_from_ne_true _ (λ d. true≢false (sym (any_in (λ ask. denies ask n) f.0 (asks_of name facts) f.1 d) ∙ free)) in
+      by g.0 (fits g.0 g.1) f.0 g.2 f.2 (few f.0 f.1) not_denied
+    where
+      only : (b : Bool) (x ask : Ask) → In ask (cond b (x ∷ []) []) → x ≡ ask
+      only true x ask i = elim i [ inl e ↦ e | inr j ↦ absurd j ]
+      only false x ask i = absurd i
+
+      by : (fact : Fact) → IsFitting profile fact → (ask : Ask) → In ask (asks_in name fact) → is_end ask n ≡ true → IsTrue (is_within (estimate_in ask) count) → IsFalse (denies ask n) → (1 ≤ n) × (n ≤ profile.limit)
+      by (Asks g x) h ask i t few free =
+          let same = only (is_same g name) x ask i in
+          num_of_end g ask n count (subst (λ a. IsFitting profile (Asks g a)) same h) t few some free
+      by (IdAt g m id) h ask i t few free = absurd (true≢false (sym (subst (λ a. is_end a n ≡ true) (sym (only (is_same g name) (Has m) ask i)) t)))
+      by (GroupsAre p lines) h ask i t few free =
+          let f = from_flat (λ (line : ActiveValue). cond (is_same line.name name) (Bounds line.low line.high ∷ []) []) ask lines i in
+          absurd (true≢false (sym (subst (λ a. is_end a n ≡ true) (sym (only (is_same f.0.name name) (Bounds f.0.low f.0.high) ask f.2)) t)))
+      by fact h ask i t few free = absurd i
 
   -- so a number that isn't denied is within it
   pub free_in_limit : (name : Name) → IsTrue (is_shown_group facts name) → (n : ℕ) → IsFalse (is_denied (asks_of name facts) n) → n ≤ profile.limit

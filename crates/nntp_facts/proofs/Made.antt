@@ -11,7 +11,7 @@ use Rattle.std.specs.FinMap.{FinMap, get, empty, keys, entries, from_sorted, ent
 use Rattle.nntp_article.specs.Spool.{Spool, Text, Numbers, IsNumber, IsGroup, numbers, Name}
 use Rattle.nntp_article.specs.Machine.{is_same}
 use Rattle.nntp_facts.specs.Facts.{Fact, TextIs}
-use Rattle.nntp_facts.specs.Given.{is_shown, IsOneMore, HasGivenNumbers, asks_of, is_shown_group, first_given, id_shown, gives_article, is_sent, head_in, body_in, plain_head, is_mentioned, invented, unshown_in, unshown_ids, IsUsed, IsFirstFree, AreInvented, IsGiven}
+use Rattle.nntp_facts.specs.Given.{is_known, IsOneMore, HasGivenNumbers, asks_of, is_shown_group, first_given, id_shown, gives_article, is_sent, head_in, body_in, plain_head, is_mentioned, invented, unshown_in, unshown_ids, IsUsed, IsFirstFree, AreInvented, IsGiven}
 use Rattle.nntp_facts.proofs.Members.{In, in_front, in_back, in_cases, in_map, from_map, to_flat, from_flat, any_in, found_in, any_back}
 use Rattle.nntp_facts.proofs.Few.{names_of, shown_name, name_shown}
 use Rattle.nntp_facts.proofs.Stand.{same_itself}
@@ -20,7 +20,7 @@ use Rattle.nntp_facts.proofs.Invented.{invented_number}
 use Rattle.nntp_facts.proofs.Fresh.{mentioned, counted}
 use Rattle.nntp_facts.specs.Readers.{free}
 use Rattle.nntp_facts.proofs.FirstFree.{free_is, free_none}
-use Rattle.nntp_facts.proofs.OneMore.{shown_list, in_shown_list, from_shown_list, more, more_is, more_found}
+use Rattle.nntp_facts.proofs.OneMore.{known_list, in_known_list, from_known_list, more, more_is, more_found}
 use Rattle.nntp_facts.proofs.Maps.{sorted_as, get_in, in_get, key_of, of_key, made_of, get-made_of, in-made_of, key_map, in_key_map, of_key_map}
 use Rattle.nntp_article.specs.Article.{Id}
 
@@ -36,7 +36,7 @@ sent_in fact = []
 module _ (limit : ℕ) (B : ℕ) (facts : List Fact) where
   -- the numbers of a group, with the one more if it is needed
   numbers_of : Name → List ℕ
-  numbers_of name = option_to_list (more limit (asks_of name facts)) ++ shown_list (asks_of name facts)
+  numbers_of name = option_to_list (more limit (asks_of name facts)) ++ known_list (asks_of name facts)
 
   -- those numbers, each once and in order
   number_map : Name → FinMap nat_cmp (List ℕ)
@@ -158,15 +158,15 @@ module _ (limit : ℕ) (B : ℕ) (facts : List Fact) where
       all_keys = ap (map (λ e. e.0)) (entries_group name k) ∙ keys_numbered name k (keys (number_map name))
 
   -- the list has the given numbers
-  number_of_group : (name : Name) (n : ℕ) → ((e : ℕ) → IsOneMore (asks_of name facts) e → e ≤ limit) → In n (numbers_of name) ↔ (IsTrue (is_shown (asks_of name facts) n) ⊎ IsOneMore (asks_of name facts) n)
+  number_of_group : (name : Name) (n : ℕ) → ((e : ℕ) → IsOneMore (asks_of name facts) e → e ≤ limit) → In n (numbers_of name) ↔ (IsTrue (is_known (asks_of name facts) n) ⊎ IsOneMore (asks_of name facts) n)
   unfolding numbers_of
   number_of_group name n low = (
-    λ i. elim (in_cases n (option_to_list (more limit (asks_of name facts))) (shown_list (asks_of name facts)) i) [
+    λ i. elim (in_cases n (option_to_list (more limit (asks_of name facts))) (known_list (asks_of name facts)) i) [
       | inl j ↦ inr (more_is limit (asks_of name facts) n (listed (more limit (asks_of name facts)) j))
-      | inr j ↦ inl (from_shown_list (asks_of name facts) n j)
+      | inr j ↦ inl (from_known_list (asks_of name facts) n j)
     ],
     λ h. elim h [
-      | inl t ↦ in_back n (option_to_list (more limit (asks_of name facts))) _ (in_shown_list (asks_of name facts) n t)
+      | inl t ↦ in_back n (option_to_list (more limit (asks_of name facts))) _ (in_known_list (asks_of name facts) n t)
       | inr x ↦ in_front n (option_to_list (more limit (asks_of name facts))) _ (subst (λ o. In n (option_to_list o)) (sym (more_found limit (asks_of name facts) n x (low n x))) (inl refl))
     ],
   )

@@ -1,4 +1,5 @@
 -- What numbers meet stands together.
+use Rattle.nntp_wire.specs.declared.marks.Marks.TheVariants.{Strict}
 use Rattle.std.proofs.Common.{◌≡◌, ℕ, ◌+◌, ◌<◌, ◌≤◌, ◌⊎◌, Bool, true, false, ◌==◌, not, IsTrue, List, [], ◌∷◌, Option, None, Some, is_some, MatchOption, inl, inr, refl, sym, ap, subst, ◌∙◌, arith, ◌&&◌}
 use Rattle.std.specs.Prelude.{IsFalse, nat_le, nat_lt, IfSome, Contains, cond, ◌-◌}
 use Rattle.std.specs.List.{AllByRecursion, list_any}
@@ -12,8 +13,11 @@ use Rattle.std.specs.Option.{option_map_or}
 use Rattle.std.proofs.lemmas.Bool.Decides.{nat_tests}
 use Rattle.nntp_article.specs.Spool.{Numbers, IsNumber, least, IsNextAbove, IsNextBelow, NoneAbove, NoneBelow, IsInRange}
 use Rattle.nntp_article.specs.Machine.{is_in_range}
-use Rattle.nntp_facts.specs.Asks.{Nowhere, First, Known, current_in, Ask, Meets, Estimates, Bounds, ListsIn, Has, Lacks, StandsAt, StandsNowhere, StepsUp, StepsDown, IsTop, IsBottom}
-use Rattle.nntp_facts.specs.Given.{shows, denies, is_shown, is_denied, Demand, NoDemand, NotEmpty, OnlyOne, SecondIs, Impossible, demand_in, join, demand, wants, IsOneMore, IsGivenNumber, HasGivenNumbers}
+use Rattle.nntp_facts.specs.Asks.{current_in, Ask, Meets, Estimates, Bounds, ListsIn, Has, Lacks, StandsAt, StandsNowhere, StepsUp, StepsDown, IsTop, IsBottom}
+use Rattle.nntp_facts.specs.declared.position.Position.TheVariants.{Nowhere, First, Known}
+use Rattle.nntp_facts.specs.Given.{shows, denies, is_shown, is_denied, demand_in, join, demand, wants, IsOneMore, IsGivenNumber, HasGivenNumbers, says_some, is_end, is_given_end, is_known}
+use Rattle.nntp_facts.specs.declared.demand.Demand.{Demand}
+use Rattle.nntp_facts.specs.declared.demand.Demand.TheVariants.{NoDemand, NotEmpty, OnlyOne, SecondIs, Impossible}
 use Rattle.nntp_facts.proofs.FirstFree.{first_free_once, first_free}
 use Rattle.nntp_facts.specs.Together.{is_possible, MeetsDemand, IsFewFor, AsksStand}
 use Rattle.nntp_facts.proofs.Members.{In, all_at, all_from, any_in, found_in, contains_in, in_contains, every}
@@ -71,7 +75,7 @@ shown_is_number N (StepsDown at m) n h s = subst (IsNumber N) (eqb-true m n s) (
 shown_is_number N ask n h s = cc
 
 number_not_denied : (N : Numbers) (ask : Ask) (n : ℕ) → Meets N ask → IsNumber N n → IsTrue (denies ask n) → ⊥
-number_not_denied N (Estimates m) n h i d = let b = h.1 n i in grind (arith, nat_tests)
+number_not_denied N (Estimates how m) n h i d = let b = h.1 n i in grind (arith, nat_tests)
 number_not_denied N (Bounds low high) n h i d = let b = h n i in grind (arith, nat_tests)
 number_not_denied N (ListsIn r ns) n h i d =
     let p = and_parts (is_in_range r n) (not (list_any (λ m. n == m) ns)) d in
@@ -180,7 +184,7 @@ second_shown (ask ∷ asks) k e =
     one ask k e = cc
 
 -- what is wanted of a number is wanted of each one below it
-wants_less : (d : Demand) (n m : ℕ) → m ≤ n → wants d n ≡ true → wants d m ≡ true
+pub wants_less : (d : Demand) (n m : ℕ) → m ≤ n → wants d n ≡ true → wants d m ≡ true
 wants_less NotEmpty n m le t = refl
 wants_less OnlyOne n m le t = refl
 wants_less (SecondIs k) n m le t = lt-ltb m k (let l = ltb-true n k t in omega arith)
@@ -212,10 +216,10 @@ possible_in N ask h = refl
 
 -- ---- keys
 
--- where no number is unshown, each is shown
-pub any_unshown : (asks : List Ask) (ns : List ℕ) → list_any (λ n. not (is_shown asks n)) ns ≡ false → (n : ℕ) → In n ns → IsTrue (is_shown asks n)
-any_unshown asks ns none n i =
-    elim (cases_Bool (is_shown asks n)) [ inl t ↦ t | inr f ↦ absurd (true≢false (sym (any_in (λ n. not (is_shown asks n)) n ns i (ap not f)) ∙ none)) ]
+-- where no number is unknown, each is known
+pub any_unknown : (asks : List Ask) (ns : List ℕ) → list_any (λ n. not (is_known asks n)) ns ≡ false → (n : ℕ) → In n ns → IsTrue (is_known asks n)
+any_unknown asks ns none n i =
+    elim (cases_Bool (is_known asks n)) [ inl t ↦ t | inr f ↦ absurd (true≢false (sym (any_in (λ n. not (is_known asks n)) n ns i (ap not f)) ∙ none)) ]
 
 -- a number is one of the keys
 pub key_in : (N : Numbers) (n : ℕ) → IsNumber N n → In n (keys N)
@@ -238,6 +242,43 @@ len_replaced G d c there only =
     removed true e = refl
     removed false e = false_from_ne_true _ (λ i. true≢false (sym (unsigned_tied c d ∙ eq-eqb c d (only i)) ∙ e))
 
+-- ---- numbers that are known
+
+-- what is shown is known
+pub shown_known : (asks : List Ask) (n : ℕ) → IsTrue (is_shown asks n) → IsTrue (is_known asks n)
+shown_known asks n s = or_left (is_shown asks n) _ s
+
+-- where it is said that there is a number, there is one
+some_there : (N : Numbers) (ask : Ask) → Meets N ask → says_some ask ≡ true → (n : ℕ) × IsNumber N n
+some_there N (ListsIn r (m ∷ ns)) h t = (m, shown_is_number N (ListsIn r (m ∷ ns)) m h (or_left (m == m) _ (eq-eqb m m refl)))
+some_there N (Has m) h t = (m, h)
+some_there N (StandsAt First m) h t = (m, shown_is_number N (StandsAt First m) m h (eq-eqb m m refl))
+some_there N (StepsUp at m) h t = (m, shown_is_number N (StepsUp at m) m h (eq-eqb m m refl))
+some_there N (StepsDown at m) h t = (m, shown_is_number N (StepsDown at m) m h (eq-eqb m m refl))
+some_there N (IsTop First) h t = let d = meets_demand_in N (IsTop First) h in (d.0, d.1)
+some_there N (IsBottom First) h t = meets_demand_in N (IsBottom First) h
+some_there N ask h t = cc
+
+-- and then strict marks are numbers
+end_is_number : (N : Numbers) (ask : Ask) (n k : ℕ) → Meets N ask → IsNumber N k → is_end ask n ≡ true → IsNumber N n
+end_is_number N (Estimates Strict m) n k h there t =
+    let ends = h.2 k there in
+    elim (or_cases (m.low == n) (m.high == n) t) [ inl e ↦ subst (IsNumber N) (eqb-true m.low n e) ends.0 | inr e ↦ subst (IsNumber N) (eqb-true m.high n e) ends.1 ]
+end_is_number N ask n k h there t = cc
+
+-- what is known is a number
+pub known_are_numbers : (N : Numbers) (asks : List Ask) (n : ℕ) → AllByRecursion (Meets N) asks → IsTrue (is_known asks n) → IsNumber N n
+known_are_numbers N asks n met t =
+    elim (or_cases (is_shown asks n) (is_given_end asks n) t) [
+      | inl s ↦ shown_are_numbers N asks n met s
+      | inr g ↦
+          let p = and_parts (list_any says_some asks) (list_any (λ ask. is_end ask n) asks) g in
+          let f = found_in says_some asks p.0 in
+          let some = some_there N f.0 (all_at (Meets N) f.0 asks met f.1) f.2 in
+          let e = found_in (λ ask. is_end ask n) asks p.1 in
+          end_is_number N e.0 n some.0 (all_at (Meets N) e.0 asks met e.1) some.1 e.2
+    ]
+
 -- there is one more number at most
 pub one_more_once : (asks : List Ask) (e d : ℕ) → IsOneMore asks e → IsOneMore asks d → e ≡ d
 one_more_once asks e d x y = first_free_once (is_denied asks) 1 e d x.first y.first
@@ -245,18 +286,18 @@ one_more_once asks e d x y = first_free_once (is_denied asks) 1 e d x.first y.fi
 -- ---- numbers that meet what is asked
 
 module _ (asks : List Ask) (N : Numbers) (met : AllByRecursion (Meets N) asks) (positive : (n : ℕ) → IsNumber N n → 1 ≤ n) where
-  shown_in_N : (n : ℕ) → IsTrue (is_shown asks n) → IsNumber N n
-  shown_in_N n s = shown_are_numbers N asks n met s
+  known_in_N : (n : ℕ) → IsTrue (is_known asks n) → IsNumber N n
+  known_in_N n s = known_are_numbers N asks n met s
 
   free_in_N : (n : ℕ) → IsNumber N n → IsFalse (is_denied asks n)
   free_in_N n i = false_from_ne_true _ (numbers_not_denied N asks n met i)
 
-  -- the demand wants a number of which it is shown
+  -- the demand wants a number that is known
   is_wanted : ℕ → Bool
-  is_wanted n = is_shown asks n && wants (demand asks) n
+  is_wanted n = is_known asks n && wants (demand asks) n
 
-  -- where no number is shown that is wanted, and one of N is wanted, there is one more
-  one_more : (n : ℕ) → IsNumber N n → wants (demand asks) n ≡ true → ((m : ℕ) → IsTrue (is_shown asks m) → IsFalse (wants (demand asks) m)) → (e : ℕ) × IsOneMore asks e
+  -- where no number is known that is wanted, and one of N is wanted, there is one more
+  one_more : (n : ℕ) → IsNumber N n → wants (demand asks) n ≡ true → ((m : ℕ) → IsTrue (is_known asks m) → IsFalse (wants (demand asks) m)) → (e : ℕ) × IsOneMore asks e
   one_more n i t needed =
       let f = first_free (is_denied asks) 1 n (positive n i) (free_in_N n i) in
       (f.0, record { needed = needed; wanted = wants_less (demand asks) n f.0 f.2 t; first = f.1 })
@@ -266,10 +307,10 @@ module _ (asks : List Ask) (N : Numbers) (met : AllByRecursion (Meets N) asks) (
   unfolding is_wanted
   given_wanted n i t =
       elim (cases_Bool (list_any is_wanted (keys N))) [
-        | inl some ↦ (let f = found_in is_wanted (keys N) some in let p = and_parts (is_shown asks f.0) (wants (demand asks) f.0) f.2 in (f.0, inl p.0, p.1))
+        | inl some ↦ (let f = found_in is_wanted (keys N) some in let p = and_parts (is_known asks f.0) (wants (demand asks) f.0) f.2 in (f.0, inl p.0, p.1))
         | inr none ↦
-            let needed : (m : ℕ) → IsTrue (is_shown asks m) → IsFalse (wants (demand asks) m) = λ m s.
-            false_from_ne_true _ (λ w. true≢false (sym (any_in is_wanted m (keys N) (key_in N m (shown_in_N m s)) (and_from (is_shown asks m) _ s w)) ∙ none)) in
+            let needed : (m : ℕ) → IsTrue (is_known asks m) → IsFalse (wants (demand asks) m) = λ m s.
+            false_from_ne_true _ (λ w. true≢false (sym (any_in is_wanted m (keys N) (key_in N m (known_in_N m s)) (and_from (is_known asks m) _ s w)) ∙ none)) in
             let more = one_more n i t needed in
             (more.0, inr more.1, more.1.wanted)
       ]
@@ -277,7 +318,7 @@ module _ (asks : List Ask) (N : Numbers) (met : AllByRecursion (Meets N) asks) (
   -- given numbers that are wanted are one, where those of N are
   one_wanted : ((a b : ℕ) → IsNumber N a → IsNumber N b → wants (demand asks) a ≡ true → wants (demand asks) b ≡ true → a ≡ b)
       → (m n : ℕ) → IsGivenNumber asks m → IsGivenNumber asks n → wants (demand asks) m ≡ true → wants (demand asks) n ≡ true → m ≡ n
-  one_wanted one m n (inl s) (inl t) a b = one m n (shown_in_N m s) (shown_in_N n t) a b
+  one_wanted one m n (inl s) (inl t) a b = one m n (known_in_N m s) (known_in_N n t) a b
   one_wanted one m n (inl s) (inr x) a b = absurd (true≢false (sym a ∙ x.needed m s))
   one_wanted one m n (inr x) (inl t) a b = absurd (true≢false (sym b ∙ x.needed n t))
   one_wanted one m n (inr x) (inr y) a b = one_more_once asks m n x y
@@ -293,7 +334,7 @@ module _ (asks : List Ask) (N : Numbers) (met : AllByRecursion (Meets N) asks) (
       let wants_below : (n : ℕ) → wants (demand asks) n ≡ nat_lt n k = λ n. ap (λ d. wants d n) e in
       let below : (n : ℕ) → wants (demand asks) n ≡ true → n < k = λ n t. ltb-true n k (sym (wants_below n) ∙ t) in
       let g = given_wanted h.1 h.3 (wants_below h.1 ∙ lt-ltb h.1 k h.2) in
-      (inl (second_shown asks k e), g.0, below g.0 g.2, g.1, λ m l i. one_wanted (λ a b i j s t. h.4 a (below a s) i ∙ sym (h.4 b (below b t) j)) m g.0 i g.1 (wants_below m ∙ lt-ltb m k l) g.2)
+      (inl (shown_known asks k (second_shown asks k e)), g.0, below g.0 g.2, g.1, λ m l i. one_wanted (λ a b i j s t. h.4 a (below a s) i ∙ sym (h.4 b (below b t) j)) m g.0 i g.1 (wants_below m ∙ lt-ltb m k l) g.2)
   demand_given Impossible e h = h
 
   replaced_in_N : (G : Numbers) → HasGivenNumbers asks G → (d c : ℕ) → IsOneMore asks d → IsNumber N c → (n : ℕ) → IsNumber (insert (remove G d) c []) n → IsNumber N n
@@ -307,17 +348,17 @@ module _ (asks : List Ask) (N : Numbers) (met : AllByRecursion (Meets N) asks) (
               | inl e ↦ absurd (not_number (remove G d) n (get-remove nat_cmp_total G d n ∙ ap (λ b. cond b None (get G n)) (unsigned_tied n d ∙ eq-eqb n d e)) kept)
               | inr apart ↦
                   let in_G : IsNumber G n = sym (ap is_some (get-remove nat_cmp_total G d n ∙ ap (λ b. cond b None (get G n)) (unsigned_tied n d ∙ ne_eqb n d apart))) ∙ kept in
-                  elim ((given n).0 in_G) [ inl s ↦ shown_in_N n s | inr y ↦ absurd (apart (one_more_once asks n d y x)) ]
+                  elim ((given n).0 in_G) [ inl s ↦ known_in_N n s | inr y ↦ absurd (apart (one_more_once asks n d y x)) ]
             ]
       ]
 
   -- there are no more given numbers than N's
   pub as_few : (G : Numbers) → HasGivenNumbers asks G → len G ≤ len N
   as_few G given =
-      elim (cases_Bool (list_any (λ n. not (is_shown asks n)) (keys G))) [
-        | inr none ↦ len_le nat_cmp_total G N (λ n i. shown_in_N n (any_unshown asks (keys G) none n (key_in G n i)))
+      elim (cases_Bool (list_any (λ n. not (is_known asks n)) (keys G))) [
+        | inr none ↦ len_le nat_cmp_total G N (λ n i. known_in_N n (any_unknown asks (keys G) none n (key_in G n i)))
         | inl some ↦
-            let f = found_in (λ n. not (is_shown asks n)) (keys G) some in
+            let f = found_in (λ n. not (is_known asks n)) (keys G) some in
             let there = key_is G f.0 f.1 in
             let x : IsOneMore asks f.0 = elim ((given f.0).0 there) [ inl t ↦ absurd (true≢false (sym t ∙ not-true _ f.2)) | inr x ↦ x ] in
             let c = wanted_there (IsNumber N) (demand asks) f.0 (demand_of N asks met) x.wanted in
@@ -327,14 +368,14 @@ module _ (asks : List Ask) (N : Numbers) (met : AllByRecursion (Meets N) asks) (
       ]
 
   few_for : (G : Numbers) → len G ≤ len N → (ask : Ask) → Meets N ask → IsFewFor G ask
-  few_for G le (Estimates m) h = let most = h.0 in omega arith
+  few_for G le (Estimates how m) h = let most = h.0 in omega arith
   few_for G le ask h = tt
 
   -- and so what is asked stands together
   pub asks_stand : AsksStand asks
   asks_stand = record {
     possible = all_from (λ ask. IsTrue (is_possible ask)) asks (λ ask i. possible_in N ask (all_at (Meets N) ask asks met i));
-    not_denied = λ n i. elim i [ inl s ↦ free_in_N n (shown_in_N n s) | inr x ↦ x.first.1 ];
+    not_denied = λ n i. elim i [ inl s ↦ free_in_N n (known_in_N n s) | inr x ↦ x.first.1 ];
     demand_met = demand_given (demand asks) refl (demand_of N asks met);
     few = λ G given. all_from (IsFewFor G) asks (λ ask i. few_for G (as_few G given) ask (all_at (Meets N) ask asks met i));
   }

@@ -17,7 +17,7 @@ use Rattle.nntp_wire.specs.Wildmat.{is_wildmat}
 use Rattle.nntp_wire.specs.Listing.{ActiveValue}
 use Rattle.nntp_article.specs.Spool.{Name}
 use Rattle.nntp_article.specs.Machine.{is_same}
-use Rattle.nntp_facts.specs.Facts.{Fact, ThereIsNo, GroupsAre}
+use Rattle.nntp_facts.specs.Facts.{Fact, GroupsAre}
 use Rattle.nntp_facts.specs.Given.{shows_group, is_shown_group}
 use Rattle.nntp_facts.specs.Together.{denies_group}
 use Rattle.nntp_facts.specs.Kept.{KeptNames, WasAnswered, AreKeptNames}
@@ -147,16 +147,17 @@ just_listed facts p lines count may counted = record {
 }
 
 -- one more name is denied
-pub name_denied : {V : Type 0} (text : V → List ℕ) (facts : List Fact) (old : KeptNames) (ks : List V) (name : V) → old.denied ≡ texts text ks → AreKeptNames facts old
-    → AreKeptNames (facts ++ ThereIsNo (text name) ∷ []) (record { denied = texts text (insert_key (order text) ks name); wildmats = old.wildmats; all_listed = old.all_listed })
-name_denied text facts old ks name is kept = record {
-  wildmats = counted_still facts (ThereIsNo (text name) ∷ []) old kept;
-  all_listed = all_still facts (ThereIsNo (text name) ∷ []) old kept;
+pub name_denied : {V : Type 0} (text : V → List ℕ) (facts more : List Fact) (old : KeptNames) (ks : List V) (name : V) → old.denied ≡ texts text ks → AreKeptNames facts old
+    → ((other : Name) → list_any (denies_group other) more ≡ is_same (text name) other)
+    → AreKeptNames (facts ++ more) (record { denied = texts text (insert_key (order text) ks name); wildmats = old.wildmats; all_listed = old.all_listed })
+name_denied text facts more old ks name is kept denied = record {
+  wildmats = counted_still facts more old kept;
+  all_listed = all_still facts more old kept;
   denied = λ other e.
       let all = is_some old.all_listed in
       let w = list_any (λ e. matches_name e.0 other) old.wildmats in
-      list_any-append (denies_group other) facts (ThereIsNo (text name) ∷ [])
-      ∙ (λ i. kept.denied other (not_before facts (ThereIsNo (text name) ∷ []) other e) i || or_no (is_same (text name) other) i)
+      list_any-append (denies_group other) facts more
+      ∙ (λ i. kept.denied other (not_before facts more other e) i || denied other i)
       ∙ or_rotate (is_same (text name) other) (list_any (λ g. is_same g other) old.denied) all w
       ∙ ap (λ b. b || all || w) (ap (λ ns. is_same (text name) other || list_any (λ g. is_same g other) ns) is ∙ sym (any_put text (λ g. is_same g other) ks name));
 }

@@ -1,6 +1,6 @@
 -- What is added of articles, once an id is noted.
 use Rattle.std.proofs.Common.{◌≡◌, ℕ, Bool, true, false, cond, not, List, [], ◌∷◌, ◌++◌, Option, None, Some, is_some, option_map, MatchOption, refl, sym, ap, subst, ◌∙◌}
-use Rattle.std.specs.Prelude.{◌≢◌, ◌↔◌, IfSome, unwrap_or}
+use Rattle.std.specs.Prelude.{unwrap_or}
 use Rattle.std.specs.Ordering.{nat_cmp}
 use Rattle.std.specs.Cmp.Lexicographic.{slice_cmp, nat_list_cmp_total}
 use Rattle.std.specs.FinMap.{FinMap, get, insert, slice_cmp-IsAntisymmetric, nat_cmp-IsAntisymmetric}
@@ -9,16 +9,13 @@ use Rattle.nntp_wire.proofs.ShownMaps.{insert-same}
 use Rattle.nntp_article.specs.Article.{Id, Line}
 use Rattle.nntp_article.specs.Spool.{Name}
 use Rattle.nntp_facts.specs.Facts.{Fact, IdAt, TextIs, NoArticle}
-use Rattle.nntp_facts.specs.Given.{is_mentioned}
 use Rattle.nntp_facts.specs.Together.{JoinArticles}
-use Rattle.nntp_facts.specs.Kept.{KeptArticle, IsKeptArticle, AreKeptArticles, IsAddedIf, IsFactAdded, may_be}
+use Rattle.nntp_facts.specs.Kept.{KeptArticle, AreKeptArticles, IsAddedIf, IsFactAdded}
 use Rattle.nntp_facts.specs.ArticleView.{known_value}
 use Rattle.nntp_facts.specs.declared.articles.known.Known.{Known}
-use Rattle.nntp_facts.specs.declared.fit.Fit.{Fit}
-use Rattle.nntp_facts.specs.declared.fit.Fit.TheVariants.{Never, Again, New}
 use Rattle.nntp_facts.specs.Articles.{head_sent, body_sent, MayBeSent, denied, unsent, with_sent}
 use Rattle.nntp_facts.proofs.KeptArticles.{with_new, may_stand_known, may_stand_unknown, stands, may_lack_known, may_lack_unknown, lacks, may_send_known, may_send_unknown, sends}
-use Rattle.nntp_facts.proofs.KeptJoins.{tested}
+use Rattle.nntp_facts.proofs.Tests.{tested}
 
 abbrev Articles : Type 0
 Articles = FinMap (slice_cmp nat_cmp) KeptArticle
@@ -33,49 +30,28 @@ same_if_known articles id a b known = ap (λ o. cond (is_some o) articles (inser
 new_if_unknown : (old new : Articles) (id : Id) (a : KeptArticle) → None ≡ get old id → new ≡ insert old id a → new ≡ with_new old id a
 new_if_unknown old new id a unknown is = is ∙ ap (λ o. cond (is_some o) old (insert old id a)) unknown
 
--- what isn't known isn't kept
-pub none_known : {A : Type 0} (known : Option (Known A)) (o : Option KeptArticle) → is_some known ≡ false → o ≡ option_map known_value known → None ≡ o
-none_known None o e was = sym was
-none_known (Some k) o e was = cc
-
--- of an id of which nothing is known, no answer makes mention
-pub unmentioned : (facts : List Fact) (articles : Articles) (id : Id) → AreKeptArticles facts articles → None ≡ get articles id → is_mentioned facts id ≡ false
-unmentioned facts articles id kept unknown = subst (λ o. MatchOption o (is_mentioned facts id ≡ false) (IsKeptArticle facts id)) (sym unknown) (kept id)
-
 -- ---- an id stands at a number
 
 -- of an id of which something is known, nothing changes
-pub there_known : (facts : List Fact) (articles : Articles) (name : Name) (n : ℕ) (id : Id) (a : KeptArticle) (b : Bool) → AreKeptArticles facts articles → Some a ≡ get articles id → b ≡ a.is_denied
+there_known : (facts : List Fact) (articles : Articles) (name : Name) (n : ℕ) (id : Id) (a : KeptArticle) (b : Bool) → AreKeptArticles facts articles → Some a ≡ get articles id → b ≡ a.is_denied
     → IsFactAdded facts (IdAt name n id) articles articles (not b)
 there_known facts articles name n id a b kept known is =
     tested (AreKeptArticles (facts ++ IdAt name n id ∷ [])) (not b) articles (may_stand_known facts articles name n id a b kept known is) (stands facts articles articles name n id (same_if_known articles id a unsent known) kept)
 
--- so where it isn't new, it is added as it fits
-there_again : {A : Type 0} (facts : List Fact) (old new : Articles) (name : Name) (n : ℕ) (id : Id) (known : Option (Known A)) (fit : Fit) → fit ≢ New → AreKeptArticles facts old → get old id ≡ option_map known_value known
-    → (fit ≢ New → new ≡ old) → (fit ≢ New → IfSome known (λ k. may_be fit ≡ not (known_value k).is_denied)) → (is_some known ≡ false ↔ fit ≡ New) → IsFactAdded facts (IdAt name n id) old new (may_be fit)
-there_again facts old new name n id None fit not_new kept was same may absent = absurd (not_new (absent.0 refl))
-there_again facts old new name n id (Some k) fit not_new kept was same may absent =
-    subst (λ b. IsFactAdded facts (IdAt name n id) old new b) (sym (may not_new))
-    (subst (λ m. IsFactAdded facts (IdAt name n id) old m (not (known_value k).is_denied)) (sym (same not_new)) (there_known facts old name n id (known_value k) (known_value k).is_denied kept (sym was) refl))
-
 -- an unknown one is kept
-pub there_unknown : (facts : List Fact) (old new : Articles) (name : Name) (n : ℕ) (id : Id) → AreKeptArticles facts old → None ≡ get old id → new ≡ insert old id unsent
+there_unknown : (facts : List Fact) (old new : Articles) (name : Name) (n : ℕ) (id : Id) → AreKeptArticles facts old → None ≡ get old id → new ≡ insert old id unsent
     → IsFactAdded facts (IdAt name n id) old new true
 there_unknown facts old new name n id kept unknown is =
     let joins : JoinArticles facts (IdAt name n id ∷ []) = may_stand_unknown facts old name n id kept unknown in
     (joins, stands facts old new name n id (new_if_unknown old new id unsent unknown is) kept joins)
 
--- an id is kept, if it is new, and else nothing changes
-pub there_either : {A : Type 0} (facts : List Fact) (old new : Articles) (name : Name) (n : ℕ) (id : Id) (known : Option (Known A)) (fit : Fit) → AreKeptArticles facts old → get old id ≡ option_map known_value known
-    → (fit ≢ New → new ≡ old) → (fit ≢ New → IfSome known (λ k. may_be fit ≡ not (known_value k).is_denied)) → (fit ≡ New → new ≡ insert old id unsent) → (is_some known ≡ false ↔ fit ≡ New)
-    → IsFactAdded facts (IdAt name n id) old new (may_be fit)
-there_either {A = A} facts old new name n id known New kept was same may is absent = by known was (absent.1 refl)
-  where
-    by : (o : Option (Known A)) → get old id ≡ option_map known_value o → is_some o ≡ false → IsFactAdded facts (IdAt name n id) old new true
-    by None was e = there_unknown facts old new name n id kept (sym was) (is refl)
-    by (Some k) was e = cc
-there_either facts old new name n id known Never kept was same may is absent = there_again facts old new name n id known Never (λ e. cc) kept was same may absent
-there_either facts old new name n id known Again kept was same may is absent = there_again facts old new name n id known Again (λ e. cc) kept was same may absent
+-- an id is kept, if nothing is known of it, and else nothing changes
+pub there_either : {A Put Same : Type 0} (facts : List Fact) (old new : Articles) (name : Name) (n : ℕ) (id : Id) (known : Option (Known A)) (may : Bool) → AreKeptArticles facts old → get old id ≡ option_map known_value known
+    → MatchOption known ((may ≡ true) × Put) (λ k. (may ≡ not (known_value k).is_denied) × Same) → (Put → new ≡ insert old id unsent) → (Same → new ≡ old) → IsFactAdded facts (IdAt name n id) old new may
+there_either facts old new name n id None may kept was done put same = subst (IsFactAdded facts (IdAt name n id) old new) (sym done.0) (there_unknown facts old new name n id kept (sym was) (put done.1))
+there_either facts old new name n id (Some k) may kept was done put same =
+    subst (IsFactAdded facts (IdAt name n id) old new) (sym done.0)
+    (subst (λ m. IsFactAdded facts (IdAt name n id) old m (not (known_value k).is_denied)) (sym (same done.1)) (there_known facts old name n id (known_value k) (known_value k).is_denied kept (sym was) refl))
 
 -- ---- an id has no article
 

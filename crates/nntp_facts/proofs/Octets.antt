@@ -150,8 +150,8 @@ explained_not_bad profile S client server n k x (y, none) =
 pub explained_or_bad : (profile : Profile) (client server : List ℕ) → length server < 2 ^ 210 → ((S : Spool) × (n : ℕ) × Explains profile S client server n) ⊎ ((k : ℕ) × Bad profile client server k)
 explained_or_bad profile client server small =
     let r = read (prompts_of client) server in
-    let few : size (facts_of_session (prompts_of client) r.answers) < 2 ^ 210 = (
-    let a = session_size (prompts_of client) r.answers in let b = light (prompts_of client) r.answers r.spelled r.is in let c = ap length r.whole ∙ length-append r.spelled r.rest in omega arith) in
+    let few : size (facts_of_session profile.marks (prompts_of client) r.answers) < 2 ^ 210 = (
+    let a = session_size profile.marks (prompts_of client) r.answers in let b = light (prompts_of client) r.answers r.spelled r.is in let c = ap length r.whole ∙ length-append r.spelled r.rest in omega arith) in
     elim (permitted_or_bad profile (prompts_of client) r.answers few) [
       | inl (S, spool, run) ↦ all S spool run r.rest r.whole
       | inr (k, (within, (S, spool, run), none)) ↦

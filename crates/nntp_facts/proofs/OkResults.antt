@@ -16,8 +16,3 @@ on_both (Err e) f p q = tt
 pub if_ok : {A E : Type 0} {P Q : A → Type 0} (r : Result A E) → ((x : A) → P x → Q x) → IfOk r P → IfOk r Q
 if_ok (Ok x) f p = f x p
 if_ok (Err e) f p = tt
-
--- the same of four things
-pub if_four : {A E : Type 0} {P Q R S T : A → Type 0} (r : Result A E) → ((x : A) → P x → Q x → R x → S x → T x) → IfOk r P → IfOk r Q → IfOk r R → IfOk r S → IfOk r T
-if_four (Ok x) f p q r s = f x p q r s
-if_four (Err e) f p q r s = tt

@@ -1,26 +1,18 @@
 -- Facts of one group: what they ask of its numbers, and the id that they give at one of them.
-use Rattle.std.proofs.Common.{◌≡◌, ℕ, Bool, true, false, ◌&&◌, ◌==◌, cond, List, [], ◌++◌, Option, None, Some, inl, inr, refl, sym, ap, subst, ◌∙◌}
+use Rattle.std.proofs.Common.{◌≡◌, ℕ, Bool, true, false, ◌&&◌, ◌==◌, cond, List, [], Option, None, Some, inl, inr, refl, sym, ap, subst, ◌∙◌}
 use Rattle.std.specs.Prelude.{IfSome, ◌↔◌}
-use Rattle.std.specs.List.{list_any}
-use Rattle.std.specs.Option.{option_or}
-use Rattle.std.specs.FinMap.{FinMap, get, insert, get-insert}
 use Rattle.std.specs.Ordering.{nat_cmp, eq_by_cmp}
-use Rattle.std.specs.Cmp.{nat_cmp_total, unsigned_tied, IsTotalOrder}
-use Rattle.std.specs.declared.cmp.Ordering.{Ordering}
-use Rattle.std.specs.Cmp.Lexicographic.{slice_cmp, same_text, nat_list_cmp_total, texts_ties, nat_list_eq_equiv}
-use Rattle.std.proofs.lemmas.Bool.{and_parts, and_from, eqb-true, eq-eqb, or_left, cases_eq, ne_eqb}
-use Rattle.std.proofs.lemmas.List.Folds.{list_any-append}
+use Rattle.std.specs.Cmp.{unsigned_tied}
+use Rattle.std.specs.Cmp.Lexicographic.{slice_cmp, same_text, texts_ties, nat_list_eq_equiv}
+use Rattle.std.proofs.lemmas.Bool.{and_parts, and_from, eqb-true, eq-eqb, cases_eq, ne_eqb}
 use Rattle.nntp_article.specs.Article.{Id}
 use Rattle.nntp_article.specs.Spool.{Name}
 use Rattle.nntp_article.specs.Machine.{is_same}
 use Rattle.nntp_facts.specs.Asks.{Ask}
 use Rattle.nntp_facts.specs.Facts.{Fact}
-use Rattle.nntp_facts.specs.Given.{asks_of, shows_group, is_shown_group, first_given, id_in}
+use Rattle.nntp_facts.specs.Given.{asks_of, first_given, id_in}
 use Rattle.nntp_facts.specs.Together.{number_in, GiveSame, JoinIds}
-use Rattle.nntp_facts.specs.Summary.{Summary, IsSummary}
-use Rattle.nntp_facts.specs.Kept.{KeptGroup, told, IsKeptGroup}
-use Rattle.nntp_facts.proofs.Gives.{given_append, given_silent}
-use Rattle.nntp_facts.proofs.Joined.{asks_append}
+use Rattle.nntp_facts.specs.Kept.{told, MayShow, id_of, place_of}
 
 pub same_self : (xs : List ℕ) → is_same xs xs ≡ true
 same_self xs = nat_list_eq_equiv.refl xs
@@ -70,6 +62,36 @@ id_joins facts more here n id is = (
   },
 )
 
+-- ---- or none
+
+-- the facts give this id at its number of the group, if there is one, and no other
+pub record GivesId (here : Name) (id : Option (ℕ × Id)) (more : List Fact) : Type 0 where
+  pub ids : (name : Name) (m : ℕ) → first_given (id_in name m) more ≡ cond (is_same here name) (id_of id m) None
+  pub places : (name : Name) (i : Id) → first_given (number_in name i) more ≡ cond (is_same here name) (place_of id i) None
+
+both_if : {A : Type 0} (a b : Bool) (x : A) → cond a (cond b (Some x) None) None ≡ cond (a && b) (Some x) None
+both_if true b x = refl
+both_if false b x = refl
+
+none_if : {A : Type 0} (b : Bool) → cond {A = Option A} b None None ≡ None
+none_if true = refl
+none_if false = refl
+
+-- it joins exactly if its number may have it
+pub gives_joins : (facts more : List Fact) (here : Name) (id : Option (ℕ × Id)) → GivesId here id more → JoinIds facts more ↔ MayShow (told facts here) id
+gives_joins facts more here None is = (
+  λ j. tt,
+  λ _. record {
+    ids = λ name n. nothing_same (id_in name n) (is.ids name n ∙ none_if (is_same here name));
+    ids_once = λ name i. nothing_same (number_in name i) (is.places name i ∙ none_if (is_same here name));
+  },
+)
+  where
+    nothing_same : {A : Type 0} (f : Fact → Option A) → first_given f more ≡ None → GiveSame f facts more
+    nothing_same f none = rw none tt
+gives_joins facts more here (Some e) is =
+    id_joins facts more here e.0 e.1 (record { ids = λ name m. is.ids name m ∙ both_if (is_same here name) (e.0 == m) e.1; places = λ name i. is.places name i ∙ both_if (is_same here name) (is_same e.1 i) e.0 })
+
 -- ---- the same key, either way
 
 pub flip_number : (k n : ℕ) → eq_by_cmp nat_cmp k n ≡ (n == k)
@@ -81,7 +103,3 @@ flip_number k n = elim (cases_eq n k) [
 -- the same octets, either way
 pub flip_text : (i id : Id) → eq_by_cmp (slice_cmp nat_cmp) i id ≡ is_same id i
 flip_text i id = sym (texts_ties i id) ∙ nat_list_eq_equiv.symm i id
-
--- a group that was shown is
-pub shown_still : (facts more : List Fact) (here : Name) → is_shown_group facts here ≡ true → is_shown_group (facts ++ more) here ≡ true
-shown_still facts more here s = list_any-append (shows_group here) facts more ∙ or_left (is_shown_group facts here) (list_any (shows_group here) more) s

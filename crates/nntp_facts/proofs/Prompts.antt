@@ -1,4 +1,5 @@
 -- Prompts behind those that are answered: they change nothing.
+use Rattle.nntp_wire.specs.declared.marks.Marks.{Marks}
 use Rattle.std.proofs.Common.{◌≡◌, ◌↔◌, ℕ, ◌+◌, ◌≤◌, List, [], ◌∷◌, ◌++◌, length, map, Some, refl, ap, ◌∙◌, arith}
 use Rattle.std.proofs.lemmas.List.{map-append}
 use Rattle.nntp_wire.specs.Command.{request_of}
@@ -9,7 +10,8 @@ use Rattle.nntp_wire.proofs.StreamLemmas.{lines-joined}
 use Rattle.nntp_article.specs.declared.profile.Profile.{Profile}
 use Rattle.nntp_article.specs.Spool.{Spool}
 use Rattle.nntp_article.specs.Machine.{Visible, State, Run, start, visible_after}
-use Rattle.nntp_facts.specs.Asks.{Position, position_after}
+use Rattle.nntp_facts.specs.Asks.{position_after}
+use Rattle.nntp_facts.specs.declared.position.Position.{Position}
 use Rattle.nntp_facts.specs.Facts.{facts_of, facts_from}
 use Rattle.nntp_facts.specs.Classes.{visible_from, position_from, asked_next}
 use Rattle.nntp_facts.specs.Permits.{SomePermits}
@@ -78,12 +80,12 @@ permitted_longer profile ps qs answers le = (
 )
 
 -- what is said is said by the answers' prompts alone
-pub facts_longer : (v : Visible) (at : Position) (ps qs : List Asked) (answers : List Response) → length answers ≤ length ps → facts_from v at (ps ++ qs) answers ≡ facts_from v at ps answers
-facts_longer v at [] [] [] le = refl
-facts_longer v at [] (q ∷ qs) [] le = refl
-facts_longer v at [] qs (a ∷ answers) le = absurd (omega arith)
-facts_longer v at (p ∷ ps) qs [] le = refl
-facts_longer v at (p ∷ ps) qs (a ∷ answers) le = ap (λ rest. facts_of v at p a ++ rest) (facts_longer (visible_after v p a) (position_after at p a) ps qs answers (omega arith))
+pub facts_longer : (how : Marks) (v : Visible) (at : Position) (ps qs : List Asked) (answers : List Response) → length answers ≤ length ps → facts_from how v at (ps ++ qs) answers ≡ facts_from how v at ps answers
+facts_longer how v at [] [] [] le = refl
+facts_longer how v at [] (q ∷ qs) [] le = refl
+facts_longer how v at [] qs (a ∷ answers) le = absurd (omega arith)
+facts_longer how v at (p ∷ ps) qs [] le = refl
+facts_longer how v at (p ∷ ps) qs (a ∷ answers) le = ap (λ rest. facts_of how v at p a ++ rest) (facts_longer how (visible_after v p a) (position_after at p a) ps qs answers (omega arith))
 
 -- the one behind them is asked next
 pub next_behind : (ps more : List Asked) (asked : Asked) (answers : List Response) → length ps ≡ length answers → asked_next (ps ++ asked ∷ more) answers ≡ Some asked

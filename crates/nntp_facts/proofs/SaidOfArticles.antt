@@ -1,26 +1,23 @@
 -- What facts say of articles, and what is kept of that.
-use Rattle.std.proofs.Common.{◌≡◌, ℕ, Bool, true, false, cond, ◌||◌, not, IsTrue, List, [], ◌∷◌, ◌++◌, Option, None, Some, is_some, refl, sym, ap, subst, ◌∙◌}
+use Rattle.std.proofs.Common.{◌≡◌, Bool, true, false, cond, ◌||◌, not, IsTrue, List, [], ◌∷◌, ◌++◌, Option, None, Some, is_some, refl, sym, ap, subst, ◌∙◌}
 use Rattle.std.specs.Prelude.{MatchOption, option_and_then}
 use Rattle.std.specs.List.{list_any}
 use Rattle.std.specs.Option.{option_or, option_map_or}
 use Rattle.std.specs.Cmp.Lexicographic.{slice_cmp}
 use Rattle.std.specs.Ordering.{nat_cmp}
-use Rattle.std.specs.FinMap.{FinMap, get, empty, get-empty}
+use Rattle.std.specs.FinMap.{FinMap, get}
 use Rattle.std.proofs.lemmas.Bool.{true≢false}
 use Rattle.nntp_wire.specs.declared.command.What.{What}
 use Rattle.nntp_wire.specs.declared.command.What.TheVariants.{Article, Head, Body}
 use Rattle.nntp_article.specs.Article.{Id, Line}
-use Rattle.nntp_article.specs.Spool.{Name}
 use Rattle.nntp_article.specs.Machine.{is_same}
-use Rattle.nntp_facts.specs.Asks.{Ask}
-use Rattle.nntp_wire.specs.Listing.{ActiveValue}
-use Rattle.nntp_facts.specs.Facts.{Fact, ThereIs, ThereIsNo, Asks, IdAt, TextIs, NoArticle, GroupsAre}
+use Rattle.nntp_facts.specs.Facts.{Fact, IdAt, TextIs, NoArticle}
 use Rattle.nntp_facts.specs.Given.{mentions, is_mentioned, gives_article, is_sent, first_given, head_in, body_in}
 use Rattle.nntp_facts.specs.Together.{shows_article, denies_article}
 use Rattle.nntp_facts.specs.Kept.{KeptArticle, IsKeptArticle, AreKeptArticles}
 use Rattle.nntp_facts.specs.Articles.{head_sent, body_sent}
 use Rattle.nntp_facts.proofs.Members.{any_in, found_in}
-use Rattle.nntp_facts.proofs.Gives.{any_more, given_append}
+use Rattle.nntp_facts.proofs.Gives.{any_more, given_append, or_none}
 
 -- ---- what one fact says of an id
 
@@ -139,10 +136,6 @@ kept_where_said facts articles said = λ id. by (get articles id) id (said id)
 pub or_no : (b : Bool) → (b || false) ≡ b
 or_no true = refl
 or_no false = refl
-
-pub or_none : {A : Type 0} (o : Option A) → option_or o None ≡ o
-or_none None = refl
-or_none (Some x) = refl
 
 -- a fact that doesn't pass the test
 pub test_still : (p : Fact → Bool) (facts : List Fact) (fact : Fact) → p fact ≡ false → list_any p (facts ++ fact ∷ []) ≡ list_any p facts

@@ -6,24 +6,27 @@ use Rattle.std.specs.FinMap.{len, insert}
 use Rattle.std.proofs.lemmas.Bool.{true≢false, and_parts, and_from, false_from_ne_true, ltb-true, lt-ltb, le-leb, leb-true}
 use Rattle.nntp_article.specs.Spool.{Numbers, IsNumber}
 use Rattle.nntp_facts.specs.Asks.{Ask, Estimates}
-use Rattle.nntp_facts.specs.Given.{is_shown, is_denied, Demand, NoDemand, NotEmpty, OnlyOne, SecondIs, Impossible, demand, wants, IsOneMore, IsGivenNumber, HasGivenNumbers}
+use Rattle.nntp_facts.specs.Given.{is_known, is_denied, demand, wants, IsOneMore, IsGivenNumber, HasGivenNumbers}
+use Rattle.nntp_facts.specs.declared.demand.Demand.{Demand}
+use Rattle.nntp_facts.specs.declared.demand.Demand.TheVariants.{NoDemand, NotEmpty, OnlyOne, SecondIs, Impossible}
 use Rattle.nntp_facts.specs.Together.{is_possible, MeetsDemand, IsFewFor, AsksStand}
-use Rattle.nntp_facts.specs.Summary.{estimate_in, is_within, is_within_all, Finds, FirstFree, has_room, is_settled, Looks}
+use Rattle.nntp_facts.specs.Part.{estimate_in, is_within, is_within_all}
+use Rattle.nntp_facts.specs.Summary.{Finds, FirstFree, has_room, is_settled, Looks}
 use Rattle.nntp_facts.specs.declared.shown.Found.{Found}
 use Rattle.nntp_facts.specs.declared.shown.Found.TheVariants.{Absent, Single, Several}
 use Rattle.nntp_facts.proofs.FirstFree.{first_free_once}
 use Rattle.nntp_facts.proofs.Counted.{none_more, one_more_given, one_more_counted, as_many_given, more_meets}
 use Rattle.nntp_facts.proofs.GivenNumbers.{same_demand}
-use Rattle.nntp_facts.proofs.MetNumbers.{second_shown, wanted_there}
+use Rattle.nntp_facts.proofs.MetNumbers.{second_shown, shown_known, wanted_there}
 
 -- ---- estimates
 
 few_for_one : (N : Numbers) (ask : Ask) → IsTrue (is_within (estimate_in ask) (len N)) → IsFewFor N ask
-few_for_one N (Estimates m) t = leb-true (len N) m.estimate t
+few_for_one N (Estimates how m) t = leb-true (len N) m.estimate t
 few_for_one N ask t = tt
 
-within_one : (N : Numbers) (ask : Ask) → IsFewFor N ask → is_within (estimate_in ask) (len N) ≡ true
-within_one N (Estimates m) h = le-leb (len N) m.estimate h
+pub within_one : (N : Numbers) (ask : Ask) → IsFewFor N ask → is_within (estimate_in ask) (len N) ≡ true
+within_one N (Estimates how m) h = le-leb (len N) m.estimate h
 within_one N ask h = refl
 
 -- as few as each ask estimates
@@ -37,9 +40,9 @@ within_all N (ask ∷ asks) h = and_from (is_within (estimate_in ask) (len N)) (
 
 -- ---- the demand
 
--- nothing that is shown is denied
+-- nothing that is known is denied
 abbrev pub AreApart : List Ask → Type 0
-AreApart asks = (n : ℕ) → IsTrue (is_shown asks n) → IsFalse (is_denied asks n)
+AreApart asks = (n : ℕ) → IsTrue (is_known asks n) → IsFalse (is_denied asks n)
 
 -- each ask can be met
 abbrev pub ArePossible : List Ask → Type 0
@@ -48,11 +51,11 @@ ArePossible asks = AllByRecursion (λ ask. IsTrue (is_possible ask)) asks
 module _ (asks : List Ask) where
   -- what is shown
   abbrev Shown : ℕ → Type 0
-  Shown n = IsTrue (is_shown asks n)
+  Shown n = IsTrue (is_known asks n)
 
   -- there is a map of what is shown, with so many
   abbrev Counted : ℕ → Type 0
-  Counted count = (M : Numbers) × ((n : ℕ) → IsNumber M n ↔ IsTrue (is_shown asks n)) × (len M ≡ count)
+  Counted count = (M : Numbers) × ((n : ℕ) → IsNumber M n ↔ IsTrue (is_known asks n)) × (len M ≡ count)
 
   -- where the shown numbers meet the demand, there is no more
   pub no_more : MeetsDemand (demand asks) Shown → (e : ℕ) → IsOneMore asks e → ⊥
@@ -116,19 +119,19 @@ module _ (asks : List Ask) where
       by NotEmpty is (n, inr x) = more n x
       by OnlyOne is (n, inl s, once) = shown (subst (λ d. MeetsDemand d Shown) (sym is) (n, s, λ m t. once m (inl t)))
       by OnlyOne is (n, inr x, once) = more n x
-      by (SecondIs k) is (second, n, below, inl s, once) = shown (subst (λ d. MeetsDemand d Shown) (sym is) (second_shown asks k is, n, below, s, λ m l t. once m l (inl t)))
+      by (SecondIs k) is (second, n, below, inl s, once) = shown (subst (λ d. MeetsDemand d Shown) (sym is) (shown_known asks k (second_shown asks k is), n, below, s, λ m l t. once m l (inl t)))
       by (SecondIs k) is (second, n, below, inr x, once) = more n x
       by Impossible is met = absurd met
 
 -- ---- the test
 
 -- a shown number that is wanted is found
-found_is : (asks : List Ask) (d : Demand) (n : ℕ) → IsTrue (is_shown asks n) → wants d n ≡ true → ((m : ℕ) → (is_shown asks m && wants d m) ≡ false) → ⊥
-found_is asks d n s w none = true≢false (sym (and_from (is_shown asks n) (wants d n) s w) ∙ none n)
+found_is : (asks : List Ask) (d : Demand) (n : ℕ) → IsTrue (is_known asks n) → wants d n ≡ true → ((m : ℕ) → (is_known asks m && wants d m) ≡ false) → ⊥
+found_is asks d n s w none = true≢false (sym (and_from (is_known asks n) (wants d n) s w) ∙ none n)
 
 module _ (asks : List Ask) (c : ℕ) (e : Option ℕ) (within : (n : ℕ) → is_within e n ≡ is_within_all asks n) where
   -- room for one more where nothing is found
-  more_of_room : (d : Demand) → d ≡ demand asks → ((n : ℕ) → (is_shown asks n && wants d n) ≡ false) → (f : Option ℕ) → FirstFree (is_denied asks) f → IsTrue (has_room d f c e) → Ways asks c
+  more_of_room : (d : Demand) → d ≡ demand asks → ((n : ℕ) → (is_known asks n && wants d n) ≡ false) → (f : Option ℕ) → FirstFree (is_denied asks) f → IsTrue (has_room d f c e) → Ways asks c
   more_of_room d is none None free t = cc
   more_of_room d is none (Some n) free t =
       let p = and_parts (wants d n) (is_within e (c + 1)) t in
@@ -148,38 +151,38 @@ module _ (asks : List Ask) (c : ℕ) (e : Option ℕ) (within : (n : ℕ) → is
       and_from (wants d m) (is_within e (c + 1)) (ap (λ d. wants d m) is ∙ ap (wants (demand asks)) same ∙ x.wanted) (within (c + 1) ∙ few)
 
   -- one more isn't needed where a wanted number is shown
-  not_needed : (d : Demand) → d ≡ demand asks → (n : ℕ) → (is_shown asks n && wants d n) ≡ true → (m : ℕ) → IsOneMore asks m → ⊥
+  not_needed : (d : Demand) → d ≡ demand asks → (n : ℕ) → (is_known asks n && wants d n) ≡ true → (m : ℕ) → IsOneMore asks m → ⊥
   not_needed d is n t m x =
-      let p = and_parts (is_shown asks n) (wants d n) t in
+      let p = and_parts (is_known asks n) (wants d n) t in
       true≢false (sym p.1 ∙ ap (λ d. wants d n) is ∙ x.needed n p.0)
 
   module _ (f : Option ℕ) (free : FirstFree (is_denied asks) f) where
     -- the test that passes tells the way
-    way : (d : Demand) → d ≡ demand asks → (w : Found) → Finds (λ n. is_shown asks n && wants d n) w → IsTrue (is_settled d w f c e) → Ways asks c
-    way NoDemand is w found t = ByShown (subst (λ d. MeetsDemand d (λ n. IsTrue (is_shown asks n))) is tt) (sym (within c) ∙ t)
+    way : (d : Demand) → d ≡ demand asks → (w : Found) → Finds (λ n. is_known asks n && wants d n) w → IsTrue (is_settled d w f c e) → Ways asks c
+    way NoDemand is w found t = ByShown (subst (λ d. MeetsDemand d (λ n. IsTrue (is_known asks n))) is tt) (sym (within c) ∙ t)
     way Impossible is w found t = cc
     way NotEmpty is Absent found t = more_of_room NotEmpty is found f free t
     way OnlyOne is Absent found t = more_of_room OnlyOne is found f free t
     way (SecondIs k) is Absent found t = more_of_room (SecondIs k) is found f free t
     way NotEmpty is Single found t =
-        ByShown (subst (λ d. MeetsDemand d (λ n. IsTrue (is_shown asks n))) is (found.0, (and_parts (is_shown asks found.0) true found.1).0)) (sym (within c) ∙ t)
+        ByShown (subst (λ d. MeetsDemand d (λ n. IsTrue (is_known asks n))) is (found.0, (and_parts (is_known asks found.0) true found.1).0)) (sym (within c) ∙ t)
     way NotEmpty is Several found t =
-        ByShown (subst (λ d. MeetsDemand d (λ n. IsTrue (is_shown asks n))) is (found.0, (and_parts (is_shown asks found.0) true found.3).0)) (sym (within c) ∙ t)
+        ByShown (subst (λ d. MeetsDemand d (λ n. IsTrue (is_known asks n))) is (found.0, (and_parts (is_known asks found.0) true found.3).0)) (sym (within c) ∙ t)
     way OnlyOne is Single (n, here, once) t =
-        ByShown (subst (λ d. MeetsDemand d (λ n. IsTrue (is_shown asks n))) is (n, (and_parts (is_shown asks n) true here).0, λ m s. once m (and_from (is_shown asks m) true s refl))) (sym (within c) ∙ t)
+        ByShown (subst (λ d. MeetsDemand d (λ n. IsTrue (is_known asks n))) is (n, (and_parts (is_known asks n) true here).0, λ m s. once m (and_from (is_known asks m) true s refl))) (sym (within c) ∙ t)
     way (SecondIs k) is Single (n, here, once) t =
-        let p = and_parts (is_shown asks n) (wants (SecondIs k) n) here in
-        ByShown (subst (λ d. MeetsDemand d (λ n. IsTrue (is_shown asks n))) is
-        (second_shown asks k (sym is), n, ltb-true n k p.1, p.0, λ m l s. once m (and_from (is_shown asks m) (wants (SecondIs k) m) s (lt-ltb m k l))))
+        let p = and_parts (is_known asks n) (wants (SecondIs k) n) here in
+        ByShown (subst (λ d. MeetsDemand d (λ n. IsTrue (is_known asks n))) is
+        (shown_known asks k (second_shown asks k (sym is)), n, ltb-true n k p.1, p.0, λ m l s. once m (and_from (is_known asks m) (wants (SecondIs k) m) s (lt-ltb m k l))))
         (sym (within c) ∙ t)
     way OnlyOne is Several found t = cc
     way (SecondIs k) is Several found t = cc
 
     -- and the way tells that it passes
-    test : (d : Demand) → d ≡ demand asks → (w : Found) → Finds (λ n. is_shown asks n && wants d n) w → Ways asks c → is_settled d w f c e ≡ true
+    test : (d : Demand) → d ≡ demand asks → (w : Found) → Finds (λ n. is_known asks n && wants d n) w → Ways asks c → is_settled d w f c e ≡ true
     test d is w found (ByMore n x few) = by d is w found
       where
-        by : (d : Demand) → d ≡ demand asks → (w : Found) → Finds (λ n. is_shown asks n && wants d n) w → is_settled d w f c e ≡ true
+        by : (d : Demand) → d ≡ demand asks → (w : Found) → Finds (λ n. is_known asks n && wants d n) w → is_settled d w f c e ≡ true
         by NoDemand is w found = absurd (true≢false (sym x.wanted ∙ sym (ap (λ d. wants d n) is)))
         by Impossible is w found = absurd (true≢false (sym x.wanted ∙ sym (ap (λ d. wants d n) is)))
         by NotEmpty is Absent found = room_of_more NotEmpty is f free n x few
@@ -191,12 +194,12 @@ module _ (asks : List Ask) (c : ℕ) (e : Option ℕ) (within : (n : ℕ) → is
         by OnlyOne is Several found = absurd (not_needed OnlyOne is found.0 found.3 n x)
         by (SecondIs k) is Single found = absurd (not_needed (SecondIs k) is found.0 found.1 n x)
         by (SecondIs k) is Several found = absurd (not_needed (SecondIs k) is found.0 found.3 n x)
-    test d is w found (ByShown met few) = by d w found (subst (λ d. MeetsDemand d (λ n. IsTrue (is_shown asks n))) (sym is) met)
+    test d is w found (ByShown met few) = by d w found (subst (λ d. MeetsDemand d (λ n. IsTrue (is_known asks n))) (sym is) met)
       where
         enough : is_within e c ≡ true
         enough = within c ∙ few
 
-        by : (d : Demand) → (w : Found) → Finds (λ n. is_shown asks n && wants d n) w → MeetsDemand d (λ n. IsTrue (is_shown asks n)) → is_settled d w f c e ≡ true
+        by : (d : Demand) → (w : Found) → Finds (λ n. is_known asks n && wants d n) w → MeetsDemand d (λ n. IsTrue (is_known asks n)) → is_settled d w f c e ≡ true
         by NoDemand w found met = enough
         by Impossible w found met = absurd met
         by NotEmpty Absent found met = absurd (found_is asks NotEmpty met.0 met.1 refl found)
@@ -207,13 +210,13 @@ module _ (asks : List Ask) (c : ℕ) (e : Option ℕ) (within : (n : ℕ) → is
         by OnlyOne Single found met = enough
         by (SecondIs k) Single found met = enough
         by OnlyOne Several (n, m, apart, a, b) met =
-            absurd (apart (met.2 n (and_parts (is_shown asks n) true a).0 ∙ sym (met.2 m (and_parts (is_shown asks m) true b).0)))
+            absurd (apart (met.2 n (and_parts (is_known asks n) true a).0 ∙ sym (met.2 m (and_parts (is_known asks m) true b).0)))
         by (SecondIs k) Several (n, m, apart, a, b) met =
-            let p = and_parts (is_shown asks n) (wants (SecondIs k) n) a in
-            let q = and_parts (is_shown asks m) (wants (SecondIs k) m) b in
+            let p = and_parts (is_known asks n) (wants (SecondIs k) n) a in
+            let q = and_parts (is_known asks m) (wants (SecondIs k) m) b in
             absurd (apart (met.4 n (ltb-true n k p.1) p.0 ∙ sym (met.4 m (ltb-true m k q.1) q.0)))
 
--- where nothing that is shown is denied, and each ask can be met, all stands together exactly if the test passes
+-- where nothing that is known is denied, and each ask can be met, all stands together exactly if the test passes
 pub settled : (asks : List Ask) (d : Demand) (w : Found) (f : Option ℕ) (c : ℕ) (e : Option ℕ) → Looks asks d w f c e → ArePossible asks → AreApart asks
     → IsTrue (is_settled d w f c e) ↔ AsksStand asks
 settled asks d w f c e looks possible apart = (

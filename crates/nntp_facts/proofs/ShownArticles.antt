@@ -1,5 +1,5 @@
 -- What is shown of the articles that are kept.
-use Rattle.std.proofs.Common.{◌≡◌, ℕ, Bool, true, false, not, cond, IsTrue, List, [], ◌∷◌, map, Option, None, Some, inl, inr, refl, sym, ap, subst, ◌∙◌}
+use Rattle.std.proofs.Common.{◌≡◌, Bool, true, false, not, cond, IsTrue, List, [], ◌∷◌, map, Option, None, Some, refl, sym, ap, subst, ◌∙◌}
 use Rattle.std.specs.Prelude.{MatchOption}
 use Rattle.std.specs.List.{list_any, filter, AllByRecursion}
 use Rattle.std.specs.List.Sorted.{IsStrictlySortedBy}
@@ -21,7 +21,7 @@ use Rattle.nntp_facts.specs.Articles.{articles_in}
 use Rattle.nntp_facts.specs.Readers.{ShownArticle, IsShownArticle, AreShownArticles, shown_article, shown_articles}
 use Rattle.nntp_facts.proofs.KeptArticles.{listed}
 use Rattle.nntp_facts.proofs.Maps.{sorted_keys}
-use Rattle.nntp_facts.proofs.Members.{In, in_map, from_map, any_in, found_in}
+use Rattle.nntp_facts.proofs.Members.{in_map, from_map, any_in, found_in}
 use Rattle.nntp_facts.proofs.SaidOfArticles.{says}
 use Rattle.nntp_facts.proofs.ShownGroups.{read_off, all_along}
 use Rattle.nntp_facts.proofs.Stand.{same_itself}

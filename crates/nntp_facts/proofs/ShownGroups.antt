@@ -1,24 +1,23 @@
 -- What is shown of the groups that are kept.
-use Rattle.std.proofs.Common.{◌≡◌, ℕ, Bool, true, false, ◌==◌, ◌||◌, IsTrue, List, [], ◌∷◌, map, Option, Some, is_some, T, refl, sym, ap, subst, ◌∙◌}
-use Rattle.std.specs.Prelude.{MatchOption}
+use Rattle.std.proofs.Common.{◌≡◌, Bool, ◌==◌, ◌||◌, List, [], ◌∷◌, map, Some, refl, sym, ap, subst, ◌∙◌}
 use Rattle.std.specs.List.{list_any, AllByRecursion}
 use Rattle.std.specs.List.Sorted.{IsStrictlySortedBy}
 use Rattle.std.specs.BTreeMap.{is_at}
 use Rattle.std.specs.Ordering.{nat_cmp, eq_by_cmp}
 use Rattle.std.specs.Cmp.Lexicographic.{slice_cmp, nat_list_cmp_total}
 use Rattle.std.specs.FinMap.{FinMap, get, entries, entries_sorted, contains_key-keys, IsAntisymmetric, slice_cmp-IsAntisymmetric, nat_cmp-IsAntisymmetric}
-use Rattle.nntp_article.specs.Article.{Id}
 use Rattle.nntp_article.specs.Spool.{Name}
 use Rattle.nntp_article.specs.Machine.{is_same}
 use Rattle.nntp_facts.specs.Facts.{Fact}
-use Rattle.nntp_facts.specs.Given.{asks_of, is_shown_group}
+use Rattle.nntp_facts.specs.Given.{asks_of}
+use Rattle.nntp_facts.specs.Together.{AsksStand}
 use Rattle.nntp_facts.specs.Kept.{KeptGroup, IsKeptGroup, told, AreKeptGroups}
-use Rattle.nntp_facts.specs.Readers.{AreShownNumbers, HasShownNumbers, AreShownGroups, ShownGroup, with_ids, shown_group, shown_in, shown_groups}
+use Rattle.nntp_facts.specs.Readers.{AreShownNumbers, HasShownNumbers, AreShownGroups, ShownGroup, with_ids, shown_group, shown_groups}
 use Rattle.nntp_facts.proofs.KeptGroups.{kept_of, shown_kept}
 use Rattle.nntp_facts.proofs.Maps.{sorted_keys, in_get}
 use Rattle.nntp_facts.proofs.Members.{In, all_from, from_map}
 use Rattle.nntp_facts.proofs.OneGroup.{flip_number, flip_text}
-use Rattle.nntp_facts.proofs.Unseen.{unseen_is}
+use Rattle.nntp_facts.proofs.Unseen.{are_unseen}
 
 -- ---- lists that are made of another
 
@@ -43,7 +42,7 @@ map_same (x ∷ xs) = ap (λ ys. x ∷ ys) (map_same xs)
 
 -- ---- one group
 
-module _ (facts : List Fact) (name : Name) (g : KeptGroup) (kept : IsKeptGroup (told facts name) g) where
+module _ (facts : List Fact) (name : Name) (g : KeptGroup) (stand : AsksStand (asks_of name facts)) (kept : IsKeptGroup (told facts name) g) where
   -- its numbers, each with its id
   shown_numbers : AreShownNumbers facts name (with_ids g g.numbers.shown)
   shown_numbers = record {
@@ -53,20 +52,20 @@ module _ (facts : List Fact) (name : Name) (g : KeptGroup) (kept : IsKeptGroup (
     ids = all_along (λ e. e.1 ≡ (told facts name).ids e.0) (λ n. (n, get g.ids n)) g.numbers.shown (λ n i. kept.ids n);
   }
 
-  -- and the one more
+  -- and those that are given beside them
   has_shown : HasShownNumbers facts (shown_group name g)
-  has_shown = record { numbers = shown_numbers; unseen = unseen_is g.numbers (asks_of name facts) kept.numbers }
+  has_shown = record { numbers = shown_numbers; unseen = are_unseen g.numbers (asks_of name facts) kept.numbers kept.bounded stand }
 
 -- ---- all groups
 
 -- what is shown of the groups that are kept is what the facts say
-pub groups_shown : (facts : List Fact) (groups : FinMap (slice_cmp nat_cmp) KeptGroup) → AreKeptGroups facts groups → AreShownGroups facts (shown_groups groups)
-groups_shown facts groups kept = record {
+pub groups_shown : (facts : List Fact) (groups : FinMap (slice_cmp nat_cmp) KeptGroup) → ((name : Name) → AsksStand (asks_of name facts)) → AreKeptGroups facts groups → AreShownGroups facts (shown_groups groups)
+groups_shown facts groups stand kept = record {
   ascending = subst (IsStrictlySortedBy (slice_cmp nat_cmp)) (sym (read_off one (λ g. g.name) (λ e. e.0) (entries groups) (λ e. refl))) (sorted_keys (slice_cmp nat_cmp) (entries groups) (entries_sorted groups));
   all = λ name. any_along one (λ e. e.0) (λ g. is_same g.name name) (eq_by_cmp (slice_cmp nat_cmp) name) (entries groups) (λ e. sym (flip_text name e.0))
       ∙ sym (contains_key-keys groups name) ∙ shown_kept (told facts) groups name kept;
   each = all_along (HasShownNumbers facts) one (entries groups) (λ e i.
-      has_shown facts e.0 e.1 (kept_of (told facts) groups e.0 (Some e.1) (in_get nat_list_cmp_total same groups e.0 e.1 i) kept));
+      has_shown facts e.0 e.1 (stand e.0) (kept_of (told facts) groups e.0 (Some e.1) (in_get nat_list_cmp_total same groups e.0 e.1 i) kept));
 }
   where
     one : Name × KeptGroup → ShownGroup

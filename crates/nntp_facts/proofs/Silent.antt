@@ -12,24 +12,11 @@ use Rattle.nntp_article.specs.Spool.{Name}
 use Rattle.nntp_article.specs.Machine.{is_same}
 use Rattle.nntp_facts.specs.Asks.{Ask}
 use Rattle.nntp_facts.specs.Facts.{Fact}
-use Rattle.nntp_facts.specs.Given.{asks_of, shows_group, is_shown_group, first_given, id_in, head_in, body_in, is_mentioned, mentions, is_sent, gives_article}
-use Rattle.nntp_facts.specs.Together.{AsksStand, denies_group, number_in, shows_article, denies_article, GiveSame, Together, JoinNames, JoinNumbers, JoinIds, JoinArticles}
-use Rattle.nntp_facts.specs.Kept.{KeptGroup, Told, told, IsKeptGroup, IsUntold, AreKept, AreKeptNames, KeptNames, AreKeptArticles, IsKeptArticle, KeptArticle}
+use Rattle.nntp_facts.specs.Given.{asks_of, shows_group, first_given, id_in, head_in, body_in, is_mentioned, mentions, is_sent, gives_article}
+use Rattle.nntp_facts.specs.Together.{AsksStand, number_in, shows_article, denies_article, GiveSame, Together, JoinNumbers, JoinIds, JoinArticles}
+use Rattle.nntp_facts.specs.Kept.{KeptGroup, Told, told, IsKeptGroup, IsUntold, AreKept, AreKeptArticles, IsKeptArticle, KeptArticle}
 use Rattle.nntp_facts.proofs.Gives.{any_silent, given_silent}
 use Rattle.nntp_facts.proofs.Joined.{asks_append}
-
--- ---- names
-
--- the facts show no group, and deny none
-pub record SayNoNames (more : List Fact) : Type 0 where
-  pub shown : (name : Name) → is_shown_group more name ≡ false
-  pub denied : (name : Name) → list_any (denies_group name) more ≡ false
-
-pub names_join : (facts more : List Fact) → SayNoNames more → JoinNames facts more
-names_join facts more silent = record {
-  groups = λ name s. absurd (true≢false (sym s ∙ silent.shown name));
-  no_groups = λ name d. absurd (true≢false (sym d ∙ silent.denied name));
-}
 
 -- ---- ids at numbers
 

@@ -1,5 +1,5 @@
 -- How many numbers are shown and wanted, one number more at a time.
-use Rattle.std.proofs.Common.{◌≡◌, ℕ, zero, suc, ◌+◌, ◌<◌, Bool, true, false, cond, ◌&&◌, ◌||◌, ◌==◌, IsTrue, List, [], ◌∷◌, take, length, get_or, Some, is_some, inl, inr, refl, sym, ap, subst, ◌∙◌, arith}
+use Rattle.std.proofs.Common.{◌≡◌, ◌≢◌, ℕ, zero, suc, ◌+◌, ◌<◌, Bool, true, false, cond, ◌&&◌, ◌||◌, ◌==◌, IsTrue, List, [], ◌∷◌, take, length, get_or, Some, is_some, inl, inr, refl, sym, ap, subst, ◌∙◌, arith}
 use Rattle.std.specs.Prelude.{◌↔◌, nat_lt}
 use Rattle.std.specs.List.{list_all}
 use Rattle.std.specs.List.Sorted.{IsStrictlySortedBy}
@@ -12,11 +12,14 @@ use Rattle.std.proofs.Math.Seq.{take-length}
 use Rattle.std.proofs.lemmas.List.Folds.{list_any-append}
 use Rattle.nntp_article.specs.Spool.{IsNumber}
 use Rattle.nntp_article.specs.Machine.{is_ascending}
-use Rattle.nntp_facts.specs.Given.{wants, Demand}
-use Rattle.nntp_facts.specs.Summary.{has, Finds, one_more, AreCounted, is_one_of, IsTally}
+use Rattle.nntp_facts.specs.Given.{wants}
+use Rattle.nntp_facts.specs.declared.demand.Demand.{Demand}
+use Rattle.nntp_facts.specs.Part.{is_one_of}
+use Rattle.nntp_facts.specs.Summary.{has, Finds, one_more, AreCounted, IsTally}
 use Rattle.nntp_facts.specs.declared.shown.Found.{Found}
 use Rattle.nntp_facts.proofs.FoundNumbers.{and_one, parted}
-use Rattle.nntp_facts.proofs.Added.{map_of, in_map_of, len_map_of, same_bool}
+use Rattle.nntp_facts.proofs.Added.{map_of, in_map_of, len_map_of}
+use Rattle.nntp_facts.proofs.Hull.{same_bool}
 
 -- one more is counted
 pub counted_more : (p : ℕ → Bool) (m c : ℕ) → p m ≡ false → AreCounted p c → AreCounted (λ n. p n || m == n) (c + 1)
@@ -71,7 +74,7 @@ tally_there p m d w c there t = same_tally p (λ n. p n || m == n) (λ n. absorb
 
 -- ---- as the code has it
 
-or_assoc : (a b c : Bool) → ((a || b) || c) ≡ (a || (b || c))
+pub or_assoc : (a b c : Bool) → ((a || b) || c) ≡ (a || (b || c))
 or_assoc true b c = refl
 or_assoc false b c = refl
 
@@ -97,20 +100,33 @@ shown_next before now after xs i l is more n =
     more n ∙ ap (λ b. b || get_or xs i 0 == n) (is n) ∙ or_assoc (before n) (is_one_of (take i xs) n) (get_or xs i 0 == n) ∙ ap (λ b. before n || b) (one_more_listed xs i l n)
 
 module _ (ns : List ℕ) (d : Demand) where
-  pub with_tally : (p : ℕ → Bool) (m : ℕ) (w : Found) (c : ℕ) → IsTally (λ n. (has ns n || p n) || m == n) d w c → IsTally (λ n. has ns n || (p n || m == n)) d w c
-  with_tally p m w c t = same_tally _ _ (λ n. or_assoc (has ns n) (p n) (m == n)) d w c t
-
   -- before the first number of a list
   pub tally_start : (w : Found) → IsStrictlySortedBy nat_cmp ns → Finds (λ n. has ns n && wants d n) w → IsTally (λ n. has ns n || is_one_of [] n) d w (length ns)
   tally_start w up found = same_tally (has ns) _ (λ n. or_none (has ns n)) d w (length ns) (record { found = found; count = (map_of ns, in_map_of ns, len_map_of ns up) })
 
   -- behind the number at i
-  pub tally_step : (xs : List ℕ) (i : ℕ) (w : Found) (c : ℕ) → i < length xs → IsTally (λ n. has ns n || (is_one_of (take i xs) n || get_or xs i 0 == n)) d w c → IsTally (λ n. has ns n || is_one_of (take (i + 1) xs) n) d w c
-  tally_step xs i w c l t = same_tally _ _ (λ n. ap (λ b. has ns n || b) (one_more_listed xs i l n)) d w c t
+  pub tally_step : (xs : List ℕ) (i : ℕ) (w : Found) (c : ℕ) → i < length xs → IsTally (λ n. (has ns n || is_one_of (take i xs) n) || get_or xs i 0 == n) d w c → IsTally (λ n. has ns n || is_one_of (take (i + 1) xs) n) d w c
+  tally_step xs i w c l t = same_tally _ _ (λ n. or_assoc (has ns n) (is_one_of (take i xs) n) (get_or xs i 0 == n) ∙ ap (λ b. has ns n || b) (one_more_listed xs i l n)) d w c t
 
   -- behind all of them
   pub tally_end : (xs : List ℕ) (i : ℕ) (w : Found) (c : ℕ) → i ≡ length xs → IsTally (λ n. has ns n || is_one_of (take i xs) n) d w c → IsTally (λ n. has ns n || is_one_of xs n) d w c
   tally_end xs i w c e t = subst (λ l. IsTally (λ n. has ns n || is_one_of l n) d w c) (ap (λ i. take i xs) e ∙ take-length xs) t
+
+-- with no ends
+pub tally_no_ends : (p : ℕ → Bool) (d : Demand) (w : Found) (c : ℕ) → IsTally p d w c → IsTally (λ n. p n || false) d w c
+tally_no_ends p d w c t = same_tally p _ (λ n. or_none (p n)) d w c t
+
+-- with both ends
+pub tally_ends : (p : ℕ → Bool) (low high : ℕ) (d : Demand) (w : Found) (c : ℕ) → IsTally (λ n. (p n || low == n) || high == n) d w c → IsTally (λ n. p n || (low == n || high == n)) d w c
+tally_ends p low high d w c t = same_tally _ _ (λ n. or_assoc (p n) (low == n) (high == n)) d w c t
+
+-- the high one is there if it is the low one
+pub low_there : (p : ℕ → Bool) (low high : ℕ) → high ≡ low → (high == low) ≡ (p high || low == high)
+low_there p low high e = eq-eqb high low e ∙ sym (or_right (p high) (low == high) (eq-eqb low high (sym e)))
+
+-- or else if it was there
+pub high_there : (p : ℕ → Bool) (low high : ℕ) → high ≢ low → p high ≡ (p high || low == high)
+high_there p low high ne = or_none (p high) ∙ ap (λ b. p high || b) (sym (ne_eqb low high (λ e. ne (sym e))))
 
 -- no number comes twice
 all_above : (x : ℕ) (xs : List ℕ) (i : ℕ) → list_all (λ m. nat_lt x m) xs ≡ true → i < length xs → x < get_or xs i 0
@@ -118,10 +134,14 @@ all_above x [] i t l = absurd (omega arith)
 all_above x (y ∷ xs) zero t l = ltb-true x y (and_parts (nat_lt x y) (list_all (λ m. nat_lt x m) xs) t).0
 all_above x (y ∷ xs) (suc i) t l = all_above x xs i (and_parts (nat_lt x y) (list_all (λ m. nat_lt x m) xs) t).1 (omega arith)
 
-pub fresh : (xs : List ℕ) (i : ℕ) → is_ascending xs ≡ true → i < length xs → is_one_of (take i xs) (get_or xs i 0) ≡ false
+fresh : (xs : List ℕ) (i : ℕ) → is_ascending xs ≡ true → i < length xs → is_one_of (take i xs) (get_or xs i 0) ≡ false
 fresh [] i up l = absurd (omega arith)
 fresh (x ∷ xs) zero up l = refl
 fresh (x ∷ xs) (suc i) up l =
     let p = and_parts (list_all (λ m. nat_lt x m) xs) (is_ascending xs) up in
     let above = all_above x xs i p.0 (omega arith) in
     (λ j. ne_eqb (get_or xs i 0) x (λ e. absurd (omega arith)) j || fresh xs i p.1 (omega arith) j)
+
+-- so the number at i is there if it was there before the list
+pub there_if : (has : ℕ → Bool) (xs : List ℕ) (i : ℕ) → is_ascending xs ≡ true → i < length xs → has (get_or xs i 0) ≡ (has (get_or xs i 0) || is_one_of (take i xs) (get_or xs i 0))
+there_if has xs i up l = or_none (has (get_or xs i 0)) ∙ ap (λ b. has (get_or xs i 0) || b) (sym (fresh xs i up l))

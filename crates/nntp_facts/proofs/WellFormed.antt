@@ -1,4 +1,5 @@
 -- What octets spell is well formed.
+use Rattle.nntp_wire.specs.declared.marks.Marks.{Marks}
 use Rattle.std.proofs.Common.{◌≡◌, ℕ, Bool, true, false, cond, ◌==◌, IsTrue, List, [], ◌∷◌, ◌++◌, ◌⊎◌, inl, inr, Option, None, Some, refl, sym, ap, subst, ◌∙◌}
 use Rattle.std.specs.Prelude.{IfSome, ⊤}
 use Rattle.std.specs.List.{AllByRecursion}
@@ -14,7 +15,7 @@ use Rattle.nntp_wire.proofs.OctetLemmas.{octets-parts}
 use Rattle.nntp_article.specs.Spool.{is_line}
 use Rattle.nntp_article.specs.Machine.{Visible}
 use Rattle.nntp_wire.proofs.ListingLemmas.{active_groups-named}
-use Rattle.nntp_facts.specs.Asks.{Position}
+use Rattle.nntp_facts.specs.declared.position.Position.{Position}
 use Rattle.nntp_facts.specs.Facts.{Fact, on, facts_of_code, facts_of}
 use Rattle.nntp_facts.specs.Together.{IsWellFormed}
 use Rattle.nntp_facts.proofs.Members.{all_both}
@@ -121,19 +122,19 @@ code_formed v at (retrieve what current) code = on_formed (code == 420) _ tt
 code_formed v at command code = tt
 
 -- what a response says
-proper_formed : (v : Visible) (at : Position) (asked : Asked) (response : Response) → IsProper response → AllByRecursion IsWellFormed (facts_of v at asked response)
+proper_formed : (how : Marks) (v : Visible) (at : Position) (asked : Asked) (response : Response) → IsProper response → AllByRecursion IsWellFormed (facts_of how v at asked response)
 unfolding IsProper
-proper_formed v at (to (group word)) (group_is m name) h = (h, (tt, tt))
-proper_formed v at (to (list_group word range)) (numbers_are m name lines) h = (h, (tt, (tt, tt)))
-proper_formed v at (to next) (sends sent) h = (tt, (h.0, tt))
-proper_formed v at (to last) (sends sent) h = (tt, (h.0, tt))
-proper_formed v at (to (retrieve what (by_id word))) (sends sent) h = (h, unless_formed (sent.number == 0) _ h.0)
-proper_formed v at (to (retrieve what (by_number n))) (sends sent) h = (h, (h.0, tt))
-proper_formed v at (to (retrieve what current)) (sends sent) h = (h, (tt, (h.0, tt)))
-proper_formed v at (to (list_active p)) (active_are lines) h = (h, tt)
-proper_formed v at (to command) (plain code) h = code_formed v at command code
-proper_formed v at asked response h = tt
+proper_formed how v at (to (group word)) (group_is m name) h = (h, (tt, tt))
+proper_formed how v at (to (list_group word range)) (numbers_are m name lines) h = (h, (tt, (tt, tt)))
+proper_formed how v at (to next) (sends sent) h = (tt, (h.0, tt))
+proper_formed how v at (to last) (sends sent) h = (tt, (h.0, tt))
+proper_formed how v at (to (retrieve what (by_id word))) (sends sent) h = (h, unless_formed (sent.number == 0) _ h.0)
+proper_formed how v at (to (retrieve what (by_number n))) (sends sent) h = (h, (h.0, tt))
+proper_formed how v at (to (retrieve what current)) (sends sent) h = (h, (tt, (h.0, tt)))
+proper_formed how v at (to (list_active p)) (active_are lines) h = (h, tt)
+proper_formed how v at (to command) (plain code) h = code_formed v at command code
+proper_formed how v at asked response h = tt
 
 -- what octets spell says well-formed facts
-pub spelled_formed : (v : Visible) (at : Position) (asked : Asked) (response : Response) (bytes : List ℕ) → Spells asked response bytes → IsTrue (are_octets bytes) → AllByRecursion IsWellFormed (facts_of v at asked response)
-spelled_formed v at asked response bytes s h = proper_formed v at asked response (spelled_proper asked response bytes s h)
+pub spelled_formed : (how : Marks) (v : Visible) (at : Position) (asked : Asked) (response : Response) (bytes : List ℕ) → Spells asked response bytes → IsTrue (are_octets bytes) → AllByRecursion IsWellFormed (facts_of how v at asked response)
+spelled_formed how v at asked response bytes s h = proper_formed how v at asked response (spelled_proper asked response bytes s h)

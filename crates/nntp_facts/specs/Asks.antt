@@ -5,15 +5,12 @@ use Rattle.nntp_article.specs.Spool.{Spool, Numbers, IsNumber, least, IsNextAbov
 use Rattle.nntp_article.specs.declared.profile.Profile.{Profile}
 use Rattle.nntp_article.specs.Machine.{Visible, State, MayAnswer, visible_after, selected_numbers, Bound}
 use Rattle.nntp_wire.specs.declared.range.Range.{Range}
+use Rattle.nntp_wire.specs.declared.marks.Marks.{Marks}
 use Rattle.nntp_wire.specs.Answer.{Asked, Response, to, group_is, numbers_are, sends}
 use Rattle.nntp_wire.specs.declared.water_marks.WaterMarks.{WaterMarks}
+use Rattle.nntp_facts.specs.declared.position.Position.{Position}
+use Rattle.nntp_facts.specs.declared.position.Position.TheVariants.{Nowhere, First, Known}
 use Rattle.nntp_wire.specs.Command.{by_number, current, next, last, retrieve}
-
--- where the session stands in the selected group: nowhere, at the first number whatever it is, or at a number that was shown
-pub data Position : Type 0 where
-  Nowhere : Position
-  First : Position
-  Known : (number : ℕ) → Position
 
 -- where an answer leaves the session
 abbrev pub position_after : Position → Asked → Response → Position
@@ -44,7 +41,7 @@ RunsAt profile S v at (asked ∷ ps) (response ∷ more) =
 
 -- one thing that an answer says of the numbers of a group
 pub data Ask : Type 0 where
-  Estimates : (marks : WaterMarks) → Ask  -- there are at most so many, between the marks
+  Estimates : (how : Marks) → (marks : WaterMarks) → Ask  -- there are at most so many, between the marks, which are read so
   Bounds : (low high : ℕ) → Ask  -- all are between the marks
   ListsIn : (range : Range) → (listed : List ℕ) → Ask  -- those in the range are these
   Has : (number : ℕ) → Ask  -- the number is there
@@ -58,7 +55,7 @@ pub data Ask : Type 0 where
 
 -- the numbers meet what is asked
 abbrev pub Meets : Numbers → Ask → Type 0
-Meets N (Estimates m) = Bound N m
+Meets N (Estimates how m) = Bound how N m
 Meets N (Bounds low high) = (n : ℕ) → IsNumber N n → (low ≤ n) × (n ≤ high)
 Meets N (ListsIn r ns) = Lists N r ns
 Meets N (Has n) = IsNumber N n

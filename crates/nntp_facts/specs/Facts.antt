@@ -4,9 +4,11 @@ use Rattle.std.specs.FinMap.{get}
 use Rattle.nntp_article.specs.Spool.{Spool, IsGroup, numbers, HasText, Name}
 use Rattle.nntp_article.specs.declared.profile.Profile.{Profile}
 use Rattle.nntp_article.specs.Machine.{Visible, visible_after, ActivesAgree, fits}
-use Rattle.nntp_facts.specs.Asks.{Position, position_after, Ask, Meets, Estimates, ListsIn, Lacks, StandsAt, StandsNowhere, StepsUp, StepsDown, IsTop, IsBottom}
+use Rattle.nntp_facts.specs.Asks.{position_after, Ask, Meets, Estimates, ListsIn, Lacks, StandsAt, StandsNowhere, StepsUp, StepsDown, IsTop, IsBottom}
+use Rattle.nntp_facts.specs.declared.position.Position.{Position}
 use Rattle.nntp_article.specs.Article.{Id, Line}
 use Rattle.nntp_wire.specs.Listing.{ActiveValue, listed_numbers, active_groups}
+use Rattle.nntp_wire.specs.declared.marks.Marks.{Marks}
 use Rattle.nntp_wire.specs.declared.command.What.{What}
 use Rattle.nntp_wire.specs.Command.{Request, by_id, by_number, current, group, next, last, retrieve, list_group, list_active}
 use Rattle.nntp_wire.specs.Answer.{Asked, Response, to, group_is, numbers_are, sends, active_are, plain}
@@ -50,25 +52,25 @@ facts_of_code v at (retrieve what (by_number (Some n))) code = on code 423 (Asks
 facts_of_code v at (retrieve what current) code = on code 420 (Asks (here v) (StandsNowhere at))
 facts_of_code v at command code = []
 
--- what an answer says of the spool
-abbrev pub facts_of : Visible → Position → Asked → Response → List Fact
-facts_of v at (to command) (plain code) = facts_of_code v at command code
-facts_of v at (to (group word)) (group_is m name) = ThereIs name ∷ Asks name (Estimates m) ∷ []
-facts_of v at (to (list_group word range)) (numbers_are m name lines) = ThereIs name ∷ Asks name (Estimates m) ∷ Asks name (ListsIn range (listed_numbers lines)) ∷ []
-facts_of v at (to next) (sends sent) = Asks (here v) (StepsUp at sent.number) ∷ IdAt (here v) sent.number sent.id ∷ []
-facts_of v at (to last) (sends sent) = Asks (here v) (StepsDown at sent.number) ∷ IdAt (here v) sent.number sent.id ∷ []
-facts_of v at (to (retrieve what (by_id word))) (sends sent) = TextIs what sent.id sent.block ∷ (if sent.number == 0 then [] else IdAt (here v) sent.number sent.id ∷ [])
-facts_of v at (to (retrieve what (by_number n))) (sends sent) = TextIs what sent.id sent.block ∷ IdAt (here v) sent.number sent.id ∷ []
-facts_of v at (to (retrieve what current)) (sends sent) = TextIs what sent.id sent.block ∷ Asks (here v) (StandsAt at sent.number) ∷ IdAt (here v) sent.number sent.id ∷ []
-facts_of v at (to (list_active p)) (active_are lines) = GroupsAre p (active_groups lines) ∷ []
-facts_of v at asked response = []
+-- what an answer says of the spool, where marks are read so
+abbrev pub facts_of : Marks → Visible → Position → Asked → Response → List Fact
+facts_of how v at (to command) (plain code) = facts_of_code v at command code
+facts_of how v at (to (group word)) (group_is m name) = ThereIs name ∷ Asks name (Estimates how m) ∷ []
+facts_of how v at (to (list_group word range)) (numbers_are m name lines) = ThereIs name ∷ Asks name (Estimates how m) ∷ Asks name (ListsIn range (listed_numbers lines)) ∷ []
+facts_of how v at (to next) (sends sent) = Asks (here v) (StepsUp at sent.number) ∷ IdAt (here v) sent.number sent.id ∷ []
+facts_of how v at (to last) (sends sent) = Asks (here v) (StepsDown at sent.number) ∷ IdAt (here v) sent.number sent.id ∷ []
+facts_of how v at (to (retrieve what (by_id word))) (sends sent) = TextIs what sent.id sent.block ∷ (if sent.number == 0 then [] else IdAt (here v) sent.number sent.id ∷ [])
+facts_of how v at (to (retrieve what (by_number n))) (sends sent) = TextIs what sent.id sent.block ∷ IdAt (here v) sent.number sent.id ∷ []
+facts_of how v at (to (retrieve what current)) (sends sent) = TextIs what sent.id sent.block ∷ Asks (here v) (StandsAt at sent.number) ∷ IdAt (here v) sent.number sent.id ∷ []
+facts_of how v at (to (list_active p)) (active_are lines) = GroupsAre p (active_groups lines) ∷ []
+facts_of how v at asked response = []
 
 -- what answers say, from a visible state and a position on
-abbrev pub facts_from : Visible → Position → List Asked → List Response → List Fact
-facts_from v at [] answers = []
-facts_from v at (asked ∷ ps) [] = []
-facts_from v at (asked ∷ ps) (response ∷ more) =
-    facts_of v at asked response ++ facts_from (visible_after v asked response) (position_after at asked response) ps more
+abbrev pub facts_from : Marks → Visible → Position → List Asked → List Response → List Fact
+facts_from how v at [] answers = []
+facts_from how v at (asked ∷ ps) [] = []
+facts_from how v at (asked ∷ ps) (response ∷ more) =
+    facts_of how v at asked response ++ facts_from how (visible_after v asked response) (position_after at asked response) ps more
 
 -- the visible condition holds at each place, whatever the spool
 abbrev pub FitsAll : Profile → Visible → List Asked → List Response → Type 0

@@ -6,9 +6,14 @@ use Rattle.std.specs.FinMap.{get, entries, len}
 use Rattle.nntp_article.specs.Article.{head_part, body_part, Id, Line}
 use Rattle.nntp_article.specs.Spool.{Spool, Text, Numbers, IsNumber, IsGroup, numbers, Name}
 use Rattle.nntp_article.specs.Machine.{is_in_range, is_same, start}
-use Rattle.nntp_facts.specs.Asks.{Nowhere, Ask, First, Known, Estimates, Bounds, ListsIn, Has, Lacks, StandsAt, StandsNowhere, StepsUp, StepsDown, IsTop, IsBottom}
+use Rattle.nntp_facts.specs.Asks.{Ask, Estimates, Bounds, ListsIn, Has, Lacks, StandsAt, StandsNowhere, StepsUp, StepsDown, IsTop, IsBottom}
+use Rattle.nntp_facts.specs.declared.position.Position.TheVariants.{Nowhere, First, Known}
+use Rattle.nntp_facts.specs.declared.demand.Demand.{Demand}
+use Rattle.nntp_facts.specs.declared.demand.Demand.TheVariants.{NoDemand, NotEmpty, OnlyOne, SecondIs, Impossible}
 use Rattle.nntp_facts.specs.Facts.{Fact, ThereIs, Asks, IdAt, TextIs, NoArticle, GroupsAre, facts_from}
 use Rattle.nntp_wire.specs.Answer.{Asked, Response}
+use Rattle.nntp_wire.specs.declared.marks.Marks.{Marks}
+use Rattle.nntp_wire.specs.declared.marks.Marks.TheVariants.{Strict}
 use Rattle.nntp_pair.specs.Pairing.{lines_in}
 use Rattle.nntp_wire.specs.declared.command.What.TheVariants.{Article, Head, Body}
 
@@ -27,7 +32,7 @@ is_strictly_between a b n = nat_lt a n && nat_lt n b
 
 -- the ask says that the number isn't there
 abbrev pub denies : Ask → ℕ → Bool
-denies (Estimates m) n = nat_lt n m.low || nat_lt m.high n
+denies (Estimates how m) n = nat_lt n m.low || nat_lt m.high n
 denies (Bounds low high) n = nat_lt n low || nat_lt high n
 denies (ListsIn r ns) n = is_in_range r n && not (list_any (λ m. n == m) ns)
 denies (Lacks m) n = m == n
@@ -43,19 +48,35 @@ denies ask n = false
 abbrev pub is_shown : List Ask → ℕ → Bool
 is_shown asks n = list_any (λ ask. shows ask n) asks
 
+-- the ask says that there is a number: it shows one, or none is above or below the first one
+abbrev pub says_some : Ask → Bool
+says_some (ListsIn r (n ∷ ns)) = true
+says_some (Has m) = true
+says_some (StandsAt First m) = true
+says_some (StepsUp at m) = true
+says_some (StepsDown at m) = true
+says_some (IsTop First) = true
+says_some (IsBottom First) = true
+says_some ask = false
+
+-- the number is a mark that is read strictly
+abbrev pub is_end : Ask → ℕ → Bool
+is_end (Estimates Strict m) n = m.low == n || m.high == n
+is_end ask n = false
+
+-- it is said that there is a number, and n is a strict mark
+abbrev pub is_given_end : List Ask → ℕ → Bool
+is_given_end asks n = list_any says_some asks && list_any (λ ask. is_end ask n) asks
+
+-- the number is known: an answer shows it; or it is a strict mark, and it is said that there is a number
+abbrev pub is_known : List Ask → ℕ → Bool
+is_known asks n = is_shown asks n || is_given_end asks n
+
 -- an answer says that the number isn't there
 abbrev pub is_denied : List Ask → ℕ → Bool
 is_denied asks n = list_any (λ ask. denies ask n) asks
 
--- what is said of the first number of a group where it isn't seen
-pub data Demand : Type 0 where
-  NoDemand : Demand  -- nothing
-  NotEmpty : Demand  -- there is one
-  OnlyOne : Demand  -- it is the only number
-  SecondIs : (number : ℕ) → Demand  -- there is one, and the next one up is this
-  Impossible : Demand  -- what can't be
-
--- what the ask says of it
+-- what the ask says of the first number of the group where it isn't seen
 abbrev pub demand_in : Ask → Demand
 demand_in (IsBottom First) = NotEmpty
 demand_in (IsTop First) = OnlyOne
@@ -89,15 +110,15 @@ wants d n = false
 abbrev pub IsFirstFree : (ℕ → Bool) → ℕ → ℕ → Type 0
 IsFirstFree taken k n = (k ≤ n) × IsFalse (taken n) × ((m : ℕ) → k ≤ m → m < n → IsTrue (taken m))
 
--- n is the one more number: where no number is shown that the demand wants, the first from 1 on that isn't denied, if the demand wants it
+-- n is the one more number: where no number is known that the demand wants, the first from 1 on that isn't denied, if the demand wants it
 pub record IsOneMore (asks : List Ask) (n : ℕ) : Type 0 where
-  pub needed : (m : ℕ) → IsTrue (is_shown asks m) → IsFalse (wants (demand asks) m)
+  pub needed : (m : ℕ) → IsTrue (is_known asks m) → IsFalse (wants (demand asks) m)
   pub wanted : IsTrue (wants (demand asks) n)
   pub first : IsFirstFree (is_denied asks) 1 n
 
--- the number is given: it is shown, or it is the one more
+-- the number is given: it is known, or it is the one more
 abbrev pub IsGivenNumber : List Ask → ℕ → Type 0
-IsGivenNumber asks n = IsTrue (is_shown asks n) ⊎ IsOneMore asks n
+IsGivenNumber asks n = IsTrue (is_known asks n) ⊎ IsOneMore asks n
 
 -- N has the numbers that are given
 abbrev pub HasGivenNumbers : List Ask → Numbers → Type 0
@@ -220,7 +241,8 @@ pub record HasAtLeast (facts : List Fact) (G S : Spool) : Type 0 where
 
 -- a bound on the names, numbers and ids that a fact has from its answer
 abbrev pub size_in : Fact → ℕ
-size_in (Asks name (ListsIn r ns)) = length ns + 1
+size_in (Asks name (Estimates how m)) = 2
+size_in (Asks name (ListsIn r ns)) = length ns
 size_in (Asks name (StandsNowhere at)) = 0
 size_in (Asks name (IsTop at)) = 0
 size_in (Asks name (IsBottom at)) = 0
@@ -232,9 +254,9 @@ abbrev pub size : List Fact → ℕ
 size [] = 0
 size (fact ∷ facts) = size_in fact + size facts
 
--- what a session says
-abbrev pub facts_of_session : List Asked → List Response → List Fact
-facts_of_session prompts answers = facts_from start.visible Nowhere prompts answers
+-- what a session says, where marks are read so
+abbrev pub facts_of_session : Marks → List Asked → List Response → List Fact
+facts_of_session how prompts answers = facts_from how start.visible Nowhere prompts answers
 
 -- a bound on what answers say: three for each, and one for each of its lines
 abbrev pub weight : List Response → ℕ

@@ -4,8 +4,10 @@ use Rattle.std.specs.Coded.{Coded, code_by, coded×, coded_ℕ, coded_list, code
 use Rattle.std.specs.Ordering.{nat_cmp}
 use Rattle.std.specs.Cmp.Lexicographic.{slice_cmp}
 use Rattle.std.specs.FinMap as map
-use Rattle.nntp_facts.specs.Given.{Demand, NoDemand, NotEmpty, OnlyOne, SecondIs, Impossible}
+use Rattle.nntp_facts.specs.declared.demand.Demand.{Demand}
+use Rattle.nntp_facts.specs.declared.demand.Demand.TheVariants.{NoDemand, NotEmpty, OnlyOne, SecondIs, Impossible}
 use Rattle.nntp_facts.specs.Summary.{Summary}
+use Rattle.nntp_facts.specs.declared.ends.Ends.{Ends}
 use Rattle.nntp_facts.specs.Kept.{KeptGroup}
 
 -- a demand as one of five
@@ -34,11 +36,14 @@ same_demand_back (SecondIs n) = refl
 abbrev pub coded_demand : Coded Demand
 coded_demand = code_by _ (coded_option (coded_option (coded_option (coded_option coded_ℕ)))) of_demand to_demand same_demand_back
 
+abbrev pub coded_ends : Coded Ends
+coded_ends = code_by _ (coded× coded_ℕ coded_ℕ) (λ e. (e.low, e.high)) (λ p. record { low = p.0; high = p.1 }) (λ _. refl)
+
 abbrev pub coded_summary : Coded Summary
 coded_summary =
-    code_by _ (coded× (coded× (coded_list coded_ℕ) (coded_list (coded× coded_ℕ coded_ℕ))) (coded× (coded_option coded_ℕ) coded_demand))
-    (λ s. ((s.shown, s.denied), (s.estimate, s.demand)))
-    (λ p. record { shown = p.0.0; denied = p.0.1; estimate = p.1.0; demand = p.1.1 }) (λ _. refl)
+    code_by _ (coded× (coded× (coded_list coded_ℕ) (coded_list (coded× coded_ℕ coded_ℕ))) (coded× (coded_option coded_ℕ) (coded× (coded_option coded_ends) coded_demand)))
+    (λ s. ((s.shown, s.denied), (s.estimate, (s.ends, s.demand))))
+    (λ p. record { shown = p.0.0; denied = p.0.1; estimate = p.1.0; ends = p.1.1.0; demand = p.1.1.1 }) (λ _. refl)
 
 abbrev pub coded_group : Coded KeptGroup
 coded_group =

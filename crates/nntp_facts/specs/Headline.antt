@@ -21,8 +21,8 @@ is_yes (No answer class) = false
 -- the spool explains both streams with n answers; it is the one that is given for what these say; and no spool that explains the streams lacks what they show, or has fewer numbers in a group
 pub record IsLeastExplanation (profile : Profile) (client server : List ℕ) (S : Spool) (n : ℕ) : Type 0 where
   pub explains : Explains profile S client server n
-  pub given : IsGiven (facts_of_session (prompts_of client) explains.answers) S
-  pub least : (T : Spool) (m : ℕ) → Explains profile T client server m → HasAtLeast (facts_of_session (prompts_of client) explains.answers) S T
+  pub given : IsGiven (facts_of_session profile.marks (prompts_of client) explains.answers) S
+  pub least : (T : Spool) (m : ℕ) → Explains profile T client server m → HasAtLeast (facts_of_session profile.marks (prompts_of client) explains.answers) S T
 
 -- what it says of both streams is so: on yes the spool is their least explanation; on no the answer is the bad one, of its class
 abbrev pub IsHeadline : Profile → List ℕ → List ℕ → Headline → Type 0

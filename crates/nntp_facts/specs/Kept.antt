@@ -1,10 +1,10 @@
 -- What is kept of all that a session says: of each group, of each id, and of the names that are no groups.
-use Rattle.std.specs.Prelude.{◌≡◌, ℕ, Bool, true, false, not, ◌||◌, ◌==◌, if◌then◌else◌, List, [], ◌∷◌, ◌++◌, Option, None, Some, MatchOption, IsTrue, IsSome, IfSome, is_some}
+use Rattle.std.specs.Prelude.{◌≡◌, ℕ, Bool, true, false, not, ◌||◌, ◌==◌, if◌then◌else◌, List, [], ◌∷◌, ◌++◌, Option, None, Some, MatchOption, IsTrue, IfSome, is_some}
 use Rattle.std.specs.Option.{option_or}
 use Rattle.std.specs.List.{list_any, AllByRecursion}
 use Rattle.std.specs.Ordering.{nat_cmp}
 use Rattle.std.specs.Cmp.Lexicographic.{slice_cmp}
-use Rattle.std.specs.FinMap.{FinMap, get}
+use Rattle.std.specs.FinMap.{FinMap, get, insert}
 use Rattle.nntp_wire.specs.Decided.{matches_name}
 use Rattle.nntp_wire.specs.Wildmat.{is_wildmat}
 use Rattle.nntp_article.specs.Article.{Id, Line}
@@ -12,12 +12,10 @@ use Rattle.nntp_article.specs.Spool.{Name}
 use Rattle.nntp_article.specs.Machine.{is_same}
 use Rattle.nntp_facts.specs.Asks.{Ask}
 use Rattle.nntp_facts.specs.Facts.{Fact}
-use Rattle.nntp_facts.specs.Given.{is_shown, asks_of, is_shown_group, first_given, id_in, is_mentioned, is_sent, head_in, body_in}
+use Rattle.nntp_facts.specs.Given.{asks_of, is_shown_group, first_given, id_in, is_mentioned, is_sent, head_in, body_in}
 use Rattle.nntp_facts.specs.Together.{number_in, denies_group, shows_article, denies_article, JoinArticles, Join}
-use Rattle.nntp_facts.specs.Summary.{Summary, IsSummary}
+use Rattle.nntp_facts.specs.Summary.{Summary, IsSummary, AreBounded}
 use Rattle.nntp_facts.specs.ListedGroups.{WereListed}
-use Rattle.nntp_facts.specs.declared.fit.Fit.{Fit}
-use Rattle.nntp_facts.specs.declared.fit.Fit.TheVariants.{Never, Again, New}
 
 -- ---- what is added
 
@@ -25,12 +23,6 @@ use Rattle.nntp_facts.specs.declared.fit.Fit.TheVariants.{Never, Again, New}
 abbrev pub IsAddedIf : {K : Type 0} → Type 0 → (K → Type 0) → K → K → Bool → Type 0
 IsAddedIf May Has old new true = May × Has new
 IsAddedIf May Has old new false = (May → ⊥) × (new ≡ old)
-
--- it may be, as it fits what was said before
-abbrev pub may_be : Fit → Bool
-may_be Never = false
-may_be Again = true
-may_be New = true
 
 -- ---- groups
 
@@ -55,32 +47,13 @@ told facts name = record {
   places = λ id. first_given (number_in name id) facts;
 }
 
--- g is kept of what is told of the group, which is shown
+-- g is kept of what is told of the group, which is shown; no number from 2^64 on is left open
 pub record IsKeptGroup (t : Told) (g : KeptGroup) : Type 0 where
   pub shown : t.is_shown ≡ true
+  pub bounded : AreBounded t.asks
   pub numbers : IsSummary g.numbers t.asks
   pub ids : (n : ℕ) → get g.ids n ≡ t.ids n
   pub places : (id : Id) → get g.places id ≡ t.places id
-
--- what is told of a number and of an id agrees: if this id is at the number, this number is that of the id
-abbrev pub Agree : ℕ → Id → Option Id → Option ℕ → Type 0
-Agree n id at place = at ≡ Some id → place ≡ Some n
-
--- a number at which there is an id is shown
-abbrev pub IsShownWith : List Ask → ℕ → Option Id → Type 0
-IsShownWith asks n at = IsSome at → IsTrue (is_shown asks n)
-
--- how it fits that the number has the id, where this has to stand, and this id is at the number
-abbrev pub FitsAt : Type 0 → Id → Option Id → Fit → Type 0
-FitsAt Stand id at Never = (Stand × IfSome at (λ other. id ≡ other)) → ⊥
-FitsAt Stand id at Again = Stand × (at ≡ Some id)
-FitsAt Stand id at New = Stand × (at ≡ None)
-
--- the same where the id is to be at no other number than n, and is at this one
-abbrev pub FitsOnce : Type 0 → ℕ → Id → Option Id → Option ℕ → Fit → Type 0
-FitsOnce Stand n id at place Never = (Stand × (IfSome at (λ other. id ≡ other) × IfSome place (λ other. n ≡ other))) → ⊥
-FitsOnce Stand n id at place Again = Stand × (at ≡ Some id)
-FitsOnce Stand n id at place New = Stand × (at ≡ None) × IfSome place (λ other. n ≡ other)
 
 -- nothing is told of the group
 pub record IsUntold (t : Told) : Type 0 where
@@ -96,17 +69,47 @@ AreKept tells groups = (name : Name) → MatchOption (get groups name) (IsUntold
 abbrev pub AreKeptGroups : List Fact → FinMap (slice_cmp nat_cmp) KeptGroup → Type 0
 AreKeptGroups facts groups = AreKept (told facts) groups
 
--- what is told of a group once more is asked of its numbers
-abbrev pub with_asks : Told → List Ask → Told
-with_asks t asks = record { is_shown = true; asks = t.asks ++ asks; ids = t.ids; places = t.places }
+-- where the id is at the number already, the number is that of the id
+abbrev pub Agree : (ℕ → Option Id) → (Id → Option ℕ) → Option (ℕ × Id) → Type 0
+Agree ids places id = IfSome id (λ e. ids e.0 ≡ Some e.1 → places e.1 ≡ Some e.0)
 
--- and once a number has an id as well
-abbrev pub with_id : Told → List Ask → ℕ → Id → Told
-with_id t asks n id = record {
+-- the number has no other id, and the id no other number
+abbrev pub IsFree : Option Id → Option ℕ → ℕ × Id → Type 0
+IsFree at place e = IfSome at (λ other. e.1 ≡ other) × IfSome place (λ other. e.0 ≡ other)
+
+-- the number may have the id, if one is shown
+abbrev pub MayHave : FinMap nat_cmp Id → FinMap (slice_cmp nat_cmp) ℕ → Option (ℕ × Id) → Type 0
+MayHave ids places id = IfSome id (λ e. IsFree (get ids e.0) (get places e.1) e)
+
+-- the same of what is told of the group
+abbrev pub MayShow : Told → Option (ℕ × Id) → Type 0
+MayShow t id = IfSome id (λ e. IsFree (t.ids e.0) (t.places e.1) e)
+
+-- the ids at numbers then, and the numbers of ids
+abbrev pub ids_with : FinMap nat_cmp Id → Option (ℕ × Id) → FinMap nat_cmp Id
+ids_with ids None = ids
+ids_with ids (Some e) = insert ids e.0 e.1
+
+abbrev pub places_with : FinMap (slice_cmp nat_cmp) ℕ → Option (ℕ × Id) → FinMap (slice_cmp nat_cmp) ℕ
+places_with places None = places
+places_with places (Some e) = insert places e.1 e.0
+
+-- the id that is shown at the number, and the number of the id
+abbrev pub id_of : Option (ℕ × Id) → ℕ → Option Id
+id_of None n = None
+id_of (Some e) n = if e.0 == n then Some e.1 else None
+
+abbrev pub place_of : Option (ℕ × Id) → Id → Option ℕ
+place_of None id = None
+place_of (Some e) id = if is_same e.1 id then Some e.0 else None
+
+-- what is told of a group once this is asked of its numbers, and an id shown at a number
+abbrev pub with_part : Told → List Ask → Option (ℕ × Id) → Told
+with_part t asks id = record {
   is_shown = true;
   asks = t.asks ++ asks;
-  ids = λ m. option_or (t.ids m) (if n == m then Some id else None);
-  places = λ other. option_or (t.places other) (if is_same id other then Some n else None);
+  ids = λ n. option_or (t.ids n) (id_of id n);
+  places = λ other. option_or (t.places other) (place_of id other);
 }
 
 -- this is told of one group then, and of others what was told before

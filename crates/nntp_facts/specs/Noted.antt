@@ -3,9 +3,12 @@ use Rattle.std.specs.Prelude.{◌≡◌, ℕ, ◌<◌, ◌^◌, Bool, false, tru
 use Rattle.std.specs.List.{AllByRecursion}
 use Rattle.nntp_article.specs.declared.profile.Profile.{Profile}
 use Rattle.nntp_article.specs.Machine.{Visible, start, fits}
-use Rattle.nntp_article.specs.Limit.{profile_31_bits}
+use Rattle.nntp_article.specs.Limit.{profile_of}
+use Rattle.nntp_wire.specs.declared.limit.Limit.{Limit}
+use Rattle.nntp_wire.specs.declared.marks.Marks.{Marks}
 use Rattle.nntp_pair.specs.Pairing.{Paired, asked_at, asked_of, responses_of, lines_in}
-use Rattle.nntp_facts.specs.Asks.{Position, Nowhere}
+use Rattle.nntp_facts.specs.declared.position.Position.{Position}
+use Rattle.nntp_facts.specs.declared.position.Position.TheVariants.{Nowhere}
 use Rattle.nntp_facts.specs.Facts.{Fact}
 use Rattle.nntp_facts.specs.Given.{facts_of_session}
 use Rattle.nntp_facts.specs.Permits.{SomePermits}
@@ -16,28 +19,29 @@ use Rattle.nntp_facts.specs.declared.noted.Noted.TheVariants.{Consistent, OutOfP
 use Rattle.nntp_facts.specs.declared.noted.FactsError.{FactsError}
 use Rattle.nntp_facts.specs.declared.noted.FactsError.TheVariants.{Memory}
 
--- how many exchanges were accepted, the visible state and the place in the selected group that they leave, what they say, and whether memory was refused
+-- the limit and the marks, how many exchanges were accepted, the visible state and the place in the selected group that they leave, what they say, and whether memory was refused
 pub record FactsKept : Type 0 where
-  pub profile : Profile
+  pub limit : Limit
+  pub marks : Marks
   pub count : ℕ
   pub visible : Visible
   pub position : Position
   pub kept : Kept
   pub has_failed : Bool
 
--- what the exchanges say of the spool
-abbrev pub said_by : List Paired → List Fact
-said_by past = facts_of_session (asked_of past) (responses_of past)
+-- what the exchanges say of the spool, where marks are read so
+abbrev pub said_by : Marks → List Paired → List Fact
+said_by how past = facts_of_session how (asked_of past) (responses_of past)
 
--- the facts are those of these exchanges, which some spool of numbers of 31 bits permits (RFC 3977, section 6)
-pub record Stands (facts : FactsKept) (past : List Paired) : Type 0 where
-  pub profile : facts.profile ≡ profile_31_bits
+-- the facts are those of these exchanges, which some spool permits
+pub record Stands (profile : Profile) (facts : FactsKept) (past : List Paired) : Type 0 where
+  pub profile_is : profile_of facts.limit facts.marks ≡ profile
   pub is_whole : facts.has_failed ≡ false
   pub count : facts.count ≡ length past
   pub visible : facts.visible ≡ visible_from start.visible (asked_of past) (responses_of past)
   pub position : facts.position ≡ position_from Nowhere (asked_of past) (responses_of past)
-  pub kept : IsKept (said_by past) facts.kept
-  pub permitted : SomePermits facts.profile (asked_of past) (responses_of past)
+  pub kept : IsKept (said_by profile.marks past) facts.kept
+  pub permitted : SomePermits profile (asked_of past) (responses_of past)
   pub lines : AllByRecursion (λ pair. lines_in pair.response < 2 ^ 64) past
   pub few : length past < 2 ^ 64
 
@@ -51,12 +55,12 @@ abbrev pub ArePermitted : Profile → List Paired → Type 0
 ArePermitted profile pairs = SomePermits profile (asked_of pairs) (responses_of pairs)
 
 -- what was said of one more exchange is so: some spool permits it behind those before, and it is added; it doesn't fit the visible state; or it fits, and no spool permits it behind them; and where it isn't added, the facts are as before
-abbrev pub IsNoted : List Paired → Paired → FactsKept → FactsKept → Noted → Type 0
-IsNoted past pair old new Consistent = ArePermitted old.profile (past ++ pair ∷ []) × Stands new (past ++ pair ∷ [])
-IsNoted past pair old new OutOfPlace = IsFalse (fits old.profile old.visible (asked_at pair.line) pair.response) × (new ≡ old)
-IsNoted past pair old new Contradiction = IsTrue (fits old.profile old.visible (asked_at pair.line) pair.response) × (ArePermitted old.profile (past ++ pair ∷ []) → ⊥) × (new ≡ old)
+abbrev pub IsNoted : Profile → List Paired → Paired → FactsKept → FactsKept → Noted → Type 0
+IsNoted profile past pair old new Consistent = ArePermitted profile (past ++ pair ∷ []) × Stands profile new (past ++ pair ∷ [])
+IsNoted profile past pair old new OutOfPlace = IsFalse (fits profile old.visible (asked_at pair.line) pair.response) × (new ≡ old)
+IsNoted profile past pair old new Contradiction = IsTrue (fits profile old.visible (asked_at pair.line) pair.response) × (ArePermitted profile (past ++ pair ∷ []) → ⊥) × (new ≡ old)
 
 -- what is answered of one more exchange, where memory wasn't refused before
-abbrev pub Notes : List Paired → Paired → FactsKept → FactsKept → Result Noted FactsError → Type 0
-Notes past pair old new (Ok noted) = IsNoted past pair old new noted
-Notes past pair old new (Err e) = (e ≡ Memory) × (new.has_failed ≡ true)
+abbrev pub Notes : Profile → List Paired → Paired → FactsKept → FactsKept → Result Noted FactsError → Type 0
+Notes profile past pair old new (Ok noted) = IsNoted profile past pair old new noted
+Notes profile past pair old new (Err e) = (e ≡ Memory) × (new.has_failed ≡ true)

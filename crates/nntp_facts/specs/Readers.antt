@@ -1,5 +1,5 @@
 -- What the readers of the facts show: the groups with their numbers, and the articles.
-use Rattle.std.specs.Prelude.{◌≡◌, ℕ, ◌-◌, ◌+◌, ◌^◌, zero, suc, Bool, true, false, ◌==◌, if◌then◌else◌, IsTrue, List, [], ◌∷◌, map, Option, None, Some, MatchOption}
+use Rattle.std.specs.Prelude.{◌≤◌, ◌↔◌, ◌⊎◌, ◌||◌, not, length, IsTrue, IsFalse, IfSome, ◌≡◌, ℕ, ◌-◌, ◌+◌, ◌^◌, zero, suc, Bool, ◌==◌, if◌then◌else◌, List, map, Option, None, Some}
 use Rattle.std.specs.List.{list_any, AllByRecursion}
 use Rattle.std.specs.List.Sorted.{IsStrictlySortedBy}
 use Rattle.std.specs.Ordering.{nat_cmp}
@@ -10,19 +10,24 @@ use Rattle.nntp_article.specs.Article.{Id, Line}
 use Rattle.nntp_article.specs.Spool.{Name}
 use Rattle.nntp_article.specs.Machine.{is_same}
 use Rattle.nntp_facts.specs.Facts.{Fact}
-use Rattle.nntp_facts.specs.Given.{asks_of, is_shown, is_shown_group, id_shown, is_sent, first_given, head_in, body_in, IsOneMore, Demand, wants}
+use Rattle.nntp_facts.specs.Given.{asks_of, is_shown, is_shown_group, id_shown, is_sent, first_given, head_in, body_in, IsGivenNumber, wants}
+use Rattle.nntp_facts.specs.declared.demand.Demand.{Demand}
 use Rattle.nntp_facts.specs.Together.{shows_article}
-use Rattle.nntp_facts.specs.Summary.{Summary}
+use Rattle.nntp_facts.specs.Asks.{Ask}
+use Rattle.nntp_facts.specs.Part.{is_demanding}
+use Rattle.nntp_facts.specs.declared.ends.Ends.{Ends}
+use Rattle.nntp_facts.specs.Summary.{Summary, has}
 use Rattle.nntp_facts.specs.Kept.{KeptGroup, KeptArticle}
 use Rattle.nntp_facts.specs.Articles.{articles_in}
 
 -- ---- what is shown
 
--- of a group: the numbers that are shown, each with its id, where one is shown, and the one more, where one is needed
+-- of a group: the numbers that are shown, each with its id, where one is shown; the least number that has to be there, where it isn't shown; and the greatest one, where it is neither shown nor the least
 pub record ShownGroup : Type 0 where
   pub name : Name
   pub numbers : List (ℕ × Option Id)
   pub unseen : Option ℕ
+  pub unseen_high : Option ℕ
 
 -- of an article: whether a success names it, and its head and its body, where they were sent
 pub record ShownArticle : Type 0 where
@@ -39,14 +44,24 @@ pub record AreShownNumbers (facts : List Fact) (name : Name) (numbers : List (�
   pub all : (n : ℕ) → list_any (λ e. e.0 == n) numbers ≡ is_shown (asks_of name facts) n
   pub ids : AllByRecursion (λ e. e.1 ≡ id_shown facts name e.0) numbers
 
--- there is a one more number exactly if one is needed
-abbrev pub IsUnseen : List Fact → Name → Option ℕ → Type 0
-IsUnseen facts name unseen = MatchOption unseen ((n : ℕ) → IsOneMore (asks_of name facts) n → ⊥) (IsOneMore (asks_of name facts))
+-- of what is asked: the number is given, and no given one is less
+abbrev pub IsLeastGiven : List Ask → ℕ → Type 0
+IsLeastGiven asks n = IsGivenNumber asks n × ((m : ℕ) → IsGivenNumber asks m → n ≤ m)
+
+-- or none is greater
+abbrev pub IsGreatestGiven : List Ask → ℕ → Type 0
+IsGreatestGiven asks n = IsGivenNumber asks n × ((m : ℕ) → IsGivenNumber asks m → m ≤ n)
+
+-- the numbers that are given are those that are shown, the least one, where it isn't shown, and the greatest one, where it is neither shown nor the least
+pub record AreUnseen (asks : List Ask) (low high : Option ℕ) : Type 0 where
+  pub given : (n : ℕ) → IsGivenNumber asks n ↔ (IsTrue (is_shown asks n) ⊎ (low ≡ Some n) ⊎ (high ≡ Some n))
+  pub least : IfSome low (λ n. IsFalse (is_shown asks n) × IsLeastGiven asks n)
+  pub greatest : IfSome high (λ n. IsFalse (is_shown asks n) × IsGreatestGiven asks n × ¬ (IsLeastGiven asks n))
 
 -- the numbers of a group are those that are given for the facts
 pub record HasShownNumbers (facts : List Fact) (g : ShownGroup) : Type 0 where
   pub numbers : AreShownNumbers facts g.name g.numbers
-  pub unseen : IsUnseen facts g.name g.unseen
+  pub unseen : AreUnseen (asks_of g.name facts) g.unseen g.unseen_high
 
 -- the groups are those that are shown, in byte order of their names
 pub record AreShownGroups (facts : List Fact) (groups : List ShownGroup) : Type 0 where
@@ -83,8 +98,32 @@ unfoldable pub all_numbers : ℕ
 all_numbers = 2 ^ 64 - 1
 
 -- the one more number: the first that isn't denied, where the demand wants it and none that is shown
+abbrev pub one_more_in : Summary → Option ℕ
+one_more_in s = if list_any (wants s.demand) s.shown then None else if_wanted s.demand (free (holds s.denied) all_numbers 1)
+
+-- the strict marks, where it is said that there is a number
+abbrev pub known_ends_in : Summary → Option Ends
+known_ends_in s = if not (length s.shown == 0) || is_demanding s.demand then s.ends else None
+
+-- the number, where it isn't shown
+abbrev pub unless_shown : List ℕ → ℕ → Option ℕ
+unless_shown shown n = if has shown n then None else Some n
+
+-- the low strict mark, where there is one and it isn't shown; else the one more number
+abbrev pub unseen_beside : Option Ends → Summary → Option ℕ
+unseen_beside None s = one_more_in s
+unseen_beside (Some e) s = unless_shown s.shown e.low
+
 abbrev pub unseen_in : Summary → Option ℕ
-unseen_in s = if list_any (wants s.demand) s.shown then None else if_wanted s.demand (free (holds s.denied) all_numbers 1)
+unseen_in s = unseen_beside (known_ends_in s) s
+
+-- the high strict mark, where there is one and it is neither shown nor the low one
+abbrev pub unseen_high_beside : Option Ends → List ℕ → Option ℕ
+unseen_high_beside None shown = None
+unseen_high_beside (Some e) shown = if e.high == e.low then None else unless_shown shown e.high
+
+abbrev pub unseen_high_in : Summary → Option ℕ
+unseen_high_in s = unseen_high_beside (known_ends_in s) s.shown
 
 -- the numbers, each with the id that is kept for it
 abbrev pub with_ids : KeptGroup → List ℕ → List (ℕ × Option Id)
@@ -92,7 +131,7 @@ with_ids g ns = map (λ n. (n, get g.ids n)) ns
 
 -- what is shown of a group that is kept
 abbrev pub shown_group : Name → KeptGroup → ShownGroup
-shown_group name g = record { name = name; numbers = with_ids g g.numbers.shown; unseen = unseen_in g.numbers }
+shown_group name g = record { name = name; numbers = with_ids g g.numbers.shown; unseen = unseen_in g.numbers; unseen_high = unseen_high_in g.numbers }
 
 -- the same of groups, one after the other
 abbrev pub shown_in : List (Name × KeptGroup) → List ShownGroup

@@ -18,9 +18,9 @@ named entries = map (λ e. (e.0.items, e.1)) entries
 
 abbrev pub coded_shown_group : Coded ShownGroup
 coded_shown_group =
-    code_by _ (coded× (coded_list coded_ℕ) (coded× (coded_list (coded× coded_ℕ (coded_option (coded_list coded_ℕ)))) (coded_option coded_ℕ)))
-    (λ g. (g.name, (g.numbers, g.unseen)))
-    (λ p. record { name = p.0; numbers = p.1.0; unseen = p.1.1 }) (λ _. refl)
+    code_by _ (coded× (coded_list coded_ℕ) (coded× (coded_list (coded× coded_ℕ (coded_option (coded_list coded_ℕ)))) (coded× (coded_option coded_ℕ) (coded_option coded_ℕ))))
+    (λ g. (g.name, (g.numbers, (g.unseen, g.unseen_high))))
+    (λ p. record { name = p.0; numbers = p.1.0; unseen = p.1.1.0; unseen_high = p.1.1.1 }) (λ _. refl)
 
 abbrev pub coded_shown_article : Coded ShownArticle
 coded_shown_article =

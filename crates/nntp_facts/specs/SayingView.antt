@@ -1,55 +1,39 @@
--- What the values of src/saying.rt say of the spool, and what is known of them where the answer fits.
-use Rattle.std.specs.Prelude.{◌≡◌, ℕ, true, IsTrue, List, [], ◌∷◌, Option, None, Some, IfSome, ⊤}
-use Rattle.nntp_article.specs.Article.{Id, Line}
-use Rattle.nntp_article.specs.Spool.{Name}
-use Rattle.nntp_wire.specs.declared.command.What.{What}
-use Rattle.nntp_wire.specs.Listing.{active_groups}
-use Rattle.nntp_article.specs.Machine.{Visible, head_fits}
-use Rattle.nntp_facts.specs.Asks.{Ask, Estimates, ListsIn, Has, StandsAt, StepsUp, StepsDown}
-use Rattle.nntp_facts.specs.Facts.{Fact, ThereIs, ThereIsNo, Asks, IdAt, TextIs, NoArticle, GroupsAre}
-use Rattle.nntp_facts.specs.Given.{is_shown_group}
-use Rattle.nntp_facts.specs.AskView.{ask_of, position_of}
-use Rattle.nntp_facts.specs.declared.ask.Position.{Position}
-use Rattle.nntp_facts.specs.Listing.{AreListable}
-use Rattle.nntp_facts.specs.ListedGroups.{MayList}
+-- What the values of src/saying.rt mean.
+use Rattle.std.specs.Prelude.{ℕ, List, Option, option_map}
+use Rattle.nntp_wire.specs.Listing.{ActiveValue, active_groups}
+use Rattle.nntp_article.specs.Article.{Id}
+use Rattle.nntp_facts.specs.PartView.{said}
+use Rattle.nntp_facts.specs.Saying as said_of
+use Rattle.nntp_facts.specs.declared.saying.IdAt.{IdAt}
+use Rattle.nntp_facts.specs.declared.saying.GroupPart.{GroupPart}
+use Rattle.nntp_facts.specs.declared.saying.OfArticle.{OfArticle}
+use Rattle.nntp_facts.specs.declared.saying.OfArticle.TheVariants.{Lacks, Exists, Sends}
+use Rattle.nntp_facts.specs.declared.saying.ArticlePart.{ArticlePart}
+use Rattle.nntp_facts.specs.declared.saying.ListPart.{ListPart}
 use Rattle.nntp_facts.specs.declared.saying.Saying.{Saying}
-use Rattle.nntp_facts.specs.declared.saying.Saying.TheVariants as say
 
--- what a success with a number says: the number is that of the position, if there is one
-abbrev pub facts_placed : Name → What → Id → Option (List Line) → Option Position → ℕ → List Fact
-facts_placed here what id lines None n = TextIs what id lines ∷ IdAt here n id ∷ []
-facts_placed here what id lines (Some at) n = TextIs what id lines ∷ Asks here (StandsAt (position_of at) n) ∷ IdAt here n id ∷ []
+-- the id at a number
+abbrev pub id_at : Option IdAt → Option (ℕ × Id)
+id_at id = option_map (λ e. (e.number, e.id.now)) id
 
--- what that asks of the group's numbers
-abbrev pub asks_placed : Option Position → ℕ → List Ask
-asks_placed None n = Has n ∷ []
-asks_placed (Some at) n = StandsAt (position_of at) n ∷ Has n ∷ []
+-- what is said of a group
+abbrev pub of_group : GroupPart → said_of.OfGroup
+of_group g = record { name = g.name.now; numbers = said g.numbers; id = id_at g.id }
 
--- what it says, where this group is selected
-abbrev pub facts_said : {A : Type 0} → Name → Saying A → List Fact
-facts_said here say.Nothing = []
-facts_said here (say.NoGroup name) = ThereIsNo name.now ∷ []
-facts_said here (say.NoArticle id) = NoArticle id.now ∷ []
-facts_said here (say.Asks ask) = Asks here (ask_of ask) ∷ []
-facts_said here (say.Group marks name) = ThereIs name.now ∷ Asks name.now (Estimates marks) ∷ []
-facts_said here (say.Numbers marks name range numbers) = ThereIs name.now ∷ Asks name.now (Estimates marks) ∷ Asks name.now (ListsIn range numbers.items) ∷ []
-facts_said here (say.StepUp at number id) = Asks here (StepsUp (position_of at) number) ∷ IdAt here number id.now ∷ []
-facts_said here (say.StepDown at number id) = Asks here (StepsDown (position_of at) number) ∷ IdAt here number id.now ∷ []
-facts_said here (say.Text what id block) = TextIs what id.now block.now ∷ []
-facts_said here (say.Placed what id block at number) = facts_placed here what id.now block.now at number
-facts_said here (say.Groups wildmat block) = GroupsAre wildmat.now (active_groups block.now) ∷ []
+-- what is said of an id
+abbrev pub of_article : OfArticle → said_of.OfArticle
+of_article Lacks = said_of.Lacks
+of_article Exists = said_of.Exists
+of_article (Sends what block) = said_of.Sends what block.now
 
--- the selected group, if there is one, is shown
-abbrev pub IsSelectedShown : Visible → List Fact → Type 0
-IsSelectedShown v facts = IfSome v.selected (λ name. is_shown_group facts name ≡ true)
+-- the id, and what is said of it
+abbrev pub article_said : ArticlePart → Id × said_of.OfArticle
+article_said a = (a.id.now, of_article a.said)
 
--- an answer that fits says it behind these facts: the selected group is shown where it speaks of it, listed numbers ascend in their range, a head is one, and listed groups match, none twice
-abbrev pub MaySay : {A : Type 0} → List Fact → Name → Saying A → Type 0
-MaySay facts here (say.Asks ask) = is_shown_group facts here ≡ true
-MaySay facts here (say.Numbers marks name range numbers) = AreListable range numbers.items
-MaySay facts here (say.StepUp at number id) = is_shown_group facts here ≡ true
-MaySay facts here (say.StepDown at number id) = is_shown_group facts here ≡ true
-MaySay facts here (say.Text what id block) = IsTrue (head_fits what id.now block.now)
-MaySay facts here (say.Placed what id block at number) = (is_shown_group facts here ≡ true) × IsTrue (head_fits what id.now block.now)
-MaySay facts here (say.Groups wildmat block) = MayList wildmat.now (active_groups block.now)
-MaySay facts here saying = ⊤
+-- the groups that match
+abbrev pub groups_said : ListPart → Option (List ℕ) × List ActiveValue
+groups_said l = (l.wildmat.now, active_groups l.block.now)
+
+-- all that is said
+abbrev pub saying_of : Saying → said_of.Saying
+saying_of s = record { there_is = option_map (λ name. name.now) s.there_is; there_is_no = option_map (λ name. name.now) s.there_is_no; group = option_map of_group s.group; article = option_map article_said s.article; groups = option_map groups_said s.groups }

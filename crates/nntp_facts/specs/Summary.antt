@@ -1,120 +1,69 @@
 -- What is kept of all that is asked of the numbers of one group, and what it says.
-use Rattle.std.specs.Prelude.{not, ◌≡◌, ◌≢◌, ℕ, ◌+◌, ◌^◌, ◌<◌, ◌≤◌, ◌↔◌, Bool, true, false, ◌&&◌, ◌||◌, ◌==◌, nat_lt, nat_le, IsTrue, if◌then◌else◌, List, [], ◌∷◌, length, Option, None, Some, MatchOption}
-use Rattle.std.specs.List.{list_any, list_all}
+use Rattle.std.specs.Prelude.{not, ◌-◌, nat_lt, nat_le, ◌≡◌, ◌≢◌, ℕ, ◌+◌, ◌^◌, ◌<◌, ◌≤◌, ◌↔◌, Bool, true, false, ◌&&◌, ◌||◌, IsTrue, if◌then◌else◌, List, [], ◌∷◌, Option, None, Some, MatchOption, length, ◌==◌}
+use Rattle.std.specs.List.{list_any}
 use Rattle.std.specs.List.Sorted.{IsStrictlySortedBy}
 use Rattle.std.specs.Ordering.{nat_cmp}
 use Rattle.std.specs.BTreeMap.{is_at}
 use Rattle.std.specs.FinMap.{len}
-use Rattle.nntp_intervals.specs.Intervals.{holds, is_between}
+use Rattle.nntp_intervals.specs.Intervals.{holds}
 use Rattle.nntp_article.specs.Spool.{Numbers, IsNumber}
-use Rattle.nntp_article.specs.Machine.{is_ascending}
-use Rattle.nntp_facts.specs.Asks.{Ask, Estimates, Has}
-use Rattle.nntp_facts.specs.Given.{shows, denies, is_shown, is_denied, Demand, NoDemand, NotEmpty, OnlyOne, SecondIs, Impossible, demand, join, wants, IsFirstFree}
-use Rattle.nntp_facts.specs.Together.{is_possible, AsksStand}
-use Rattle.nntp_facts.specs.declared.need.Need.{Need}
-use Rattle.nntp_facts.specs.declared.need.Need.TheVariants.{Nothing, Any, Only, Below, Never}
+use Rattle.nntp_facts.specs.Asks.{Ask}
+use Rattle.nntp_facts.specs.Given.{is_shown, is_denied, demand, join, wants, IsFirstFree, is_known}
+use Rattle.nntp_facts.specs.Part.{Said, part_denies, is_one_of, is_within, is_within_all, ends_of, join_ends, is_end_of, is_demanding}
+use Rattle.nntp_facts.specs.declared.demand.Demand.{Demand}
+use Rattle.nntp_facts.specs.declared.demand.Demand.TheVariants.{NoDemand, NotEmpty, Impossible}
+use Rattle.nntp_facts.specs.declared.ends.Ends.{Ends}
 use Rattle.nntp_facts.specs.declared.shown.Found.{Found}
 use Rattle.nntp_facts.specs.declared.shown.Found.TheVariants.{Absent, Single, Several}
-use Rattle.nntp_facts.specs.declared.part.Part.{Part}
-
--- ---- estimates
-
--- the estimate of the ask
-abbrev pub estimate_in : Ask → Option ℕ
-estimate_in (Estimates m) = Some m.estimate
-estimate_in ask = None
-
--- so many are no more than is estimated
-abbrev pub is_within : Option ℕ → ℕ → Bool
-is_within None n = true
-is_within (Some e) n = nat_le n e
-
--- nor than any of the asks estimates
-abbrev pub is_within_all : List Ask → ℕ → Bool
-is_within_all asks n = list_all (λ ask. is_within (estimate_in ask) n) asks
 
 -- ---- the summary
 
--- what is kept: the numbers that are shown, ascending; those below 2^64 that are denied, as intervals; the least estimate; the demand
+-- what is kept: the numbers that are shown, ascending; those below 2^64 that are denied, as intervals; the least estimate; the strict marks; the demand
 pub record Summary : Type 0 where
   pub shown : List ℕ
   pub denied : List (ℕ × ℕ)
   pub estimate : Option ℕ
+  pub ends : Option Ends
   pub demand : Demand
-
--- the demand that the code's value stands for
-abbrev pub demand_of : Need → Demand
-demand_of Nothing = NoDemand
-demand_of Any = NotEmpty
-demand_of Only = OnlyOne
-demand_of (Below k) = SecondIs k
-demand_of Never = Impossible
 
 -- n is one of the ascending numbers
 abbrev pub has : List ℕ → ℕ → Bool
 has ns n = list_any (is_at (nat_cmp n)) ns
 
--- s is kept of the asks; no number from 2^64 on is left open
+-- s is kept of the asks
 pub record IsSummary (s : Summary) (asks : List Ask) : Type 0 where
   pub ascends : IsStrictlySortedBy nat_cmp s.shown
   pub shown : (n : ℕ) → has s.shown n ≡ is_shown asks n
   pub denied : (n : ℕ) → n < 2 ^ 64 → holds s.denied n ≡ is_denied asks n
-  pub beyond : (n : ℕ) → 2 ^ 64 ≤ n → is_denied asks n ≡ true
   pub estimate : (n : ℕ) → is_within s.estimate n ≡ is_within_all asks n
+  pub ends : s.ends ≡ ends_of asks
   pub demand : s.demand ≡ demand asks
 
--- s is kept of the asks, which stand together
-abbrev pub Stands : Summary → List Ask → Type 0
-Stands s asks = IsSummary s asks × AsksStand asks
+-- no number from 2^64 on is left open
+abbrev pub AreBounded : List Ask → Type 0
+AreBounded asks = (n : ℕ) → 2 ^ 64 ≤ n → is_denied asks n ≡ true
 
--- ---- what is said at once
+-- ---- more asks
 
--- what some asks say
-pub record Said : Type 0 where
-  pub possible : Bool
-  pub shows : ℕ → Bool
-  pub denies : ℕ → Bool
-  pub estimate : Option ℕ
-  pub demand : Demand
+-- n is shown after them
+abbrev pub shown_after : List ℕ → List ℕ → ℕ → Bool
+shown_after shown numbers n = has shown n || is_one_of numbers n
 
--- p is what the asks say
-pub record Says (p : Said) (asks : List Ask) : Type 0 where
-  pub possibly : p.possible ≡ list_all is_possible asks
-  pub showing : (n : ℕ) → p.shows n ≡ is_shown asks n
-  pub denying : (n : ℕ) → n < 2 ^ 64 → p.denies n ≡ is_denied asks n
-  pub small : (n : ℕ) → is_shown asks n ≡ true → n < 2 ^ 64
-  pub estimating : (n : ℕ) → is_within p.estimate n ≡ is_within_all asks n
-  pub demanding : p.demand ≡ demand asks
+-- it is said after them that there is a number
+abbrev pub says_some_after : Summary → Said → Bool
+says_some_after s p = not (length s.shown == 0) || not (length p.numbers == 0) || is_demanding (join s.demand p.demand)
 
--- the ask shows no other number
-abbrev pub ShowsNoOther : Ask → ℕ → Type 0
-ShowsNoOther ask n = (m : ℕ) → shows ask m ≡ true → n ≡ m
+-- the strict marks after them, which are numbers: where it is said that there is one
+abbrev pub ends_after : Summary → Said → Option Ends
+ends_after s p = if says_some_after s p then join_ends s.ends p.ends else None
 
--- q says what p says of one ask, and that n is there, where the ask shows no other number
-abbrev pub SaysToo : Said → ℕ → Said → Type 0
-SaysToo p n q = (ask : Ask) → Says p (ask ∷ []) → ShowsNoOther ask n → Says q (ask ∷ Has n ∷ [])
+-- n is known after them
+abbrev pub known_after : Summary → Said → ℕ → Bool
+known_after s p n = shown_after s.shown p.numbers n || is_end_of (ends_after s p) n
 
--- the part shows the number
-abbrev pub part_shows : Option ℕ → ℕ → Bool
-part_shows None n = false
-part_shows (Some m) n = m == n
-
--- the part says that the number isn't there: it is below the low one, above the high one, or between the first and the last
-abbrev pub part_denies : Part → ℕ → Bool
-part_denies p n = nat_lt n p.low || nat_lt p.high n || is_between p.first p.last n
-
--- what the part says
-abbrev pub said : Part → Said
-said p = record { possible = p.is_possible; shows = part_shows p.shows; denies = part_denies p; estimate = p.estimate; demand = demand_of p.need }
-
--- it is said that n is there, and nothing else
-pub record SaysOnly (p : Said) (n : ℕ) : Type 0 where
-  pub can_be : IsTrue p.possible
-  pub there : p.shows n ≡ true
-  pub no_other : (m : ℕ) → p.shows m ≡ true → n ≡ m
-  pub denies_none : (m : ℕ) → m < 2 ^ 64 → p.denies m ≡ false
-  pub no_estimate : p.estimate ≡ None
-  pub no_demand : p.demand ≡ NoDemand
+-- n is denied after them
+abbrev pub denied_after : List (ℕ × ℕ) → Said → ℕ → Bool
+denied_after denied p n = holds denied n || part_denies p n
 
 -- ---- whether what is asked stands together, from little
 
@@ -138,7 +87,7 @@ abbrev pub has_room : Demand → Option ℕ → ℕ → Option ℕ → Bool
 has_room d None count estimate = false
 has_room d (Some f) count estimate = wants d f && is_within estimate (count + 1)
 
--- the demand is met by the numbers that are shown, of which it wants so many, or by one more
+-- the demand is met by the numbers that are known, of which it wants so many, or by one more
 abbrev pub is_settled : Demand → Found → Option ℕ → ℕ → Option ℕ → Bool
 is_settled NoDemand found free count estimate = is_within estimate count
 is_settled Impossible found free count estimate = false
@@ -151,28 +100,18 @@ is_settled d Several free count estimate = false
 abbrev pub AreCounted : (ℕ → Bool) → ℕ → Type 0
 AreCounted p c = (M : Numbers) × ((n : ℕ) → IsNumber M n ↔ IsTrue (p n)) × (len M ≡ c)
 
+-- of the numbers that pass the test so many are found that are wanted, and there are so many
+pub record IsTally (p : ℕ → Bool) (d : Demand) (w : Found) (c : ℕ) : Type 0 where
+  pub found : Finds (λ n. p n && wants d n) w
+  pub count : AreCounted p c
+
 -- what is_settled looks at is so of the asks
 pub record Looks (asks : List Ask) (d : Demand) (w : Found) (f : Option ℕ) (c : ℕ) (e : Option ℕ) : Type 0 where
   pub demanded : d ≡ demand asks
-  pub found : Finds (λ n. is_shown asks n && wants d n) w
+  pub found : Finds (λ n. is_known asks n && wants d n) w
   pub free : FirstFree (is_denied asks) f
-  pub count : AreCounted (is_shown asks) c
+  pub count : AreCounted (is_known asks) c
   pub estimate : (n : ℕ) → is_within e n ≡ is_within_all asks n
-
--- ---- more asks
-
--- n is shown after them
-abbrev pub shown_after : List ℕ → (ℕ → Bool) → ℕ → Bool
-shown_after ns shows n = has ns n || shows n
-
--- n is denied after them
-abbrev pub denied_after : List (ℕ × ℕ) → (ℕ → Bool) → ℕ → Bool
-denied_after denied denies n = holds denied n || denies n
-
--- how many are shown after a part
-abbrev pub count_after : List ℕ → Option ℕ → ℕ
-count_after ns None = length ns
-count_after ns (Some m) = if has ns m then length ns else length ns + 1
 
 -- the first free number below 2^64, if there is one
 abbrev pub FirstFreeBelow : (ℕ → Bool) → Option ℕ → Type 0
@@ -181,33 +120,32 @@ FirstFreeBelow denied free = MatchOption free ((n : ℕ) → 1 ≤ n → n < 2 ^
 -- what is said can be, denies nothing that is shown, and shows nothing that is denied
 pub record AgreesWith (shown : List ℕ) (denied : List (ℕ × ℕ)) (p : Said) : Type 0 where
   pub can_be : IsTrue p.possible
-  pub before : (n : ℕ) → has shown n ≡ true → p.denies n ≡ false
-  pub after : (n : ℕ) → p.shows n ≡ true → denied_after denied p.denies n ≡ false
+  pub before : (n : ℕ) → has shown n ≡ true → part_denies p n ≡ false
+  pub after : (n : ℕ) → is_one_of p.numbers n ≡ true → denied_after denied p n ≡ false
+
+-- neither of the two is denied after what is said
+abbrev pub AreOpen : List (ℕ × ℕ) → Said → Option Ends → Type 0
+AreOpen denied p ends = (n : ℕ) → is_end_of ends n ≡ true → denied_after denied p n ≡ false
 
 -- what is_settled looks at, after what is said
 pub record LooksAfter (s : Summary) (p : Said) (d : Demand) (w : Found) (f : Option ℕ) (c : ℕ) (e : Option ℕ) : Type 0 where
   pub demanded : d ≡ join s.demand p.demand
-  pub found : Finds (λ n. shown_after s.shown p.shows n && wants d n) w
-  pub free : FirstFreeBelow (denied_after s.denied p.denies) f
-  pub count : AreCounted (shown_after s.shown p.shows) c
+  pub tally : IsTally (known_after s p) d w c
+  pub free : FirstFreeBelow (denied_after s.denied p) f
   pub estimate : (n : ℕ) → is_within e n ≡ (is_within s.estimate n && is_within p.estimate n)
 
--- ---- a list of numbers
+-- ---- the intervals that numbers leave
 
--- n is one of the numbers
-abbrev pub is_one_of : List ℕ → ℕ → Bool
-is_one_of ns n = list_any (λ m. n == m) ns
+-- the number is between the marks, and not denied
+abbrev pub is_open : List (ℕ × ℕ) → Said → ℕ → Bool
+is_open denied p n = nat_le p.low n && nat_le n p.high && not (holds denied n)
 
--- of the numbers that pass the test so many are found that are wanted, and there are so many
-pub record IsTally (p : ℕ → Bool) (d : Demand) (w : Found) (c : ℕ) : Type 0 where
-  pub found : Finds (λ n. p n && wants d n) w
-  pub count : AreCounted p c
+-- the number behind n, if it is below 2^64
+abbrev pub number_behind : ℕ → Option ℕ
+number_behind n = if nat_lt (n + 1) (2 ^ 64) then Some (n + 1) else None
 
--- n is outside the marks, or in the range and not one of the numbers that are listed there
-abbrev pub list_denies : (low high first last : ℕ) → List ℕ → ℕ → Bool
-list_denies low high first last ns n = nat_lt n low || nat_lt high n || (is_between first last n && not (is_one_of ns n))
-
--- the listed numbers are in the range, between the marks, not denied, and not 0
-pub record MayBeListed (denied : List (ℕ × ℕ)) (low high first last : ℕ) (ns : List ℕ) : Type 0 where
-  pub ascends : IsTrue (is_ascending ns)
-  pub within : (n : ℕ) → is_one_of ns n ≡ true → (1 ≤ n) × (low ≤ n) × (n ≤ high) × (first ≤ n) × (n ≤ last) × (holds denied n ≡ false)
+-- the intervals that ascending numbers leave of the one from a start, if there is one, to last
+abbrev pub gaps : Option ℕ → ℕ → List ℕ → List (ℕ × ℕ)
+gaps None last ns = []
+gaps (Some start) last [] = (start, last) ∷ []
+gaps (Some start) last (n ∷ ns) = (start, n - 1) ∷ gaps (number_behind n) last ns

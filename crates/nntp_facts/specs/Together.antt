@@ -8,9 +8,12 @@ use Rattle.nntp_wire.specs.Decided.{matches_name}
 use Rattle.nntp_article.specs.Article.{Id}
 use Rattle.nntp_article.specs.Spool.{Name, Numbers, is_line}
 use Rattle.nntp_article.specs.Machine.{is_in_range, is_same}
-use Rattle.nntp_facts.specs.Asks.{Nowhere, Ask, Known, Estimates, ListsIn, StandsAt, StandsNowhere, StepsUp, StepsDown, IsTop, IsBottom}
+use Rattle.nntp_facts.specs.Asks.{Ask, Estimates, ListsIn, StandsAt, StandsNowhere, StepsUp, StepsDown, IsTop, IsBottom}
+use Rattle.nntp_facts.specs.declared.position.Position.TheVariants.{Nowhere, Known}
 use Rattle.nntp_facts.specs.Facts.{Fact, ThereIs, ThereIsNo, IdAt, TextIs, NoArticle, GroupsAre}
-use Rattle.nntp_facts.specs.Given.{Demand, NoDemand, NotEmpty, OnlyOne, SecondIs, Impossible, demand, is_denied, IsGivenNumber, HasGivenNumbers, asks_of, is_shown_group, first_given, id_in, head_in, body_in}
+use Rattle.nntp_facts.specs.Given.{demand, is_denied, IsGivenNumber, HasGivenNumbers, asks_of, is_shown_group, first_given, id_in, head_in, body_in}
+use Rattle.nntp_facts.specs.declared.demand.Demand.{Demand}
+use Rattle.nntp_facts.specs.declared.demand.Demand.TheVariants.{NoDemand, NotEmpty, OnlyOne, SecondIs, Impossible}
 
 -- ---- the numbers of one group
 
@@ -38,7 +41,7 @@ MeetsDemand Impossible P = ⊥
 
 -- there are no more numbers than the ask estimates
 abbrev pub IsFewFor : Numbers → Ask → Type 0
-IsFewFor N (Estimates m) = len N ≤ m.estimate
+IsFewFor N (Estimates how m) = len N ≤ m.estimate
 IsFewFor N ask = ⊤
 
 -- what is asked of one group stands together: each ask can be met, and the given numbers aren't denied, meet the demand, and are as few as is estimated

@@ -1,5 +1,5 @@
 //! What answers say of articles.
-ghost use Rattle.std.specs.Prelude.{◌≡◌, ◌≢◌, ◌↔◌, ℕ, false, not, IfSome, IsTrue, List, IfOk, OnOk, is_some, option_map};
+ghost use Rattle.std.specs.Prelude.{◌≡◌, ℕ, true, not, IsTrue, List, IfOk, OnOk, MatchOption, is_some, option_map};
 ghost use Rattle.std.specs.FinMap as map;
 ghost use Rattle.std.specs.BTreeMap.{insert_entry};
 ghost use Rattle.std.specs.Ordering.{nat_cmp};
@@ -8,15 +8,16 @@ ghost use Rattle.nntp_article.specs.Spool.{Name};
 ghost use Rattle.nntp_article.specs.Machine.{head_fits};
 ghost use Rattle.nntp_facts.specs.Facts.{Fact, IdAt, TextIs, NoArticle};
 ghost use Rattle.nntp_facts.specs.Given.{is_mentioned};
-ghost use Rattle.nntp_facts.specs.Kept.{AreKeptArticles, IsFactAdded, may_be};
-ghost use Rattle.nntp_facts.specs.declared.fit.Fit.TheVariants.{Again, New};
+ghost use Rattle.nntp_facts.specs.Kept.{AreKeptArticles, IsFactAdded};
+ghost use Rattle.nntp_facts.specs.KeptSaying.{MayBeSaid, article_fact};
+ghost use Rattle.nntp_facts.specs.SayingView.{article_said};
 ghost use Rattle.nntp_facts.specs.Readers.{shown_articles};
 ghost use Rattle.nntp_facts.specs.ArticleView.{known_value, known_of};
 
 mod known;
 mod seen_articles;
 
-use crate::fit::Fit;
+use crate::saying::{ArticlePart, OfArticle};
 use known::{Known, Seen, Sent};
 use nntp_wire::{Block, What};
 pub use seen_articles::{SeenArticle, SeenArticles};
@@ -86,6 +87,19 @@ impl<A: Allocator + Copy> Articles<A> {
         }
     }
 
+    /// Adds what is said of an id, if it may be so, and tells whether it may. After an error the articles
+    /// say nothing of use.
+    pub(crate) fn note(&mut self, part: &ArticlePart<'_>) -> Result<bool, AllocError>
+        ensures { IfOk result (λ does. (facts : List Fact) (name : Name) (n : ℕ) → AreKeptArticles facts self.old → MayBeSaid (article_said part.now)
+            → IsFactAdded facts (article_fact name n (article_said part.now)) self.old self.new does) }
+    {
+        match &part.said {
+            OfArticle::Lacks => self.note_lack(part.id),
+            OfArticle::Exists => self.note_there(part.id),
+            OfArticle::Sends { what, block } => self.note_sent(*what, part.id, *block),
+        }
+    }
+
     /// Adds an id, or puts what is known of it in the place of what was.
     fn put(&mut self, id: &[u8], new: Known<A>) -> Result<(), AllocError>
         ensures { OnOk result (self.new ≡ map.insert self.old id.now (known_value new)) }
@@ -96,7 +110,7 @@ impl<A: Allocator + Copy> Articles<A> {
 
     /// Adds that this is sent of the id's article, if it may be so, and tells whether it may. After an
     /// error the articles say nothing of use.
-    pub(crate) fn note_sent(
+    fn note_sent(
         &mut self,
         what: What,
         id: &[u8],
@@ -114,13 +128,11 @@ impl<A: Allocator + Copy> Articles<A> {
         Ok(true)
     }
 
-    /// Adds that the id has an article, if it may be so, and tells how that fits: it is new, where no answer
-    /// mentioned the id. After an error the articles say nothing of use.
-    pub(crate) fn note_there(&mut self, id: &[u8]) -> Result<Fit, AllocError>
-        ensures added { IfOk result (λ fit. (facts : List Fact) (name : Name) (n : ℕ) → AreKeptArticles facts self.old
-            → IsFactAdded facts (IdAt name n id.now) self.old self.new (may_be fit)) }
-        ensures again { IfOk result (λ fit. fit ≡ Again → self.new ≡ self.old) }
-        ensures new { IfOk result (λ fit. (facts : List Fact) → AreKeptArticles facts self.old → fit ≡ New → is_mentioned facts id.now ≡ false) }
+    /// Adds that the id has an article, if it may be so, and tells whether it may. After an error the
+    /// articles say nothing of use.
+    fn note_there(&mut self, id: &[u8]) -> Result<bool, AllocError>
+        ensures { IfOk result (λ does. (facts : List Fact) (name : Name) (n : ℕ) → AreKeptArticles facts self.old
+            → IsFactAdded facts (IdAt name n id.now) self.old self.new does) }
     {
         let id = Vec::from_slice(self.alloc, id)?;
         put_new(&mut self.known, id, Known::There(Seen::unsent()))
@@ -128,7 +140,7 @@ impl<A: Allocator + Copy> Articles<A> {
 
     /// Adds that the id has no article, if it may be so, and tells whether it may. After an error the
     /// articles say nothing of use.
-    pub(crate) fn note_lack(&mut self, id: &[u8]) -> Result<bool, AllocError>
+    fn note_lack(&mut self, id: &[u8]) -> Result<bool, AllocError>
         ensures { IfOk result (λ does. (facts : List Fact) → AreKeptArticles facts self.old → IsFactAdded facts (NoArticle id.now) self.old self.new does) }
     {
         if let Some(known) = self.get(id) {
@@ -139,22 +151,21 @@ impl<A: Allocator + Copy> Articles<A> {
     }
 }
 
-/// Puts in what is known of an id, if nothing is; else tells how it fits that the id has an article.
+/// Puts in what is known of an id, if nothing is; and tells whether the id may have an article.
 fn put_new<A: Allocator + Copy>(
     all: &mut BTreeMap<Vec<u8, A>, Known<A>, A>,
     id: Vec<u8, A>,
     new: Known<A>,
-) -> Result<Fit, AllocError>
-    ensures same { IfOk result (λ fit. fit ≢ New → all.new.entries ≡ all.old.entries) }
-    ensures known { IfOk result (λ fit. fit ≢ New → IfSome (known_of id.items all.old.entries) (λ k. may_be fit ≡ not (known_value k).is_denied)) }
-    ensures new { IfOk result (λ fit. fit ≡ New → all.new.entries ≡ insert_entry (λ a b. slice_cmp nat_cmp a.items b.items) all.old.entries id new) }
-    ensures absent { IfOk result (λ fit. is_some (known_of id.items all.old.entries) ≡ false ↔ fit ≡ New) }
+) -> Result<bool, AllocError>
+    ensures { IfOk result (λ may. MatchOption (known_of id.items all.old.entries)
+        ((may ≡ true) × (all.new.entries ≡ insert_entry (λ a b. slice_cmp nat_cmp a.items b.items) all.old.entries id new))
+        (λ k. (may ≡ not (known_value k).is_denied) × (all.new.entries ≡ all.old.entries))) }
 {
     match all.entry(id)? {
-        Entry::Occupied(known) => Ok(known.get().fit()),
+        Entry::Occupied(known) => Ok(!known.get().is_denied()),
         Entry::Vacant(place) => {
             place.insert(new);
-            Ok(Fit::New)
+            Ok(true)
         }
     }
 }

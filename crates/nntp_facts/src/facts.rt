@@ -1,18 +1,21 @@
 //! What the accepted exchanges of a session say of the spool.
 ghost use Rattle.std.specs.Prelude.{◌≡◌, true, false, List, [], IfOk, Err, slice_get};
 ghost use Rattle.nntp_pair.specs.Pairing.{Paired};
+ghost use Rattle.nntp_article.specs.declared.profile.Profile.{Profile};
+ghost use Rattle.nntp_article.specs.Limit.{profile_of};
 ghost use Rattle.nntp_facts.specs.Given.{is_mentioned};
 ghost use Rattle.nntp_facts.specs.Noted.{Stands, IsDue, IsNoted, Notes, said_by};
 ghost use Rattle.nntp_facts.specs.Readers.{ShownGroup, ShownArticle, AreShownGroups, AreShownArticles};
 
 use crate::articles::{SeenArticle, SeenArticles};
-use crate::ask::Position;
 use crate::kept::Kept;
 use crate::noted::{FactsError, Noted};
-use crate::saying::Saying;
+use crate::position::Position;
+use crate::saying::{Saying, numbers_listed};
 use crate::seen_groups::{SeenGroup, SeenGroups};
-use nntp_article::{PROFILE_31_BITS, Profile, Visible};
+use nntp_article::{Profile, Visible};
 use nntp_pair::Exchange;
+use nntp_wire::{Limit, Marks};
 use std::alloc::{AllocError, Allocator, Global};
 use std::marker::Model;
 
@@ -20,7 +23,8 @@ use std::marker::Model;
 #[derive(Drop)]
 pub struct Facts<A: Allocator = Global> {
     alloc: A,
-    profile: Profile,
+    limit: Limit,
+    marks: Marks,
     /// How many exchanges were accepted.
     count: u64,
     visible: Visible<A>,
@@ -32,25 +36,27 @@ pub struct Facts<A: Allocator = Global> {
 
 impl<A: Allocator> Model for Facts<A> {
     ghost use Rattle.nntp_facts.specs.Noted.{FactsKept};
-    ghost use Rattle.nntp_facts.specs.AskView.{position_of};
     ghost use Rattle.nntp_facts.specs.KeptView.{coded_facts};
 
     ghost Value = { FactsKept };
 
     ghost coded = { coded_facts };
 
-    ghost view = { λ f. record { profile = f.profile; count = f.count; visible = f.visible; position = position_of f.position; kept = f.kept; has_failed = f.has_failed } };
+    ghost view = { λ f. record { limit = f.limit; marks = f.marks; count = f.count; visible = f.visible; position = f.position; kept = f.kept; has_failed = f.has_failed } };
 }
 
 impl<A: Allocator + Copy> Facts<A> {
-    /// The facts of no exchanges. Article numbers have 31 bits (RFC 3977, section 6). It takes no memory
-    /// yet.
-    pub fn new(alloc: A) -> Facts<A>
-        ensures { Stands result [] }
+    /// The facts of no exchanges, where article numbers are within the limit, and the marks of a 211 are read
+    /// so (RFC 3977, sections 6 and 6.1.1.2). It takes no memory yet.
+    pub fn new(alloc: A, limit: Limit, marks: Marks) -> Facts<A>
+        ensures stands { Stands (profile_of limit marks) result [] }
+        ensures limit { result.limit ≡ limit }
+        ensures marks { result.marks ≡ marks }
     {
         Facts {
             alloc,
-            profile: PROFILE_31_BITS,
+            limit,
+            marks,
             count: 0,
             visible: Visible::new(alloc),
             position: Position::Nowhere,
@@ -70,7 +76,7 @@ impl<A: Allocator + Copy> Facts<A> {
     /// `Memory` where memory was refused; from then on `Failed`.
     pub fn note(&mut self, exchange: &Exchange<'_>) -> Result<Noted, FactsError>
         requires { self.old.has_failed ≡ false → IsDue self.old exchange.now }
-        ensures noted { (past : List Paired) → Stands self.old past → Notes past exchange.now self.old self.new result }
+        ensures noted { (profile : Profile) (past : List Paired) → Stands profile self.old past → Notes profile past exchange.now self.old self.new result }
         ensures failed { self.old.has_failed ≡ true → (result ≡ Err FactsError.Failed) × (self.new ≡ self.old) }
     {
         if self.has_failed {
@@ -88,16 +94,19 @@ impl<A: Allocator + Copy> Facts<A> {
     /// The same, where memory wasn't refused before. After an error the value says nothing of use.
     fn try_note(&mut self, exchange: &Exchange<'_>) -> Result<Noted, AllocError>
         requires { IsDue self.old exchange.now }
-        ensures { IfOk result (λ noted. (past : List Paired) → Stands self.old past → IsNoted past exchange.now self.old self.new noted) }
+        ensures { IfOk result (λ noted. (profile : Profile) (past : List Paired) → Stands profile self.old past → IsNoted profile past exchange.now self.old self.new noted) }
     {
         let index = exchange.index();
         let prompt = exchange.prompt();
         let answer = exchange.answer();
-        if !self.visible.fits(self.profile, prompt, answer)? {
+        let profile = Profile::of(self.limit, self.marks);
+        if !self.visible.fits(profile, prompt, answer)? {
             return Ok(Noted::OutOfPlace);
         }
-        let saying = Saying::of(self.alloc, self.position, prompt, answer)?;
-        if !self.kept.note(self.visible.selected_name(), &saying)? {
+        let numbers = numbers_listed(self.alloc, answer)?;
+        let here = self.visible.selected_name();
+        let saying = Saying::of(self.marks, here, self.position, prompt, answer, &numbers);
+        if !self.kept.note(&saying)? {
             return Ok(Noted::Contradiction);
         }
         self.visible.advance(prompt, answer)?;
@@ -108,37 +117,51 @@ impl<A: Allocator + Copy> Facts<A> {
 }
 
 impl<A: Allocator> Facts<A> {
+    /// How large article numbers may be.
+    pub fn limit(&self) -> Limit
+        ensures { result ≡ self.now.limit }
+    {
+        self.limit
+    }
+
+    /// How the marks of a 211 are read.
+    pub fn marks(&self) -> Marks
+        ensures { result ≡ self.now.marks }
+    {
+        self.marks
+    }
+
     /// The groups that each spool has, in byte order of their names.
     pub fn groups(&self) -> SeenGroups<'_, A>
-        ensures { (past : List Paired) → Stands self.now past → AreShownGroups (said_by past) result }
+        ensures { (profile : Profile) (past : List Paired) → Stands profile self.now past → AreShownGroups (said_by profile.marks past) result }
     {
         self.kept.groups()
     }
 
     /// The group with so many before it, if there are more. It goes through those before.
     pub fn group(&self, index: usize) -> Option<SeenGroup<'_, A>>
-        ensures { (past : List Paired) → Stands self.now past → (groups : List ShownGroup) × AreShownGroups (said_by past) groups × (result ≡ slice_get groups index) }
+        ensures { (profile : Profile) (past : List Paired) → Stands profile self.now past → (groups : List ShownGroup) × AreShownGroups (said_by profile.marks past) groups × (result ≡ slice_get groups index) }
     {
         self.groups().nth(index)
     }
 
     /// The articles that each spool has, in byte order of their message-ids.
     pub fn articles(&self) -> SeenArticles<'_, A>
-        ensures { (past : List Paired) → Stands self.now past → AreShownArticles (said_by past) result }
+        ensures { (profile : Profile) (past : List Paired) → Stands profile self.now past → AreShownArticles (said_by profile.marks past) result }
     {
         self.kept.articles()
     }
 
     /// The article with so many before it, if there are more. It goes through those before.
     pub fn article(&self, index: usize) -> Option<SeenArticle<'_, A>>
-        ensures { (past : List Paired) → Stands self.now past → (articles : List ShownArticle) × AreShownArticles (said_by past) articles × (result ≡ slice_get articles index) }
+        ensures { (profile : Profile) (past : List Paired) → Stands profile self.now past → (articles : List ShownArticle) × AreShownArticles (said_by profile.marks past) articles × (result ≡ slice_get articles index) }
     {
         self.articles().nth(index)
     }
 
     /// Whether an answer mentions the id.
     pub fn mentions(&self, id: &[u8]) -> bool
-        ensures { (past : List Paired) → Stands self.now past → result ≡ is_mentioned (said_by past) id.now }
+        ensures { (profile : Profile) (past : List Paired) → Stands profile self.now past → result ≡ is_mentioned (said_by profile.marks past) id.now }
     {
         self.kept.mentions(id)
     }

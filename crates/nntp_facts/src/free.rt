@@ -1,50 +1,40 @@
 //! The first number that is free.
-ghost use Rattle.std.specs.Prelude.{◌≡◌, ℕ, ◌<◌, ◌≤◌, ◌⊎◌, true, false};
+ghost use Rattle.std.specs.Prelude.{◌≡◌, ℕ, ◌<◌, ◌≤◌, ◌⊎◌, true, false, max, [], IsTrue};
+ghost use Rattle.std.specs.List.{list_all};
 ghost use Rattle.nntp_intervals.specs.Intervals.{holds};
-ghost use Rattle.nntp_facts.specs.Summary.{part_denies, denied_after, list_denies, MayBeListed, FirstFreeBelow};
+ghost use Rattle.nntp_facts.specs.Part.{IsRegular};
+ghost use Rattle.nntp_facts.specs.PartView.{said};
+ghost use Rattle.nntp_facts.specs.Summary.{denied_after, is_open, FirstFreeBelow};
 
-use crate::part::{NOTHING, Part};
+use crate::part::Part;
 use nntp_intervals::IntervalSet;
 use std::alloc::Allocator;
 
-/// The first free number, where the part says more.
-pub(crate) fn free_after<A: Allocator>(denied: &IntervalSet<A>, part: &Part) -> Option<u64>
-    ensures { FirstFreeBelow (denied_after denied.now (part_denies part.now)) result }
-{
-    let start = if part.low == 0 { 1 } else { part.low };
-    let free = denied.least_free_from(start)?;
-    let free = if part.first <= free && free <= part.last {
-        denied.least_free_from(part.last.checked_add(1)?)?
-    } else {
-        free
-    };
-    if free <= part.high { Some(free) } else { None }
-}
+impl<'s> Part<'s> {
+    /// The first free number after the part, where no number of the part is denied: the first of these,
+    /// where what is free without them is in their interval.
+    pub(crate) fn first_free<A: Allocator>(&self, denied: &IntervalSet<A>) -> Option<u64>
+        ensures { IsRegular (said self.now) → IsTrue (list_all (is_open denied.now (said self.now)) self.now.numbers.now)
+            → FirstFreeBelow (denied_after denied.now (said self.now)) result }
+    {
+        let start = self.low.max(1);
+        match self.numbers.first() {
+            Some(n) => Some(free_before(denied, start, self.first, *n)),
+            None => self.first_free_outside(denied, start),
+        }
+    }
 
-/// The first free number, where numbers are listed in a range: the first of them, where what is free
-/// without them is in the range.
-pub(crate) fn free_after_list<A: Allocator>(
-    denied: &IntervalSet<A>,
-    low: u64,
-    high: u64,
-    first: u64,
-    last: u64,
-    numbers: &[u64],
-) -> Option<u64>
-    ensures { MayBeListed denied.now low high first last numbers.now → FirstFreeBelow (denied_after denied.now (list_denies low high first last numbers.now)) result }
-{
-    match numbers.first() {
-        Some(n) => Some(free_before(denied, low.max(1), first, *n)),
-        None => free_after(
-            denied,
-            &Part {
-                low,
-                high,
-                first,
-                last,
-                ..NOTHING
-            },
-        ),
+    /// The first free number from `start` on that is outside the interval.
+    fn first_free_outside<A: Allocator>(&self, denied: &IntervalSet<A>, start: u64) -> Option<u64>
+        ensures { self.now.numbers.now ≡ [] → start ≡ max self.now.low 1 → FirstFreeBelow (denied_after denied.now (said self.now)) result }
+    {
+        let free = denied.least_free_from(start)?;
+        let free = if self.first <= free && free <= self.last {
+            denied.least_free_from(self.last.checked_add(1)?)?
+        } else {
+            free
+        };
+        if free <= self.high { Some(free) } else { None }
     }
 }
 

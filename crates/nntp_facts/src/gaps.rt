@@ -2,8 +2,7 @@
 ghost use Rattle.std.specs.Prelude.{◌≡◌, ℕ, true, false, ◌||◌, IsTrue, OnOk, ◌↔◌, Some};
 ghost use Rattle.std.specs.Iterator.{YieldsFirst, item_count};
 ghost use Rattle.nntp_intervals.specs.Intervals.{holds};
-ghost use Rattle.nntp_facts.specs.Summary.{has};
-ghost use Rattle.nntp_facts.specs.Listing.{gaps};
+ghost use Rattle.nntp_facts.specs.Summary.{has, gaps};
 
 use crate::shown::meets;
 use nntp_intervals::IntervalSet;
@@ -25,7 +24,7 @@ impl<'a> Model for Gaps<'a> {
 
     ghost Value = { List (ℕ × ℕ) };
 
-    ghost use Rattle.nntp_facts.specs.Listing.{gaps};
+    ghost use Rattle.nntp_facts.specs.Summary.{gaps};
 
     ghost view = { λ g. gaps g.start g.last g.numbers.now };
 }

@@ -1,22 +1,18 @@
 //! What is kept of one group: its numbers, and the ids that are shown at numbers.
-ghost use Rattle.std.specs.Prelude.{◌≡◌, ℕ, ◌↔◌, List, [], ◌∷◌, ◌++◌, IsTrue, IfSome, IfOk, OnOk, MatchOption, Some};
+ghost use Rattle.std.specs.Prelude.{◌≡◌, ◌↔◌, List, [], ◌++◌, IsTrue, IfSome, OnOk, Some};
 ghost use Rattle.std.specs.Option.{option_copied};
 ghost use Rattle.std.specs.FinMap.{get, insert, empty};
-ghost use Rattle.nntp_facts.specs.Asks.{Ask, Estimates, Bounds};
-ghost use Rattle.nntp_facts.specs.Given.{is_shown, IsOneMore};
+ghost use Rattle.nntp_facts.specs.Asks.{Ask};
 ghost use Rattle.nntp_facts.specs.Together.{AsksStand};
-ghost use Rattle.nntp_facts.specs.Summary.{said, Says, IsSummary, Stands};
-ghost use Rattle.nntp_facts.specs.Listing.{AreListable};
-ghost use Rattle.nntp_facts.specs.Kept.{Agree, IsShownWith, FitsAt, IsAddedIf};
-ghost use Rattle.nntp_facts.specs.declared.fit.Fit.TheVariants.{Again};
-ghost use Rattle.nntp_facts.specs.Readers.{unseen_in};
-ghost use Rattle.nntp_facts.specs.ListingView.{asks_listed};
+ghost use Rattle.nntp_facts.specs.Part.{Says};
+ghost use Rattle.nntp_facts.specs.PartView.{said};
+ghost use Rattle.nntp_facts.specs.SayingView.{id_at};
+ghost use Rattle.nntp_facts.specs.Summary.{IsSummary, AreBounded};
+ghost use Rattle.nntp_facts.specs.Kept.{Agree, IsFree, MayHave, ids_with, places_with};
+ghost use Rattle.nntp_facts.specs.Readers.{unseen_in, unseen_high_in};
 
-use crate::fit::Fit;
-use crate::listing::Listing;
 use crate::numbers::Numbers;
-use crate::part::Part;
-use nntp_wire::WaterMarks;
+use crate::saying::{GroupPart, IdAt};
 use std::alloc::{AllocError, Allocator, Global};
 use std::collections::{BTreeMap, BTreeSet};
 use std::marker::Model;
@@ -45,155 +41,116 @@ impl<A: Allocator> Model for Group<A> {
 }
 
 impl<A: Allocator + Copy> Group<A> {
-    /// Of a group of which it is said that there are at most so many numbers, between the marks.
-    pub(crate) fn of_marks(alloc: A, marks: WaterMarks) -> Result<Group<A>, AllocError>
-        ensures numbers { IfOk result (λ g. Stands g.numbers (Estimates marks ∷ [])) }
-        ensures ids { IfOk result (λ g. (g.ids ≡ empty) × (g.places ≡ empty)) }
-    {
-        let numbers = Numbers::of_marks(alloc, marks.estimate, marks.low, marks.high)?;
-        Ok(Group::with_numbers(alloc, numbers))
-    }
-
-    /// Of a group of which it is said that all numbers are between the marks.
-    pub(crate) fn of_bounds(alloc: A, low: u64, high: u64) -> Result<Group<A>, AllocError>
-        ensures numbers { IfOk result (λ g. Stands g.numbers (Bounds low high ∷ [])) }
-        ensures ids { IfOk result (λ g. (g.ids ≡ empty) × (g.places ≡ empty)) }
-    {
-        let numbers = Numbers::of_bounds(alloc, low, high)?;
-        Ok(Group::with_numbers(alloc, numbers))
-    }
-
-    /// Of a group of which no id is shown.
-    fn with_numbers(alloc: A, numbers: Numbers<A>) -> Group<A>
-        ensures numbers { result.numbers ≡ numbers }
+    /// Of a group of which nothing is said.
+    pub(crate) fn new(alloc: A) -> Group<A>
+        ensures numbers { IsSummary result.numbers [] }
         ensures ids { (result.ids ≡ empty) × (result.places ≡ empty) }
     {
         Group {
-            numbers,
+            numbers: Numbers::new(alloc),
             ids: BTreeMap::new(alloc),
             places: BTreeMap::new(alloc),
         }
     }
 
-    /// Adds what the part says, if it stands together with all before, and tells whether it does. After an
-    /// error the value says nothing of use.
-    pub(crate) fn note(&mut self, part: &Part) -> Result<bool, AllocError>
-        ensures { IfOk result (λ does. (asks more : List Ask) → IsSummary self.old.numbers asks → AsksStand asks → Says (said part.now) more
-            → IsAddedIf (AsksStand (asks ++ more)) (λ g. IsSummary g.numbers (asks ++ more) × (g.ids ≡ self.old.ids) × (g.places ≡ self.old.places)) self.old self.new does) }
+    /// Adds what is said of the group. After an error the value says nothing of use.
+    pub(crate) fn add(&mut self, alloc: A, part: &GroupPart<'_>) -> Result<(), AllocError>
+        ensures numbers { OnOk result ((asks more : List Ask) → IsSummary self.old.numbers asks → Says (said part.now.numbers) more → IsSummary self.new.numbers (asks ++ more)) }
+        ensures ids { OnOk result (Agree (get self.old.ids) (get self.old.places) (id_at part.now.id) → MayHave self.old.ids self.old.places (id_at part.now.id)
+            → (self.new.ids ≡ ids_with self.old.ids (id_at part.now.id)) × (self.new.places ≡ places_with self.old.places (id_at part.now.id))) }
     {
-        if !self.joins(part) {
-            return Ok(false);
+        self.numbers.add(&part.numbers)?;
+        self.add_id(alloc, part.id)
+    }
+
+    /// Adds that the number has the id, if it may have it. After an error the value says nothing of use.
+    fn add_id(&mut self, alloc: A, id: Option<IdAt<'_>>) -> Result<(), AllocError>
+        ensures numbers { self.new.numbers ≡ self.old.numbers }
+        ensures ids { OnOk result (Agree (get self.old.ids) (get self.old.places) (id_at id.entry) → MayHave self.old.ids self.old.places (id_at id.entry)
+            → (self.new.ids ≡ ids_with self.old.ids (id_at id.entry)) × (self.new.places ≡ places_with self.old.places (id_at id.entry))) }
+    {
+        match id {
+            Some(at) => self.add_id_at(alloc, at),
+            None => Ok(()),
         }
-        self.add(part)?;
-        Ok(true)
     }
 
-    /// Adds what the part says. After an error the value says nothing of use.
-    pub(crate) fn add(&mut self, part: &Part) -> Result<(), AllocError>
-        ensures numbers { OnOk result ((asks more : List Ask) → IsSummary self.old.numbers asks → Says (said part.now) more → IsSummary self.new.numbers (asks ++ more)) }
-        ensures ids { OnOk result ((self.new.ids ≡ self.old.ids) × (self.new.places ≡ self.old.places)) }
+    /// The same of an id. Where one is shown at the number, nothing is new.
+    fn add_id_at(&mut self, alloc: A, at: IdAt<'_>) -> Result<(), AllocError>
+        ensures numbers { self.new.numbers ≡ self.old.numbers }
+        ensures ids { OnOk result (Agree (get self.old.ids) (get self.old.places) (Some (at.entry.number, at.entry.id.now)) → IsFree (get self.old.ids at.entry.number) (get self.old.places at.entry.id.now) (at.entry.number, at.entry.id.now)
+            → (self.new.ids ≡ insert self.old.ids at.entry.number at.entry.id.now) × (self.new.places ≡ insert self.old.places at.entry.id.now at.entry.number)) }
     {
-        self.numbers.add(part)?;
-        Ok(())
-    }
-
-    /// Adds what the part says, and that the number has the id, as it fits all before. After an error the
-    /// value says nothing of use.
-    pub(crate) fn add_with_id(
-        &mut self,
-        alloc: A,
-        part: &Part,
-        number: u64,
-        id: &[u8],
-        fit: Fit,
-    ) -> Result<(), AllocError>
-        ensures { OnOk result ((asks more : List Ask) → IsSummary self.old.numbers asks → Says (said part.now) more → IsShownWith asks number (get self.old.ids number)
-            → Agree number id.now (get self.old.ids number) (get self.old.places id.now) → (fit ≡ Again → get self.old.ids number ≡ Some id.now)
-            → IsSummary self.new.numbers (asks ++ more) × (self.new.ids ≡ insert self.old.ids number id.now) × (self.new.places ≡ insert self.old.places id.now number)) }
-    {
-        if let Fit::Again = fit {
-            return self.add_shown(part, number);
-        }
-        self.add(part)?;
-        self.identify(alloc, number, id)
-    }
-
-    /// Adds what the part says, where the number is shown. After an error the value says nothing of use.
-    fn add_shown(&mut self, part: &Part, number: u64) -> Result<(), AllocError>
-        ensures numbers { OnOk result ((asks more : List Ask) → IsSummary self.old.numbers asks → Says (said part.now) more → IsTrue (is_shown asks number)
-            → IsSummary self.new.numbers (asks ++ more)) }
-        ensures ids { OnOk result ((self.new.ids ≡ self.old.ids) × (self.new.places ≡ self.old.places)) }
-    {
-        if part.shows_only(number) {
+        if self.id(at.number).is_some() {
             return Ok(());
         }
-        self.add(part)
-    }
-
-    /// Adds what the answer to LISTGROUP says. After an error the value says nothing of use.
-    pub(crate) fn add_listing(&mut self, listing: &Listing<'_>) -> Result<(), AllocError>
-        ensures numbers { OnOk result ((asks : List Ask) → IsSummary self.old.numbers asks → AreListable listing.now.range listing.now.numbers.now
-            → IsSummary self.new.numbers (asks ++ asks_listed listing.now)) }
-        ensures ids { OnOk result ((self.new.ids ≡ self.old.ids) × (self.new.places ≡ self.old.places)) }
-    {
-        self.numbers.add_listing(listing)?;
-        Ok(())
+        self.identify(alloc, at)
     }
 
     /// Adds that the number has the id. After an error the value says nothing of use.
-    fn identify(&mut self, alloc: A, number: u64, id: &[u8]) -> Result<(), AllocError>
-        ensures { OnOk result (self.new ≡ record self.old { ids = insert self.old.ids number id.now; places = insert self.old.places id.now number }) }
+    fn identify(&mut self, alloc: A, at: IdAt<'_>) -> Result<(), AllocError>
+        ensures numbers { self.new.numbers ≡ self.old.numbers }
+        ensures ids { OnOk result ((self.new.ids ≡ insert self.old.ids at.entry.number at.entry.id.now) × (self.new.places ≡ insert self.old.places at.entry.id.now at.entry.number)) }
     {
-        self.ids.insert(number, Vec::from_slice(alloc, id)?)?;
-        self.places.insert(Vec::from_slice(alloc, id)?, number)?;
+        self.ids.insert(at.number, Vec::from_slice(alloc, at.id)?)?;
+        self.places
+            .insert(Vec::from_slice(alloc, at.id)?, at.number)?;
         Ok(())
     }
 }
 
 impl<A: Allocator> Group<A> {
-    /// Whether what the part says stands together with all before.
-    pub(crate) fn joins(&self, part: &Part) -> bool
-        ensures { (asks more : List Ask) → IsSummary self.now.numbers asks → AsksStand asks → Says (said part.now) more
-            → IsTrue result ↔ AsksStand (asks ++ more) }
+    /// Whether what is said of the group stands together with all before: what is said of its numbers, and
+    /// that the number has the id, which is shown at no other, and no other there.
+    pub(crate) fn joins(&self, part: &GroupPart<'_>) -> bool
+        ensures { (asks more : List Ask) → IsSummary self.now.numbers asks → AsksStand asks → AreBounded (asks ++ more) → Says (said part.now.numbers) more
+            → IsTrue result ↔ (AsksStand (asks ++ more) × MayHave self.now.ids self.now.places (id_at part.now.id)) }
     {
-        self.numbers.joins(part)
+        self.numbers.joins(&part.numbers) && self.may_have(part.id)
     }
 
-    /// How what the part says, and that the number has the id, fits all before, but for other numbers of
-    /// the id: never, where another id is shown at the number, and again, where this one is.
-    pub(crate) fn fit(&self, part: &Part, number: u64, id: &[u8]) -> Fit
-        ensures { (asks more : List Ask) → IsSummary self.now.numbers asks → AsksStand asks → Says (said part.now) more → IsShownWith asks number (get self.now.ids number)
-            → FitsAt (AsksStand (asks ++ more)) id.now (get self.now.ids number) result }
+    /// Whether the number may have the id.
+    fn may_have(&self, id: Option<IdAt<'_>>) -> bool
+        ensures { IsTrue result ↔ MayHave self.now.ids self.now.places (id_at id.entry) }
     {
-        match self.id(number) {
-            Some(other) if other == id && self.joins_shown(part, number) => Fit::Again,
-            None if self.joins(part) => Fit::New,
-            _ => Fit::Never,
+        match id {
+            Some(at) => self.has_no_other_id(at) && self.has_no_other_place(at),
+            None => true,
         }
     }
 
-    /// Whether what the part says stands together with all before, where the number is shown.
-    fn joins_shown(&self, part: &Part, number: u64) -> bool
-        ensures { (asks more : List Ask) → IsSummary self.now.numbers asks → AsksStand asks → Says (said part.now) more → IsTrue (is_shown asks number)
-            → IsTrue result ↔ AsksStand (asks ++ more) }
+    /// Whether no other id is shown at the number.
+    fn has_no_other_id(&self, at: IdAt<'_>) -> bool
+        ensures { IsTrue result ↔ IfSome (get self.now.ids at.entry.number) (λ other. at.entry.id.now ≡ other) }
     {
-        part.shows_only(number) || self.joins(part)
+        match self.id(at.number) {
+            Some(other) => other == at.id,
+            None => true,
+        }
     }
 
-    /// Whether what the answer to LISTGROUP says stands together with all before.
-    pub(crate) fn joins_listing(&self, listing: &Listing<'_>) -> bool
-        ensures { (asks : List Ask) → Stands self.now.numbers asks → AreListable listing.now.range listing.now.numbers.now
-            → IsTrue result ↔ AsksStand (asks ++ asks_listed listing.now) }
+    /// Whether the id is shown at no other number.
+    fn has_no_other_place(&self, at: IdAt<'_>) -> bool
+        ensures { IsTrue result ↔ IfSome (get self.now.places at.entry.id.now) (λ other. at.entry.number ≡ other) }
     {
-        self.numbers.joins_listing(listing)
+        match self.place(at.id) {
+            Some(other) => other == at.number,
+            None => true,
+        }
     }
 
-    /// The number that is shown nowhere, and has to be there.
-    pub(crate) fn one_more(&self) -> Option<u64>
-        ensures value { result ≡ unseen_in self.now.numbers }
-        ensures is { (asks : List Ask) → Stands self.now.numbers asks → MatchOption result ((n : ℕ) → IsOneMore asks n → ⊥) (IsOneMore asks) }
+    /// The least number that has to be there, where it isn't shown.
+    pub(crate) fn unseen(&self) -> Option<u64>
+        ensures { result ≡ unseen_in self.now.numbers }
     {
-        self.numbers.one_more()
+        self.numbers.unseen()
+    }
+
+    /// The greatest number that has to be there, where it is neither shown nor the least.
+    pub(crate) fn unseen_high(&self) -> Option<u64>
+        ensures { result ≡ unseen_high_in self.now.numbers }
+    {
+        self.numbers.unseen_high()
     }
 
     /// The numbers that are shown, ascending.
@@ -218,15 +175,5 @@ impl<A: Allocator> Group<A> {
         ensures { result ≡ get self.now.places id.now }
     {
         self.places.get(id).copied()
-    }
-
-    /// Whether the id is shown at no other number.
-    pub(crate) fn has_no_other_place(&self, number: u64, id: &[u8]) -> bool
-        ensures { IsTrue result ↔ IfSome (get self.now.places id.now) (λ other. number ≡ other) }
-    {
-        match self.place(id) {
-            Some(other) => other == number,
-            None => true,
-        }
     }
 }

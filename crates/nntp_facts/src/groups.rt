@@ -1,26 +1,21 @@
 //! What answers say of groups.
-ghost use Rattle.std.specs.Prelude.{◌≡◌, ℕ, ◌↔◌, true, false, List, [], ◌∷◌, ◌++◌, IsTrue, IfSome, IfOk, Option, Some, OnOk, option_copied};
+ghost use Rattle.std.specs.Prelude.{◌≡◌, ◌↔◌, false, List, ◌++◌, IsTrue, OnOk, option_copied};
 ghost use Rattle.std.specs.FinMap as map;
 ghost use Rattle.nntp_article.specs.Spool.{Name};
-ghost use Rattle.nntp_facts.specs.Asks as asks_said;
-ghost use Rattle.nntp_facts.specs.Asks.{Estimates, Bounds};
+ghost use Rattle.nntp_facts.specs.Asks.{Ask};
 ghost use Rattle.nntp_facts.specs.Together.{AsksStand};
-ghost use Rattle.nntp_facts.specs.Summary.{said, Says};
-ghost use Rattle.nntp_facts.specs.Listing.{AreListable};
-ghost use Rattle.nntp_facts.specs.ListingView.{asks_listed};
-ghost use Rattle.nntp_facts.specs.Kept.{Told, AreKept, Agree, IsShownWith, FitsAt, FitsOnce, with_asks, with_id, Changes, IsAddedIf};
-ghost use Rattle.nntp_facts.specs.declared.fit.Fit.TheVariants.{Again};
+ghost use Rattle.nntp_facts.specs.Part.{Says};
+ghost use Rattle.nntp_facts.specs.PartView.{said};
+ghost use Rattle.nntp_facts.specs.SayingView.{id_at};
+ghost use Rattle.nntp_facts.specs.Summary.{AreBounded};
+ghost use Rattle.nntp_facts.specs.Kept.{Told, AreKept, Agree, MayShow, with_part, Changes};
 ghost use Rattle.nntp_facts.specs.Readers.{shown_groups};
 
 mod listed;
 
-use crate::ask::Ask;
-use crate::fit::Fit;
 use crate::group::Group;
-use crate::listing::Listing;
-use crate::part::Part;
+use crate::saying::GroupPart;
 use crate::seen_groups::SeenGroups;
-use nntp_wire::WaterMarks;
 use std::alloc::{AllocError, Allocator, Global};
 use std::collections::BTreeMap;
 use std::marker::Model;
@@ -57,100 +52,17 @@ impl<A: Allocator + Copy> Groups<A> {
         }
     }
 
-    /// Adds what the part says of a group that is shown, if it stands together with all before, and tells
-    /// whether it does. After an error the value says nothing of use.
-    pub(crate) fn note(&mut self, name: &[u8], part: &Part) -> Result<bool, AllocError>
-        ensures { IfOk result (λ does. (before after : Name → Told) (asks : List asks_said.Ask) → AreKept before self.old → (before name.now).is_shown ≡ true → AsksStand (before name.now).asks
-            → Says (said part.now) asks → Changes before after name.now (with_asks (before name.now) asks)
-            → IsAddedIf (AsksStand ((before name.now).asks ++ asks)) (AreKept after) self.old self.new does) }
+    /// Adds what is said of a group, which is shown, or is now. After an error the value says nothing of use.
+    pub(crate) fn add(&mut self, part: &GroupPart<'_>) -> Result<(), AllocError>
+        ensures { OnOk result ((before after : Name → Told) (asks : List Ask) → AreKept before self.old → Says (said part.now.numbers) asks → ((before part.now.name.now).is_shown ≡ false → AreBounded asks)
+            → Agree (before part.now.name.now).ids (before part.now.name.now).places (id_at part.now.id) → MayShow (before part.now.name.now) (id_at part.now.id) → Changes before after part.now.name.now (with_part (before part.now.name.now) asks (id_at part.now.id)) → AreKept after self.new) }
     {
-        if let Some(group) = self.groups.get_mut(name) {
-            return group.note(part);
+        if let Some(group) = self.groups.get_mut(part.name) {
+            return group.add(self.alloc, part);
         }
-        Ok(false)
-    }
-
-    /// Adds what the part says of a group that is shown. After an error the value says nothing of use.
-    fn add(&mut self, name: &[u8], part: &Part) -> Result<(), AllocError>
-        ensures { OnOk result ((before after : Name → Told) (asks : List asks_said.Ask) → AreKept before self.old → (before name.now).is_shown ≡ true → Says (said part.now) asks
-            → Changes before after name.now (with_asks (before name.now) asks) → AreKept after self.new) }
-    {
-        if let Some(group) = self.groups.get_mut(name) {
-            group.add(part)?;
-        }
-        Ok(())
-    }
-
-    /// Adds what the part says of a group that is shown, and that the number has the id, as it fits all
-    /// before. After an error the value says nothing of use.
-    pub(crate) fn place(
-        &mut self,
-        name: &[u8],
-        part: &Part,
-        number: u64,
-        id: &[u8],
-        fit: Fit,
-    ) -> Result<(), AllocError>
-        ensures { OnOk result ((before after : Name → Told) (asks : List asks_said.Ask) → AreKept before self.old → (before name.now).is_shown ≡ true → Says (said part.now) asks
-            → IsShownWith (before name.now).asks number ((before name.now).ids number) → Agree number id.now ((before name.now).ids number) ((before name.now).places id.now)
-            → IfSome ((before name.now).ids number) (λ other. id.now ≡ other) → IfSome ((before name.now).places id.now) (λ other. number ≡ other)
-            → (fit ≡ Again → (before name.now).ids number ≡ Some id.now)
-            → Changes before after name.now (with_id (before name.now) asks number id.now) → AreKept after self.new) }
-    {
-        if let Some(group) = self.groups.get_mut(name) {
-            group.add_with_id(self.alloc, part, number, id, fit)?;
-        }
-        Ok(())
-    }
-
-    /// Adds what LISTGROUP says of a group that is shown. After an error the value says nothing of use.
-    fn add_listing(&mut self, name: &[u8], listing: &Listing<'_>) -> Result<(), AllocError>
-        ensures { OnOk result ((before after : Name → Told) → AreKept before self.old → (before name.now).is_shown ≡ true → AreListable listing.now.range listing.now.numbers.now
-            → Changes before after name.now (with_asks (before name.now) (asks_listed listing.now)) → AreKept after self.new) }
-    {
-        if let Some(group) = self.groups.get_mut(name) {
-            group.add_listing(listing)?;
-        }
-        Ok(())
-    }
-
-    /// Adds that there is such a group, with so many numbers at most, between the marks. After an error
-    /// the value says nothing of use.
-    pub(crate) fn select(&mut self, name: &[u8], marks: WaterMarks) -> Result<(), AllocError>
-        ensures { OnOk result ((before after : Name → Told) → AreKept before self.old
-            → Changes before after name.now (with_asks (before name.now) (Estimates marks ∷ [])) → AreKept after self.new) }
-    {
-        if self.is_shown(name) {
-            return self.add(name, &Part::of(Ask::estimates(marks)));
-        }
-        let group = Group::of_marks(self.alloc, marks)?;
-        self.put(name, group)
-    }
-
-    /// Adds that there is such a group, with its numbers between the marks. After an error the value says
-    /// nothing of use.
-    fn bound(&mut self, name: &[u8], low: u64, high: u64) -> Result<(), AllocError>
-        ensures { OnOk result ((before after : Name → Told) → AreKept before self.old → Changes before after name.now (with_asks (before name.now) (Bounds low high ∷ [])) → AreKept after self.new) }
-    {
-        if self.is_shown(name) {
-            return self.add(name, &Part::of(Ask::Bounds { low, high }));
-        }
-        let group = Group::of_bounds(self.alloc, low, high)?;
-        self.put(name, group)
-    }
-
-    /// Adds that there is such a group, and what LISTGROUP says of it. After an error the value says
-    /// nothing of use.
-    pub(crate) fn list(&mut self, name: &[u8], listing: &Listing<'_>) -> Result<(), AllocError>
-        ensures { OnOk result ((before after : Name → Told) → AreKept before self.old → AreListable listing.now.range listing.now.numbers.now
-            → Changes before after name.now (with_asks (before name.now) (asks_listed listing.now)) → AreKept after self.new) }
-    {
-        if self.is_shown(name) {
-            return self.add_listing(name, listing);
-        }
-        let mut group = Group::of_marks(self.alloc, listing.marks())?;
-        group.add_listing(listing)?;
-        self.put(name, group)
+        let mut group = Group::new(self.alloc);
+        group.add(self.alloc, part)?;
+        self.put(part.name, group)
     }
 
     /// Adds a group, or puts it in the place of the one of its name.
@@ -162,21 +74,15 @@ impl<A: Allocator + Copy> Groups<A> {
         Ok(())
     }
 
-    /// Whether what LISTGROUP says of a group stands together with all before.
-    pub(crate) fn joins_listing(
-        &self,
-        name: &[u8],
-        listing: &Listing<'_>,
-    ) -> Result<bool, AllocError>
-        ensures { IfOk result (λ does. (tells : Name → Told) → AreKept tells self.now → AsksStand (tells name.now).asks → AreListable listing.now.range listing.now.numbers.now
-            → IsTrue does ↔ AsksStand ((tells name.now).asks ++ asks_listed listing.now)) }
+    /// Whether what is said of a group stands together with all before.
+    pub(crate) fn joins(&self, part: &GroupPart<'_>) -> bool
+        ensures { (tells : Name → Told) (asks : List Ask) → AreKept tells self.now → AsksStand (tells part.now.name.now).asks → Says (said part.now.numbers) asks
+            → ((tells part.now.name.now).is_shown ≡ false → AreBounded asks)
+            → IsTrue result ↔ (AsksStand ((tells part.now.name.now).asks ++ asks) × MayShow (tells part.now.name.now) (id_at part.now.id)) }
     {
-        match self.get(name) {
-            Some(group) => Ok(group.joins_listing(listing)),
-            None => {
-                let group = Group::of_marks(self.alloc, listing.marks())?;
-                Ok(group.joins_listing(listing))
-            }
+        match self.get(part.name) {
+            Some(group) => group.joins(part),
+            None => Group::new(self.alloc).joins(part),
         }
     }
 }
@@ -201,54 +107,5 @@ impl<A: Allocator> Groups<A> {
         ensures { result ≡ shown_groups self.now }
     {
         SeenGroups::new(self.groups.iter())
-    }
-
-    /// Whether what the part says of a group stands together with all before, and by itself where the
-    /// group isn't shown.
-    pub(crate) fn joins(&self, name: &[u8], part: &Part) -> bool
-        ensures { (tells : Name → Told) (asks : List asks_said.Ask) → AreKept tells self.now → AsksStand (tells name.now).asks → ((tells name.now).is_shown ≡ false → AsksStand asks)
-            → Says (said part.now) asks → IsTrue result ↔ AsksStand ((tells name.now).asks ++ asks) }
-    {
-        match self.get(name) {
-            Some(group) => group.joins(part),
-            None => true,
-        }
-    }
-
-    /// How what the part says of a group that is shown, and that the number has the id, fits all before, but
-    /// for other numbers of the id.
-    pub(crate) fn fit_number(&self, name: &[u8], part: &Part, number: u64, id: &[u8]) -> Fit
-        ensures { (tells : Name → Told) (asks : List asks_said.Ask) → AreKept tells self.now → (tells name.now).is_shown ≡ true → AsksStand (tells name.now).asks → Says (said part.now) asks
-            → IsShownWith (tells name.now).asks number ((tells name.now).ids number)
-            → FitsAt (AsksStand ((tells name.now).asks ++ asks)) id.now ((tells name.now).ids number) result }
-    {
-        match self.get(name) {
-            Some(group) => group.fit(part, number, id),
-            None => Fit::Never,
-        }
-    }
-
-    /// Whether the id is shown at no other number of a group that is shown.
-    pub(crate) fn has_no_other_place(&self, name: &[u8], number: u64, id: &[u8]) -> bool
-        ensures { (tells : Name → Told) → AreKept tells self.now → (tells name.now).is_shown ≡ true
-            → IsTrue result ↔ IfSome ((tells name.now).places id.now) (λ other. number ≡ other) }
-    {
-        match self.get(name) {
-            Some(group) => group.has_no_other_place(number, id),
-            None => false,
-        }
-    }
-
-    /// How what the part says of a group that is shown, and that the number has the id, fits all before.
-    pub(crate) fn fit(&self, name: &[u8], part: &Part, number: u64, id: &[u8]) -> Fit
-        ensures { (tells : Name → Told) (asks : List asks_said.Ask) → AreKept tells self.now → (tells name.now).is_shown ≡ true → AsksStand (tells name.now).asks → Says (said part.now) asks
-            → IsShownWith (tells name.now).asks number ((tells name.now).ids number)
-            → FitsOnce (AsksStand ((tells name.now).asks ++ asks)) number id.now ((tells name.now).ids number) ((tells name.now).places id.now) result }
-    {
-        let fit = self.fit_number(name, part, number, id);
-        match fit {
-            Fit::New if !self.has_no_other_place(name, number, id) => Fit::Never,
-            _ => fit,
-        }
     }
 }

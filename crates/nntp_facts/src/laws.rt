@@ -1,13 +1,15 @@
 //! Laws of the definitions alone.
-ghost use Rattle.std.specs.Prelude.{◌≡◌, ℕ, ◌↔◌, ◌≤◌, ◌<◌, ◌+◌, ◌^◌, ◌⊎◌, false, List, [], ◌∷◌, ◌++◌, length, IsTrue, Some};
-ghost use Rattle.std.specs.List.{AllByRecursion};
+ghost use Rattle.std.specs.Prelude.{◌≡◌, ℕ, Contains, ◌↔◌, ◌≤◌, ◌<◌, ◌+◌, ◌^◌, ◌⊎◌, false, List, [], ◌∷◌, ◌++◌, length, IsTrue, Some};
+ghost use Rattle.std.specs.List.{AllByRecursion, flat_map};
 ghost use Rattle.std.specs.FinMap.{insert, len};
-ghost use Rattle.nntp_article.specs.Spool.{Spool, Numbers, IsNumber, IsSpool, Name};
+ghost use Rattle.nntp_article.specs.Spool.{Spool, Numbers, IsNumber, IsGroup, IsSpool, Name};
 ghost use Rattle.nntp_article.specs.declared.profile.Profile.{Profile};
 ghost use Rattle.nntp_article.specs.Machine.{Run, start, fits, Visible, visible_after};
-ghost use Rattle.nntp_facts.specs.Asks.{RunsAt, Nowhere, Meets, Ask, Position, position_after};
+ghost use Rattle.nntp_facts.specs.Asks.{RunsAt, Meets, Ask, position_after};
+ghost use Rattle.nntp_facts.specs.declared.position.Position.TheVariants.{Nowhere};
+ghost use Rattle.nntp_facts.specs.declared.position.Position.{Position};
 ghost use Rattle.nntp_facts.specs.Facts.{FitsAll, Holds, Fact, facts_of, facts_from};
-ghost use Rattle.nntp_facts.specs.Given.{asks_of, is_shown, demand, join, IsOneMore, IsGivenNumber, HasGivenNumbers, IsGiven, facts_of_session, size, weight, HasAtLeast};
+ghost use Rattle.nntp_facts.specs.Given.{asks_of, is_known, demand, join, IsOneMore, IsGivenNumber, HasGivenNumbers, IsGiven, facts_of_session, size, weight, HasAtLeast};
 ghost use Rattle.nntp_facts.specs.Together.{MeetsDemand, IsWellFormed, Together, AgreeWithin, Join};
 ghost use Rattle.nntp_facts.specs.Permits.{SomePermits, IsFirstUnpermitted};
 ghost use Rattle.nntp_article.specs.Explains.{Explains, ExplainsUpTo, Bad};
@@ -20,6 +22,9 @@ ghost use Rattle.nntp_facts.specs.Classes.{HasClass, IsSettled, class_of, class_
 ghost use Rattle.nntp_pair.specs.Pairing.{Paired, Unpaired, IsNext, AreNext, IsBad, IsLasting, Ending, end, bad, IsPairing, HasPairs, responses_of, asked_of, asked_at, lines_in, streams};
 ghost use Rattle.nntp_pair.specs.declared.class.PairClass.{PairClass};
 ghost use Rattle.nntp_wire.specs.Answer.{Asked, Response, Spells};
+ghost use Rattle.nntp_wire.specs.declared.marks.Marks.{Marks};
+ghost use Rattle.nntp_wire.specs.declared.marks.Marks.TheVariants.{Strict};
+ghost use Rattle.nntp_facts.specs.Conflict.{Placed, placed_from, FitsThere, a_group, told, SomeHas, told_with, below, IsCore, IsPartOfCore, Point, ConflictAt};
 
 /// A spool permits a session exactly if it permits each answer with the current article read off
 /// the session.
@@ -32,7 +37,7 @@ pub fn current_article_is_read_off()
 pub fn permitted_by_facts()
     ensures { (profile : Profile) (S : Spool) (prompts : List Asked) (answers : List Response)
         → RunsAt profile S start.visible Nowhere prompts answers
-        ↔ (FitsAll profile start.visible prompts answers × AllByRecursion (Holds S) (facts_from start.visible Nowhere prompts answers)) }
+        ↔ (FitsAll profile start.visible prompts answers × AllByRecursion (Holds S) (facts_from profile.marks start.visible Nowhere prompts answers)) }
 {}
 
 /// The given numbers of a group meet what is asked of them, if a spool's numbers do.
@@ -42,17 +47,24 @@ pub fn given_numbers_meet_what_is_asked()
         → AllByRecursion (Meets G) (asks_of name facts) }
 {}
 
-/// The given numbers of a group are those that are shown, and the one more if there is one; then the
-/// demand is met, and else if those that are shown meet it.
+/// The given numbers of a group are those that are known, and the one more if there is one; then the
+/// demand is met, and else if those that are known meet it.
 pub fn given_numbers_are_counted()
     ensures demand_met { (asks : List Ask) (e : ℕ) → IsOneMore asks e → MeetsDemand (demand asks) (IsGivenNumber asks) }
-    ensures demand_of_shown { (asks : List Ask) → ((e : ℕ) → IsOneMore asks e → ⊥)
-        → MeetsDemand (demand asks) (IsGivenNumber asks) ↔ MeetsDemand (demand asks) (λ n. IsTrue (is_shown asks n)) }
-    ensures none_more { (asks : List Ask) (M : Numbers) → ((n : ℕ) → IsNumber M n ↔ IsTrue (is_shown asks n))
+    ensures demand_of_known { (asks : List Ask) → ((e : ℕ) → IsOneMore asks e → ⊥)
+        → MeetsDemand (demand asks) (IsGivenNumber asks) ↔ MeetsDemand (demand asks) (λ n. IsTrue (is_known asks n)) }
+    ensures none_more { (asks : List Ask) (M : Numbers) → ((n : ℕ) → IsNumber M n ↔ IsTrue (is_known asks n))
         → ((e : ℕ) → IsOneMore asks e → ⊥) → HasGivenNumbers asks M }
-    ensures one_more { (asks : List Ask) (M : Numbers) (e : ℕ) → ((n : ℕ) → IsNumber M n ↔ IsTrue (is_shown asks n)) → IsOneMore asks e
+    ensures one_more { (asks : List Ask) (M : Numbers) (e : ℕ) → ((n : ℕ) → IsNumber M n ↔ IsTrue (is_known asks n)) → IsOneMore asks e
         → HasGivenNumbers asks (insert M e []) × (len (insert M e []) ≡ len M + 1) }
     ensures as_many { (asks : List Ask) (N M : Numbers) → HasGivenNumbers asks N → HasGivenNumbers asks M → len N ≡ len M }
+{}
+
+/// Where marks are strict, no number is given beside those that are shown and the marks.
+pub fn strict_marks_are_all_that_is_added()
+    ensures { (profile : Profile) (prompts : List Asked) (answers : List Response) (name : Name) (n : ℕ)
+        → profile.marks ≡ Strict → FitsAll profile start.visible prompts answers
+        → IsOneMore (asks_of name (facts_of_session profile.marks prompts answers)) n → ⊥ }
 {}
 
 /// There is one given spool at most.
@@ -63,24 +75,24 @@ pub fn given_spool_is_one()
 /// What a session says is bounded by its answers and their lines, and so what fewer than 2^63 answers
 /// of fewer than 2^64 lines say.
 pub fn size_is_bounded()
-    ensures answers { (prompts : List Asked) (answers : List Response) → size (facts_of_session prompts answers) ≤ weight answers }
-    ensures pairs { (pairs : List Paired) → AllByRecursion (λ pair. lines_in pair.response < 2 ^ 64) pairs → length pairs < 2 ^ 64
-        → size (facts_of_session (asked_of pairs) (responses_of pairs)) < 2 ^ 210 }
+    ensures answers { (how : Marks) (prompts : List Asked) (answers : List Response) → size (facts_of_session how prompts answers) ≤ weight answers }
+    ensures pairs { (how : Marks) (pairs : List Paired) → AllByRecursion (λ pair. lines_in pair.response < 2 ^ 64) pairs → length pairs < 2 ^ 64
+        → size (facts_of_session how (asked_of pairs) (responses_of pairs)) < 2 ^ 210 }
 {}
 
 /// What a session says is bounded by the octets that spell its answers, and so by those of the server.
 pub fn size_is_bounded_by_octets()
-    ensures spelled { (prompts : List Asked) (answers : List Response) (octets : List ℕ)
-        → Spelled prompts answers octets → size (facts_of_session prompts answers) ≤ length octets }
-    ensures paired { (client server : List ℕ) (pairs : List Paired) (left : Unpaired)
-        → AreNext (streams client server) pairs left → size (facts_of_session (asked_of pairs) (responses_of pairs)) ≤ length server }
+    ensures spelled { (how : Marks) (prompts : List Asked) (answers : List Response) (octets : List ℕ)
+        → Spelled prompts answers octets → size (facts_of_session how prompts answers) ≤ length octets }
+    ensures paired { (how : Marks) (client server : List ℕ) (pairs : List Paired) (left : Unpaired)
+        → AreNext (streams client server) pairs left → size (facts_of_session how (asked_of pairs) (responses_of pairs)) ≤ length server }
 {}
 
 /// One answer more says what it says behind those before, and it fits if it fits what they leave.
 pub fn answers_add_up()
-    ensures facts { (v : Visible) (at : Position) (prompts : List Asked) (answers : List Response) (asked : Asked) (response : Response)
+    ensures facts { (how : Marks) (v : Visible) (at : Position) (prompts : List Asked) (answers : List Response) (asked : Asked) (response : Response)
         → asked_next prompts answers ≡ Some asked
-        → facts_from v at prompts (answers ++ response ∷ []) ≡ facts_from v at prompts answers ++ facts_of (visible_from v prompts answers) (position_from at prompts answers) asked response }
+        → facts_from how v at prompts (answers ++ response ∷ []) ≡ facts_from how v at prompts answers ++ facts_of how (visible_from v prompts answers) (position_from at prompts answers) asked response }
     ensures fitting { (profile : Profile) (v : Visible) (prompts : List Asked) (answers : List Response) (asked : Asked) (response : Response)
         → asked_next prompts answers ≡ Some asked
         → FitsAll profile v prompts (answers ++ response ∷ [])
@@ -95,16 +107,16 @@ pub fn answers_add_up()
 
 /// What octets spell is well formed.
 pub fn spelled_answers_are_well_formed()
-    ensures { (v : Visible) (at : Position) (asked : Asked) (response : Response) (octets : List ℕ)
-        → Spells asked response octets → IsTrue (are_octets octets) → AllByRecursion IsWellFormed (facts_of v at asked response) }
+    ensures { (how : Marks) (v : Visible) (at : Position) (asked : Asked) (response : Response) (octets : List ℕ)
+        → Spells asked response octets → IsTrue (are_octets octets) → AllByRecursion IsWellFormed (facts_of how v at asked response) }
 {}
 
 /// Only the prompts that are answered matter: those of the lines of the pairs, where answers are paired.
 pub fn answered_prompts_matter()
     ensures permitted { (profile : Profile) (prompts more : List Asked) (answers : List Response) → length prompts ≡ length answers
         → SomePermits profile (prompts ++ more) answers ↔ SomePermits profile prompts answers }
-    ensures facts { (v : Visible) (at : Position) (prompts more : List Asked) (answers : List Response) → length prompts ≡ length answers
-        → facts_from v at (prompts ++ more) answers ≡ facts_from v at prompts answers }
+    ensures facts { (how : Marks) (v : Visible) (at : Position) (prompts more : List Asked) (answers : List Response) → length prompts ≡ length answers
+        → facts_from how v at (prompts ++ more) answers ≡ facts_from how v at prompts answers }
     ensures visible { (v : Visible) (prompts more : List Asked) (answers : List Response) → length prompts ≡ length answers
         → visible_from v (prompts ++ more) answers ≡ visible_from v prompts answers }
     ensures next { (prompts more : List Asked) (asked : Asked) (answers : List Response) → length prompts ≡ length answers
@@ -123,37 +135,37 @@ pub fn no_answers_are_permitted()
 /// If a spool permits a session, then so does the given spool.
 pub fn given_spool_permits()
     ensures { (profile : Profile) (S G : Spool) (prompts : List Asked) (answers : List Response)
-        → IsSpool profile S → Run profile S start prompts answers → size (facts_of_session prompts answers) < 2 ^ 210
-        → IsGiven (facts_of_session prompts answers) G → IsSpool profile G × Run profile G start prompts answers }
+        → IsSpool profile S → Run profile S start prompts answers → size (facts_of_session profile.marks prompts answers) < 2 ^ 210
+        → IsGiven (facts_of_session profile.marks prompts answers) G → IsSpool profile G × Run profile G start prompts answers }
 {}
 
 /// No spool that permits a session lacks what the session shows, or has fewer numbers in a group
 /// than the given one.
 pub fn given_spool_is_least()
     ensures { (profile : Profile) (S G : Spool) (prompts : List Asked) (answers : List Response)
-        → IsSpool profile S → Run profile S start prompts answers → size (facts_of_session prompts answers) < 2 ^ 210
-        → IsGiven (facts_of_session prompts answers) G → HasAtLeast (facts_of_session prompts answers) G S }
+        → IsSpool profile S → Run profile S start prompts answers → size (facts_of_session profile.marks prompts answers) < 2 ^ 210
+        → IsGiven (facts_of_session profile.marks prompts answers) G → HasAtLeast (facts_of_session profile.marks prompts answers) G S }
 {}
 
 /// If a spool permits a session, then a spool is given for it.
 pub fn given_spool_exists()
     ensures { (profile : Profile) (S : Spool) (prompts : List Asked) (answers : List Response)
-        → IsSpool profile S → Run profile S start prompts answers → size (facts_of_session prompts answers) < 2 ^ 210
-        → (G : Spool) × IsGiven (facts_of_session prompts answers) G }
+        → IsSpool profile S → Run profile S start prompts answers → size (facts_of_session profile.marks prompts answers) < 2 ^ 210
+        → (G : Spool) × IsGiven (facts_of_session profile.marks prompts answers) G }
 {}
 
 /// Some spool permits a session exactly if each answer fits and what the answers say stands together.
 pub fn permitted_where_all_stands_together()
     ensures of_spool { (profile : Profile) (S : Spool) (facts : List Fact) → IsSpool profile S → AllByRecursion (Holds S) facts → Together facts }
     ensures only_if { (profile : Profile) (prompts : List Asked) (answers : List Response)
-        → SomePermits profile prompts answers → FitsAll profile start.visible prompts answers × Together (facts_of_session prompts answers) }
-    ensures exactly_if { (profile : Profile) (prompts : List Asked) (answers : List Response) → size (facts_of_session prompts answers) < 2 ^ 210
-        → SomePermits profile prompts answers ↔ (FitsAll profile start.visible prompts answers × Together (facts_of_session prompts answers)) }
+        → SomePermits profile prompts answers → FitsAll profile start.visible prompts answers × Together (facts_of_session profile.marks prompts answers) }
+    ensures exactly_if { (profile : Profile) (prompts : List Asked) (answers : List Response) → size (facts_of_session profile.marks prompts answers) < 2 ^ 210
+        → SomePermits profile prompts answers ↔ (FitsAll profile start.visible prompts answers × Together (facts_of_session profile.marks prompts answers)) }
     ensures given_exists { (profile : Profile) (prompts : List Asked) (answers : List Response)
-        → FitsAll profile start.visible prompts answers → size (facts_of_session prompts answers) < 2 ^ 210 → (G : Spool) × IsGiven (facts_of_session prompts answers) G }
+        → FitsAll profile start.visible prompts answers → size (facts_of_session profile.marks prompts answers) < 2 ^ 210 → (G : Spool) × IsGiven (facts_of_session profile.marks prompts answers) G }
     ensures given_permits { (profile : Profile) (G : Spool) (prompts : List Asked) (answers : List Response)
-        → FitsAll profile start.visible prompts answers → Together (facts_of_session prompts answers) → size (facts_of_session prompts answers) < 2 ^ 210
-        → IsGiven (facts_of_session prompts answers) G → IsSpool profile G × Run profile G start prompts answers }
+        → FitsAll profile start.visible prompts answers → Together (facts_of_session profile.marks prompts answers) → size (facts_of_session profile.marks prompts answers) < 2 ^ 210
+        → IsGiven (facts_of_session profile.marks prompts answers) G → IsSpool profile G × Run profile G start prompts answers }
 {}
 
 /// Behind answers that some spool permits, some spool permits one more exactly if it fits and what it
@@ -161,23 +173,23 @@ pub fn permitted_where_all_stands_together()
 pub fn next_answer_is_permitted_where_it_joins()
     ensures demand { (asks more : List Ask) → demand (asks ++ more) ≡ join (demand asks) (demand more) }
     ensures facts { (facts more : List Fact) → Together facts → AgreeWithin more → Together (facts ++ more) ↔ Join facts more }
-    ensures within { (v : Visible) (at : Position) (asked : Asked) (response : Response) → AgreeWithin (facts_of v at asked response) }
+    ensures within { (how : Marks) (v : Visible) (at : Position) (asked : Asked) (response : Response) → AgreeWithin (facts_of how v at asked response) }
     ensures answer { (profile : Profile) (prompts : List Asked) (answers : List Response) (asked : Asked) (response : Response)
-        → asked_next prompts answers ≡ Some asked → size (facts_of_session prompts (answers ++ response ∷ [])) < 2 ^ 210 → SomePermits profile prompts answers
+        → asked_next prompts answers ≡ Some asked → size (facts_of_session profile.marks prompts (answers ++ response ∷ [])) < 2 ^ 210 → SomePermits profile prompts answers
         → SomePermits profile prompts (answers ++ response ∷ [])
         ↔ (((visible_from start.visible prompts answers).closed ≡ false) × IsTrue (fits profile (visible_from start.visible prompts answers) asked response)
-        × Join (facts_of_session prompts answers) (facts_of (visible_from start.visible prompts answers) (position_from Nowhere prompts answers) asked response)) }
+        × Join (facts_of_session profile.marks prompts answers) (facts_of profile.marks (visible_from start.visible prompts answers) (position_from Nowhere prompts answers) asked response)) }
 {}
 
 /// Some spool permits a session, or none does.
 pub fn some_spool_permits_or_none()
-    ensures { (profile : Profile) (prompts : List Asked) (answers : List Response) → size (facts_of_session prompts answers) < 2 ^ 210
+    ensures { (profile : Profile) (prompts : List Asked) (answers : List Response) → size (facts_of_session profile.marks prompts answers) < 2 ^ 210
         → SomePermits profile prompts answers ⊎ (SomePermits profile prompts answers → ⊥) }
 {}
 
 /// Some spool permits a session, or exactly one answer is bad, and never both.
 pub fn one_answer_is_bad()
-    ensures permitted_or_bad { (profile : Profile) (prompts : List Asked) (answers : List Response) → size (facts_of_session prompts answers) < 2 ^ 210
+    ensures permitted_or_bad { (profile : Profile) (prompts : List Asked) (answers : List Response) → size (facts_of_session profile.marks prompts answers) < 2 ^ 210
         → SomePermits profile prompts answers ⊎ ((k : ℕ) × IsFirstUnpermitted profile prompts answers k) }
     ensures never_both { (profile : Profile) (prompts : List Asked) (answers : List Response) (k : ℕ)
         → SomePermits profile prompts answers → IsFirstUnpermitted profile prompts answers k → ⊥ }
@@ -284,9 +296,9 @@ pub fn streams_have_one_headline()
 /// the headline is a yes with the given spool.
 pub fn headline_at_the_end()
     ensures { (profile : Profile) (client server : List ℕ) (pairs : List Paired) (unanswered : ℕ) (G : Spool)
-        → size (facts_of_session (asked_of pairs) (responses_of pairs)) < 2 ^ 210
+        → size (facts_of_session profile.marks (asked_of pairs) (responses_of pairs)) < 2 ^ 210
         → IsPairing client server pairs (end unanswered) → SomePermits profile (asked_of pairs) (responses_of pairs)
-        → IsGiven (facts_of_session (asked_of pairs) (responses_of pairs)) G → IsHeadline profile client server (Yes G (length pairs)) }
+        → IsGiven (facts_of_session profile.marks (asked_of pairs) (responses_of pairs)) G → IsHeadline profile client server (Yes G (length pairs)) }
 {}
 
 /// Where it ends at octets, and some spool permits its responses, the headline is a no there, of the
@@ -310,4 +322,60 @@ pub fn headline_at_a_response()
         → SomePermits profile (asked_of pairs) (responses_of pairs)
         → fits profile (visible_from start.visible (asked_of pairs) (responses_of pairs)) (asked_at pair.line) pair.response ≡ false
         → IsHeadline profile client server (No (length pairs) OutOfPlace) }
+{}
+
+/// What has facts has each part of them.
+pub fn fewer_facts_hold()
+    ensures { (profile : Profile) (facts more : List Fact) → ((fact : Fact) → Contains facts fact → Contains more fact)
+        → SomeHas profile more → SomeHas profile facts }
+{}
+
+/// Some spool has what answers say, each fitting where it stands, exactly if it stands together; also
+/// where they are no session, as some answers of one.
+pub fn answers_stand_together_where_a_spool_has_them()
+    ensures all { (profile : Profile) (answers : List Placed) → AllByRecursion (FitsThere profile) answers → size (flat_map (told profile) answers) < 2 ^ 210
+        → SomeHas profile (flat_map (told profile) answers) ↔ Together (flat_map (told profile) answers) }
+    ensures some { (profile : Profile) (bad : Placed) (answers : List Placed) (places : List ℕ) → FitsThere profile bad → AllByRecursion (FitsThere profile) answers
+        → size (told_with profile bad answers places) < 2 ^ 210
+        → SomeHas profile (told_with profile bad answers places) ↔ Together (told_with profile bad answers places) }
+    ensures fitting { (profile : Profile) (v : Visible) (at : Position) (prompts : List Asked) (answers : List Response)
+        → FitsAll profile v prompts answers → AllByRecursion (FitsThere profile) (placed_from v at prompts answers) }
+    ensures session { (profile : Profile) (S : Spool) (v : Visible) (at : Position) (prompts : List Asked) (answers : List Response)
+        → AllByRecursion (Holds S) (flat_map (told profile) (placed_from v at prompts answers)) → AllByRecursion (Holds S) (facts_from profile.marks v at prompts answers) }
+{}
+
+/// How a smallest set of answers is found with which a bad one conflicts. To begin with, nothing is
+/// found; where those below a place still stand with what is found, and those up to it don't, it is
+/// found; and where what is found conflicts alone, it is such a set.
+pub fn core_is_found()
+    ensures start { (profile : Profile) (bad : Placed) (answers : List Placed)
+        → (SomeHas profile (told_with profile bad answers (below (length answers))) → ⊥) → IsPartOfCore profile bad answers (length answers) [] }
+    ensures step { (profile : Profile) (bad : Placed) (answers : List Placed) (bound k : ℕ) (places : List ℕ)
+        → IsPartOfCore profile bad answers bound places → k < bound → bound ≤ length answers
+        → SomeHas profile (told_with profile bad answers (below k ++ places))
+        → (SomeHas profile (told_with profile bad answers (below (k + 1) ++ places)) → ⊥) → IsPartOfCore profile bad answers k (k ∷ places) }
+    ensures in_each { (profile : Profile) (bad : Placed) (answers : List Placed) (bound : ℕ) (places some : List ℕ) (k : ℕ)
+        → IsPartOfCore profile bad answers bound places → ((j : ℕ) → Contains some j → Contains (below bound ++ places) j)
+        → (SomeHas profile (told_with profile bad answers some) → ⊥) → Contains places k → Contains some k }
+    ensures done { (profile : Profile) (bad : Placed) (answers : List Placed) (bound : ℕ) (places : List ℕ)
+        → IsPartOfCore profile bad answers bound places → (SomeHas profile (told_with profile bad answers places) → ⊥) → IsCore profile bad answers places }
+{}
+
+/// A session that fits is permitted exactly if some spool has what its answers say, each by itself; so
+/// a contradiction conflicts with those before it. That there is a group says no more of a spool that
+/// has it.
+pub fn contradiction_conflicts_with_those_before()
+    ensures group { (profile : Profile) (S : Spool) (name : Name) → IsSpool profile S → IsGroup S name → AllByRecursion (Holds S) (a_group profile name) }
+    ensures session { (profile : Profile) (prompts : List Asked) (answers : List Response) → FitsAll profile start.visible prompts answers
+        → SomePermits profile prompts answers ↔ SomeHas profile (flat_map (told profile) (placed_from start.visible Nowhere prompts answers)) }
+    ensures bad { (profile : Profile) (prompts : List Asked) (answers : List Response) (asked : Asked) (response : Response)
+        → asked_next prompts answers ≡ Some asked → FitsAll profile start.visible prompts (answers ++ response ∷ [])
+        → (SomePermits profile prompts (answers ++ response ∷ []) → ⊥)
+        → SomeHas profile (told_with profile (record { visible = visible_from start.visible prompts answers; position = position_from Nowhere prompts answers; asked = asked; response = response })
+        (placed_from start.visible Nowhere prompts answers) (below (length (placed_from start.visible Nowhere prompts answers)))) → ⊥ }
+{}
+
+/// Where facts conflict somewhere, no spool has them.
+pub fn no_spool_has_what_conflicts()
+    ensures { (profile : Profile) (facts : List Fact) (point : Point) → ConflictAt facts point → SomeHas profile facts → ⊥ }
 {}

@@ -5,8 +5,9 @@ ghost use Rattle.std.specs.BTreeMap.{keys};
 ghost use Rattle.nntp_wire.specs.Decided.{matches_name};
 ghost use Rattle.nntp_wire.specs.Wildmat.{is_wildmat};
 ghost use Rattle.nntp_wire.specs.Listing.{ActiveValue};
+ghost use Rattle.nntp_article.specs.Spool.{Name};
 ghost use Rattle.nntp_article.specs.Machine.{is_same};
-ghost use Rattle.nntp_facts.specs.Facts.{Fact, ThereIsNo, GroupsAre};
+ghost use Rattle.nntp_facts.specs.Facts.{Fact, GroupsAre};
 ghost use Rattle.nntp_facts.specs.Given.{is_shown_group};
 ghost use Rattle.nntp_facts.specs.Together.{denies_group};
 ghost use Rattle.nntp_facts.specs.Kept.{AreKeptNames};
@@ -51,7 +52,8 @@ impl<A: Allocator + Copy> Names<A> {
 
     /// Adds that there is no such group.
     pub(crate) fn deny(&mut self, alloc: A, name: &[u8]) -> Result<(), AllocError>
-        ensures { OnOk result ((facts : List Fact) → AreKeptNames facts self.old → AreKeptNames (facts ++ ThereIsNo name.now ∷ []) self.new) }
+        ensures { OnOk result ((facts more : List Fact) → AreKeptNames facts self.old → ((other : Name) → list_any (denies_group other) more ≡ is_same name.now other)
+            → AreKeptNames (facts ++ more) self.new) }
     {
         self.denied.insert(Vec::from_slice(alloc, name)?)?;
         Ok(())

@@ -1,20 +1,21 @@
 //! What all answers so far say of the numbers of one group.
-ghost use Rattle.std.specs.Prelude.{◌≡◌, ℕ, not, nat_lt, ◌^◌, ◌-◌, ◌<◌, ◌↔◌, true, false, ◌&&◌, ◌||◌, List, [], ◌∷◌, ◌++◌, IsTrue, OnOk, IfOk, ◌≤◌, MatchOption};
+ghost use Rattle.std.specs.Prelude.{◌≡◌, ℕ, nat_lt, ◌^◌, ◌-◌, ◌<◌, ◌↔◌, ◌&&◌, ◌||◌, List, [], ◌++◌, Option, IsTrue, OnOk};
+ghost use Rattle.std.specs.List.{list_all};
 ghost use Rattle.nntp_intervals.specs.Intervals.{holds};
-ghost use Rattle.nntp_facts.specs.Asks.{Ask, Estimates, Bounds};
-ghost use Rattle.nntp_facts.specs.Given.{is_denied, IsOneMore};
+ghost use Rattle.nntp_facts.specs.Asks.{Ask};
 ghost use Rattle.nntp_facts.specs.Together.{AsksStand};
-ghost use Rattle.nntp_facts.specs.Listing.{AreListable};
-ghost use Rattle.nntp_facts.specs.Readers.{unseen_in};
-ghost use Rattle.nntp_facts.specs.ListingView.{asks_listed};
-ghost use Rattle.nntp_facts.specs.Summary.{demand_of, has, is_within, part_shows, part_denies, said, Says, denied_after, AgreesWith, is_settled, IsSummary, Stands};
+ghost use Rattle.nntp_facts.specs.Part.{is_within, Says, IsRegular};
+ghost use Rattle.nntp_facts.specs.PartView.{said};
+ghost use Rattle.nntp_facts.specs.Given.{join};
+ghost use Rattle.nntp_facts.specs.Readers.{known_ends_in, unless_shown, one_more_in, unseen_in, unseen_high_in};
+ghost use Rattle.nntp_facts.specs.Summary.{IsSummary, AreBounded, ends_after, denied_after, is_open, FirstFreeBelow, has_room, is_settled};
 
-use crate::ask;
-use crate::free::free_after;
-use crate::listing::Listing;
-use crate::need::Need;
+use crate::demand::Demand;
+use crate::ends::{self, Ends};
+use crate::gaps::deny_gaps;
 use crate::part::Part;
-use crate::shown::{Found, count_after, found_after, found_wanted, meets, none_outside, show};
+use crate::shown::{Found, found_wanted, show};
+use crate::tally::Tally;
 use nntp_intervals::IntervalSet;
 use std::alloc::{AllocError, Allocator, Global};
 use std::collections::BTreeSet;
@@ -29,60 +30,129 @@ pub(crate) struct Numbers<A: Allocator = Global> {
     denied: IntervalSet<A>,
     /// There are at most so many.
     estimate: Option<u64>,
-    need: Need,
+    /// Where there is a number, both are numbers.
+    ends: Option<Ends>,
+    demand: Demand,
 }
 
 impl<A: Allocator> Model for Numbers<A> {
-    ghost use Rattle.nntp_facts.specs.Summary.{Summary, demand_of};
+    ghost use Rattle.nntp_facts.specs.Summary.{Summary};
+    ghost use Rattle.nntp_facts.specs.GroupView.{coded_summary};
 
     ghost Value = { Summary };
 
-    ghost view = { λ g. record { shown = g.shown.keys; denied = g.denied; estimate = g.estimate; demand = demand_of g.need } };
+    ghost coded = { coded_summary };
+
+    ghost view = { λ g. record { shown = g.shown.keys; denied = g.denied; estimate = g.estimate; ends = g.ends; demand = g.demand } };
+}
+
+impl<A: Allocator + Copy> Numbers<A> {
+    /// Of a group of which nothing is said.
+    pub(crate) fn new(alloc: A) -> Numbers<A>
+        ensures { IsSummary result [] }
+    {
+        Numbers {
+            shown: BTreeSet::new(alloc),
+            denied: IntervalSet::new(alloc),
+            estimate: None,
+            ends: None,
+            demand: Demand::NoDemand,
+        }
+    }
+
+    /// Adds what the part says. After an error the value says nothing of use.
+    pub(crate) fn add(&mut self, part: &Part<'_>) -> Result<(), AllocError>
+        ensures { OnOk result ((asks more : List Ask) → IsSummary self.old asks → Says (said part.now) more → IsSummary self.new (asks ++ more)) }
+    {
+        deny(&mut self.denied, part)?;
+        show(&mut self.shown, part.numbers)?;
+        self.estimate = least(self.estimate, part.estimate);
+        self.ends = ends::join(self.ends, part.ends);
+        self.demand = self.demand.join(part.demand);
+        Ok(())
+    }
 }
 
 impl<A: Allocator> Numbers<A> {
     /// Whether what the part says stands together with all before.
-    pub(crate) fn joins(&self, part: &Part) -> bool
-        ensures { (asks more : List Ask) → IsSummary self.now asks → AsksStand asks → Says (said part.now) more
+    pub(crate) fn joins(&self, part: &Part<'_>) -> bool
+        ensures { (asks more : List Ask) → IsSummary self.now asks → AsksStand asks → AreBounded (asks ++ more) → Says (said part.now) more
             → IsTrue result ↔ AsksStand (asks ++ more) }
     {
-        let need = self.need.join(part.need);
-        agrees(&self.shown, &self.denied, part)
+        let demand = self.demand.join(part.demand);
+        let ends = self.ends_after(part, demand);
+        part.agrees(&self.shown, &self.denied)
+            && part.leaves(&self.denied, ends)
             && is_settled(
-                need,
-                found_after(&self.shown, part.shows, need),
-                free_after(&self.denied, part),
-                count_after(&self.shown, part.shows),
+                demand,
+                Tally::of(&self.shown, part.numbers, ends, demand),
+                &self.denied,
+                part,
                 least(self.estimate, part.estimate),
             )
     }
 
-    /// Whether what the answer to LISTGROUP says stands together with all before.
-    pub(crate) fn joins_listing(&self, listing: &Listing<'_>) -> bool
-        ensures { (asks : List Ask) → Stands self.now asks → AreListable listing.now.range listing.now.numbers.now
-            → IsTrue result ↔ AsksStand (asks ++ asks_listed listing.now) }
+    /// The strict marks after the part, where it is said then that there is a number.
+    fn ends_after(&self, part: &Part<'_>, demand: Demand) -> Option<Ends>
+        ensures { demand ≡ join self.now.demand part.now.demand → result ≡ ends_after self.now (said part.now) }
     {
-        let tally = listing.tally(&self.shown, self.need);
-        listing.agrees(&self.shown, &self.denied)
-            && is_settled(
-                self.need,
-                tally.found,
-                listing.first_free(&self.denied),
-                tally.count,
-                least(self.estimate, Some(listing.estimate)),
-            )
+        if self.shown.is_empty() && part.numbers.is_empty() && !demand.is_some() {
+            return None;
+        }
+        ends::join(self.ends, part.ends)
     }
 
-    /// The number that is shown nowhere, and has to be there.
-    pub(crate) fn one_more(&self) -> Option<u64>
-        ensures value { result ≡ unseen_in self.now }
-        ensures is { (asks : List Ask) → Stands self.now asks → MatchOption result ((n : ℕ) → IsOneMore asks n → ⊥) (IsOneMore asks) }
+    /// The least number that has to be there, where it isn't shown.
+    pub(crate) fn unseen(&self) -> Option<u64>
+        ensures { result ≡ unseen_in self.now }
     {
-        let Found::Absent = found_wanted(&self.shown, self.need) else {
+        match self.known_ends() {
+            Some(ends) => self.unless_shown(ends.low),
+            None => self.one_more(),
+        }
+    }
+
+    /// The greatest number that has to be there, where it is neither shown nor the least.
+    pub(crate) fn unseen_high(&self) -> Option<u64>
+        ensures { result ≡ unseen_high_in self.now }
+    {
+        let ends = self.known_ends()?;
+        if ends.high == ends.low {
+            return None;
+        }
+        self.unless_shown(ends.high)
+    }
+
+    /// The strict marks, where it is said that there is a number.
+    fn known_ends(&self) -> Option<Ends>
+        ensures { result ≡ known_ends_in self.now }
+    {
+        if self.shown.is_empty() && !self.demand.is_some() {
+            return None;
+        }
+        self.ends
+    }
+
+    /// The number, where it isn't shown.
+    fn unless_shown(&self, n: u64) -> Option<u64>
+        ensures { result ≡ unless_shown self.now.shown n }
+    {
+        if self.shown.contains(&n) {
+            None
+        } else {
+            Some(n)
+        }
+    }
+
+    /// The number that is known nowhere, and has to be there.
+    fn one_more(&self) -> Option<u64>
+        ensures { result ≡ one_more_in self.now }
+    {
+        let Found::Absent = found_wanted(&self.shown, self.demand) else {
             return None;
         };
         let n = self.denied.least_free_from(1)?;
-        if self.need.wants(n) { Some(n) } else { None }
+        if self.demand.wants(n) { Some(n) } else { None }
     }
 
     /// The numbers that are shown, ascending.
@@ -93,80 +163,14 @@ impl<A: Allocator> Numbers<A> {
     }
 }
 
-impl<A: Allocator + Copy> Numbers<A> {
-    /// Of a group of which it is said that there are at most so many numbers, between the marks.
-    pub(crate) fn of_marks(
-        alloc: A,
-        estimate: u64,
-        low: u64,
-        high: u64,
-    ) -> Result<Numbers<A>, AllocError>
-        ensures { IfOk result (λ g. Stands g (Estimates (record { estimate = estimate; low = low; high = high }) ∷ [])) }
-    {
-        let ask = ask::Ask::Estimates {
-            estimate,
-            low,
-            high,
-        };
-        let numbers = Numbers::of(alloc, &Part::of(ask))?;
-        Ok(numbers)
-    }
-
-    /// Of a group of which it is said that all numbers are between the marks.
-    pub(crate) fn of_bounds(alloc: A, low: u64, high: u64) -> Result<Numbers<A>, AllocError>
-        ensures { IfOk result (λ g. Stands g (Bounds low high ∷ [])) }
-    {
-        let numbers = Numbers::of(alloc, &Part::of(ask::Ask::Bounds { low, high }))?;
-        Ok(numbers)
-    }
-
-    /// Of a group of which nothing else is said: no number above the high mark is open.
-    fn of(alloc: A, part: &Part) -> Result<Numbers<A>, AllocError>
-        ensures { IfOk result (λ g. (more : List Ask) → Says (said part.now) more → ((n : ℕ) → 2 ^ 64 ≤ n → is_denied more n ≡ true) → IsSummary g more) }
-    {
-        let mut denied = IntervalSet::new(alloc);
-        let mut shown = BTreeSet::new(alloc);
-        deny(&mut denied, part)?;
-        show(&mut shown, part.shows)?;
-        Ok(Numbers {
-            shown,
-            denied,
-            estimate: part.estimate,
-            need: part.need,
-        })
-    }
-
-    /// Adds what the part says. After an error the value says nothing of use.
-    pub(crate) fn add(&mut self, part: &Part) -> Result<(), AllocError>
-        ensures { OnOk result ((asks more : List Ask) → IsSummary self.old asks → Says (said part.now) more → IsSummary self.new (asks ++ more)) }
-    {
-        deny(&mut self.denied, part)?;
-        show(&mut self.shown, part.shows)?;
-        self.estimate = least(self.estimate, part.estimate);
-        self.need = self.need.join(part.need);
-        Ok(())
-    }
-
-    /// Adds what the answer to LISTGROUP says. After an error the value says nothing of use.
-    pub(crate) fn add_listing(&mut self, listing: &Listing<'_>) -> Result<(), AllocError>
-        ensures { OnOk result ((asks : List Ask) → IsSummary self.old asks → AreListable listing.now.range listing.now.numbers.now
-            → IsSummary self.new (asks ++ asks_listed listing.now)) }
-    {
-        listing.deny(&mut self.denied)?;
-        listing.show(&mut self.shown)?;
-        self.estimate = least(self.estimate, Some(listing.estimate));
-        Ok(())
-    }
-}
-
 /// The lesser of two estimates.
-pub(crate) fn least(a: Option<u64>, b: Option<u64>) -> Option<u64>
+fn least(a: Option<u64>, b: Option<u64>) -> Option<u64>
     ensures { (n : ℕ) → is_within result n ≡ (is_within a n && is_within b n) }
 {
     match (a, b) {
         (None, e) => e,
         (e, None) => e,
-        (Some(a), Some(b)) => Some(if a <= b { a } else { b }),
+        (Some(a), Some(b)) => Some(a.min(b)),
     }
 }
 
@@ -180,65 +184,50 @@ fn is_within(estimate: Option<u64>, count: u64) -> bool
     }
 }
 
-/// Whether the need is met: by the numbers that are shown, of which it wants so many, or by one more,
-/// the first free number.
-fn is_settled(
-    need: Need,
-    found: Found,
-    free: Option<u64>,
-    count: u64,
+/// Whether the demand is met: by the numbers that are known, of which it wants so many, or by one more,
+/// the first free number after the part.
+fn is_settled<A: Allocator>(
+    demand: Demand,
+    tally: Tally,
+    denied: &IntervalSet<A>,
+    part: &Part<'_>,
     estimate: Option<u64>,
 ) -> bool
-    requires { count < 2 ^ 64 - 1 }
-    ensures { result ≡ is_settled (demand_of need) found free count estimate }
+    requires { tally.count < 2 ^ 64 - 1 }
+    ensures { IsRegular (said part.now) → IsTrue (list_all (is_open denied.now (said part.now)) part.now.numbers.now)
+        → (free : Option ℕ) → FirstFreeBelow (denied_after denied.now (said part.now)) free → result ≡ is_settled demand tally.found free tally.count estimate }
 {
-    match (need, found) {
-        (Need::Nothing, _) => is_within(estimate, count),
-        (Need::Never, _) => false,
-        (_, Found::Absent) => match free {
-            Some(n) => need.wants(n) && is_within(estimate, count + 1),
-            None => false,
-        },
-        (Need::Any, _) => is_within(estimate, count),
-        (_, Found::Single) => is_within(estimate, count),
+    match (demand, tally.found) {
+        (Demand::NoDemand, _) => is_within(estimate, tally.count),
+        (Demand::Impossible, _) => false,
+        (_, Found::Absent) => has_room(demand, part.first_free(denied), tally.count, estimate),
+        (Demand::NotEmpty, _) => is_within(estimate, tally.count),
+        (_, Found::Single) => is_within(estimate, tally.count),
         (_, Found::Several) => false,
     }
 }
 
-/// Whether the part can be, and nothing is both shown and denied.
-fn agrees<A: Allocator>(shown: &BTreeSet<u64, A>, denied: &IntervalSet<A>, part: &Part) -> bool
-    ensures { IsTrue result ↔ AgreesWith shown.now.keys denied.now (said part.now) }
+/// Whether the demand wants the free number, and there is room for it.
+fn has_room(demand: Demand, free: Option<u64>, count: u64, estimate: Option<u64>) -> bool
+    requires { count < 2 ^ 64 - 1 }
+    ensures { result ≡ has_room demand free count estimate }
 {
-    part.is_possible && denies_none(shown, part) && shows_free(denied, part)
-}
-
-/// Whether the part denies no number that is shown.
-fn denies_none<A: Allocator>(shown: &BTreeSet<u64, A>, part: &Part) -> bool
-    ensures { IsTrue result ↔ ((n : ℕ) → has shown.now.keys n ≡ true → part_denies part.now n ≡ false) }
-{
-    none_outside(shown, part.low, part.high) && !meets(shown, part.first, part.last)
-}
-
-/// Whether the part shows no number that is denied.
-fn shows_free<A: Allocator>(denied: &IntervalSet<A>, part: &Part) -> bool
-    ensures { IsTrue result ↔ ((n : ℕ) → part_shows part.now.shows n ≡ true → denied_after denied.now (part_denies part.now) n ≡ false) }
-{
-    match part.shows {
-        Some(n) => !denied.contains(n) && !part.denies(n),
-        None => true,
+    match free {
+        Some(n) => demand.wants(n) && is_within(estimate, count + 1),
+        None => false,
     }
 }
 
 /// Adds the numbers that the part denies.
-fn deny<A: Allocator + Copy>(denied: &mut IntervalSet<A>, part: &Part) -> Result<(), AllocError>
-    ensures { OnOk result ((n : ℕ) → n < 2 ^ 64 → holds denied.new n ≡ denied_after denied.old (part_denies part.now) n) }
+fn deny<A: Allocator + Copy>(denied: &mut IntervalSet<A>, part: &Part<'_>) -> Result<(), AllocError>
+    ensures { OnOk result (IsRegular (said part.now) → (n : ℕ) → n < 2 ^ 64 → holds denied.new n ≡ denied_after denied.old (said part.now) n) }
 {
     deny_outside(denied, part.low, part.high)?;
-    denied.insert(part.first, part.last)
+    deny_gaps(denied, part.gaps())
 }
 
 /// Adds the numbers that aren't between the marks.
-pub(crate) fn deny_outside<A: Allocator + Copy>(
+fn deny_outside<A: Allocator + Copy>(
     denied: &mut IntervalSet<A>,
     low: u64,
     high: u64,

@@ -1,235 +1,240 @@
-//! What an answer says at once of the numbers of a group.
-ghost use Rattle.std.specs.Prelude.{◌≡◌, ℕ, ◌<◌, ◌^◌, ◌↔◌, false, IsTrue, [], ◌∷◌};
-ghost use Rattle.nntp_facts.specs.Asks.{StandsAt, StandsNowhere, StepsUp, StepsDown, IsTop, IsBottom};
-ghost use Rattle.nntp_facts.specs.AskView.{position_of, ask_of};
-ghost use Rattle.nntp_facts.specs.Summary.{part_denies, said, Says, SaysToo, SaysOnly};
+//! What an answer says of the numbers of one group (RFC 3977, section 6.1).
+ghost use Rattle.std.specs.Prelude.{◌≤◌, [], ◌∷◌};
+ghost use Rattle.nntp_facts.specs.Asks.{Estimates, Bounds, ListsIn, Has, Lacks, StandsAt, StandsNowhere, StepsUp, StepsDown, IsTop, IsBottom};
+ghost use Rattle.nntp_facts.specs.Part.{AreListable, Says};
+ghost use Rattle.nntp_facts.specs.PartView.{said};
 
-use crate::ask::{Ask, Position};
-use crate::need::Need;
+use crate::demand::Demand;
+use crate::ends::Ends;
+use crate::position::Position;
+use nntp_wire::{Marks, Range, WaterMarks};
+use std::slice;
 
 /// What is said at once of the numbers of a group.
-#[derive(Clone, Copy)]
-pub(crate) struct Part {
+#[derive(Drop)]
+pub(crate) struct Part<'s> {
+    /// Whether it can be at all.
     pub(crate) is_possible: bool,
-    /// The number that is there.
-    pub(crate) shows: Option<u64>,
     /// No number is below this.
     pub(crate) low: u64,
     /// No number is above this.
     pub(crate) high: u64,
-    /// No number is from this one to `last`.
+    /// From this number to `last` there are those of `numbers`, and no others.
     pub(crate) first: u64,
     pub(crate) last: u64,
+    /// Numbers that are there, ascending.
+    pub(crate) numbers: &'s [u64],
     /// There are at most so many.
     pub(crate) estimate: Option<u64>,
-    pub(crate) need: Need,
+    /// Where there is a number, both are numbers.
+    pub(crate) ends: Option<Ends>,
+    pub(crate) demand: Demand,
 }
 
-/// A part that says nothing.
-pub(crate) const NOTHING: Part = Part {
-    is_possible: true,
-    shows: None,
-    low: 0,
-    high: u64::MAX,
-    first: 1,
-    last: 0,
-    estimate: None,
-    need: Need::Nothing,
-};
-
-/// What can't be.
-const IMPOSSIBLE: Part = Part {
-    is_possible: false,
-    ..NOTHING
-};
-
-impl Part {
-    /// What the ask says.
-    pub(crate) fn of(ask: Ask) -> Part
-        ensures { Says (said result) (ask_of ask ∷ []) }
-    {
-        match ask {
-            Ask::Estimates {
-                estimate,
-                low,
-                high,
-            } => Part {
-                estimate: Some(estimate),
-                low,
-                high,
-                ..NOTHING
-            },
-            Ask::Bounds { low, high } => Part {
-                low,
-                high,
-                ..NOTHING
-            },
-            Ask::Has(n) => Part {
-                shows: Some(n),
-                ..NOTHING
-            },
-            Ask::Lacks(n) => Part {
-                first: n,
-                last: n,
-                ..NOTHING
-            },
-            Ask::StandsAt(at, n) => Part::stands_at(at, n),
-            Ask::StandsNowhere(at) => Part::stands_nowhere(at),
-            Ask::StepsUp(at, n) => Part::steps_up(at, n),
-            Ask::StepsDown(at, n) => Part::steps_down(at, n),
-            Ask::IsTop(at) => Part::is_top(at),
-            Ask::IsBottom(at) => Part::is_bottom(at),
-        }
-    }
-
+impl<'s> Part<'s> {
     /// What no ask says.
-    pub(crate) fn nothing() -> Part
+    pub(crate) fn nothing() -> Part<'s>
         ensures { Says (said result) [] }
     {
-        NOTHING
-    }
-
-    /// The same, and that the number is there; no other is shown.
-    pub(crate) fn with_number(self, n: u64) -> Part
-        ensures { SaysToo (said self) n (said result) }
-    {
         Part {
-            shows: Some(n),
-            ..self
+            is_possible: true,
+            low: 0,
+            high: u64::MAX,
+            first: 1,
+            last: 0,
+            numbers: &[],
+            estimate: None,
+            ends: None,
+            demand: Demand::NoDemand,
         }
     }
 
-    /// Whether the part says that the number isn't there.
-    pub(crate) fn denies(&self, n: u64) -> bool
-        ensures { result ≡ part_denies self.now n }
+    /// What a 211 reports: there are at most so many numbers, between the marks.
+    pub(crate) fn of_marks(how: Marks, marks: WaterMarks) -> Part<'s>
+        ensures { Says (said result) (Estimates how marks ∷ []) }
     {
-        n < self.low || self.high < n || (self.first <= n && n <= self.last)
+        Part {
+            low: marks.low,
+            high: marks.high,
+            estimate: Some(marks.estimate),
+            ends: Ends::of_marks(how, marks),
+            ..Part::nothing()
+        }
     }
 
-    /// Whether the part says that the number is there, and nothing else.
-    pub(crate) fn shows_only(&self, n: u64) -> bool
-        ensures { IsTrue result ↔ SaysOnly (said self.now) n }
+    /// The same, and these are the numbers in the range.
+    pub(crate) fn of_list(
+        how: Marks,
+        marks: WaterMarks,
+        range: Range,
+        numbers: &'s [u64],
+    ) -> Part<'s>
+        ensures { AreListable range numbers.now → Says (said result) (Estimates how marks ∷ ListsIn range numbers.now ∷ []) }
     {
-        self.shows == Some(n)
-            && self.is_possible
-            && self.denies_none()
-            && self.estimate.is_none()
-            && self.need.is_nothing()
+        Part {
+            low: marks.low,
+            high: marks.high,
+            first: range.first,
+            last: range.last.unwrap_or(u64::MAX),
+            numbers,
+            estimate: Some(marks.estimate),
+            ends: Ends::of_marks(how, marks),
+            ..Part::nothing()
+        }
     }
 
-    /// Whether the part says of no number that it isn't there.
-    fn denies_none(&self) -> bool
-        ensures { IsTrue result ↔ ((m : ℕ) → m < 2 ^ 64 → part_denies self.now m ≡ false) }
+    /// All numbers are between the marks.
+    pub(crate) fn of_bounds(low: u64, high: u64) -> Part<'s>
+        ensures { Says (said result) (Bounds low high ∷ []) }
     {
-        self.low == 0 && self.high == u64::MAX && self.last < self.first
+        Part {
+            low,
+            high,
+            ..Part::nothing()
+        }
     }
 
-    /// The number at the position is `n`.
-    fn stands_at(at: Position, n: u64) -> Part
-        ensures { Says (said result) (StandsAt (position_of at) n ∷ []) }
+    /// The number is there.
+    pub(crate) fn has(number: &'s u64) -> Part<'s>
+        ensures { 1 ≤ number.now → Says (said result) (Has number.now ∷ []) }
     {
+        Part {
+            first: *number,
+            last: *number,
+            numbers: slice::from_ref(number),
+            ..Part::nothing()
+        }
+    }
+
+    /// The number isn't there.
+    pub(crate) fn lacks(number: u64) -> Part<'s>
+        ensures { Says (said result) (Lacks number ∷ []) }
+    {
+        Part {
+            first: number,
+            last: number,
+            ..Part::nothing()
+        }
+    }
+
+    /// The number at the position is this, and it is there.
+    pub(crate) fn stands_at(at: Position, number: &'s u64) -> Part<'s>
+        ensures { 1 ≤ number.now → Says (said result) (StandsAt at number.now ∷ Has number.now ∷ []) }
+    {
+        let part = Part::has(number);
         match at {
-            Position::Nowhere => IMPOSSIBLE,
+            Position::Nowhere => Part {
+                is_possible: false,
+                ..part
+            },
             Position::First => Part {
-                shows: Some(n),
-                low: n,
-                ..NOTHING
+                low: *number,
+                ..part
             },
             Position::Known(current) => Part {
-                is_possible: current == n,
-                ..NOTHING
+                is_possible: current == *number,
+                ..part
             },
         }
     }
 
     /// There is no number at the position.
-    fn stands_nowhere(at: Position) -> Part
-        ensures { Says (said result) (StandsNowhere (position_of at) ∷ []) }
+    pub(crate) fn stands_nowhere(at: Position) -> Part<'s>
+        ensures { Says (said result) (StandsNowhere at ∷ []) }
     {
+        let part = Part::nothing();
         match at {
-            Position::Nowhere => NOTHING,
+            Position::Nowhere => part,
             Position::First => Part {
                 first: 0,
                 last: u64::MAX,
-                ..NOTHING
+                ..part
             },
-            Position::Known(_) => IMPOSSIBLE,
+            Position::Known(_) => Part {
+                is_possible: false,
+                ..part
+            },
         }
     }
 
-    /// The next number above the position is `n`.
-    fn steps_up(at: Position, n: u64) -> Part
-        ensures { Says (said result) (StepsUp (position_of at) n ∷ []) }
+    /// The next number above the position is this, and it is there.
+    pub(crate) fn steps_up(at: Position, number: &'s u64) -> Part<'s>
+        ensures { 1 ≤ number.now → Says (said result) (StepsUp at number.now ∷ Has number.now ∷ []) }
     {
+        let part = Part::has(number);
         match at {
-            Position::Nowhere => Part {
-                shows: Some(n),
-                ..IMPOSSIBLE
-            },
             Position::First => Part {
-                shows: Some(n),
-                need: Need::Below(n),
-                ..NOTHING
+                demand: Demand::SecondIs(*number),
+                ..part
             },
-            Position::Known(current) => Part {
-                is_possible: current < n,
-                shows: Some(n),
-                first: current.saturating_add(1),
-                last: n.saturating_sub(1),
-                ..NOTHING
-            },
-        }
-    }
-
-    /// The next number below the position is `n`.
-    fn steps_down(at: Position, n: u64) -> Part
-        ensures { Says (said result) (StepsDown (position_of at) n ∷ []) }
-    {
-        match at {
-            Position::Known(current) => Part {
-                is_possible: n < current,
-                shows: Some(n),
-                first: n.saturating_add(1),
-                last: current.saturating_sub(1),
-                ..NOTHING
+            Position::Known(current) if current < *number => Part {
+                first: current + 1,
+                last: *number,
+                ..part
             },
             _ => Part {
-                shows: Some(n),
-                ..IMPOSSIBLE
+                is_possible: false,
+                ..part
+            },
+        }
+    }
+
+    /// The next number below the position is this, and it is there.
+    pub(crate) fn steps_down(at: Position, number: &'s u64) -> Part<'s>
+        ensures { 1 ≤ number.now → Says (said result) (StepsDown at number.now ∷ Has number.now ∷ []) }
+    {
+        let part = Part::has(number);
+        match at {
+            Position::Known(current) if *number < current => Part {
+                first: *number,
+                last: current - 1,
+                ..part
+            },
+            _ => Part {
+                is_possible: false,
+                ..part
             },
         }
     }
 
     /// No number is above the position.
-    fn is_top(at: Position) -> Part
-        ensures { Says (said result) (IsTop (position_of at) ∷ []) }
+    pub(crate) fn is_top(at: Position) -> Part<'s>
+        ensures { Says (said result) (IsTop at ∷ []) }
     {
+        let part = Part::nothing();
         match at {
-            Position::Nowhere => IMPOSSIBLE,
+            Position::Nowhere => Part {
+                is_possible: false,
+                ..part
+            },
             Position::First => Part {
-                need: Need::Only,
-                ..NOTHING
+                demand: Demand::OnlyOne,
+                ..part
             },
             Position::Known(current) => Part {
                 high: current,
-                ..NOTHING
+                ..part
             },
         }
     }
 
     /// No number is below the position.
-    fn is_bottom(at: Position) -> Part
-        ensures { Says (said result) (IsBottom (position_of at) ∷ []) }
+    pub(crate) fn is_bottom(at: Position) -> Part<'s>
+        ensures { Says (said result) (IsBottom at ∷ []) }
     {
+        let part = Part::nothing();
         match at {
-            Position::Nowhere => IMPOSSIBLE,
+            Position::Nowhere => Part {
+                is_possible: false,
+                ..part
+            },
             Position::First => Part {
-                need: Need::Any,
-                ..NOTHING
+                demand: Demand::NotEmpty,
+                ..part
             },
             Position::Known(current) => Part {
                 low: current,
-                ..NOTHING
+                ..part
             },
         }
     }

@@ -1,109 +1,166 @@
 //! What an answer says of the spool (RFC 3977, sections 6 and 7.6.3).
-ghost use Rattle.std.specs.Prelude.{◌≡◌, ℕ, IsTrue, List, IfOk};
+ghost use Rattle.std.specs.Prelude.{◌≡◌, ℕ, IsTrue, List, [], ◌∷◌, None, Some, option_map, IfOk};
+ghost use Rattle.nntp_wire.specs.declared.marks.Marks.{Marks};
 ghost use Rattle.nntp_wire.specs.View.{asked, request, target};
 ghost use Rattle.nntp_wire.specs.AnswerView.{response};
 ghost use Rattle.nntp_wire.specs.Answer.{to, plain, sends};
-ghost use Rattle.nntp_wire.specs.Command.{retrieve, by_id};
-ghost use Rattle.nntp_facts.specs.Asks as asks_said;
+ghost use Rattle.nntp_wire.specs.Command.{retrieve};
 ghost use Rattle.nntp_wire.specs.Listing.{listed_numbers};
 ghost use Rattle.nntp_article.specs.declared.profile.Profile.{Profile};
-ghost use Rattle.nntp_article.specs.Machine.{Visible, fits, code_fits};
+ghost use Rattle.nntp_article.specs.Machine.{Visible, fits};
 ghost use Rattle.nntp_facts.specs.Facts.{Fact, here, facts_of, facts_of_code};
-ghost use Rattle.nntp_facts.specs.AskView.{position_of};
-ghost use Rattle.nntp_facts.specs.SayingView.{facts_said, IsSelectedShown, MaySay};
+ghost use Rattle.nntp_facts.specs.Saying as said_of;
+ghost use Rattle.nntp_facts.specs.Saying.{IsSelectedShown, Tells, numbers_listed};
+ghost use Rattle.nntp_facts.specs.Asks.{Bounds};
+ghost use Rattle.nntp_facts.specs.Part.{Says};
+ghost use Rattle.nntp_facts.specs.PartView.{said};
+ghost use Rattle.nntp_facts.specs.SayingView.{id_at, of_group, saying_of};
+ghost use Rattle.nntp_facts.specs.Summary.{AreBounded};
 
-use crate::ask::{Ask, Position};
+use crate::part::Part;
+use crate::position::Position;
 use nntp_wire::{
-    Answer, Block, Command, GroupName, MessageId, Prompt, Range, WaterMarks, What, Which, Wildmat,
+    ActiveLine, Answer, Block, Command, GroupName, Marks, MessageId, Prompt, WaterMarks, What,
+    Which, Wildmat,
 };
 use std::alloc::{AllocError, Allocator};
 
-/// What an answer says of the spool.
+/// A number of a group, and the message-id that it has.
+#[derive(Clone, Copy)]
+pub(crate) struct IdAt<'s> {
+    pub(crate) number: u64,
+    pub(crate) id: &'s [u8],
+}
+
+/// What is said of one group.
 #[derive(Drop)]
-pub(crate) enum Saying<'s, A: Allocator> {
-    Nothing,
-    /// There is no such group.
-    NoGroup(&'s [u8]),
-    /// The message-id has no article.
-    NoArticle(&'s [u8]),
-    /// Something of the numbers of the selected group.
-    Asks(Ask),
-    /// There is such a group, with so many numbers at most, between the marks.
-    Group {
-        marks: WaterMarks,
-        name: &'s GroupName<'s>,
-    },
-    /// The same, and these are its numbers in the range.
-    Numbers {
-        marks: WaterMarks,
-        name: &'s GroupName<'s>,
-        range: Range,
-        numbers: Vec<u64, A>,
-    },
-    /// The step up from the position in the selected group leads to this number, which has this id.
-    StepUp {
-        at: Position,
+pub(crate) struct GroupPart<'s> {
+    pub(crate) name: &'s [u8],
+    pub(crate) numbers: Part<'s>,
+    pub(crate) id: Option<IdAt<'s>>,
+}
+
+impl<'s> GroupPart<'s> {
+    /// What LIST ACTIVE says of a group that it lists: its numbers are between the marks.
+    pub(crate) fn of_bounds(line: &'s ActiveLine<'s>) -> GroupPart<'s>
+        ensures name { result.name.now ≡ line.now.name }
+        ensures numbers { Says (said result.numbers) (Bounds line.now.low line.now.high ∷ []) }
+        ensures bounded { AreBounded (Bounds line.now.low line.now.high ∷ []) }
+        ensures id { id_at result.id ≡ None }
+    {
+        GroupPart {
+            name: line.name.as_slice(),
+            numbers: Part::of_bounds(line.low, line.high),
+            id: None,
+        }
+    }
+
+    /// This is said of the numbers of the group, and the number has the id.
+    fn with_id(
+        name: &'s [u8],
+        numbers: Part<'s>,
         number: u64,
-        id: &'s [u8],
-    },
-    /// The same of a step down.
-    StepDown {
-        at: Position,
-        number: u64,
-        id: &'s [u8],
-    },
-    /// The message-id has an article, of which this is sent.
-    Text {
+        id: &'s MessageId<'s>,
+    ) -> GroupPart<'s>
+        ensures { of_group result ≡ record { name = name.now; numbers = said numbers.entry; id = Some (number, id.now) } }
+    {
+        GroupPart {
+            name,
+            numbers,
+            id: Some(IdAt {
+                number,
+                id: id.as_slice(),
+            }),
+        }
+    }
+}
+
+/// What is said of a message-id.
+#[derive(Drop)]
+pub(crate) enum OfArticle<'s> {
+    /// It has no article.
+    Lacks,
+    /// It has one.
+    Exists,
+    /// A success names it, and sends this.
+    Sends {
         what: What,
-        id: &'s [u8],
         block: &'s Option<Block<'s>>,
-    },
-    /// The same, and it has this number in the selected group, at the position if there is one.
-    Placed {
-        what: What,
-        id: &'s [u8],
-        block: &'s Option<Block<'s>>,
-        at: Option<Position>,
-        number: u64,
-    },
-    /// The groups that match are these.
-    Groups {
-        wildmat: &'s Option<Wildmat<'s>>,
-        block: &'s Block<'s>,
     },
 }
 
-impl<'s, A: Allocator + Copy> Saying<'s, A> {
-    /// What an answer says where the session stands at the position.
+/// A message-id, and what is said of it.
+#[derive(Drop)]
+pub(crate) struct ArticlePart<'s> {
+    pub(crate) id: &'s [u8],
+    pub(crate) said: OfArticle<'s>,
+}
+
+/// The groups that match.
+#[derive(Drop)]
+pub(crate) struct ListPart<'s> {
+    pub(crate) wildmat: &'s Option<Wildmat<'s>>,
+    pub(crate) block: &'s Block<'s>,
+}
+
+/// What an answer says of the spool, in parts.
+#[derive(Drop)]
+pub(crate) struct Saying<'s> {
+    /// There is such a group.
+    pub(crate) there_is: Option<&'s GroupName<'s>>,
+    /// There is none.
+    pub(crate) there_is_no: Option<&'s [u8]>,
+    pub(crate) group: Option<GroupPart<'s>>,
+    pub(crate) article: Option<ArticlePart<'s>>,
+    /// The groups that match are these.
+    pub(crate) groups: Option<ListPart<'s>>,
+}
+
+/// An answer that says nothing.
+const NOTHING: Saying<'static> = Saying {
+    there_is: None,
+    there_is_no: None,
+    group: None,
+    article: None,
+    groups: None,
+};
+
+impl<'s> Saying<'s> {
+    /// What an answer says where marks are read so, this group is selected, and the session stands at the
+    /// position; `numbers` are those that the answer lists.
     pub(crate) fn of(
-        alloc: A,
+        how: Marks,
+        selected: &'s [u8],
         at: Position,
         prompt: &'s Prompt<'s>,
         answer: &'s Answer<'s>,
-    ) -> Result<Saying<'s, A>, AllocError>
-        ensures facts { IfOk result (λ saying. (v : Visible) → facts_said (here v) saying ≡ facts_of v (position_of at) (asked prompt.now) (response answer.now)) }
-        ensures fitting { IfOk result (λ saying. (profile : Profile) (v : Visible) (facts : List Fact) → IsTrue (fits profile v (asked prompt.now) (response answer.now))
-            → IsSelectedShown v facts → MaySay facts (here v) saying) }
+        numbers: &'s [u64],
+    ) -> Saying<'s>
+        ensures { (profile : Profile) (v : Visible) (facts : List Fact) → IsTrue (fits profile v (asked prompt.now) (response answer.now)) → IsSelectedShown v facts
+            → selected.now ≡ here v → numbers.now ≡ numbers_listed (response answer.now)
+            → Tells facts (saying_of result) (facts_of how v at (asked prompt.now) (response answer.now)) }
     {
         match prompt {
-            Prompt::Greeting => Ok(Saying::Nothing),
-            Prompt::To(command) => Saying::to(alloc, at, command, answer),
+            Prompt::Greeting => NOTHING,
+            Prompt::To(command) => Saying::to(how, selected, at, command, answer, numbers),
         }
     }
 
     /// The same of an answer to a command.
     fn to(
-        alloc: A,
+        how: Marks,
+        selected: &'s [u8],
         at: Position,
         command: &'s Command<'s>,
         answer: &'s Answer<'s>,
-    ) -> Result<Saying<'s, A>, AllocError>
-        ensures facts { IfOk result (λ saying. (v : Visible) → facts_said (here v) saying ≡ facts_of v (position_of at) (to (request command.now)) (response answer.now)) }
-        ensures fitting { IfOk result (λ saying. (profile : Profile) (v : Visible) (facts : List Fact) → IsTrue (fits profile v (to (request command.now)) (response answer.now))
-            → IsSelectedShown v facts → MaySay facts (here v) saying) }
+        numbers: &'s [u64],
+    ) -> Saying<'s>
+        ensures { (profile : Profile) (v : Visible) (facts : List Fact) → IsTrue (fits profile v (to (request command.now)) (response answer.now)) → IsSelectedShown v facts
+            → selected.now ≡ here v → numbers.now ≡ numbers_listed (response answer.now)
+            → Tells facts (saying_of result) (facts_of how v at (to (request command.now)) (response answer.now)) }
     {
         match (command, answer) {
-            (_, Answer::Plain { code }) => Ok(Saying::by_code(at, command, *code)),
+            (_, Answer::Plain { code }) => Saying::by_code(selected, at, command, *code),
             (
                 Command::Group(_),
                 Answer::Group {
@@ -112,10 +169,10 @@ impl<'s, A: Allocator + Copy> Saying<'s, A> {
                     high,
                     name,
                 },
-            ) => Ok(Saying::Group {
-                marks: WaterMarks::new(*estimate, *low, *high),
-                name,
-            }),
+            ) => {
+                let marks = WaterMarks::new(*estimate, *low, *high);
+                Saying::selects(name, Part::of_marks(how, marks))
+            }
             (
                 Command::ListGroup { range, .. },
                 Answer::Numbers {
@@ -123,24 +180,18 @@ impl<'s, A: Allocator + Copy> Saying<'s, A> {
                     low,
                     high,
                     name,
-                    block,
+                    block: _,
                 },
-            ) => Ok(Saying::Numbers {
-                marks: WaterMarks::new(*estimate, *low, *high),
-                name,
-                range: *range,
-                numbers: numbers_of(alloc, block)?,
-            }),
-            (Command::Next, Answer::Sent { number, id, .. }) => Ok(Saying::StepUp {
-                at,
-                number: *number,
-                id: id.as_slice(),
-            }),
-            (Command::Last, Answer::Sent { number, id, .. }) => Ok(Saying::StepDown {
-                at,
-                number: *number,
-                id: id.as_slice(),
-            }),
+            ) => {
+                let marks = WaterMarks::new(*estimate, *low, *high);
+                Saying::selects(name, Part::of_list(how, marks, *range, numbers))
+            }
+            (Command::Next, Answer::Sent { number, id, .. }) => {
+                Saying::steps(selected, Part::steps_up(at, number), *number, id)
+            }
+            (Command::Last, Answer::Sent { number, id, .. }) => {
+                Saying::steps(selected, Part::steps_down(at, number), *number, id)
+            }
             (
                 Command::Retrieve { what, which },
                 Answer::Sent {
@@ -149,110 +200,172 @@ impl<'s, A: Allocator + Copy> Saying<'s, A> {
                     id,
                     block,
                 },
-            ) => Ok(Saying::by_success(at, *what, which, *number, id, block)),
-            (Command::ListActive(wildmat), Answer::Active(block)) => Ok(Saying::Groups {
-                wildmat,
-                block,
-            }),
-            _ => Ok(Saying::Nothing),
+            ) => Saying::by_success(selected, at, *what, which, number, id, block),
+            (Command::ListActive(wildmat), Answer::Active(block)) => Saying {
+                groups: Some(ListPart { wildmat, block }),
+                ..NOTHING
+            },
+            _ => NOTHING,
         }
     }
 
     /// What a code alone says.
-    fn by_code(at: Position, command: &'s Command<'s>, code: u64) -> Saying<'s, A>
-        ensures facts { (v : Visible) → facts_said (here v) result ≡ facts_of_code v (position_of at) (request command.now) code }
-        ensures fitting { (profile : Profile) (v : Visible) (facts : List Fact) → IsTrue (fits profile v (to (request command.now)) (plain code)) → IsSelectedShown v facts → MaySay facts (here v) result }
+    fn by_code(selected: &'s [u8], at: Position, command: &'s Command<'s>, code: u64) -> Saying<'s>
+        ensures { (profile : Profile) (v : Visible) (facts : List Fact) → IsTrue (fits profile v (to (request command.now)) (plain code)) → IsSelectedShown v facts
+            → selected.now ≡ here v → Tells facts (saying_of result) (facts_of_code v at (request command.now) code) }
     {
         match (command, code) {
-            (Command::Group(word), 411) => Saying::NoGroup(*word),
+            (Command::Group(word), 411) => Saying::denies(*word),
             (
                 Command::ListGroup {
                     group: Some(word),
                     ..
                 },
                 411,
-            ) => Saying::NoGroup(*word),
-            (Command::Next | Command::Last, 420) => Saying::Asks(Ask::StandsNowhere(at)),
-            (Command::Next, 421) => Saying::Asks(Ask::IsTop(at)),
-            (Command::Last, 422) => Saying::Asks(Ask::IsBottom(at)),
-            (Command::Retrieve { which, .. }, code) => Saying::by_failure(at, which, code),
-            _ => Saying::Nothing,
+            ) => Saying::denies(*word),
+            (Command::Next | Command::Last, 420) => {
+                Saying::asks(selected, Part::stands_nowhere(at))
+            }
+            (Command::Next, 421) => Saying::asks(selected, Part::is_top(at)),
+            (Command::Last, 422) => Saying::asks(selected, Part::is_bottom(at)),
+            (Command::Retrieve { which, .. }, code) => Saying::by_failure(
+                selected, at, which, code,
+            ),
+            _ => NOTHING,
         }
     }
 
     /// What a failure of ARTICLE, HEAD, BODY or STAT says.
-    fn by_failure(at: Position, which: &'s Which<'s>, code: u64) -> Saying<'s, A>
-        ensures facts { (v : Visible) (what : What) → facts_said (here v) result ≡ facts_of_code v (position_of at) (retrieve what (target which.now)) code }
-        ensures fitting { (profile : Profile) (v : Visible) (facts : List Fact) (what : What) → IsTrue (fits profile v (to (retrieve what (target which.now))) (plain code))
-            → IsSelectedShown v facts → MaySay facts (here v) result }
+    fn by_failure(selected: &'s [u8], at: Position, which: &'s Which<'s>, code: u64) -> Saying<'s>
+        ensures { (profile : Profile) (v : Visible) (facts : List Fact) (what : What) → IsTrue (fits profile v (to (retrieve what (target which.now))) (plain code)) → IsSelectedShown v facts
+            → selected.now ≡ here v → Tells facts (saying_of result) (facts_of_code v at (retrieve what (target which.now)) code) }
     {
         match (which, code) {
-            (Which::Id(word), 430) => Saying::NoArticle(*word),
-            (Which::Number(Some(n)), 423) => Saying::Asks(Ask::Lacks(*n)),
-            (Which::Current, 420) => Saying::Asks(Ask::StandsNowhere(at)),
-            _ => Saying::Nothing,
+            (Which::Id(word), 430) => Saying {
+                article: Some(ArticlePart {
+                    id: *word,
+                    said: OfArticle::Lacks,
+                }),
+                ..NOTHING
+            },
+            (Which::Number(Some(n)), 423) => Saying::asks(selected, Part::lacks(*n)),
+            (Which::Current, 420) => Saying::asks(selected, Part::stands_nowhere(at)),
+            _ => NOTHING,
         }
     }
 
     /// What a success of ARTICLE, HEAD, BODY or STAT says.
     fn by_success(
+        selected: &'s [u8],
         at: Position,
         what: What,
         which: &'s Which<'s>,
-        number: u64,
+        number: &'s u64,
         id: &'s MessageId<'s>,
         block: &'s Option<Block<'s>>,
-    ) -> Saying<'s, A>
-        ensures facts { (v : Visible) (code : ℕ) → facts_said (here v) result ≡ facts_of v (position_of at) (to (retrieve what (target which.now))) (sends (record { code = code; number = number; id = id.now; block = block.now })) }
-        ensures fitting { (profile : Profile) (v : Visible) (facts : List Fact) (code : ℕ) → IsTrue (fits profile v (to (retrieve what (target which.now))) (sends (record { code = code; number = number; id = id.now; block = block.now })))
-            → IsSelectedShown v facts → MaySay facts (here v) result }
+    ) -> Saying<'s>
+        ensures { (profile : Profile) (how : Marks) (v : Visible) (facts : List Fact) (code : ℕ)
+            → IsTrue (fits profile v (to (retrieve what (target which.now))) (sends (record { code = code; number = number.now; id = id.now; block = block.now }))) → IsSelectedShown v facts
+            → selected.now ≡ here v
+            → Tells facts (saying_of result) (facts_of how v at (to (retrieve what (target which.now))) (sends (record { code = code; number = number.now; id = id.now; block = block.now }))) }
     {
         match which {
-            Which::Id(_) => Saying::by_id(what, number, id, block),
-            Which::Number(_) => Saying::Placed {
-                what,
-                id: id.as_slice(),
-                block,
-                at: None,
-                number,
-            },
-            Which::Current => Saying::Placed {
-                what,
-                id: id.as_slice(),
-                block,
-                at: Some(at),
-                number,
-            },
+            Which::Id(_) if *number == 0 => Saying::sends(None, what, id, block),
+            Which::Current => {
+                let numbers = Part::stands_at(at, number);
+                let group = GroupPart::with_id(selected, numbers, *number, id);
+                Saying::sends(Some(group), what, id, block)
+            }
+            _ => {
+                let group = GroupPart::with_id(selected, Part::has(number), *number, id);
+                Saying::sends(Some(group), what, id, block)
+            }
         }
     }
 
-    /// The same where the article was named by its message-id.
-    fn by_id(
+    /// There is such a group, and this of its numbers.
+    fn selects(name: &'s GroupName<'s>, numbers: Part<'s>) -> Saying<'s>
+        ensures { saying_of result ≡ record { there_is = Some name.now; there_is_no = None; group = Some (record { name = name.now; numbers = said numbers.entry; id = None }); article = None; groups = None } }
+    {
+        Saying {
+            there_is: Some(name),
+            group: Some(GroupPart {
+                name: name.as_slice(),
+                numbers,
+                id: None,
+            }),
+            ..NOTHING
+        }
+    }
+
+    /// There is no such group.
+    fn denies(name: &'s [u8]) -> Saying<'s>
+        ensures { saying_of result ≡ record { there_is = None; there_is_no = Some name.now; group = None; article = None; groups = None } }
+    {
+        Saying {
+            there_is_no: Some(name),
+            ..NOTHING
+        }
+    }
+
+    /// This of the numbers of the group.
+    fn asks(name: &'s [u8], numbers: Part<'s>) -> Saying<'s>
+        ensures { saying_of result ≡ record { there_is = None; there_is_no = None; group = Some (record { name = name.now; numbers = said numbers.entry; id = None }); article = None; groups = None } }
+    {
+        Saying {
+            group: Some(GroupPart {
+                name,
+                numbers,
+                id: None,
+            }),
+            ..NOTHING
+        }
+    }
+
+    /// The same, and the number has the id.
+    fn steps(name: &'s [u8], numbers: Part<'s>, number: u64, id: &'s MessageId<'s>) -> Saying<'s>
+        ensures { saying_of result ≡ record { there_is = None; there_is_no = None; group = Some (record { name = name.now; numbers = said numbers.entry; id = Some (number, id.now) }); article = Some (id.now, said_of.Exists); groups = None } }
+    {
+        Saying {
+            group: Some(GroupPart::with_id(name, numbers, number, id)),
+            article: Some(ArticlePart {
+                id: id.as_slice(),
+                said: OfArticle::Exists,
+            }),
+            ..NOTHING
+        }
+    }
+
+    /// This is sent of an article, and this is said of a group, if anything is.
+    fn sends(
+        group: Option<GroupPart<'s>>,
         what: What,
-        number: u64,
         id: &'s MessageId<'s>,
         block: &'s Option<Block<'s>>,
-    ) -> Saying<'s, A>
-        ensures facts { (v : Visible) (at : asks_said.Position) (word : List ℕ) (code : ℕ)
-            → facts_said (here v) result ≡ facts_of v at (to (retrieve what (by_id word))) (sends (record { code = code; number = number; id = id.now; block = block.now })) }
-        ensures fitting { (profile : Profile) (v : Visible) (facts : List Fact) (word : List ℕ) (code : ℕ)
-            → IsTrue (fits profile v (to (retrieve what (by_id word))) (sends (record { code = code; number = number; id = id.now; block = block.now }))) → IsSelectedShown v facts → MaySay facts (here v) result }
+    ) -> Saying<'s>
+        ensures { saying_of result ≡ record { there_is = None; there_is_no = None; group = option_map of_group group.entry; article = Some (id.now, said_of.Sends what block.now); groups = None } }
     {
-        if number == 0 {
-            Saying::Text {
-                what,
+        Saying {
+            group,
+            article: Some(ArticlePart {
                 id: id.as_slice(),
-                block,
-            }
-        } else {
-            Saying::Placed {
-                what,
-                id: id.as_slice(),
-                block,
-                at: None,
-                number,
-            }
+                said: OfArticle::Sends { what, block },
+            }),
+            ..NOTHING
         }
+    }
+}
+
+/// The numbers that an answer to LISTGROUP lists; of another answer none.
+pub(crate) fn numbers_listed<A: Allocator + Copy>(
+    alloc: A,
+    answer: &Answer<'_>,
+) -> Result<Vec<u64, A>, AllocError>
+    ensures { IfOk result (λ numbers. numbers.items ≡ numbers_listed (response answer.now)) }
+{
+    match answer {
+        Answer::Numbers { block, .. } => numbers_of(alloc, block),
+        _ => Ok(Vec::new(alloc)),
     }
 }
 

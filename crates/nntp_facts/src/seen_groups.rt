@@ -50,11 +50,19 @@ impl<'a, A: Allocator> SeenGroup<'a, A> {
         self.numbers().nth(index)
     }
 
-    /// The number that is shown nowhere, and has to be there, if one has to.
+    /// The least number that has to be there, if one has to and it isn't shown.
     pub fn unseen(&self) -> Option<u64>
         ensures { result ≡ self.now.unseen }
     {
-        self.group.one_more()
+        self.group.unseen()
+    }
+
+    /// The greatest number that has to be there, if one has to and it is neither shown nor the least: a high
+    /// mark that is read strictly.
+    pub fn unseen_high(&self) -> Option<u64>
+        ensures { result ≡ self.now.unseen_high }
+    {
+        self.group.unseen_high()
     }
 }
 

@@ -1,13 +1,13 @@
 //! What is looked up in the numbers that are shown.
-ghost use Rattle.std.specs.Prelude.{◌≡◌, ℕ, not, nat_lt, true, false, IsTrue, OnOk, ◌↔◌, ◌&&◌, ◌||◌, ◌^◌, ◌<◌, ◌+◌};
+ghost use Rattle.std.specs.Prelude.{◌≡◌, ℕ, not, nat_lt, true, false, IsTrue, OnOk, ◌↔◌, ◌&&◌, ◌||◌, ◌==◌};
 ghost use Rattle.std.specs.Ordering.{nat_cmp};
 ghost use Rattle.std.specs.BTreeMap.Range.{is_past_end};
 ghost use Rattle.std.specs.List.Sorted.{IsStrictlySortedBy};
 ghost use Rattle.nntp_intervals.specs.Intervals.{is_between};
 ghost use Rattle.nntp_facts.specs.Given.{wants};
-ghost use Rattle.nntp_facts.specs.Summary.{demand_of, has, part_shows, shown_after, count_after, Finds, one_more};
+ghost use Rattle.nntp_facts.specs.Summary.{has, shown_after, Finds, one_more};
 
-use crate::need::Need;
+use crate::demand::Demand;
 use std::alloc::{AllocError, Allocator};
 use std::collections::BTreeSet;
 use std::ops::Bound;
@@ -33,12 +33,12 @@ impl Found {
 }
 
 /// How many of the shown numbers are wanted.
-pub(crate) fn found_wanted<A: Allocator>(shown: &BTreeSet<u64, A>, need: Need) -> Found
-    ensures { Finds (λ n. has shown.now.keys n && wants (demand_of need) n) result }
+pub(crate) fn found_wanted<A: Allocator>(shown: &BTreeSet<u64, A>, demand: Demand) -> Found
+    ensures { Finds (λ n. has shown.now.keys n && wants demand n) result }
 {
-    match need {
-        Need::Any | Need::Only => found_up_to(shown, Bound::Unbounded),
-        Need::Below(k) => found_up_to(shown, Bound::Excluded(k)),
+    match demand {
+        Demand::NotEmpty | Demand::OnlyOne => found_up_to(shown, Bound::Unbounded),
+        Demand::SecondIs(k) => found_up_to(shown, Bound::Excluded(k)),
         _ => Found::Absent,
     }
 }
@@ -52,34 +52,6 @@ fn found_up_to<A: Allocator>(shown: &BTreeSet<u64, A>, end: Bound<u64>) -> Found
         (Some(_), Some(_)) => Found::Several,
         (Some(_), None) => Found::Single,
         _ => Found::Absent,
-    }
-}
-
-/// How many of the numbers that are shown after the part are wanted.
-pub(crate) fn found_after<A: Allocator>(
-    shown: &BTreeSet<u64, A>,
-    shows: Option<u64>,
-    need: Need,
-) -> Found
-    ensures { Finds (λ n. shown_after shown.now.keys (part_shows shows) n && wants (demand_of need) n) result }
-{
-    let found = found_wanted(shown, need);
-    match shows {
-        Some(n) if need.wants(n) && !shown.contains(&n) => found.and_one(),
-        _ => found,
-    }
-}
-
-/// How many numbers are shown after the part.
-pub(crate) fn count_after<A: Allocator>(shown: &BTreeSet<u64, A>, shows: Option<u64>) -> u64
-    ensures count { result ≡ count_after shown.now.keys shows }
-    ensures ascends { IsStrictlySortedBy nat_cmp shown.now.keys }
-    ensures small { result < 2 ^ 63 + 1 }
-{
-    let count = shown.len() as u64;
-    match shows {
-        Some(n) if !shown.contains(&n) => count + 1,
-        _ => count,
     }
 }
 
@@ -122,16 +94,25 @@ fn none_above<A: Allocator>(shown: &BTreeSet<u64, A>, high: u64) -> bool
     }
 }
 
-/// Adds the number that a part shows.
+/// Adds the numbers.
 pub(crate) fn show<A: Allocator + Copy>(
     shown: &mut BTreeSet<u64, A>,
-    shows: Option<u64>,
+    numbers: &[u64],
 ) -> Result<(), AllocError>
-    ensures shown { OnOk result ((n : ℕ) → has shown.new.keys n ≡ shown_after shown.old.keys (part_shows shows) n) }
+    ensures shown { OnOk result ((n : ℕ) → has shown.new.keys n ≡ shown_after shown.old.keys numbers.now n) }
     ensures ascends { OnOk result (IsStrictlySortedBy nat_cmp shown.old.keys → IsStrictlySortedBy nat_cmp shown.new.keys) }
 {
-    if let Some(n) = shows {
-        shown.insert(n)?;
+    for n in numbers {
+        show_one(shown, *n)?;
     }
+    Ok(())
+}
+
+/// Adds the number.
+fn show_one<A: Allocator + Copy>(shown: &mut BTreeSet<u64, A>, n: u64) -> Result<(), AllocError>
+    ensures shown { OnOk result ((m : ℕ) → has shown.new.keys m ≡ (has shown.old.keys m || n == m)) }
+    ensures ascends { OnOk result (IsStrictlySortedBy nat_cmp shown.old.keys → IsStrictlySortedBy nat_cmp shown.new.keys) }
+{
+    shown.insert(n)?;
     Ok(())
 }

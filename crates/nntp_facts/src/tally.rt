@@ -1,9 +1,11 @@
-//! How many numbers there are with those of a list.
-ghost use Rattle.std.specs.Prelude.{◌≡◌, ℕ, Bool, false, IsTrue, ◌||◌, ◌==◌, ◌+◌, ◌-◌, ◌^◌, ◌<◌, ◌≤◌};
+//! How many numbers there are, and how many of them a demand wants.
+ghost use Rattle.std.specs.Prelude.{◌≡◌, ℕ, Bool, IsTrue, ◌||◌, ◌==◌, ◌+◌, ◌-◌, ◌^◌, ◌<◌, ◌≤◌};
 ghost use Rattle.nntp_article.specs.Machine.{is_ascending};
-ghost use Rattle.nntp_facts.specs.Summary.{demand_of, has, shown_after, is_one_of, IsTally};
+ghost use Rattle.nntp_facts.specs.Part.{is_one_of, is_end_of};
+ghost use Rattle.nntp_facts.specs.Summary.{shown_after, IsTally};
 
-use crate::need::Need;
+use crate::demand::Demand;
+use crate::ends::Ends;
 use crate::shown::{Found, found_wanted};
 use std::alloc::Allocator;
 use std::collections::BTreeSet;
@@ -16,43 +18,66 @@ pub(crate) struct Tally {
 }
 
 impl Tally {
-    /// With one number more, which may be shown.
-    fn with<A: Allocator>(self, shown: &BTreeSet<u64, A>, need: Need, n: u64) -> Tally
+    /// With one number, which may be among them.
+    fn with(self, demand: Demand, n: u64, is_there: bool) -> Tally
         requires { self.count < 2 ^ 64 - 1 }
-        ensures tally { (p : ℕ → Bool) → p n ≡ false → IsTally (λ m. has shown.now.keys m || p m) (demand_of need) self.found self.count
-            → IsTally (λ m. has shown.now.keys m || (p m || n == m)) (demand_of need) result.found result.count }
+        ensures tally { (p : ℕ → Bool) → is_there ≡ p n → IsTally p demand self.found self.count
+            → IsTally (λ m. p m || n == m) demand result.found result.count }
         ensures count { result.count ≤ self.count + 1 }
     {
-        if shown.contains(&n) {
-            self
-        } else {
-            Tally {
-                found: if need.wants(n) {
-                    self.found.and_one()
-                } else {
-                    self.found
-                },
-                count: self.count + 1,
-            }
+        if is_there {
+            return self;
         }
+        Tally {
+            found: if demand.wants(n) {
+                self.found.and_one()
+            } else {
+                self.found
+            },
+            count: self.count + 1,
+        }
+    }
+
+    /// Of the numbers that are shown and those of a list, with the two ends, where there are some.
+    pub(crate) fn of<A: Allocator>(
+        shown: &BTreeSet<u64, A>,
+        numbers: &[u64],
+        ends: Option<Ends>,
+        demand: Demand,
+    ) -> Tally
+        ensures tally { IsTrue (is_ascending numbers.now) → IsTally (λ n. shown_after shown.now.keys numbers.now n || is_end_of ends n) demand result.found result.count }
+        ensures small { result.count < 2 ^ 64 - 1 }
+    {
+        let tally = tally_shown(shown, numbers, demand);
+        let Some(ends) = ends else {
+            return tally;
+        };
+        let low = is_shown(shown, numbers, ends.low);
+        let high = ends.high == ends.low || is_shown(shown, numbers, ends.high);
+        tally
+            .with(demand, ends.low, low)
+            .with(demand, ends.high, high)
     }
 }
 
-/// The numbers that are shown, and those of a list.
-pub(crate) fn tally_all<A: Allocator>(
-    shown: &BTreeSet<u64, A>,
-    numbers: &[u64],
-    need: Need,
-) -> Tally
-    ensures tally { IsTrue (is_ascending numbers.now) → IsTally (shown_after shown.now.keys (is_one_of numbers.now)) (demand_of need) result.found result.count }
-    ensures small { result.count < 2 ^ 64 - 1 }
+/// Of the numbers that are shown and those of a list.
+fn tally_shown<A: Allocator>(shown: &BTreeSet<u64, A>, numbers: &[u64], demand: Demand) -> Tally
+    ensures tally { IsTrue (is_ascending numbers.now) → IsTally (shown_after shown.now.keys numbers.now) demand result.found result.count }
+    ensures small { result.count < 2 ^ 64 - 3 }
 {
     let mut tally = Tally {
-        found: found_wanted(shown, need),
+        found: found_wanted(shown, demand),
         count: shown.len() as u64,
     };
     for n in numbers {
-        tally = tally.with(shown, need, *n);
+        tally = tally.with(demand, *n, shown.contains(n));
     }
     tally
+}
+
+/// Whether the number is shown, or one of the list.
+fn is_shown<A: Allocator>(shown: &BTreeSet<u64, A>, numbers: &[u64], n: u64) -> bool
+    ensures { result ≡ shown_after shown.now.keys numbers.now n }
+{
+    shown.contains(&n) || numbers.contains(&n)
 }

@@ -13,9 +13,9 @@ use std::process::Abort;
 use std::test::Fail;
 
 /// A command and its answer.
-type Exchange = (&'static str, &'static str);
+pub(crate) type Exchange = (&'static str, &'static str);
 
-const EXCHANGES: [Exchange; 12] = [
+pub(crate) const EXCHANGES: [Exchange; 12] = [
     ("GROUP g\r\n", "211 2 1 5 g\r\n"),
     ("GROUP g\r\n", "411 no\r\n"),
     ("LISTGROUP g\r\n", "211 1 1 5 g\r\n3\r\n.\r\n"),
@@ -32,7 +32,7 @@ const EXCHANGES: [Exchange; 12] = [
 
 /// What the client and the server sent, and how many answers that are.
 #[derive(Drop)]
-struct Recording {
+pub(crate) struct Recording {
     client: String,
     server: String,
     answers: usize,
@@ -49,7 +49,7 @@ impl Recording {
     }
 
     /// A greeting and these exchanges.
-    fn of(alloc: Global, exchanges: &[Exchange]) -> Result<Recording, AllocError> {
+    pub(crate) fn of(alloc: Global, exchanges: &[Exchange]) -> Result<Recording, AllocError> {
         let mut recording = Recording::new(alloc)?;
         for (command, answer) in exchanges {
             recording.push(*command, *answer)?;
@@ -64,7 +64,7 @@ impl Recording {
         Ok(())
     }
 
-    fn streams(&self) -> (&[u8], &[u8]) {
+    pub(crate) fn streams(&self) -> (&[u8], &[u8]) {
         (self.client.as_bytes(), self.server.as_bytes())
     }
 

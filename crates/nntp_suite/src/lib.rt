@@ -17,7 +17,11 @@ mod faults;
 #[cfg(test)]
 mod given_spools;
 #[cfg(test)]
+mod group_lines;
+#[cfg(test)]
 mod limits;
+#[cfg(test)]
+mod marks;
 #[cfg(test)]
 mod memory;
 #[cfg(test)]
@@ -32,5 +36,7 @@ mod shows;
 mod slow_judge;
 #[cfg(test)]
 mod slowly_judged;
+#[cfg(test)]
+mod slowly_noted;
 #[cfg(test)]
 mod verdicts;

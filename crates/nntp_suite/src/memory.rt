@@ -1,7 +1,7 @@
 //! Want of memory: requests of a call refused in turn, and only so much memory to have.
 mod articles;
 mod checkers;
-mod facts;
+pub(crate) mod facts;
 mod feeds;
 mod runs;
 mod spools;

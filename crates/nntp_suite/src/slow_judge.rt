@@ -1,14 +1,17 @@
 //! A slow judge of sessions, by plain lists. It works out anew from all answers what is shown and what
-//! is denied, makes the spool that is given for them, and asks `verify` of it.
+//! is denied, makes the spool that is given for them, and asks `verify` of it. Where marks are strict, it sees
+//! for itself whether those of each 211 are the least and the greatest number of the group.
+mod ends;
 mod given;
 mod numbers;
 mod said;
 mod visible;
 
-use given::given_spool;
+use given::{given_spool, have_ends};
 use nntp_check::Watched;
 use nntp_pair::{Exchange, Pairs, Step};
 use nntp_spool::{Verified, verify};
+use nntp_wire::Marks;
 use said::Said;
 use std::alloc::{AllocError, Global};
 use visible::Visible;
@@ -50,6 +53,7 @@ pub(crate) enum Judged {
 /// of the spool that is given for all of them, where that one explains them.
 pub(crate) fn judge(
     alloc: Global,
+    marks: Marks,
     client: &[u8],
     server: &[u8],
     exchanges: &[Answered<'_>],
@@ -57,17 +61,32 @@ pub(crate) fn judge(
     if !fits(alloc, exchanges)? {
         return Ok((Judged::OutOfPlace, Vec::new(alloc)));
     }
-    let mut said = Said::new(alloc);
-    let mut end = 0;
-    for answered in exchanges {
-        said.hear(&answered.exchange)?;
-        end = answered.end;
-    }
+    let said = hear(alloc, exchanges)?;
+    let end = exchanges.last().map_or(0, |answered| answered.end);
     let (front, _) = server.split_at(end.min(server.len()));
-    match explaining_text(alloc, &said, client, front)? {
+    match explaining_text(alloc, marks, &said, client, front)? {
         Some(text) => Ok((Judged::Consistent, text)),
         None => Ok((Judged::Contradiction, Vec::new(alloc))),
     }
+}
+
+/// A line for each group, of what these exchanges show and of the numbers that are given, where some spool
+/// explains them.
+pub(crate) fn group_lines(
+    alloc: Global,
+    marks: Marks,
+    exchanges: &[Answered<'_>],
+) -> Result<String, AllocError> {
+    given::group_lines(alloc, marks, &hear(alloc, exchanges)?)
+}
+
+/// What all of the exchanges say.
+fn hear<'a>(alloc: Global, exchanges: &[Answered<'a>]) -> Result<Said<'a>, AllocError> {
+    let mut said = Said::new(alloc);
+    for answered in exchanges {
+        said.hear(&answered.exchange)?;
+    }
+    Ok(said)
 }
 
 /// Whether the last exchange fits the visible state that those before it leave.
@@ -84,13 +103,17 @@ fn fits(alloc: Global, exchanges: &[Answered<'_>]) -> Result<bool, AllocError> {
 /// The text of the spool that is given for what was said, if it explains both streams.
 fn explaining_text(
     alloc: Global,
+    marks: Marks,
     said: &Said<'_>,
     client: &[u8],
     server: &[u8],
 ) -> Result<Option<Vec<u8>>, AllocError> {
-    let Some(spool) = given_spool(alloc, said)? else {
+    let Some(spool) = given_spool(alloc, marks, said)? else {
         return Ok(None);
     };
+    if marks == Marks::Strict && !have_ends(alloc, said)? {
+        return Ok(None);
+    }
     if let Verified::Refuses { .. } = verify(alloc, &spool, client, server)? {
         return Ok(None);
     }

@@ -4,6 +4,7 @@ use crate::sessions::{Session, TABLES};
 use crate::slow_judge::{Answered, Judged, exchanges, judge};
 use crate::verdicts::shown;
 use nntp_check::check;
+use nntp_wire::Marks;
 use std::alloc::{AllocError, Global};
 use std::process::Abort;
 use std::test::Fail;
@@ -24,7 +25,7 @@ impl Slow {
         (client, server): (&[u8], &[u8]),
         exchanges: &[Answered<'_>],
     ) -> Result<Slow, AllocError> {
-        let (judged, text) = judge(alloc, client, server, exchanges)?;
+        let (judged, text) = judge(alloc, Marks::Lenient, client, server, exchanges)?;
         let good = match judged {
             Judged::Consistent => exchanges.len(),
             _ => exchanges.len().saturating_sub(1),
@@ -118,7 +119,7 @@ fn judge_streams(
     let exchanges = exchanges(alloc, client, server)?;
     let slow = Slow::all(alloc, (client, server), &exchanges)?;
     let (front, _) = exchanges.split_at(slow.good.min(exchanges.len()));
-    let (_, text) = judge(alloc, client, server, front)?;
+    let (_, text) = judge(alloc, Marks::Lenient, client, server, front)?;
     Ok((slow, text))
 }
 
@@ -168,14 +169,22 @@ fn fronts_of_worked_sessions(rt: HostRuntime) -> Result<(), Fail> {
 
 /// How often each was judged.
 #[derive(Clone, Copy)]
-struct Counts {
-    consistent: u64,
-    out_of_place: u64,
-    contradictions: u64,
+pub(crate) struct Counts {
+    pub(crate) consistent: u64,
+    pub(crate) out_of_place: u64,
+    pub(crate) contradictions: u64,
 }
 
 impl Counts {
-    fn add(&mut self, judged: Judged) {
+    pub(crate) fn new() -> Counts {
+        Counts {
+            consistent: 0,
+            out_of_place: 0,
+            contradictions: 0,
+        }
+    }
+
+    pub(crate) fn add(&mut self, judged: Judged) {
         let count = match judged {
             Judged::Consistent => &mut self.consistent,
             Judged::OutOfPlace => &mut self.out_of_place,
@@ -228,11 +237,7 @@ fn wander(
 #[test]
 fn random_sessions(rt: HostRuntime) -> Result<(), Fail> {
     let mut random = Random::new(20_261_122);
-    let mut counts = Counts {
-        consistent: 0,
-        out_of_place: 0,
-        contradictions: 0,
-    };
+    let mut counts = Counts::new();
     for _ in 0..500 {
         wander(&rt, rt.alloc(), &mut random, &mut counts)?;
     }

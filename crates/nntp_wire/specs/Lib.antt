@@ -16,6 +16,7 @@ pub mod Prompts
 pub mod Search
 pub mod View
 pub mod Keyword
+pub mod Limit
 pub mod AnswerView
 pub mod Session
 pub mod Held

@@ -65,23 +65,23 @@ groups_are : (facts : List Fact) (G : Spool) (b : Building) (next : ℕ) → Gro
 groups_are facts G b next left = same_map nat_list_cmp_total names_apart b.spool.groups G.groups (λ name. elim (left.others name) [ inl none ↦ absurd (false≢true none) | inr same ↦ same ])
 
 -- all articles that are shown are left where no groups are
-pub articles_start : (past : List Paired) (G : Spool) (articles : List ShownArticle) (b : Building) (next : ℕ) → IsWitness past G → AreShownArticles (said_by past) articles → GroupsLeft (said_by past) G [] b next
-    → ArticlesLeft (said_by past) G articles b
+pub articles_start : (past : List Paired) (G : Spool) (articles : List ShownArticle) (b : Building) (next : ℕ) → IsWitness profile_31_bits past G → AreShownArticles (said_by profile_31_bits.marks past) articles → GroupsLeft (said_by profile_31_bits.marks past) G [] b next
+    → ArticlesLeft (said_by profile_31_bits.marks past) G articles b
 articles_start past G articles b next witness shown left = record {
   is_whole = left.begun.is_whole;
   part = left.begun.part;
-  groups = groups_are (said_by past) G b next left;
+  groups = groups_are (said_by profile_31_bits.marks past) G b next left;
   shown = shown.each;
   ascending = shown.ascending;
-  of_spool = all_from (λ a. IsSome (get G.articles a.id)) articles (λ a i. shown_has_article (said_by past) G witness.given holds a.id (told a i));
-  not_made = all_from (λ a. get b.spool.articles a.id ≡ None) articles (λ a i. none_is_made (said_by past) G b next left.begun a.id (told a i));
+  of_spool = all_from (λ a. IsSome (get G.articles a.id)) articles (λ a i. shown_has_article (said_by profile_31_bits.marks past) G witness.given holds a.id (told a i));
+  not_made = all_from (λ a. get b.spool.articles a.id ≡ None) articles (λ a i. none_is_made (said_by profile_31_bits.marks past) G b next left.begun a.id (told a i));
   others = λ id t. inl (shown.all id ∙ t);
 }
   where
-    holds : AllByRecursion (Holds G) (said_by past)
+    holds : AllByRecursion (Holds G) (said_by profile_31_bits.marks past)
     holds = (said profile_31_bits G (asked_of past) (responses_of past) witness.permits).1
 
-    told : (a : ShownArticle) → In a articles → IsTrue (list_any (shows_article a.id) (said_by past))
+    told : (a : ShownArticle) → In a articles → IsTrue (list_any (shows_article a.id) (said_by profile_31_bits.marks past))
     told a i = sym (shown.all a.id) ∙ any_in (λ b. is_same b.id a.id) a articles i (same_itself a.id)
 
 -- ---- one more
@@ -95,10 +95,10 @@ text_is_given facts G a given shown there =
     found.1 ∙ (λ i. Some (record { head = head i; body = body i }))
 
 -- an article that is shown is added without a fault
-pub article_has_no_fault : (past : List Paired) (G : Spool) (a : ShownArticle) (left : List ShownArticle) (b : Building) → IsWitness past G → ArticlesLeft (said_by past) G (a ∷ left) b
+pub article_has_no_fault : (past : List Paired) (G : Spool) (a : ShownArticle) (left : List ShownArticle) (b : Building) → IsWitness profile_31_bits past G → ArticlesLeft (said_by profile_31_bits.marks past) G (a ∷ left) b
     → article_fault b.spool a.id (given_text a) ≡ None
 article_has_no_fault past G a left b witness l =
-    article_fits G b.spool witness.is_spool a.id (given_text a) (text_is_given (said_by past) G a witness.given l.shown.0 l.of_spool.0) l.not_made.0
+    article_fits G b.spool witness.is_spool a.id (given_text a) (text_is_given (said_by profile_31_bits.marks past) G a witness.given l.shown.0 l.of_spool.0) l.not_made.0
 
 -- an article of a greater id than the one that is added isn't there yet
 absent_above : (m : FinMap (slice_cmp nat_cmp) Text) (id q : Id) (t : Text) → slice_cmp nat_cmp id q ≡ Less → get m q ≡ None → get (insert m id t) q ≡ None
@@ -129,12 +129,12 @@ abbrev pub one_article_more : Building → ShownArticle → Building
 one_article_more b a = record { spool = with_article b.spool a.id (given_text a); failed = false }
 
 -- one article less is left
-pub one_article_less : (past : List Paired) (G : Spool) (a : ShownArticle) (left : List ShownArticle) (b : Building) → IsWitness past G → ArticlesLeft (said_by past) G (a ∷ left) b
-    → ArticlesLeft (said_by past) G left (one_article_more b a)
+pub one_article_less : (past : List Paired) (G : Spool) (a : ShownArticle) (left : List ShownArticle) (b : Building) → IsWitness profile_31_bits past G → ArticlesLeft (said_by profile_31_bits.marks past) G (a ∷ left) b
+    → ArticlesLeft (said_by profile_31_bits.marks past) G left (one_article_more b a)
 unfolding IsStrictlySortedBy
 one_article_less past G a left b witness l = record {
   is_whole = refl;
-  part = part_with_article (said_by past) G b.spool a.id (given_text a) l.part (text_is_given (said_by past) G a witness.given l.shown.0 l.of_spool.0);
+  part = part_with_article (said_by profile_31_bits.marks past) G b.spool a.id (given_text a) l.part (text_is_given (said_by profile_31_bits.marks past) G a witness.given l.shown.0 l.of_spool.0);
   groups = l.groups;
   shown = l.shown.1;
   ascending = l.ascending.1;
@@ -150,10 +150,10 @@ one_article_less past G a left b witness l = record {
 }
 
 -- the call that adds an article does so, or memory is refused
-pub article_added : (past : List Paired) (G : Spool) (a : ShownArticle) (left : List ShownArticle) (b new : Building) (id : Id) (t : Text) (r : Result (Unit {0}) SpoolFault) → IsWitness past G → ArticlesLeft (said_by past) G (a ∷ left) b
-    → id ≡ a.id → t ≡ given_text a → Builds (article_fault b.spool id t) (with_article b.spool id t) r b new → Makes r (λ _. ArticlesLeft (said_by past) G left new)
+pub article_added : (past : List Paired) (G : Spool) (a : ShownArticle) (left : List ShownArticle) (b new : Building) (id : Id) (t : Text) (r : Result (Unit {0}) SpoolFault) → IsWitness profile_31_bits past G → ArticlesLeft (said_by profile_31_bits.marks past) G (a ∷ left) b
+    → id ≡ a.id → t ≡ given_text a → Builds (article_fault b.spool id t) (with_article b.spool id t) r b new → Makes r (λ _. ArticlesLeft (said_by profile_31_bits.marks past) G left new)
 article_added past G a left b new id t r witness l is text call =
-    called (ArticlesLeft (said_by past) G left) (article_fault b.spool a.id (given_text a)) (with_article b.spool a.id (given_text a)) r b new l.is_whole
+    called (ArticlesLeft (said_by profile_31_bits.marks past) G left) (article_fault b.spool a.id (given_text a)) (with_article b.spool a.id (given_text a)) r b new l.is_whole
     (article_has_no_fault past G a left b witness l) (one_article_less past G a left b witness l)
     (subst (λ (u : Text). Builds (article_fault b.spool a.id u) (with_article b.spool a.id u) r b new) text
     (subst (λ (q : Id). Builds (article_fault b.spool q t) (with_article b.spool q t) r b new) is call))

@@ -1,6 +1,6 @@
 -- The numbers of a group that are given: they ascend, and are those that the given spool has in it.
-use Rattle.std.proofs.Common.{◌≡◌, ℕ, ◌<◌, ◌⊎◌, Bool, true, false, cond, ◌==◌, IsTrue, List, [], ◌∷◌, map, Option, None, Some, is_some, IsSome, inl, inr, refl, sym, ap, subst, ◌∙◌, arith}
-use Rattle.std.specs.Prelude.{nat_lt}
+use Rattle.std.proofs.Common.{◌≡◌, ◌≢◌, ℕ, ◌<◌, ◌≤◌, ◌⊎◌, cond, ◌==◌, IsTrue, List, [], ◌∷◌, ◌++◌, map, Option, None, Some, is_some, IsSome, inl, inr, refl, sym, ap, subst, ◌∙◌, arith}
+use Rattle.std.specs.Prelude.{IsFalse, IfSome}
 use Rattle.std.specs.List.{AllByRecursion}
 use Rattle.std.specs.List.Sorted.{IsStrictlySortedBy}
 use Rattle.std.specs.declared.cmp.Ordering.{Ordering}
@@ -8,19 +8,18 @@ use Rattle.std.specs.declared.cmp.Ordering.TheVariants.{Less, Equal, Greater}
 use Rattle.std.specs.Ordering.{nat_cmp}
 use Rattle.std.specs.Cmp.{IsTotalOrder, nat_cmp_total}
 use Rattle.std.specs.FinMap.{FinMap, get, keys, entries, entries_sorted, IsAntisymmetric, nat_cmp-IsAntisymmetric}
-use Rattle.std.proofs.lemmas.Bool.{true≢false, eq-eqb, eqb-true, lt-ltb, ltb-true, ltb-false, cases_lt}
-use Rattle.std.proofs.lemmas.Cmp.{ranked, tied_itself}
+use Rattle.std.proofs.lemmas.Bool.{true≢false, eq-eqb, eqb-true, lt-ltb, cases_lt}
+use Rattle.std.proofs.lemmas.Cmp.{tied_itself}
 use Rattle.nntp_article.specs.Article.{Id}
 use Rattle.nntp_article.specs.Spool.{Spool, IsGroup, numbers}
 use Rattle.nntp_facts.specs.Asks.{Ask}
 use Rattle.nntp_facts.specs.Facts.{Fact}
-use Rattle.nntp_facts.specs.Given.{asks_of, is_shown, IsOneMore, id_shown, is_denied, IsGivenNumber, IsGiven}
-use Rattle.nntp_facts.specs.Readers.{ShownGroup, HasShownNumbers, IsUnseen}
-use Rattle.nntp_facts.proofs.FirstFree.{first_free_once}
+use Rattle.nntp_facts.specs.Given.{asks_of, is_shown, IsGivenNumber, id_shown, IsGiven}
+use Rattle.nntp_facts.specs.Readers.{ShownGroup, HasShownNumbers, IsLeastGiven, IsGreatestGiven}
 use Rattle.nntp_facts.proofs.Maps.{sorted_keys, key_of, of_key}
-use Rattle.nntp_facts.proofs.Members.{In, all_at, any_in, found_in, in_map, from_map}
+use Rattle.nntp_facts.proofs.Members.{In, all_at, all_from, all_both, any_in, found_in, in_map, from_map, in_front, in_back, in_cases}
 use Rattle.nntp_facts.proofs.OnePlace.{shown_with_id}
-use Rattle.nntp_witness.specs.Making.{with_unseen, given_numbers}
+use Rattle.nntp_witness.specs.Making.{unseen_number, given_numbers}
 
 -- ---- lists in order as the keys of a map
 
@@ -62,89 +61,40 @@ module _ {K : Type 0} {R : K → K → Ordering} (o : IsTotalOrder R) where
   keys_listed same ks m sorted there back =
       same_in_order ks (keys m) sorted (sorted_keys R (entries m) (entries_sorted m)) (λ q i. key_of o same m q (there q i)) (λ q i. back q (of_key o same m q i))
 
--- ---- the one more number in its place
-
--- what holds of numbers and of the one more
-keys_with : (P : ℕ → Type 0) (n : ℕ) (es : List (ℕ × Option Id)) → P n → AllByRecursion P (map (λ e. e.0) es) → AllByRecursion P (map (λ e. e.0) (with_unseen (Some n) es))
-keys_with P n [] p h = (p, tt)
-keys_with P n (e ∷ es) p h = by (nat_lt n e.0) (keys_with P n es p h.1)
-  where
-    by : (b : Bool) → AllByRecursion P (map (λ (e : ℕ × Option Id). e.0) (with_unseen (Some n) es)) → AllByRecursion P (map (λ (e : ℕ × Option Id). e.0) (cond b ((n, None) ∷ e ∷ es) (e ∷ with_unseen (Some n) es)))
-    by true rest = (p, h)
-    by false rest = (h.0, rest)
+-- ---- lists in order, one behind the other
 
 -- a number below another comes before it
 before : (a b : ℕ) → a < b → nat_cmp a b ≡ Less
 before a b l = ap (λ t. cond t Less (cond (a == b) Equal Greater)) (lt-ltb a b l)
 
--- and back
-after : (a b : ℕ) → nat_cmp a b ≡ Less → a < b
-after a b e = ranked a b Less (sym e)
-
--- what is above a number is above a lower one
-above : (n k : ℕ) (ns : List ℕ) → n < k → AllByRecursion (λ y. nat_cmp k y ≡ Less) ns → AllByRecursion (λ y. nat_cmp n y ≡ Less) ns
-above n k [] l h = tt
-above n k (m ∷ ns) l h = let g = after k m h.0 in (before n m (omega arith), above n k ns l h.1)
-
--- with the one more the numbers still ascend
-with_ascends : (n : ℕ) (es : List (ℕ × Option Id)) → IsStrictlySortedBy nat_cmp (map (λ e. e.0) es) → (In n (map (λ e. e.0) es) → ⊥) → IsStrictlySortedBy nat_cmp (map (λ e. e.0) (with_unseen (Some n) es))
+-- where the numbers of one are below those of the other, both ascend
+joined_ascend : (xs ys : List (ℕ × Option Id)) → IsStrictlySortedBy nat_cmp (map (λ e. e.0) xs) → IsStrictlySortedBy nat_cmp (map (λ e. e.0) ys) → ((x y : ℕ × Option Id) → In x xs → In y ys → x.0 < y.0)
+    → IsStrictlySortedBy nat_cmp (map (λ e. e.0) (xs ++ ys))
 unfolding IsStrictlySortedBy
-with_ascends n [] h new = (tt, tt)
-with_ascends n (e ∷ es) h new = by (nat_lt n e.0) refl (with_ascends n es h.1 (λ i. new (inr i)))
+joined_ascend [] ys h g below = g
+joined_ascend (x ∷ xs) ys h g below = (all_from (λ q. nat_cmp x.0 q ≡ Less) (map (λ (e : ℕ × Option Id). e.0) (xs ++ ys)) behind, joined_ascend xs ys h.1 g (λ a b i j. below a b (inr i) j))
   where
-    by : (b : Bool) → nat_lt n e.0 ≡ b → IsStrictlySortedBy nat_cmp (map (λ (e : ℕ × Option Id). e.0) (with_unseen (Some n) es))
-        → IsStrictlySortedBy nat_cmp (map (λ (e : ℕ × Option Id). e.0) (cond b ((n, None) ∷ e ∷ es) (e ∷ with_unseen (Some n) es)))
-    by true is rest = let l = ltb-true n e.0 is in ((before n e.0 l, above n e.0 (map (λ (e : ℕ × Option Id). e.0) es) l h.0), h)
-    by false is rest =
-        let le = ltb-false n e.0 is in
-        let l : e.0 < n = elim (cases_lt e.0 n) [ inl l ↦ l | inr g ↦ absurd (new (inl (omega arith))) ] in
-        (keys_with (λ y. nat_cmp e.0 y ≡ Less) n es (before e.0 n l) h.0, rest)
+    behind : (q : ℕ) → In q (map (λ (e : ℕ × Option Id). e.0) (xs ++ ys)) → nat_cmp x.0 q ≡ Less
+    behind q i =
+        let f = from_map (λ (e : ℕ × Option Id). e.0) q (xs ++ ys) i in
+        subst (λ n. nat_cmp x.0 n ≡ Less) f.2 (elim (in_cases f.0 xs ys f.1) [
+          | inl j ↦ all_at (λ n. nat_cmp x.0 n ≡ Less) f.0.0 (map (λ (e : ℕ × Option Id). e.0) xs) h.0 (in_map (λ (e : ℕ × Option Id). e.0) f.0 xs j)
+          | inr j ↦ before x.0 f.0.0 (below x f.0 (inl refl) j)
+        ])
 
--- the one more is there
-new_with : (n : ℕ) (es : List (ℕ × Option Id)) → In n (map (λ e. e.0) (with_unseen (Some n) es))
-new_with n [] = inl refl
-new_with n (e ∷ es) = by (nat_lt n e.0) (new_with n es)
-  where
-    by : (b : Bool) → In n (map (λ (e : ℕ × Option Id). e.0) (with_unseen (Some n) es)) → In n (map (λ (e : ℕ × Option Id). e.0) (cond b ((n, None) ∷ e ∷ es) (e ∷ with_unseen (Some n) es)))
-    by true rest = inl refl
-    by false rest = inr rest
+-- one number ascends
+one_ascends : (unseen : Option ℕ) → IsStrictlySortedBy nat_cmp (map (λ e. e.0) (unseen_number unseen))
+unfolding IsStrictlySortedBy
+one_ascends None = tt
+one_ascends (Some n) = (tt, tt)
 
--- and so are the others
-old_with : (n q : ℕ) (es : List (ℕ × Option Id)) → In q (map (λ e. e.0) es) → In q (map (λ e. e.0) (with_unseen (Some n) es))
-old_with n q [] i = absurd i
-old_with n q (e ∷ es) i = by (nat_lt n e.0) (old_with n q es) i
-  where
-    by : (b : Bool) → (In q (map (λ (e : ℕ × Option Id). e.0) es) → In q (map (λ (e : ℕ × Option Id). e.0) (with_unseen (Some n) es)))
-        → In q (e.0 ∷ map (λ (e : ℕ × Option Id). e.0) es) → In q (map (λ (e : ℕ × Option Id). e.0) (cond b ((n, None) ∷ e ∷ es) (e ∷ with_unseen (Some n) es)))
-    by true rest i = inr i
-    by false rest (inl s) = inl s
-    by false rest (inr j) = inr (rest j)
+-- what is there of a number that isn't shown
+of_unseen : (unseen : Option ℕ) (e : ℕ × Option Id) → In e (unseen_number unseen) → (unseen ≡ Some e.0) × (e.1 ≡ None)
+of_unseen None e i = absurd i
+of_unseen (Some n) e (inl same) = (ap (λ (e : ℕ × Option Id). Some e.0) same, ap (λ (e : ℕ × Option Id). e.1) (sym same))
+of_unseen (Some n) e (inr i) = absurd i
 
--- and no further ones
-from_with : (n q : ℕ) (es : List (ℕ × Option Id)) → In q (map (λ e. e.0) (with_unseen (Some n) es)) → (n ≡ q) ⊎ In q (map (λ e. e.0) es)
-from_with n q [] i = i
-from_with n q (e ∷ es) i = by (nat_lt n e.0) (from_with n q es) i
-  where
-    by : (b : Bool) → (In q (map (λ (e : ℕ × Option Id). e.0) (with_unseen (Some n) es)) → (n ≡ q) ⊎ In q (map (λ (e : ℕ × Option Id). e.0) es))
-        → In q (map (λ (e : ℕ × Option Id). e.0) (cond b ((n, None) ∷ e ∷ es) (e ∷ with_unseen (Some n) es))) → (n ≡ q) ⊎ In q (e.0 ∷ map (λ (e : ℕ × Option Id). e.0) es)
-    by true rest i = i
-    by false rest (inl s) = inr (inl s)
-    by false rest (inr j) = elim (rest j) [ inl s ↦ inl s | inr k ↦ inr (inr k) ]
-
--- what holds of each of the numbers with their ids, and of the one more with none
-all_with : (P : ℕ × Option Id → Type 0) (n : ℕ) (es : List (ℕ × Option Id)) → P (n, None) → AllByRecursion P es → AllByRecursion P (with_unseen (Some n) es)
-all_with P n [] p h = (p, tt)
-all_with P n (e ∷ es) p h = by (nat_lt n e.0) (all_with P n es p h.1)
-  where
-    by : (b : Bool) → AllByRecursion P (with_unseen (Some n) es) → AllByRecursion P (cond b ((n, None) ∷ e ∷ es) (e ∷ with_unseen (Some n) es))
-    by true rest = (p, h)
-    by false rest = (h.0, rest)
-
--- ---- what is shown
-
--- the one more number isn't shown
-unseen_hidden : (asks : List Ask) (n : ℕ) → IsOneMore asks n → IsTrue (is_shown asks n) → ⊥
-unseen_hidden asks n more shown = true≢false (sym more.wanted ∙ more.needed n shown)
+-- ---- the numbers that are shown
 
 -- a number in the list is shown
 listed_shown : (facts : List Fact) (g : ShownGroup) (n : ℕ) → HasShownNumbers facts g → In n (map (λ e. e.0) g.numbers) → IsTrue (is_shown (asks_of g.name facts) n)
@@ -160,39 +110,111 @@ shown_listed facts g n h t =
 
 -- ---- the given numbers
 
--- the given numbers ascend
-pub given_ascends : (facts : List Fact) (g : ShownGroup) → HasShownNumbers facts g → IsStrictlySortedBy nat_cmp (map (λ e. e.0) (given_numbers g))
-given_ascends facts g h = by g.unseen h.unseen
-  where
-    by : (unseen : Option ℕ) → IsUnseen facts g.name unseen → IsStrictlySortedBy nat_cmp (map (λ (e : ℕ × Option Id). e.0) (with_unseen unseen g.numbers))
-    by None u = h.numbers.ascending
-    by (Some n) u = with_ascends n g.numbers h.numbers.ascending (λ i. unseen_hidden (asks_of g.name facts) n u (listed_shown facts g n h i))
+module _ (facts : List Fact) (g : ShownGroup) (h : HasShownNumbers facts g) where
+  -- what is asked of the group
+  abbrev asked : List Ask
+  asked = asks_of g.name facts
 
--- each has the id that is shown for it, if one is
-pub given_ids : (facts : List Fact) (g : ShownGroup) → HasShownNumbers facts g → AllByRecursion (λ e. e.1 ≡ id_shown facts g.name e.0) (given_numbers g)
-given_ids facts g h = by g.unseen h.unseen
-  where
-    none : (n : ℕ) → IsOneMore (asks_of g.name facts) n → (o : Option Id) → id_shown facts g.name n ≡ o → None ≡ id_shown facts g.name n
-    none n u None e = sym e
-    none n u (Some id) e = absurd (unseen_hidden (asks_of g.name facts) n u (shown_with_id facts g.name n (ap is_some e)))
+  -- what is so of the least, where it isn't shown
+  least : (n : ℕ) → g.unseen ≡ Some n → IsFalse (is_shown asked n) × IsLeastGiven asked n
+  least n e = subst (λ o. IfSome o (λ n. IsFalse (is_shown asked n) × IsLeastGiven asked n)) e h.unseen.least
 
-    by : (unseen : Option ℕ) → IsUnseen facts g.name unseen → AllByRecursion (λ (e : ℕ × Option Id). e.1 ≡ id_shown facts g.name e.0) (with_unseen unseen g.numbers)
-    by None u = h.numbers.ids
-    by (Some n) u = all_with (λ e. e.1 ≡ id_shown facts g.name e.0) n g.numbers (none n u (id_shown facts g.name n) refl) h.numbers.ids
+  -- and of the greatest, where it is neither
+  greatest : (n : ℕ) → g.unseen_high ≡ Some n → IsFalse (is_shown asked n) × IsGreatestGiven asked n × ¬ (IsLeastGiven asked n)
+  greatest n e = subst (λ o. IfSome o (λ n. IsFalse (is_shown asked n) × IsGreatestGiven asked n × ¬ (IsLeastGiven asked n))) e h.unseen.greatest
 
--- they are the numbers of the group in the given spool
-pub given_keys : (facts : List Fact) (G : Spool) (g : ShownGroup) → IsGiven facts G → IsGroup G g.name → HasShownNumbers facts g → map (λ e. e.0) (given_numbers g) ≡ keys (numbers G g.name)
-given_keys facts G g given is_group h =
-    keys_listed nat_cmp_total nat_cmp-IsAntisymmetric (map (λ e. e.0) (given_numbers g)) (numbers G g.name) (given_ascends facts g h)
-    (λ q i. (given.numbers_given g.name is_group q).1 (there g.unseen h.unseen q i)) (λ q i. back g.unseen h.unseen q ((given.numbers_given g.name is_group q).0 i))
-  where
-    there : (unseen : Option ℕ) → IsUnseen facts g.name unseen → (q : ℕ) → In q (map (λ (e : ℕ × Option Id). e.0) (with_unseen unseen g.numbers)) → IsGivenNumber (asks_of g.name facts) q
-    there None u q i = inl (listed_shown facts g q h i)
-    there (Some n) u q i = elim (from_with n q g.numbers i) [ inl s ↦ inr (subst (IsOneMore (asks_of g.name facts)) s u) | inr j ↦ inl (listed_shown facts g q h j) ]
+  -- a number that is shown is another than one that isn't
+  other_shown : (n m : ℕ) → IsTrue (is_shown asked n) → IsFalse (is_shown asked m) → n ≢ m
+  other_shown n m t f same = true≢false (sym t ∙ ap (is_shown asked) same ∙ f)
 
-    back : (unseen : Option ℕ) → IsUnseen facts g.name unseen → (q : ℕ) → IsGivenNumber (asks_of g.name facts) q → In q (map (λ (e : ℕ × Option Id). e.0) (with_unseen unseen g.numbers))
-    back None u q (inl t) = shown_listed facts g q h t
-    back None u q (inr more) = absurd (u q more)
-    back (Some n) u q (inl t) = old_with n q g.numbers (shown_listed facts g q h t)
-    back (Some n) u q (inr more) =
-        subst (λ q. In q (map (λ (e : ℕ × Option Id). e.0) (with_unseen (Some n) g.numbers))) (first_free_once (is_denied (asks_of g.name facts)) 1 n q u.first more.first) (new_with n g.numbers)
+  -- one of the list is shown
+  entry_shown : (e : ℕ × Option Id) → In e g.numbers → IsTrue (is_shown asked e.0)
+  entry_shown e i = listed_shown facts g e.0 h (in_map (λ (e : ℕ × Option Id). e.0) e g.numbers i)
+
+  -- and given
+  given_shown : (n : ℕ) → IsTrue (is_shown asked n) → IsGivenNumber asked n
+  given_shown n t = (h.unseen.given n).1 (inl t)
+
+  -- a number from another on that isn't that is above it
+  above : (n m : ℕ) → n ≤ m → n ≢ m → n < m
+  above n m le ne = elim (cases_lt n m) [ inl l ↦ l | inr ge ↦ absurd (ne (omega arith)) ]
+
+  -- the shown ones are below the greatest
+  shown_below : (x y : ℕ × Option Id) → In x g.numbers → In y (unseen_number g.unseen_high) → x.0 < y.0
+  shown_below x y i j =
+      let t = entry_shown x i in
+      let top = greatest y.0 (of_unseen g.unseen_high y j).0 in
+      above x.0 y.0 (top.1.1 x.0 (given_shown x.0 t)) (other_shown x.0 y.0 t top.0)
+
+  -- and the least is below both
+  least_below : (x y : ℕ × Option Id) → In x (unseen_number g.unseen) → In y (g.numbers ++ unseen_number g.unseen_high) → x.0 < y.0
+  least_below x y i j = elim (in_cases y g.numbers (unseen_number g.unseen_high) j) [
+    | inl shown ↦ (let t = entry_shown y shown in above x.0 y.0 (low.1.1 y.0 (given_shown y.0 t)) (λ same. other_shown y.0 x.0 t low.0 (sym same)))
+    | inr last ↦ (
+        let top = greatest y.0 (of_unseen g.unseen_high y last).0 in
+        above x.0 y.0 (low.1.1 y.0 top.1.0) (λ same. top.2 (subst (IsLeastGiven asked) same low.1)))
+  ]
+    where
+      low : IsFalse (is_shown asked x.0) × IsLeastGiven asked x.0
+      low = least x.0 (of_unseen g.unseen x i).0
+
+  -- the given numbers ascend
+  pub given_ascends : IsStrictlySortedBy nat_cmp (map (λ e. e.0) (given_numbers g))
+  given_ascends =
+      joined_ascend (unseen_number g.unseen) (g.numbers ++ unseen_number g.unseen_high) (one_ascends g.unseen)
+      (joined_ascend g.numbers (unseen_number g.unseen_high) h.numbers.ascending (one_ascends g.unseen_high) shown_below) least_below
+
+  -- no id is shown for a number that isn't shown
+  no_id : (n : ℕ) → IsFalse (is_shown asked n) → (o : Option Id) → id_shown facts g.name n ≡ o → None ≡ id_shown facts g.name n
+  no_id n f None e = sym e
+  no_id n f (Some id) e = absurd (true≢false (sym (shown_with_id facts g.name n (ap is_some e)) ∙ f))
+
+  -- so a number that isn't shown has the id that is shown for it
+  unseen_id : (unseen : Option ℕ) → ((n : ℕ) → unseen ≡ Some n → IsFalse (is_shown asked n)) → AllByRecursion (λ e. e.1 ≡ id_shown facts g.name e.0) (unseen_number unseen)
+  unseen_id None f = tt
+  unseen_id (Some n) f = (no_id n (f n refl) (id_shown facts g.name n) refl, tt)
+
+  -- each has the id that is shown for it, if one is
+  pub given_ids : AllByRecursion (λ e. e.1 ≡ id_shown facts g.name e.0) (given_numbers g)
+  given_ids =
+      all_both (λ e. e.1 ≡ id_shown facts g.name e.0) (unseen_number g.unseen) (g.numbers ++ unseen_number g.unseen_high) (unseen_id g.unseen (λ n e. (least n e).0))
+      (all_both (λ e. e.1 ≡ id_shown facts g.name e.0) g.numbers (unseen_number g.unseen_high) h.numbers.ids (unseen_id g.unseen_high (λ n e. (greatest n e).0)))
+
+  -- each of them is given
+  given_each : (n : ℕ) → In n (map (λ e. e.0) (given_numbers g)) → IsGivenNumber asked n
+  given_each n i =
+      let f = from_map (λ (e : ℕ × Option Id). e.0) n (given_numbers g) i in
+      subst (IsGivenNumber asked) f.2 (elim (in_cases f.0 (unseen_number g.unseen) (g.numbers ++ unseen_number g.unseen_high) f.1) [
+        | inl low ↦ (least f.0.0 (of_unseen g.unseen f.0 low).0).1.0
+        | inr more ↦ elim (in_cases f.0 g.numbers (unseen_number g.unseen_high) more) [
+          | inl shown ↦ given_shown f.0.0 (entry_shown f.0 shown)
+          | inr high ↦ (greatest f.0.0 (of_unseen g.unseen_high f.0 high).0).1.0
+        ]
+      ])
+
+  -- a number that isn't shown is listed
+  unseen_listed : (unseen : Option ℕ) (n : ℕ) → unseen ≡ Some n → In (n, None) (unseen_number unseen)
+  unseen_listed unseen n e = subst (λ o. In (n, None) (unseen_number o)) (sym e) (inl refl)
+
+  -- and each that is given is one of them
+  each_given : (n : ℕ) → IsGivenNumber asked n → In n (map (λ e. e.0) (given_numbers g))
+  each_given n i = by ((h.unseen.given n).0 i)
+    where
+      here : (e : ℕ × Option Id) → In e (given_numbers g) → In e.0 (map (λ (e : ℕ × Option Id). e.0) (given_numbers g))
+      here e j = in_map (λ (e : ℕ × Option Id). e.0) e (given_numbers g) j
+
+      behind : (e : ℕ × Option Id) → In e (g.numbers ++ unseen_number g.unseen_high) → In e.0 (map (λ (e : ℕ × Option Id). e.0) (given_numbers g))
+      behind e j = here e (in_back e (unseen_number g.unseen) (g.numbers ++ unseen_number g.unseen_high) j)
+
+      by : IsTrue (is_shown asked n) ⊎ (g.unseen ≡ Some n) ⊎ (g.unseen_high ≡ Some n) → In n (map (λ (e : ℕ × Option Id). e.0) (given_numbers g))
+      by (inl t) =
+          let f = from_map (λ (e : ℕ × Option Id). e.0) n g.numbers (shown_listed facts g n h t) in
+          subst (λ m. In m (map (λ (e : ℕ × Option Id). e.0) (given_numbers g))) f.2 (behind f.0 (in_front f.0 g.numbers (unseen_number g.unseen_high) f.1))
+      by (inr (inl low)) = here (n, None) (in_front (n, None) (unseen_number g.unseen) (g.numbers ++ unseen_number g.unseen_high) (unseen_listed g.unseen n low))
+      by (inr (inr high)) = behind (n, None) (in_back (n, None) g.numbers (unseen_number g.unseen_high) (unseen_listed g.unseen_high n high))
+
+  -- they are the numbers of the group in the given spool
+  pub given_keys : (G : Spool) → IsGiven facts G → IsGroup G g.name → map (λ e. e.0) (given_numbers g) ≡ keys (numbers G g.name)
+  given_keys G given is_group =
+      keys_listed nat_cmp_total nat_cmp-IsAntisymmetric (map (λ e. e.0) (given_numbers g)) (numbers G g.name) given_ascends
+      (λ q i. (given.numbers_given g.name is_group q).1 (given_each q i)) (λ q i. each_given q ((given.numbers_given g.name is_group q).0 i))

@@ -1,5 +1,5 @@
 -- One group more of the spool that is made.
-use Rattle.std.proofs.Common.{◌≡◌, ◌≢◌, ◌⊎◌, ℕ, false, ◌==◌, List, [], ◌∷◌, map, Option, None, Some, is_some, IsSome, IsTrue, Result, Ok, Err, inl, inr, refl, sym, ap, subst, ◌∙◌}
+use Rattle.std.proofs.Common.{◌≡◌, ◌≢◌, ◌⊎◌, ℕ, false, ◌==◌, List, [], ◌∷◌, ◌++◌, map, Option, None, Some, is_some, IsSome, IsTrue, Result, Ok, Err, inl, inr, refl, sym, ap, subst, ◌∙◌}
 use Rattle.std.specs.Prelude.{unwrap_or}
 use Rattle.std.specs.List.{AllByRecursion, list_any}
 use Rattle.std.specs.List.Sorted.{IsStrictlySortedBy}
@@ -10,6 +10,7 @@ use Rattle.std.specs.Cmp.Lexicographic.{slice_cmp, nat_list_cmp_total, same_text
 use Rattle.std.specs.FinMap.{get, empty, keys, get-empty, same_map, nat_cmp-IsAntisymmetric}
 use Rattle.std.proofs.lemmas.Bool.{true≢false, or_cases, eq-eqb}
 use Rattle.std.proofs.lemmas.Cmp.{tied_itself}
+use Rattle.std.proofs.lemmas.List.{append-nil}
 use Rattle.nntp_wire.proofs.OptionLemmas.{none_of}
 use Rattle.nntp_article.proofs.Decide.{dec_texts}
 use Rattle.nntp_article.specs.Article.{Id}
@@ -25,7 +26,7 @@ use Rattle.nntp_spool.specs.Building.{Building, Builds, group_fault}
 use Rattle.nntp_spool.specs.Content.{with_group}
 use Rattle.nntp_spool.specs.declared.value.spool_fault.SpoolFault.{SpoolFault}
 use Rattle.nntp_spool.specs.declared.value.spool_fault.SpoolFault.TheVariants.{Memory}
-use Rattle.nntp_witness.specs.Making.{Makes, with_unseen, given_numbers, unshown_of, GroupsLeft, NumbersLeft}
+use Rattle.nntp_witness.specs.Making.{Makes, unseen_number, given_numbers, unshown_of, GroupsLeft, NumbersLeft}
 use Rattle.nntp_witness.proofs.BuilderCalls.{call_done, call_refused}
 use Rattle.nntp_witness.proofs.FaultsNone.{group_fits}
 use Rattle.nntp_witness.proofs.GroupNumbers.{given_keys, given_ascends, given_ids}
@@ -58,7 +59,7 @@ module _ (facts : List Fact) (G : Spool) (given : IsGiven facts G) (is_spool : I
 
   -- its numbers are those of the spool
   keys_given : map (λ e. e.0) (given_numbers g) ≡ keys (numbers G g.name)
-  keys_given = given_keys facts G g given l.of_spool.0 l.shown.0
+  keys_given = given_keys facts g l.shown.0 G given l.of_spool.0
 
   -- one that is given is there
   given_there : (e : ℕ × Option Id) → In e (given_numbers g) → IsNumber (numbers G g.name) e.0
@@ -151,11 +152,13 @@ module _ (facts : List Fact) (G : Spool) (given : IsGiven facts G) (is_spool : I
   group_refused name x new is h = call_refused (group_fault b.spool g.name) bare x b new l.begun.is_whole group_added (subst (λ q. Builds (group_fault b.spool q) (with_group b.spool q empty) (Err x) b new) is h)
 
   -- where it is added, its numbers are left
-  pub numbers_next : (name other : Name) (ns : List (ℕ × Option Id)) (unseen : Option ℕ) (x : Unit {0}) (new : Building) → name ≡ g.name → other ≡ g.name → ns ≡ g.numbers → unseen ≡ g.unseen
-      → Builds (group_fault b.spool name) (with_group b.spool name empty) (Ok x) b new → NumbersLeft facts G b.spool other (unshown_of G left) (with_unseen unseen ns) new next
-  numbers_next name other ns unseen x new is also numbers_are unseen_is h =
+  pub numbers_next : (name : Name) (low high : Option ℕ) (ns : List (ℕ × Option Id)) (x : Unit {0}) (new : Building) → name ≡ g.name → low ≡ g.unseen → ns ≡ g.numbers → high ≡ g.unseen_high
+      → Builds (group_fault b.spool name) (with_group b.spool name empty) (Ok x) b new → NumbersLeft facts G b.spool name (unshown_of G left) (unseen_number low ++ (ns ++ (unseen_number high ++ []))) new next
+  numbers_next name low high ns x new is low_is numbers_are high_is h =
       let built : new ≡ record { spool = bare; failed = false } = call_done (group_fault b.spool g.name) bare x b new l.begun.is_whole group_added (subst (λ q. Builds (group_fault b.spool q) (with_group b.spool q empty) (Ok x) b new) is h) in
-      subst (λ (t : Type 0). t) (λ i. NumbersLeft facts G b.spool (sym also i) (unshown_of G left) (with_unseen (sym unseen_is i) (sym numbers_are i)) (sym built i) next) all_left
+      let given : given_numbers g ≡ unseen_number low ++ (ns ++ (unseen_number high ++ [])) =
+      (λ i. unseen_number (sym low_is i) ++ (sym numbers_are i ++ unseen_number (sym high_is i))) ∙ ap (λ xs. unseen_number low ++ (ns ++ xs)) (sym (append-nil (unseen_number high))) in
+      subst (λ (t : Type 0). t) (λ i. NumbersLeft facts G b.spool (sym is i) (unshown_of G left) (given i) (sym built i) next) all_left
 
   -- and once they are made, one group less is left
   pub group_makes : (other : Name) (r : Result (Unit {0}) SpoolFault) (c : Building) (after : ℕ) → other ≡ g.name → Makes r (λ _. NumbersLeft facts G b.spool other (unshown_of G left) [] c after) → Makes r (λ _. GroupsLeft facts G left c after)

@@ -40,7 +40,7 @@ module _ (facts : List Fact) (G : Spool) (given : IsGiven facts G) where
   -- the ids of a shown group that aren't shown
   group_alike : (g : ShownGroup) → IsGroup G g.name → HasShownNumbers facts g → unshown_in facts g.name (entries (numbers G g.name)) ≡ unshown_at (numbers G g.name) (given_numbers g)
   group_alike g i h =
-      unshown_alike facts g.name (numbers G g.name) (entries (numbers G g.name)) (given_numbers g) (given_keys facts G g given i h) (in_get nat_cmp_total nat_cmp-IsAntisymmetric (numbers G g.name)) (given_ids facts g h)
+      unshown_alike facts g.name (numbers G g.name) (entries (numbers G g.name)) (given_numbers g) (given_keys facts g h G given i) (in_get nat_cmp_total nat_cmp-IsAntisymmetric (numbers G g.name)) (given_ids facts g h)
 
   -- ---- all groups
 

@@ -9,5 +9,4 @@ pub mod GroupsInOrder
 pub mod Aims
 pub mod Faults
 pub mod NumberSteps
-pub mod UnseenInPlace
 pub mod GroupSteps

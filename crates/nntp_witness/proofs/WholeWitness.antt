@@ -97,6 +97,6 @@ finished_is b G whole same knows = (λ i. handed (whole i) (same i)) ∙ ap (λ 
     handed failed S = cond failed (Err faults.Failed) (cond (not (ids_have_articles S)) (Err faults.UnknownId) (Ok S))
 
 -- where no article is left the builder hands out the given spool
-pub finished_is_given : (past : List Paired) (G : Spool) (b : Building) → IsWitness past G → ArticlesLeft (said_by past) G [] b → finished b ≡ Ok G
+pub finished_is_given : (past : List Paired) (G : Spool) (b : Building) → IsWitness profile_31_bits past G → ArticlesLeft (said_by profile_31_bits.marks past) G [] b → finished b ≡ Ok G
 finished_is_given past G b witness left =
-    finished_is b G left.is_whole (made_is_given (said_by past) G b witness.given left) (spool_knows profile_31_bits G witness.is_spool)
+    finished_is b G left.is_whole (made_is_given (said_by profile_31_bits.marks past) G b witness.given left) (spool_knows profile_31_bits G witness.is_spool)

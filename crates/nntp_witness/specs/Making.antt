@@ -1,5 +1,5 @@
 -- How far the given spool is made: the groups, the numbers and the articles that are left.
-use Rattle.std.specs.Prelude.{◌≡◌, ◌≢◌, ℕ, ◌<◌, ◌^◌, ◌==◌, ◌⊎◌, nat_lt, false, if◌then◌else◌, IsTrue, IsFalse, List, [], ◌∷◌, ◌++◌, map, Option, None, Some, is_some, IsSome, unwrap_or, Result, Ok, Err}
+use Rattle.std.specs.Prelude.{◌≡◌, ◌≢◌, ℕ, ◌<◌, ◌^◌, ◌==◌, ◌⊎◌, false, if◌then◌else◌, IsTrue, IsFalse, List, [], ◌∷◌, ◌++◌, map, Option, None, Some, is_some, IsSome, unwrap_or, Result, Ok, Err}
 use Rattle.std.specs.List.{AllByRecursion, flat_map, list_any}
 use Rattle.std.specs.List.Sorted.{IsStrictlySortedBy}
 use Rattle.std.specs.Ordering.{nat_cmp}
@@ -23,15 +23,14 @@ Makes (Err fault) P = fault ≡ Memory
 
 -- ---- what is to be made
 
--- the numbers, and in its place the one more, for which no id is shown
-abbrev pub with_unseen : Option ℕ → List (ℕ × Option Id) → List (ℕ × Option Id)
-with_unseen None es = es
-with_unseen (Some n) [] = (n, None) ∷ []
-with_unseen (Some n) (e ∷ es) = if nat_lt n e.0 then (n, None) ∷ e ∷ es else e ∷ with_unseen (Some n) es
+-- a number that isn't shown, if there is one: no id is shown for it
+abbrev pub unseen_number : Option ℕ → List (ℕ × Option Id)
+unseen_number None = []
+unseen_number (Some n) = (n, None) ∷ []
 
--- the numbers that are given of a group, ascending
+-- the numbers that are given of a group, ascending: the least, if it isn't shown; those that are shown; and the greatest, if it is neither
 abbrev pub given_numbers : ShownGroup → List (ℕ × Option Id)
-given_numbers g = with_unseen g.unseen g.numbers
+given_numbers g = unseen_number g.unseen ++ (g.numbers ++ unseen_number g.unseen_high)
 
 -- the ids of those of the numbers for which none is shown
 abbrev pub unshown_at : Numbers → List (ℕ × Option Id) → List Id

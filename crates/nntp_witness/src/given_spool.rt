@@ -21,8 +21,8 @@ use std::alloc::{AllocError, Allocator};
 ///
 /// Where memory was refused.
 pub fn witness<A: Allocator + Copy>(alloc: A, facts: &Facts<A>) -> Result<Spool<A>, AllocError>
-    requires { StandForSome facts.now }
-    ensures given { IfOk result (λ spool. (past : List Paired) → Stands facts.now past → IsWitness past spool) }
+    requires { StandForSome profile_31_bits facts.now }
+    ensures given { IfOk result (λ spool. (past : List Paired) → Stands profile_31_bits facts.now past → IsWitness profile_31_bits past spool) }
     ensures is_written { IfOk result (λ spool. IsWritten profile_31_bits spool) }
 {
     match make(alloc, facts) {
@@ -34,7 +34,7 @@ pub fn witness<A: Allocator + Copy>(alloc: A, facts: &Facts<A>) -> Result<Spool<
 
 /// The same. No fault of the builder comes but want of memory.
 fn make<A: Allocator + Copy>(alloc: A, facts: &Facts<A>) -> Result<Spool<A>, SpoolFault>
-    ensures given { (past : List Paired) → Stands facts.now past → Makes result (λ spool. IsWitness past spool) }
+    ensures given { (past : List Paired) → Stands profile_31_bits facts.now past → Makes result (λ spool. IsWitness profile_31_bits past spool) }
     ensures is_written { IfOk result (λ spool. IsWritten profile_31_bits spool) }
 {
     let mut maker = SpoolMaker::of_groups(alloc, facts)?;

@@ -1,5 +1,5 @@
 //! The given spool as far as it is made.
-ghost use Rattle.std.specs.Prelude.{◌≡◌, ℕ, List, [], ◌∷◌, Option, IfOk};
+ghost use Rattle.std.specs.Prelude.{◌≡◌, ℕ, List, [], ◌∷◌, ◌++◌, Option, IfOk};
 ghost use Rattle.std.specs.Option.{option_copied};
 ghost use Rattle.nntp_article.specs.Article.{Id};
 ghost use Rattle.nntp_article.specs.Limit.{profile_31_bits};
@@ -9,7 +9,7 @@ ghost use Rattle.nntp_facts.specs.Noted.{Stands, said_by};
 ghost use Rattle.nntp_facts.specs.Readers.{ShownGroup, ShownArticle};
 ghost use Rattle.nntp_spool.specs.Text.{IsWritten};
 ghost use Rattle.nntp_witness.specs.Witness.{IsWitness};
-ghost use Rattle.nntp_witness.specs.Making.{Makes, with_unseen, GroupsLeft, NumbersLeft, ArticlesLeft};
+ghost use Rattle.nntp_witness.specs.Making.{Makes, unseen_number, GroupsLeft, NumbersLeft, ArticlesLeft};
 
 use crate::article::{given_article, plain_article};
 use crate::invented::invent;
@@ -29,7 +29,7 @@ pub(crate) struct SpoolMaker<A: Allocator> {
 impl<A: Allocator + Copy> SpoolMaker<A> {
     /// With the groups that are shown, and articles of ids that are invented.
     pub(crate) fn of_groups(alloc: A, facts: &Facts<A>) -> Result<SpoolMaker<A>, SpoolFault>
-        ensures { (past : List Paired) (G : SpoolValue) → Stands facts.now past → IsWitness past G → Makes result (λ maker. GroupsLeft (said_by past) G [] maker.builder maker.next) }
+        ensures { (past : List Paired) (G : SpoolValue) → Stands profile_31_bits facts.now past → IsWitness profile_31_bits past G → Makes result (λ maker. GroupsLeft (said_by profile_31_bits.marks past) G [] maker.builder maker.next) }
     {
         let mut maker = SpoolMaker {
             alloc,
@@ -45,54 +45,48 @@ impl<A: Allocator + Copy> SpoolMaker<A> {
 
     /// Adds a group with its numbers.
     fn add_group(&mut self, facts: &Facts<A>, group: &SeenGroup<'_, A>) -> Result<(), SpoolFault>
-        ensures { (past : List Paired) (G : SpoolValue) (left : List ShownGroup) → Stands facts.now past → IsWitness past G → GroupsLeft (said_by past) G (group.now ∷ left) self.old.builder self.old.next
-            → Makes result (λ _. GroupsLeft (said_by past) G left self.new.builder self.new.next) }
+        ensures { (past : List Paired) (G : SpoolValue) (left : List ShownGroup) → Stands profile_31_bits facts.now past → IsWitness profile_31_bits past G → GroupsLeft (said_by profile_31_bits.marks past) G (group.now ∷ left) self.old.builder self.old.next
+            → Makes result (λ _. GroupsLeft (said_by profile_31_bits.marks past) G left self.new.builder self.new.next) }
     {
-        self.builder.group(group.name())?;
-        self.add_numbers(facts, group.name(), group.numbers(), group.unseen())
+        let name = group.name();
+        self.builder.group(name)?;
+        self.add_unseen(facts, name, group.unseen())?;
+        self.add_shown(facts, name, group.numbers())?;
+        self.add_unseen(facts, name, group.unseen_high())
     }
 
-    /// Adds the numbers that are shown, and in its place the one more, if one is needed.
-    fn add_numbers(
+    /// Adds a number that isn't shown, if there is one.
+    fn add_unseen(
         &mut self,
         facts: &Facts<A>,
         name: &[u8],
-        mut numbers: SeenNumbers<'_, A>,
-        mut unseen: Option<u64>,
+        unseen: Option<u64>,
     ) -> Result<(), SpoolFault>
-        ensures { (past : List Paired) (G before : SpoolValue) (behind : List Id) → Stands facts.now past → IsWitness past G
-            → NumbersLeft (said_by past) G before name.now behind (with_unseen unseen numbers.entry) self.old.builder self.old.next
-            → Makes result (λ _. NumbersLeft (said_by past) G before name.now behind [] self.new.builder self.new.next) }
+        ensures { (past : List Paired) (G before : SpoolValue) (behind : List Id) (left : List (ℕ × Option Id)) → Stands profile_31_bits facts.now past → IsWitness profile_31_bits past G
+            → NumbersLeft (said_by profile_31_bits.marks past) G before name.now behind (unseen_number unseen ++ left) self.old.builder self.old.next
+            → Makes result (λ _. NumbersLeft (said_by profile_31_bits.marks past) G before name.now behind left self.new.builder self.new.next) }
     {
-        while let Some(seen) = numbers.next() {
-            unseen = self.add_unseen(facts, name, unseen, seen.number)?;
-            self.add_number(facts, name, seen.number, seen.id)?;
-        }
         match unseen {
             Some(number) => self.add_number(facts, name, number, None),
             None => Ok(()),
         }
     }
 
-    /// Adds the one more number, if it is below the number that comes next; then none is left.
-    fn add_unseen(
+    /// Adds the numbers that are shown.
+    fn add_shown(
         &mut self,
         facts: &Facts<A>,
         name: &[u8],
-        unseen: Option<u64>,
-        next: u64,
-    ) -> Result<Option<u64>, SpoolFault>
-        ensures { (past : List Paired) (G before : SpoolValue) (behind : List Id) (id : Option Id) (left : List (ℕ × Option Id)) → Stands facts.now past → IsWitness past G
-            → NumbersLeft (said_by past) G before name.now behind (with_unseen unseen ((next, id) ∷ left)) self.old.builder self.old.next
-            → Makes result (λ unseen. NumbersLeft (said_by past) G before name.now behind ((next, id) ∷ with_unseen unseen left) self.new.builder self.new.next) }
+        mut numbers: SeenNumbers<'_, A>,
+    ) -> Result<(), SpoolFault>
+        ensures { (past : List Paired) (G before : SpoolValue) (behind : List Id) (left : List (ℕ × Option Id)) → Stands profile_31_bits facts.now past → IsWitness profile_31_bits past G
+            → NumbersLeft (said_by profile_31_bits.marks past) G before name.now behind (numbers.entry ++ left) self.old.builder self.old.next
+            → Makes result (λ _. NumbersLeft (said_by profile_31_bits.marks past) G before name.now behind left self.new.builder self.new.next) }
     {
-        match unseen {
-            Some(number) if number < next => {
-                self.add_number(facts, name, number, None)?;
-                Ok(None)
-            }
-            _ => Ok(unseen),
+        while let Some(seen) = numbers.next() {
+            self.add_number(facts, name, seen.number, seen.id)?;
         }
+        Ok(())
     }
 
     /// Adds a number with its id; where none is shown, with one that is invented, and the article of that.
@@ -103,9 +97,9 @@ impl<A: Allocator + Copy> SpoolMaker<A> {
         number: u64,
         id: Option<&[u8]>,
     ) -> Result<(), SpoolFault>
-        ensures { (past : List Paired) (G before : SpoolValue) (behind : List Id) (left : List (ℕ × Option Id)) → Stands facts.now past → IsWitness past G
-            → NumbersLeft (said_by past) G before name.now behind ((number, option_copied id.entry) ∷ left) self.old.builder self.old.next
-            → Makes result (λ _. NumbersLeft (said_by past) G before name.now behind left self.new.builder self.new.next) }
+        ensures { (past : List Paired) (G before : SpoolValue) (behind : List Id) (left : List (ℕ × Option Id)) → Stands profile_31_bits facts.now past → IsWitness profile_31_bits past G
+            → NumbersLeft (said_by profile_31_bits.marks past) G before name.now behind ((number, option_copied id.entry) ∷ left) self.old.builder self.old.next
+            → Makes result (λ _. NumbersLeft (said_by profile_31_bits.marks past) G before name.now behind left self.new.builder self.new.next) }
     {
         if let Some(id) = id {
             return self.builder.number(name, number, id);
@@ -123,8 +117,8 @@ impl<A: Allocator + Copy> SpoolMaker<A> {
 
     /// Adds the articles that are shown.
     pub(crate) fn add_articles(&mut self, facts: &Facts<A>) -> Result<(), SpoolFault>
-        ensures { (past : List Paired) (G : SpoolValue) → Stands facts.now past → IsWitness past G → GroupsLeft (said_by past) G [] self.old.builder self.old.next
-            → Makes result (λ _. ArticlesLeft (said_by past) G [] self.new.builder) }
+        ensures { (past : List Paired) (G : SpoolValue) → Stands profile_31_bits facts.now past → IsWitness profile_31_bits past G → GroupsLeft (said_by profile_31_bits.marks past) G [] self.old.builder self.old.next
+            → Makes result (λ _. ArticlesLeft (said_by profile_31_bits.marks past) G [] self.new.builder) }
     {
         let mut articles = facts.articles();
         while let Some(article) = articles.next() {
@@ -135,8 +129,8 @@ impl<A: Allocator + Copy> SpoolMaker<A> {
 
     /// Adds an article that is shown.
     fn add_article(&mut self, seen: &SeenArticle<'_, A>) -> Result<(), SpoolFault>
-        ensures { (past : List Paired) (G : SpoolValue) (left : List ShownArticle) → IsWitness past G → ArticlesLeft (said_by past) G (seen.now ∷ left) self.old.builder
-            → Makes result (λ _. ArticlesLeft (said_by past) G left self.new.builder) }
+        ensures { (past : List Paired) (G : SpoolValue) (left : List ShownArticle) → IsWitness profile_31_bits past G → ArticlesLeft (said_by profile_31_bits.marks past) G (seen.now ∷ left) self.old.builder
+            → Makes result (λ _. ArticlesLeft (said_by profile_31_bits.marks past) G left self.new.builder) }
     {
         let Ok(article) = given_article(self.alloc, seen) else {
             return Err(SpoolFault::Memory);
@@ -146,7 +140,7 @@ impl<A: Allocator + Copy> SpoolMaker<A> {
 
     /// The spool that is made.
     pub(crate) fn finish(self) -> Result<Spool<A>, SpoolFault>
-        ensures given { (past : List Paired) (G : SpoolValue) → IsWitness past G → ArticlesLeft (said_by past) G [] self.builder → Makes result (λ spool. spool ≡ G) }
+        ensures given { (past : List Paired) (G : SpoolValue) → IsWitness profile_31_bits past G → ArticlesLeft (said_by profile_31_bits.marks past) G [] self.builder → Makes result (λ spool. spool ≡ G) }
         ensures is_written { IfOk result (λ spool. IsWritten profile_31_bits spool) }
     {
         self.builder.finish()

@@ -1,14 +1,12 @@
 //! What is known of one message-id.
-ghost use Rattle.std.specs.Prelude.{◌≡◌, ◌≢◌, ◌↔◌, false, not, IsTrue, IfOk, OnOk, option_map};
+ghost use Rattle.std.specs.Prelude.{◌≡◌, ◌↔◌, false, IsTrue, IfOk, OnOk, option_map};
 ghost use Rattle.std.specs.Option.{option_or};
 ghost use Rattle.nntp_article.specs.Article.{Id};
 ghost use Rattle.nntp_article.specs.Machine.{head_fits};
 ghost use Rattle.nntp_facts.specs.Articles.{head_sent, body_sent, AreSame, MayBeSent, unsent, with_sent};
-ghost use Rattle.nntp_facts.specs.Kept.{IsAddedIf, may_be};
-ghost use Rattle.nntp_facts.specs.declared.fit.Fit.TheVariants.{New};
+ghost use Rattle.nntp_facts.specs.Kept.{IsAddedIf};
 ghost use Rattle.nntp_facts.specs.ArticleView.{lines_held, seen_value, known_value};
 
-use crate::fit::Fit;
 use nntp_article::Parts;
 use nntp_wire::{Block, What};
 use std::alloc::{AllocError, Allocator};
@@ -136,17 +134,6 @@ impl<A: Allocator> Known<A> {
         match self {
             Known::Denied => true,
             Known::There(_) => false,
-        }
-    }
-
-    /// How it fits that it has an article.
-    pub(crate) fn fit(&self) -> Fit
-        ensures may { may_be result ≡ not (known_value self.now).is_denied }
-        ensures known { result ≢ New }
-    {
-        match self {
-            Known::Denied => Fit::Never,
-            Known::There(_) => Fit::Again,
         }
     }
 

@@ -12,6 +12,7 @@ ghost use Rattle.nntp_facts.specs.ListedGroups.{is_listed, is_missing, NoneIsMis
 
 use crate::group::Group;
 use crate::groups::Groups;
+use crate::saying::GroupPart;
 use nntp_wire::laws::group_names_are_decided;
 use nntp_wire::{Block, GroupName, Wildmat, matches_if_given};
 use std::alloc::{AllocError, Allocator};
@@ -37,7 +38,7 @@ impl<A: Allocator + Copy> Groups<A> {
         ensures { OnOk result ((facts : List Fact) (wildmat : Option (List ℕ)) → AreKeptGroups facts self.old → AreKeptGroups (facts ++ GroupsAre wildmat (active_groups block.now) ∷ []) self.new) }
     {
         for group in block.groups() {
-            self.bound(group.name.as_slice(), group.low, group.high)?;
+            self.add(&GroupPart::of_bounds(&group))?;
         }
         Ok(())
     }

@@ -8,9 +8,8 @@ ghost use Rattle.nntp_facts.specs.Together.{IsWellFormed, Together, Join};
 ghost use Rattle.nntp_facts.specs.Kept.{IsKept, AreAdded};
 ghost use Rattle.nntp_facts.specs.ListedGroups.{MayList, LineJoins, NoneIsMissing};
 
-use crate::ask::Ask;
 use crate::kept::Kept;
-use crate::part::Part;
+use crate::saying::GroupPart;
 use nntp_wire::{ActiveLine, Block, Wildmat};
 use std::alloc::{AllocError, Allocator};
 
@@ -79,7 +78,7 @@ impl<A: Allocator + Copy> Kept<A> {
     }
 }
 
-impl<A: Allocator> Kept<A> {
+impl<A: Allocator + Copy> Kept<A> {
     /// Whether each listed group may be there, with its numbers between the marks.
     fn may_bound_all(&self, block: &Block<'_>) -> bool
         ensures { (facts : List Fact) → IsKept facts self.now → Together facts → IsTrue result ↔ AllByRecursion (LineJoins facts) (active_groups block.now) }
@@ -96,11 +95,7 @@ impl<A: Allocator> Kept<A> {
     fn may_bound(&self, line: &ActiveLine<'_>) -> bool
         ensures { (facts : List Fact) → IsKept facts self.now → Together facts → IsTrue result ↔ LineJoins facts (active_value line.now) }
     {
-        let part = Part::of(Ask::Bounds {
-            low: line.low,
-            high: line.high,
-        });
-        self.may_be(&line.name) && self.groups.joins(line.name.as_slice(), &part)
+        self.may_be(&line.name) && self.groups.joins(&GroupPart::of_bounds(line))
     }
 }
 

@@ -5,6 +5,7 @@ ghost use Rattle.nntp_wire.specs.AnswerView.{response};
 ghost use Rattle.nntp_wire.specs.Answer.{plain, sends, group_is, numbers_are, active_are};
 ghost use Rattle.nntp_wire.specs.Listing.{listed_numbers, active_groups};
 ghost use Rattle.nntp_wire.specs.Name.{IsGroupName};
+ghost use Rattle.nntp_wire.specs.declared.marks.Marks.{Marks};
 ghost use Rattle.nntp_article.specs.Machine.{is_ascending, names_differ, Agrees, Bound, CodeAgrees, NumberAgrees};
 ghost use Rattle.nntp_article.specs.Spool.{Name, IsGroup, HasText, Lists, numbers as numbers_of};
 ghost use Rattle.nntp_spool.specs.AskedCounts.{AreCounted};
@@ -16,13 +17,14 @@ use crate::verification::listed_groups::lists_groups;
 use crate::verification::sent_lines::has_text;
 use crate::verification::session::Session;
 use nntp_article::{is_generic_failure, is_success};
-use nntp_wire::{Answer, Block, Command, Prompt, Range, WaterMarks, What, Which};
+use nntp_wire::{Answer, Block, Command, Marks, Prompt, Range, WaterMarks, What, Which};
 use std::alloc::{AllocError, Allocator};
 
 impl<A: Allocator + Copy> Session<A> {
-    /// Whether an answer that fits agrees with the spool.
+    /// Whether an answer that fits agrees with the spool, where marks are read so.
     pub(crate) fn agrees(
         &self,
+        how: Marks,
         spool: &Content<A>,
         counts: &mut AskedCounts<A>,
         prompt: &Prompt<'_>,
@@ -32,7 +34,7 @@ impl<A: Allocator + Copy> Session<A> {
         requires order { is_in_order (response answer.now) ≡ true }
         requires counted { AreCounted spool.now counts.old }
         ensures counted { IfOk result (λ _. AreCounted spool.now counts.new) }
-        ensures agrees { IfOk result (λ agrees. IsTrue agrees ↔ Agrees spool.now self.now (asked prompt.now) (response answer.now)) }
+        ensures agrees { IfOk result (λ agrees. IsTrue agrees ↔ Agrees how spool.now self.now (asked prompt.now) (response answer.now)) }
     {
         Ok(match answer {
             Answer::Plain { code } => self.agrees_plain(spool, prompt, *code),
@@ -43,7 +45,7 @@ impl<A: Allocator + Copy> Session<A> {
                 name,
             } => {
                 let marks = WaterMarks::new(*estimate, *low, *high);
-                self.agrees_group(spool, prompt, marks, name.as_slice())
+                self.agrees_group(how, spool, prompt, marks, name.as_slice())
             }
             Answer::Numbers {
                 estimate,
@@ -53,7 +55,7 @@ impl<A: Allocator + Copy> Session<A> {
                 block,
             } => {
                 let marks = WaterMarks::new(*estimate, *low, *high);
-                self.agrees_numbers(spool, prompt, marks, name.as_slice(), block)
+                self.agrees_numbers(how, spool, prompt, marks, name.as_slice(), block)
             }
             Answer::Sent {
                 code,
@@ -67,7 +69,7 @@ impl<A: Allocator + Copy> Session<A> {
 
     /// A code alone.
     fn agrees_plain(&self, spool: &Content<A>, prompt: &Prompt<'_>, code: u64) -> bool
-        ensures { IsTrue result ↔ Agrees spool.now self.now (asked prompt.now) (plain code) }
+        ensures { (how : Marks) → IsTrue result ↔ Agrees how spool.now self.now (asked prompt.now) (plain code) }
     {
         match prompt {
             Prompt::Greeting => matches!(code, 200 | 201 | 400 | 502),
@@ -121,15 +123,16 @@ impl<A: Allocator + Copy> Session<A> {
     /// 211 to GROUP.
     fn agrees_group(
         &self,
+        how: Marks,
         spool: &Content<A>,
         prompt: &Prompt<'_>,
         marks: WaterMarks,
         name: &[u8],
     ) -> bool
-        ensures { IsTrue result ↔ Agrees spool.now self.now (asked prompt.now) (group_is marks name.now) }
+        ensures { IsTrue result ↔ Agrees how spool.now self.now (asked prompt.now) (group_is marks name.now) }
     {
         match prompt {
-            Prompt::To(Command::Group(_)) => agrees_marks(spool, name, marks),
+            Prompt::To(Command::Group(_)) => agrees_marks(how, spool, name, marks),
             _ => false,
         }
     }
@@ -137,6 +140,7 @@ impl<A: Allocator + Copy> Session<A> {
     /// 211 to LISTGROUP.
     fn agrees_numbers(
         &self,
+        how: Marks,
         spool: &Content<A>,
         prompt: &Prompt<'_>,
         marks: WaterMarks,
@@ -144,11 +148,11 @@ impl<A: Allocator + Copy> Session<A> {
         block: &Block<'_>,
     ) -> bool
         requires { is_ascending (listed_numbers block.now) ≡ true }
-        ensures { IsTrue result ↔ Agrees spool.now self.now (asked prompt.now) (numbers_are marks name.now block.now) }
+        ensures { IsTrue result ↔ Agrees how spool.now self.now (asked prompt.now) (numbers_are marks name.now block.now) }
     {
         match prompt {
             Prompt::To(Command::ListGroup { range, .. }) => {
-                agrees_listed(spool, name, marks, *range, block)
+                agrees_listed(how, spool, name, marks, *range, block)
             }
             _ => false,
         }
@@ -164,7 +168,7 @@ impl<A: Allocator + Copy> Session<A> {
         id: &[u8],
         block: &Option<Block<'_>>,
     ) -> bool
-        ensures { IsTrue result ↔ Agrees spool.now self.now (asked prompt.now) (sends (record { code = code; number = number; id = id.now; block = block.now })) }
+        ensures { (how : Marks) → IsTrue result ↔ Agrees how spool.now self.now (asked prompt.now) (sends (record { code = code; number = number; id = id.now; block = block.now })) }
     {
         let none = self.no_numbers();
         let numbers = self.selected_numbers(spool, &none);
@@ -210,7 +214,7 @@ impl<A: Allocator + Copy> Session<A> {
         requires differ { names_differ (active_groups block.now) ≡ true }
         requires counted { AreCounted spool.now counts.old }
         ensures counted { IfOk result (λ _. AreCounted spool.now counts.new) }
-        ensures agrees { IfOk result (λ agrees. IsTrue agrees ↔ Agrees spool.now self.now (asked prompt.now) (active_are block.now)) }
+        ensures agrees { IfOk result (λ agrees. (how : Marks) → IsTrue agrees ↔ Agrees how spool.now self.now (asked prompt.now) (active_are block.now)) }
     {
         match prompt {
             Prompt::To(Command::ListActive(wildmat)) => {
@@ -223,11 +227,16 @@ impl<A: Allocator + Copy> Session<A> {
 }
 
 /// Whether the name is a group, and its numbers agree with the estimate and the marks.
-fn agrees_marks<A: Allocator>(spool: &Content<A>, name: &[u8], marks: WaterMarks) -> bool
-    ensures { IsTrue result ↔ (IsGroup spool.now name.now × Bound (numbers_of spool.now name.now) marks) }
+fn agrees_marks<A: Allocator>(
+    how: Marks,
+    spool: &Content<A>,
+    name: &[u8],
+    marks: WaterMarks,
+) -> bool
+    ensures { IsTrue result ↔ (IsGroup spool.now name.now × Bound how (numbers_of spool.now name.now) marks) }
 {
     match spool.group(name) {
-        Some(numbers) => numbers.is_bound(marks),
+        Some(numbers) => numbers.is_bound(how, marks),
         None => false,
     }
 }
@@ -235,6 +244,7 @@ fn agrees_marks<A: Allocator>(spool: &Content<A>, name: &[u8], marks: WaterMarks
 /// Whether the name is a group, its numbers agree with the estimate and the marks, and those within
 /// the range are the listed ones.
 fn agrees_listed<A: Allocator>(
+    how: Marks,
     spool: &Content<A>,
     name: &[u8],
     marks: WaterMarks,
@@ -242,10 +252,10 @@ fn agrees_listed<A: Allocator>(
     block: &Block<'_>,
 ) -> bool
     requires { is_ascending (listed_numbers block.now) ≡ true }
-    ensures { IsTrue result ↔ (IsGroup spool.now name.now × Bound (numbers_of spool.now name.now) marks × Lists (numbers_of spool.now name.now) range (listed_numbers block.now)) }
+    ensures { IsTrue result ↔ (IsGroup spool.now name.now × Bound how (numbers_of spool.now name.now) marks × Lists (numbers_of spool.now name.now) range (listed_numbers block.now)) }
 {
     match spool.group(name) {
-        Some(numbers) => numbers.is_bound(marks) && numbers.lists(range, block),
+        Some(numbers) => numbers.is_bound(how, marks) && numbers.lists(range, block),
         None => false,
     }
 }

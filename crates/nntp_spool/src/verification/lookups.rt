@@ -2,12 +2,12 @@
 ghost use Rattle.std.specs.Prelude.{◌≡◌, ℕ, ◌≤◌, ◌↔◌, [], true, IsTrue, MatchOption, IfSome, Some};
 ghost use Rattle.std.specs.FinMap as map;
 ghost use Rattle.nntp_article.specs.Spool.{IsNumber, IsNextAbove, IsNextBelow, NoneAbove, NoneBelow, Lists};
-ghost use Rattle.nntp_article.specs.Machine.{Bound, is_ascending};
+ghost use Rattle.nntp_article.specs.Machine.{AreEnds, Bound, is_ascending};
 ghost use Rattle.nntp_wire.specs.Listing.{listed_numbers};
 ghost use Rattle.nntp_spool.specs.ListedNumbers.{IsNextFrom, IsAbove, ListsFrom};
 
 use crate::value::numbers::Numbers;
-use nntp_wire::{Block, Range, WaterMarks};
+use nntp_wire::{Block, Marks, Range, WaterMarks};
 use std::alloc::Allocator;
 
 impl<A: Allocator> Numbers<A> {
@@ -61,11 +61,34 @@ impl<A: Allocator> Numbers<A> {
         }
     }
 
-    /// Whether there are at most as many numbers as estimated, all between the marks.
-    pub(crate) fn is_bound(&self, marks: WaterMarks) -> bool
-        ensures { IsTrue result ↔ Bound self.now marks }
+    /// Whether there is such a number.
+    fn has(&self, number: u64) -> bool
+        ensures { IsTrue result ↔ IsNumber self.now number }
     {
-        self.len() as u64 <= marks.estimate && self.is_between(marks.low, marks.high)
+        self.id(number).is_some()
+    }
+
+    /// Whether there are at most as many numbers as estimated, all between the marks, and both marks
+    /// are numbers where they have to be.
+    pub(crate) fn is_bound(&self, how: Marks, marks: WaterMarks) -> bool
+        ensures { IsTrue result ↔ Bound how self.now marks }
+    {
+        self.len() as u64 <= marks.estimate
+            && self.is_between(marks.low, marks.high)
+            && self.has_ends(how, marks)
+    }
+
+    /// Whether both marks are numbers, where they are read strictly and there is a number.
+    fn has_ends(&self, how: Marks, marks: WaterMarks) -> bool
+        ensures { IsTrue result ↔ AreEnds how self.now marks }
+    {
+        match how {
+            Marks::Lenient => true,
+            Marks::Strict => match self.least() {
+                Some(_) => self.has(marks.low) && self.has(marks.high),
+                None => true,
+            },
+        }
     }
 
     /// Whether each number is between the marks.

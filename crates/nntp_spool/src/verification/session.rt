@@ -67,7 +67,7 @@ impl<A: Allocator + Copy> Session<A> {
         if self.visible.is_closed() || !self.visible.fits(profile, prompt, answer)? {
             return Ok(false);
         }
-        self.agrees(spool, counts, prompt, answer)
+        self.agrees(profile.marks, spool, counts, prompt, answer)
     }
 
     /// Goes on to the state that the exchange leaves.

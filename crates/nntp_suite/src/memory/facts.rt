@@ -1,13 +1,16 @@
 //! Want of memory while exchanges are noted, and while the spool is made of what was noted.
 ghost use Rattle.std.specs.Prelude.{◌≡◌, true, IfOk};
+ghost use Rattle.nntp_article.specs.Limit.{profile_of};
 ghost use Rattle.nntp_witness.specs.Witness.{StandForSome};
 
 use super::{Ended, refuse_each, right_if};
+use crate::marks::ROWS;
 use crate::sessions::{Session, TABLES};
 use nntp_facts::{Class, Facts, FactsError, Noted};
 use nntp_pair::{Exchange, Pairs, Step};
 use nntp_refusing::{Refusal, Refusing};
 use nntp_spool::{Spool, Watched};
+use nntp_wire::{Limit, Marks};
 use nntp_witness::witness;
 use std::alloc::{AllocError, Allocator, Global};
 use std::process::Abort;
@@ -15,7 +18,7 @@ use std::test::Fail;
 
 /// What stops the noting of a session's exchanges.
 #[derive(Clone, Copy, Debug, PartialEq, Eq)]
-enum Stop {
+pub(crate) enum Stop {
     /// An answer that is bad.
     Bad { answer: u64, class: Class },
     /// Want of memory, and each later call failed.
@@ -26,11 +29,11 @@ enum Stop {
 
 /// The facts of a session whose exchanges were all noted.
 #[derive(Drop)]
-struct Whole<A: Allocator> {
-    facts: Facts<A>,
-    answers: u64,
+pub(crate) struct Whole<A: Allocator> {
+    pub(crate) facts: Facts<A>,
+    pub(crate) answers: u64,
     /// Of the octets that answer nothing, if some are left.
-    class: Option<Class>,
+    pub(crate) class: Option<Class>,
 }
 
 /// Notes an exchange twice more behind a call that wanted memory.
@@ -46,11 +49,16 @@ fn after_want<A: Allocator + Copy>(mut facts: Facts<A>, exchange: &Exchange<'_>)
     }
 }
 
-/// Notes the exchanges of a session one after the other.
-fn note_all<A: Allocator + Copy>(alloc: A, client: &[u8], server: &[u8]) -> Result<Whole<A>, Stop>
-    ensures { IfOk result (λ whole. StandForSome whole.facts) }
+/// Notes the exchanges of a session one after the other, by marks that are read so.
+pub(crate) fn note_all<A: Allocator + Copy>(
+    alloc: A,
+    marks: Marks,
+    client: &[u8],
+    server: &[u8],
+) -> Result<Whole<A>, Stop>
+    ensures { IfOk result (λ whole. StandForSome (profile_of Limit.Narrow marks) whole.facts) }
 {
-    let mut facts = Facts::new(alloc);
+    let mut facts = Facts::new(alloc, Limit::Narrow, marks);
     let mut answers = 0u64;
     let mut pairs = Pairs::new(client, server);
     loop {
@@ -97,14 +105,22 @@ fn beginning(alloc: Global, answer: u64, class: Option<Class>) -> Result<String,
     }
 }
 
+/// How many answers are right, and the class of the one behind them, if that is bad.
+fn outcome<A: Allocator>(noted: Result<Whole<A>, Stop>) -> Result<(u64, Option<Class>), Ended> {
+    match noted {
+        Ok(whole) => Ok((whole.answers, whole.class)),
+        Err(Stop::Bad { answer, class }) => Ok((answer, Some(class))),
+        Err(Stop::Memory) => Err(Ended::Memory),
+        Err(Stop::Wrong) => Err(Ended::Wrong),
+    }
+}
+
 /// Notes the exchanges of a session, up to the one that its verdict calls bad.
 fn note<A: Allocator + Copy>(alloc: Global, heap: A, session: &Session) -> Ended {
-    let noted = note_all(heap, session.client.as_bytes(), session.server.as_bytes());
-    let (answer, class) = match noted {
-        Ok(whole) => (whole.answers, whole.class),
-        Err(Stop::Bad { answer, class }) => (answer, Some(class)),
-        Err(Stop::Memory) => return Ended::Memory,
-        Err(Stop::Wrong) => return Ended::Wrong,
+    let (client, server) = session.streams();
+    let (answer, class) = match outcome(note_all(heap, Marks::Lenient, client, server)) {
+        Ok(outcome) => outcome,
+        Err(ended) => return ended,
     };
     match beginning(alloc, answer, class) {
         Ok(words) => right_if(session.verdict.starts_with(words.as_str())),
@@ -126,6 +142,52 @@ fn exchanges_of_worked_sessions_are_noted(rt: HostRuntime) {
     assert!(rt; most > 3, "{most}");
 }
 
+/// Notes the exchanges of two streams by strict marks. So many answers are right, and the one behind them is
+/// bad where a class is told.
+fn note_strictly<A: Allocator + Copy>(
+    heap: A,
+    (client, server): (&[u8], &[u8]),
+    wanted: (u64, Option<Class>),
+) -> Ended {
+    match outcome(note_all(heap, Marks::Strict, client, server)) {
+        Ok(outcome) => right_if(outcome == wanted),
+        Err(ended) => ended,
+    }
+}
+
+#[test]
+fn exchanges_with_strict_marks_are_noted(rt: HostRuntime) {
+    let mut most = 0;
+    for table in ROWS {
+        for row in table {
+            let refused = refuse_each(&rt, rt.alloc(), row.name, |heap| {
+                note_strictly(heap, row.streams(), row.strict.bad())
+            });
+            most = refused.max(most);
+        }
+    }
+    assert!(rt; most > 3, "{most}");
+}
+
+#[test]
+fn exchanges_of_worked_sessions_are_noted_by_strict_marks(rt: HostRuntime) {
+    let ample = Refusing::new(rt.alloc(), Refusal::Never);
+    for table in TABLES {
+        for session in table {
+            let (client, server) = session.streams();
+            let wanted = outcome(note_all(&ample, Marks::Strict, client, server));
+            match wanted {
+                Ok(wanted) => {
+                    refuse_each(&rt, rt.alloc(), session.name, |heap| {
+                        note_strictly(heap, (client, server), wanted)
+                    });
+                }
+                Err(_) => assert!(rt; false, "{}", session.name),
+            }
+        }
+    }
+}
+
 /// Whether the spool has this text.
 fn is_written<A: Allocator>(alloc: Global, spool: &Spool<A>, text: &str) -> bool {
     let mut output = Watched::new(Vec::new(alloc));
@@ -134,7 +196,8 @@ fn is_written<A: Allocator>(alloc: Global, spool: &Spool<A>, text: &str) -> bool
 
 /// Makes the spool that is given for a session, of facts that are kept in `ample` memory.
 fn make<A: Allocator + Copy>(alloc: Global, heap: A, ample: A, session: &Session) -> Ended {
-    let Ok(whole) = note_all(ample, session.client.as_bytes(), session.server.as_bytes()) else {
+    let (client, server) = session.streams();
+    let Ok(whole) = note_all(ample, Marks::Lenient, client, server) else {
         return Ended::Wrong;
     };
     match witness(heap, &whole.facts) {

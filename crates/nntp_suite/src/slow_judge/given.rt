@@ -1,14 +1,21 @@
 //! The spool that is given for what answers say.
+use super::ends::{add_marks, are_ends, unseen_marks};
 use super::numbers::least_free;
 use super::said::Said;
+use crate::group_lines::{push_name, push_number, push_unseen};
 use nntp_spool::{Article, Spool, SpoolBuilder, SpoolFault};
+use nntp_wire::Marks;
 use std::alloc::{AllocError, Global};
 
 /// A number and its id, where it is shown.
 type Number<'a> = (u64, Option<&'a [u8]>);
 
 /// The spool that is given, or none where what is said makes no spool.
-pub(crate) fn given_spool(alloc: Global, said: &Said<'_>) -> Result<Option<Spool>, AllocError> {
+pub(crate) fn given_spool(
+    alloc: Global,
+    marks: Marks,
+    said: &Said<'_>,
+) -> Result<Option<Spool>, AllocError> {
     let mut builder = SpoolBuilder::new(alloc);
     let mut ids = Vec::new(alloc);
     let mut next = 0;
@@ -17,7 +24,7 @@ pub(crate) fn given_spool(alloc: Global, said: &Said<'_>) -> Result<Option<Spool
         if !is_done(outcome)? {
             return Ok(None);
         }
-        for (number, shown) in numbers(alloc, said, name)? {
+        for (number, shown) in with_ids(alloc, marks, said, name)? {
             let id = match shown {
                 Some(id) => Vec::from_slice(alloc, id)?,
                 None => invented(alloc, said, &mut next)?,
@@ -65,24 +72,91 @@ fn names<'a>(alloc: Global, said: &Said<'a>) -> Result<Vec<&'a [u8]>, AllocError
     Ok(names)
 }
 
-/// The numbers of a group, ascending: those that are shown, and one more where one is needed.
-fn numbers<'a>(
-    alloc: Global,
-    said: &Said<'a>,
-    group: &[u8],
-) -> Result<Vec<Number<'a>>, AllocError> {
+/// The numbers of a group that are shown.
+fn shown_numbers(alloc: Global, said: &Said<'_>, group: &[u8]) -> Result<Vec<u64>, AllocError> {
     let mut numbers: Vec<u64> = Vec::new(alloc);
     for shown in &said.shown {
         if shown.group == group && !numbers.iter().any(|other| *other == shown.number) {
             numbers.push(shown.number)?;
         }
     }
-    if let Some(number) = one_more(said, group, &numbers) {
-        numbers.push(number)?;
+    numbers.sort_unstable();
+    Ok(numbers)
+}
+
+/// The numbers of a group, ascending: those that are shown, and beside them one more where one is needed, or
+/// its marks where they are strict and it has a number.
+fn numbers(
+    alloc: Global,
+    marks: Marks,
+    said: &Said<'_>,
+    group: &[u8],
+) -> Result<Vec<u64>, AllocError> {
+    let mut numbers = shown_numbers(alloc, said, group)?;
+    match marks {
+        Marks::Lenient => {
+            if let Some(number) = one_more(said, group, &numbers) {
+                numbers.push(number)?;
+            }
+        }
+        Marks::Strict => add_marks(&mut numbers, said, group)?,
     }
     numbers.sort_unstable();
+    Ok(numbers)
+}
+
+/// Whether the strict marks of each group are the least and the greatest of its numbers, where it has some.
+pub(crate) fn have_ends(alloc: Global, said: &Said<'_>) -> Result<bool, AllocError> {
+    let mut have_ends = true;
+    for name in names(alloc, said)? {
+        let numbers = numbers(alloc, Marks::Strict, said, name)?;
+        have_ends = have_ends && are_ends(said, name, &numbers);
+    }
+    Ok(have_ends)
+}
+
+/// A line for each group: its numbers that are shown, and those that are given beside them.
+pub(crate) fn group_lines(
+    alloc: Global,
+    marks: Marks,
+    said: &Said<'_>,
+) -> Result<String, AllocError> {
+    let mut text = String::new(alloc);
+    for name in names(alloc, said)? {
+        push_name(alloc, &mut text, name)?;
+        push_numbers(alloc, &mut text, marks, said, name)?;
+    }
+    Ok(text)
+}
+
+/// The rest of the line of a group.
+fn push_numbers(
+    alloc: Global,
+    text: &mut String,
+    marks: Marks,
+    said: &Said<'_>,
+    group: &[u8],
+) -> Result<(), AllocError> {
+    let shown = shown_numbers(alloc, said, group)?;
+    for number in &shown {
+        push_number(alloc, text, *number, shown_id(said, group, *number))?;
+    }
+    let (low, high) = match marks {
+        Marks::Lenient => (one_more(said, group, &shown), None),
+        Marks::Strict => unseen_marks(said, group, &shown),
+    };
+    push_unseen(alloc, text, low, high)
+}
+
+/// The numbers of a group with their ids.
+fn with_ids<'a>(
+    alloc: Global,
+    marks: Marks,
+    said: &Said<'a>,
+    group: &[u8],
+) -> Result<Vec<Number<'a>>, AllocError> {
     let mut with_ids = Vec::new(alloc);
-    for number in &numbers {
+    for number in &numbers(alloc, marks, said, group)? {
         with_ids.push((*number, shown_id(said, group, *number)))?;
     }
     Ok(with_ids)

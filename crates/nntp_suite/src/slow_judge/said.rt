@@ -28,6 +28,14 @@ pub(crate) struct Unseen<'a> {
     pub(crate) below: Option<u64>,
 }
 
+/// The marks that a 211 reports of a group.
+#[derive(Clone, Copy)]
+pub(crate) struct Reported<'a> {
+    pub(crate) group: &'a [u8],
+    pub(crate) low: u64,
+    pub(crate) high: u64,
+}
+
 /// A success for an id, with what was sent.
 #[derive(Drop)]
 pub(crate) struct Sent<'a> {
@@ -45,6 +53,7 @@ pub(crate) struct Said<'a> {
     pub(crate) groups: Vec<&'a [u8]>,
     pub(crate) shown: Vec<Shown<'a>>,
     pub(crate) denied: Vec<Denied<'a>>,
+    pub(crate) reported: Vec<Reported<'a>>,
     pub(crate) unseen: Vec<Unseen<'a>>,
     pub(crate) mentioned: Vec<&'a [u8]>,
     pub(crate) sent: Vec<Sent<'a>>,
@@ -59,6 +68,7 @@ impl<'a> Said<'a> {
             groups: Vec::new(alloc),
             shown: Vec::new(alloc),
             denied: Vec::new(alloc),
+            reported: Vec::new(alloc),
             unseen: Vec::new(alloc),
             mentioned: Vec::new(alloc),
             sent: Vec::new(alloc),
@@ -102,6 +112,11 @@ impl<'a> Said<'a> {
     fn select(&mut self, name: &'a [u8], low: u64, high: u64) -> Result<(), AllocError> {
         self.groups.push(name)?;
         outside(&mut self.denied, name, low, high)?;
+        self.reported.push(Reported {
+            group: name,
+            low,
+            high,
+        })?;
         self.selected = Some(name);
         self.place = Place::First;
         Ok(())

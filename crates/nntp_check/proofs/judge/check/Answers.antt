@@ -1,3 +1,4 @@
+use Rattle.nntp_article.specs.Limit.{profile_31_bits}
 use Rattle.std.proofs.Common.{◌∙◌, [], ap, sym, subst}
 use Rattle.nntp_pair.specs.Pairing.{Unpaired, line_ahead}
 use Rattle.nntp_check.specs.Judging.{IsFirstLine}
@@ -8,7 +9,7 @@ pub loop-exchange-init : goal.loop-exchange-init
 loop-exchange-init g c = record { pairs = []; before = sym c.new-pairs.ensures; count = c.new-judge.ensures.answers; stands = c.new-judge.ensures.facts }
 
 pub note-requires : goal.note-requires
-note-requires g c = is-due c.args.client.now c.args.server.now c.loop-exchange.judge.facts c.loop-exchange.pairs c.next.new.self c.loop-exchange.judge.answers c.in-Exchange.exchange c.loop-exchange.invariant c.in-Exchange.ensures.step
+note-requires g c = is-due profile_31_bits c.args.client.now c.args.server.now c.loop-exchange.judge.facts c.loop-exchange.pairs c.next.new.self c.loop-exchange.judge.answers c.in-Exchange.exchange c.loop-exchange.invariant c.in-Exchange.ensures.step
 
 pub returns-in-Some : goal.returns-in-Some
 returns-in-Some g c =

@@ -6,7 +6,7 @@ use Rattle.nntp_facts.proofs.laws.answered_prompts_matter.Goals as goal
 pub returns : goal.returns
 returns c = record {
   permitted = λ profile ps more answers e. permitted_longer profile ps more answers (omega (arith, e));
-  facts = λ v at ps more answers e. facts_longer v at ps more answers (omega (arith, e));
+  facts = λ how v at ps more answers e. facts_longer how v at ps more answers (omega (arith, e));
   visible = λ v ps more answers e. visible_longer v ps more answers (omega (arith, e));
   next = next_behind;
   paired = prompts_of_pairs;

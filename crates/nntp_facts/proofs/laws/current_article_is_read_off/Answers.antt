@@ -1,5 +1,5 @@
 use Rattle.nntp_article.specs.Machine.{start}
-use Rattle.nntp_facts.specs.Asks.{Nowhere}
+use Rattle.nntp_facts.specs.declared.position.Position.TheVariants.{Nowhere}
 use Rattle.nntp_facts.proofs.ReadOff.{read_off, run_from}
 use Rattle.nntp_facts.proofs.laws.current_article_is_read_off.Goals as goal
 

@@ -1,5 +1,5 @@
 use Rattle.nntp_article.specs.Machine.{start}
-use Rattle.nntp_facts.specs.Asks.{Nowhere}
+use Rattle.nntp_facts.specs.declared.position.Position.TheVariants.{Nowhere}
 use Rattle.nntp_facts.proofs.FactsHold.{permits_by_facts}
 use Rattle.nntp_facts.proofs.laws.permitted_by_facts.Goals as goal
 

@@ -1,4 +1,5 @@
 use Rattle.std.proofs.Common.{◌≡◌, sym, subst}
+use Rattle.nntp_article.specs.Limit.{profile_31_bits}
 use Rattle.nntp_witness.specs.Witness.{IsWitness}
 use Rattle.nntp_witness.proofs.Aims.{aim}
 use Rattle.nntp_witness.proofs.Faults.{memory_passed, made_so}
@@ -6,17 +7,17 @@ use Rattle.nntp_witness.proofs.given_spool.make.Goals as goal
 
 pub returns-in_err-maker-clause-given : goal.returns-in_err-maker-clause-given
 returns-in_err-maker-clause-given g c past stands =
-    let G = aim c.args.facts.now past stands in
+    let G = aim profile_31_bits c.args.facts.now past stands in
     memory_passed c.from_residual.result _ c.in_err-maker.field-0.0 c.from_residual.ensures (c.in_err-maker.ensures past G.0 stands G.1)
 
 pub returns-in_err-add_articles-clause-given : goal.returns-in_err-add_articles-clause-given
 returns-in_err-add_articles-clause-given g c past stands =
-    let G = aim c.args.facts.now past stands in
+    let G = aim profile_31_bits c.args.facts.now past stands in
     memory_passed c.from_residual-in_err-add_articles.result _ c.in_err-add_articles.field-0.0 c.from_residual-in_err-add_articles.ensures
     (c.in_err-add_articles.ensures past G.0 stands G.1 (c.in_ok-maker.ensures past G.0 stands G.1))
 
 pub returns-clause-given : goal.returns-clause-given
 returns-clause-given g c past stands =
-    let G = aim c.args.facts.now past stands in
-    made_so c.finish.result (λ spool. spool ≡ G.0) (λ spool. IsWitness past spool) (λ spool same. subst (IsWitness past) (sym same) G.1)
+    let G = aim profile_31_bits c.args.facts.now past stands in
+    made_so c.finish.result (λ spool. spool ≡ G.0) (λ spool. IsWitness profile_31_bits past spool) (λ spool same. subst (IsWitness profile_31_bits past) (sym same) G.1)
     (c.finish.ensures.given past G.0 G.1 (c.in_ok-add_articles.ensures past G.0 stands G.1 (c.in_ok-maker.ensures past G.0 stands G.1)))

@@ -1,9 +1,10 @@
-use Rattle.std.proofs.Common.{◌≡◌, sym, subst, ◌∙◌, ap}
+use Rattle.std.proofs.Common.{sym, subst, ◌∙◌, ap}
 use Rattle.nntp_facts.specs.Noted.{said_by}
 use Rattle.nntp_facts.specs.Readers.{AreShownArticles, shown_articles}
 use Rattle.nntp_facts.proofs.ShownArticles.{articles_shown}
 use Rattle.nntp_facts.proofs.facts.Facts.articles.Goals as goal
 
 pub returns : goal.returns
-returns g c past stands =
-    subst (AreShownArticles (said_by past)) (sym (c.articles.ensures ∙ ap (λ f. shown_articles f.kept.articles) c.self.view_is)) (articles_shown (said_by past) c.args.self.now.kept.articles stands.kept.articles)
+returns g c profile past stands =
+    let facts = said_by profile.marks past in
+    subst (AreShownArticles facts) (sym (c.articles.ensures ∙ ap (λ f. shown_articles f.kept.articles) c.self.view_is)) (articles_shown facts c.args.self.now.kept.articles stands.kept.articles)

@@ -1,19 +1,15 @@
-use Rattle.std.proofs.Common.{◌≡◌, ap, ◌∙◌}
+use Rattle.std.proofs.Common.{◌∙◌}
 use Rattle.std.specs.Ordering.{nat_cmp}
 use Rattle.std.specs.Cmp.{nat_cmp_total}
 use Rattle.std.specs.Cmp.Lexicographic.{slice_cmp, nat_list_cmp_total}
 use Rattle.std.specs.FinMap as map
 use Rattle.nntp_wire.proofs.ShownMaps.{insert-shown}
-use Rattle.nntp_facts.specs.Kept.{KeptGroup}
 use Rattle.nntp_facts.proofs.group.Group.identify.Goals as goal
 
-group_is : (a b : KeptGroup) → a.numbers ≡ b.numbers → a.ids ≡ b.ids → a.places ≡ b.places → a ≡ b
-group_is a b e f h i = record { numbers = e i; ids = f i; places = h i }
-
-pub returns : goal.returns
-returns g c =
-    let ids = insert-shown nat_cmp (λ k. k) (λ v. v.items) nat_cmp_total map.nat_cmp-IsAntisymmetric c.self.inside.ids.entries _ c.args.number c.in_ok-from_slice.field-0 c.in_ok-insert.ensures.entries in
-    let places = insert-shown (slice_cmp nat_cmp) (λ k. k.items) (λ v. v) nat_list_cmp_total (map.slice_cmp-IsAntisymmetric map.nat_cmp-IsAntisymmetric) c.self.inside.places.entries _ c.in_ok-from_slice-2.field-0 c.args.number c.in_ok-insert-2.ensures.entries in
-    group_is _ _ (ap (λ g. g.numbers) c.self.view_is)
-    (ids ∙ (λ i. map.insert (c.self.view_is i).ids c.args.number (c.in_ok-from_slice.ensures.items i)))
-    (places ∙ (λ i. map.insert (c.self.view_is i).places (c.in_ok-from_slice-2.ensures.items i) c.args.number))
+pub returns-clause-ids : goal.returns-clause-ids
+returns-clause-ids g c =
+    let ids = insert-shown nat_cmp (λ k. k) (λ v. v.items) nat_cmp_total map.nat_cmp-IsAntisymmetric c.self.inside.ids.entries _ c.args.at.number c.in_ok-from_slice.field-0 c.in_ok-insert.ensures.entries in
+    let places = insert-shown (slice_cmp nat_cmp) (λ k. k.items) (λ v. v) nat_list_cmp_total (map.slice_cmp-IsAntisymmetric map.nat_cmp-IsAntisymmetric) c.self.inside.places.entries _ c.in_ok-from_slice-2.field-0 c.args.at.number c.in_ok-insert-2.ensures.entries in (
+      ids ∙ (λ i. map.insert (c.self.view_is i).ids c.args.at.number (c.in_ok-from_slice.ensures.items i)),
+      places ∙ (λ i. map.insert (c.self.view_is i).places (c.in_ok-from_slice-2.ensures.items i) c.args.at.number),
+    )

@@ -1,8 +1,8 @@
-use Rattle.std.proofs.Common.{[], ◌∷◌, ◌++◌, sym, ap, subst, ◌∙◌, append_assoc}
+use Rattle.std.proofs.Common.{[], ◌∷◌, ◌++◌, None, sym, ap, subst, ◌∙◌, append_assoc}
 use Rattle.nntp_wire.specs.Listing.{ActiveValue}
 use Rattle.nntp_wire.specs.View.{active_value}
 use Rattle.nntp_facts.specs.Asks.{Bounds}
-use Rattle.nntp_facts.specs.Kept.{told, with_asks, Changes}
+use Rattle.nntp_facts.specs.Kept.{told, with_part, Changes, Agree, MayShow}
 use Rattle.nntp_facts.proofs.BoundGroups.{none_bound, one_more_bound, listing}
 use Rattle.nntp_facts.proofs.groups.Groups.bound_all.Goals as goal
 
@@ -24,7 +24,12 @@ loop-group-preserved g c =
       so_far ++ line ∷ [],
       append_assoc so_far (line ∷ []) c.next.new.self ∙ ap (λ lines. so_far ++ lines) (sym c.in-Some.ensures.steps) ∙ c.loop-group.invariant.3,
       λ facts wildmat kept.
-          c.in_ok-bound.ensures (told (listing facts wildmat so_far)) (told (listing facts wildmat (so_far ++ line ∷ []))) (c.loop-group.invariant.4 facts wildmat kept)
-          (subst (λ name. Changes (told (listing facts wildmat so_far)) (told (listing facts wildmat (so_far ++ line ∷ []))) name (with_asks (told (listing facts wildmat so_far) name) (Bounds line.low line.high ∷ [])))
-          (sym c.as_slice.ensures.value) (one_more_bound facts wildmat so_far line)),
+          let before = told (listing facts wildmat so_far) in
+          let after = told (listing facts wildmat (so_far ++ line ∷ [])) in
+          let part = c.of_bounds.result in
+          let none = c.of_bounds.ensures.id in
+          c.in_ok-add.ensures before after (Bounds line.low line.high ∷ []) (c.loop-group.invariant.4 facts wildmat kept) c.of_bounds.ensures.numbers (λ _. c.of_bounds.ensures.bounded)
+          (subst (λ id. Agree (before part.name.now).ids (before part.name.now).places id) (sym none) tt) (subst (MayShow (before part.name.now)) (sym none) tt)
+          (subst (λ id. Changes before after part.name.now (with_part (before part.name.now) (Bounds line.low line.high ∷ []) id)) (sym none)
+          (subst (λ name. Changes before after name (with_part (before name) (Bounds line.low line.high ∷ []) None)) (sym c.of_bounds.ensures.name) (one_more_bound facts wildmat so_far line))),
     )

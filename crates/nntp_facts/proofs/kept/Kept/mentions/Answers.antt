@@ -1,4 +1,4 @@
-use Rattle.std.proofs.Common.{ap, sym, subst}
+use Rattle.std.proofs.Common.{sym, subst}
 use Rattle.nntp_facts.specs.Kept.{AreKeptArticles}
 use Rattle.nntp_facts.proofs.kept.Kept.mentions.Goals as goal
 

@@ -1,4 +1,4 @@
-use Rattle.std.proofs.Common.{None, MatchOption, ℕ, refl, sym, ap, subst, ◌∙◌, [], false, ◌≡◌}
+use Rattle.std.proofs.Common.{MatchOption, refl, sym, ap, subst, ◌∙◌, [], false, ◌≡◌}
 use Rattle.std.specs.FinMap.{get, get-empty}
 use Rattle.std.specs.Ordering.{nat_cmp}
 use Rattle.std.specs.Cmp.Lexicographic.{slice_cmp}

@@ -1,10 +1,15 @@
-use Rattle.std.proofs.Common.{sym, refl, subst}
+use Rattle.std.proofs.Common.{◌≡◌, sym, refl, subst}
+use Rattle.std.specs.List.{list_any}
+use Rattle.nntp_article.specs.Spool.{Name}
+use Rattle.nntp_article.specs.Machine.{is_same}
+use Rattle.nntp_facts.specs.Together.{denies_group}
 use Rattle.nntp_facts.specs.Kept.{AreKeptNames}
 use Rattle.nntp_facts.proofs.NamesKept.{name_denied}
 use Rattle.nntp_facts.proofs.names.Names.deny.Goals as goal
 
 pub returns : goal.returns
-returns g c facts kept =
+returns g c facts more kept denied =
     let before = subst (AreKeptNames facts) (sym c.self.view_is) kept in
-    let after = name_denied (λ k. k.items) facts _ c.self.inside.denied.keys c.in_ok-from_slice.field-0 refl before in
-    rw (c.in_ok-insert.ensures.keys, ← c.in_ok-from_slice.ensures.items) after
+    let denied_now = subst (λ name. (other : Name) → list_any (denies_group other) more ≡ is_same name other) (sym c.in_ok-from_slice.ensures.items) denied in
+    let after = name_denied (λ k. k.items) facts more _ c.self.inside.denied.keys c.in_ok-from_slice.field-0 refl before denied_now in
+    rw c.in_ok-insert.ensures.keys after

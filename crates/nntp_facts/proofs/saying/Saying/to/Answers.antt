@@ -1,47 +1,83 @@
-use Rattle.std.proofs.Common.{IsTrue, sym, ap, subst, ◌∙◌}
+use Rattle.std.proofs.Common.{◌≡◌, ◌<◌, [], ◌∷◌, IsTrue, sym, ap, subst, arith, rules}
+use Rattle.std.specs.Prelude.{◌^◌}
 use Rattle.std.specs.Option.{option_copied}
-use Rattle.nntp_wire.specs.Answer.{Asked, Response, to, numbers_are, active_are}
-use Rattle.nntp_wire.specs.Command.{retrieve}
+use Rattle.nntp_wire.specs.declared.water_marks.WaterMarks.{WaterMarks}
+use Rattle.nntp_wire.specs.Answer.{Asked, to, active_are}
+use Rattle.nntp_wire.specs.Command.{next, last, retrieve}
+use Rattle.nntp_wire.specs.Listing.{active_groups}
 use Rattle.nntp_wire.specs.View.{request, target}
 use Rattle.nntp_wire.specs.AnswerView.{response}
 use Rattle.nntp_article.specs.Machine.{fits}
-use Rattle.nntp_facts.specs.Facts.{facts_of}
-use Rattle.nntp_facts.specs.AskView.{position_of}
-use Rattle.nntp_facts.specs.Listing.{AreListable}
-use Rattle.nntp_facts.proofs.Fitted.{numbers_listable, groups_may_list}
+use Rattle.nntp_facts.specs.Asks.{Estimates, ListsIn, StepsDown, StepsUp}
+use Rattle.nntp_facts.specs.Facts.{Asks, GroupsAre, IdAt, ThereIs, here, facts_of}
+use Rattle.nntp_facts.specs.Part.{AreListable}
+use Rattle.nntp_facts.specs.Saying.{Tells}
+use Rattle.nntp_facts.specs.SayingView.{saying_of}
+use Rattle.nntp_facts.proofs.Fitted.{groups_may_list, numbers_listable, step_placed}
+use Rattle.nntp_facts.proofs.SayingRows.{tells_groups, tells_list, tells_marks, tells_step}
 use Rattle.nntp_facts.proofs.saying.Saying.to.Goals as goal
 
-pub returns-in_default-Plain-clause-fitting : goal.returns-in_default-Plain-clause-fitting
-returns-in_default-Plain-clause-fitting g c profile v facts may shown =
-    c.by_code.ensures.fitting profile v facts (subst (λ a. IsTrue (fits profile v (to (request c.args.command.now)) (response a))) c.in_default-Plain.is-1 may) shown
+pub returns-in_default-Plain : goal.returns-in_default-Plain
+returns-in_default-Plain c profile v facts may shown is numbers =
+    let says = ap response c.in_default-Plain.is-1 in
+    let asked : Asked = to (request c.args.command.now) in
+    subst (λ r. Tells facts (saying_of c.by_code.result) (facts_of c.args.how v c.args.at asked r)) (sym says) (c.by_code.ensures profile v facts (subst (λ r. IsTrue (fits profile v asked r)) says may) shown is)
 
-pub returns-in_ok-numbers_of-in-ListGroup-Numbers-clause-fitting : goal.returns-in_ok-numbers_of-in-ListGroup-Numbers-clause-fitting
-returns-in_ok-numbers_of-in-ListGroup-Numbers-clause-fitting g c profile v facts may shown =
-    let here = c.in-ListGroup-Numbers in
-    let says : Response = numbers_are (record { estimate = here.estimate; low = here.low; high = here.high }) here.name here.block in
-    let fits_both : IsTrue (fits profile v (to (request c.args.command.now)) says) = subst (λ a. IsTrue (fits profile v (to (request c.args.command.now)) (response a))) here.is-1 may in
-    let fits_list = subst (λ r. IsTrue (fits profile v (to (request r)) says)) here.is-0 fits_both in
-    subst (AreListable here.range) (sym c.in_ok-numbers_of-in-ListGroup-Numbers.ensures) (numbers_listable profile v (option_copied here.group-0) here.range (record { estimate = here.estimate; low = here.low; high = here.high }) here.name here.block fits_list)
+pub returns-in-Group-Group : goal.returns-in-Group-Group
+returns-in-Group-Group c profile v facts may shown is numbers =
+    let more = facts_of c.args.how v c.args.at (to (request c.args.command.now)) (response c.args.answer.now) in
+    let m : WaterMarks = c.new-marks.result in
+    let name = c.in-Group-Group.name in
+    let high : m.high < 2 ^ 64 = omega arith in
+    let same : (ThereIs name ∷ Asks name (Estimates c.args.how m) ∷ []) ≡ more = search rules in
+    tells_marks facts name _ c.args.how m _ more c.of_marks.ensures high c.selects.ensures same
 
-pub returns-in-Retrieve-Sent-clause-facts : goal.returns-in-Retrieve-Sent-clause-facts
-returns-in-Retrieve-Sent-clause-facts g c v =
-    let here = c.in-Retrieve-Sent in
-    let at = position_of c.args.at in
-    let asked : Asked = to (retrieve here.what (target here.which)) in
-    c.by_success.ensures.facts v _
-    ∙ sym (ap (λ a. facts_of v at asked (response a)) here.is-1)
-    ∙ sym (ap (λ r. facts_of v at (to (request r)) (response c.args.answer.now)) here.is-0)
+pub returns-in-ListGroup-Numbers : goal.returns-in-ListGroup-Numbers
+returns-in-ListGroup-Numbers c profile v facts may shown is numbers =
+    let w = c.in-ListGroup-Numbers in
+    let more = facts_of c.args.how v c.args.at (to (request c.args.command.now)) (response c.args.answer.now) in
+    let m : WaterMarks = c.new-marks-in-ListGroup-Numbers.result in
+    let high : m.high < 2 ^ 64 = omega arith in
+    let ns = c.args.numbers.now in
+    let fitting = subst (λ q. IsTrue (fits profile v (to q) (response c.args.answer.now))) (ap request w.is-0) may in
+    let listable = subst (AreListable w.range) (sym numbers) (numbers_listable profile v (option_copied w.group-0) w.range (response c.args.answer.now) fitting) in
+    let same : (ThereIs w.name ∷ Asks w.name (Estimates c.args.how m) ∷ Asks w.name (ListsIn w.range ns) ∷ []) ≡ more = search rules in
+    tells_list facts w.name _ c.args.how m w.range ns _ more (c.of_list.ensures listable) high c.selects-in-ListGroup-Numbers.ensures same
 
-pub returns-in-Retrieve-Sent-clause-fitting : goal.returns-in-Retrieve-Sent-clause-fitting
-returns-in-Retrieve-Sent-clause-fitting g c profile v facts may shown =
-    let here = c.in-Retrieve-Sent in
-    let asked : Asked = to (retrieve here.what (target here.which)) in
-    let fits_command : IsTrue (fits profile v asked (response c.args.answer.now)) = subst (λ r. IsTrue (fits profile v (to (request r)) (response c.args.answer.now))) here.is-0 may in
-    let fits_answer = subst (λ a. IsTrue (fits profile v asked (response a))) here.is-1 fits_command in
-    c.by_success.ensures.fitting profile v facts _ fits_answer shown
+pub returns-in-Next-Sent : goal.returns-in-Next-Sent
+returns-in-Next-Sent c profile v facts may shown is numbers =
+    let w = c.in-Next-Sent in
+    let more = facts_of c.args.how v c.args.at (to (request c.args.command.now)) (response c.args.answer.now) in
+    let same : (Asks (here v) (StepsUp c.args.at w.number) ∷ IdAt (here v) w.number w.id ∷ []) ≡ more = search rules in
+    let of_step : IsTrue (fits profile v (to next) (response c.args.answer.now)) = subst (λ q. IsTrue (fits profile v (to q) (response c.args.answer.now))) (ap request w.is-0) may in
+    let fitting = step_placed profile v _ w.number (subst (λ a. IsTrue (fits profile v (to next) (response a))) w.is-1 of_step) in
+    tells_step v facts c.args.selected.now _ (StepsUp c.args.at w.number) w.number w.id _ more shown is fitting.0 (c.steps_up.ensures fitting.1) c.steps.ensures same
 
-pub returns-in-ListActive-Active-clause-fitting : goal.returns-in-ListActive-Active-clause-fitting
-returns-in-ListActive-Active-clause-fitting g c profile v facts may shown =
-    let here = c.in-ListActive-Active in
-    let fits_both : IsTrue (fits profile v (to (request c.args.command.now)) (active_are here.block)) = subst (λ a. IsTrue (fits profile v (to (request c.args.command.now)) (response a))) here.is-1 may in
-    groups_may_list profile v here.wildmat here.block (subst (λ r. IsTrue (fits profile v (to (request r)) (active_are here.block))) here.is-0 fits_both)
+pub returns-in-Last-Sent : goal.returns-in-Last-Sent
+returns-in-Last-Sent c profile v facts may shown is numbers =
+    let w = c.in-Last-Sent in
+    let more = facts_of c.args.how v c.args.at (to (request c.args.command.now)) (response c.args.answer.now) in
+    let same : (Asks (here v) (StepsDown c.args.at w.number) ∷ IdAt (here v) w.number w.id ∷ []) ≡ more = search rules in
+    let of_step : IsTrue (fits profile v (to last) (response c.args.answer.now)) = subst (λ q. IsTrue (fits profile v (to q) (response c.args.answer.now))) (ap request w.is-0) may in
+    let fitting = step_placed profile v _ w.number (subst (λ a. IsTrue (fits profile v (to last) (response a))) w.is-1 of_step) in
+    tells_step v facts c.args.selected.now _ (StepsDown c.args.at w.number) w.number w.id _ more shown is fitting.0 (c.steps_down.ensures fitting.1) c.steps-in-Last-Sent.ensures same
+
+pub returns-in-Retrieve-Sent : goal.returns-in-Retrieve-Sent
+returns-in-Retrieve-Sent c profile v facts may shown is numbers =
+    let w = c.in-Retrieve-Sent in
+    let how = c.args.how in
+    let asked : Asked = to (retrieve w.what (target w.which)) in
+    let fits_command : IsTrue (fits profile v asked (response c.args.answer.now)) = subst (λ q. IsTrue (fits profile v (to (request q)) (response c.args.answer.now))) w.is-0 may in
+    let fits_answer = subst (λ a. IsTrue (fits profile v asked (response a))) w.is-1 fits_command in
+    let told = c.by_success.ensures profile how v facts _ fits_answer shown is in
+    let told_of_answer : Tells facts (saying_of c.by_success.result) (facts_of how v c.args.at asked (response c.args.answer.now)) =
+    subst (λ a. Tells facts (saying_of c.by_success.result) (facts_of how v c.args.at asked (response a))) (sym w.is-1) told in
+    subst (λ q. Tells facts (saying_of c.by_success.result) (facts_of how v c.args.at (to (request q)) (response c.args.answer.now))) (sym w.is-0) told_of_answer
+
+pub returns-in-ListActive-Active : goal.returns-in-ListActive-Active
+returns-in-ListActive-Active c profile v facts may shown is numbers =
+    let w = c.in-ListActive-Active in
+    let more = facts_of c.args.how v c.args.at (to (request c.args.command.now)) (response c.args.answer.now) in
+    let same : (GroupsAre w.wildmat (active_groups w.block) ∷ []) ≡ more = search rules in
+    let fits_both : IsTrue (fits profile v (to (request c.args.command.now)) (active_are w.block)) = subst (λ a. IsTrue (fits profile v (to (request c.args.command.now)) (response a))) w.is-1 may in
+    tells_groups facts w.wildmat (active_groups w.block) more (groups_may_list profile v w.wildmat w.block (subst (λ r. IsTrue (fits profile v (to (request r)) (active_are w.block))) w.is-0 fits_both)) same

@@ -1,4 +1,3 @@
-use Rattle.std.proofs.Common.{refl, sym, ◌∙◌}
 use Rattle.std.proofs.lemmas.Iterator.Consumers.{nth_from_yields_List, YieldsList-from_first}
 use Rattle.nntp_facts.specs.ReadersView.{number_value}
 use Rattle.nntp_facts.proofs.seen_groups.SeenGroup.number.Goals as goal

@@ -1,4 +1,5 @@
 use Rattle.std.proofs.Common.{List, []}
+use Rattle.nntp_article.specs.Limit.{profile_31_bits}
 use Rattle.nntp_article.specs.Spool.{Spool as SpoolValue}
 use Rattle.nntp_pair.specs.Pairing.{Paired}
 use Rattle.nntp_facts.specs.Noted.{Stands, said_by}
@@ -8,4 +9,4 @@ use Rattle.nntp_witness.proofs.maker.SpoolMaker.add_articles.Given as goal
 
 -- the articles that are left are those that the reader has left
 abbrev pub invariant-loop-article : goal.invariant-loop-article
-invariant-loop-article g l = (past : List Paired) (G : SpoolValue) → Stands l.facts past → IsWitness past G → GroupsLeft (said_by past) G [] l.fn.self.builder l.fn.self.next → ArticlesLeft (said_by past) G l.articles l.self.builder
+invariant-loop-article g l = (past : List Paired) (G : SpoolValue) → Stands profile_31_bits l.facts past → IsWitness profile_31_bits past G → GroupsLeft (said_by profile_31_bits.marks past) G [] l.fn.self.builder l.fn.self.next → ArticlesLeft (said_by profile_31_bits.marks past) G l.articles l.self.builder

@@ -1,17 +1,14 @@
-use Rattle.std.proofs.Common.{◌∷◌, refl, ◌∙◌}
-use Rattle.std.proofs.lemmas.Result.{err_from_is_err_and}
+use Rattle.std.proofs.Common.{◌++◌, subst}
+use Rattle.nntp_article.specs.Limit.{profile_31_bits}
 use Rattle.nntp_facts.specs.Noted.{said_by}
-use Rattle.nntp_witness.specs.Making.{NumbersLeft}
-use Rattle.nntp_witness.proofs.UnseenInPlace.{next_unseen}
+use Rattle.nntp_witness.specs.Making.{NumbersLeft, unseen_number}
 use Rattle.nntp_witness.proofs.maker.SpoolMaker.add_unseen.Goals as goal
 
-pub returns-in_err-add_number-in-Some : goal.returns-in_err-add_number-in-Some
-returns-in_err-add_number-in-Some g c past G before behind id left stands w l =
-    let p = err_from_is_err_and c.from_residual.result c.from_residual.ensures.1 in
-    rw p.1 (p.2 ∙ c.in_err-add_number-in-Some.ensures past G before behind ((c.args.next, id) ∷ left) stands w
-    (next_unseen (λ xs. NumbersLeft (said_by past) G before c.args.name.now behind xs c.args.self.now.builder c.args.self.now.next) c.args.unseen ((c.args.next, id) ∷ left) l c.in-Some.number (c.args.next, id) left refl c.in-Some.is c.if-number-next.true))
+pub returns-in-Some : goal.returns-in-Some
+returns-in-Some g c past G before behind left stands w l =
+    c.add_number.ensures past G before behind left stands w
+    (subst (λ o. NumbersLeft (said_by profile_31_bits.marks past) G before c.args.name.now behind (unseen_number o ++ left) c.args.self.now.builder c.args.self.now.next) c.in-Some.is l)
 
-pub returns-in_ok-add_number-in-Some : goal.returns-in_ok-add_number-in-Some
-returns-in_ok-add_number-in-Some g c past G before behind id left stands w l =
-    c.in_ok-add_number-in-Some.ensures past G before behind ((c.args.next, id) ∷ left) stands w
-    (next_unseen (λ xs. NumbersLeft (said_by past) G before c.args.name.now behind xs c.args.self.now.builder c.args.self.now.next) c.args.unseen ((c.args.next, id) ∷ left) l c.in-Some.number (c.args.next, id) left refl c.in-Some.is c.if-number-next.true)
+pub returns-in-None : goal.returns-in-None
+returns-in-None g c past G before behind left stands w l =
+    subst (λ o. NumbersLeft (said_by profile_31_bits.marks past) G before c.args.name.now behind (unseen_number o ++ left) c.args.self.now.builder c.args.self.now.next) c.in-None.is l

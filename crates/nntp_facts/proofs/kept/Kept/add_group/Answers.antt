@@ -1,0 +1,16 @@
+use Rattle.std.proofs.Common.{sym, ap, subst, ◌∙◌}
+use Rattle.std.specs.Prelude.{option_map}
+use Rattle.nntp_facts.specs.SayingView.{of_group}
+use Rattle.nntp_facts.specs.Kept.{AreKeptGroups}
+use Rattle.nntp_facts.proofs.OkResults.{on_ok}
+use Rattle.nntp_facts.proofs.PartsJoin.{group_added, groups_alike}
+use Rattle.nntp_facts.proofs.kept.Kept.add_group.Goals as goal
+
+pub returns-in-Some-clause-groups : goal.returns-in-Some-clause-groups
+returns-in-Some-clause-groups g c =
+    on_ok c.add.result (λ added facts s asks is no_list together may joins kept.
+    group_added facts s asks no_list may together (of_group c.in-Some.group) (is ∙ ap (option_map of_group) c.in-Some.is) joins c.self.inside.groups c.add.new.self added
+    (subst (λ k. AreKeptGroups facts k.groups) (sym c.self.view_is) kept)) c.add.ensures
+
+pub returns-in-None-clause-groups : goal.returns-in-None-clause-groups
+returns-in-None-clause-groups g c facts s asks is no_list together may joins kept = groups_alike facts s asks no_list may (is ∙ ap (option_map of_group) c.in-None.is) c.args.self.now.groups kept

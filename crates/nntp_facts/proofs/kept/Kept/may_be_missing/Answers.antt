@@ -1,0 +1,12 @@
+use Rattle.std.proofs.Common.{ℕ, List, Option, Bor, sym, subst}
+use Rattle.std.specs.Prelude.{◌↔◌, IfSome, IsTrue, IsFalse, not, option_map}
+use Rattle.nntp_facts.specs.Given.{is_shown_group}
+use Rattle.nntp_facts.specs.Kept.{IsKept, told}
+use Rattle.nntp_facts.proofs.Tests.{unless}
+use Rattle.nntp_facts.proofs.kept.Kept.may_be_missing.Goals as goal
+
+pub returns-in-Some : goal.returns-in-Some
+returns-in-Some g c facts kept =
+    let k = subst (IsKept facts) (sym c.self.view_is) kept in
+    let test = unless c.is_shown.result (is_shown_group facts c.in-Some.name.now) (c.is_shown.ensures (told facts) k.groups) in
+    subst (λ (o : Option (Bor (List ℕ))). IsTrue (not c.is_shown.result) ↔ IfSome (option_map (λ name. name.now) o) (λ name. IsFalse (is_shown_group facts name))) (sym c.in-Some.is) test

@@ -1,0 +1,11 @@
+use Rattle.std.proofs.Common.{◌≡◌, ℕ, ◌||◌, take}
+use Rattle.std.specs.List.Sorted.{IsStrictlySortedBy}
+use Rattle.std.specs.Ordering.{nat_cmp}
+use Rattle.nntp_facts.specs.Part.{is_one_of}
+use Rattle.nntp_facts.specs.Summary.{has}
+use Rattle.nntp_facts.proofs.shown.show.Given as goal
+
+abbrev pub invariant-loop-n : goal.invariant-loop-n
+invariant-loop-n g l =
+    ((n : ℕ) → has l.shown.keys n ≡ (has l.initial.shown.keys n || is_one_of (take l.n-index l.numbers) n))
+    × (IsStrictlySortedBy nat_cmp l.initial.shown.keys → IsStrictlySortedBy nat_cmp l.shown.keys)

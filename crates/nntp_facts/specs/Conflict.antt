@@ -1,0 +1,127 @@
+-- With which earlier answers a bad answer conflicts.
+use Rattle.std.specs.Prelude.{◌≡◌, ℕ, zero, suc, ◌+◌, ◌<◌, ◌≤◌, Bool, ◌||◌, not, List, [], ◌∷◌, ◌++◌, length, is_some, IsTrue, slice_get, ⊤}
+use Rattle.std.specs.List.{AllByRecursion, flat_map, list_any}
+use Rattle.std.specs.Option.{option_map_or}
+use Rattle.nntp_wire.specs.Answer.{Asked, Response}
+use Rattle.nntp_wire.specs.declared.water_marks.WaterMarks.{WaterMarks}
+use Rattle.nntp_wire.specs.declared.marks.Marks.TheVariants.{Lenient}
+use Rattle.nntp_article.specs.Spool.{Spool, IsSpool, Name}
+use Rattle.nntp_article.specs.declared.profile.Profile.{Profile}
+use Rattle.nntp_article.specs.Machine.{Visible, visible_after, fits}
+use Rattle.nntp_facts.specs.Asks.{position_after, Estimates}
+use Rattle.nntp_facts.specs.declared.position.Position.{Position}
+use Rattle.nntp_article.specs.Article.{Id}
+use Rattle.nntp_facts.specs.Facts.{Fact, Holds, ThereIs, Asks, IdAt, facts_of}
+use Rattle.nntp_facts.specs.Given.{shows, denies, is_shown, is_denied, asks_in, asks_of, shows_group, is_shown_group, id_in, head_in, body_in}
+use Rattle.nntp_facts.specs.Together.{is_possible, AsksStand, denies_group, number_in, shows_article, denies_article, GiveOne}
+
+-- an answer where it stands: what the session shows before it, what was asked, and the response
+pub record Placed : Type 0 where
+  pub visible : Visible
+  pub position : Position
+  pub asked : Asked
+  pub response : Response
+
+-- the answers of a session, each where it stands
+abbrev pub placed_from : Visible → Position → List Asked → List Response → List Placed
+placed_from v at [] answers = []
+placed_from v at (asked ∷ ps) [] = []
+placed_from v at (asked ∷ ps) (response ∷ more) =
+    record { visible = v; position = at; asked = asked; response = response } ∷ placed_from (visible_after v asked response) (position_after at asked response) ps more
+
+-- it fits there
+abbrev pub FitsThere : Profile → Placed → Type 0
+FitsThere profile a = IsTrue (fits profile a.visible a.asked a.response)
+
+-- the marks that each group has: all article numbers, and room for them
+abbrev pub widest : Profile → WaterMarks
+widest profile = record { estimate = profile.limit; low = 1; high = profile.limit }
+
+-- there is such a group; that says no more than this, as its numbers are within the limit: however the marks of a session are read, these need be no numbers
+abbrev pub a_group : Profile → Name → List Fact
+a_group profile name = ThereIs name ∷ Asks name (Estimates Lenient (widest profile)) ∷ []
+
+-- what the fact says by itself: where it speaks of the numbers of a group, that there is such a group too
+abbrev pub with_group : Profile → Fact → List Fact
+with_group profile (ThereIs name) = a_group profile name
+with_group profile (Asks name ask) = a_group profile name ++ Asks name ask ∷ []
+with_group profile (IdAt name n id) = a_group profile name ++ IdAt name n id ∷ []
+with_group profile fact = fact ∷ []
+
+-- what the answer says by itself
+abbrev pub told : Profile → Placed → List Fact
+told profile a = flat_map (with_group profile) (facts_of profile.marks a.visible a.position a.asked a.response)
+
+-- some spool has all the facts
+abbrev pub SomeHas : Profile → List Fact → Type 0
+SomeHas profile facts = (S : Spool) × IsSpool profile S × AllByRecursion (Holds S) facts
+
+-- what the answer at the place says, if there is one
+abbrev pub told_at : Profile → List Placed → ℕ → List Fact
+told_at profile answers k = option_map_or (told profile) (slice_get answers k) []
+
+-- what an answer says with those at the places
+abbrev pub told_with : Profile → Placed → List Placed → List ℕ → List Fact
+told_with profile bad answers places = told profile bad ++ flat_map (told_at profile answers) places
+
+-- the places below a bound
+abbrev pub below : ℕ → List ℕ
+below zero = []
+below (suc k) = below k ++ k ∷ []
+
+-- the answers at the places are a smallest set with which the bad one conflicts: no spool has what they and it say, and without any one of them some spool has the rest
+pub record IsCore (profile : Profile) (bad : Placed) (answers : List Placed) (places : List ℕ) : Type 0 where
+  pub there : AllByRecursion (λ k. k < length answers) places
+  pub conflict : SomeHas profile (told_with profile bad answers places) → ⊥
+  pub needed : (front back : List ℕ) (k : ℕ) → places ≡ front ++ k ∷ back → SomeHas profile (told_with profile bad answers (front ++ back))
+
+-- ---- finding it
+
+-- the places ascend from the bound on, and those below each of them stand with those behind it
+abbrev pub AreFound : (List ℕ → Type 0) → ℕ → List ℕ → Type 0
+AreFound Stand bound [] = ⊤
+AreFound Stand bound (k ∷ places) = (bound ≤ k) × Stand (below k ++ places) × AreFound Stand (k + 1) places
+
+-- what is found of a core while those at and above the bound have been looked at: it conflicts with those below the bound, and each of it is needed
+pub record IsPartOfCore (profile : Profile) (bad : Placed) (answers : List Placed) (bound : ℕ) (places : List ℕ) : Type 0 where
+  pub there : AllByRecursion (λ k. k < length answers) places
+  pub conflict : SomeHas profile (told_with profile bad answers (below bound ++ places)) → ⊥
+  pub found : AreFound (λ places. SomeHas profile (told_with profile bad answers places)) bound places
+
+-- ---- where facts conflict
+
+-- what facts conflict about
+pub data Point : Type 0 where
+  Step : (name : Name) → Point  -- a step, or the current article, that can't be
+  Group : (name : Name) → Point  -- whether there is such a group
+  Number : (name : Name) → (number : ℕ) → Point  -- whether the group has the number
+  Numbers : (name : Name) → Point  -- how many numbers it has, the first one, or a mark that is read strictly
+  IdOf : (name : Name) → (number : ℕ) → Point  -- the id at a number
+  PlaceOf : (name : Name) → (id : Id) → Point  -- the number of an id
+  Article : (id : Id) → Point  -- whether the id has an article
+  HeadOf : (id : Id) → Point  -- its head
+  BodyOf : (id : Id) → Point  -- its body
+
+-- the facts conflict there
+abbrev pub ConflictAt : List Fact → Point → Type 0
+ConflictAt facts (Step name) = IsTrue (list_any (λ ask. not (is_possible ask)) (asks_of name facts))
+ConflictAt facts (Group name) = IsTrue (is_shown_group facts name) × IsTrue (list_any (denies_group name) facts)
+ConflictAt facts (Number name n) = IsTrue (is_shown (asks_of name facts) n) × IsTrue (is_denied (asks_of name facts) n)
+ConflictAt facts (Numbers name) = AsksStand (asks_of name facts) → ⊥
+ConflictAt facts (IdOf name n) = GiveOne (id_in name n) facts → ⊥
+ConflictAt facts (PlaceOf name id) = GiveOne (number_in name id) facts → ⊥
+ConflictAt facts (Article id) = IsTrue (list_any (shows_article id) facts) × IsTrue (list_any (denies_article id) facts)
+ConflictAt facts (HeadOf id) = GiveOne (head_in id) facts → ⊥
+ConflictAt facts (BodyOf id) = GiveOne (body_in id) facts → ⊥
+
+-- the fact bears on the point: it shows or denies what the point is about
+abbrev pub bears_on : Point → Fact → Bool
+bears_on (Step name) fact = list_any (λ ask. not (is_possible ask)) (asks_in name fact)
+bears_on (Group name) fact = shows_group name fact || denies_group name fact
+bears_on (Number name n) fact = list_any (λ ask. shows ask n || denies ask n) (asks_in name fact)
+bears_on (Numbers name) fact = is_some (slice_get (asks_in name fact) 0)
+bears_on (IdOf name n) fact = is_some (id_in name n fact)
+bears_on (PlaceOf name id) fact = is_some (number_in name id fact)
+bears_on (Article id) fact = shows_article id fact || denies_article id fact
+bears_on (HeadOf id) fact = is_some (head_in id fact)
+bears_on (BodyOf id) fact = is_some (body_in id fact)

@@ -1,0 +1,7 @@
+-- What the values of src/part.rt mean.
+use Rattle.nntp_facts.specs.Part.{Said}
+use Rattle.nntp_facts.specs.declared.part.Part.{Part}
+
+-- what the part says
+abbrev pub said : Part → Said
+said p = record { possible = p.is_possible; low = p.low; high = p.high; first = p.first; last = p.last; numbers = p.numbers.now; estimate = p.estimate; ends = p.ends; demand = p.demand }

@@ -1,0 +1,129 @@
+-- What an answer says of the spool, in parts (RFC 3977, sections 6 and 7.6.3).
+use Rattle.std.specs.Prelude.{◌≡◌, ℕ, true, IsTrue, List, [], ◌∷◌, ◌++◌, map, Option, None, Some, IfSome, MatchOption, ⊤, ◌⊎◌}
+use Rattle.nntp_article.specs.Article.{Id, Line}
+use Rattle.nntp_article.specs.Spool.{Name}
+use Rattle.nntp_article.specs.Machine.{Visible, head_fits}
+use Rattle.nntp_wire.specs.declared.command.What.{What}
+use Rattle.nntp_wire.specs.Answer.{Response, numbers_are}
+use Rattle.nntp_wire.specs.Listing.{ActiveValue, listed_numbers}
+use Rattle.nntp_facts.specs.Asks.{Ask, Has}
+use Rattle.nntp_facts.specs.Facts.{Fact, ThereIs, ThereIsNo, Asks, IdAt, TextIs, NoArticle, GroupsAre}
+use Rattle.nntp_facts.specs.Given.{is_shown_group}
+use Rattle.nntp_facts.specs.Part.{Said, Says}
+use Rattle.nntp_facts.specs.Summary.{AreBounded}
+use Rattle.nntp_facts.specs.ListedGroups.{MayList}
+
+-- of one group: what is said of its numbers, and the id at a number, if one is shown
+pub record OfGroup : Type 0 where
+  pub name : Name
+  pub numbers : Said
+  pub id : Option (ℕ × Id)
+
+-- of an id: that it has no article; that it has one; or that a success names it, and sends these lines
+pub data OfArticle : Type 0 where
+  Lacks : OfArticle
+  Exists : OfArticle
+  Sends : (what : What) → (lines : Option (List Line)) → OfArticle
+
+-- all that an answer says: that there is such a group, or none; what it says of the numbers of one group, and of an id; and the groups that match
+pub record Saying : Type 0 where
+  pub there_is : Option Name
+  pub there_is_no : Option Name
+  pub group : Option OfGroup
+  pub article : Option (Id × OfArticle)
+  pub groups : Option (Option (List ℕ) × List ActiveValue)
+
+-- ---- as facts
+
+-- that the number is there at which an id is shown
+abbrev pub asked_id : Option (ℕ × Id) → List Ask
+asked_id None = []
+asked_id (Some e) = Has e.0 ∷ []
+
+-- what is sent of an article
+abbrev pub sent_facts : Option (Id × OfArticle) → List Fact
+sent_facts (Some (id, Sends what lines)) = TextIs what id lines ∷ []
+sent_facts article = []
+
+-- that there is none
+abbrev pub lack_facts : Option (Id × OfArticle) → List Fact
+lack_facts (Some (id, Lacks)) = NoArticle id ∷ []
+lack_facts article = []
+
+-- the id at a number of the group
+abbrev pub id_facts : Name → Option (ℕ × Id) → List Fact
+id_facts name None = []
+id_facts name (Some e) = IdAt name e.0 e.1 ∷ []
+
+-- what is asked of the numbers of the group, and the id at a number
+abbrev pub group_facts : Option OfGroup → List Ask → List Fact
+group_facts None asks = []
+group_facts (Some g) asks = map (Asks g.name) asks ++ id_facts g.name g.id
+
+-- that there is such a group
+abbrev pub there_facts : Option Name → List Fact
+there_facts None = []
+there_facts (Some name) = ThereIs name ∷ []
+
+-- or none
+abbrev pub missing_facts : Option Name → List Fact
+missing_facts None = []
+missing_facts (Some name) = ThereIsNo name ∷ []
+
+-- the groups that match
+abbrev pub groups_facts : Option (Option (List ℕ) × List ActiveValue) → List Fact
+groups_facts None = []
+groups_facts (Some l) = GroupsAre l.0 l.1 ∷ []
+
+-- all that is said, where this is asked of the numbers of the group
+abbrev pub facts_in : Saying → List Ask → List Fact
+facts_in s asks = sent_facts s.article ++ (there_facts s.there_is ++ (group_facts s.group asks ++ (missing_facts s.there_is_no ++ (lack_facts s.article ++ groups_facts s.groups))))
+
+-- ---- what is known of it, where the answer fits
+
+-- the group was shown; or it is shown now, and no number from 2^64 on is left open
+abbrev pub IsShownThen : List Fact → Option Name → List Ask → Name → Type 0
+IsShownThen facts there_is asks name = (is_shown_group facts name ≡ true) ⊎ ((there_is ≡ Some name) × AreBounded asks)
+
+-- the id is said to have an article
+abbrev pub IsToExist : Option (Id × OfArticle) → Id → Type 0
+IsToExist None id = ⊥
+IsToExist (Some (other, Lacks)) id = ⊥
+IsToExist (Some (other, said)) id = other ≡ id
+
+-- an id of which nothing is sent is at a number of the group; and where a head is sent, it is one
+abbrev pub MayBeOf : Option OfGroup → Id × OfArticle → Type 0
+MayBeOf group (id, Lacks) = ⊤
+MayBeOf group (id, Exists) = MatchOption group ⊥ (λ g. MatchOption g.id ⊥ (λ e. e.1 ≡ id))
+MayBeOf group (id, Sends what lines) = IsTrue (head_fits what id lines)
+
+-- nothing is said beside the groups that match
+pub record IsAlone (s : Saying) : Type 0 where
+  pub there_is : s.there_is ≡ None
+  pub there_is_no : s.there_is_no ≡ None
+  pub group : s.group ≡ None
+  pub article : s.article ≡ None
+
+-- an answer that fits says it behind these facts, and asks this of the numbers of the group
+pub record MaySay (facts : List Fact) (s : Saying) (asks : List Ask) : Type 0 where
+  pub numbers : IfSome s.group (λ g. Says g.numbers (asks ++ asked_id g.id))
+  pub shown : IfSome s.group (λ g. IsShownThen facts s.there_is asks g.name)
+  pub there : IfSome s.there_is (λ name. MatchOption s.group ⊥ (λ g. g.name ≡ name))
+  pub placed : IfSome s.group (λ g. IfSome g.id (λ e. IsToExist s.article e.1))
+  pub article : IfSome s.article (MayBeOf s.group)
+  pub groups : IfSome s.groups (λ l. MayList l.0 l.1 × IsAlone s)
+
+-- the saying tells these facts, behind those before
+pub record Tells (facts : List Fact) (s : Saying) (more : List Fact) : Type 0 where
+  pub asks : List Ask
+  pub same : facts_in s asks ≡ more
+  pub may : MaySay facts s asks
+
+-- the selected group, if there is one, is shown
+abbrev pub IsSelectedShown : Visible → List Fact → Type 0
+IsSelectedShown v facts = IfSome v.selected (λ name. is_shown_group facts name ≡ true)
+
+-- the numbers that an answer to LISTGROUP lists
+abbrev pub numbers_listed : Response → List ℕ
+numbers_listed (numbers_are m name lines) = listed_numbers lines
+numbers_listed response = []
