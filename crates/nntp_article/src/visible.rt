@@ -64,25 +64,8 @@ impl<A: Allocator + Copy> Visible<A> {
         ensures err { OnErr result (self.new ≡ self.old) }
     {
         match answer {
-            Answer::Group {
-                estimate,
-                low,
-                high,
-                name,
-            } => {
-                let marks = WaterMarks::new(*estimate, *low, *high);
-                self.select(name.as_slice(), marks)
-            }
-            Answer::Numbers {
-                estimate,
-                low,
-                high,
-                name,
-                ..
-            } => {
-                let marks = WaterMarks::new(*estimate, *low, *high);
-                self.select(name.as_slice(), marks)
-            }
+            Answer::Group { marks, name } => self.select(name.as_slice(), *marks),
+            Answer::Numbers { marks, name, .. } => self.select(name.as_slice(), *marks),
             _ => {
                 self.closed = self.closed || answer.closes(prompt);
                 Ok(())

@@ -20,7 +20,7 @@ use Rattle.nntp_facts.specs.declared.noted.Noted.{Noted}
 use Rattle.nntp_facts.specs.declared.noted.Noted.TheVariants as kinds
 use Rattle.nntp_facts.specs.Classes.{class_of, class_by, visible_from}
 use Rattle.nntp_facts.specs.Headline.{Yes, No, IsHeadline}
-use Rattle.nntp_facts.specs.Noted.{FactsKept, Stands, IsDue, IsNoted}
+use Rattle.nntp_facts.specs.Noted.{FactsKept, HasNoted, IsDue, IsNoted}
 use Rattle.nntp_facts.proofs.Size.{pairs_size}
 use Rattle.nntp_facts.proofs.Headlines.{same_answers, headline_at_end, headline_at_octets, headline_at_response, headline_at_unfitting}
 use Rattle.nntp_spool.specs.Text.{IsWritten}
@@ -54,7 +54,7 @@ is-due profile client server facts left behind answers x p next = record {
 
 -- and then it has passed
 pub one-more : (profile : Profile) (client server : List ℕ) (old new : FactsKept) (left behind : Unpaired) (answers : ℕ) (x : Paired) (noted : Noted) → (p : Passed profile client server old left answers) → IsNext left x behind
-    → ((past : List Paired) → Stands profile old past → IsNoted profile past x old new noted) → class_noted noted ≡ None → (k : ℕ) → k ≡ x.index
+    → ((past : List Paired) → HasNoted profile old past → IsNoted profile past x old new noted) → class_noted noted ≡ None → (k : ℕ) → k ≡ x.index
     → (now : Passed profile client server new behind (k + 1)) × (now.pairs ≡ p.pairs ++ (x ∷ []))
 one-more profile client server old new left behind answers x noted p next notes good k at = by noted good (notes p.pairs p.stands)
   where
@@ -135,7 +135,7 @@ only-permits S client server n x (Refuses k) r = absurd (explained-unrefused pro
 
 -- an exchange that isn't accepted is bad, of its class
 pub exchange-right : (client server : List ℕ) (old new : FactsKept) (left behind : Unpaired) (answers : ℕ) (x : Paired) (noted : Noted) (class : Class) → Passed profile_31_bits client server old left answers → IsNext left x behind
-    → ((past : List Paired) → Stands profile_31_bits old past → IsNoted profile_31_bits past x old new noted) → Some class ≡ class_noted noted → (k : ℕ) → k ≡ x.index → IsHeadline profile_31_bits client server (No k class)
+    → ((past : List Paired) → HasNoted profile_31_bits old past → IsNoted profile_31_bits past x old new noted) → Some class ≡ class_noted noted → (k : ℕ) → k ≡ x.index → IsHeadline profile_31_bits client server (No k class)
 exchange-right client server old new left behind answers x noted class p next notes judged k at =
     subst (λ n. IsHeadline profile_31_bits client server (No n class)) (sym place) (by noted judged (notes p.pairs p.stands))
   where
@@ -184,7 +184,7 @@ told (Err e) P j p ok = ok
 
 -- an exchange that isn't accepted, with what is shown of it, is a verdict
 pub refused : (client server : List ℕ) (old new : FactsKept) (left behind : Unpaired) (answers : ℕ) (x : Paired) (noted : Noted) (class : Class) → Passed profile_31_bits client server old left answers → IsNext left x behind
-    → ((past : List Paired) → Stands profile_31_bits old past → IsNoted profile_31_bits past x old new noted) → Some class ≡ class_noted noted → (k : ℕ) → k ≡ x.index
+    → ((past : List Paired) → HasNoted profile_31_bits old past → IsNoted profile_31_bits past x old new noted) → Some class ≡ class_noted noted → (k : ℕ) → k ≡ x.index
     → (line : Option (List ℕ)) → line ≡ x.line → (initial : List ℕ) → initial ≡ x.initial → IsVerdict client server (bad k class (option_map shown line) (shown initial))
 refused client server old new left behind answers x noted class p next notes judged k at line line-is initial initial-is = record {
   headline = exchange-right client server old new left behind answers x noted class p next notes judged k at;

@@ -65,8 +65,8 @@ streams-few reader came client server spool r =
     omega arith
 
 -- so a sink has room for a front of what fits
-pub has-room : (reader : CaptureReader) (Stands : List ℕ → List ℕ → List ℕ → Type 0) (came octets front rest : List ℕ) → BothStand reader Stands came → length came + length octets < 2 ^ 64 → octets ≡ front ++ rest → HasRoom Stands front
-has-room reader Stands came octets front rest both few cut =
+pub has-room : (reader : CaptureReader) (HasNoted : List ℕ → List ℕ → List ℕ → Type 0) (came octets front rest : List ℕ) → BothStand reader HasNoted came → length came + length octets < 2 ^ 64 → octets ≡ front ++ rest → HasRoom HasNoted front
+has-room reader HasNoted came octets front rest both few cut =
     let streams = streams-few reader came both.0 both.1 both.2 both.3 in
     let all : length octets ≡ length front + length rest = ap length cut ∙ length-append front rest in
     (both.0, both.1, both.2, both.4, omega arith)
@@ -74,9 +74,9 @@ has-room reader Stands came octets front rest both few cut =
 -- ---- octets that are passed on
 
 -- octets of a source
-pub passed-source : (before after : CaptureReader) (Stood Stands : List ℕ → List ℕ → List ℕ → Type 0) (source : Source) (taken : Option Source) (octets front rest : List ℕ) → taken ≡ Some source → octets ≡ front ++ rest
-    → Reads before after taken front → Takes Stood Stands source front → PassesOn before after Stood Stands octets rest
-passed-source before after Stood Stands source taken octets front rest is cut reads takes =
+pub passed-source : (before after : CaptureReader) (Stood HasNoted : List ℕ → List ℕ → List ℕ → Type 0) (source : Source) (taken : Option Source) (octets front rest : List ℕ) → taken ≡ Some source → octets ≡ front ++ rest
+    → Reads before after taken front → Takes Stood HasNoted source front → PassesOn before after Stood HasNoted octets rest
+passed-source before after Stood HasNoted source taken octets front rest is cut reads takes =
     let read = subst (λ (t : Option Source). Reads before after t front) is reads in
     record {
       front = front;
@@ -105,26 +105,26 @@ passed-line before after Stood taken octets front rest is cut reads =
     }
 
 -- nothing was passed on yet
-pub passed-none : (reader : CaptureReader) (Stands : List ℕ → List ℕ → List ℕ → Type 0) (octets : List ℕ) → PassesOn reader reader Stands Stands octets octets
-passed-none reader Stands octets = record {
+pub passed-none : (reader : CaptureReader) (HasNoted : List ℕ → List ℕ → List ℕ → Type 0) (octets : List ℕ) → PassesOn reader reader HasNoted HasNoted octets octets
+passed-none reader HasNoted octets = record {
   front = [];
   cut = λ k. octets;
-  stands = λ came both. subst (BothStand reader Stands) (sym (append-nil came)) both;
+  stands = λ came both. subst (BothStand reader HasNoted) (sym (append-nil came)) both;
 }
 
 -- one after the other
-pub passed-more : (before between after : CaptureReader) (Stood Standing Stands : List ℕ → List ℕ → List ℕ → Type 0) (octets left rest : List ℕ) → PassesOn before between Stood Standing octets left → PassesOn between after Standing Stands left rest
-    → PassesOn before after Stood Stands octets rest
-passed-more before between after Stood Standing Stands octets left rest p q = record {
+pub passed-more : (before between after : CaptureReader) (Stood Standing HasNoted : List ℕ → List ℕ → List ℕ → Type 0) (octets left rest : List ℕ) → PassesOn before between Stood Standing octets left → PassesOn between after Standing HasNoted left rest
+    → PassesOn before after Stood HasNoted octets rest
+passed-more before between after Stood Standing HasNoted octets left rest p q = record {
   front = p.front ++ q.front;
   cut = p.cut ∙ ap (λ t. p.front ++ t) q.cut ∙ sym (append_assoc p.front q.front rest);
-  stands = λ came both. subst (BothStand after Stands) (append_assoc came p.front q.front) (q.stands (came ++ p.front) (p.stands came both));
+  stands = λ came both. subst (BothStand after HasNoted) (append_assoc came p.front q.front) (q.stands (came ++ p.front) (p.stands came both));
 }
 
 -- what is left has room where all had
-pub left-room : (before after : CaptureReader) (Stood Stands : List ℕ → List ℕ → List ℕ → Type 0) (octets rest came : List ℕ) → PassesOn before after Stood Stands octets rest → BothStand before Stood came → length came + length octets < 2 ^ 64
-    → (more : List ℕ) × BothStand after Stands more × (length more + length rest < 2 ^ 64)
-left-room before after Stood Stands octets rest came p both few =
+pub left-room : (before after : CaptureReader) (Stood HasNoted : List ℕ → List ℕ → List ℕ → Type 0) (octets rest came : List ℕ) → PassesOn before after Stood HasNoted octets rest → BothStand before Stood came → length came + length octets < 2 ^ 64
+    → (more : List ℕ) × BothStand after HasNoted more × (length more + length rest < 2 ^ 64)
+left-room before after Stood HasNoted octets rest came p both few =
     let all : length octets ≡ length p.front + length rest = ap length p.cut ∙ length-append p.front rest in
     let more : length (came ++ p.front) ≡ length came + length p.front = length-append came p.front in
     (came ++ p.front, p.stands came both, omega arith)

@@ -6,7 +6,7 @@ use Rattle.nntp_pair.specs.Feeding.{Fed, IsFed, HasNext, left_of}
 use Rattle.nntp_facts.specs.declared.class.Class.{Class}
 use Rattle.nntp_facts.specs.Classes.{IsSettled}
 use Rattle.nntp_facts.specs.Headline.{No, IsHeadline}
-use Rattle.nntp_facts.specs.Noted.{FactsKept, Stands}
+use Rattle.nntp_facts.specs.Noted.{FactsKept, HasNoted}
 use Rattle.nntp_check.specs.Judging.{IsVerdict, IsNoForGood}
 use Rattle.nntp_check.specs.Verdict.{Judgement, consistent, bad}
 
@@ -37,14 +37,14 @@ server_count failed = 0
 pub record HasPassed (facts : FactsKept) (fed : Fed) (client server : List ℕ) : Type 0 where
   pub pairs : List Paired
   pub fed_is : IsFed fed client server pairs
-  pub stands : Stands profile_31_bits facts pairs
+  pub stands : HasNoted profile_31_bits facts pairs
   pub all : ¬ (HasNext (left_of fed))
 
 -- some spool permits the exchanges that passed, as many as there are answers, and the facts are theirs
 pub record Keeps (facts : FactsKept) (fed : Fed) (answers : ℕ) (client server : List ℕ) : Type 0 where
   pub pairs : List Paired
   pub fed_is : IsFed fed client server pairs
-  pub stands : Stands profile_31_bits facts pairs
+  pub stands : HasNoted profile_31_bits facts pairs
   pub is_whole : fed.has_failed ≡ false
   pub count : answers ≡ length pairs
 

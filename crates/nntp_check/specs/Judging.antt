@@ -12,7 +12,7 @@ use Rattle.nntp_facts.specs.declared.class.Class.TheVariants.{Surplus, Cut, Malf
 use Rattle.nntp_facts.specs.declared.noted.Noted.{Noted}
 use Rattle.nntp_facts.specs.declared.noted.Noted.TheVariants as noted
 use Rattle.nntp_facts.specs.Headline.{Yes, No, IsHeadline}
-use Rattle.nntp_facts.specs.Noted.{FactsKept, Stands}
+use Rattle.nntp_facts.specs.Noted.{FactsKept, HasNoted}
 use Rattle.nntp_article.specs.declared.profile.Profile.{Profile}
 use Rattle.nntp_article.specs.Limit.{profile_31_bits}
 use Rattle.nntp_article.specs.Spool.{Spool}
@@ -91,7 +91,7 @@ pub record Passed (profile : Profile) (client server : List ℕ) (facts : FactsK
   pub pairs : List Paired
   pub before : AreNext (streams client server) pairs left
   pub count : answers ≡ length pairs
-  pub stands : Stands profile facts pairs
+  pub stands : HasNoted profile facts pairs
 
 -- the pairing ends here at octets of this class, and these are their index, their line, and octets with their first line
 pub record StopsHere (left : Unpaired) (index : ℕ) (class : PairClass) (line : Option (List ℕ)) (octets : List ℕ) : Type 0 where

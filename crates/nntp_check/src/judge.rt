@@ -3,8 +3,8 @@ ghost use Rattle.std.specs.Prelude.{◌≡◌, ℕ, List, [], ◌∷◌, ◌++�
 ghost use Rattle.std.specs.Option.{option_copied, option_map};
 ghost use Rattle.nntp_pair.specs.Pairing.{Unpaired, IsNext, Ends, end};
 ghost use Rattle.nntp_article.specs.Limit.{profile_31_bits};
-ghost use Rattle.nntp_facts.specs.Noted.{Stands, IsDue};
-ghost use Rattle.nntp_witness.specs.Witness.{StandForSome};
+ghost use Rattle.nntp_facts.specs.Noted.{HasNoted, IsDue};
+ghost use Rattle.nntp_witness.specs.Witness.{HaveNotedSome};
 ghost use Rattle.nntp_check.specs.Judging.{IsFirstLine, IsVerdict, Passed, StopsHere, IsNoForGood, OnMalformed, class_noted, shown};
 ghost use Rattle.nntp_check.specs.Verdict.{bad, verdict_shown};
 
@@ -54,7 +54,7 @@ pub(crate) struct Judge<A: Allocator> {
 impl<A: Allocator + Copy> Judge<A> {
     /// No exchange has passed yet. It takes no memory.
     pub(crate) fn new(alloc: A) -> Judge<A>
-        ensures facts { Stands profile_31_bits result.facts [] }
+        ensures facts { HasNoted profile_31_bits result.facts [] }
         ensures answers { result.answers ≡ 0 }
     {
         Judge {
@@ -77,7 +77,7 @@ impl<A: Allocator + Copy> Judge<A> {
         let Ok(noted) = self.facts.note(exchange) else {
             return Err(AllocError);
         };
-        let Some(class) = class_of(noted) else {
+        let Some(class) = class_noted(noted) else {
             self.answers = exchange.index() + 1;
             return Ok(None);
         };
@@ -110,7 +110,7 @@ impl<A: Allocator + Copy> Judge<A> {
 
     /// The verdict where no octet of the server is left: that the given spool explains both streams.
     pub(crate) fn ended(&self) -> Result<Verdict<A>, AllocError>
-        requires { StandForSome profile_31_bits self.now.facts }
+        requires { HaveNotedSome profile_31_bits self.now.facts }
         ensures { IfOk result (λ verdict. (client server : List ℕ) (left : Unpaired) (unanswered : ℕ)
             → Passed profile_31_bits client server self.now.facts left self.now.answers → Ends left (end unanswered)
             → IsVerdict client server (verdict_shown verdict)) }
@@ -124,7 +124,7 @@ impl<A: Allocator + Copy> Judge<A> {
 }
 
 /// Why an answer is bad that is noted, if it is.
-fn class_of(noted: Noted) -> Option<Class>
+fn class_noted(noted: Noted) -> Option<Class>
     ensures { result ≡ class_noted noted }
 {
     match noted {

@@ -22,8 +22,8 @@ use Rattle.nntp_facts.specs.declared.demand.Demand.{Demand}
 use Rattle.nntp_facts.specs.declared.demand.Demand.TheVariants.{NoDemand}
 use Rattle.nntp_facts.specs.Together.{is_possible, MeetsDemand, AsksStand}
 use Rattle.nntp_facts.specs.Part.{estimate_in, is_within, is_within_all, join_ends, ends_of, is_end_of, is_demanding, is_one_of, Said, part_denies, IsRegular, Says}
-use Rattle.nntp_facts.specs.Summary.{Summary, has, IsSummary, AreBounded, shown_after, says_some_after, ends_after, known_after, denied_after, Finds, FirstFree, is_settled, AreCounted, Looks, FirstFreeBelow, AgreesWith, AreOpen, LooksAfter}
-use Rattle.nntp_facts.specs.declared.shown.Found.{Found}
+use Rattle.nntp_facts.specs.Summary.{Summary, has, IsSummary, AreBounded, shown_after, says_some_after, ends_after, known_after, denied_after, PassSoMany, FirstFree, is_settled, AreCounted, Looks, FirstFreeBelow, AgreesWith, AreOpen, LooksAfter}
+use Rattle.nntp_facts.specs.declared.shown.HowMany.{HowMany}
 use Rattle.nntp_facts.proofs.Members.{In, any_in, found_in, all_both, all_back}
 use Rattle.nntp_facts.proofs.MetNumbers.{key_in, key_is, shown_known}
 use Rattle.nntp_facts.proofs.Maps.{key_map, in_key_map, of_key_map, sorted_keys}
@@ -134,10 +134,10 @@ module _ (s : Summary) (p : Said) (asks more : List Ask) (sum : IsSummary s asks
     free_grows None full = λ n one. elim (cases_lt n (2 ^ 64)) [ inl lt ↦ sym (denied_grows n lt) ∙ full n one lt | inr ge ↦ bounded n ge ]
     free_grows (Some f) (small, (one, here, below)) = (one, sym (denied_grows f small) ∙ here, λ m lo hi. sym (denied_grows m (omega arith)) ∙ below m lo hi)
 
-    looks : ((n : ℕ) → known_after s p n ≡ is_known (asks ++ more) n) → (d : Demand) (w : Found) (f : Option ℕ) (c : ℕ) (e : Option ℕ) → LooksAfter s p d w f c e → Looks (asks ++ more) d w f c e
+    looks : ((n : ℕ) → known_after s p n ≡ is_known (asks ++ more) n) → (d : Demand) (w : HowMany) (f : Option ℕ) (c : ℕ) (e : Option ℕ) → LooksAfter s p d w f c e → Looks (asks ++ more) d w f c e
     looks known d w f c e l = record {
       demanded = l.demanded ∙ demand_grows;
-      found = subst {A = ℕ → Bool} (λ shown. Finds (λ n. shown n && wants d n) w) (λ i n. known n i) l.tally.found;
+      found = subst {A = ℕ → Bool} (λ shown. PassSoMany (λ n. shown n && wants d n) w) (λ i n. known n i) l.tally.found;
       free = free_grows f l.free;
       count = subst {A = ℕ → Bool} (λ shown. AreCounted shown c) (λ i n. known n i) l.tally.count;
       estimate = estimate_grows e l.estimate;
@@ -171,7 +171,7 @@ module _ (s : Summary) (p : Said) (asks more : List Ask) (sum : IsSummary s asks
       apart n t = apart_by n (sym (apart_by_hull (asks ++ more) apart_by n) ∙ t)
 
       -- all stands together with the asks exactly if the test passes
-      settles : (d : Demand) (w : Found) (f : Option ℕ) (c : ℕ) (e : Option ℕ) → LooksAfter s p d w f c e → IsTrue (is_settled d w f c e) ↔ AsksStand (asks ++ more)
+      settles : (d : Demand) (w : HowMany) (f : Option ℕ) (c : ℕ) (e : Option ℕ) → LooksAfter s p d w f c e → IsTrue (is_settled d w f c e) ↔ AsksStand (asks ++ more)
       settles d w f c e l =
           settled (asks ++ more) d w f c e (looks known_grows d w f c e l) (all_both (λ ask. IsTrue (is_possible ask)) asks more stand.possible (are_possible more (sym says.possibly ∙ agrees.can_be))) apart
 
@@ -201,7 +201,7 @@ module _ (s : Summary) (p : Said) (asks more : List Ask) (sum : IsSummary s asks
 abbrev pub Tells : Bool → Summary → Said → Type 0
 Tells b s p = (asks more : List Ask) → IsSummary s asks → AsksStand asks → AreBounded (asks ++ more) → Says p more → IsTrue b ↔ AsksStand (asks ++ more)
 
-pub joins_then : (s v : Summary) (p : Said) (b : Bool) (d : Demand) (w : Found) (f : Option ℕ) (c : ℕ) (e : Option ℕ) → v ≡ s → b ≡ is_settled d w f c e
+pub joins_then : (s v : Summary) (p : Said) (b : Bool) (d : Demand) (w : HowMany) (f : Option ℕ) (c : ℕ) (e : Option ℕ) → v ≡ s → b ≡ is_settled d w f c e
     → AgreesWith v.shown v.denied p → AreOpen v.denied p (ends_after v p) → LooksAfter v p d w f c e → Tells b s p
 joins_then s v p b d w f c e view is agrees open_ends l =
     subst (λ s. Tells b s p) view (subst (λ b. Tells b v p) (sym is) (λ asks more sum stand bounded says. settles v p asks more sum says bounded stand agrees open_ends d w f c e l))

@@ -10,9 +10,9 @@ use Rattle.std.proofs.lemmas.Bool.{true≢false, and_parts, and_from, or_left, o
 use Rattle.std.proofs.lemmas.List.Kept.{IsStrictlySortedBy-filter}
 use Rattle.std.proofs.lemmas.Map.Views.{tells_apart, any-filter_same}
 use Rattle.std.proofs.lemmas.Map.Lookups.{exact_unsigned}
-use Rattle.nntp_facts.specs.Summary.{has, Finds, one_more}
-use Rattle.nntp_facts.specs.declared.shown.Found.{Found}
-use Rattle.nntp_facts.specs.declared.shown.Found.TheVariants.{Absent, Single, Several}
+use Rattle.nntp_facts.specs.Summary.{has, PassSoMany, and_one}
+use Rattle.nntp_facts.specs.declared.shown.HowMany.{HowMany}
+use Rattle.nntp_facts.specs.declared.shown.HowMany.TheVariants.{Absent, Single, Several}
 
 -- two numbers in order differ
 apart : (a b : ℕ) → nat_cmp a b ≡ Less → a ≢ b
@@ -33,7 +33,7 @@ module _ (ns : List ℕ) (p : ℕ → Bool) where
   stays n t = let q = and_parts (has ns n) (p n) t in kept n ∙ and_from (p n) (has ns n) q.1 q.0
 
   -- two are left
-  pub found_two : IsStrictlySortedBy nat_cmp ns → (a b : ℕ) (r s rest : List ℕ) → r ≡ filter p ns → r ≡ a ∷ s → s ≡ b ∷ rest → Finds (λ n. has ns n && p n) Several
+  pub found_two : IsStrictlySortedBy nat_cmp ns → (a b : ℕ) (r s rest : List ℕ) → r ≡ filter p ns → r ≡ a ∷ s → s ≡ b ∷ rest → PassSoMany (λ n. has ns n && p n) Several
   found_two up a b r s rest is e f =
       let same : filter p ns ≡ a ∷ b ∷ rest = sym is ∙ e ∙ ap (λ s. a ∷ s) f in (
         a,
@@ -44,7 +44,7 @@ module _ (ns : List ℕ) (p : ℕ → Bool) where
       )
 
   -- or one
-  pub found_one : (a : ℕ) (r s : List ℕ) → r ≡ filter p ns → r ≡ a ∷ s → s ≡ [] → Finds (λ n. has ns n && p n) Single
+  pub found_one : (a : ℕ) (r s : List ℕ) → r ≡ filter p ns → r ≡ a ∷ s → s ≡ [] → PassSoMany (λ n. has ns n && p n) Single
   found_one a r s is e f =
       let same : filter p ns ≡ a ∷ [] = sym is ∙ e ∙ ap (λ s. a ∷ s) f in (
         a,
@@ -55,11 +55,11 @@ module _ (ns : List ℕ) (p : ℕ → Bool) where
 -- ---- one number more
 
 -- another number is found
-pub and_one : (p : ℕ → Bool) (n : ℕ) (w : Found) → Finds p w → p n ≡ false → Finds (λ m. p m || n == m) (one_more w)
-and_one p n Absent found fresh = (n, or_right (p n) (n == n) (eq-eqb n n refl), λ m t. elim (or_cases (p m) (n == m) t) [ inl a ↦ absurd (true≢false (sym a ∙ found m)) | inr b ↦ sym (eqb-true n m b) ])
-and_one p n Single (a, here, once) fresh =
+pub and_one_found : (p : ℕ → Bool) (n : ℕ) (w : HowMany) → PassSoMany p w → p n ≡ false → PassSoMany (λ m. p m || n == m) (and_one w)
+and_one_found p n Absent found fresh = (n, or_right (p n) (n == n) (eq-eqb n n refl), λ m t. elim (or_cases (p m) (n == m) t) [ inl a ↦ absurd (true≢false (sym a ∙ found m)) | inr b ↦ sym (eqb-true n m b) ])
+and_one_found p n Single (a, here, once) fresh =
     (a, n, λ same. true≢false (sym here ∙ ap p same ∙ fresh), or_left (p a) (n == a) here, or_right (p n) (n == n) (eq-eqb n n refl))
-and_one p n Several (a, b, apart, at, bt) fresh = (a, b, apart, or_left (p a) (n == a) at, or_left (p b) (n == b) bt)
+and_one_found p n Several (a, b, apart, at, bt) fresh = (a, b, apart, or_left (p a) (n == a) at, or_left (p b) (n == b) bt)
 
 pub parted : (a w b : Bool) → (b ≡ true → w ≡ true) → ((a && w) || b) ≡ ((a || b) && w)
 parted true true b h = refl

@@ -22,7 +22,7 @@ use Rattle.nntp_facts.proofs.Maps.{get_in, in_get}
 use Rattle.nntp_facts.proofs.Members.{In}
 use Rattle.nntp_facts.proofs.Stand.{same_itself}
 use Rattle.nntp_facts.proofs.Gives.{any_more, given_append, or_none}
-use Rattle.nntp_facts.proofs.SaidOfArticles.{Says, says, head_of_text, body_of_text, or_no, test_still, given_still, still_kept}
+use Rattle.nntp_facts.proofs.SaidOfArticles.{IsSaidOf, says, head_of_text, body_of_text, or_no, test_still, given_still, still_kept}
 
 -- ---- the map
 
@@ -95,11 +95,11 @@ pub may_stand_unknown : (facts : List Fact) (articles : FinMap (slice_cmp nat_cm
 may_stand_unknown facts articles name n id kept unknown = (may_stand facts articles name n id kept).1 (ap (λ o. option_map_or (λ a. a.is_denied) o false) (sym unknown))
 
 -- what is said then of an id that isn't denied
-says_more : (facts : List Fact) (fact : Fact) (id : Id) (o : Option KeptArticle) (a : KeptArticle) → Says facts id o
+says_more : (facts : List Fact) (fact : Fact) (id : Id) (o : Option KeptArticle) (a : KeptArticle) → IsSaidOf facts id o
     → mentions id fact ≡ true → shows_article id fact ≡ true → denies_article id fact ≡ false → a.is_denied ≡ false → option_map_or (λ a. a.is_denied) o false ≡ false
     → a.is_sent ≡ (option_map_or (λ a. a.is_sent) o false || gives_article id fact)
     → a.head ≡ option_or (option_and_then (λ a. a.head) o) (head_in id fact) → a.body ≡ option_or (option_and_then (λ a. a.body) o) (body_in id fact)
-    → Says (facts ++ fact ∷ []) id (Some a)
+    → IsSaidOf (facts ++ fact ∷ []) id (Some a)
 says_more facts fact id o a s mentioned shown denied free was_free sent head body = record {
   mentioned = any_more (mentions id) facts fact ∙ or_right (is_mentioned facts id) _ mentioned;
   denied = any_more (denies_article id) facts fact ∙ (λ i. s.denied i || denied i) ∙ (λ i. was_free i || false) ∙ sym free;
@@ -115,16 +115,16 @@ pub stands : (facts : List Fact) (old new : FinMap (slice_cmp nat_cmp) KeptArtic
 stands facts old new name n id is kept joins =
     still_kept facts (IdAt name n id) old new kept
     (λ q e. ap (λ m. get m q) is ∙ new_elsewhere old id q unsent e)
-    (λ q t. subst (λ q. Says (facts ++ IdAt name n id ∷ []) q (get new q)) (same_text id q (sym t)) here)
+    (λ q t. subst (λ q. IsSaidOf (facts ++ IdAt name n id ∷ []) q (get new q)) (same_text id q (sym t)) here)
   where
-    by : (o : Option KeptArticle) → Says facts id o → option_map_or (λ a. a.is_denied) o false ≡ false → Says (facts ++ IdAt name n id ∷ []) id (Some (unwrap_or o unsent))
+    by : (o : Option KeptArticle) → IsSaidOf facts id o → option_map_or (λ a. a.is_denied) o false ≡ false → IsSaidOf (facts ++ IdAt name n id ∷ []) id (Some (unwrap_or o unsent))
     by None s e = says_more facts (IdAt name n id) id None unsent s (same_itself id) (same_itself id) refl refl e refl refl refl
     by (Some a) s e = says_more facts (IdAt name n id) id (Some a) a s (same_itself id) (same_itself id) refl e e (sym (or_no a.is_sent)) (sym (or_none a.head)) (sym (or_none a.body))
 
-    here : Says (facts ++ IdAt name n id ∷ []) id (get new id)
+    here : IsSaidOf (facts ++ IdAt name n id ∷ []) id (get new id)
     here =
         let there : get new id ≡ Some (unwrap_or (get old id) unsent) = ap (λ m. get m id) is ∙ new_there old id unsent in
-        subst (Says (facts ++ IdAt name n id ∷ []) id) (sym there) (by (get old id) (says facts old id kept) ((may_stand facts old name n id kept).0 joins))
+        subst (IsSaidOf (facts ++ IdAt name n id ∷ []) id) (sym there) (by (get old id) (says facts old id kept) ((may_stand facts old name n id kept).0 joins))
 
 -- ---- an id has no article
 
@@ -165,8 +165,8 @@ pub may_lack_unknown : (facts : List Fact) (articles : FinMap (slice_cmp nat_cmp
 may_lack_unknown facts articles id kept unknown = (may_lack facts articles id kept).1 (ap (λ o. option_map_or (λ a. not a.is_denied) o false) (sym unknown))
 
 -- what is said then of an id that isn't shown
-says_denied : (facts : List Fact) (id : Id) (o : Option KeptArticle) (a : KeptArticle) → Says facts id o → option_map_or (λ a. not a.is_denied) o false ≡ false → a.is_denied ≡ true
-    → option_map_or (λ a. a.is_sent) o false ≡ a.is_sent → option_and_then (λ a. a.head) o ≡ a.head → option_and_then (λ a. a.body) o ≡ a.body → Says (facts ++ NoArticle id ∷ []) id (Some a)
+says_denied : (facts : List Fact) (id : Id) (o : Option KeptArticle) (a : KeptArticle) → IsSaidOf facts id o → option_map_or (λ a. not a.is_denied) o false ≡ false → a.is_denied ≡ true
+    → option_map_or (λ a. a.is_sent) o false ≡ a.is_sent → option_and_then (λ a. a.head) o ≡ a.head → option_and_then (λ a. a.body) o ≡ a.body → IsSaidOf (facts ++ NoArticle id ∷ []) id (Some a)
 says_denied facts id o a s unshown is_denied sent head body =
     let fact = NoArticle id in
     record {
@@ -184,16 +184,16 @@ pub lacks : (facts : List Fact) (old new : FinMap (slice_cmp nat_cmp) KeptArticl
 lacks facts old new id is kept joins =
     still_kept facts (NoArticle id) old new kept
     (λ q e. ap (λ m. get m q) is ∙ new_elsewhere old id q denied e)
-    (λ q t. subst (λ q. Says (facts ++ NoArticle id ∷ []) q (get new q)) (same_text id q (sym t)) here)
+    (λ q t. subst (λ q. IsSaidOf (facts ++ NoArticle id ∷ []) q (get new q)) (same_text id q (sym t)) here)
   where
-    by : (o : Option KeptArticle) → Says facts id o → option_map_or (λ a. not a.is_denied) o false ≡ false → Says (facts ++ NoArticle id ∷ []) id (Some (unwrap_or o denied))
+    by : (o : Option KeptArticle) → IsSaidOf facts id o → option_map_or (λ a. not a.is_denied) o false ≡ false → IsSaidOf (facts ++ NoArticle id ∷ []) id (Some (unwrap_or o denied))
     by None s e = says_denied facts id None denied s e refl refl refl refl
     by (Some a) s e = says_denied facts id (Some a) a s e (not_false a.is_denied e) refl refl refl
 
-    here : Says (facts ++ NoArticle id ∷ []) id (get new id)
+    here : IsSaidOf (facts ++ NoArticle id ∷ []) id (get new id)
     here =
         let there : get new id ≡ Some (unwrap_or (get old id) denied) = ap (λ m. get m id) is ∙ new_there old id denied in
-        subst (Says (facts ++ NoArticle id ∷ []) id) (sym there) (by (get old id) (says facts old id kept) ((may_lack facts old id kept).0 joins))
+        subst (IsSaidOf (facts ++ NoArticle id ∷ []) id) (sym there) (by (get old id) (says facts old id kept) ((may_lack facts old id kept).0 joins))
 
 -- ---- something of an article is sent
 
@@ -240,7 +240,7 @@ may_send facts articles what id lines kept = (
         ↔ (IsFalse (list_any (denies_article id) facts) × AreSame (head_sent what lines) (first_given (head_in id) facts) × AreSame (body_sent what lines) (first_given (body_in id) facts))
     joins = send_joins facts what id lines
 
-    by : (o : Option KeptArticle) → Says facts id o
+    by : (o : Option KeptArticle) → IsSaidOf facts id o
         → IsFalse (list_any (denies_article id) facts) × AreSame (head_sent what lines) (first_given (head_in id) facts) × AreSame (body_sent what lines) (first_given (body_in id) facts)
         → MayBeSentOf o (head_sent what lines) (body_sent what lines)
     by None s h = tt
@@ -250,7 +250,7 @@ may_send facts articles what id lines kept = (
     unknown None = tt
     unknown (Some lines) = tt
 
-    back : (o : Option KeptArticle) → Says facts id o → MayBeSentOf o (head_sent what lines) (body_sent what lines)
+    back : (o : Option KeptArticle) → IsSaidOf facts id o → MayBeSentOf o (head_sent what lines) (body_sent what lines)
         → IsFalse (list_any (denies_article id) facts) × AreSame (head_sent what lines) (first_given (head_in id) facts) × AreSame (body_sent what lines) (first_given (body_in id) facts)
     back None s h = (s.denied, subst (AreSame (head_sent what lines)) (sym s.head) (unknown (head_sent what lines)), subst (AreSame (body_sent what lines)) (sym s.body) (unknown (body_sent what lines)))
     back (Some a) s h = (s.denied ∙ h.0, subst (AreSame (head_sent what lines)) (sym s.head) h.1, subst (AreSame (body_sent what lines)) (sym s.body) h.2)
@@ -275,7 +275,7 @@ pub sends : (facts : List Fact) (old new : FinMap (slice_cmp nat_cmp) KeptArticl
 sends facts old new what id lines head body a b was heads bodies becomes is kept joins =
     still_kept facts fact old new kept
     (λ q e. ap (λ m. get m q) is ∙ get_elsewhere old id q b e)
-    (λ q t. subst (λ q. Says (facts ++ fact ∷ []) q (get new q)) (same_text id q (sym t)) here)
+    (λ q t. subst (λ q. IsSaidOf (facts ++ fact ∷ []) q (get new q)) (same_text id q (sym t)) here)
   where
     fact : Fact
     fact = TextIs what id lines
@@ -289,17 +289,17 @@ sends facts old new what id lines head body a b was heads bodies becomes is kept
     named : (b : Bool) → true ≡ (b || is_same id id)
     named b = sym (or_right b _ (same_itself id))
 
-    by : (o : Option KeptArticle) → Says facts id o → option_map_or (λ a. a.is_denied) o false ≡ false → Says (facts ++ fact ∷ []) id (Some (with_sent (unwrap_or o unsent) head body))
+    by : (o : Option KeptArticle) → IsSaidOf facts id o → option_map_or (λ a. a.is_denied) o false ≡ false → IsSaidOf (facts ++ fact ∷ []) id (Some (with_sent (unwrap_or o unsent) head body))
     by None s e = says_more facts fact id None (with_sent unsent head body) s (same_itself id) (same_itself id) refl refl e (named false) head_is body_is
     by (Some b) s e = says_more facts fact id (Some b) (with_sent b head body) s (same_itself id) (same_itself id) refl e e (named b.is_sent) (ap (option_or b.head) head_is) (ap (option_or b.body) body_is)
 
     free : option_map_or (λ a. a.is_denied) (get old id) false ≡ false
     free = sym (says facts old id kept).denied ∙ ((send_joins facts what id lines).0 joins).0
 
-    here : Says (facts ++ fact ∷ []) id (get new id)
+    here : IsSaidOf (facts ++ fact ∷ []) id (get new id)
     here =
         let there : get new id ≡ Some (with_sent a head body) = ap (λ m. get m id) is ∙ get_there old id b ∙ ap Some becomes in
-        subst (Says (facts ++ fact ∷ []) id) (sym there) (subst (λ a. Says (facts ++ fact ∷ []) id (Some (with_sent a head body))) (sym was) (by (get old id) (says facts old id kept) free))
+        subst (IsSaidOf (facts ++ fact ∷ []) id) (sym there) (subst (λ a. IsSaidOf (facts ++ fact ∷ []) id (Some (with_sent a head body))) (sym was) (by (get old id) (says facts old id kept) free))
 
 -- ---- the ids that have articles
 

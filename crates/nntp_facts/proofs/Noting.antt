@@ -21,7 +21,7 @@ use Rattle.nntp_facts.specs.Permits.{SomePermits}
 use Rattle.nntp_facts.specs.Classes.{visible_from, position_from}
 use Rattle.nntp_facts.specs.Kept.{Kept, IsKept, AreAdded}
 use Rattle.nntp_facts.specs.Saying.{Saying, IsSelectedShown, Tells, numbers_listed}
-use Rattle.nntp_facts.specs.Noted.{FactsKept, Stands, said_by, IsDue, ArePermitted, IsNoted}
+use Rattle.nntp_facts.specs.Noted.{FactsKept, HasNoted, said_by, IsDue, ArePermitted, IsNoted}
 use Rattle.nntp_facts.specs.declared.noted.Noted.TheVariants.{Consistent, OutOfPlace, Contradiction}
 use Rattle.nntp_facts.proofs.Members.{all_both}
 use Rattle.nntp_facts.proofs.Prompts.{permitted_longer, facts_longer, visible_longer, position_longer, next_behind}
@@ -90,7 +90,7 @@ ends : (past : List Paired) (pair : Paired)
 ends past pair = ap₂ (λ (ps : List Asked) (answers : List Response). (ps, answers)) (map-append (λ pair. asked_at pair.line) past (pair ∷ [])) (map-append (λ pair. pair.response) past (pair ∷ []))
 
 -- what exchanges of few lines say is small
-small_next : (profile : Profile) (facts : FactsKept) (past : List Paired) (pair : Paired) → Stands profile facts past → IsDue facts pair → pair.index < 2 ^ 63 → lines_in pair.response < 2 ^ 64
+small_next : (profile : Profile) (facts : FactsKept) (past : List Paired) (pair : Paired) → HasNoted profile facts past → IsDue facts pair → pair.index < 2 ^ 63 → lines_in pair.response < 2 ^ 64
     → size (facts_of_session profile.marks (asked_of (past ++ pair ∷ [])) (responses_of (past ++ pair ∷ []))) < 2 ^ 210
 small_next profile facts past pair s due low few =
     pairs_size profile.marks (past ++ pair ∷ []) (all_both (λ pair. lines_in pair.response < 2 ^ 64) past (pair ∷ []) s.lines (few, tt)) (omega (arith, s.count, due.index, length-append past (pair ∷ [])))
@@ -111,14 +111,14 @@ pub record Weighed (profile : Profile) (facts : FactsKept) (pair : Paired) (sayi
   pub tells : (all : List Fact) → IsSelectedShown facts.visible all → Tells all saying (said_next profile facts pair)
 
 -- whether it fits is what was tested
-tested_it : (profile used : Profile) (facts : FactsKept) (past : List Paired) (pair : Paired) (asked : Asked) (response : Response) (does : Bool) → Stands profile facts past
+tested_it : (profile used : Profile) (facts : FactsKept) (past : List Paired) (pair : Paired) (asked : Asked) (response : Response) (does : Bool) → HasNoted profile facts past
     → asked ≡ asked_at pair.line → response ≡ pair.response → used ≡ profile_of facts.limit facts.marks → does ≡ fits used facts.visible asked response
     → fits profile facts.visible (asked_at pair.line) pair.response ≡ does
 tested_it profile used facts past pair asked response does s to by judged tested =
     sym (tested ∙ ap (λ profile. fits profile facts.visible asked response) (judged ∙ s.profile_is) ∙ ap₂ (λ asked response. fits profile facts.visible asked response) to by)
 
 -- it doesn't fit
-pub unfit : (profile used : Profile) (facts old : FactsKept) (past : List Paired) (pair : Paired) (asked : Asked) (response : Response) (does : Bool) → facts ≡ old → Stands profile facts past
+pub unfit : (profile used : Profile) (facts old : FactsKept) (past : List Paired) (pair : Paired) (asked : Asked) (response : Response) (does : Bool) → facts ≡ old → HasNoted profile facts past
     → asked ≡ asked_at pair.line → response ≡ pair.response → used ≡ profile_of facts.limit facts.marks → does ≡ fits used facts.visible asked response → does ≡ false
     → IsNoted profile past pair old old OutOfPlace
 unfit profile used facts old past pair asked response does is s to by judged tested fails = (
@@ -128,7 +128,7 @@ unfit profile used facts old past pair asked response does is s to by judged tes
 
 -- so it is, by what is said of the calls
 pub weighed : (profile used : Profile) (facts old : FactsKept) (past : List Paired) (pair : Paired) (asked : Asked) (response : Response) (saying : Saying) (name : Name) (numbers : List ℕ) (does : Bool)
-    → facts ≡ old → Stands profile facts past → IsDue old pair → pair.index < 2 ^ 63 → lines_in pair.response < 2 ^ 64 → IsSpelled pair.line pair.initial pair.response
+    → facts ≡ old → HasNoted profile facts past → IsDue old pair → pair.index < 2 ^ 63 → lines_in pair.response < 2 ^ 64 → IsSpelled pair.line pair.initial pair.response
     → asked ≡ asked_at pair.line → response ≡ pair.response → used ≡ profile_of facts.limit facts.marks → does ≡ fits used facts.visible asked response → does ≡ true
     → name ≡ here facts.visible → numbers ≡ numbers_listed response
     → ((profile : Profile) (v : Visible) (all : List Fact) → IsTrue (fits profile v asked response) → IsSelectedShown v all → name ≡ here v → numbers ≡ numbers_listed response
@@ -149,7 +149,7 @@ weighed profile used facts old past pair asked response saying name numbers does
     }
 
 -- some spool permits it exactly if what it says joins what was said
-permitted_if : (profile : Profile) (facts : FactsKept) (past : List Paired) (pair : Paired) (saying : Saying) → Weighed profile facts pair saying → Stands profile facts past
+permitted_if : (profile : Profile) (facts : FactsKept) (past : List Paired) (pair : Paired) (saying : Saying) → Weighed profile facts pair saying → HasNoted profile facts past
     → ArePermitted profile (past ++ pair ∷ []) ↔ Join (said_by profile.marks past) (said_next profile facts pair)
 permitted_if profile facts past pair saying w s = (
   λ h. (next.0 (subst (λ q. SomePermits profile q.0 q.1) (ends past pair) h)).2,
@@ -181,7 +181,7 @@ permitted_if profile facts past pair saying w s = (
 -- ---- what is added
 
 -- what was said stands together
-pub stands_together : (profile : Profile) (facts : FactsKept) (past : List Paired) → Stands profile facts past → Together (said_by profile.marks past)
+pub stands_together : (profile : Profile) (facts : FactsKept) (past : List Paired) → HasNoted profile facts past → Together (said_by profile.marks past)
 stands_together profile facts past s = (stands profile s.permitted.0 (asked_of past) (responses_of past) s.permitted.1 s.permitted.2).1
 
 -- what the call adds of what it is told, and whether it does
@@ -189,7 +189,7 @@ abbrev pub Adds : Kept → Kept → Saying → Bool → Type 0
 Adds old new saying does = (facts more : List Fact) → IsKept facts old → Together facts → AllByRecursion IsWellFormed more → Tells facts saying more → AreAdded facts more old new does
 
 -- so it is of what the answer says
-added_here : (profile : Profile) (facts : FactsKept) (kept : Kept) (past : List Paired) (pair : Paired) (saying : Saying) (does : Bool) → Weighed profile facts pair saying → Stands profile facts past
+added_here : (profile : Profile) (facts : FactsKept) (kept : Kept) (past : List Paired) (pair : Paired) (saying : Saying) (does : Bool) → Weighed profile facts pair saying → HasNoted profile facts past
     → Adds facts.kept kept saying does → AreAdded (said_by profile.marks past) (said_next profile facts pair) facts.kept kept does
 added_here profile facts kept past pair saying does w s adds =
     let ps = asked_of past in
@@ -205,7 +205,7 @@ abbrev pub with_kept : FactsKept → Kept → FactsKept
 with_kept facts kept = record { limit = facts.limit; marks = facts.marks; count = facts.count; visible = facts.visible; position = facts.position; kept = kept; has_failed = facts.has_failed }
 
 -- where nothing is added, no spool permits it
-pub refused : (profile : Profile) (facts old : FactsKept) (kept : Kept) (past : List Paired) (pair : Paired) (saying : Saying) → facts ≡ old → Weighed profile facts pair saying → Stands profile facts past
+pub refused : (profile : Profile) (facts old : FactsKept) (kept : Kept) (past : List Paired) (pair : Paired) (saying : Saying) → facts ≡ old → Weighed profile facts pair saying → HasNoted profile facts past
     → Adds facts.kept kept saying false → IsNoted profile past pair old (with_kept facts kept) Contradiction
 refused profile facts old kept past pair saying is w s adds =
     let added = added_here profile facts kept past pair saying false w s adds in (
@@ -217,7 +217,7 @@ refused profile facts old kept past pair saying is w s adds =
 -- ---- what stands then
 
 -- what is kept of it as well
-kept_next : (profile : Profile) (facts : FactsKept) (kept : Kept) (past : List Paired) (pair : Paired) → Stands profile facts past
+kept_next : (profile : Profile) (facts : FactsKept) (kept : Kept) (past : List Paired) (pair : Paired) → HasNoted profile facts past
     → IsKept (said_by profile.marks past ++ said_next profile facts pair) kept → IsKept (said_by profile.marks (past ++ pair ∷ [])) kept
 kept_next profile facts kept past pair s now =
     let ps = asked_of past in
@@ -237,7 +237,7 @@ pub record Moves (facts new : FactsKept) (pair : Paired) : Type 0 where
   pub position : new.position ≡ position_after facts.position (asked_at pair.line) pair.response
 
 -- so the exchange is accepted
-pub accepted : (profile : Profile) (facts old new : FactsKept) (past : List Paired) (pair : Paired) (saying : Saying) → Weighed profile facts pair saying → Stands profile facts past
+pub accepted : (profile : Profile) (facts old new : FactsKept) (past : List Paired) (pair : Paired) (saying : Saying) → Weighed profile facts pair saying → HasNoted profile facts past
     → Moves facts new pair → Adds facts.kept new.kept saying true → IsNoted profile past pair old new Consistent
 accepted profile facts old new past pair saying w s moves adds =
     let added = added_here profile facts new.kept past pair saying true w s adds in

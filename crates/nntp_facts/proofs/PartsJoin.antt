@@ -49,6 +49,11 @@ module _ {M : Type 0} (read : List Fact → M) (both : M → M → M) (nothing :
       ap (λ m. both (read (TextIs what id lines ∷ [])) (both (read (IdAt name e.0 e.1 ∷ [])) m)) is.none ∙ ap (both (read (TextIs what id lines ∷ []))) (is.right _)
       ∙ ap (λ other. both (read (TextIs what id lines ∷ [])) (read (IdAt name e.0 other ∷ []))) (sym placed) ∙ absorbed what id lines name e.0
 
+-- ids and numbers of what is told agree where facts stand together
+pub agree_told : (facts : List Fact) → Together facts → (name : Name) (id : Option (ℕ × Id)) → Agree (told facts name).ids (told facts name).places id
+agree_told facts t name None = tt
+agree_told facts t name (Some e) = agree_together facts name e.0 e.1 (t.ids_once name e.1)
+
 module _ (facts : List Fact) (s : Saying) (asks : List Ask) (no_list : s.groups ≡ None) (may : MaySay facts s asks) where
   exists_at : (other : Id) → s.article ≡ Some (other, Exists) → MatchOption s.group ⊥ (λ g. MatchOption g.id ⊥ (λ e. e.1 ≡ other))
   exists_at other is = subst (λ a. IfSome a (MayBeOf s.group)) is may.article
@@ -233,11 +238,7 @@ module _ (facts : List Fact) (s : Saying) (asks : List Ask) (no_list : s.groups 
       → AreKeptGroups facts old → AreKeptGroups (facts ++ facts_in s asks) new
   group_added t g is joins old new adds kept =
       adds (told facts) (told (facts ++ facts_in s asks)) (asks ++ asked_id g.id) kept (subst (λ o. IfSome o (λ (g : OfGroup). Says g.numbers (asks ++ asked_id g.id))) is may.numbers)
-      (bounded_then g is) (agrees g.id) (subst (λ o. IfSome o (GroupJoins facts asks)) is joins).1 (group_changes g is)
-    where
-      agrees : (id : Option (ℕ × Id)) → Agree (told facts g.name).ids (told facts g.name).places id
-      agrees None = tt
-      agrees (Some e) = agree_together facts g.name e.0 e.1 (t.ids_once g.name e.1)
+      (bounded_then g is) (agree_told facts t g.name g.id) (subst (λ o. IfSome o (GroupJoins facts asks)) is joins).1 (group_changes g is)
 
   -- where nothing is said of a group, what is kept is so still
   pub groups_alike : s.group ≡ None → (groups : Groups) → AreKeptGroups facts groups → AreKeptGroups (facts ++ facts_in s asks) groups

@@ -40,11 +40,11 @@ pub selectable : (how : Marks) (all : List Fact) (name : Name) (m : WaterMarks) 
 selectable how all name m h = record { marks = m; there = h.0; estimated = h.1.0 }
 
 -- the selected group is one
-abbrev pub Stands : Marks → List Fact → Visible → Type 0
-Stands how all v = (name : Name) → v.selected ≡ Some name → IsSelectable how all name
+abbrev pub HasNoted : Marks → List Fact → Visible → Type 0
+HasNoted how all v = (name : Name) → v.selected ≡ Some name → IsSelectable how all name
 
 -- the selected group, if one is selected, is there
-here_stands : (how : Marks) (all : List Fact) (v : Visible) → Stands how all v → IsTrue (is_some v.selected) → IsSelectable how all (here v)
+here_stands : (how : Marks) (all : List Fact) (v : Visible) → HasNoted how all v → IsTrue (is_some v.selected) → IsSelectable how all (here v)
 here_stands how all v stands some = by v.selected refl some
   where
     by : (o : Option Name) → v.selected ≡ o → IsTrue (is_some o) → IsSelectable how all (unwrap_or o [])
@@ -62,7 +62,7 @@ at_code : (profile : Profile) (v : Visible) (command : Request) (code expected :
 at_code profile v command code expected only f t = only (subst (λ c. IsTrue (fits profile v (to command) (plain c))) (eqb-true code expected t) f)
 
 -- what a code alone says of numbers, it says of a group that is there
-code_placed : (profile : Profile) (all : List Fact) (v : Visible) (at : Position) (command : Request) (code : ℕ) → Stands profile.marks all v → IsTrue (fits profile v (to command) (plain code)) → AllByRecursion (Placed profile.marks all) (facts_of_code v at command code)
+code_placed : (profile : Profile) (all : List Fact) (v : Visible) (at : Position) (command : Request) (code : ℕ) → HasNoted profile.marks all v → IsTrue (fits profile v (to command) (plain code)) → AllByRecursion (Placed profile.marks all) (facts_of_code v at command code)
 code_placed profile all v at (group word) code stands f = on_placed profile.marks all (code == 411) _ (λ _. tt)
 code_placed profile all v at (list_group (Some word) range) code stands f = on_placed profile.marks all (code == 411) _ (λ _. tt)
 code_placed profile all v at next code stands f =
@@ -90,7 +90,7 @@ asked : (profile : Profile) (v : Visible) (what : What) (which : Target) (sent :
 asked profile v what which sent f = (and_parts (sent.code == success_code what) _ (and_parts (sent.code == success_code what && number_fits profile v which sent.number sent.id) _ f).0).1
 
 -- what an answer says of numbers, it says of a group that is there
-step_placed : (profile : Profile) (all : List Fact) (v : Visible) (at : Position) (p : Asked) (a : Response) → Stands profile.marks all v → IsTrue (fits profile v p a) → AllByRecursion (Among all) (facts_of profile.marks v at p a) → AllByRecursion (Placed profile.marks all) (facts_of profile.marks v at p a)
+step_placed : (profile : Profile) (all : List Fact) (v : Visible) (at : Position) (p : Asked) (a : Response) → HasNoted profile.marks all v → IsTrue (fits profile v p a) → AllByRecursion (Among all) (facts_of profile.marks v at p a) → AllByRecursion (Placed profile.marks all) (facts_of profile.marks v at p a)
 step_placed profile all v at (to (group word)) (group_is m name) stands f h = let g = selectable profile.marks all name m h in (g, (g, tt))
 step_placed profile all v at (to (list_group word range)) (numbers_are m name lines) stands f h = let g = selectable profile.marks all name m (h.0, (h.1.0, tt)) in (g, (g, (g, tt)))
 step_placed profile all v at (to next) (sends sent) stands f h = let g = here_stands profile.marks all v stands (step_selected profile v sent f) in (g, (g, tt))
@@ -108,7 +108,7 @@ step_placed profile all v at (to command) (plain code) stands f h = code_placed 
 step_placed profile all v at p a stands f h = tt
 
 -- the group that is selected afterwards is there
-pub still_stands : (profile : Profile) (all : List Fact) (v : Visible) (at : Position) (p : Asked) (a : Response) → Stands profile.marks all v → IsTrue (fits profile v p a) → AllByRecursion (Among all) (facts_of profile.marks v at p a) → Stands profile.marks all (visible_after v p a)
+pub still_stands : (profile : Profile) (all : List Fact) (v : Visible) (at : Position) (p : Asked) (a : Response) → HasNoted profile.marks all v → IsTrue (fits profile v p a) → AllByRecursion (Among all) (facts_of profile.marks v at p a) → HasNoted profile.marks all (visible_after v p a)
 still_stands profile all v at (to (group word)) (group_is m name) stands f h = λ g e. subst (IsSelectable profile.marks all) (cc) (selectable profile.marks all name m h)
 still_stands profile all v at p (group_is m name) stands f h = cc
 still_stands profile all v at (to (list_group word range)) (numbers_are m name lines) stands f h = λ g e. subst (IsSelectable profile.marks all) (cc) (selectable profile.marks all name m (h.0, (h.1.0, tt)))
@@ -118,7 +118,7 @@ still_stands profile all v at p (active_are lines) stands f h = stands
 still_stands profile all v at p (plain code) stands f h = stands
 
 -- the same of all that a session says, from any state on
-all_placed : (profile : Profile) (all : List Fact) (v : Visible) (at : Position) (ps : List Asked) (answers : List Response) → Stands profile.marks all v → FitsAll profile v ps answers → AllByRecursion (Among all) (facts_from profile.marks v at ps answers) → AllByRecursion (Placed profile.marks all) (facts_from profile.marks v at ps answers)
+all_placed : (profile : Profile) (all : List Fact) (v : Visible) (at : Position) (ps : List Asked) (answers : List Response) → HasNoted profile.marks all v → FitsAll profile v ps answers → AllByRecursion (Among all) (facts_from profile.marks v at ps answers) → AllByRecursion (Placed profile.marks all) (facts_from profile.marks v at ps answers)
 all_placed profile all v at [] answers stands f h = tt
 all_placed profile all v at (p ∷ ps) [] stands f h = tt
 all_placed profile all v at (p ∷ ps) (a ∷ more) stands f h =

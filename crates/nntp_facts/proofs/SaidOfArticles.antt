@@ -63,7 +63,7 @@ silent fact id e = record { mentioned = e; denied = refl; shown = refl; sent = r
 -- ---- what facts say of an id
 
 -- what the facts say of the id, where o is kept of it
-pub record Says (facts : List Fact) (id : Id) (o : Option KeptArticle) : Type 0 where
+pub record IsSaidOf (facts : List Fact) (id : Id) (o : Option KeptArticle) : Type 0 where
   pub mentioned : is_mentioned facts id ≡ is_some o
   pub denied : list_any (denies_article id) facts ≡ option_map_or (λ a. a.is_denied) o false
   pub shown : list_any (shows_article id) facts ≡ option_map_or (λ a. not a.is_denied) o false
@@ -76,7 +76,7 @@ no_front true b e = absurd (true≢false e)
 no_front false b e = (refl, e)
 
 -- facts that don't mention an id say nothing of it
-says_nothing : (facts : List Fact) (id : Id) → is_mentioned facts id ≡ false → Says facts id None
+says_nothing : (facts : List Fact) (id : Id) → is_mentioned facts id ≡ false → IsSaidOf facts id None
 says_nothing [] id e = record { mentioned = refl; denied = refl; shown = refl; sent = refl; head = refl; body = refl }
 says_nothing (fact ∷ facts) id e =
     let p = no_front (mentions id fact) (is_mentioned facts id) e in
@@ -105,10 +105,10 @@ denied_mentions id (NoArticle other) t = t
 denied_mentions id fact t = cc
 
 -- what is kept of an id is what the facts say of it
-pub says : (facts : List Fact) (articles : FinMap (slice_cmp nat_cmp) KeptArticle) (id : Id) → AreKeptArticles facts articles → Says facts id (get articles id)
+pub says : (facts : List Fact) (articles : FinMap (slice_cmp nat_cmp) KeptArticle) (id : Id) → AreKeptArticles facts articles → IsSaidOf facts id (get articles id)
 says facts articles id kept = by (get articles id) (kept id)
   where
-    by : (o : Option KeptArticle) → MatchOption o (is_mentioned facts id ≡ false) (IsKeptArticle facts id) → Says facts id o
+    by : (o : Option KeptArticle) → MatchOption o (is_mentioned facts id ≡ false) (IsKeptArticle facts id) → IsSaidOf facts id o
     by None e = says_nothing facts id e
     by (Some a) k = record {
       mentioned = either a.is_denied k.denied k.shown;
@@ -124,10 +124,10 @@ says facts articles id kept = by (get articles id) (kept id)
         either false d s = any_weaker (shows_article id) (mentions id) facts (shown_mentions id) s
 
 -- and back
-pub kept_where_said : (facts : List Fact) (articles : FinMap (slice_cmp nat_cmp) KeptArticle) → ((id : Id) → Says facts id (get articles id)) → AreKeptArticles facts articles
+pub kept_where_said : (facts : List Fact) (articles : FinMap (slice_cmp nat_cmp) KeptArticle) → ((id : Id) → IsSaidOf facts id (get articles id)) → AreKeptArticles facts articles
 kept_where_said facts articles said = λ id. by (get articles id) id (said id)
   where
-    by : (o : Option KeptArticle) (id : Id) → Says facts id o → MatchOption o (is_mentioned facts id ≡ false) (IsKeptArticle facts id)
+    by : (o : Option KeptArticle) (id : Id) → IsSaidOf facts id o → MatchOption o (is_mentioned facts id ≡ false) (IsKeptArticle facts id)
     by None id s = s.mentioned
     by (Some a) id s = record { denied = s.denied; shown = s.shown; sent = s.sent; head = s.head; body = s.body }
 
@@ -146,7 +146,7 @@ pub given_still : (f : Fact → Option (List Line)) (facts : List Fact) (fact : 
 given_still f facts fact e = given_append f facts (fact ∷ []) ∙ ap (λ o. option_or (first_given f facts) (option_or o None)) e ∙ or_none (first_given f facts)
 
 -- a fact that says nothing of the id changes nothing
-says_still : (facts : List Fact) (fact : Fact) (id : Id) (o : Option KeptArticle) → Says facts id o → mentions id fact ≡ false → Says (facts ++ fact ∷ []) id o
+says_still : (facts : List Fact) (fact : Fact) (id : Id) (o : Option KeptArticle) → IsSaidOf facts id o → mentions id fact ≡ false → IsSaidOf (facts ++ fact ∷ []) id o
 says_still facts fact id o s e =
     let f = silent fact id e in
     record {
@@ -160,9 +160,9 @@ says_still facts fact id o s e =
 
 -- the ids that a fact doesn't mention are kept as they were
 pub still_kept : (facts : List Fact) (fact : Fact) (old new : FinMap (slice_cmp nat_cmp) KeptArticle) → AreKeptArticles facts old
-    → ((id : Id) → mentions id fact ≡ false → get new id ≡ get old id) → ((id : Id) → mentions id fact ≡ true → Says (facts ++ fact ∷ []) id (get new id)) → AreKeptArticles (facts ++ fact ∷ []) new
+    → ((id : Id) → mentions id fact ≡ false → get new id ≡ get old id) → ((id : Id) → mentions id fact ≡ true → IsSaidOf (facts ++ fact ∷ []) id (get new id)) → AreKeptArticles (facts ++ fact ∷ []) new
 still_kept facts fact old new kept same said = kept_where_said (facts ++ fact ∷ []) new (λ id. by id (mentions id fact) refl)
   where
-    by : (id : Id) (b : Bool) → mentions id fact ≡ b → Says (facts ++ fact ∷ []) id (get new id)
+    by : (id : Id) (b : Bool) → mentions id fact ≡ b → IsSaidOf (facts ++ fact ∷ []) id (get new id)
     by id true e = said id e
-    by id false e = subst (Says (facts ++ fact ∷ []) id) (sym (same id e)) (says_still facts fact id (get old id) (says facts old id kept) e)
+    by id false e = subst (IsSaidOf (facts ++ fact ∷ []) id) (sym (same id e)) (says_still facts fact id (get old id) (says facts old id kept) e)

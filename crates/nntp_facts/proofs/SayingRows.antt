@@ -17,6 +17,7 @@ use Rattle.nntp_facts.specs.Given.{is_denied, is_shown_group}
 use Rattle.nntp_facts.specs.ListedGroups.{MayList}
 use Rattle.nntp_facts.specs.Part.{Said, Says}
 use Rattle.nntp_facts.specs.Summary.{AreBounded}
+use Rattle.nntp_facts.proofs.KeptGroups.{bounded_more}
 use Rattle.nntp_facts.specs.Saying.{Exists, Lacks, OfGroup, Saying, Sends, Tells, IsSelectedShown}
 
 -- ---- sayings
@@ -50,10 +51,6 @@ shown_here v facts name shown is there = subst (λ name. is_shown_group facts na
     by : (o : Option Name) → is_some o ≡ true → IfSome o (λ name. is_shown_group facts name ≡ true) → is_shown_group facts (unwrap_or o []) ≡ true
     by None there shown = absurd (true≢false (sym there))
     by (Some name) there shown = shown
-
--- marks below 2^64 leave no number from there on open
-marked : (how : Marks) (m : WaterMarks) (asks : List Ask) → m.high < 2 ^ 64 → AreBounded (Estimates how m ∷ asks)
-marked how m asks high n big = let above : nat_lt m.high n ≡ true = search (rules, tests) in or_left (nat_lt n m.low || nat_lt m.high n) (is_denied asks n) (or_right (nat_lt n m.low) (nat_lt m.high n) above)
 
 -- ---- rows
 
@@ -94,16 +91,16 @@ tells_current v facts name p at n what id lines g s more shown is there says fit
     subst (λ s. Tells facts s more) (sym (s_is ∙ ap (λ g. of_sent (Some g) what id lines) g_is)) (subst (Tells facts (of_sent (Some h) what id lines)) (ap (λ g. TextIs what id lines ∷ Asks g (StandsAt at n) ∷ IdAt g n id ∷ []) is ∙ same) told)
 
 -- a group that is selected
-pub tells_marks : (facts : List Fact) (name : Name) (p : Said) (how : Marks) (m : WaterMarks) (s : Saying) (more : List Fact) → Says p (Estimates how m ∷ []) → m.high < 2 ^ 64 → s ≡ of_group name p
+pub tells_marks : (facts : List Fact) (name : Name) (p : Said) (how : Marks) (m : WaterMarks) (s : Saying) (more : List Fact) → Says p (Estimates how m ∷ []) → AreBounded (Estimates how m ∷ []) → s ≡ of_group name p
     → (ThereIs name ∷ Asks name (Estimates how m) ∷ []) ≡ more → Tells facts s more
-tells_marks facts name p how m s more says high s_is same =
-    subst (λ s. Tells facts s more) (sym s_is) (record { asks = Estimates how m ∷ []; same = same; may = record { numbers = says; shown = inr (refl, marked how m [] high); there = refl; placed = tt; article = tt; groups = tt } })
+tells_marks facts name p how m s more says bounded s_is same =
+    subst (λ s. Tells facts s more) (sym s_is) (record { asks = Estimates how m ∷ []; same = same; may = record { numbers = says; shown = inr (refl, bounded); there = refl; placed = tt; article = tt; groups = tt } })
 
 -- the same, with its numbers
-pub tells_list : (facts : List Fact) (name : Name) (p : Said) (how : Marks) (m : WaterMarks) (r : Range) (ns : List ℕ) (s : Saying) (more : List Fact) → Says p (Estimates how m ∷ ListsIn r ns ∷ []) → m.high < 2 ^ 64 → s ≡ of_group name p
+pub tells_list : (facts : List Fact) (name : Name) (p : Said) (how : Marks) (m : WaterMarks) (r : Range) (ns : List ℕ) (s : Saying) (more : List Fact) → Says p (Estimates how m ∷ ListsIn r ns ∷ []) → AreBounded (Estimates how m ∷ []) → s ≡ of_group name p
     → (ThereIs name ∷ Asks name (Estimates how m) ∷ Asks name (ListsIn r ns) ∷ []) ≡ more → Tells facts s more
-tells_list facts name p how m r ns s more says high s_is same =
-    subst (λ s. Tells facts s more) (sym s_is) (record { asks = Estimates how m ∷ ListsIn r ns ∷ []; same = same; may = record { numbers = says; shown = inr (refl, marked how m (ListsIn r ns ∷ []) high); there = refl; placed = tt; article = tt; groups = tt } })
+tells_list facts name p how m r ns s more says bounded s_is same =
+    subst (λ s. Tells facts s more) (sym s_is) (record { asks = Estimates how m ∷ ListsIn r ns ∷ []; same = same; may = record { numbers = says; shown = inr (refl, bounded_more (Estimates how m ∷ []) (ListsIn r ns ∷ []) bounded); there = refl; placed = tt; article = tt; groups = tt } })
 
 -- a success without a number
 pub tells_text : (facts : List Fact) (what : What) (id : Id) (lines : Option (List Line)) (s : Saying) (more : List Fact) → IsTrue (head_fits what id lines) → s ≡ of_sent None what id lines → (TextIs what id lines ∷ []) ≡ more → Tells facts s more

@@ -15,12 +15,12 @@ use Rattle.nntp_facts.specs.Given.{facts_of_session, shows_group, is_shown_group
 use Rattle.nntp_facts.specs.Classes.{visible_from}
 use Rattle.nntp_facts.specs.Saying.{IsSelectedShown}
 use Rattle.nntp_facts.proofs.Members.{all_front, all_back, all_from, any_in}
-use Rattle.nntp_facts.proofs.Placed.{Among, Stands, still_stands}
+use Rattle.nntp_facts.proofs.Placed.{Among, HasNoted, still_stands}
 use Rattle.nntp_facts.proofs.Stand.{same_itself}
 
 -- answers that fit leave a group selected that a 211 selected
-left_stands : (profile : Profile) (all : List Fact) (v : Visible) (at : Position) (ps : List Asked) (answers : List Response) → Stands profile.marks all v → FitsAll profile v ps answers
-    → AllByRecursion (Among all) (facts_from profile.marks v at ps answers) → Stands profile.marks all (visible_from v ps answers)
+left_stands : (profile : Profile) (all : List Fact) (v : Visible) (at : Position) (ps : List Asked) (answers : List Response) → HasNoted profile.marks all v → FitsAll profile v ps answers
+    → AllByRecursion (Among all) (facts_from profile.marks v at ps answers) → HasNoted profile.marks all (visible_from v ps answers)
 left_stands profile all v at ps [] stands f h = stands
 left_stands profile all v at [] (a ∷ more) stands f h = absurd f
 left_stands profile all v at (p ∷ ps) (a ∷ more) stands f h =
@@ -29,7 +29,7 @@ left_stands profile all v at (p ∷ ps) (a ∷ more) stands f h =
     (all_back (Among all) (facts_of profile.marks v at p a) rest h)
 
 -- and so one that is shown
-shown_of : (how : Marks) (all : List Fact) (v : Visible) → Stands how all v → IsSelectedShown v all
+shown_of : (how : Marks) (all : List Fact) (v : Visible) → HasNoted how all v → IsSelectedShown v all
 shown_of how all v stands = by v.selected refl
   where
     by : (o : Option Name) → v.selected ≡ o → IfSome o (λ name. is_shown_group all name ≡ true)

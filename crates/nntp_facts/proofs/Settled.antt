@@ -11,9 +11,9 @@ use Rattle.nntp_facts.specs.declared.demand.Demand.{Demand}
 use Rattle.nntp_facts.specs.declared.demand.Demand.TheVariants.{NoDemand, NotEmpty, OnlyOne, SecondIs, Impossible}
 use Rattle.nntp_facts.specs.Together.{is_possible, MeetsDemand, IsFewFor, AsksStand}
 use Rattle.nntp_facts.specs.Part.{estimate_in, is_within, is_within_all}
-use Rattle.nntp_facts.specs.Summary.{Finds, FirstFree, has_room, is_settled, Looks}
-use Rattle.nntp_facts.specs.declared.shown.Found.{Found}
-use Rattle.nntp_facts.specs.declared.shown.Found.TheVariants.{Absent, Single, Several}
+use Rattle.nntp_facts.specs.Summary.{PassSoMany, FirstFree, has_room, is_settled, Looks}
+use Rattle.nntp_facts.specs.declared.shown.HowMany.{HowMany}
+use Rattle.nntp_facts.specs.declared.shown.HowMany.TheVariants.{Absent, Single, Several}
 use Rattle.nntp_facts.proofs.FirstFree.{first_free_once}
 use Rattle.nntp_facts.proofs.Counted.{none_more, one_more_given, one_more_counted, as_many_given, more_meets}
 use Rattle.nntp_facts.proofs.GivenNumbers.{same_demand}
@@ -158,7 +158,7 @@ module _ (asks : List Ask) (c : ℕ) (e : Option ℕ) (within : (n : ℕ) → is
 
   module _ (f : Option ℕ) (free : FirstFree (is_denied asks) f) where
     -- the test that passes tells the way
-    way : (d : Demand) → d ≡ demand asks → (w : Found) → Finds (λ n. is_known asks n && wants d n) w → IsTrue (is_settled d w f c e) → Ways asks c
+    way : (d : Demand) → d ≡ demand asks → (w : HowMany) → PassSoMany (λ n. is_known asks n && wants d n) w → IsTrue (is_settled d w f c e) → Ways asks c
     way NoDemand is w found t = ByShown (subst (λ d. MeetsDemand d (λ n. IsTrue (is_known asks n))) is tt) (sym (within c) ∙ t)
     way Impossible is w found t = cc
     way NotEmpty is Absent found t = more_of_room NotEmpty is found f free t
@@ -179,10 +179,10 @@ module _ (asks : List Ask) (c : ℕ) (e : Option ℕ) (within : (n : ℕ) → is
     way (SecondIs k) is Several found t = cc
 
     -- and the way tells that it passes
-    test : (d : Demand) → d ≡ demand asks → (w : Found) → Finds (λ n. is_known asks n && wants d n) w → Ways asks c → is_settled d w f c e ≡ true
+    test : (d : Demand) → d ≡ demand asks → (w : HowMany) → PassSoMany (λ n. is_known asks n && wants d n) w → Ways asks c → is_settled d w f c e ≡ true
     test d is w found (ByMore n x few) = by d is w found
       where
-        by : (d : Demand) → d ≡ demand asks → (w : Found) → Finds (λ n. is_known asks n && wants d n) w → is_settled d w f c e ≡ true
+        by : (d : Demand) → d ≡ demand asks → (w : HowMany) → PassSoMany (λ n. is_known asks n && wants d n) w → is_settled d w f c e ≡ true
         by NoDemand is w found = absurd (true≢false (sym x.wanted ∙ sym (ap (λ d. wants d n) is)))
         by Impossible is w found = absurd (true≢false (sym x.wanted ∙ sym (ap (λ d. wants d n) is)))
         by NotEmpty is Absent found = room_of_more NotEmpty is f free n x few
@@ -199,7 +199,7 @@ module _ (asks : List Ask) (c : ℕ) (e : Option ℕ) (within : (n : ℕ) → is
         enough : is_within e c ≡ true
         enough = within c ∙ few
 
-        by : (d : Demand) → (w : Found) → Finds (λ n. is_known asks n && wants d n) w → MeetsDemand d (λ n. IsTrue (is_known asks n)) → is_settled d w f c e ≡ true
+        by : (d : Demand) → (w : HowMany) → PassSoMany (λ n. is_known asks n && wants d n) w → MeetsDemand d (λ n. IsTrue (is_known asks n)) → is_settled d w f c e ≡ true
         by NoDemand w found met = enough
         by Impossible w found met = absurd met
         by NotEmpty Absent found met = absurd (found_is asks NotEmpty met.0 met.1 refl found)
@@ -217,7 +217,7 @@ module _ (asks : List Ask) (c : ℕ) (e : Option ℕ) (within : (n : ℕ) → is
             absurd (apart (met.4 n (ltb-true n k p.1) p.0 ∙ sym (met.4 m (ltb-true m k q.1) q.0)))
 
 -- where nothing that is known is denied, and each ask can be met, all stands together exactly if the test passes
-pub settled : (asks : List Ask) (d : Demand) (w : Found) (f : Option ℕ) (c : ℕ) (e : Option ℕ) → Looks asks d w f c e → ArePossible asks → AreApart asks
+pub settled : (asks : List Ask) (d : Demand) (w : HowMany) (f : Option ℕ) (c : ℕ) (e : Option ℕ) → Looks asks d w f c e → ArePossible asks → AreApart asks
     → IsTrue (is_settled d w f c e) ↔ AsksStand asks
 settled asks d w f c e looks possible apart = (
   λ t. stands asks c looks.count possible apart (way asks c e looks.estimate f looks.free d looks.demanded w looks.found t),

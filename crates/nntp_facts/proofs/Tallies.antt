@@ -15,9 +15,9 @@ use Rattle.nntp_article.specs.Machine.{is_ascending}
 use Rattle.nntp_facts.specs.Given.{wants}
 use Rattle.nntp_facts.specs.declared.demand.Demand.{Demand}
 use Rattle.nntp_facts.specs.Part.{is_one_of}
-use Rattle.nntp_facts.specs.Summary.{has, Finds, one_more, AreCounted, IsTally}
-use Rattle.nntp_facts.specs.declared.shown.Found.{Found}
-use Rattle.nntp_facts.proofs.FoundNumbers.{and_one, parted}
+use Rattle.nntp_facts.specs.Summary.{has, PassSoMany, and_one, AreCounted, IsTally}
+use Rattle.nntp_facts.specs.declared.shown.HowMany.{HowMany}
+use Rattle.nntp_facts.proofs.FoundNumbers.{and_one_found, parted}
 use Rattle.nntp_facts.proofs.Added.{map_of, in_map_of, len_map_of}
 use Rattle.nntp_facts.proofs.Hull.{same_bool}
 
@@ -39,7 +39,7 @@ counted_more p m c fresh (M, is, as_many) = (insert M m [], grown, len-insert na
           (λ i. or_left (p n) (m == n) ((is n).0 (sym kept ∙ i)), λ t. kept ∙ (is n).1 (elim (or_cases (p n) (m == n) t) [ inl a ↦ a | inr b ↦ absurd (ne (sym (eqb-true m n b))) ]))
     ]
 
-same_tally : (p q : ℕ → Bool) → ((n : ℕ) → p n ≡ q n) → (d : Demand) (w : Found) (c : ℕ) → IsTally p d w c → IsTally q d w c
+same_tally : (p q : ℕ → Bool) → ((n : ℕ) → p n ≡ q n) → (d : Demand) (w : HowMany) (c : ℕ) → IsTally p d w c → IsTally q d w c
 same_tally p q same d w c t = subst {A = ℕ → Bool} (λ p. IsTally p d w c) (λ i n. same n i) t
 
 unwanted : (a w b : Bool) → (b ≡ true → w ≡ false) → (a && w) ≡ ((a || b) && w)
@@ -50,16 +50,16 @@ unwanted false false true h = refl
 unwanted false w false h = refl
 
 -- a fresh number that is wanted
-pub tally_wanted : (p : ℕ → Bool) (m : ℕ) (d : Demand) (w : Found) (c : ℕ) → p m ≡ false → wants d m ≡ true → IsTally p d w c → IsTally (λ n. p n || m == n) d (one_more w) (c + 1)
+pub tally_wanted : (p : ℕ → Bool) (m : ℕ) (d : Demand) (w : HowMany) (c : ℕ) → p m ≡ false → wants d m ≡ true → IsTally p d w c → IsTally (λ n. p n || m == n) d (and_one w) (c + 1)
 tally_wanted p m d w c fresh wanted t = record {
-  found = subst {A = ℕ → Bool} (λ q. Finds q (one_more w)) (λ i n. parted (p n) (wants d n) (m == n) (λ e. subst (λ k. wants d k ≡ true) (eqb-true m n e) wanted) i) (and_one (λ n. p n && wants d n) m w t.found (ap (λ b. b && wants d m) fresh));
+  found = subst {A = ℕ → Bool} (λ q. PassSoMany q (and_one w)) (λ i n. parted (p n) (wants d n) (m == n) (λ e. subst (λ k. wants d k ≡ true) (eqb-true m n e) wanted) i) (and_one_found (λ n. p n && wants d n) m w t.found (ap (λ b. b && wants d m) fresh));
   count = counted_more p m c fresh t.count;
 }
 
 -- or not
-pub tally_unwanted : (p : ℕ → Bool) (m : ℕ) (d : Demand) (w : Found) (c : ℕ) → p m ≡ false → wants d m ≡ false → IsTally p d w c → IsTally (λ n. p n || m == n) d w (c + 1)
+pub tally_unwanted : (p : ℕ → Bool) (m : ℕ) (d : Demand) (w : HowMany) (c : ℕ) → p m ≡ false → wants d m ≡ false → IsTally p d w c → IsTally (λ n. p n || m == n) d w (c + 1)
 tally_unwanted p m d w c fresh not_wanted t = record {
-  found = subst {A = ℕ → Bool} (λ q. Finds q w) (λ i n. unwanted (p n) (wants d n) (m == n) (λ e. subst (λ k. wants d k ≡ false) (eqb-true m n e) not_wanted) i) t.found;
+  found = subst {A = ℕ → Bool} (λ q. PassSoMany q w) (λ i n. unwanted (p n) (wants d n) (m == n) (λ e. subst (λ k. wants d k ≡ false) (eqb-true m n e) not_wanted) i) t.found;
   count = counted_more p m c fresh t.count;
 }
 
@@ -69,7 +69,7 @@ absorbed true b h = refl
 absorbed false true h = h refl
 absorbed false false h = refl
 
-pub tally_there : (p : ℕ → Bool) (m : ℕ) (d : Demand) (w : Found) (c : ℕ) → p m ≡ true → IsTally p d w c → IsTally (λ n. p n || m == n) d w c
+pub tally_there : (p : ℕ → Bool) (m : ℕ) (d : Demand) (w : HowMany) (c : ℕ) → p m ≡ true → IsTally p d w c → IsTally (λ n. p n || m == n) d w c
 tally_there p m d w c there t = same_tally p (λ n. p n || m == n) (λ n. absorbed (p n) (m == n) (λ e. subst (λ k. p k ≡ true) (eqb-true m n e) there)) d w c t
 
 -- ---- as the code has it
@@ -101,23 +101,23 @@ shown_next before now after xs i l is more n =
 
 module _ (ns : List ℕ) (d : Demand) where
   -- before the first number of a list
-  pub tally_start : (w : Found) → IsStrictlySortedBy nat_cmp ns → Finds (λ n. has ns n && wants d n) w → IsTally (λ n. has ns n || is_one_of [] n) d w (length ns)
+  pub tally_start : (w : HowMany) → IsStrictlySortedBy nat_cmp ns → PassSoMany (λ n. has ns n && wants d n) w → IsTally (λ n. has ns n || is_one_of [] n) d w (length ns)
   tally_start w up found = same_tally (has ns) _ (λ n. or_none (has ns n)) d w (length ns) (record { found = found; count = (map_of ns, in_map_of ns, len_map_of ns up) })
 
   -- behind the number at i
-  pub tally_step : (xs : List ℕ) (i : ℕ) (w : Found) (c : ℕ) → i < length xs → IsTally (λ n. (has ns n || is_one_of (take i xs) n) || get_or xs i 0 == n) d w c → IsTally (λ n. has ns n || is_one_of (take (i + 1) xs) n) d w c
+  pub tally_step : (xs : List ℕ) (i : ℕ) (w : HowMany) (c : ℕ) → i < length xs → IsTally (λ n. (has ns n || is_one_of (take i xs) n) || get_or xs i 0 == n) d w c → IsTally (λ n. has ns n || is_one_of (take (i + 1) xs) n) d w c
   tally_step xs i w c l t = same_tally _ _ (λ n. or_assoc (has ns n) (is_one_of (take i xs) n) (get_or xs i 0 == n) ∙ ap (λ b. has ns n || b) (one_more_listed xs i l n)) d w c t
 
   -- behind all of them
-  pub tally_end : (xs : List ℕ) (i : ℕ) (w : Found) (c : ℕ) → i ≡ length xs → IsTally (λ n. has ns n || is_one_of (take i xs) n) d w c → IsTally (λ n. has ns n || is_one_of xs n) d w c
+  pub tally_end : (xs : List ℕ) (i : ℕ) (w : HowMany) (c : ℕ) → i ≡ length xs → IsTally (λ n. has ns n || is_one_of (take i xs) n) d w c → IsTally (λ n. has ns n || is_one_of xs n) d w c
   tally_end xs i w c e t = subst (λ l. IsTally (λ n. has ns n || is_one_of l n) d w c) (ap (λ i. take i xs) e ∙ take-length xs) t
 
 -- with no ends
-pub tally_no_ends : (p : ℕ → Bool) (d : Demand) (w : Found) (c : ℕ) → IsTally p d w c → IsTally (λ n. p n || false) d w c
+pub tally_no_ends : (p : ℕ → Bool) (d : Demand) (w : HowMany) (c : ℕ) → IsTally p d w c → IsTally (λ n. p n || false) d w c
 tally_no_ends p d w c t = same_tally p _ (λ n. or_none (p n)) d w c t
 
 -- with both ends
-pub tally_ends : (p : ℕ → Bool) (low high : ℕ) (d : Demand) (w : Found) (c : ℕ) → IsTally (λ n. (p n || low == n) || high == n) d w c → IsTally (λ n. p n || (low == n || high == n)) d w c
+pub tally_ends : (p : ℕ → Bool) (low high : ℕ) (d : Demand) (w : HowMany) (c : ℕ) → IsTally (λ n. (p n || low == n) || high == n) d w c → IsTally (λ n. p n || (low == n || high == n)) d w c
 tally_ends p low high d w c t = same_tally _ _ (λ n. or_assoc (p n) (low == n) (high == n)) d w c t
 
 -- the high one is there if it is the low one

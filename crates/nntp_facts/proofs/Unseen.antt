@@ -15,10 +15,10 @@ use Rattle.nntp_facts.specs.declared.demand.Demand.{Demand}
 use Rattle.nntp_facts.specs.declared.ends.Ends.{Ends}
 use Rattle.nntp_facts.specs.Together.{AsksStand}
 use Rattle.nntp_facts.specs.Part.{ends_of, is_end_of, is_demanding}
-use Rattle.nntp_facts.specs.Summary.{Summary, IsSummary, AreBounded, has, Finds, FirstFreeBelow}
+use Rattle.nntp_facts.specs.Summary.{Summary, IsSummary, AreBounded, has, PassSoMany, FirstFreeBelow}
 use Rattle.nntp_facts.specs.Readers.{AreUnseen, IsLeastGiven, IsGreatestGiven, free, if_wanted, all_numbers, one_more_in, known_ends_in, unseen_beside, unseen_in, unseen_high_beside, unseen_high_in}
-use Rattle.nntp_facts.specs.declared.shown.Found.{Found}
-use Rattle.nntp_facts.specs.declared.shown.Found.TheVariants.{Absent, Single, Several}
+use Rattle.nntp_facts.specs.declared.shown.HowMany.{HowMany}
+use Rattle.nntp_facts.specs.declared.shown.HowMany.TheVariants.{Absent, Single, Several}
 use Rattle.nntp_facts.proofs.Added.{some_there, there_is_has}
 use Rattle.nntp_facts.proofs.FirstFree.{free_is, free_none, first_free_once}
 use Rattle.nntp_facts.proofs.Hull.{end_if, some_is, stands_by_hull, between_ends}
@@ -71,7 +71,7 @@ one_has : (ns : List ℕ) (n : ℕ) → In n ns → has ns n ≡ true
 one_has ns n i = any_in (is_at (nat_cmp n)) n ns i ((eq_by_cmp_equiv nat_cmp_total).refl n)
 
 -- none is found where none is wanted
-none_wanted : (ns : List ℕ) (d : Demand) → Finds (λ n. has ns n && wants d n) Absent → list_any (wants d) ns ≡ false
+none_wanted : (ns : List ℕ) (d : Demand) → PassSoMany (λ n. has ns n && wants d n) Absent → list_any (wants d) ns ≡ false
 none_wanted ns d none = false_from_ne_true _ (λ t.
     let f = found_in (wants d) ns t in
     true≢false (sym (and_from (has ns f.0) (wants d f.0) (one_has ns f.0 f.1) f.2) ∙ none f.0))
@@ -83,15 +83,15 @@ some_wanted ns d n t = let p = and_parts (has ns n) (wants d n) t in any_in (wan
 -- ---- what the code finds
 
 -- where a number is shown that is wanted
-pub met : (s : Summary) (w : Found) → Finds (λ n. has s.shown n && wants s.demand n) w → (w ≡ Absent → ⊥) → None ≡ one_more_in s
+pub met : (s : Summary) (w : HowMany) → PassSoMany (λ n. has s.shown n && wants s.demand n) w → (w ≡ Absent → ⊥) → None ≡ one_more_in s
 met s Absent found some = absurd (some refl)
 met s Single found some = ap (λ b. cond b None (if_wanted s.demand (free (holds s.denied) all_numbers 1))) (sym (some_wanted s.shown s.demand found.0 found.1))
 met s Several found some = ap (λ b. cond b None (if_wanted s.demand (free (holds s.denied) all_numbers 1))) (sym (some_wanted s.shown s.demand found.0 found.3))
 
-module _ (s : Summary) (w : Found) (found : Finds (λ n. has s.shown n && wants s.demand n) w) (none : w ≡ Absent) where
+module _ (s : Summary) (w : HowMany) (found : PassSoMany (λ n. has s.shown n && wants s.demand n) w) (none : w ≡ Absent) where
   -- what is searched for then
   searched : one_more_in s ≡ if_wanted s.demand (free (holds s.denied) all_numbers 1)
-  searched = ap (λ b. cond b None (if_wanted s.demand (free (holds s.denied) all_numbers 1))) (none_wanted s.shown s.demand (subst (Finds (λ n. has s.shown n && wants s.demand n)) none found))
+  searched = ap (λ b. cond b None (if_wanted s.demand (free (holds s.denied) all_numbers 1))) (none_wanted s.shown s.demand (subst (PassSoMany (λ n. has s.shown n && wants s.demand n)) none found))
 
   -- where all numbers are denied
   pub none_free : IsFullFrom s.denied 1 → None ≡ one_more_in s

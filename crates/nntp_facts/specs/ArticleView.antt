@@ -10,20 +10,20 @@ use Rattle.nntp_facts.specs.Kept.{KeptArticle}
 use Rattle.nntp_facts.specs.Articles.{denied}
 use Rattle.nntp_facts.specs.declared.articles.known.Known.{Known}
 use Rattle.nntp_facts.specs.declared.articles.known.Known.TheVariants.{Denied, There}
-use Rattle.nntp_facts.specs.declared.articles.known.Seen.{Seen}
+use Rattle.nntp_facts.specs.declared.articles.known.KnownArticle.{KnownArticle}
 
 -- the octets of lines, where they are held
 abbrev pub lines_held : {A : Type 0} → Option (Vec (Vec ℕ A) A) → Option (List Line)
 lines_held lines = option_map (λ v. held v.items) lines
 
 -- what is kept of an article
-abbrev pub seen_value : {A : Type 0} → Seen A → KeptArticle
-seen_value s = record { is_denied = false; is_sent = s.is_sent; head = lines_held s.head; body = lines_held s.body }
+abbrev pub known_article : {A : Type 0} → KnownArticle A → KeptArticle
+known_article s = record { is_denied = false; is_sent = s.is_sent; head = lines_held s.head; body = lines_held s.body }
 
 -- what is kept of an id
 abbrev pub known_value : {A : Type 0} → Known A → KeptArticle
 known_value Denied = denied
-known_value (There s) = seen_value s
+known_value (There s) = known_article s
 
 -- what is kept of ids, one after the other
 abbrev pub entries_value : {A : Type 0} → List (Vec ℕ A × Known A) → List (Id × KeptArticle)

@@ -76,7 +76,7 @@ is_known asks n = is_shown asks n || is_given_end asks n
 abbrev pub is_denied : List Ask → ℕ → Bool
 is_denied asks n = list_any (λ ask. denies ask n) asks
 
--- what the ask says of the first number of the group where it isn't seen
+-- what the ask says of the first number of the group where it isn't shown
 abbrev pub demand_in : Ask → Demand
 demand_in (IsBottom First) = NotEmpty
 demand_in (IsTop First) = OnlyOne

@@ -34,7 +34,7 @@ abbrev pub said_by : Marks → List Paired → List Fact
 said_by how past = facts_of_session how (asked_of past) (responses_of past)
 
 -- the facts are those of these exchanges, which some spool permits
-pub record Stands (profile : Profile) (facts : FactsKept) (past : List Paired) : Type 0 where
+pub record HasNoted (profile : Profile) (facts : FactsKept) (past : List Paired) : Type 0 where
   pub profile_is : profile_of facts.limit facts.marks ≡ profile
   pub is_whole : facts.has_failed ≡ false
   pub count : facts.count ≡ length past
@@ -56,7 +56,7 @@ ArePermitted profile pairs = SomePermits profile (asked_of pairs) (responses_of 
 
 -- what was said of one more exchange is so: some spool permits it behind those before, and it is added; it doesn't fit the visible state; or it fits, and no spool permits it behind them; and where it isn't added, the facts are as before
 abbrev pub IsNoted : Profile → List Paired → Paired → FactsKept → FactsKept → Noted → Type 0
-IsNoted profile past pair old new Consistent = ArePermitted profile (past ++ pair ∷ []) × Stands profile new (past ++ pair ∷ [])
+IsNoted profile past pair old new Consistent = ArePermitted profile (past ++ pair ∷ []) × HasNoted profile new (past ++ pair ∷ [])
 IsNoted profile past pair old new OutOfPlace = IsFalse (fits profile old.visible (asked_at pair.line) pair.response) × (new ≡ old)
 IsNoted profile past pair old new Contradiction = IsTrue (fits profile old.visible (asked_at pair.line) pair.response) × (ArePermitted profile (past ++ pair ∷ []) → ⊥) × (new ≡ old)
 

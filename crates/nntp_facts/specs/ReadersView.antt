@@ -6,10 +6,10 @@ use Rattle.nntp_article.specs.Article.{Id}
 use Rattle.nntp_article.specs.Spool.{Name}
 use Rattle.nntp_facts.specs.Kept.{KeptGroup}
 use Rattle.nntp_facts.specs.Readers.{ShownGroup, ShownArticle}
-use Rattle.nntp_facts.specs.declared.seen_numbers.SeenNumber.{SeenNumber}
+use Rattle.nntp_facts.specs.declared.shown_numbers.ShownNumber.{ShownNumber}
 
 -- the number, and its id
-abbrev pub number_value : SeenNumber → ℕ × Option Id
+abbrev pub number_value : ShownNumber → ℕ × Option Id
 number_value n = (n.number, option_copied n.id)
 
 -- groups by their names, one after the other

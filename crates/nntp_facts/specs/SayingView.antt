@@ -9,7 +9,7 @@ use Rattle.nntp_facts.specs.declared.saying.GroupPart.{GroupPart}
 use Rattle.nntp_facts.specs.declared.saying.OfArticle.{OfArticle}
 use Rattle.nntp_facts.specs.declared.saying.OfArticle.TheVariants.{Lacks, Exists, Sends}
 use Rattle.nntp_facts.specs.declared.saying.ArticlePart.{ArticlePart}
-use Rattle.nntp_facts.specs.declared.saying.ListPart.{ListPart}
+use Rattle.nntp_facts.specs.declared.saying.ActivePart.{ActivePart}
 use Rattle.nntp_facts.specs.declared.saying.Saying.{Saying}
 
 -- the id at a number
@@ -31,9 +31,9 @@ abbrev pub article_said : ArticlePart → Id × said_of.OfArticle
 article_said a = (a.id.now, of_article a.said)
 
 -- the groups that match
-abbrev pub groups_said : ListPart → Option (List ℕ) × List ActiveValue
-groups_said l = (l.wildmat.now, active_groups l.block.now)
+abbrev pub active_said : ActivePart → Option (List ℕ) × List ActiveValue
+active_said l = (l.wildmat.now, active_groups l.block.now)
 
 -- all that is said
 abbrev pub saying_of : Saying → said_of.Saying
-saying_of s = record { there_is = option_map (λ name. name.now) s.there_is; there_is_no = option_map (λ name. name.now) s.there_is_no; group = option_map of_group s.group; article = option_map article_said s.article; groups = option_map groups_said s.groups }
+saying_of s = record { there_is = option_map (λ name. name.now) s.there_is; there_is_no = option_map (λ name. name.now) s.there_is_no; group = option_map of_group s.group; article = option_map article_said s.article; groups = option_map active_said s.groups }

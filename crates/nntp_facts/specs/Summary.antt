@@ -13,8 +13,8 @@ use Rattle.nntp_facts.specs.Part.{Said, part_denies, is_one_of, is_within, is_wi
 use Rattle.nntp_facts.specs.declared.demand.Demand.{Demand}
 use Rattle.nntp_facts.specs.declared.demand.Demand.TheVariants.{NoDemand, NotEmpty, Impossible}
 use Rattle.nntp_facts.specs.declared.ends.Ends.{Ends}
-use Rattle.nntp_facts.specs.declared.shown.Found.{Found}
-use Rattle.nntp_facts.specs.declared.shown.Found.TheVariants.{Absent, Single, Several}
+use Rattle.nntp_facts.specs.declared.shown.HowMany.{HowMany}
+use Rattle.nntp_facts.specs.declared.shown.HowMany.TheVariants.{Absent, Single, Several}
 
 -- ---- the summary
 
@@ -68,15 +68,15 @@ denied_after denied p n = holds denied n || part_denies p n
 -- ---- whether what is asked stands together, from little
 
 -- how many pass the test
-abbrev pub Finds : (ℕ → Bool) → Found → Type 0
-Finds p Absent = (n : ℕ) → p n ≡ false
-Finds p Single = (n : ℕ) × (p n ≡ true) × ((m : ℕ) → p m ≡ true → m ≡ n)
-Finds p Several = (n : ℕ) × (m : ℕ) × (n ≢ m) × (p n ≡ true) × (p m ≡ true)
+abbrev pub PassSoMany : (ℕ → Bool) → HowMany → Type 0
+PassSoMany p Absent = (n : ℕ) → p n ≡ false
+PassSoMany p Single = (n : ℕ) × (p n ≡ true) × ((m : ℕ) → p m ≡ true → m ≡ n)
+PassSoMany p Several = (n : ℕ) × (m : ℕ) × (n ≢ m) × (p n ≡ true) × (p m ≡ true)
 
 -- one more than that
-abbrev pub one_more : Found → Found
-one_more Absent = Single
-one_more w = Several
+abbrev pub and_one : HowMany → HowMany
+and_one Absent = Single
+and_one w = Several
 
 -- the first number from 1 on that isn't denied, if there is one
 abbrev pub FirstFree : (ℕ → Bool) → Option ℕ → Type 0
@@ -88,7 +88,7 @@ has_room d None count estimate = false
 has_room d (Some f) count estimate = wants d f && is_within estimate (count + 1)
 
 -- the demand is met by the numbers that are known, of which it wants so many, or by one more
-abbrev pub is_settled : Demand → Found → Option ℕ → ℕ → Option ℕ → Bool
+abbrev pub is_settled : Demand → HowMany → Option ℕ → ℕ → Option ℕ → Bool
 is_settled NoDemand found free count estimate = is_within estimate count
 is_settled Impossible found free count estimate = false
 is_settled d Absent free count estimate = has_room d free count estimate
@@ -101,14 +101,14 @@ abbrev pub AreCounted : (ℕ → Bool) → ℕ → Type 0
 AreCounted p c = (M : Numbers) × ((n : ℕ) → IsNumber M n ↔ IsTrue (p n)) × (len M ≡ c)
 
 -- of the numbers that pass the test so many are found that are wanted, and there are so many
-pub record IsTally (p : ℕ → Bool) (d : Demand) (w : Found) (c : ℕ) : Type 0 where
-  pub found : Finds (λ n. p n && wants d n) w
+pub record IsTally (p : ℕ → Bool) (d : Demand) (w : HowMany) (c : ℕ) : Type 0 where
+  pub found : PassSoMany (λ n. p n && wants d n) w
   pub count : AreCounted p c
 
 -- what is_settled looks at is so of the asks
-pub record Looks (asks : List Ask) (d : Demand) (w : Found) (f : Option ℕ) (c : ℕ) (e : Option ℕ) : Type 0 where
+pub record Looks (asks : List Ask) (d : Demand) (w : HowMany) (f : Option ℕ) (c : ℕ) (e : Option ℕ) : Type 0 where
   pub demanded : d ≡ demand asks
-  pub found : Finds (λ n. is_known asks n && wants d n) w
+  pub found : PassSoMany (λ n. is_known asks n && wants d n) w
   pub free : FirstFree (is_denied asks) f
   pub count : AreCounted (is_known asks) c
   pub estimate : (n : ℕ) → is_within e n ≡ is_within_all asks n
@@ -128,7 +128,7 @@ abbrev pub AreOpen : List (ℕ × ℕ) → Said → Option Ends → Type 0
 AreOpen denied p ends = (n : ℕ) → is_end_of ends n ≡ true → denied_after denied p n ≡ false
 
 -- what is_settled looks at, after what is said
-pub record LooksAfter (s : Summary) (p : Said) (d : Demand) (w : Found) (f : Option ℕ) (c : ℕ) (e : Option ℕ) : Type 0 where
+pub record LooksAfter (s : Summary) (p : Said) (d : Demand) (w : HowMany) (f : Option ℕ) (c : ℕ) (e : Option ℕ) : Type 0 where
   pub demanded : d ≡ join s.demand p.demand
   pub tally : IsTally (known_after s p) d w c
   pub free : FirstFreeBelow (denied_after s.denied p) f

@@ -8,13 +8,13 @@ ghost use Rattle.nntp_facts.specs.Summary.{has, denied_after, AgreesWith, AreOpe
 
 use crate::ends::Ends;
 use crate::gaps::{Gaps, none_in_gaps};
-use crate::part::Part;
+use crate::numbers_part::NumbersPart;
 use crate::shown::none_outside;
 use nntp_intervals::IntervalSet;
 use std::alloc::Allocator;
 use std::collections::BTreeSet;
 
-impl<'s> Part<'s> {
+impl<'s> NumbersPart<'s> {
     /// Whether the part can be, and nothing is both shown and denied.
     pub(crate) fn agrees<A: Allocator>(
         &self,

@@ -15,12 +15,12 @@ ghost use Rattle.nntp_facts.specs.Readers.{shown_articles};
 ghost use Rattle.nntp_facts.specs.ArticleView.{known_value, known_of};
 
 mod known;
-mod seen_articles;
+mod shown_articles;
 
 use crate::saying::{ArticlePart, OfArticle};
-use known::{Known, Seen, Sent};
+use known::{Known, KnownArticle, Sent};
 use nntp_wire::{Block, What};
-pub use seen_articles::{SeenArticle, SeenArticles};
+pub use shown_articles::{ShownArticle, ShownArticles};
 use std::alloc::{AllocError, Allocator, Global};
 use std::collections::BTreeMap;
 use std::collections::btree_map::Entry;
@@ -69,10 +69,10 @@ impl<A: Allocator> Articles<A> {
 
 impl<A: Allocator> Articles<A> {
     /// The ids that have articles, in byte order, with what is known of each.
-    pub(crate) fn seen(&self) -> SeenArticles<'_, A>
+    pub(crate) fn shown(&self) -> ShownArticles<'_, A>
         ensures { result ≡ shown_articles self.now }
     {
-        SeenArticles::new(self.known.iter())
+        ShownArticles::new(self.known.iter())
     }
 }
 
@@ -135,7 +135,7 @@ impl<A: Allocator + Copy> Articles<A> {
             → IsFactAdded facts (IdAt name n id.now) self.old self.new does) }
     {
         let id = Vec::from_slice(self.alloc, id)?;
-        put_new(&mut self.known, id, Known::There(Seen::unsent()))
+        put_new(&mut self.known, id, Known::There(KnownArticle::unsent()))
     }
 
     /// Adds that the id has no article, if it may be so, and tells whether it may. After an error the

@@ -1,9 +1,9 @@
-//! What is said of the first number of a group where it isn't seen.
+//! What is said of the first number of a group where it isn't shown.
 ghost use Rattle.std.specs.Prelude.{◌≡◌};
 ghost use Rattle.nntp_facts.specs.Given.{join, wants};
 ghost use Rattle.nntp_facts.specs.Part.{is_demanding};
 
-/// What is said of the first number of a group where it isn't seen.
+/// What is said of the first number of a group where it isn't shown.
 #[derive(Clone, Copy, PartialEq, Eq)]
 pub(crate) enum Demand {
     NoDemand,

@@ -4,15 +4,15 @@ ghost use Rattle.nntp_pair.specs.Pairing.{Paired};
 ghost use Rattle.nntp_article.specs.declared.profile.Profile.{Profile};
 ghost use Rattle.nntp_article.specs.Limit.{profile_of};
 ghost use Rattle.nntp_facts.specs.Given.{is_mentioned};
-ghost use Rattle.nntp_facts.specs.Noted.{Stands, IsDue, IsNoted, Notes, said_by};
-ghost use Rattle.nntp_facts.specs.Readers.{ShownGroup, ShownArticle, AreShownGroups, AreShownArticles};
+ghost use Rattle.nntp_facts.specs.Noted.{HasNoted, IsDue, IsNoted, Notes, said_by};
+ghost use Rattle.nntp_facts.specs.Readers.{ShownGroup as GroupValue, ShownArticle as ArticleValue, AreShownGroups, AreShownArticles};
 
-use crate::articles::{SeenArticle, SeenArticles};
+use crate::articles::{ShownArticle, ShownArticles};
 use crate::kept::Kept;
 use crate::noted::{FactsError, Noted};
 use crate::position::Position;
 use crate::saying::{Saying, numbers_listed};
-use crate::seen_groups::{SeenGroup, SeenGroups};
+use crate::shown_groups::{ShownGroup, ShownGroups};
 use nntp_article::{Profile, Visible};
 use nntp_pair::Exchange;
 use nntp_wire::{Limit, Marks};
@@ -49,7 +49,7 @@ impl<A: Allocator + Copy> Facts<A> {
     /// The facts of no exchanges, where article numbers are within the limit, and the marks of a 211 are read
     /// so (RFC 3977, sections 6 and 6.1.1.2). It takes no memory yet.
     pub fn new(alloc: A, limit: Limit, marks: Marks) -> Facts<A>
-        ensures stands { Stands (profile_of limit marks) result [] }
+        ensures stands { HasNoted (profile_of limit marks) result [] }
         ensures limit { result.limit ≡ limit }
         ensures marks { result.marks ≡ marks }
     {
@@ -76,7 +76,7 @@ impl<A: Allocator + Copy> Facts<A> {
     /// `Memory` where memory was refused; from then on `Failed`.
     pub fn note(&mut self, exchange: &Exchange<'_>) -> Result<Noted, FactsError>
         requires { self.old.has_failed ≡ false → IsDue self.old exchange.now }
-        ensures noted { (profile : Profile) (past : List Paired) → Stands profile self.old past → Notes profile past exchange.now self.old self.new result }
+        ensures noted { (profile : Profile) (past : List Paired) → HasNoted profile self.old past → Notes profile past exchange.now self.old self.new result }
         ensures failed { self.old.has_failed ≡ true → (result ≡ Err FactsError.Failed) × (self.new ≡ self.old) }
     {
         if self.has_failed {
@@ -94,7 +94,7 @@ impl<A: Allocator + Copy> Facts<A> {
     /// The same, where memory wasn't refused before. After an error the value says nothing of use.
     fn try_note(&mut self, exchange: &Exchange<'_>) -> Result<Noted, AllocError>
         requires { IsDue self.old exchange.now }
-        ensures { IfOk result (λ noted. (profile : Profile) (past : List Paired) → Stands profile self.old past → IsNoted profile past exchange.now self.old self.new noted) }
+        ensures { IfOk result (λ noted. (profile : Profile) (past : List Paired) → HasNoted profile self.old past → IsNoted profile past exchange.now self.old self.new noted) }
     {
         let index = exchange.index();
         let prompt = exchange.prompt();
@@ -132,36 +132,36 @@ impl<A: Allocator> Facts<A> {
     }
 
     /// The groups that each spool has, in byte order of their names.
-    pub fn groups(&self) -> SeenGroups<'_, A>
-        ensures { (profile : Profile) (past : List Paired) → Stands profile self.now past → AreShownGroups (said_by profile.marks past) result }
+    pub fn groups(&self) -> ShownGroups<'_, A>
+        ensures { (profile : Profile) (past : List Paired) → HasNoted profile self.now past → AreShownGroups (said_by profile.marks past) result }
     {
         self.kept.groups()
     }
 
     /// The group with so many before it, if there are more. It goes through those before.
-    pub fn group(&self, index: usize) -> Option<SeenGroup<'_, A>>
-        ensures { (profile : Profile) (past : List Paired) → Stands profile self.now past → (groups : List ShownGroup) × AreShownGroups (said_by profile.marks past) groups × (result ≡ slice_get groups index) }
+    pub fn group(&self, index: usize) -> Option<ShownGroup<'_, A>>
+        ensures { (profile : Profile) (past : List Paired) → HasNoted profile self.now past → (groups : List GroupValue) × AreShownGroups (said_by profile.marks past) groups × (result ≡ slice_get groups index) }
     {
         self.groups().nth(index)
     }
 
     /// The articles that each spool has, in byte order of their message-ids.
-    pub fn articles(&self) -> SeenArticles<'_, A>
-        ensures { (profile : Profile) (past : List Paired) → Stands profile self.now past → AreShownArticles (said_by profile.marks past) result }
+    pub fn articles(&self) -> ShownArticles<'_, A>
+        ensures { (profile : Profile) (past : List Paired) → HasNoted profile self.now past → AreShownArticles (said_by profile.marks past) result }
     {
         self.kept.articles()
     }
 
     /// The article with so many before it, if there are more. It goes through those before.
-    pub fn article(&self, index: usize) -> Option<SeenArticle<'_, A>>
-        ensures { (profile : Profile) (past : List Paired) → Stands profile self.now past → (articles : List ShownArticle) × AreShownArticles (said_by profile.marks past) articles × (result ≡ slice_get articles index) }
+    pub fn article(&self, index: usize) -> Option<ShownArticle<'_, A>>
+        ensures { (profile : Profile) (past : List Paired) → HasNoted profile self.now past → (articles : List ArticleValue) × AreShownArticles (said_by profile.marks past) articles × (result ≡ slice_get articles index) }
     {
         self.articles().nth(index)
     }
 
     /// Whether an answer mentions the id.
     pub fn mentions(&self, id: &[u8]) -> bool
-        ensures { (profile : Profile) (past : List Paired) → Stands profile self.now past → result ≡ is_mentioned (said_by profile.marks past) id.now }
+        ensures { (profile : Profile) (past : List Paired) → HasNoted profile self.now past → result ≡ is_mentioned (said_by profile.marks past) id.now }
     {
         self.kept.mentions(id)
     }

@@ -6,11 +6,11 @@ ghost use Rattle.nntp_facts.specs.Part.{IsRegular};
 ghost use Rattle.nntp_facts.specs.PartView.{said};
 ghost use Rattle.nntp_facts.specs.Summary.{denied_after, is_open, FirstFreeBelow};
 
-use crate::part::Part;
+use crate::numbers_part::NumbersPart;
 use nntp_intervals::IntervalSet;
 use std::alloc::Allocator;
 
-impl<'s> Part<'s> {
+impl<'s> NumbersPart<'s> {
     /// The first free number after the part, where no number of the part is denied: the first of these,
     /// where what is free without them is in their interval.
     pub(crate) fn first_free<A: Allocator>(&self, denied: &IntervalSet<A>) -> Option<u64>

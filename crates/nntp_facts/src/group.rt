@@ -104,28 +104,30 @@ impl<A: Allocator> Group<A> {
     /// that the number has the id, which is shown at no other, and no other there.
     pub(crate) fn joins(&self, part: &GroupPart<'_>) -> bool
         ensures { (asks more : List Ask) → IsSummary self.now.numbers asks → AsksStand asks → AreBounded (asks ++ more) → Says (said part.now.numbers) more
-            → IsTrue result ↔ (AsksStand (asks ++ more) × MayHave self.now.ids self.now.places (id_at part.now.id)) }
+            → Agree (get self.now.ids) (get self.now.places) (id_at part.now.id) → IsTrue result ↔ (AsksStand (asks ++ more) × MayHave self.now.ids self.now.places (id_at part.now.id)) }
     {
         self.numbers.joins(&part.numbers) && self.may_have(part.id)
     }
 
     /// Whether the number may have the id.
     fn may_have(&self, id: Option<IdAt<'_>>) -> bool
-        ensures { IsTrue result ↔ MayHave self.now.ids self.now.places (id_at id.entry) }
+        ensures { Agree (get self.now.ids) (get self.now.places) (id_at id.entry) → IsTrue result ↔ MayHave self.now.ids self.now.places (id_at id.entry) }
     {
         match id {
-            Some(at) => self.has_no_other_id(at) && self.has_no_other_place(at),
+            Some(at) => self.is_free(at),
             None => true,
         }
     }
 
-    /// Whether no other id is shown at the number.
-    fn has_no_other_id(&self, at: IdAt<'_>) -> bool
-        ensures { IsTrue result ↔ IfSome (get self.now.ids at.entry.number) (λ other. at.entry.id.now ≡ other) }
+    /// Whether no other id is shown at the number, and the id at no other number: an id that is shown there
+    /// already is shown nowhere else.
+    fn is_free(&self, at: IdAt<'_>) -> bool
+        ensures { Agree (get self.now.ids) (get self.now.places) (Some (at.entry.number, at.entry.id.now))
+            → IsTrue result ↔ IsFree (get self.now.ids at.entry.number) (get self.now.places at.entry.id.now) (at.entry.number, at.entry.id.now) }
     {
         match self.id(at.number) {
             Some(other) => other == at.id,
-            None => true,
+            None => self.has_no_other_place(at),
         }
     }
 

@@ -15,7 +15,7 @@ mod listed;
 
 use crate::group::Group;
 use crate::saying::GroupPart;
-use crate::seen_groups::SeenGroups;
+use crate::shown_groups::ShownGroups;
 use std::alloc::{AllocError, Allocator, Global};
 use std::collections::BTreeMap;
 use std::marker::Model;
@@ -77,7 +77,7 @@ impl<A: Allocator + Copy> Groups<A> {
     /// Whether what is said of a group stands together with all before.
     pub(crate) fn joins(&self, part: &GroupPart<'_>) -> bool
         ensures { (tells : Name → Told) (asks : List Ask) → AreKept tells self.now → AsksStand (tells part.now.name.now).asks → Says (said part.now.numbers) asks
-            → ((tells part.now.name.now).is_shown ≡ false → AreBounded asks)
+            → ((tells part.now.name.now).is_shown ≡ false → AreBounded asks) → Agree (tells part.now.name.now).ids (tells part.now.name.now).places (id_at part.now.id)
             → IsTrue result ↔ (AsksStand ((tells part.now.name.now).asks ++ asks) × MayShow (tells part.now.name.now) (id_at part.now.id)) }
     {
         match self.get(part.name) {
@@ -103,9 +103,9 @@ impl<A: Allocator> Groups<A> {
     }
 
     /// The groups, in byte order of their names.
-    pub(crate) fn seen(&self) -> SeenGroups<'_, A>
+    pub(crate) fn shown(&self) -> ShownGroups<'_, A>
         ensures { result ≡ shown_groups self.now }
     {
-        SeenGroups::new(self.groups.iter())
+        ShownGroups::new(self.groups.iter())
     }
 }

@@ -16,11 +16,11 @@ ghost use Rattle.nntp_facts.specs.KeptSaying.{MaySayOf, GroupJoins, JoinGroups, 
 
 mod listed_groups;
 
-use crate::articles::{Articles, SeenArticles};
+use crate::articles::{Articles, ShownArticles};
 use crate::groups::Groups;
 use crate::names::Names;
 use crate::saying::{ArticlePart, GroupPart, Saying};
-use crate::seen_groups::SeenGroups;
+use crate::shown_groups::ShownGroups;
 use nntp_wire::GroupName;
 use std::alloc::{AllocError, Allocator, Global};
 use std::marker::Model;
@@ -178,17 +178,17 @@ impl<A: Allocator> Kept<A> {
 
 impl<A: Allocator> Kept<A> {
     /// The groups that are shown, in byte order of their names.
-    pub(crate) fn groups(&self) -> SeenGroups<'_, A>
+    pub(crate) fn groups(&self) -> ShownGroups<'_, A>
         ensures { result ≡ shown_groups self.now.groups }
     {
-        self.groups.seen()
+        self.groups.shown()
     }
 
     /// The articles that are shown, in byte order of their message-ids.
-    pub(crate) fn articles(&self) -> SeenArticles<'_, A>
+    pub(crate) fn articles(&self) -> ShownArticles<'_, A>
         ensures { result ≡ shown_articles self.now.articles }
     {
-        self.articles.seen()
+        self.articles.shown()
     }
 
     /// Whether an answer mentions the id.

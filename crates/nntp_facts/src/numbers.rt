@@ -13,8 +13,8 @@ ghost use Rattle.nntp_facts.specs.Summary.{IsSummary, AreBounded, ends_after, de
 use crate::demand::Demand;
 use crate::ends::{self, Ends};
 use crate::gaps::deny_gaps;
-use crate::part::Part;
-use crate::shown::{Found, found_wanted, show};
+use crate::numbers_part::NumbersPart;
+use crate::shown::{HowMany, how_many_wanted, show};
 use crate::tally::Tally;
 use nntp_intervals::IntervalSet;
 use std::alloc::{AllocError, Allocator, Global};
@@ -61,7 +61,7 @@ impl<A: Allocator + Copy> Numbers<A> {
     }
 
     /// Adds what the part says. After an error the value says nothing of use.
-    pub(crate) fn add(&mut self, part: &Part<'_>) -> Result<(), AllocError>
+    pub(crate) fn add(&mut self, part: &NumbersPart<'_>) -> Result<(), AllocError>
         ensures { OnOk result ((asks more : List Ask) → IsSummary self.old asks → Says (said part.now) more → IsSummary self.new (asks ++ more)) }
     {
         deny(&mut self.denied, part)?;
@@ -75,7 +75,7 @@ impl<A: Allocator + Copy> Numbers<A> {
 
 impl<A: Allocator> Numbers<A> {
     /// Whether what the part says stands together with all before.
-    pub(crate) fn joins(&self, part: &Part<'_>) -> bool
+    pub(crate) fn joins(&self, part: &NumbersPart<'_>) -> bool
         ensures { (asks more : List Ask) → IsSummary self.now asks → AsksStand asks → AreBounded (asks ++ more) → Says (said part.now) more
             → IsTrue result ↔ AsksStand (asks ++ more) }
     {
@@ -93,7 +93,7 @@ impl<A: Allocator> Numbers<A> {
     }
 
     /// The strict marks after the part, where it is said then that there is a number.
-    fn ends_after(&self, part: &Part<'_>, demand: Demand) -> Option<Ends>
+    fn ends_after(&self, part: &NumbersPart<'_>, demand: Demand) -> Option<Ends>
         ensures { demand ≡ join self.now.demand part.now.demand → result ≡ ends_after self.now (said part.now) }
     {
         if self.shown.is_empty() && part.numbers.is_empty() && !demand.is_some() {
@@ -148,7 +148,7 @@ impl<A: Allocator> Numbers<A> {
     fn one_more(&self) -> Option<u64>
         ensures { result ≡ one_more_in self.now }
     {
-        let Found::Absent = found_wanted(&self.shown, self.demand) else {
+        let HowMany::Absent = how_many_wanted(&self.shown, self.demand) else {
             return None;
         };
         let n = self.denied.least_free_from(1)?;
@@ -190,7 +190,7 @@ fn is_settled<A: Allocator>(
     demand: Demand,
     tally: Tally,
     denied: &IntervalSet<A>,
-    part: &Part<'_>,
+    part: &NumbersPart<'_>,
     estimate: Option<u64>,
 ) -> bool
     requires { tally.count < 2 ^ 64 - 1 }
@@ -200,10 +200,10 @@ fn is_settled<A: Allocator>(
     match (demand, tally.found) {
         (Demand::NoDemand, _) => is_within(estimate, tally.count),
         (Demand::Impossible, _) => false,
-        (_, Found::Absent) => has_room(demand, part.first_free(denied), tally.count, estimate),
+        (_, HowMany::Absent) => has_room(demand, part.first_free(denied), tally.count, estimate),
         (Demand::NotEmpty, _) => is_within(estimate, tally.count),
-        (_, Found::Single) => is_within(estimate, tally.count),
-        (_, Found::Several) => false,
+        (_, HowMany::Single) => is_within(estimate, tally.count),
+        (_, HowMany::Several) => false,
     }
 }
 
@@ -219,7 +219,10 @@ fn has_room(demand: Demand, free: Option<u64>, count: u64, estimate: Option<u64>
 }
 
 /// Adds the numbers that the part denies.
-fn deny<A: Allocator + Copy>(denied: &mut IntervalSet<A>, part: &Part<'_>) -> Result<(), AllocError>
+fn deny<A: Allocator + Copy>(
+    denied: &mut IntervalSet<A>,
+    part: &NumbersPart<'_>,
+) -> Result<(), AllocError>
     ensures { OnOk result (IsRegular (said part.now) → (n : ℕ) → n < 2 ^ 64 → holds denied.new n ≡ denied_after denied.old (said part.now) n) }
 {
     deny_outside(denied, part.low, part.high)?;

@@ -17,11 +17,10 @@ ghost use Rattle.nntp_facts.specs.PartView.{said};
 ghost use Rattle.nntp_facts.specs.SayingView.{id_at, of_group, saying_of};
 ghost use Rattle.nntp_facts.specs.Summary.{AreBounded};
 
-use crate::part::Part;
+use crate::numbers_part::NumbersPart;
 use crate::position::Position;
 use nntp_wire::{
-    ActiveLine, Answer, Block, Command, GroupName, Marks, MessageId, Prompt, WaterMarks, What,
-    Which, Wildmat,
+    ActiveLine, Answer, Block, Command, GroupName, Marks, MessageId, Prompt, What, Which, Wildmat,
 };
 use std::alloc::{AllocError, Allocator};
 
@@ -36,7 +35,7 @@ pub(crate) struct IdAt<'s> {
 #[derive(Drop)]
 pub(crate) struct GroupPart<'s> {
     pub(crate) name: &'s [u8],
-    pub(crate) numbers: Part<'s>,
+    pub(crate) numbers: NumbersPart<'s>,
     pub(crate) id: Option<IdAt<'s>>,
 }
 
@@ -50,7 +49,7 @@ impl<'s> GroupPart<'s> {
     {
         GroupPart {
             name: line.name.as_slice(),
-            numbers: Part::of_bounds(line.low, line.high),
+            numbers: NumbersPart::of_bounds(line.low, line.high),
             id: None,
         }
     }
@@ -58,7 +57,7 @@ impl<'s> GroupPart<'s> {
     /// This is said of the numbers of the group, and the number has the id.
     fn with_id(
         name: &'s [u8],
-        numbers: Part<'s>,
+        numbers: NumbersPart<'s>,
         number: u64,
         id: &'s MessageId<'s>,
     ) -> GroupPart<'s>
@@ -98,7 +97,7 @@ pub(crate) struct ArticlePart<'s> {
 
 /// The groups that match.
 #[derive(Drop)]
-pub(crate) struct ListPart<'s> {
+pub(crate) struct ActivePart<'s> {
     pub(crate) wildmat: &'s Option<Wildmat<'s>>,
     pub(crate) block: &'s Block<'s>,
 }
@@ -113,7 +112,7 @@ pub(crate) struct Saying<'s> {
     pub(crate) group: Option<GroupPart<'s>>,
     pub(crate) article: Option<ArticlePart<'s>>,
     /// The groups that match are these.
-    pub(crate) groups: Option<ListPart<'s>>,
+    pub(crate) groups: Option<ActivePart<'s>>,
 }
 
 /// An answer that says nothing.
@@ -161,36 +160,17 @@ impl<'s> Saying<'s> {
     {
         match (command, answer) {
             (_, Answer::Plain { code }) => Saying::by_code(selected, at, command, *code),
-            (
-                Command::Group(_),
-                Answer::Group {
-                    estimate,
-                    low,
-                    high,
-                    name,
-                },
-            ) => {
-                let marks = WaterMarks::new(*estimate, *low, *high);
-                Saying::selects(name, Part::of_marks(how, marks))
+            (Command::Group(_), Answer::Group { marks, name }) => {
+                Saying::selects(name, NumbersPart::of_marks(how, *marks))
             }
-            (
-                Command::ListGroup { range, .. },
-                Answer::Numbers {
-                    estimate,
-                    low,
-                    high,
-                    name,
-                    block: _,
-                },
-            ) => {
-                let marks = WaterMarks::new(*estimate, *low, *high);
-                Saying::selects(name, Part::of_list(how, marks, *range, numbers))
+            (Command::ListGroup { range, .. }, Answer::Numbers { marks, name, .. }) => {
+                Saying::selects(name, NumbersPart::of_numbers(how, *marks, *range, numbers))
             }
             (Command::Next, Answer::Sent { number, id, .. }) => {
-                Saying::steps(selected, Part::steps_up(at, number), *number, id)
+                Saying::steps(selected, NumbersPart::steps_up(at, number), *number, id)
             }
             (Command::Last, Answer::Sent { number, id, .. }) => {
-                Saying::steps(selected, Part::steps_down(at, number), *number, id)
+                Saying::steps(selected, NumbersPart::steps_down(at, number), *number, id)
             }
             (
                 Command::Retrieve { what, which },
@@ -202,7 +182,7 @@ impl<'s> Saying<'s> {
                 },
             ) => Saying::by_success(selected, at, *what, which, number, id, block),
             (Command::ListActive(wildmat), Answer::Active(block)) => Saying {
-                groups: Some(ListPart { wildmat, block }),
+                groups: Some(ActivePart { wildmat, block }),
                 ..NOTHING
             },
             _ => NOTHING,
@@ -224,10 +204,10 @@ impl<'s> Saying<'s> {
                 411,
             ) => Saying::denies(*word),
             (Command::Next | Command::Last, 420) => {
-                Saying::asks(selected, Part::stands_nowhere(at))
+                Saying::asks(selected, NumbersPart::stands_nowhere(at))
             }
-            (Command::Next, 421) => Saying::asks(selected, Part::is_top(at)),
-            (Command::Last, 422) => Saying::asks(selected, Part::is_bottom(at)),
+            (Command::Next, 421) => Saying::asks(selected, NumbersPart::is_top(at)),
+            (Command::Last, 422) => Saying::asks(selected, NumbersPart::is_bottom(at)),
             (Command::Retrieve { which, .. }, code) => Saying::by_failure(
                 selected, at, which, code,
             ),
@@ -248,8 +228,8 @@ impl<'s> Saying<'s> {
                 }),
                 ..NOTHING
             },
-            (Which::Number(Some(n)), 423) => Saying::asks(selected, Part::lacks(*n)),
-            (Which::Current, 420) => Saying::asks(selected, Part::stands_nowhere(at)),
+            (Which::Number(Some(n)), 423) => Saying::asks(selected, NumbersPart::lacks(*n)),
+            (Which::Current, 420) => Saying::asks(selected, NumbersPart::stands_nowhere(at)),
             _ => NOTHING,
         }
     }
@@ -272,19 +252,19 @@ impl<'s> Saying<'s> {
         match which {
             Which::Id(_) if *number == 0 => Saying::sends(None, what, id, block),
             Which::Current => {
-                let numbers = Part::stands_at(at, number);
+                let numbers = NumbersPart::stands_at(at, number);
                 let group = GroupPart::with_id(selected, numbers, *number, id);
                 Saying::sends(Some(group), what, id, block)
             }
             _ => {
-                let group = GroupPart::with_id(selected, Part::has(number), *number, id);
+                let group = GroupPart::with_id(selected, NumbersPart::has(number), *number, id);
                 Saying::sends(Some(group), what, id, block)
             }
         }
     }
 
     /// There is such a group, and this of its numbers.
-    fn selects(name: &'s GroupName<'s>, numbers: Part<'s>) -> Saying<'s>
+    fn selects(name: &'s GroupName<'s>, numbers: NumbersPart<'s>) -> Saying<'s>
         ensures { saying_of result ≡ record { there_is = Some name.now; there_is_no = None; group = Some (record { name = name.now; numbers = said numbers.entry; id = None }); article = None; groups = None } }
     {
         Saying {
@@ -309,7 +289,7 @@ impl<'s> Saying<'s> {
     }
 
     /// This of the numbers of the group.
-    fn asks(name: &'s [u8], numbers: Part<'s>) -> Saying<'s>
+    fn asks(name: &'s [u8], numbers: NumbersPart<'s>) -> Saying<'s>
         ensures { saying_of result ≡ record { there_is = None; there_is_no = None; group = Some (record { name = name.now; numbers = said numbers.entry; id = None }); article = None; groups = None } }
     {
         Saying {
@@ -323,7 +303,12 @@ impl<'s> Saying<'s> {
     }
 
     /// The same, and the number has the id.
-    fn steps(name: &'s [u8], numbers: Part<'s>, number: u64, id: &'s MessageId<'s>) -> Saying<'s>
+    fn steps(
+        name: &'s [u8],
+        numbers: NumbersPart<'s>,
+        number: u64,
+        id: &'s MessageId<'s>,
+    ) -> Saying<'s>
         ensures { saying_of result ≡ record { there_is = None; there_is_no = None; group = Some (record { name = name.now; numbers = said numbers.entry; id = Some (number, id.now) }); article = Some (id.now, said_of.Exists); groups = None } }
     {
         Saying {

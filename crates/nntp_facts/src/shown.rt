@@ -5,7 +5,7 @@ ghost use Rattle.std.specs.BTreeMap.Range.{is_past_end};
 ghost use Rattle.std.specs.List.Sorted.{IsStrictlySortedBy};
 ghost use Rattle.nntp_intervals.specs.Intervals.{is_between};
 ghost use Rattle.nntp_facts.specs.Given.{wants};
-ghost use Rattle.nntp_facts.specs.Summary.{has, shown_after, Finds, one_more};
+ghost use Rattle.nntp_facts.specs.Summary.{has, shown_after, PassSoMany, and_one};
 
 use crate::demand::Demand;
 use std::alloc::{AllocError, Allocator};
@@ -14,44 +14,44 @@ use std::ops::Bound;
 
 /// How many numbers were found.
 #[derive(Clone, Copy)]
-pub(crate) enum Found {
+pub(crate) enum HowMany {
     Absent,
     Single,
     Several,
 }
 
-impl Found {
+impl HowMany {
     /// One more.
-    pub(crate) fn and_one(self) -> Found
-        ensures { result ≡ one_more self }
+    pub(crate) fn and_one(self) -> HowMany
+        ensures { result ≡ and_one self }
     {
         match self {
-            Found::Absent => Found::Single,
-            _ => Found::Several,
+            HowMany::Absent => HowMany::Single,
+            _ => HowMany::Several,
         }
     }
 }
 
 /// How many of the shown numbers are wanted.
-pub(crate) fn found_wanted<A: Allocator>(shown: &BTreeSet<u64, A>, demand: Demand) -> Found
-    ensures { Finds (λ n. has shown.now.keys n && wants demand n) result }
+pub(crate) fn how_many_wanted<A: Allocator>(shown: &BTreeSet<u64, A>, demand: Demand) -> HowMany
+    ensures { PassSoMany (λ n. has shown.now.keys n && wants demand n) result }
 {
     match demand {
-        Demand::NotEmpty | Demand::OnlyOne => found_up_to(shown, Bound::Unbounded),
-        Demand::SecondIs(k) => found_up_to(shown, Bound::Excluded(k)),
-        _ => Found::Absent,
+        Demand::NotEmpty | Demand::OnlyOne => how_many_up_to(shown, Bound::Unbounded),
+        Demand::SecondIs(k) => how_many_up_to(shown, Bound::Excluded(k)),
+        _ => HowMany::Absent,
     }
 }
 
 /// How many numbers there are up to an end.
-fn found_up_to<A: Allocator>(shown: &BTreeSet<u64, A>, end: Bound<u64>) -> Found
-    ensures { Finds (λ n. has shown.now.keys n && not (is_past_end nat_cmp end n)) result }
+fn how_many_up_to<A: Allocator>(shown: &BTreeSet<u64, A>, end: Bound<u64>) -> HowMany
+    ensures { PassSoMany (λ n. has shown.now.keys n && not (is_past_end nat_cmp end n)) result }
 {
     let mut numbers = shown.range((Bound::Unbounded, end));
     match (numbers.next(), numbers.next()) {
-        (Some(_), Some(_)) => Found::Several,
-        (Some(_), None) => Found::Single,
-        _ => Found::Absent,
+        (Some(_), Some(_)) => HowMany::Several,
+        (Some(_), None) => HowMany::Single,
+        _ => HowMany::Absent,
     }
 }
 

@@ -6,14 +6,14 @@ ghost use Rattle.nntp_facts.specs.Summary.{shown_after, IsTally};
 
 use crate::demand::Demand;
 use crate::ends::Ends;
-use crate::shown::{Found, found_wanted};
+use crate::shown::{HowMany, how_many_wanted};
 use std::alloc::Allocator;
 use std::collections::BTreeSet;
 
 /// How many numbers there are, and how many of them are wanted.
 #[derive(Clone, Copy)]
 pub(crate) struct Tally {
-    pub(crate) found: Found,
+    pub(crate) found: HowMany,
     pub(crate) count: u64,
 }
 
@@ -66,7 +66,7 @@ fn tally_shown<A: Allocator>(shown: &BTreeSet<u64, A>, numbers: &[u64], demand: 
     ensures small { result.count < 2 ^ 64 - 3 }
 {
     let mut tally = Tally {
-        found: found_wanted(shown, demand),
+        found: how_many_wanted(shown, demand),
         count: shown.len() as u64,
     };
     for n in numbers {

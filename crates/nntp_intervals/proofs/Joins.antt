@@ -1,11 +1,11 @@
 -- An interval that takes the place of those that it meets.
-use Rattle.std.proofs.Common.{◌≡◌, ◌⊎◌, inl, inr, ℕ, ◌+◌, ◌-◌, ◌^◌, ◌<◌, ◌≤◌, true, cond, Option, None, Some, List, sym, ap, subst, ◌∙◌, arith}
-use Rattle.std.specs.Prelude.{◌||◌}
+use Rattle.std.proofs.Common.{◌≡◌, ◌⊎◌, inl, inr, ℕ, ◌+◌, ◌-◌, ◌^◌, ◌<◌, ◌≤◌, true, false, cond, Option, None, Some, List, sym, ap, subst, ◌∙◌, arith}
+use Rattle.std.specs.Prelude.{◌||◌, ◌↔◌, Bool, IsTrue}
 use Rattle.std.specs.Ordering.{nat_cmp, is_eq}
 use Rattle.std.specs.BTreeMap.{BTreeMap, get, IsOrdered}
-use Rattle.std.proofs.lemmas.Bool.{or_cases}
+use Rattle.std.proofs.lemmas.Bool.{or_cases, cases_lt, true≢false}
 use Rattle.std.proofs.lemmas.Bool.Decides.{nat_tests, same_from_decides}
-use Rattle.nntp_intervals.specs.Intervals.{holds, is_between, AreApart, IsInterval}
+use Rattle.nntp_intervals.specs.Intervals.{holds, is_between, AreApart, IsInterval, Covers}
 use Rattle.nntp_intervals.specs.Neighbours.{IsFirstJoined, IsLastJoined, is_within}
 use Rattle.nntp_intervals.proofs.LookUps.{last_at, Ascends, Apart, held_from, held_at, apart_at, are_apart}
 
@@ -85,6 +85,13 @@ is_joined old mid new start end asc put gone = record {
   stays = λ s e at beside. grind (arith, nat_tests, gone s, put s);
   only = λ s e at. grind (arith, nat_tests, gone s, put s);
 }
+
+-- where not all of a range is in the set, there is a number in it
+pub uncovered : (set : List (ℕ × ℕ)) (first last : ℕ) (b : Bool) → IsTrue b ↔ Covers set first last → b ≡ false → first ≤ last
+uncovered set first last b covers none = elim (cases_lt last first) [
+  | inl lt ↦ absurd (true≢false (sym (covers.1 (λ n lo hi. absurd (omega arith))) ∙ none))
+  | inr le ↦ le
+]
 
 -- the new intervals are apart, and hold what was held, and what is added
 abbrev pub IsUnion : List (ℕ × ℕ) → List (ℕ × ℕ) → ℕ → ℕ → Type 0

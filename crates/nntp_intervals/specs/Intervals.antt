@@ -27,6 +27,10 @@ IsLeastFree set n free = (n ≤ free) × (holds set free ≡ false) × ((m : ℕ
 abbrev pub IsFullFrom : List (ℕ × ℕ) → ℕ → Type 0
 IsFullFrom set n = (m : ℕ) → n ≤ m → m < 2 ^ 64 → holds set m ≡ true
 
+-- each number from first to last is in the set
+abbrev pub Covers : List (ℕ × ℕ) → ℕ → ℕ → Type 0
+Covers set first last = (n : ℕ) → first ≤ n → n ≤ last → holds set n ≡ true
+
 -- some number from first to last is in the set
 abbrev pub Meets : List (ℕ × ℕ) → ℕ → ℕ → Type 0
 Meets set first last = (n : ℕ) × (first ≤ n) × (n ≤ last) × IsTrue (holds set n)

@@ -2,7 +2,7 @@
 ghost use Rattle.std.specs.Prelude.{◌≡◌, ℕ, ◌||◌, ◌↔◌, [], if◌then◌else◌, IsSome, IsTrue, OnOk, OnErr, MatchOption};
 ghost use Rattle.std.specs.Ordering.{nat_cmp};
 ghost use Rattle.std.specs.BTreeMap.{get, IsOrdered};
-ghost use Rattle.nntp_intervals.specs.Intervals.{holds, is_between, IsLeastFree, IsFullFrom, Meets};
+ghost use Rattle.nntp_intervals.specs.Intervals.{holds, is_between, IsLeastFree, IsFullFrom, Covers, Meets};
 ghost use Rattle.nntp_intervals.specs.Neighbours.{IsLastUpTo, IsFreeUpTo, IsFirstJoined, IsLastJoined, is_within};
 
 use std::alloc::{AllocError, Allocator, Global};
@@ -47,7 +47,7 @@ impl<A: Allocator + Copy> IntervalSet<A> {
         ensures ok { OnOk result ((n : ℕ) → holds self.new n ≡ (holds self.old n || is_between first last n)) }
         ensures err { OnErr result (self.new ≡ self.old) }
     {
-        if last < first {
+        if self.covers(first, last) {
             return Ok(());
         }
         let start = self.first_joined(first);
@@ -76,6 +76,16 @@ impl<A: Allocator> IntervalSet<A> {
         match self.last_up_to(n) {
             Some((_, last)) if n <= last => last.checked_add(1),
             _ => Some(n),
+        }
+    }
+
+    /// Whether each number from `first` to `last` is in the set.
+    fn covers(&self, first: u64, last: u64) -> bool
+        ensures { IsTrue result ↔ Covers self.now first last }
+    {
+        match self.least_free_from(first) {
+            Some(free) => last < free,
+            None => true,
         }
     }
 

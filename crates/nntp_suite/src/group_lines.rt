@@ -1,6 +1,6 @@
 //! Lines that tell what is known of groups: of each its name, its numbers that are shown, each with its id where
 //! that is shown, and the numbers that are given beside them.
-use nntp_facts::{Facts, SeenGroup};
+use nntp_facts::{Facts, ShownGroup};
 use std::alloc::{AllocError, Allocator, Global};
 
 /// A line for each group that facts show.
@@ -20,7 +20,7 @@ pub(crate) fn group_lines<A: Allocator>(
 fn push_numbers<A: Allocator>(
     alloc: Global,
     text: &mut String,
-    group: &SeenGroup<'_, A>,
+    group: &ShownGroup<'_, A>,
 ) -> Result<(), AllocError> {
     for seen in group.numbers() {
         push_number(alloc, text, seen.number, seen.id)?;

@@ -7,8 +7,8 @@ use Rattle.nntp_wire.specs.declared.answer.Answer.TheVariants.{Group, Numbers, S
 
 -- the response, without where its parts lie in memory
 abbrev pub response : Answer → Response
-response (Group estimate low high name) = group_is (record { estimate = estimate; low = low; high = high }) name
-response (Numbers estimate low high name lines) = numbers_are (record { estimate = estimate; low = low; high = high }) name lines
+response (Group marks name) = group_is marks name
+response (Numbers marks name lines) = numbers_are marks name lines
 response (Sent code number id lines) = sends (record { code = code; number = number; id = id; block = lines })
 response (Active lines) = active_are lines
 response (Plain code) = plain code

@@ -3,14 +3,14 @@ use Rattle.std.proofs.Common.{List}
 use Rattle.nntp_article.specs.declared.profile.Profile.{Profile}
 use Rattle.nntp_article.specs.Spool.{Spool}
 use Rattle.nntp_pair.specs.Pairing.{Paired, asked_of, responses_of}
-use Rattle.nntp_facts.specs.Noted.{FactsKept, Stands}
+use Rattle.nntp_facts.specs.Noted.{FactsKept, HasNoted}
 use Rattle.nntp_facts.proofs.Exists.{given_exists, made_for}
 use Rattle.nntp_facts.proofs.GivenPermits.{stands, given_permits}
 use Rattle.nntp_facts.proofs.Size.{pairs_size}
 use Rattle.nntp_witness.specs.Witness.{IsWitness}
 
 -- the facts that stand have a witness
-pub aim : (profile : Profile) (facts : FactsKept) (past : List Paired) → Stands profile facts past → (G : Spool) × IsWitness profile past G
+pub aim : (profile : Profile) (facts : FactsKept) (past : List Paired) → HasNoted profile facts past → (G : Spool) × IsWitness profile past G
 aim profile facts past s =
     let ps = asked_of past in
     let answers = responses_of past in

@@ -5,11 +5,11 @@ use Rattle.nntp_article.specs.Machine.{Run, start}
 use Rattle.nntp_article.specs.Spool.{Spool, IsSpool}
 use Rattle.nntp_pair.specs.Pairing.{Paired, asked_of, responses_of}
 use Rattle.nntp_facts.specs.Given.{IsGiven}
-use Rattle.nntp_facts.specs.Noted.{FactsKept, Stands, said_by}
+use Rattle.nntp_facts.specs.Noted.{FactsKept, HasNoted, said_by}
 
 -- the facts haven't failed: they are those of some exchanges, judged by the profile
-abbrev pub StandForSome : Profile → FactsKept → Type 0
-StandForSome profile facts = (past : List Paired) × Stands profile facts past
+abbrev pub HaveNotedSome : Profile → FactsKept → Type 0
+HaveNotedSome profile facts = (past : List Paired) × HasNoted profile facts past
 
 -- the spool is the one that is given for what the exchanges say, and permits them
 pub record IsWitness (profile : Profile) (past : List Paired) (S : Spool) : Type 0 where

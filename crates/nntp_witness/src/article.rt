@@ -5,7 +5,7 @@ ghost use Rattle.nntp_facts.specs.Given.{plain_head};
 ghost use Rattle.nntp_spool.specs.ArticleLines.{text_of_article};
 ghost use Rattle.nntp_witness.specs.Making.{given_text};
 
-use nntp_facts::SeenArticle;
+use nntp_facts::ShownArticle;
 use nntp_spool::Article;
 use std::alloc::{AllocError, Allocator};
 
@@ -13,15 +13,15 @@ use std::alloc::{AllocError, Allocator};
 /// no lines.
 pub(crate) fn given_article<A: Allocator + Copy>(
     alloc: A,
-    seen: &SeenArticle<'_, A>,
+    shown: &ShownArticle<'_, A>,
 ) -> Result<Article<A>, AllocError>
-    ensures { IfOk result (λ article. text_of_article article ≡ given_text seen.now) }
+    ensures { IfOk result (λ article. text_of_article article ≡ given_text shown.now) }
 {
-    let head = match seen.head() {
+    let head = match shown.head() {
         Some(lines) => copied(alloc, lines)?,
-        None => plain_head(alloc, seen.id())?,
+        None => plain_head(alloc, shown.id())?,
     };
-    let body = match seen.body() {
+    let body = match shown.body() {
         Some(lines) => copied(alloc, lines)?,
         None => Vec::new(alloc),
     };

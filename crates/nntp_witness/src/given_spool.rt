@@ -2,9 +2,9 @@
 ghost use Rattle.std.specs.Prelude.{List, IfOk};
 ghost use Rattle.nntp_pair.specs.Pairing.{Paired};
 ghost use Rattle.nntp_article.specs.Limit.{profile_31_bits};
-ghost use Rattle.nntp_facts.specs.Noted.{Stands};
+ghost use Rattle.nntp_facts.specs.Noted.{HasNoted};
 ghost use Rattle.nntp_spool.specs.Text.{IsWritten};
-ghost use Rattle.nntp_witness.specs.Witness.{StandForSome, IsWitness};
+ghost use Rattle.nntp_witness.specs.Witness.{HaveNotedSome, IsWitness};
 ghost use Rattle.nntp_witness.specs.Making.{Makes};
 
 use crate::maker::SpoolMaker;
@@ -21,8 +21,8 @@ use std::alloc::{AllocError, Allocator};
 ///
 /// Where memory was refused.
 pub fn witness<A: Allocator + Copy>(alloc: A, facts: &Facts<A>) -> Result<Spool<A>, AllocError>
-    requires { StandForSome profile_31_bits facts.now }
-    ensures given { IfOk result (λ spool. (past : List Paired) → Stands profile_31_bits facts.now past → IsWitness profile_31_bits past spool) }
+    requires { HaveNotedSome profile_31_bits facts.now }
+    ensures given { IfOk result (λ spool. (past : List Paired) → HasNoted profile_31_bits facts.now past → IsWitness profile_31_bits past spool) }
     ensures is_written { IfOk result (λ spool. IsWritten profile_31_bits spool) }
 {
     match make(alloc, facts) {
@@ -34,7 +34,7 @@ pub fn witness<A: Allocator + Copy>(alloc: A, facts: &Facts<A>) -> Result<Spool<
 
 /// The same. No fault of the builder comes but want of memory.
 fn make<A: Allocator + Copy>(alloc: A, facts: &Facts<A>) -> Result<Spool<A>, SpoolFault>
-    ensures given { (past : List Paired) → Stands profile_31_bits facts.now past → Makes result (λ spool. IsWitness profile_31_bits past spool) }
+    ensures given { (past : List Paired) → HasNoted profile_31_bits facts.now past → Makes result (λ spool. IsWitness profile_31_bits past spool) }
     ensures is_written { IfOk result (λ spool. IsWritten profile_31_bits spool) }
 {
     let mut maker = SpoolMaker::of_groups(alloc, facts)?;

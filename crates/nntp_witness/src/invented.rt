@@ -3,7 +3,7 @@ ghost use Rattle.std.specs.Prelude.{◌≡◌, ◌-◌, ◌<◌, ◌^◌, ℕ, L
 ghost use Rattle.nntp_pair.specs.Pairing.{Paired};
 ghost use Rattle.nntp_article.specs.declared.profile.Profile.{Profile};
 ghost use Rattle.nntp_facts.specs.Given.{invented, is_mentioned, IsFirstFree};
-ghost use Rattle.nntp_facts.specs.Noted.{Stands, said_by};
+ghost use Rattle.nntp_facts.specs.Noted.{HasNoted, said_by};
 
 use itoa::Buffer;
 use nntp_facts::Facts;
@@ -26,7 +26,7 @@ pub(crate) fn invent<A: Allocator + Copy>(
 ) -> Result<Invented<A>, AllocError>
     ensures is { IfOk result (λ i. i.id.items ≡ invented i.number) }
     ensures small { IfOk result (λ i. i.number < 2 ^ 64 - 1) }
-    ensures first { IfOk result (λ i. (profile : Profile) (past : List Paired) → Stands profile facts.now past → IsFirstFree (λ k. is_mentioned (said_by profile.marks past) (invented k)) from i.number) }
+    ensures first { IfOk result (λ i. (profile : Profile) (past : List Paired) → HasNoted profile facts.now past → IsFirstFree (λ k. is_mentioned (said_by profile.marks past) (invented k)) from i.number) }
 {
     for number in from..u64::MAX {
         let id = made_id(alloc, number)?;

@@ -5,15 +5,15 @@ ghost use Rattle.nntp_article.specs.Article.{Id};
 ghost use Rattle.nntp_article.specs.Limit.{profile_31_bits};
 ghost use Rattle.nntp_article.specs.Spool.{Spool as SpoolValue};
 ghost use Rattle.nntp_pair.specs.Pairing.{Paired};
-ghost use Rattle.nntp_facts.specs.Noted.{Stands, said_by};
-ghost use Rattle.nntp_facts.specs.Readers.{ShownGroup, ShownArticle};
+ghost use Rattle.nntp_facts.specs.Noted.{HasNoted, said_by};
+ghost use Rattle.nntp_facts.specs.Readers.{ShownGroup as GroupValue, ShownArticle as ArticleValue};
 ghost use Rattle.nntp_spool.specs.Text.{IsWritten};
 ghost use Rattle.nntp_witness.specs.Witness.{IsWitness};
 ghost use Rattle.nntp_witness.specs.Making.{Makes, unseen_number, GroupsLeft, NumbersLeft, ArticlesLeft};
 
 use crate::article::{given_article, plain_article};
 use crate::invented::invent;
-use nntp_facts::{Facts, SeenArticle, SeenGroup, SeenNumbers};
+use nntp_facts::{Facts, ShownArticle, ShownGroup, ShownNumbers};
 use nntp_spool::{Spool, SpoolBuilder, SpoolFault};
 use std::alloc::Allocator;
 
@@ -29,7 +29,7 @@ pub(crate) struct SpoolMaker<A: Allocator> {
 impl<A: Allocator + Copy> SpoolMaker<A> {
     /// With the groups that are shown, and articles of ids that are invented.
     pub(crate) fn of_groups(alloc: A, facts: &Facts<A>) -> Result<SpoolMaker<A>, SpoolFault>
-        ensures { (past : List Paired) (G : SpoolValue) → Stands profile_31_bits facts.now past → IsWitness profile_31_bits past G → Makes result (λ maker. GroupsLeft (said_by profile_31_bits.marks past) G [] maker.builder maker.next) }
+        ensures { (past : List Paired) (G : SpoolValue) → HasNoted profile_31_bits facts.now past → IsWitness profile_31_bits past G → Makes result (λ maker. GroupsLeft (said_by profile_31_bits.marks past) G [] maker.builder maker.next) }
     {
         let mut maker = SpoolMaker {
             alloc,
@@ -44,8 +44,8 @@ impl<A: Allocator + Copy> SpoolMaker<A> {
     }
 
     /// Adds a group with its numbers.
-    fn add_group(&mut self, facts: &Facts<A>, group: &SeenGroup<'_, A>) -> Result<(), SpoolFault>
-        ensures { (past : List Paired) (G : SpoolValue) (left : List ShownGroup) → Stands profile_31_bits facts.now past → IsWitness profile_31_bits past G → GroupsLeft (said_by profile_31_bits.marks past) G (group.now ∷ left) self.old.builder self.old.next
+    fn add_group(&mut self, facts: &Facts<A>, group: &ShownGroup<'_, A>) -> Result<(), SpoolFault>
+        ensures { (past : List Paired) (G : SpoolValue) (left : List GroupValue) → HasNoted profile_31_bits facts.now past → IsWitness profile_31_bits past G → GroupsLeft (said_by profile_31_bits.marks past) G (group.now ∷ left) self.old.builder self.old.next
             → Makes result (λ _. GroupsLeft (said_by profile_31_bits.marks past) G left self.new.builder self.new.next) }
     {
         let name = group.name();
@@ -62,7 +62,7 @@ impl<A: Allocator + Copy> SpoolMaker<A> {
         name: &[u8],
         unseen: Option<u64>,
     ) -> Result<(), SpoolFault>
-        ensures { (past : List Paired) (G before : SpoolValue) (behind : List Id) (left : List (ℕ × Option Id)) → Stands profile_31_bits facts.now past → IsWitness profile_31_bits past G
+        ensures { (past : List Paired) (G before : SpoolValue) (behind : List Id) (left : List (ℕ × Option Id)) → HasNoted profile_31_bits facts.now past → IsWitness profile_31_bits past G
             → NumbersLeft (said_by profile_31_bits.marks past) G before name.now behind (unseen_number unseen ++ left) self.old.builder self.old.next
             → Makes result (λ _. NumbersLeft (said_by profile_31_bits.marks past) G before name.now behind left self.new.builder self.new.next) }
     {
@@ -77,14 +77,14 @@ impl<A: Allocator + Copy> SpoolMaker<A> {
         &mut self,
         facts: &Facts<A>,
         name: &[u8],
-        mut numbers: SeenNumbers<'_, A>,
+        mut numbers: ShownNumbers<'_, A>,
     ) -> Result<(), SpoolFault>
-        ensures { (past : List Paired) (G before : SpoolValue) (behind : List Id) (left : List (ℕ × Option Id)) → Stands profile_31_bits facts.now past → IsWitness profile_31_bits past G
+        ensures { (past : List Paired) (G before : SpoolValue) (behind : List Id) (left : List (ℕ × Option Id)) → HasNoted profile_31_bits facts.now past → IsWitness profile_31_bits past G
             → NumbersLeft (said_by profile_31_bits.marks past) G before name.now behind (numbers.entry ++ left) self.old.builder self.old.next
             → Makes result (λ _. NumbersLeft (said_by profile_31_bits.marks past) G before name.now behind left self.new.builder self.new.next) }
     {
-        while let Some(seen) = numbers.next() {
-            self.add_number(facts, name, seen.number, seen.id)?;
+        while let Some(shown) = numbers.next() {
+            self.add_number(facts, name, shown.number, shown.id)?;
         }
         Ok(())
     }
@@ -97,7 +97,7 @@ impl<A: Allocator + Copy> SpoolMaker<A> {
         number: u64,
         id: Option<&[u8]>,
     ) -> Result<(), SpoolFault>
-        ensures { (past : List Paired) (G before : SpoolValue) (behind : List Id) (left : List (ℕ × Option Id)) → Stands profile_31_bits facts.now past → IsWitness profile_31_bits past G
+        ensures { (past : List Paired) (G before : SpoolValue) (behind : List Id) (left : List (ℕ × Option Id)) → HasNoted profile_31_bits facts.now past → IsWitness profile_31_bits past G
             → NumbersLeft (said_by profile_31_bits.marks past) G before name.now behind ((number, option_copied id.entry) ∷ left) self.old.builder self.old.next
             → Makes result (λ _. NumbersLeft (said_by profile_31_bits.marks past) G before name.now behind left self.new.builder self.new.next) }
     {
@@ -117,7 +117,7 @@ impl<A: Allocator + Copy> SpoolMaker<A> {
 
     /// Adds the articles that are shown.
     pub(crate) fn add_articles(&mut self, facts: &Facts<A>) -> Result<(), SpoolFault>
-        ensures { (past : List Paired) (G : SpoolValue) → Stands profile_31_bits facts.now past → IsWitness profile_31_bits past G → GroupsLeft (said_by profile_31_bits.marks past) G [] self.old.builder self.old.next
+        ensures { (past : List Paired) (G : SpoolValue) → HasNoted profile_31_bits facts.now past → IsWitness profile_31_bits past G → GroupsLeft (said_by profile_31_bits.marks past) G [] self.old.builder self.old.next
             → Makes result (λ _. ArticlesLeft (said_by profile_31_bits.marks past) G [] self.new.builder) }
     {
         let mut articles = facts.articles();
@@ -128,14 +128,14 @@ impl<A: Allocator + Copy> SpoolMaker<A> {
     }
 
     /// Adds an article that is shown.
-    fn add_article(&mut self, seen: &SeenArticle<'_, A>) -> Result<(), SpoolFault>
-        ensures { (past : List Paired) (G : SpoolValue) (left : List ShownArticle) → IsWitness profile_31_bits past G → ArticlesLeft (said_by profile_31_bits.marks past) G (seen.now ∷ left) self.old.builder
+    fn add_article(&mut self, shown: &ShownArticle<'_, A>) -> Result<(), SpoolFault>
+        ensures { (past : List Paired) (G : SpoolValue) (left : List ArticleValue) → IsWitness profile_31_bits past G → ArticlesLeft (said_by profile_31_bits.marks past) G (shown.now ∷ left) self.old.builder
             → Makes result (λ _. ArticlesLeft (said_by profile_31_bits.marks past) G left self.new.builder) }
     {
-        let Ok(article) = given_article(self.alloc, seen) else {
+        let Ok(article) = given_article(self.alloc, shown) else {
             return Err(SpoolFault::Memory);
         };
-        self.builder.article(seen.id(), article)
+        self.builder.article(shown.id(), article)
     }
 
     /// The spool that is made.

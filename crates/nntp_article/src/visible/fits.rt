@@ -28,24 +28,11 @@ impl<A: Allocator + Copy> Visible<A> {
     {
         match answer {
             Answer::Plain { code } => Ok(self.fits_plain(prompt, *code)),
-            Answer::Group {
-                estimate,
-                low,
-                high,
-                name,
-            } => {
-                let marks = WaterMarks::new(*estimate, *low, *high);
-                Ok(self.fits_group(profile, prompt, marks, name.as_slice()))
+            Answer::Group { marks, name } => {
+                Ok(self.fits_group(profile, prompt, *marks, name.as_slice()))
             }
-            Answer::Numbers {
-                estimate,
-                low,
-                high,
-                name,
-                block,
-            } => {
-                let marks = WaterMarks::new(*estimate, *low, *high);
-                Ok(self.fits_numbers(profile, prompt, marks, name.as_slice(), block))
+            Answer::Numbers { marks, name, block } => {
+                Ok(self.fits_numbers(profile, prompt, *marks, name.as_slice(), block))
             }
             Answer::Sent {
                 code,

@@ -5,7 +5,7 @@ ghost use Rattle.nntp_article.specs.Article.{Id};
 ghost use Rattle.nntp_article.specs.Machine.{head_fits};
 ghost use Rattle.nntp_facts.specs.Articles.{head_sent, body_sent, AreSame, MayBeSent, unsent, with_sent};
 ghost use Rattle.nntp_facts.specs.Kept.{IsAddedIf};
-ghost use Rattle.nntp_facts.specs.ArticleView.{lines_held, seen_value, known_value};
+ghost use Rattle.nntp_facts.specs.ArticleView.{lines_held, known_article, known_value};
 
 use nntp_article::Parts;
 use nntp_wire::{Block, What};
@@ -17,12 +17,12 @@ pub(crate) enum Known<A: Allocator> {
     /// It has no article.
     Denied,
     /// It has one.
-    There(Seen<A>),
+    There(KnownArticle<A>),
 }
 
-/// What was seen of an article.
+/// What is known of an article.
 #[derive(Drop)]
-pub(crate) struct Seen<A: Allocator> {
+pub(crate) struct KnownArticle<A: Allocator> {
     /// Whether a success named it.
     pub(crate) is_sent: bool,
     /// The lines of its head, where they were sent.
@@ -101,10 +101,10 @@ fn hold<A: Allocator + Copy>(
     Ok(())
 }
 
-impl<A: Allocator + Copy> Seen<A> {
+impl<A: Allocator + Copy> KnownArticle<A> {
     /// Holds what a success sends.
     fn send(&mut self, alloc: A, sent: &Sent<'_>) -> Result<(), AllocError>
-        ensures { OnOk result (seen_value self.new ≡ with_sent (seen_value self.old) sent.now.head sent.now.body) }
+        ensures { OnOk result (known_article self.new ≡ with_sent (known_article self.old) sent.now.head sent.now.body) }
     {
         hold(alloc, &mut self.head, &sent.head)?;
         hold(alloc, &mut self.body, &sent.body)?;
@@ -113,12 +113,12 @@ impl<A: Allocator + Copy> Seen<A> {
     }
 }
 
-impl<A: Allocator> Seen<A> {
+impl<A: Allocator> KnownArticle<A> {
     /// Of an article that no success named.
-    pub(crate) fn unsent() -> Seen<A>
-        ensures { seen_value result ≡ unsent }
+    pub(crate) fn unsent() -> KnownArticle<A>
+        ensures { known_article result ≡ unsent }
     {
-        Seen {
+        KnownArticle {
             is_sent: false,
             head: None,
             body: None,
@@ -142,8 +142,8 @@ impl<A: Allocator> Known<A> {
         ensures { IsTrue result ↔ MayBeSent (known_value self.now) sent.now.head sent.now.body }
     {
         match self {
-            Known::There(seen) => {
-                are_same(&sent.head, &seen.head) && are_same(&sent.body, &seen.body)
+            Known::There(article) => {
+                are_same(&sent.head, &article.head) && are_same(&sent.body, &article.body)
             }
             Known::Denied => false,
         }
@@ -155,9 +155,9 @@ impl<A: Allocator + Copy> Known<A> {
     pub(crate) fn of_sent(alloc: A, sent: &Sent<'_>) -> Result<Known<A>, AllocError>
         ensures { IfOk result (λ known. known_value known ≡ with_sent unsent sent.now.head sent.now.body) }
     {
-        let mut seen = Seen::unsent();
-        seen.send(alloc, sent)?;
-        Ok(Known::There(seen))
+        let mut article = KnownArticle::unsent();
+        article.send(alloc, sent)?;
+        Ok(Known::There(article))
     }
 
     /// Holds what a success sends, if it may be sent, and tells whether it may.
@@ -177,7 +177,7 @@ impl<A: Allocator + Copy> Known<A> {
         ensures { OnOk result ((known_value self.old).is_denied ≡ false → known_value self.new ≡ with_sent (known_value self.old) sent.now.head sent.now.body) }
     {
         match self {
-            Known::There(seen) => seen.send(alloc, sent),
+            Known::There(article) => article.send(alloc, sent),
             Known::Denied => Ok(()),
         }
     }

@@ -38,24 +38,11 @@ impl<A: Allocator + Copy> Session<A> {
     {
         Ok(match answer {
             Answer::Plain { code } => self.agrees_plain(spool, prompt, *code),
-            Answer::Group {
-                estimate,
-                low,
-                high,
-                name,
-            } => {
-                let marks = WaterMarks::new(*estimate, *low, *high);
-                self.agrees_group(how, spool, prompt, marks, name.as_slice())
+            Answer::Group { marks, name } => {
+                self.agrees_group(how, spool, prompt, *marks, name.as_slice())
             }
-            Answer::Numbers {
-                estimate,
-                low,
-                high,
-                name,
-                block,
-            } => {
-                let marks = WaterMarks::new(*estimate, *low, *high);
-                self.agrees_numbers(how, spool, prompt, marks, name.as_slice(), block)
+            Answer::Numbers { marks, name, block } => {
+                self.agrees_numbers(how, spool, prompt, *marks, name.as_slice(), block)
             }
             Answer::Sent {
                 code,

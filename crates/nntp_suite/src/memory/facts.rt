@@ -1,7 +1,7 @@
 //! Want of memory while exchanges are noted, and while the spool is made of what was noted.
 ghost use Rattle.std.specs.Prelude.{◌≡◌, true, IfOk};
 ghost use Rattle.nntp_article.specs.Limit.{profile_of};
-ghost use Rattle.nntp_witness.specs.Witness.{StandForSome};
+ghost use Rattle.nntp_witness.specs.Witness.{HaveNotedSome};
 
 use super::{Ended, refuse_each, right_if};
 use crate::marks::ROWS;
@@ -56,7 +56,7 @@ pub(crate) fn note_all<A: Allocator + Copy>(
     client: &[u8],
     server: &[u8],
 ) -> Result<Whole<A>, Stop>
-    ensures { IfOk result (λ whole. StandForSome (profile_of Limit.Narrow marks) whole.facts) }
+    ensures { IfOk result (λ whole. HaveNotedSome (profile_of Limit.Narrow marks) whole.facts) }
 {
     let mut facts = Facts::new(alloc, Limit::Narrow, marks);
     let mut answers = 0u64;

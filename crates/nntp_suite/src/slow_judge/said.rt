@@ -81,20 +81,9 @@ impl<'a> Said<'a> {
             return Ok(());
         };
         match exchange.answer() {
-            Answer::Group {
-                low,
-                high,
-                name,
-                ..
-            } => self.select(name.as_slice(), *low, *high),
-            Answer::Numbers {
-                low,
-                high,
-                name,
-                block,
-                ..
-            } => {
-                self.select(name.as_slice(), *low, *high)?;
+            Answer::Group { marks, name } => self.select(name.as_slice(), marks.low, marks.high),
+            Answer::Numbers { marks, name, block } => {
+                self.select(name.as_slice(), marks.low, marks.high)?;
                 self.hear_list(command, name.as_slice(), block)
             }
             Answer::Sent {

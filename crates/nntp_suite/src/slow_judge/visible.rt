@@ -2,8 +2,8 @@
 use nntp_article::{Head, Parts};
 use nntp_pair::Exchange;
 use nntp_wire::{
-    Answer, Block, Command, MessageId, Prompt, Range, What, Which, Wildmat, active_line,
-    listed_number,
+    Answer, Block, Command, MessageId, Prompt, Range, WaterMarks, What, Which, Wildmat,
+    active_line, listed_number,
 };
 use std::alloc::{AllocError, Global};
 
@@ -45,24 +45,14 @@ impl<'a> Visible<'a> {
 
     /// The state behind an answer.
     pub(crate) fn pass(&mut self, exchange: &Exchange<'a>) -> Result<(), AllocError> {
-        let (low, high, name) = match exchange.answer() {
-            Answer::Group {
-                low,
-                high,
-                name,
-                ..
-            } => (*low, *high, name.as_slice()),
-            Answer::Numbers {
-                low,
-                high,
-                name,
-                ..
-            } => (*low, *high, name.as_slice()),
+        let (marks, name) = match exchange.answer() {
+            Answer::Group { marks, name } => (*marks, name.as_slice()),
+            Answer::Numbers { marks, name, .. } => (*marks, name.as_slice()),
             _ => return Ok(()),
         };
         self.selected = Some(name);
-        if low != 0 || high != 0 {
-            self.lows.push((name, low))?;
+        if marks.low != 0 || marks.high != 0 {
+            self.lows.push((name, marks.low))?;
         }
         Ok(())
     }
@@ -111,32 +101,18 @@ impl<'a> Visible<'a> {
 
     fn answer_fits(&self, command: &Command<'_>, answer: &Answer<'_>) -> bool {
         match (command, answer) {
-            (
-                Command::Group(word),
-                Answer::Group {
-                    estimate,
-                    low,
-                    high,
-                    name,
+            (Command::Group(word), Answer::Group { marks, name }) => {
+                name.as_slice() == *word && self.marks_fit(*marks, *word)
+            }
+            (Command::ListGroup { group, range }, Answer::Numbers { marks, name, block }) =>
+                match group.or(self.selected) {
+                    Some(wanted) => {
+                        name.as_slice() == wanted
+                            && self.marks_fit(*marks, wanted)
+                            && list_fits(range, block)
+                    }
+                    None => false,
                 },
-            ) => name.as_slice() == *word && self.marks_fit(*estimate, *low, *high, *word),
-            (
-                Command::ListGroup { group, range },
-                Answer::Numbers {
-                    estimate,
-                    low,
-                    high,
-                    name,
-                    block,
-                },
-            ) => match group.or(self.selected) {
-                Some(wanted) => {
-                    name.as_slice() == wanted
-                        && self.marks_fit(*estimate, *low, *high, wanted)
-                        && list_fits(range, block)
-                }
-                None => false,
-            },
             (Command::Next | Command::Last, Answer::Sent { number, .. }) => {
                 self.selected.is_some() && is_number(*number)
             }
@@ -156,7 +132,12 @@ impl<'a> Visible<'a> {
         }
     }
 
-    fn marks_fit(&self, estimate: u64, low: u64, high: u64, name: &[u8]) -> bool {
+    fn marks_fit(&self, marks: WaterMarks, name: &[u8]) -> bool {
+        let WaterMarks {
+            estimate,
+            low,
+            high,
+        } = marks;
         if estimate == 0 && low == 0 && high == 0 {
             return true;
         }

@@ -170,17 +170,8 @@ fn article_without_block(rt: HostRuntime) {
 #[test]
 fn group_that_is_answered(rt: HostRuntime) {
     match reply(b"GROUP g", b"211 3 1 5 g\r\n") {
-        Some(
-            Ok(
-                Answer::Group {
-                    estimate,
-                    low,
-                    high,
-                    name,
-                },
-            ),
-        ) => {
-            assert_eq!(rt; (estimate, low, high), (3, 1, 5));
+        Some(Ok(Answer::Group { marks, name })) => {
+            assert_eq!(rt; (marks.estimate, marks.low, marks.high), (3, 1, 5));
             assert_eq!(rt; name.as_slice(), b"g".as_slice());
         }
         _ => assert!(rt; false),
@@ -190,18 +181,8 @@ fn group_that_is_answered(rt: HostRuntime) {
 #[test]
 fn numbers_that_are_answered(rt: HostRuntime) {
     match reply(b"LISTGROUP g", b"211 2 2 4 g list\r\n2\r\n 4 \r\n.\r\n") {
-        Some(
-            Ok(
-                Answer::Numbers {
-                    estimate,
-                    low,
-                    high,
-                    name,
-                    block,
-                },
-            ),
-        ) => {
-            assert_eq!(rt; (estimate, low, high), (2, 2, 4));
+        Some(Ok(Answer::Numbers { marks, name, block })) => {
+            assert_eq!(rt; (marks.estimate, marks.low, marks.high), (2, 2, 4));
             assert_eq!(rt; name.as_slice(), b"g".as_slice());
             let mut lines = block.lines();
             for want in [Some(&b"2"[..]), Some(b" 4 "), None] {

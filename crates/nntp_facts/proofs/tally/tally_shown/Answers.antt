@@ -6,8 +6,8 @@ use Rattle.nntp_facts.proofs.tally.tally_shown.Goals as goal
 
 pub loop-n-init : goal.loop-n-init
 loop-n-init g c = (
-  λ up. subst (λ n. IsTally (λ m. has c.args.shown.now.keys m || false) c.args.demand c.found_wanted.result n) (sym c.len.ensures.len)
-      (tally_start c.args.shown.now.keys c.args.demand c.found_wanted.result c.len.ensures.ordered c.found_wanted.ensures),
+  λ up. subst (λ n. IsTally (λ m. has c.args.shown.now.keys m || false) c.args.demand c.how_many_wanted.result n) (sym c.len.ensures.len)
+      (tally_start c.args.shown.now.keys c.args.demand c.how_many_wanted.result c.len.ensures.ordered c.how_many_wanted.ensures),
   omega (arith, c.len.ensures.small),
 )
 

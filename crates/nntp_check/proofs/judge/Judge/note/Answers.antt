@@ -5,10 +5,10 @@ use Rattle.nntp_check.specs.Judging.{IsVerdict}
 use Rattle.nntp_check.proofs.JudgeLemmas.{one-more, refused}
 use Rattle.nntp_check.proofs.judge.Judge.note.Goals as goal
 
-pub returns-in_default-class_of-clause-judged : goal.returns-in_default-class_of-clause-judged
-returns-in_default-class_of-clause-judged g c = λ client server left behind p next.
+pub returns-in_default-class_noted-clause-judged : goal.returns-in_default-class_noted-clause-judged
+returns-in_default-class_noted-clause-judged g c = λ client server left behind p next.
     one-more profile_31_bits client server c.args.self.now.facts c.note.new.self left behind c.args.self.now.answers c.args.exchange.now c.in-Ok.noted
-    p next (c.in-Ok.ensures.noted profile_31_bits) (sym c.in_default-class_of.ensures) c.index.result c.index.ensures.value
+    p next (c.in-Ok.ensures.noted profile_31_bits) (sym c.in_default-class_noted.ensures) c.index.result c.index.ensures.value
 
 pub returns-clause-judged : goal.returns-clause-judged
 returns-clause-judged g c = λ client server left behind p next.

@@ -3,13 +3,13 @@ use Rattle.std.proofs.Math.Path.{ap₂}
 use Rattle.nntp_article.specs.Machine.{visible_after}
 use Rattle.nntp_facts.specs.Asks.{position_after}
 use Rattle.nntp_facts.specs.SayingView.{saying_of}
-use Rattle.nntp_facts.specs.Noted.{Stands}
+use Rattle.nntp_facts.specs.Noted.{HasNoted}
 use Rattle.nntp_facts.proofs.Noting.{Adds, unfit, weighed, refused, accepted}
 use Rattle.nntp_facts.proofs.facts.Facts.try_note.Goals as goal
 
 pub returns-then-not-branch : goal.returns-then-not-branch
 returns-then-not-branch g c profile past stands =
-    let before = subst (λ facts. Stands profile facts past) (sym c.self.view_is) stands in
+    let before = subst (λ facts. HasNoted profile facts past) (sym c.self.view_is) stands in
     unfit profile _ _ _ past c.args.exchange.now _ _ _ c.self.view_is before c.prompt-prompt.ensures c.answer-answer.ensures.value c.of-profile.ensures c.in_ok-fits.ensures c.if-not-branch.true
 
 pub returns-then-not-branch-2 : goal.returns-then-not-branch-2
@@ -17,7 +17,7 @@ returns-then-not-branch-2 g c profile past stands =
     let pair = c.args.exchange.now in
     let says = c.answer-answer.ensures in
     let is = c.self.view_is in
-    let before = subst (λ facts. Stands profile facts past) (sym is) stands in
+    let before = subst (λ facts. HasNoted profile facts past) (sym is) stands in
     let saying = saying_of c.of-saying.result in
     let w = weighed profile _ _ _ past pair _ _ saying _ _ _ is before c.requires c.index-index.ensures.small says.few_lines says.is_spelled c.prompt-prompt.ensures says.value
     c.of-profile.ensures c.in_ok-fits.ensures c.if-not-branch.false c.selected_name-here.ensures (c.deref.ensures.value ∙ c.in_ok-numbers.ensures) c.of-saying.ensures in
@@ -28,7 +28,7 @@ returns g c profile past stands =
     let pair = c.args.exchange.now in
     let says = c.answer-answer.ensures in
     let is = c.self.view_is in
-    let before = subst (λ facts. Stands profile facts past) (sym is) stands in
+    let before = subst (λ facts. HasNoted profile facts past) (sym is) stands in
     let saying = saying_of c.of-saying.result in
     let w = weighed profile _ _ _ past pair _ _ saying _ _ _ is before c.requires c.index-index.ensures.small says.few_lines says.is_spelled c.prompt-prompt.ensures says.value
     c.of-profile.ensures c.in_ok-fits.ensures c.if-not-branch.false c.selected_name-here.ensures (c.deref.ensures.value ∙ c.in_ok-numbers.ensures) c.of-saying.ensures in

@@ -26,23 +26,21 @@ returns-in_default-Plain c profile v facts may shown is numbers =
 pub returns-in-Group-Group : goal.returns-in-Group-Group
 returns-in-Group-Group c profile v facts may shown is numbers =
     let more = facts_of c.args.how v c.args.at (to (request c.args.command.now)) (response c.args.answer.now) in
-    let m : WaterMarks = c.new-marks.result in
+    let m : WaterMarks = c.in-Group-Group.marks in
     let name = c.in-Group-Group.name in
-    let high : m.high < 2 ^ 64 = omega arith in
     let same : (ThereIs name ∷ Asks name (Estimates c.args.how m) ∷ []) ≡ more = search rules in
-    tells_marks facts name _ c.args.how m _ more c.of_marks.ensures high c.selects.ensures same
+    tells_marks facts name _ c.args.how m _ more c.of_marks.ensures.says c.of_marks.ensures.bounded c.selects.ensures same
 
 pub returns-in-ListGroup-Numbers : goal.returns-in-ListGroup-Numbers
 returns-in-ListGroup-Numbers c profile v facts may shown is numbers =
     let w = c.in-ListGroup-Numbers in
     let more = facts_of c.args.how v c.args.at (to (request c.args.command.now)) (response c.args.answer.now) in
-    let m : WaterMarks = c.new-marks-in-ListGroup-Numbers.result in
-    let high : m.high < 2 ^ 64 = omega arith in
+    let m : WaterMarks = w.marks in
     let ns = c.args.numbers.now in
     let fitting = subst (λ q. IsTrue (fits profile v (to q) (response c.args.answer.now))) (ap request w.is-0) may in
     let listable = subst (AreListable w.range) (sym numbers) (numbers_listable profile v (option_copied w.group-0) w.range (response c.args.answer.now) fitting) in
     let same : (ThereIs w.name ∷ Asks w.name (Estimates c.args.how m) ∷ Asks w.name (ListsIn w.range ns) ∷ []) ≡ more = search rules in
-    tells_list facts w.name _ c.args.how m w.range ns _ more (c.of_list.ensures listable) high c.selects-in-ListGroup-Numbers.ensures same
+    tells_list facts w.name _ c.args.how m w.range ns _ more (c.of_numbers.ensures.says listable) c.of_numbers.ensures.bounded c.selects-in-ListGroup-Numbers.ensures same
 
 pub returns-in-Next-Sent : goal.returns-in-Next-Sent
 returns-in-Next-Sent c profile v facts may shown is numbers =

@@ -5,7 +5,7 @@ use Rattle.std.specs.FinMap as map
 use Rattle.nntp_wire.proofs.ShownMaps.{entries-shown}
 use Rattle.nntp_facts.specs.Readers.{shown_in, shown_groups}
 use Rattle.nntp_facts.specs.ReadersView.{named}
-use Rattle.nntp_facts.proofs.groups.Groups.seen.Goals as goal
+use Rattle.nntp_facts.proofs.groups.Groups.shown.Goals as goal
 
 pub returns : goal.returns
 returns g c =

@@ -1,6 +1,6 @@
 use Rattle.nntp_facts.specs.PartView.{said}
 use Rattle.nntp_facts.proofs.PartGaps.{none_denied}
-use Rattle.nntp_facts.proofs.part.Part.denies_none.Goals as goal
+use Rattle.nntp_facts.proofs.numbers_part.NumbersPart.denies_none.Goals as goal
 
 pub returns-then-none_outside : goal.returns-then-none_outside
 returns-then-none_outside g c =

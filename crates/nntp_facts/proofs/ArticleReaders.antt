@@ -23,7 +23,7 @@ use Rattle.nntp_facts.proofs.KeptArticles.{listed}
 use Rattle.nntp_facts.proofs.Maps.{sorted_keys}
 use Rattle.nntp_facts.proofs.Members.{in_map, from_map, any_in, found_in}
 use Rattle.nntp_facts.proofs.SaidOfArticles.{says}
-use Rattle.nntp_facts.proofs.ShownGroups.{read_off, all_along}
+use Rattle.nntp_facts.proofs.GroupReaders.{read_off, all_along}
 use Rattle.nntp_facts.proofs.Stand.{same_itself}
 
 -- ---- order

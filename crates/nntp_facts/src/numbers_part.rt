@@ -3,6 +3,7 @@ ghost use Rattle.std.specs.Prelude.{◌≤◌, [], ◌∷◌};
 ghost use Rattle.nntp_facts.specs.Asks.{Estimates, Bounds, ListsIn, Has, Lacks, StandsAt, StandsNowhere, StepsUp, StepsDown, IsTop, IsBottom};
 ghost use Rattle.nntp_facts.specs.Part.{AreListable, Says};
 ghost use Rattle.nntp_facts.specs.PartView.{said};
+ghost use Rattle.nntp_facts.specs.Summary.{AreBounded};
 
 use crate::demand::Demand;
 use crate::ends::Ends;
@@ -12,7 +13,7 @@ use std::slice;
 
 /// What is said at once of the numbers of a group.
 #[derive(Drop)]
-pub(crate) struct Part<'s> {
+pub(crate) struct NumbersPart<'s> {
     /// Whether it can be at all.
     pub(crate) is_possible: bool,
     /// No number is below this.
@@ -31,12 +32,12 @@ pub(crate) struct Part<'s> {
     pub(crate) demand: Demand,
 }
 
-impl<'s> Part<'s> {
+impl<'s> NumbersPart<'s> {
     /// What no ask says.
-    pub(crate) fn nothing() -> Part<'s>
+    pub(crate) fn nothing() -> NumbersPart<'s>
         ensures { Says (said result) [] }
     {
-        Part {
+        NumbersPart {
             is_possible: true,
             low: 0,
             high: u64::MAX,
@@ -50,28 +51,30 @@ impl<'s> Part<'s> {
     }
 
     /// What a 211 reports: there are at most so many numbers, between the marks.
-    pub(crate) fn of_marks(how: Marks, marks: WaterMarks) -> Part<'s>
-        ensures { Says (said result) (Estimates how marks ∷ []) }
+    pub(crate) fn of_marks(how: Marks, marks: WaterMarks) -> NumbersPart<'s>
+        ensures says { Says (said result) (Estimates how marks ∷ []) }
+        ensures bounded { AreBounded (Estimates how marks ∷ []) }
     {
-        Part {
+        NumbersPart {
             low: marks.low,
             high: marks.high,
             estimate: Some(marks.estimate),
             ends: Ends::of_marks(how, marks),
-            ..Part::nothing()
+            ..NumbersPart::nothing()
         }
     }
 
     /// The same, and these are the numbers in the range.
-    pub(crate) fn of_list(
+    pub(crate) fn of_numbers(
         how: Marks,
         marks: WaterMarks,
         range: Range,
         numbers: &'s [u64],
-    ) -> Part<'s>
-        ensures { AreListable range numbers.now → Says (said result) (Estimates how marks ∷ ListsIn range numbers.now ∷ []) }
+    ) -> NumbersPart<'s>
+        ensures says { AreListable range numbers.now → Says (said result) (Estimates how marks ∷ ListsIn range numbers.now ∷ []) }
+        ensures bounded { AreBounded (Estimates how marks ∷ []) }
     {
-        Part {
+        NumbersPart {
             low: marks.low,
             high: marks.high,
             first: range.first,
@@ -79,59 +82,59 @@ impl<'s> Part<'s> {
             numbers,
             estimate: Some(marks.estimate),
             ends: Ends::of_marks(how, marks),
-            ..Part::nothing()
+            ..NumbersPart::nothing()
         }
     }
 
     /// All numbers are between the marks.
-    pub(crate) fn of_bounds(low: u64, high: u64) -> Part<'s>
+    pub(crate) fn of_bounds(low: u64, high: u64) -> NumbersPart<'s>
         ensures { Says (said result) (Bounds low high ∷ []) }
     {
-        Part {
+        NumbersPart {
             low,
             high,
-            ..Part::nothing()
+            ..NumbersPart::nothing()
         }
     }
 
     /// The number is there.
-    pub(crate) fn has(number: &'s u64) -> Part<'s>
+    pub(crate) fn has(number: &'s u64) -> NumbersPart<'s>
         ensures { 1 ≤ number.now → Says (said result) (Has number.now ∷ []) }
     {
-        Part {
+        NumbersPart {
             first: *number,
             last: *number,
             numbers: slice::from_ref(number),
-            ..Part::nothing()
+            ..NumbersPart::nothing()
         }
     }
 
     /// The number isn't there.
-    pub(crate) fn lacks(number: u64) -> Part<'s>
+    pub(crate) fn lacks(number: u64) -> NumbersPart<'s>
         ensures { Says (said result) (Lacks number ∷ []) }
     {
-        Part {
+        NumbersPart {
             first: number,
             last: number,
-            ..Part::nothing()
+            ..NumbersPart::nothing()
         }
     }
 
     /// The number at the position is this, and it is there.
-    pub(crate) fn stands_at(at: Position, number: &'s u64) -> Part<'s>
+    pub(crate) fn stands_at(at: Position, number: &'s u64) -> NumbersPart<'s>
         ensures { 1 ≤ number.now → Says (said result) (StandsAt at number.now ∷ Has number.now ∷ []) }
     {
-        let part = Part::has(number);
+        let part = NumbersPart::has(number);
         match at {
-            Position::Nowhere => Part {
+            Position::Nowhere => NumbersPart {
                 is_possible: false,
                 ..part
             },
-            Position::First => Part {
+            Position::First => NumbersPart {
                 low: *number,
                 ..part
             },
-            Position::Known(current) => Part {
+            Position::Known(current) => NumbersPart {
                 is_possible: current == *number,
                 ..part
             },
@@ -139,18 +142,18 @@ impl<'s> Part<'s> {
     }
 
     /// There is no number at the position.
-    pub(crate) fn stands_nowhere(at: Position) -> Part<'s>
+    pub(crate) fn stands_nowhere(at: Position) -> NumbersPart<'s>
         ensures { Says (said result) (StandsNowhere at ∷ []) }
     {
-        let part = Part::nothing();
+        let part = NumbersPart::nothing();
         match at {
             Position::Nowhere => part,
-            Position::First => Part {
+            Position::First => NumbersPart {
                 first: 0,
                 last: u64::MAX,
                 ..part
             },
-            Position::Known(_) => Part {
+            Position::Known(_) => NumbersPart {
                 is_possible: false,
                 ..part
             },
@@ -158,21 +161,21 @@ impl<'s> Part<'s> {
     }
 
     /// The next number above the position is this, and it is there.
-    pub(crate) fn steps_up(at: Position, number: &'s u64) -> Part<'s>
+    pub(crate) fn steps_up(at: Position, number: &'s u64) -> NumbersPart<'s>
         ensures { 1 ≤ number.now → Says (said result) (StepsUp at number.now ∷ Has number.now ∷ []) }
     {
-        let part = Part::has(number);
+        let part = NumbersPart::has(number);
         match at {
-            Position::First => Part {
+            Position::First => NumbersPart {
                 demand: Demand::SecondIs(*number),
                 ..part
             },
-            Position::Known(current) if current < *number => Part {
+            Position::Known(current) if current < *number => NumbersPart {
                 first: current + 1,
                 last: *number,
                 ..part
             },
-            _ => Part {
+            _ => NumbersPart {
                 is_possible: false,
                 ..part
             },
@@ -180,17 +183,17 @@ impl<'s> Part<'s> {
     }
 
     /// The next number below the position is this, and it is there.
-    pub(crate) fn steps_down(at: Position, number: &'s u64) -> Part<'s>
+    pub(crate) fn steps_down(at: Position, number: &'s u64) -> NumbersPart<'s>
         ensures { 1 ≤ number.now → Says (said result) (StepsDown at number.now ∷ Has number.now ∷ []) }
     {
-        let part = Part::has(number);
+        let part = NumbersPart::has(number);
         match at {
-            Position::Known(current) if *number < current => Part {
+            Position::Known(current) if *number < current => NumbersPart {
                 first: *number,
                 last: current - 1,
                 ..part
             },
-            _ => Part {
+            _ => NumbersPart {
                 is_possible: false,
                 ..part
             },
@@ -198,20 +201,20 @@ impl<'s> Part<'s> {
     }
 
     /// No number is above the position.
-    pub(crate) fn is_top(at: Position) -> Part<'s>
+    pub(crate) fn is_top(at: Position) -> NumbersPart<'s>
         ensures { Says (said result) (IsTop at ∷ []) }
     {
-        let part = Part::nothing();
+        let part = NumbersPart::nothing();
         match at {
-            Position::Nowhere => Part {
+            Position::Nowhere => NumbersPart {
                 is_possible: false,
                 ..part
             },
-            Position::First => Part {
+            Position::First => NumbersPart {
                 demand: Demand::OnlyOne,
                 ..part
             },
-            Position::Known(current) => Part {
+            Position::Known(current) => NumbersPart {
                 high: current,
                 ..part
             },
@@ -219,20 +222,20 @@ impl<'s> Part<'s> {
     }
 
     /// No number is below the position.
-    pub(crate) fn is_bottom(at: Position) -> Part<'s>
+    pub(crate) fn is_bottom(at: Position) -> NumbersPart<'s>
         ensures { Says (said result) (IsBottom at ∷ []) }
     {
-        let part = Part::nothing();
+        let part = NumbersPart::nothing();
         match at {
-            Position::Nowhere => Part {
+            Position::Nowhere => NumbersPart {
                 is_possible: false,
                 ..part
             },
-            Position::First => Part {
+            Position::First => NumbersPart {
                 demand: Demand::NotEmpty,
                 ..part
             },
-            Position::Known(current) => Part {
+            Position::Known(current) => NumbersPart {
                 low: current,
                 ..part
             },

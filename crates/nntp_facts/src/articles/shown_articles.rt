@@ -3,45 +3,45 @@ ghost use Rattle.std.specs.Prelude.{◌≡◌, ◌∷◌, [], MatchOption, optio
 ghost use Rattle.std.specs.Iterator.{YieldsFirst, item_count};
 ghost use Rattle.nntp_wire.specs.Held.{held};
 ghost use Rattle.nntp_facts.specs.Readers.{shown_article, articles_shown_in};
-ghost use Rattle.nntp_facts.specs.ArticleView.{lines_held, seen_value, entries_value};
+ghost use Rattle.nntp_facts.specs.ArticleView.{lines_held, known_article, entries_value};
 
-use crate::articles::known::{Known, Seen};
+use crate::articles::known::{Known, KnownArticle};
 use std::alloc::{Allocator, Global};
 use std::collections::btree_map;
 use std::marker::Model;
 
 /// An article that each spool has.
 #[derive(Drop)]
-pub struct SeenArticle<'a, A: Allocator = Global> {
+pub struct ShownArticle<'a, A: Allocator = Global> {
     id: &'a [u8],
     is_sent: bool,
     head: Option<&'a [Vec<u8, A>]>,
     body: Option<&'a [Vec<u8, A>]>,
 }
 
-impl<'a, A: Allocator> Model for SeenArticle<'a, A> {
+impl<'a, A: Allocator> Model for ShownArticle<'a, A> {
     ghost use Rattle.std.specs.Prelude.{option_map};
     ghost use Rattle.nntp_wire.specs.Held.{held};
-    ghost use Rattle.nntp_facts.specs.Readers.{ShownArticle};
+    ghost use Rattle.nntp_facts.specs.Readers.{ShownArticle as ArticleValue};
     ghost use Rattle.nntp_facts.specs.ReadersView.{coded_shown_article};
 
-    ghost Value = { ShownArticle };
+    ghost Value = { ArticleValue };
 
     ghost coded = { coded_shown_article };
 
     ghost view = { λ a. record { id = a.id.now; is_sent = a.is_sent; head = option_map (λ lines. held lines.now) a.head; body = option_map (λ lines. held lines.now) a.body } };
 }
 
-impl<'a, A: Allocator> SeenArticle<'a, A> {
-    /// What was seen of the article with this id.
-    fn new(id: &'a [u8], seen: &'a Seen<A>) -> SeenArticle<'a, A>
-        ensures { result ≡ shown_article id.now (seen_value seen.now) }
+impl<'a, A: Allocator> ShownArticle<'a, A> {
+    /// What is known of the article with this id.
+    fn new(id: &'a [u8], article: &'a KnownArticle<A>) -> ShownArticle<'a, A>
+        ensures { result ≡ shown_article id.now (known_article article.now) }
     {
-        SeenArticle {
+        ShownArticle {
             id,
-            is_sent: seen.is_sent,
-            head: slice(&seen.head),
-            body: slice(&seen.body),
+            is_sent: article.is_sent,
+            head: slice(&article.head),
+            body: slice(&article.body),
         }
     }
 
@@ -87,40 +87,40 @@ fn slice<A: Allocator>(lines: &Option<Vec<Vec<u8, A>, A>>) -> Option<&[Vec<u8, A
 /// The articles that each spool has, in byte order of their message-ids, seen as the list of those
 /// that are left.
 #[derive(Drop)]
-pub struct SeenArticles<'a, A: Allocator = Global> {
+pub struct ShownArticles<'a, A: Allocator = Global> {
     rest: btree_map::Iter<'a, Vec<u8, A>, Known<A>>,
 }
 
-impl<'a, A: Allocator> Model for SeenArticles<'a, A> {
+impl<'a, A: Allocator> Model for ShownArticles<'a, A> {
     ghost use Rattle.std.specs.Prelude.{List};
     ghost use Rattle.std.specs.Coded.{coded_list};
-    ghost use Rattle.nntp_facts.specs.Readers.{ShownArticle, articles_shown_in};
+    ghost use Rattle.nntp_facts.specs.Readers.{ShownArticle as ArticleValue, articles_shown_in};
     ghost use Rattle.nntp_facts.specs.ReadersView.{coded_shown_article};
     ghost use Rattle.nntp_facts.specs.ArticleView.{entries_value};
 
-    ghost Value = { List ShownArticle };
+    ghost Value = { List ArticleValue };
 
     ghost coded = { coded_list coded_shown_article };
 
     ghost view = { λ s. articles_shown_in (entries_value s.rest) };
 }
 
-impl<'a, A: Allocator> SeenArticles<'a, A> {
-    pub(crate) fn new(rest: btree_map::Iter<'a, Vec<u8, A>, Known<A>>) -> SeenArticles<'a, A>
+impl<'a, A: Allocator> ShownArticles<'a, A> {
+    pub(crate) fn new(rest: btree_map::Iter<'a, Vec<u8, A>, Known<A>>) -> ShownArticles<'a, A>
         ensures { result ≡ articles_shown_in (entries_value rest.entry) }
     {
-        SeenArticles { rest }
+        ShownArticles { rest }
     }
 }
 
-impl<'a, A: Allocator> Iterator for SeenArticles<'a, A> {
-    type Item = SeenArticle<'a, A>;
+impl<'a, A: Allocator> Iterator for ShownArticles<'a, A> {
+    type Item = ShownArticle<'a, A>;
 
     ghost next_gives = { YieldsFirst (λ articles. articles) };
 
     ghost remaining = { item_count (λ articles. articles) };
 
-    fn next(&mut self) -> Option<SeenArticle<'a, A>> {
+    fn next(&mut self) -> Option<ShownArticle<'a, A>> {
         next_article(&mut self.rest)
     }
 }
@@ -128,13 +128,13 @@ impl<'a, A: Allocator> Iterator for SeenArticles<'a, A> {
 /// The next article.
 fn next_article<'a, A: Allocator>(
     rest: &mut btree_map::Iter<'a, Vec<u8, A>, Known<A>>,
-) -> Option<SeenArticle<'a, A>>
+) -> Option<ShownArticle<'a, A>>
     ensures { MatchOption result ((articles_shown_in (entries_value rest.old) ≡ []) × (articles_shown_in (entries_value rest.new) ≡ []))
         (λ a. articles_shown_in (entries_value rest.old) ≡ a ∷ articles_shown_in (entries_value rest.new)) }
 {
     while let Some((id, known)) = rest.next() {
-        if let Known::There(seen) = known {
-            return Some(SeenArticle::new(id.as_slice(), seen));
+        if let Known::There(article) = known {
+            return Some(ShownArticle::new(id.as_slice(), article));
         }
     }
     None

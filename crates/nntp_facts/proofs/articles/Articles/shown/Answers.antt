@@ -5,7 +5,7 @@ use Rattle.std.specs.FinMap as map
 use Rattle.nntp_wire.proofs.ShownMaps.{entries-shown}
 use Rattle.nntp_facts.specs.Readers.{articles_shown_in, shown_articles}
 use Rattle.nntp_facts.specs.ArticleView.{known_value, entries_value}
-use Rattle.nntp_facts.proofs.articles.Articles.seen.Goals as goal
+use Rattle.nntp_facts.proofs.articles.Articles.shown.Goals as goal
 
 pub returns : goal.returns
 returns g c =

@@ -11,7 +11,7 @@ use std::marker::Model;
 
 /// A number that is shown in a group.
 #[derive(Clone, Copy)]
-pub struct SeenNumber<'a> {
+pub struct ShownNumber<'a> {
     pub number: u64,
     /// Its message-id, where one is shown.
     pub id: Option<&'a [u8]>,
@@ -19,12 +19,12 @@ pub struct SeenNumber<'a> {
 
 /// The numbers that are shown in a group, ascending, seen as the list of those that are left.
 #[derive(Drop)]
-pub struct SeenNumbers<'a, A: Allocator = Global> {
+pub struct ShownNumbers<'a, A: Allocator = Global> {
     rest: btree_set::Iter<'a, u64>,
     group: &'a Group<A>,
 }
 
-impl<'a, A: Allocator> Model for SeenNumbers<'a, A> {
+impl<'a, A: Allocator> Model for ShownNumbers<'a, A> {
     ghost use Rattle.std.specs.Prelude.{List, ℕ, Option};
     ghost use Rattle.nntp_article.specs.Article.{Id};
     ghost use Rattle.nntp_facts.specs.Readers.{with_ids};
@@ -34,28 +34,28 @@ impl<'a, A: Allocator> Model for SeenNumbers<'a, A> {
     ghost view = { λ s. with_ids s.group.now s.rest };
 }
 
-impl<'a, A: Allocator> SeenNumbers<'a, A> {
+impl<'a, A: Allocator> ShownNumbers<'a, A> {
     /// All that are shown.
-    pub(crate) fn new(group: &'a Group<A>) -> SeenNumbers<'a, A>
+    pub(crate) fn new(group: &'a Group<A>) -> ShownNumbers<'a, A>
         ensures { result ≡ with_ids group.now group.now.numbers.shown }
     {
-        SeenNumbers {
+        ShownNumbers {
             rest: group.shown().iter(),
             group,
         }
     }
 }
 
-impl<'a, A: Allocator> Iterator for SeenNumbers<'a, A> {
-    type Item = SeenNumber<'a>;
+impl<'a, A: Allocator> Iterator for ShownNumbers<'a, A> {
+    type Item = ShownNumber<'a>;
 
     ghost next_gives = { YieldsFirstBy number_value (λ numbers. numbers) };
 
     ghost remaining = { item_count (λ numbers. numbers) };
 
-    fn next(&mut self) -> Option<SeenNumber<'a>> {
+    fn next(&mut self) -> Option<ShownNumber<'a>> {
         match self.rest.next() {
-            Some(number) => Some(SeenNumber {
+            Some(number) => Some(ShownNumber {
                 number: *number,
                 id: self.group.id(*number),
             }),
