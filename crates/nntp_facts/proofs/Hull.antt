@@ -178,7 +178,7 @@ ends_known asks e is some =
 -- ---- what is known by the hull
 
 -- no end, where there is no hull
-no_hull : (asks : List Ask) → ends_of asks ≡ None → (n : ℕ) → list_any (λ ask. is_end ask n) asks ≡ false
+pub no_hull : (asks : List Ask) → ends_of asks ≡ None → (n : ℕ) → list_any (λ ask. is_end ask n) asks ≡ false
 no_hull asks is n = false_from_ne_true _ (λ t. let f = found_in (λ ask. is_end ask n) asks t in one f.0 f.1 f.2)
   where
     one : (ask : Ask) → In ask asks → is_end ask n ≡ true → ⊥

@@ -1,5 +1,5 @@
 -- When the parts of an answer join what was said, and what is kept then.
-use Rattle.std.proofs.Common.{◌≡◌, ℕ, Bool, true, false, ◌||◌, cond, List, [], ◌∷◌, ◌++◌, Option, None, Some, MatchOption, inl, inr, refl, sym, ap, subst, ◌∙◌}
+use Rattle.std.proofs.Common.{◌≡◌, ℕ, Bool, true, false, ◌||◌, cond, List, [], ◌∷◌, ◌++◌, Option, None, Some, is_some, MatchOption, inl, inr, refl, sym, ap, subst, ◌∙◌}
 use Rattle.std.specs.Prelude.{◌↔◌, IsFalse, IfSome}
 use Rattle.std.specs.Option.{option_map_or, option_or}
 use Rattle.std.specs.List.{AllByRecursion, list_any}
@@ -17,13 +17,13 @@ use Rattle.nntp_facts.specs.Together.{IsWellFormed, denies_group, number_in, sho
 use Rattle.nntp_facts.specs.Saying.{OfGroup, OfArticle, Lacks, Exists, Sends, Saying, asked_id, sent_facts, lack_facts, id_facts, group_facts, facts_in, MaySay, IsToExist, MayBeOf, IsShownThen}
 use Rattle.nntp_facts.specs.Summary.{AreBounded}
 use Rattle.nntp_facts.specs.Part.{Says}
-use Rattle.nntp_facts.specs.Kept.{told, Told, IsUntold, AreKept, AreKeptGroups, with_part, Changes, Agree, MayShow, id_of, place_of}
+use Rattle.nntp_facts.specs.Kept.{told, Told, IsUntold, AreKept, AreKeptGroups, with_part, Changes, Agree, IsShownAt, MayShow, AreKeptWith, id_of, place_of}
 use Rattle.nntp_facts.specs.KeptSaying.{GroupJoins, JoinGroups, article_facts}
 use Rattle.nntp_facts.proofs.Gives.{given_append}
 use Rattle.nntp_facts.proofs.Joined.{asks_append}
 use Rattle.nntp_facts.proofs.KeptAdds.{groups_kept}
 use Rattle.nntp_facts.proofs.KeptGroups.{Groups}
-use Rattle.nntp_facts.proofs.OnePlace.{agree_together}
+use Rattle.nntp_facts.proofs.OnePlace.{agree_together, shown_with_id}
 use Rattle.nntp_facts.proofs.OneGroup.{AskOf, asked_here, asked_elsewhere, GivesId, gives_joins, same_self}
 use Rattle.nntp_facts.proofs.Parts.{IsRead, any_is_read, given_is_read, asks_are_read, ids_in, of_articles, of_group, group_asks, group_ids, group_places, shown_group, denied_group}
 use Rattle.nntp_facts.proofs.SayAlike.{SaySame, join_alike, turned}
@@ -53,6 +53,23 @@ module _ {M : Type 0} (read : List Fact → M) (both : M → M → M) (nothing :
 pub agree_told : (facts : List Fact) → Together facts → (name : Name) (id : Option (ℕ × Id)) → Agree (told facts name).ids (told facts name).places id
 agree_told facts t name None = tt
 agree_told facts t name (Some e) = agree_together facts name e.0 e.1 (t.ids_once name e.1)
+
+-- an id that is told at a number is at a number that is shown
+pub shown_told : (facts : List Fact) (name : Name) (id : Option (ℕ × Id)) → IsShownAt (told facts name) id
+shown_told facts name None = tt
+shown_told facts name (Some e) = λ at. shown_with_id facts name e.0 (ap is_some at)
+
+module _ (facts : List Fact) (s : Saying) (asks : List Ask) (may : MaySay facts s asks) (g : OfGroup) (is : s.group ≡ Some g) where
+  -- what is said of the group is what is asked of it
+  pub says_then : Says g.numbers (asks ++ asked_id g.id)
+  says_then = subst (λ o. IfSome o (λ (g : OfGroup). Says g.numbers (asks ++ asked_id g.id))) is may.numbers
+
+  -- no number from 2^64 on is left open in a group that wasn't shown
+  pub bounded_then : is_shown_group facts g.name ≡ false → AreBounded (asks ++ asked_id g.id)
+  bounded_then not_shown n large = elim (subst (λ o. IfSome o (λ (g : OfGroup). IsShownThen facts s.there_is asks g.name)) is may.shown) [
+    | inl was ↦ absurd (true≢false (sym was ∙ not_shown))
+    | inr now ↦ list_any-append (λ ask. denies ask n) asks (asked_id g.id) ∙ or_left (list_any (λ ask. denies ask n) asks) _ (now.1 n large)
+  ]
 
 module _ (facts : List Fact) (s : Saying) (asks : List Ask) (no_list : s.groups ≡ None) (may : MaySay facts s asks) where
   exists_at : (other : Id) → s.article ≡ Some (other, Exists) → MatchOption s.group ⊥ (λ g. MatchOption g.id ⊥ (λ e. e.1 ≡ other))
@@ -218,13 +235,6 @@ module _ (facts : List Fact) (s : Saying) (asks : List Ask) (no_list : s.groups 
       by None e = refl
       by (Some g) e = absurd (subst (λ o. MatchOption o ⊥ (λ (h : OfGroup). h.name ≡ g)) none (subst (λ o. IfSome o (λ name. MatchOption s.group ⊥ (λ g. g.name ≡ name))) e may.there))
 
-  -- no number from 2^64 on is left open in a group that wasn't shown
-  pub bounded_then : (g : OfGroup) → s.group ≡ Some g → is_shown_group facts g.name ≡ false → AreBounded (asks ++ asked_id g.id)
-  bounded_then g is not_shown n large = elim (subst (λ o. IfSome o (λ (g : OfGroup). IsShownThen facts s.there_is asks g.name)) is may.shown) [
-    | inl was ↦ absurd (true≢false (sym was ∙ not_shown))
-    | inr now ↦ list_any-append (λ ask. denies ask n) asks (asked_id g.id) ∙ or_left (list_any (λ ask. denies ask n) asks) _ (now.1 n large)
-  ]
-
   -- the name that is denied
   pub denied_only : (other : Name) → list_any (denies_group other) (facts_in s asks) ≡ option_map_or (λ name. is_same name other) s.there_is_no false
   denied_only other = denied_group s asks no_list other
@@ -233,12 +243,12 @@ module _ (facts : List Fact) (s : Saying) (asks : List Ask) (no_list : s.groups 
 
   -- what is said of the group is added, as a call adds it
   pub group_added : Together facts → (g : OfGroup) → s.group ≡ Some g → IfSome s.group (GroupJoins facts asks) → (old new : Groups)
-      → ((before after : Name → Told) (more : List Ask) → AreKept before old → Says g.numbers more → ((before g.name).is_shown ≡ false → AreBounded more) → Agree (before g.name).ids (before g.name).places g.id
-      → MayShow (before g.name) g.id → Changes before after g.name (with_part (before g.name) more g.id) → AreKept after new)
+      → ((before : Name → Told) (more : List Ask) → AreKept before old → Says g.numbers more → ((before g.name).is_shown ≡ false → AreBounded more) → Agree (before g.name).ids (before g.name).places g.id
+      → MayShow (before g.name) g.id → AreKeptWith before g.name more g.id new)
       → AreKeptGroups facts old → AreKeptGroups (facts ++ facts_in s asks) new
   group_added t g is joins old new adds kept =
-      adds (told facts) (told (facts ++ facts_in s asks)) (asks ++ asked_id g.id) kept (subst (λ o. IfSome o (λ (g : OfGroup). Says g.numbers (asks ++ asked_id g.id))) is may.numbers)
-      (bounded_then g is) (agree_told facts t g.name g.id) (subst (λ o. IfSome o (GroupJoins facts asks)) is joins).1 (group_changes g is)
+      adds (told facts) (asks ++ asked_id g.id) kept (says_then facts s asks may g is) (bounded_then facts s asks may g is) (agree_told facts t g.name g.id) (subst (λ o. IfSome o (GroupJoins facts asks)) is joins).1
+      (told (facts ++ facts_in s asks)) (group_changes g is)
 
   -- where nothing is said of a group, what is kept is so still
   pub groups_alike : s.group ≡ None → (groups : Groups) → AreKeptGroups facts groups → AreKeptGroups (facts ++ facts_in s asks) groups

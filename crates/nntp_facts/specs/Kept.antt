@@ -12,10 +12,12 @@ use Rattle.nntp_article.specs.Spool.{Name}
 use Rattle.nntp_article.specs.Machine.{is_same}
 use Rattle.nntp_facts.specs.Asks.{Ask}
 use Rattle.nntp_facts.specs.Facts.{Fact}
-use Rattle.nntp_facts.specs.Given.{asks_of, is_shown_group, first_given, id_in, is_mentioned, is_sent, head_in, body_in}
+use Rattle.nntp_facts.specs.Given.{is_shown, asks_of, is_shown_group, first_given, id_in, is_mentioned, is_sent, head_in, body_in}
 use Rattle.nntp_facts.specs.Together.{number_in, denies_group, shows_article, denies_article, JoinArticles, Join}
 use Rattle.nntp_facts.specs.Summary.{Summary, IsSummary, AreBounded}
 use Rattle.nntp_facts.specs.ListedGroups.{WereListed}
+use Rattle.nntp_facts.specs.declared.joins.Joins.{Joins}
+use Rattle.nntp_facts.specs.declared.joins.Joins.TheVariants.{Never}
 
 -- ---- what is added
 
@@ -23,6 +25,11 @@ use Rattle.nntp_facts.specs.ListedGroups.{WereListed}
 abbrev pub IsAddedIf : {K : Type 0} → Type 0 → (K → Type 0) → K → K → Bool → Type 0
 IsAddedIf May Has old new true = May × Has new
 IsAddedIf May Has old new false = (May → ⊥) × (new ≡ old)
+
+-- what is said joins all before
+abbrev pub joins_at_all : Joins → Bool
+joins_at_all Never = false
+joins_at_all joins = true
 
 -- ---- groups
 
@@ -73,6 +80,10 @@ AreKeptGroups facts groups = AreKept (told facts) groups
 abbrev pub Agree : (ℕ → Option Id) → (Id → Option ℕ) → Option (ℕ × Id) → Type 0
 Agree ids places id = IfSome id (λ e. ids e.0 ≡ Some e.1 → places e.1 ≡ Some e.0)
 
+-- where the id is at the number already, the number is shown
+abbrev pub IsShownAt : Told → Option (ℕ × Id) → Type 0
+IsShownAt t id = IfSome id (λ e. t.ids e.0 ≡ Some e.1 → IsTrue (is_shown t.asks e.0))
+
 -- the number has no other id, and the id no other number
 abbrev pub IsFree : Option Id → Option ℕ → ℕ × Id → Type 0
 IsFree at place e = IfSome at (λ other. e.1 ≡ other) × IfSome place (λ other. e.0 ≡ other)
@@ -116,6 +127,10 @@ with_part t asks id = record {
 pub record Changes (before after : Name → Told) (name : Name) (t : Told) : Type 0 where
   pub here : after name ≡ t
   pub elsewhere : (other : Name) → is_same name other ≡ false → after other ≡ before other
+
+-- the groups are kept once this is asked of the numbers of one, and an id shown at a number
+abbrev pub AreKeptWith : (Name → Told) → Name → List Ask → Option (ℕ × Id) → FinMap (slice_cmp nat_cmp) KeptGroup → Type 0
+AreKeptWith before name asks id groups = (after : Name → Told) → Changes before after name (with_part (before name) asks id) → AreKept after groups
 
 -- ---- names
 

@@ -1,6 +1,7 @@
 -- What each part of an answer has to join, and what is kept then.
-use Rattle.std.specs.Prelude.{◌≡◌, ℕ, false, List, [], ◌∷◌, ◌++◌, Option, None, Some, IfSome, IsTrue, IsFalse, ⊤}
+use Rattle.std.specs.Prelude.{◌≡◌, ℕ, List, [], ◌∷◌, ◌++◌, Option, None, Some, MatchOption, IfSome, IsTrue, IsFalse, ⊤}
 use Rattle.std.specs.List.{list_any}
+use Rattle.std.specs.FinMap.{get}
 use Rattle.nntp_article.specs.Article.{Id}
 use Rattle.nntp_article.specs.Spool.{Name}
 use Rattle.nntp_article.specs.Machine.{head_fits}
@@ -8,21 +9,19 @@ use Rattle.nntp_facts.specs.Asks.{Ask}
 use Rattle.nntp_facts.specs.Facts.{Fact, IdAt, TextIs, NoArticle}
 use Rattle.nntp_facts.specs.Given.{asks_of, is_shown_group}
 use Rattle.nntp_facts.specs.Together.{AsksStand, denies_group}
-use Rattle.nntp_facts.specs.Part.{Says}
+use Rattle.nntp_facts.specs.Part.{only_has}
 use Rattle.nntp_facts.specs.Saying.{OfGroup, OfArticle, Lacks, Exists, Sends, Saying, asked_id}
-use Rattle.nntp_facts.specs.Summary.{AreBounded}
-use Rattle.nntp_facts.specs.Kept.{told, MayShow}
+use Rattle.nntp_facts.specs.Kept.{KeptGroup, told, MayShow}
 
 -- ---- of a group
-
--- what is said of the group is what is asked of it, and where it isn't shown no number from 2^64 on is left open
-pub record MaySayOf (facts : List Fact) (asks : List Ask) (g : OfGroup) : Type 0 where
-  pub says : Says g.numbers (asks ++ asked_id g.id)
-  pub bounded : is_shown_group facts g.name ≡ false → AreBounded (asks ++ asked_id g.id)
 
 -- what is asked of it stands together with what was asked, and the number may have the id
 abbrev pub GroupJoins : List Fact → List Ask → OfGroup → Type 0
 GroupJoins facts asks g = AsksStand (asks_of g.name facts ++ (asks ++ asked_id g.id)) × MayShow (told facts g.name) g.id
+
+-- all that is said is that a number is there, with the id that is shown there
+abbrev pub HasSaid : KeptGroup → OfGroup → Type 0
+HasSaid g p = MatchOption p.id ⊥ (λ e. (p.numbers ≡ only_has e.0) × (get g.ids e.0 ≡ Some e.1))
 
 -- what is said of names and of a group joins
 pub record JoinGroups (facts : List Fact) (s : Saying) (asks : List Ask) : Type 0 where

@@ -78,6 +78,10 @@ pub record Said : Type 0 where
 abbrev pub part_denies : Said → ℕ → Bool
 part_denies p n = nat_lt n p.low || nat_lt p.high n || (is_between p.first p.last n && not (is_one_of p.numbers n))
 
+-- n is there, and no more is said
+abbrev pub only_has : ℕ → Said
+only_has n = record { possible = true; low = 0; high = 2 ^ 64 - 1; first = n; last = n; numbers = n ∷ []; estimate = None; ends = None; demand = NoDemand }
+
 -- its numbers ascend from 1 on, and are from the first to the last; and the high mark and the last number are below 2^64
 pub record IsRegular (p : Said) : Type 0 where
   pub ascends : IsTrue (is_ascending p.numbers)

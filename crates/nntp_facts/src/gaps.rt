@@ -85,7 +85,9 @@ pub(crate) fn deny_gaps<A: Allocator + Copy>(
     ensures { OnOk result ((n : ℕ) → holds denied.new n ≡ (holds denied.old n || holds gaps.entry n)) }
 {
     while let Some((first, last)) = gaps.next() {
-        denied.insert(first, last)?;
+        if first <= last {
+            denied.insert(first, last)?;
+        }
     }
     Ok(())
 }

@@ -6,13 +6,15 @@ ghost use Rattle.nntp_facts.specs.Asks.{Ask};
 ghost use Rattle.nntp_facts.specs.Together.{AsksStand};
 ghost use Rattle.nntp_facts.specs.Part.{Says};
 ghost use Rattle.nntp_facts.specs.PartView.{said};
-ghost use Rattle.nntp_facts.specs.SayingView.{id_at};
+ghost use Rattle.nntp_facts.specs.SayingView.{id_at, of_group};
 ghost use Rattle.nntp_facts.specs.Summary.{IsSummary, AreBounded};
 ghost use Rattle.nntp_facts.specs.Kept.{Agree, IsFree, MayHave, ids_with, places_with};
+ghost use Rattle.nntp_facts.specs.KeptSaying.{HasSaid};
 ghost use Rattle.nntp_facts.specs.Readers.{unseen_in, unseen_high_in};
 
 use crate::numbers::Numbers;
 use crate::saying::{GroupPart, IdAt};
+use crate::shown::find;
 use std::alloc::{AllocError, Allocator, Global};
 use std::collections::{BTreeMap, BTreeSet};
 use std::marker::Model;
@@ -109,6 +111,26 @@ impl<A: Allocator> Group<A> {
         self.numbers.joins(&part.numbers) && self.may_have(part.id)
     }
 
+    /// Whether all that is said is that a number is there, with the id that is shown there.
+    pub(crate) fn has_said(&self, part: &GroupPart<'_>) -> bool
+        ensures { IsTrue result ↔ HasSaid self.now (of_group part.now) }
+    {
+        match part.id {
+            Some(at) => part.numbers.says_only(at.number) && self.has_id(at),
+            None => false,
+        }
+    }
+
+    /// Whether the id is shown at the number.
+    fn has_id(&self, at: IdAt<'_>) -> bool
+        ensures { IsTrue result ↔ (get self.now.ids at.entry.number ≡ Some at.entry.id.now) }
+    {
+        match self.id(at.number) {
+            Some(id) => id == at.id,
+            None => false,
+        }
+    }
+
     /// Whether the number may have the id.
     fn may_have(&self, id: Option<IdAt<'_>>) -> bool
         ensures { Agree (get self.now.ids) (get self.now.places) (id_at id.entry) → IsTrue result ↔ MayHave self.now.ids self.now.places (id_at id.entry) }
@@ -166,7 +188,7 @@ impl<A: Allocator> Group<A> {
     pub(crate) fn id(&self, number: u64) -> Option<&[u8]>
         ensures { option_copied result ≡ get self.now.ids number }
     {
-        match self.ids.get(&number) {
+        match find(&self.ids, number) {
             Some(id) => Some(id.as_slice()),
             None => None,
         }

@@ -8,12 +8,14 @@ ghost use Rattle.nntp_facts.specs.Part.{Says};
 ghost use Rattle.nntp_facts.specs.PartView.{said};
 ghost use Rattle.nntp_facts.specs.SayingView.{id_at};
 ghost use Rattle.nntp_facts.specs.Summary.{AreBounded};
-ghost use Rattle.nntp_facts.specs.Kept.{Told, AreKept, Agree, MayShow, with_part, Changes};
+ghost use Rattle.nntp_facts.specs.Kept.{joins_at_all, Told, AreKept, Agree, IsShownAt, MayShow, AreKeptWith};
+ghost use Rattle.nntp_facts.specs.declared.joins.Joins.TheVariants.{Again};
 ghost use Rattle.nntp_facts.specs.Readers.{shown_groups};
 
 mod listed;
 
 use crate::group::Group;
+use crate::joins::Joins;
 use crate::saying::GroupPart;
 use crate::shown_groups::ShownGroups;
 use std::alloc::{AllocError, Allocator, Global};
@@ -54,8 +56,8 @@ impl<A: Allocator + Copy> Groups<A> {
 
     /// Adds what is said of a group, which is shown, or is now. After an error the value says nothing of use.
     pub(crate) fn add(&mut self, part: &GroupPart<'_>) -> Result<(), AllocError>
-        ensures { OnOk result ((before after : Name → Told) (asks : List Ask) → AreKept before self.old → Says (said part.now.numbers) asks → ((before part.now.name.now).is_shown ≡ false → AreBounded asks)
-            → Agree (before part.now.name.now).ids (before part.now.name.now).places (id_at part.now.id) → MayShow (before part.now.name.now) (id_at part.now.id) → Changes before after part.now.name.now (with_part (before part.now.name.now) asks (id_at part.now.id)) → AreKept after self.new) }
+        ensures { OnOk result ((before : Name → Told) (asks : List Ask) → AreKept before self.old → Says (said part.now.numbers) asks → ((before part.now.name.now).is_shown ≡ false → AreBounded asks)
+            → Agree (before part.now.name.now).ids (before part.now.name.now).places (id_at part.now.id) → MayShow (before part.now.name.now) (id_at part.now.id) → AreKeptWith before part.now.name.now asks (id_at part.now.id) self.new) }
     {
         if let Some(group) = self.groups.get_mut(part.name) {
             return group.add(self.alloc, part);
@@ -74,15 +76,19 @@ impl<A: Allocator + Copy> Groups<A> {
         Ok(())
     }
 
-    /// Whether what is said of a group stands together with all before.
-    pub(crate) fn joins(&self, part: &GroupPart<'_>) -> bool
-        ensures { (tells : Name → Told) (asks : List Ask) → AreKept tells self.now → AsksStand (tells part.now.name.now).asks → Says (said part.now.numbers) asks
-            → ((tells part.now.name.now).is_shown ≡ false → AreBounded asks) → Agree (tells part.now.name.now).ids (tells part.now.name.now).places (id_at part.now.id)
-            → IsTrue result ↔ (AsksStand ((tells part.now.name.now).asks ++ asks) × MayShow (tells part.now.name.now) (id_at part.now.id)) }
+    /// How what is said of a group joins all before.
+    pub(crate) fn joins(&self, part: &GroupPart<'_>) -> Joins
+        ensures at_all { (tells : Name → Told) (asks : List Ask) → AreKept tells self.now → AsksStand (tells part.now.name.now).asks → Says (said part.now.numbers) asks
+            → ((tells part.now.name.now).is_shown ≡ false → AreBounded asks) → Agree (tells part.now.name.now).ids (tells part.now.name.now).places (id_at part.now.id) → IsShownAt (tells part.now.name.now) (id_at part.now.id)
+            → IsTrue (joins_at_all result) ↔ (AsksStand ((tells part.now.name.now).asks ++ asks) × MayShow (tells part.now.name.now) (id_at part.now.id)) }
+        ensures again { result ≡ Again → (tells : Name → Told) (asks : List Ask) → AreKept tells self.now → Says (said part.now.numbers) asks
+            → Agree (tells part.now.name.now).ids (tells part.now.name.now).places (id_at part.now.id) → IsShownAt (tells part.now.name.now) (id_at part.now.id)
+            → AreKeptWith tells part.now.name.now asks (id_at part.now.id) self.now }
     {
         match self.get(part.name) {
-            Some(group) => group.joins(part),
-            None => Group::new(self.alloc).joins(part),
+            Some(group) if group.has_said(part) => Joins::Again,
+            Some(group) => Joins::new_if(group.joins(part)),
+            None => Joins::new_if(Group::new(self.alloc).joins(part)),
         }
     }
 }

@@ -10,14 +10,16 @@ ghost use Rattle.nntp_facts.specs.Given.{is_shown_group, is_mentioned};
 ghost use Rattle.nntp_facts.specs.Together.{IsWellFormed, denies_group, Together, JoinArticles};
 ghost use Rattle.nntp_facts.specs.Saying.{Saying as SayingValue, facts_in, MaySay, Tells};
 ghost use Rattle.nntp_facts.specs.SayingView.{of_group, article_said, saying_of};
-ghost use Rattle.nntp_facts.specs.Kept.{IsKept, IsAddedIf, AreKeptGroups, AreKeptNames, AreKeptArticles, AreAdded};
+ghost use Rattle.nntp_facts.specs.Kept.{joins_at_all, IsKept, IsAddedIf, AreKeptGroups, AreKeptNames, AreKeptArticles, AreAdded};
+ghost use Rattle.nntp_facts.specs.declared.joins.Joins.TheVariants.{Again};
 ghost use Rattle.nntp_facts.specs.Readers.{shown_groups, shown_articles};
-ghost use Rattle.nntp_facts.specs.KeptSaying.{MaySayOf, GroupJoins, JoinGroups, MayBeSaid, article_facts};
+ghost use Rattle.nntp_facts.specs.KeptSaying.{GroupJoins, JoinGroups, MayBeSaid, article_facts};
 
 mod listed_groups;
 
 use crate::articles::{Articles, ShownArticles};
 use crate::groups::Groups;
+use crate::joins::Joins;
 use crate::names::Names;
 use crate::saying::{ArticlePart, GroupPart, Saying};
 use crate::shown_groups::ShownGroups;
@@ -75,14 +77,15 @@ impl<A: Allocator + Copy> Kept<A> {
         ensures { IfOk result (λ does. (saying_of saying.now).groups ≡ None → (facts more : List Fact) → IsKept facts self.old → Together facts → AllByRecursion IsWellFormed more
             → Tells facts (saying_of saying.now) more → AreAdded facts more self.old self.new does) }
     {
-        if !self.groups_join(saying) {
+        let joins = self.groups_join(saying);
+        if !joins.at_all() {
             return Ok(false);
         }
         if !self.note_article(&saying.article)? {
             return Ok(false);
         }
         self.deny(saying.there_is_no)?;
-        self.add_group(&saying.group)?;
+        self.add_new_group(joins, &saying.group)?;
         Ok(true)
     }
 
@@ -113,6 +116,23 @@ impl<A: Allocator + Copy> Kept<A> {
         }
     }
 
+    /// Adds what is said of a group, where it isn't kept already. After an error the value says nothing of use.
+    fn add_new_group(
+        &mut self,
+        joins: Joins,
+        group: &Option<GroupPart<'_>>,
+    ) -> Result<(), AllocError>
+        ensures rest { (self.new.names ≡ self.old.names) × (self.new.articles ≡ self.old.articles) }
+        ensures groups { OnOk result ((facts : List Fact) (s : SayingValue) (asks : List Ask) → s.group ≡ option_map of_group group.now → s.groups ≡ None → Together facts → MaySay facts s asks
+            → IfSome s.group (GroupJoins facts asks) → AreKeptGroups facts self.old.groups → (joins ≡ Again → AreKeptGroups (facts ++ facts_in s asks) self.old.groups)
+            → AreKeptGroups (facts ++ facts_in s asks) self.new.groups) }
+    {
+        match joins {
+            Joins::Again => Ok(()),
+            _ => self.add_group(group),
+        }
+    }
+
     /// Adds what is said of a group. After an error the value says nothing of use.
     fn add_group(&mut self, group: &Option<GroupPart<'_>>) -> Result<(), AllocError>
         ensures rest { (self.new.names ≡ self.old.names) × (self.new.articles ≡ self.old.articles) }
@@ -125,14 +145,18 @@ impl<A: Allocator + Copy> Kept<A> {
         }
     }
 
-    /// Whether what is said of names and of a group stands together with all before.
-    fn groups_join(&self, saying: &Saying<'_>) -> bool
-        ensures { (facts : List Fact) (asks : List Ask) → IsKept facts self.now → Together facts → MaySay facts (saying_of saying.now) asks
-            → IsTrue result ↔ JoinGroups facts (saying_of saying.now) asks }
+    /// How what is said of names and of a group joins all before.
+    fn groups_join(&self, saying: &Saying<'_>) -> Joins
+        ensures at_all { (facts : List Fact) (asks : List Ask) → IsKept facts self.now → Together facts → MaySay facts (saying_of saying.now) asks
+            → IsTrue (joins_at_all result) ↔ JoinGroups facts (saying_of saying.now) asks }
+        ensures again { result ≡ Again → (facts : List Fact) (asks : List Ask) → (saying_of saying.now).groups ≡ None → IsKept facts self.now → Together facts → MaySay facts (saying_of saying.now) asks
+            → AreKeptGroups (facts ++ facts_in (saying_of saying.now) asks) self.now.groups }
     {
-        self.may_be_there(saying.there_is)
-            && self.may_be_missing(saying.there_is_no)
-            && self.group_joins(&saying.group)
+        if self.may_be_there(saying.there_is) && self.may_be_missing(saying.there_is_no) {
+            self.group_joins(&saying.group)
+        } else {
+            Joins::Never
+        }
     }
 
     /// Whether there may be such a group.
@@ -155,14 +179,16 @@ impl<A: Allocator + Copy> Kept<A> {
         }
     }
 
-    /// Whether what is said of a group stands together with all before.
-    fn group_joins(&self, group: &Option<GroupPart<'_>>) -> bool
-        ensures { (facts : List Fact) (asks : List Ask) → IsKept facts self.now → Together facts → IfSome (option_map of_group group.now) (MaySayOf facts asks)
-            → IsTrue result ↔ IfSome (option_map of_group group.now) (GroupJoins facts asks) }
+    /// How what is said of a group joins all before.
+    fn group_joins(&self, group: &Option<GroupPart<'_>>) -> Joins
+        ensures at_all { (facts : List Fact) (s : SayingValue) (asks : List Ask) → s.group ≡ option_map of_group group.now → IsKept facts self.now → Together facts → MaySay facts s asks
+            → IsTrue (joins_at_all result) ↔ IfSome s.group (GroupJoins facts asks) }
+        ensures again { result ≡ Again → (facts : List Fact) (s : SayingValue) (asks : List Ask) → s.group ≡ option_map of_group group.now → s.groups ≡ None → IsKept facts self.now → Together facts → MaySay facts s asks
+            → AreKeptGroups (facts ++ facts_in s asks) self.now.groups }
     {
         match group {
             Some(group) => self.groups.joins(group),
-            None => true,
+            None => Joins::Again,
         }
     }
 }

@@ -14,7 +14,7 @@ use crate::demand::Demand;
 use crate::ends::{self, Ends};
 use crate::gaps::deny_gaps;
 use crate::numbers_part::NumbersPart;
-use crate::shown::{HowMany, how_many_wanted, show};
+use crate::shown::{HowMany, how_many_wanted, is_shown, show};
 use crate::tally::Tally;
 use nntp_intervals::IntervalSet;
 use std::alloc::{AllocError, Allocator, Global};
@@ -137,7 +137,7 @@ impl<A: Allocator> Numbers<A> {
     fn unless_shown(&self, n: u64) -> Option<u64>
         ensures { result ≡ unless_shown self.now.shown n }
     {
-        if self.shown.contains(&n) {
+        if is_shown(&self.shown, n) {
             None
         } else {
             Some(n)

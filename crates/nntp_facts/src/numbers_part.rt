@@ -1,7 +1,7 @@
 //! What an answer says of the numbers of one group (RFC 3977, section 6.1).
-ghost use Rattle.std.specs.Prelude.{◌≤◌, [], ◌∷◌};
+ghost use Rattle.std.specs.Prelude.{◌≡◌, ◌≤◌, [], ◌∷◌, ◌↔◌, IsTrue};
 ghost use Rattle.nntp_facts.specs.Asks.{Estimates, Bounds, ListsIn, Has, Lacks, StandsAt, StandsNowhere, StepsUp, StepsDown, IsTop, IsBottom};
-ghost use Rattle.nntp_facts.specs.Part.{AreListable, Says};
+ghost use Rattle.nntp_facts.specs.Part.{AreListable, Says, only_has};
 ghost use Rattle.nntp_facts.specs.PartView.{said};
 ghost use Rattle.nntp_facts.specs.Summary.{AreBounded};
 
@@ -48,6 +48,21 @@ impl<'s> NumbersPart<'s> {
             ends: None,
             demand: Demand::NoDemand,
         }
+    }
+
+    /// Whether it says that the number is there, and no more.
+    pub(crate) fn says_only(&self, number: u64) -> bool
+        ensures { IsTrue result ↔ (said self.now ≡ only_has number) }
+    {
+        self.is_possible
+            && self.low == 0
+            && self.high == u64::MAX
+            && self.first == number
+            && self.last == number
+            && is_alone(self.numbers, number)
+            && self.estimate.is_none()
+            && self.ends.is_none()
+            && !self.demand.is_some()
     }
 
     /// What a 211 reports: there are at most so many numbers, between the marks.
@@ -240,5 +255,15 @@ impl<'s> NumbersPart<'s> {
                 ..part
             },
         }
+    }
+}
+
+/// Whether the number is the only one of these.
+fn is_alone(numbers: &[u64], number: u64) -> bool
+    ensures { IsTrue result ↔ (numbers.now ≡ number ∷ []) }
+{
+    match numbers {
+        [only] => *only == number,
+        _ => false,
     }
 }

@@ -1,6 +1,7 @@
 //! What is looked up in the numbers that are shown.
-ghost use Rattle.std.specs.Prelude.{◌≡◌, ℕ, not, nat_lt, true, false, IsTrue, OnOk, ◌↔◌, ◌&&◌, ◌||◌, ◌==◌};
+ghost use Rattle.std.specs.Prelude.{◌≡◌, ℕ, option_copied, not, nat_lt, true, false, IsTrue, OnOk, ◌↔◌, ◌&&◌, ◌||◌, ◌==◌};
 ghost use Rattle.std.specs.Ordering.{nat_cmp};
+ghost use Rattle.std.specs.BTreeMap.{get};
 ghost use Rattle.std.specs.BTreeMap.Range.{is_past_end};
 ghost use Rattle.std.specs.List.Sorted.{IsStrictlySortedBy};
 ghost use Rattle.nntp_intervals.specs.Intervals.{is_between};
@@ -9,7 +10,7 @@ ghost use Rattle.nntp_facts.specs.Summary.{has, shown_after, PassSoMany, and_one
 
 use crate::demand::Demand;
 use std::alloc::{AllocError, Allocator};
-use std::collections::BTreeSet;
+use std::collections::{BTreeMap, BTreeSet};
 use std::ops::Bound;
 
 /// How many numbers were found.
@@ -52,6 +53,26 @@ fn how_many_up_to<A: Allocator>(shown: &BTreeSet<u64, A>, end: Bound<u64>) -> Ho
         (Some(_), Some(_)) => HowMany::Several,
         (Some(_), None) => HowMany::Single,
         _ => HowMany::Absent,
+    }
+}
+
+/// Whether the number is shown. Sessions ascend, so the greatest one is tried first.
+pub(crate) fn is_shown<A: Allocator>(shown: &BTreeSet<u64, A>, n: u64) -> bool
+    ensures { result ≡ has shown.now.keys n }
+{
+    match shown.last() {
+        Some(last) if *last <= n => *last == n,
+        _ => shown.contains(&n),
+    }
+}
+
+/// What a map has at the number, found in the same way.
+pub(crate) fn find<V, A: Allocator>(map: &BTreeMap<u64, V, A>, n: u64) -> Option<&V>
+    ensures { option_copied result ≡ get nat_cmp map.now n }
+{
+    match map.last_key_value() {
+        Some((last, value)) if *last <= n => { if *last == n { Some(value) } else { None } }
+        _ => map.get(&n),
     }
 }
 

@@ -6,7 +6,7 @@ ghost use Rattle.nntp_facts.specs.Summary.{shown_after, IsTally};
 
 use crate::demand::Demand;
 use crate::ends::Ends;
-use crate::shown::{HowMany, how_many_wanted};
+use crate::shown::{HowMany, how_many_wanted, is_shown};
 use std::alloc::Allocator;
 use std::collections::BTreeSet;
 
@@ -52,8 +52,8 @@ impl Tally {
         let Some(ends) = ends else {
             return tally;
         };
-        let low = is_shown(shown, numbers, ends.low);
-        let high = ends.high == ends.low || is_shown(shown, numbers, ends.high);
+        let low = is_shown_after(shown, numbers, ends.low);
+        let high = ends.high == ends.low || is_shown_after(shown, numbers, ends.high);
         tally
             .with(demand, ends.low, low)
             .with(demand, ends.high, high)
@@ -70,14 +70,14 @@ fn tally_shown<A: Allocator>(shown: &BTreeSet<u64, A>, numbers: &[u64], demand: 
         count: shown.len() as u64,
     };
     for n in numbers {
-        tally = tally.with(demand, *n, shown.contains(n));
+        tally = tally.with(demand, *n, is_shown(shown, *n));
     }
     tally
 }
 
 /// Whether the number is shown, or one of the list.
-fn is_shown<A: Allocator>(shown: &BTreeSet<u64, A>, numbers: &[u64], n: u64) -> bool
+fn is_shown_after<A: Allocator>(shown: &BTreeSet<u64, A>, numbers: &[u64], n: u64) -> bool
     ensures { result ≡ shown_after shown.now.keys numbers.now n }
 {
-    shown.contains(&n) || numbers.contains(&n)
+    is_shown(shown, n) || numbers.contains(&n)
 }

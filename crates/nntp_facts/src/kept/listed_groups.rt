@@ -95,7 +95,7 @@ impl<A: Allocator + Copy> Kept<A> {
     fn may_bound(&self, line: &ActiveLine<'_>) -> bool
         ensures { (facts : List Fact) → IsKept facts self.now → Together facts → IsTrue result ↔ LineJoins facts (active_value line.now) }
     {
-        self.may_be(&line.name) && self.groups.joins(&GroupPart::of_bounds(line))
+        self.may_be(&line.name) && self.groups.joins(&GroupPart::of_bounds(line)).at_all()
     }
 }
 

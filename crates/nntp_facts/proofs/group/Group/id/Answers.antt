@@ -7,10 +7,10 @@ use Rattle.nntp_facts.proofs.group.Group.id.Goals as goal
 
 pub returns-in-Some : goal.returns-in-Some
 returns-in-Some g c =
-    ap Some c.as_slice.ensures.value ∙ ap (option_map (λ v. v.items)) c.in-Some.ensures.value
+    ap Some c.as_slice.ensures.value ∙ ap (option_map (λ v. v.items)) c.in-Some.ensures
     ∙ sym (get-shown nat_cmp (λ k. k) (λ v. v.items) nat_cmp_total c.self.inside.ids.entries c.args.number) ∙ ap (λ g. map.get g.ids c.args.number) c.self.view_is
 
 pub returns-in-None : goal.returns-in-None
 returns-in-None g c =
-    ap (option_map (λ v. v.items)) c.in-None.ensures.value
+    ap (option_map (λ v. v.items)) c.in-None.ensures
     ∙ sym (get-shown nat_cmp (λ k. k) (λ v. v.items) nat_cmp_total c.self.inside.ids.entries c.args.number) ∙ ap (λ g. map.get g.ids c.args.number) c.self.view_is

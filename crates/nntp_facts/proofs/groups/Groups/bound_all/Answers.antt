@@ -28,8 +28,8 @@ loop-group-preserved g c =
           let after = told (listing facts wildmat (so_far ++ line ∷ [])) in
           let part = c.of_bounds.result in
           let none = c.of_bounds.ensures.id in
-          c.in_ok-add.ensures before after (Bounds line.low line.high ∷ []) (c.loop-group.invariant.4 facts wildmat kept) c.of_bounds.ensures.numbers (λ _. c.of_bounds.ensures.bounded)
-          (subst (λ id. Agree (before part.name.now).ids (before part.name.now).places id) (sym none) tt) (subst (MayShow (before part.name.now)) (sym none) tt)
+          c.in_ok-add.ensures before (Bounds line.low line.high ∷ []) (c.loop-group.invariant.4 facts wildmat kept) c.of_bounds.ensures.numbers (λ _. c.of_bounds.ensures.bounded)
+          (subst (λ id. Agree (before part.name.now).ids (before part.name.now).places id) (sym none) tt) (subst (MayShow (before part.name.now)) (sym none) tt) after
           (subst (λ id. Changes before after part.name.now (with_part (before part.name.now) (Bounds line.low line.high ∷ []) id)) (sym none)
           (subst (λ name. Changes before after name (with_part (before name) (Bounds line.low line.high ∷ []) None)) (sym c.of_bounds.ensures.name) (one_more_bound facts wildmat so_far line))),
     )

@@ -1,16 +1,34 @@
-use Rattle.std.proofs.Common.{◌++◌, sym, subst}
+use Rattle.std.proofs.Common.{◌≡◌, ◌++◌, None, Some, refl, sym, ap, subst, ◌∙◌}
 use Rattle.std.specs.Prelude.{◌↔◌, IfSome, IsTrue, option_map}
 use Rattle.nntp_facts.specs.SayingView.{of_group}
-use Rattle.nntp_facts.specs.Saying.{asked_id}
-use Rattle.nntp_facts.specs.Kept.{IsKept, told}
-use Rattle.nntp_facts.specs.KeptSaying.{MaySayOf, GroupJoins}
-use Rattle.nntp_facts.proofs.PartsJoin.{agree_told}
+use Rattle.nntp_facts.specs.Saying.{asked_id, facts_in}
+use Rattle.nntp_facts.specs.Kept.{joins_at_all, IsKept, AreKeptGroups, told}
+use Rattle.nntp_facts.specs.KeptSaying.{GroupJoins}
+use Rattle.nntp_facts.proofs.PartsJoin.{agree_told, shown_told, says_then, bounded_then, group_changes, groups_alike}
 use Rattle.nntp_facts.proofs.kept.Kept.group_joins.Goals as goal
 
-pub returns-in-Some : goal.returns-in-Some
-returns-in-Some g c facts asks kept together may =
+pub returns-in-Some-clause-at_all : goal.returns-in-Some-clause-at_all
+returns-in-Some-clause-at_all g c facts s asks is kept together may =
     let k = subst (IsKept facts) (sym c.self.view_is) kept in
     let part = of_group c.in-Some.group in
-    let m = subst (λ o. IfSome (option_map of_group o) (MaySayOf facts asks)) c.in-Some.is may in
-    subst (λ o. IsTrue c.joins.result ↔ IfSome (option_map of_group o) (GroupJoins facts asks)) (sym c.in-Some.is)
-    (c.joins.ensures (told facts) (asks ++ asked_id part.id) k.groups (together.numbers part.name) m.says m.bounded (agree_told facts together part.name part.id))
+    let same : s.group ≡ Some part = is ∙ ap (option_map of_group) c.in-Some.is in
+    subst (λ o. IsTrue (joins_at_all c.joins.result) ↔ IfSome o (GroupJoins facts asks)) (sym same)
+    (c.joins.ensures.at_all (told facts) (asks ++ asked_id part.id) k.groups (together.numbers part.name) (says_then facts s asks may part same) (bounded_then facts s asks may part same)
+    (agree_told facts together part.name part.id) (shown_told facts part.name part.id))
+
+pub returns-in-Some-clause-again : goal.returns-in-Some-clause-again
+returns-in-Some-clause-again g c again facts s asks is no_list kept together may =
+    let k = subst (IsKept facts) (sym c.self.view_is) kept in
+    let part = of_group c.in-Some.group in
+    let same : s.group ≡ Some part = is ∙ ap (option_map of_group) c.in-Some.is in
+    subst (λ k. AreKeptGroups (facts ++ facts_in s asks) k.groups) c.self.view_is
+    (c.joins.ensures.again again (told facts) (asks ++ asked_id part.id) k.groups (says_then facts s asks may part same) (agree_told facts together part.name part.id) (shown_told facts part.name part.id)
+    (told (facts ++ facts_in s asks)) (group_changes facts s asks no_list may part same))
+
+pub returns-in-None-clause-at_all : goal.returns-in-None-clause-at_all
+returns-in-None-clause-at_all g c facts s asks is kept together may =
+    let same : s.group ≡ None = is ∙ ap (option_map of_group) c.in-None.is in
+    (λ t. subst (λ o. IfSome o (GroupJoins facts asks)) (sym same) tt, λ h. refl)
+
+pub returns-in-None-clause-again : goal.returns-in-None-clause-again
+returns-in-None-clause-again g c again facts s asks is no_list kept together may = groups_alike facts s asks no_list may (is ∙ ap (option_map of_group) c.in-None.is) c.args.self.now.groups kept.groups

@@ -17,8 +17,8 @@ returns-clause-tally g c = λ up.
     let e = c.in-Some.ends in
     let there : c.if-ends.high ≡ (p e.high || e.low == e.high) = elim c.if-ends.branch [
       | then-ends w ↦ w.high-is ∙ low_there p e.low e.high w.if-ends.true
-      | else-ends w ↦ w.high-is ∙ w.is_shown-high.ensures ∙ high_there p e.low e.high w.if-ends.false
+      | else-ends w ↦ w.high-is ∙ w.is_shown_after-high.ensures ∙ high_there p e.low e.high w.if-ends.false
     ] in
     subst (λ o. IsTally (λ n. p n || is_end_of o n) c.args.demand c.with-2.result.found c.with-2.result.count) (sym c.in-Some.is)
     (tally_ends p e.low e.high c.args.demand _ _
-    (c.with-2.ensures.tally (λ n. p n || e.low == n) there (c.with.ensures.tally p c.is_shown-low.ensures (c.tally_shown-tally.ensures.tally up))))
+    (c.with-2.ensures.tally (λ n. p n || e.low == n) there (c.with.ensures.tally p c.is_shown_after-low.ensures (c.tally_shown-tally.ensures.tally up))))
