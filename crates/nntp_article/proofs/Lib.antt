@@ -17,3 +17,4 @@ pub mod ArticleLaws
 pub mod Ascends
 pub mod Names
 pub mod SetKeys
+pub mod SpoolLimits

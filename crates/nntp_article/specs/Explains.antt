@@ -8,7 +8,7 @@ use Rattle.nntp_article.specs.Machine.{Run, start}
 
 -- the spool permits the first n answers, and the server's octets go on with the rest
 pub record ExplainsUpTo (profile : Profile) (S : Spool) (client server : List ℕ) (n : ℕ) (rest : List ℕ) : Type 0 where
-  pub is_spool : IsSpool profile S
+  pub is_spool : IsSpool profile.limit S
   pub answers : List Response
   pub octets : List ℕ
   pub count : length answers ≡ n

@@ -2,13 +2,8 @@
 use Rattle.nntp_wire.specs.Limit.{greatest}
 use Rattle.nntp_wire.specs.declared.limit.Limit.{Limit}
 use Rattle.nntp_wire.specs.declared.marks.Marks.{Marks}
-use Rattle.nntp_wire.specs.declared.marks.Marks.TheVariants.{Lenient}
 use Rattle.nntp_article.specs.declared.profile.Profile.{Profile}
 
 -- article numbers within the limit, and marks that are read so
 abbrev pub profile_of : Limit → Marks → Profile
 profile_of limit marks = record { limit = greatest limit; marks = marks }
-
--- article numbers of 31 bits (RFC 3977, section 6), and marks that needn't be numbers
-abbrev pub profile_31_bits : Profile
-profile_31_bits = record { limit = 2147483647; marks = Lenient }

@@ -58,9 +58,9 @@ is_greeting code = is_one_of (200 ∷ 201 ∷ 400 ∷ 502 ∷ []) code
 abbrev pub is_opaque : ℕ → Bool
 is_opaque code = code == 381 || nat_lt code 300 || nat_le 400 code
 
--- an article number
-abbrev pub is_num : Profile → ℕ → Bool
-is_num profile n = nat_le 1 n && nat_le n profile.limit
+-- an article number, where this is the greatest (RFC 3977, section 6)
+abbrev pub is_article_number : ℕ → ℕ → Bool
+is_article_number limit n = nat_le 1 n && nat_le n limit
 
 -- the marks of an empty group that say nothing more
 abbrev pub are_zeros : WaterMarks → Bool
@@ -107,10 +107,10 @@ names_differ (line ∷ lines) = list_all (λ other. not (is_same line.name other
 
 -- the number and the id of a success, by what was asked
 abbrev pub number_fits : Profile → Visible → Target → ℕ → Id → Bool
-number_fits profile v (by_id word) number id = is_same id word && (number == 0 || (is_some v.selected && is_num profile number))
+number_fits profile v (by_id word) number id = is_same id word && (number == 0 || (is_some v.selected && is_article_number profile.limit number))
 number_fits profile v (by_number None) number id = false
-number_fits profile v (by_number (Some n)) number id = is_some v.selected && number == n && is_num profile n
-number_fits profile v current number id = is_some v.selected && is_num profile number
+number_fits profile v (by_number (Some n)) number id = is_some v.selected && number == n && is_article_number profile.limit n
+number_fits profile v current number id = is_some v.selected && is_article_number profile.limit number
 
 -- an answer of a code alone, other than a generic failure
 abbrev pub code_fits : Visible → Request → ℕ → Bool
@@ -136,9 +136,9 @@ fits profile v (to command) (plain code) = is_generic code || code_fits v comman
 fits profile v (to (group word)) (group_is m name) = is_same name word && marks_fit profile v name m
 fits profile v (to (list_group word range)) (numbers_are m name lines) =
     option_map_or (is_same name) (option_or word v.selected) false && marks_fit profile v name m
-    && is_ascending (listed_numbers lines) && list_all (λ n. is_num profile n && is_in_range range n) (listed_numbers lines)
-fits profile v (to next) (sends sent) = sent.code == 223 && is_some v.selected && is_num profile sent.number
-fits profile v (to last) (sends sent) = sent.code == 223 && is_some v.selected && is_num profile sent.number
+    && is_ascending (listed_numbers lines) && list_all (λ n. is_article_number profile.limit n && is_in_range range n) (listed_numbers lines)
+fits profile v (to next) (sends sent) = sent.code == 223 && is_some v.selected && is_article_number profile.limit sent.number
+fits profile v (to last) (sends sent) = sent.code == 223 && is_some v.selected && is_article_number profile.limit sent.number
 fits profile v (to (retrieve what which)) (sends sent) =
     sent.code == success_code what && number_fits profile v which sent.number sent.id && head_fits what sent.id sent.block
 fits profile v (to (list_active p)) (active_are lines) = list_all (active_fits profile p) (active_groups lines) && names_differ (active_groups lines)

@@ -9,7 +9,6 @@ use Rattle.nntp_wire.specs.Name.{IsGroupName, IsMessageId}
 use Rattle.nntp_wire.specs.declared.range.Range.{Range}
 use Rattle.nntp_wire.specs.declared.command.What.{What}
 use Rattle.nntp_wire.specs.declared.command.What.TheVariants.{Article, Head, Body, Stat}
-use Rattle.nntp_article.specs.declared.profile.Profile.{Profile}
 use Rattle.nntp_article.specs.Article.{Line, Id, is_head, said_id}
 
 -- the name of a group
@@ -90,9 +89,9 @@ abbrev pub HasText : Spool → What → Id → Option (List Line) → Type 0
 HasText S what id lines = option_map (text_of what) (get S.articles id) ≡ Some lines
 
 -- the numbers are 1 to the limit, ids are one-to-one in a group, each id that is used has an article, and a head says its own id if any
-pub record IsSpool (profile : Profile) (S : Spool) : Type 0 where
+pub record IsSpool (limit : ℕ) (S : Spool) : Type 0 where
   pub names : (name : Name) → IsGroup S name → IsGroupName name
-  pub numbers_in_limit : (name : Name) (n : ℕ) → IsNumber (numbers S name) n → (1 ≤ n) × (n ≤ profile.limit)
+  pub numbers_in_limit : (name : Name) (n : ℕ) → IsNumber (numbers S name) n → (1 ≤ n) × (n ≤ limit)
   pub one_to_one : (name : Name) (n m : ℕ) (id : Id) → get (numbers S name) n ≡ Some id → get (numbers S name) m ≡ Some id → n ≡ m
   pub ids_have_articles : (name : Name) (n : ℕ) (id : Id) → get (numbers S name) n ≡ Some id → IsSome (get S.articles id)
   pub ids : (id : Id) → IsSome (get S.articles id) → IsMessageId id

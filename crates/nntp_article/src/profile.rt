@@ -4,9 +4,6 @@ ghost use Rattle.nntp_article.specs.Limit.{profile_of};
 
 use nntp_wire::{Limit, Marks};
 
-/// The greatest article number of 31 bits (RFC 3977, section 6).
-pub const LIMIT: u64 = 2_147_483_647;
-
 /// What may vary between sessions.
 #[derive(Clone, Copy, Debug, PartialEq, Eq)]
 pub struct Profile {
@@ -27,9 +24,3 @@ impl Profile {
         }
     }
 }
-
-/// What sessions and spools are judged by: article numbers of 31 bits.
-pub const PROFILE_31_BITS: Profile = Profile {
-    limit: LIMIT,
-    marks: Marks::Lenient,
-};

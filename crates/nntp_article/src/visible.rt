@@ -18,6 +18,7 @@ mod tests;
 pub use codes::{is_generic_failure, is_success};
 use marks::are_zeros;
 use nntp_wire::{Answer, Prompt, WaterMarks};
+pub use numbers::is_article_number;
 use std::alloc::{AllocError, Allocator, Global};
 use std::collections::BTreeMap;
 use std::marker::Model;

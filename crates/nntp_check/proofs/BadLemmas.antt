@@ -2,12 +2,15 @@
 use Rattle.std.proofs.Common.{◌≡◌, ◌∙◌, sym, ap, subst, refl, ℕ, ◌+◌, Bool, true, false, List, [], ◌∷◌, ◌++◌, length, Option, None, Some, inl, inr}
 use Rattle.std.specs.Prelude.{IsTrue, is_some, count_by}
 use Rattle.nntp_wire.specs.Answer.{Response, Spells}
+use Rattle.nntp_wire.specs.declared.limit.Limit.{Limit}
+use Rattle.nntp_wire.specs.declared.marks.Marks.{Marks}
 use Rattle.nntp_wire.specs.Frame.{HasFrame}
 use Rattle.nntp_wire.specs.Session.{closes}
 use Rattle.nntp_wire.proofs.SpellLemmas.{spelling-frame}
 use Rattle.nntp_wire.proofs.SpellsDecided.{dec_spelling}
 use Rattle.nntp_wire.proofs.FramesDecided.{dec_frame}
-use Rattle.nntp_article.specs.Limit.{profile_31_bits}
+use Rattle.nntp_article.specs.Limit.{profile_of}
+use Rattle.nntp_article.specs.declared.profile.Profile.{Profile}
 use Rattle.nntp_pair.specs.declared.class.PairClass.{PairClass}
 use Rattle.nntp_pair.specs.declared.class.PairClass.TheVariants as pair
 use Rattle.nntp_pair.specs.Pairing.{Unpaired, Ends, Ending, end, bad as pair_end, asked_at}
@@ -77,32 +80,32 @@ ends-here index (place ∷ places) (b ∷ server) false none = elim (dec_spellin
   ]
 ]
 
-module _ (client server : List ℕ) (facts : FactsKept) (left : Unpaired) (answers : ℕ) (p : Passed profile_31_bits client server facts left answers) where
+module _ (profile : Profile) (client server : List ℕ) (facts : FactsKept) (left : Unpaired) (answers : ℕ) (p : Passed profile client server facts left answers) where
   -- an end that stays is bad for good
-  pub told : (class : PairClass) → EndsForGood class left → (index : ℕ) → index ≡ left.index → (of : Class) → of ≡ class_of class → IsBadForGood client server index of
+  pub told : (class : PairClass) → EndsForGood class left → (index : ℕ) → index ≡ left.index → (of : Class) → of ≡ class_of class → IsBadForGood profile client server index of
   told class ends index at of is = (
-    octets-right client server facts left answers class p ends.0 index at of is,
+    octets-right profile client server facts left answers class p ends.0 index at of is,
     subst (λ (x : ℕ × Class). IsSettled client server x.0 x.1) (λ i. (sym (at ∙ index-counts client server p.pairs left p.before) i, sym is i))
         ((settled_lasts client server p.pairs left class p.before).1 ends.1),
   )
 
   -- where all answers are explained none is bad
-  no-bad-explained : (unanswered : ℕ) → Ends left (end unanswered) → (answer : ℕ) (class : Class) → IsHeadline profile_31_bits client server (No answer class) → ⊥
+  no-bad-explained : (unanswered : ℕ) → Ends left (end unanswered) → (answer : ℕ) (class : Class) → IsHeadline profile client server (No answer class) → ⊥
   no-bad-explained unanswered ends answer class headline =
-      let some = (pairs_permitted profile_31_bits client server p.pairs left p.before).1 p.stands.permitted in
-      explained_not_bad profile_31_bits some.0 client server (length p.pairs) answer
-      (explained_end profile_31_bits some.0 client server p.pairs unanswered (record { left = left; paired = p.before; ends = ends }) some.1 some.2) headline.0
+      let some = (pairs_permitted profile client server p.pairs left p.before).1 p.stands.permitted in
+      explained_not_bad profile some.0 client server (length p.pairs) answer
+      (explained_end profile some.0 client server p.pairs unanswered (record { left = left; paired = p.before; ends = ends }) some.1 some.2) headline.0
 
   -- and what is bad for good is at an end that stays
-  stays : (class : PairClass) → Ends left (pair_end class) → (answer : ℕ) (of : Class) → IsBadForGood client server answer of → EndsForGood class left
+  stays : (class : PairClass) → Ends left (pair_end class) → (answer : ℕ) (of : Class) → IsBadForGood profile client server answer of → EndsForGood class left
   stays class ends answer of (headline, settled) =
-      let e = one_headline profile_31_bits client server (No answer of) (No left.index (class_of class)) headline (octets-right client server facts left answers class p ends left.index refl (class_of class) refl) in
+      let e = one_headline profile client server (No answer of) (No left.index (class_of class)) headline (octets-right profile client server facts left answers class p ends left.index refl (class_of class) refl) in
       let place : answer ≡ length p.pairs = (let at : answer ≡ left.index = cc in at) ∙ index-counts client server p.pairs left p.before in
       let same : of ≡ class_of class = cc in
       (ends, (settled_lasts client server p.pairs left class p.before).0 (subst (λ (x : ℕ × Class). IsSettled client server x.0 x.1) (λ i. (place i, same i)) settled))
 
   -- so where none stays, nothing is bad for good
-  pub untold : (HasNext left → ⊥) → ((class : PairClass) → EndsForGood class left → ⊥) → (answer : ℕ) (class : Class) → IsBadForGood client server answer class → ⊥
+  pub untold : (HasNext left → ⊥) → ((class : PairClass) → EndsForGood class left → ⊥) → (answer : ℕ) (class : Class) → IsBadForGood profile client server answer class → ⊥
   untold no_next no_end answer class is_bad = by (ends-here left.index left.places left.server left.is_closed no_next)
     where
       by : (e : Ending) × Ends left e → ⊥
@@ -118,39 +121,39 @@ settled-whole client server answer class.OutOfPlace command reply whole = tt
 settled-whole client server answer class.Contradiction command reply whole = tt
 
 -- and told as bad
-pub decided-told : (client server : List ℕ) (j : Judgement) → IsNoForGood j → IsVerdict client server j → IsToldBad client server (told_bad j)
-decided-told client server (consistent S answers) whole verdict = absurd whole
-decided-told client server (bad answer class command reply) whole verdict = (verdict.headline, settled-whole client server answer class command reply whole)
+pub decided-told : (limit : Limit) (marks : Marks) (client server : List ℕ) (j : Judgement) → IsNoForGood j → IsVerdict limit marks client server j → IsToldBad (profile_of limit marks) client server (told_bad j)
+decided-told limit marks client server (consistent L answers) whole verdict = absurd whole
+decided-told limit marks client server (bad answer class command reply) whole verdict = (verdict.headline, settled-whole client server answer class command reply whole)
 
 -- ---- laws
 
 -- what is bad for good stays so
-pub bad-stays : (client server client_more server_more : List ℕ) (answer : ℕ) (c : Class) → IsBadForGood client server answer c → IsBadForGood (client ++ client_more) (server ++ server_more) answer c
-bad-stays client server client_more server_more answer c (headline, settled) = (
+pub bad-stays : (profile : Profile) (client server client_more server_more : List ℕ) (answer : ℕ) (c : Class) → IsBadForGood profile client server answer c → IsBadForGood profile (client ++ client_more) (server ++ server_more) answer c
+bad-stays profile client server client_more server_more answer c (headline, settled) = (
   (
-    answer_stays profile_31_bits client server client_more server_more answer c headline.1 settled headline.0,
-    class_stays profile_31_bits client server client_more server_more answer c headline.1 settled,
+    answer_stays profile client server client_more server_more answer c headline.1 settled headline.0,
+    class_stays profile client server client_more server_more answer c headline.1 settled,
   ),
   settled_stays client server client_more server_more answer c settled,
 )
 
 -- one answer is
-one-bad : (client server : List ℕ) (x y : ℕ × Class) → IsBadForGood client server x.0 x.1 → IsBadForGood client server y.0 y.1 → x ≡ y
-one-bad client server (k, c) (j, d) p q =
-    let e = one_headline profile_31_bits client server (No k c) (No j d) p.0 q.0 in
+one-bad : (profile : Profile) (client server : List ℕ) (x y : ℕ × Class) → IsBadForGood profile client server x.0 x.1 → IsBadForGood profile client server y.0 y.1 → x ≡ y
+one-bad profile client server (k, c) (j, d) p q =
+    let e = one_headline profile client server (No k c) (No j d) p.0 q.0 in
     let place : k ≡ j = cc in
     let same : c ≡ d = cc in
     λ i. (place i, same i)
 
 -- so one thing is told
-pub one-told : (client server : List ℕ) (x y : Option (ℕ × Class)) → IsToldBad client server x → IsToldBad client server y → x ≡ y
-one-told client server None None p q = refl
-one-told client server None (Some y) p q = absurd (p y.0 y.1 q)
-one-told client server (Some x) None p q = absurd (q x.0 x.1 p)
-one-told client server (Some x) (Some y) p q = ap Some (one-bad client server x y p q)
+pub one-told : (profile : Profile) (client server : List ℕ) (x y : Option (ℕ × Class)) → IsToldBad profile client server x → IsToldBad profile client server y → x ≡ y
+one-told profile client server None None p q = refl
+one-told profile client server None (Some y) p q = absurd (p y.0 y.1 q)
+one-told profile client server (Some x) None p q = absurd (q x.0 x.1 p)
+one-told profile client server (Some x) (Some y) p q = ap Some (one-bad profile client server x y p q)
 
 -- and it stays
-pub told-stays : (client server client_more server_more : List ℕ) (x y : Option (ℕ × Class)) → IsTrue (is_some x) → IsToldBad client server x → IsToldBad (client ++ client_more) (server ++ server_more) y → y ≡ x
-told-stays client server client_more server_more None y some p q = cc
-told-stays client server client_more server_more (Some x) y some p q =
-    one-told (client ++ client_more) (server ++ server_more) y (Some x) q (bad-stays client server client_more server_more x.0 x.1 p)
+pub told-stays : (profile : Profile) (client server client_more server_more : List ℕ) (x y : Option (ℕ × Class)) → IsTrue (is_some x) → IsToldBad profile client server x → IsToldBad profile (client ++ client_more) (server ++ server_more) y → y ≡ x
+told-stays profile client server client_more server_more None y some p q = cc
+told-stays profile client server client_more server_more (Some x) y some p q =
+    one-told profile (client ++ client_more) (server ++ server_more) y (Some x) q (bad-stays profile client server client_more server_more x.0 x.1 p)

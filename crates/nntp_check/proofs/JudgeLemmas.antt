@@ -2,10 +2,14 @@
 use Rattle.std.proofs.Common.{◌≡◌, ◌≢◌, ◌∙◌, sym, subst, refl, ℕ, ◌+◌, List, [], ◌∷◌, ◌++◌, Option, None, Some, MatchOption, Result, Ok, Err, IfOk, length, ap, inr, arith}
 use Rattle.std.specs.Option.{option_map}
 use Rattle.std.proofs.lemmas.List.{length_push, append_assoc}
+use Rattle.nntp_wire.specs.Limit.{greatest}
 use Rattle.nntp_wire.specs.Octets.{crlf}
+use Rattle.nntp_wire.specs.declared.limit.Limit.{Limit}
+use Rattle.nntp_wire.specs.declared.marks.Marks.{Marks}
+use Rattle.nntp_wire.specs.declared.limit.Limit.TheVariants.{Narrow, Wide}
 use Rattle.nntp_wire.specs.Frame.{framed, frame_octets}
 use Rattle.nntp_article.specs.Explains.{Explains}
-use Rattle.nntp_article.specs.Limit.{profile_31_bits}
+use Rattle.nntp_article.specs.Limit.{profile_of}
 use Rattle.nntp_article.specs.declared.profile.Profile.{Profile}
 use Rattle.nntp_article.specs.Machine.{Visible, visible_after, start, fits}
 use Rattle.nntp_article.specs.Spool.{Spool}
@@ -23,13 +27,14 @@ use Rattle.nntp_facts.specs.Headline.{Yes, No, IsHeadline}
 use Rattle.nntp_facts.specs.Noted.{FactsKept, HasNoted, IsDue, IsNoted}
 use Rattle.nntp_facts.proofs.Size.{pairs_size}
 use Rattle.nntp_facts.proofs.Headlines.{same_answers, headline_at_end, headline_at_octets, headline_at_response, headline_at_unfitting}
+use Rattle.nntp_spool.specs.Limited.{LimitedSpool}
 use Rattle.nntp_spool.specs.Text.{IsWritten}
 use Rattle.nntp_spool.specs.Verifying.{IsVerified}
 use Rattle.nntp_spool.specs.declared.verification.verified.Verified.{Verified}
 use Rattle.nntp_spool.specs.declared.verification.verified.Verified.TheVariants.{Permits, Refuses}
 use Rattle.nntp_spool.proofs.PermittedPairs.{explained-unrefused}
 use Rattle.nntp_spool.proofs.WholeSpools.{written_is_read}
-use Rattle.nntp_witness.specs.Witness.{IsWitness}
+use Rattle.nntp_witness.specs.Witness.{IsWitnessWithin}
 use Rattle.nntp_check.specs.declared.verdict.Verdict.{Verdict}
 use Rattle.nntp_check.specs.Judging.{IsFirstLine, StopsAt, IsYes, IsVerdict, SuitsClass, Passed, StopsHere, shown, pair_class_of, class_noted}
 use Rattle.nntp_pair.specs.Feeding.{HasNext}
@@ -85,10 +90,10 @@ of-exchange kinds.OutOfPlace class is = let same : class ≡ OutOfPlace = cc in 
 of-exchange kinds.Contradiction class is = let same : class ≡ Contradiction = cc in ap pair_class_of same
 
 -- a bad exchange
-pub at-exchange : (client server : List ℕ) (facts : FactsKept) (left behind : Unpaired) (answers : ℕ) (x : Paired) (noted : Noted) (class : Class) → Passed profile_31_bits client server facts left answers → IsNext left x behind → Some class ≡ class_noted noted
+pub at-exchange : (profile : Profile) (client server : List ℕ) (facts : FactsKept) (left behind : Unpaired) (answers : ℕ) (x : Paired) (noted : Noted) (class : Class) → Passed profile client server facts left answers → IsNext left x behind → Some class ≡ class_noted noted
     → (k : ℕ) → k ≡ x.index → (line : Option (List ℕ)) → line ≡ x.line → (initial : List ℕ) → initial ≡ x.initial
     → StopsAt client server k class (option_map shown line) (shown initial)
-at-exchange client server facts left behind answers x noted class p next judged k at line line-is initial initial-is =
+at-exchange profile client server facts left behind answers x noted class p next judged k at line line-is initial initial-is =
     let frame = next.answered.frame in
     let first = frame-first left.server x.initial behind.server next.answered.block frame.whole in
     record {
@@ -110,10 +115,10 @@ of-pair pair.Cut left is = is
 of-pair pair.Malformed left is = is
 
 -- octets that answer nothing
-pub at-octets : (client server : List ℕ) (facts : FactsKept) (left : Unpaired) (answers index : ℕ) (class : PairClass) (line : Option (List ℕ)) (octets first : List ℕ)
-    → Passed profile_31_bits client server facts left answers → StopsHere left index class line octets → (of : Class) → of ≡ class_of class → IsFirstLine octets first
+pub at-octets : (profile : Profile) (client server : List ℕ) (facts : FactsKept) (left : Unpaired) (answers index : ℕ) (class : PairClass) (line : Option (List ℕ)) (octets first : List ℕ)
+    → Passed profile client server facts left answers → StopsHere left index class line octets → (of : Class) → of ≡ class_of class → IsFirstLine octets first
     → StopsAt client server index of (option_map shown line) (shown first)
-at-octets client server facts left answers index class line octets first p stop of of-is is-first = record {
+at-octets profile client server facts left answers index class line octets first p stop of of-is is-first = record {
   pairs = p.pairs;
   left = left;
   before = p.before;
@@ -129,52 +134,65 @@ at-octets client server facts left answers index class line octets first p stop 
 -- ---- what a verdict says
 
 -- `verify` answers of a spool that explains both streams that it permits as many answers
-only-permits : (S : Spool) (client server : List ℕ) (n : ℕ) → Explains profile_31_bits S client server n → (verified : Verified) → IsVerified profile_31_bits S client server verified → verified ≡ Permits n
-only-permits S client server n x (Permits m) y = ap Permits (sym y.count ∙ ap length (same_answers profile_31_bits S S client server m n y x) ∙ x.count)
-only-permits S client server n x (Refuses k) r = absurd (explained-unrefused profile_31_bits S x.is_spool client server n k x r)
+only-permits : (profile : Profile) (S : Spool) (client server : List ℕ) (n : ℕ) → Explains profile S client server n → (verified : Verified) → IsVerified profile S client server verified → verified ≡ Permits n
+only-permits profile S client server n x (Permits m) y = ap Permits (sym y.count ∙ ap length (same_answers profile S S client server m n y x) ∙ x.count)
+only-permits profile S client server n x (Refuses k) r = absurd (explained-unrefused profile S x.is_spool client server n k x r)
 
 -- an exchange that isn't accepted is bad, of its class
-pub exchange-right : (client server : List ℕ) (old new : FactsKept) (left behind : Unpaired) (answers : ℕ) (x : Paired) (noted : Noted) (class : Class) → Passed profile_31_bits client server old left answers → IsNext left x behind
-    → ((past : List Paired) → HasNoted profile_31_bits old past → IsNoted profile_31_bits past x old new noted) → Some class ≡ class_noted noted → (k : ℕ) → k ≡ x.index → IsHeadline profile_31_bits client server (No k class)
-exchange-right client server old new left behind answers x noted class p next notes judged k at =
-    subst (λ n. IsHeadline profile_31_bits client server (No n class)) (sym place) (by noted judged (notes p.pairs p.stands))
+pub exchange-right : (profile : Profile) (client server : List ℕ) (old new : FactsKept) (left behind : Unpaired) (answers : ℕ) (x : Paired) (noted : Noted) (class : Class) → Passed profile client server old left answers → IsNext left x behind
+    → ((past : List Paired) → HasNoted profile old past → IsNoted profile past x old new noted) → Some class ≡ class_noted noted → (k : ℕ) → k ≡ x.index → IsHeadline profile client server (No k class)
+exchange-right profile client server old new left behind answers x noted class p next notes judged k at =
+    subst (λ n. IsHeadline profile client server (No n class)) (sym place) (by noted judged (notes p.pairs p.stands))
   where
     place : k ≡ length p.pairs
     place = at ∙ next.index ∙ index-counts client server p.pairs left p.before
 
-    fitting : fits profile_31_bits old.visible (asked_at x.line) x.response ≡ fits profile_31_bits (visible_left p.pairs) (asked_at x.line) x.response
-    fitting i = fits profile_31_bits (p.stands.visible i) (asked_at x.line) x.response
+    fitting : fits profile old.visible (asked_at x.line) x.response ≡ fits profile (visible_left p.pairs) (asked_at x.line) x.response
+    fitting i = fits profile (p.stands.visible i) (asked_at x.line) x.response
 
-    by : (noted : Noted) → Some class ≡ class_noted noted → IsNoted profile_31_bits p.pairs x old new noted → IsHeadline profile_31_bits client server (No (length p.pairs) class)
+    by : (noted : Noted) → Some class ≡ class_noted noted → IsNoted profile p.pairs x old new noted → IsHeadline profile client server (No (length p.pairs) class)
     by kinds.Consistent judged h = cc
     by kinds.OutOfPlace judged h =
         let same : OutOfPlace ≡ class = cc in
-        subst (λ c. IsHeadline profile_31_bits client server (No (length p.pairs) c)) same
-        (headline_at_unfitting profile_31_bits client server p.pairs x left behind p.before next p.stands.permitted (sym fitting ∙ h.0))
+        subst (λ c. IsHeadline profile client server (No (length p.pairs) c)) same
+        (headline_at_unfitting profile client server p.pairs x left behind p.before next p.stands.permitted (sym fitting ∙ h.0))
     by kinds.Contradiction judged h =
-        let same : class_by (fits profile_31_bits (visible_left p.pairs) (asked_at x.line) x.response) ≡ class = ap class_by (sym fitting ∙ h.0) ∙ (let c : Contradiction ≡ class = cc in c) in
-        subst (λ c. IsHeadline profile_31_bits client server (No (length p.pairs) c)) same
-        (headline_at_response profile_31_bits client server p.pairs x left behind p.before next p.stands.permitted h.1)
+        let same : class_by (fits profile (visible_left p.pairs) (asked_at x.line) x.response) ≡ class = ap class_by (sym fitting ∙ h.0) ∙ (let c : Contradiction ≡ class = cc in c) in
+        subst (λ c. IsHeadline profile client server (No (length p.pairs) c)) same
+        (headline_at_response profile client server p.pairs x left behind p.before next p.stands.permitted h.1)
 
 -- octets that answer nothing are bad, of their class
-pub octets-right : (client server : List ℕ) (facts : FactsKept) (left : Unpaired) (answers : ℕ) (class : PairClass) → Passed profile_31_bits client server facts left answers → Ends left (pair_end class)
-    → (k : ℕ) → k ≡ left.index → (of : Class) → of ≡ class_of class → IsHeadline profile_31_bits client server (No k of)
-octets-right client server facts left answers class p ends k at of is =
+pub octets-right : (profile : Profile) (client server : List ℕ) (facts : FactsKept) (left : Unpaired) (answers : ℕ) (class : PairClass) → Passed profile client server facts left answers → Ends left (pair_end class)
+    → (k : ℕ) → k ≡ left.index → (of : Class) → of ≡ class_of class → IsHeadline profile client server (No k of)
+octets-right profile client server facts left answers class p ends k at of is =
     let place : length p.pairs ≡ k = sym (at ∙ index-counts client server p.pairs left p.before) in
-    subst (λ (x : ℕ × Class). IsHeadline profile_31_bits client server (No x.0 x.1)) (λ i. (place i, sym is i))
-    (headline_at_octets profile_31_bits client server p.pairs class (record { left = left; paired = p.before; ends = ends }) p.stands.permitted)
+    subst (λ (x : ℕ × Class). IsHeadline profile client server (No x.0 x.1)) (λ i. (place i, sym is i))
+    (headline_at_octets profile client server p.pairs class (record { left = left; paired = p.before; ends = ends }) p.stands.permitted)
+
+-- limits of which the greatest numbers are one are one
+same-limit : (limit other : Limit) → greatest limit ≡ greatest other → limit ≡ other
+same-limit Narrow Narrow e = refl
+same-limit Narrow Wide e = absurd (omega (arith, e))
+same-limit Wide Narrow e = absurd (omega (arith, e))
+same-limit Wide Wide e = refl
+
+-- facts that are judged by a limit hold it
+limit-kept : (limit : Limit) (marks : Marks) (facts : FactsKept) (past : List Paired) → HasNoted (profile_of limit marks) facts past → facts.limit ≡ limit
+limit-kept limit marks facts past noted = same-limit facts.limit limit (ap (λ (p : Profile). p.limit) noted.profile_is)
 
 -- where no octet is left, and the spool is a witness of the exchanges that passed, it is a yes
-pub at-end : (client server : List ℕ) (facts : FactsKept) (left : Unpaired) (answers unanswered : ℕ) (S : Spool) → (p : Passed profile_31_bits client server facts left answers) → Ends left (end unanswered)
-    → IsWitness profile_31_bits p.pairs S → IsWritten profile_31_bits S → IsYes client server S answers
-at-end client server facts left answers unanswered S p ends witness written =
+pub at-end : (limit : Limit) (marks : Marks) (client server : List ℕ) (facts : FactsKept) (left : Unpaired) (answers unanswered : ℕ) (L : LimitedSpool) → (p : Passed (profile_of limit marks) client server facts left answers) → Ends left (end unanswered)
+    → IsWitnessWithin facts.limit (profile_of limit marks) p.pairs L → IsWritten L → IsYes limit marks client server L answers
+at-end limit marks client server facts left answers unanswered L p ends witness written =
+    let profile = profile_of limit marks in
     let pairing : IsPairing client server p.pairs (end unanswered) = record { left = left; paired = p.before; ends = ends } in
-    let headline = subst (λ n. IsHeadline profile_31_bits client server (Yes S n)) (sym p.count) (headline_at_end profile_31_bits client server p.pairs unanswered S (pairs_size profile_31_bits.marks p.pairs p.stands.lines p.stands.few) pairing p.stands.permitted witness.given) in
+    let headline = subst (λ n. IsHeadline profile client server (Yes L.spool n)) (sym p.count) (headline_at_end profile client server p.pairs unanswered L.spool (pairs_size marks p.pairs p.stands.lines p.stands.few) pairing p.stands.permitted witness.0.given) in
     record {
+      limit_is = witness.1 ∙ limit-kept limit marks facts p.pairs p.stands;
       headline = headline;
       throughout = record { pairs = p.pairs; unanswered = unanswered; pairing = pairing; count = p.count };
-      read_back = written_is_read profile_31_bits S (omega arith) written;
-      permits = only-permits S client server answers headline.explains;
+      read_back = written_is_read L written;
+      permits = only-permits profile L.spool client server answers headline.explains;
     }
 
 -- what is so of a judgement is so of a verdict that shows it
@@ -183,20 +201,20 @@ told (Ok v) P j p ok = subst P (sym ok) p
 told (Err e) P j p ok = ok
 
 -- an exchange that isn't accepted, with what is shown of it, is a verdict
-pub refused : (client server : List ℕ) (old new : FactsKept) (left behind : Unpaired) (answers : ℕ) (x : Paired) (noted : Noted) (class : Class) → Passed profile_31_bits client server old left answers → IsNext left x behind
-    → ((past : List Paired) → HasNoted profile_31_bits old past → IsNoted profile_31_bits past x old new noted) → Some class ≡ class_noted noted → (k : ℕ) → k ≡ x.index
-    → (line : Option (List ℕ)) → line ≡ x.line → (initial : List ℕ) → initial ≡ x.initial → IsVerdict client server (bad k class (option_map shown line) (shown initial))
-refused client server old new left behind answers x noted class p next notes judged k at line line-is initial initial-is = record {
-  headline = exchange-right client server old new left behind answers x noted class p next notes judged k at;
-  place = at-exchange client server old left behind answers x noted class p next judged k at line line-is initial initial-is;
+pub refused : (limit : Limit) (marks : Marks) (client server : List ℕ) (old new : FactsKept) (left behind : Unpaired) (answers : ℕ) (x : Paired) (noted : Noted) (class : Class) → Passed (profile_of limit marks) client server old left answers → IsNext left x behind
+    → ((past : List Paired) → HasNoted (profile_of limit marks) old past → IsNoted (profile_of limit marks) past x old new noted) → Some class ≡ class_noted noted → (k : ℕ) → k ≡ x.index
+    → (line : Option (List ℕ)) → line ≡ x.line → (initial : List ℕ) → initial ≡ x.initial → IsVerdict limit marks client server (bad k class (option_map shown line) (shown initial))
+refused limit marks client server old new left behind answers x noted class p next notes judged k at line line-is initial initial-is = record {
+  headline = exchange-right (profile_of limit marks) client server old new left behind answers x noted class p next notes judged k at;
+  place = at-exchange (profile_of limit marks) client server old left behind answers x noted class p next judged k at line line-is initial initial-is;
 }
 
 -- and so are octets that answer nothing
-pub stopped : (client server : List ℕ) (facts : FactsKept) (left : Unpaired) (answers index : ℕ) (class : PairClass) (line : Option (List ℕ)) (octets first : List ℕ)
-    → Passed profile_31_bits client server facts left answers → StopsHere left index class line octets → (of : Class) → of ≡ class_of class → IsFirstLine octets first → IsVerdict client server (bad index of (option_map shown line) (shown first))
-stopped client server facts left answers index class line octets first p stop of of-is is-first = record {
-  headline = octets-right client server facts left answers class p stop.ends index stop.index_is of of-is;
-  place = at-octets client server facts left answers index class line octets first p stop of of-is is-first;
+pub stopped : (limit : Limit) (marks : Marks) (client server : List ℕ) (facts : FactsKept) (left : Unpaired) (answers index : ℕ) (class : PairClass) (line : Option (List ℕ)) (octets first : List ℕ)
+    → Passed (profile_of limit marks) client server facts left answers → StopsHere left index class line octets → (of : Class) → of ≡ class_of class → IsFirstLine octets first → IsVerdict limit marks client server (bad index of (option_map shown line) (shown first))
+stopped limit marks client server facts left answers index class line octets first p stop of of-is is-first = record {
+  headline = octets-right (profile_of limit marks) client server facts left answers class p stop.ends index stop.index_is of of-is;
+  place = at-octets (profile_of limit marks) client server facts left answers index class line octets first p stop of of-is is-first;
 }
 
 -- what follows of each value from what is so of it

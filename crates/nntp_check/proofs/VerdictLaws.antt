@@ -2,17 +2,20 @@
 use Rattle.std.proofs.Common.{◌≡◌, ◌∙◌, ◌↔◌, sym, ap, subst, ℕ, IsTrue, List, [], ◌∷◌, ◌++◌, length, Option, None, inl, inr, append_assoc}
 use Rattle.std.specs.Option.{option_map}
 use Rattle.nntp_wire.specs.Octets.{crlf}
+use Rattle.nntp_wire.specs.declared.limit.Limit.{Limit}
+use Rattle.nntp_wire.specs.declared.marks.Marks.{Marks}
 use Rattle.nntp_wire.specs.Lines.{HasNoCrlf}
 use Rattle.memchr.specs.Find.{OccursAt}
 use Rattle.nntp_wire.proofs.FrameLemmas.{one_line, occurs-behind}
 use Rattle.nntp_article.specs.Explains.{Explains}
-use Rattle.nntp_article.specs.Limit.{profile_31_bits}
+use Rattle.nntp_article.specs.Limit.{profile_of}
 use Rattle.nntp_article.specs.Spool.{Spool}
 use Rattle.nntp_pair.specs.Pairing.{Paired, Unpaired, AreNext, line_ahead, streams}
 use Rattle.nntp_pair.proofs.NextLemmas.{one-next}
 use Rattle.nntp_facts.specs.declared.class.Class.{Class}
 use Rattle.nntp_facts.specs.Headline.{Headline, Yes, No}
 use Rattle.nntp_facts.proofs.Headlines.{one_headline, yes_explained}
+use Rattle.nntp_spool.specs.Limited.{LimitedSpool}
 use Rattle.nntp_check.specs.Judging.{IsFirstLine, StopsAt, IsVerdict, shown}
 use Rattle.nntp_check.specs.Verdict.{Judgement, consistent, bad, is_consistent}
 
@@ -45,23 +48,28 @@ one-place client server k class other command also reply again x y =
     let line = one-first y.left.server x.line y.line (subst (λ (u : Unpaired). IsFirstLine u.server x.line) left x.first) y.first in
     (x.command_is ∙ ap (λ (u : Unpaired). option_map shown (line_ahead u.places)) left ∙ sym y.command_is, x.reply_is ∙ ap shown line ∙ sym y.reply_is)
 
--- a verdict is one by its headline, and by what is shown at its place
-abbrev with-place : Headline → Option (List ℕ) → List ℕ → Judgement
-with-place (Yes S n) command reply = consistent S n
-with-place (No k class) command reply = bad k class command reply
+-- a verdict is one by its limit, its headline, and by what is shown at its place
+abbrev with-place : Limit → Headline → Option (List ℕ) → List ℕ → Judgement
+with-place limit (Yes S n) command reply = consistent (record { limit = limit; spool = S }) n
+with-place limit (No k class) command reply = bad k class command reply
+
+-- a yes with the limit that it has
+own-limit : (limit : Limit) (L : LimitedSpool) (n : ℕ) → L.limit ≡ limit → consistent L n ≡ with-place limit (Yes L.spool n) None []
+own-limit limit L n is = ap (λ l. consistent (record { limit = l; spool = L.spool }) n) is
 
 -- two streams have one verdict
-pub one-verdict : (client server : List ℕ) (j l : Judgement) → IsVerdict client server j → IsVerdict client server l → j ≡ l
-one-verdict client server (consistent S n) (consistent T m) x y = ap (λ h. with-place h None []) (one_headline profile_31_bits client server (Yes S n) (Yes T m) x.headline y.headline)
-one-verdict client server (consistent S n) (bad k class command reply) x y = let e = one_headline profile_31_bits client server (Yes S n) (No k class) x.headline y.headline in cc
-one-verdict client server (bad k class command reply) (consistent S n) x y = let e = one_headline profile_31_bits client server (No k class) (Yes S n) x.headline y.headline in cc
-one-verdict client server (bad k c command reply) (bad j d also again) x y =
-    let e = one_headline profile_31_bits client server (No k c) (No j d) x.headline y.headline in
+pub one-verdict : (limit : Limit) (marks : Marks) (client server : List ℕ) (j l : Judgement) → IsVerdict limit marks client server j → IsVerdict limit marks client server l → j ≡ l
+one-verdict limit marks client server (consistent K n) (consistent L m) x y =
+    own-limit limit K n x.limit_is ∙ ap (λ h. with-place limit h None []) (one_headline (profile_of limit marks) client server (Yes K.spool n) (Yes L.spool m) x.headline y.headline) ∙ sym (own-limit limit L m y.limit_is)
+one-verdict limit marks client server (consistent L n) (bad k class command reply) x y = let e = one_headline (profile_of limit marks) client server (Yes L.spool n) (No k class) x.headline y.headline in cc
+one-verdict limit marks client server (bad k class command reply) (consistent L n) x y = let e = one_headline (profile_of limit marks) client server (No k class) (Yes L.spool n) x.headline y.headline in cc
+one-verdict limit marks client server (bad k c command reply) (bad j d also again) x y =
+    let e = one_headline (profile_of limit marks) client server (No k c) (No j d) x.headline y.headline in
     let place : k ≡ j = cc in
     let shown = one-place client server j c d command also reply again (subst (λ k. StopsAt client server k c command reply) place x.place) y.place in
-    λ i. with-place (e i) (shown.0 i) (shown.1 i)
+    λ i. with-place limit (e i) (shown.0 i) (shown.1 i)
 
 -- a verdict is a yes exactly if some spool explains the streams
-pub yes-if-explained : (client server : List ℕ) (j : Judgement) → IsVerdict client server j → IsTrue (is_consistent j) ↔ ((S : Spool) × (n : ℕ) × Explains profile_31_bits S client server n)
-yes-if-explained client server (consistent S n) x = yes_explained profile_31_bits client server (Yes S n) x.headline
-yes-if-explained client server (bad k class command reply) x = yes_explained profile_31_bits client server (No k class) x.headline
+pub yes-if-explained : (limit : Limit) (marks : Marks) (client server : List ℕ) (j : Judgement) → IsVerdict limit marks client server j → IsTrue (is_consistent j) ↔ ((S : Spool) × (n : ℕ) × Explains (profile_of limit marks) S client server n)
+yes-if-explained limit marks client server (consistent L n) x = yes_explained (profile_of limit marks) client server (Yes L.spool n) x.headline
+yes-if-explained limit marks client server (bad k class command reply) x = yes_explained (profile_of limit marks) client server (No k class) x.headline

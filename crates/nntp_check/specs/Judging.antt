@@ -2,6 +2,8 @@
 use Rattle.std.specs.Prelude.{◌≡◌, ◌≢◌, ◌⊎◌, ℕ, Bool, true, false, IsTrue, ⊤, List, [], ◌++◌, Option, None, Some, MatchOption, Ok, length, take}
 use Rattle.std.specs.Option.{option_map}
 use Rattle.nntp_wire.specs.Octets.{crlf}
+use Rattle.nntp_wire.specs.declared.limit.Limit.{Limit}
+use Rattle.nntp_wire.specs.declared.marks.Marks.{Marks}
 use Rattle.nntp_wire.specs.Lines.{HasNoCrlf}
 use Rattle.nntp_pair.specs.Pairing.{Paired, Unpaired, AreNext, IsBad, Ends, IsPairing, end, bad as pair_end, line_ahead, streams}
 use Rattle.nntp_pair.specs.Feeding.{HasNext}
@@ -14,8 +16,8 @@ use Rattle.nntp_facts.specs.declared.noted.Noted.TheVariants as noted
 use Rattle.nntp_facts.specs.Headline.{Yes, No, IsHeadline}
 use Rattle.nntp_facts.specs.Noted.{FactsKept, HasNoted}
 use Rattle.nntp_article.specs.declared.profile.Profile.{Profile}
-use Rattle.nntp_article.specs.Limit.{profile_31_bits}
-use Rattle.nntp_article.specs.Spool.{Spool}
+use Rattle.nntp_article.specs.Limit.{profile_of}
+use Rattle.nntp_spool.specs.Limited.{LimitedSpool}
 use Rattle.nntp_spool.specs.Reading.{spool_at}
 use Rattle.nntp_spool.specs.Text.{spool_text}
 use Rattle.nntp_spool.specs.Verifying.{IsVerified}
@@ -69,22 +71,23 @@ pub record IsAnsweredThroughout (client server : List ℕ) (answers : ℕ) : Typ
   pub pairing : IsPairing client server pairs (end unanswered)
   pub count : answers ≡ length pairs
 
--- a yes of both streams: the spool is their least explanation, of so many answers, at which their pairing ends; it is read back from its text; and `verify` answers nothing of it but that it permits them
-pub record IsYes (client server : List ℕ) (S : Spool) (answers : ℕ) : Type 0 where
-  pub headline : IsHeadline profile_31_bits client server (Yes S answers)
+-- a yes of both streams: the spool has the limit, and is their least explanation, of so many answers, at which their pairing ends; it is read back from its text; and `verify` answers nothing of it but that it permits them
+pub record IsYes (limit : Limit) (marks : Marks) (client server : List ℕ) (L : LimitedSpool) (answers : ℕ) : Type 0 where
+  pub limit_is : L.limit ≡ limit
+  pub headline : IsHeadline (profile_of limit marks) client server (Yes L.spool answers)
   pub throughout : IsAnsweredThroughout client server answers
-  pub read_back : spool_at profile_31_bits (spool_text S) ≡ Ok S
-  pub permits : (verified : Verified) → IsVerified profile_31_bits S client server verified → verified ≡ Permits answers
+  pub read_back : spool_at (spool_text L) ≡ Ok L
+  pub permits : (verified : Verified) → IsVerified (profile_of limit marks) L.spool client server verified → verified ≡ Permits answers
 
 -- a no: the answer is the bad one, of its class, and the command and the reply are those at its place
-pub record IsNo (client server : List ℕ) (answer : ℕ) (class : Class) (command : Option (List ℕ)) (reply : List ℕ) : Type 0 where
-  pub headline : IsHeadline profile_31_bits client server (No answer class)
+pub record IsNo (profile : Profile) (client server : List ℕ) (answer : ℕ) (class : Class) (command : Option (List ℕ)) (reply : List ℕ) : Type 0 where
+  pub headline : IsHeadline profile client server (No answer class)
   pub place : StopsAt client server answer class command reply
 
--- what a verdict says of both streams is so
-abbrev pub IsVerdict : List ℕ → List ℕ → Judgement → Type 0
-IsVerdict client server (consistent S answers) = IsYes client server S answers
-IsVerdict client server (bad answer class command reply) = IsNo client server answer class command reply
+-- what a verdict says of both streams is so, where article numbers are within the limit, and marks are read so
+abbrev pub IsVerdict : Limit → Marks → List ℕ → List ℕ → Judgement → Type 0
+IsVerdict limit marks client server (consistent L answers) = IsYes limit marks client server L answers
+IsVerdict limit marks client server (bad answer class command reply) = IsNo (profile_of limit marks) client server answer class command reply
 
 -- so many exchanges have passed, of which the facts are kept, and then this is left
 pub record Passed (profile : Profile) (client server : List ℕ) (facts : FactsKept) (left : Unpaired) (answers : ℕ) : Type 0 where
@@ -108,7 +111,7 @@ is_whole class = true
 
 -- a no at a whole answer, which no octets that follow can mend
 abbrev pub IsNoForGood : Judgement → Type 0
-IsNoForGood (consistent S answers) = ⊥
+IsNoForGood (consistent L answers) = ⊥
 IsNoForGood (bad answer class command reply) = IsTrue (is_whole class)
 
 -- where octets spell nothing

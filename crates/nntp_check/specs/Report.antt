@@ -45,10 +45,10 @@ command_line (Some line) = codes "command " ++ escaped line ++ codes "\n"
 
 -- the report of a verdict: how much explains how many answers, and the spool's text; or which answer is bad
 abbrev pub report_of : Judgement → List ℕ
-report_of (consistent spool answers) =
-    codes "consistent answers=" ++ decimal answers ++ codes " groups=" ++ decimal (len spool.groups)
-    ++ codes " numbers=" ++ decimal (numbers_in spool) ++ codes " articles=" ++ decimal (len spool.articles) ++ codes "\n"
-    ++ spool_text spool
+report_of (consistent L answers) =
+    codes "consistent answers=" ++ decimal answers ++ codes " groups=" ++ decimal (len L.spool.groups)
+    ++ codes " numbers=" ++ decimal (numbers_in L.spool) ++ codes " articles=" ++ decimal (len L.spool.articles) ++ codes "\n"
+    ++ spool_text L
 report_of (bad answer class command reply) =
     bad_line answer class ++ command_line command ++ codes "answer " ++ escaped reply ++ codes "\n"
 

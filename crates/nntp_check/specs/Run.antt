@@ -1,10 +1,12 @@
 -- What a run reads and writes, at any reader and writer: known octets are those of the traits.
 use Rattle.std.specs.Prelude.{◌≡◌, ◌⊎◌, ℕ, ◌≤◌, ◌<◌, Bool, List, [], ◌++◌, length, take, Option, ⊤}
 use Rattle.std.specs.Io.KnownBytes.{Appends, Consumes, IsAtEnd}
-use Rattle.nntp_article.specs.Spool.{Spool, IsSpool}
+use Rattle.nntp_wire.specs.declared.limit.Limit.{Limit}
+use Rattle.nntp_wire.specs.declared.marks.Marks.{Marks}
 use Rattle.nntp_pair.specs.Pairing.{Paired, Ending, IsPairing}
 use Rattle.nntp_spool.specs.Faults.{IsFirstFault}
-use Rattle.nntp_article.specs.Limit.{profile_31_bits}
+use Rattle.nntp_article.specs.Limit.{profile_of}
+use Rattle.nntp_spool.specs.Limited.{LimitedSpool, IsWithinLimit}
 use Rattle.nntp_spool.specs.Text.{spool_text}
 use Rattle.nntp_spool.specs.Verifying.{IsVerified}
 use Rattle.nntp_spool.specs.Watched.{inner_of}
@@ -75,20 +77,20 @@ IsInputFault input (faults.Spool fault) = ⊥
 IsInputFault input faults.Memory = ⊤
 IsInputFault input faults.Write = ⊥
 
--- the report of `check` on a client's and a server's octets, and its answer
-pub record CheckReports (client server spool text : List ℕ) (answer : Bool) : Type 0 where
+-- the report of `check` on a client's and a server's octets, by the limit and the marks, and its answer
+pub record CheckReports (limit : Limit) (marks : Marks) (client server spool text : List ℕ) (answer : Bool) : Type 0 where
   pub judgement : Judgement
-  pub verdict : IsVerdict client server judgement
+  pub verdict : IsVerdict limit marks client server judgement
   pub text_is : text ≡ report_of judgement
   pub answer_is : answer ≡ is_consistent judgement
 
--- the report of `verify` on them and on a spool's text, and its answer
-pub record VerifyReports (client server spool text : List ℕ) (answer : Bool) : Type 0 where
-  pub value : Spool
-  pub is_spool : IsSpool profile_31_bits value
+-- the report of `verify` on them and on a spool's text, by the spool's limit and by the marks, and its answer
+pub record VerifyReports (marks : Marks) (client server spool text : List ℕ) (answer : Bool) : Type 0 where
+  pub value : LimitedSpool
+  pub is_spool : IsWithinLimit value
   pub spool_is : spool ≡ spool_text value
   pub verified : Verified
-  pub exact : IsVerified profile_31_bits value client server verified
+  pub exact : IsVerified (profile_of value.limit marks) value.spool client server verified
   pub text_is : text ≡ verified_report verified
   pub answer_is : answer ≡ is_permitted verified
 
@@ -128,7 +130,7 @@ pub record ReadsNoSpool (input : Input) (fault : ReadFault) : Type 0 where
   pub server : List ℕ
   pub spool : List ℕ
   pub capture : ReadsCapture input client server spool
-  pub first : IsFirstFault profile_31_bits spool fault
+  pub first : IsFirstFault spool fault
 
 -- why a run that reads no spool gives no answer: a fault of the input, or a report that is cut short
 abbrev pub IsFaultOf : (List ℕ → List ℕ → List ℕ → List ℕ → Bool → Type 0) → Input → Output → RunFault → Type 0
@@ -136,14 +138,14 @@ IsFaultOf Reports input output faults.Write = IsCutShort Reports input output
 IsFaultOf Reports input output fault = IsInputFault input fault
 
 -- why `check` gives no answer
-abbrev pub IsCheckFault : Input → Output → RunFault → Type 0
-IsCheckFault = IsFaultOf CheckReports
+abbrev pub IsCheckFault : Limit → Marks → Input → Output → RunFault → Type 0
+IsCheckFault limit marks = IsFaultOf (CheckReports limit marks)
 
 -- why `show` gives no answer
 abbrev pub IsShowFault : Input → Output → RunFault → Type 0
 IsShowFault = IsFaultOf ShowReports
 
 -- why `verify` gives no answer: the same, or the text of no spool
-abbrev pub IsVerifyFault : Input → Output → RunFault → Type 0
-IsVerifyFault input output (faults.Spool fault) = ReadsNoSpool input fault
-IsVerifyFault input output fault = IsFaultOf VerifyReports input output fault
+abbrev pub IsVerifyFault : Marks → Input → Output → RunFault → Type 0
+IsVerifyFault marks input output (faults.Spool fault) = ReadsNoSpool input fault
+IsVerifyFault marks input output fault = IsFaultOf (VerifyReports marks) input output fault

@@ -1,14 +1,14 @@
 -- What is said of a session.
 use Rattle.std.specs.Prelude.{ℕ, Bool, true, false, List, Option}
 use Rattle.std.specs.Option.{option_map}
-use Rattle.nntp_article.specs.Spool.{Spool}
 use Rattle.nntp_facts.specs.declared.class.Class.{Class}
+use Rattle.nntp_spool.specs.Limited.{LimitedSpool}
 use Rattle.nntp_check.specs.declared.verdict.Verdict.{Verdict}
 use Rattle.nntp_check.specs.declared.verdict.Verdict.TheVariants.{Consistent, Bad}
 
 -- a verdict: a spool that explains so many answers, or the answer that none explains
 pub data Judgement : Type 0 where
-  consistent : (spool : Spool) → (answers : ℕ) → Judgement
+  consistent : (spool : LimitedSpool) → (answers : ℕ) → Judgement
   bad : (answer : ℕ) → (class : Class) → (command : Option (List ℕ)) → (reply : List ℕ) → Judgement
 
 -- some spool was found

@@ -1,5 +1,7 @@
 //! The verdict on two streams as they come, in pieces.
 ghost use Rattle.std.specs.Prelude.{◌≡◌, ◌≢◌, ◌↔◌, ◌≤◌, ◌<◌, ◌^◌, ◌+◌, ◌++◌, [], ℕ, List, false, true, None, length, nat_le, IfOk, OnOk, IsErrOf, MatchResult};
+ghost use Rattle.nntp_article.specs.Limit.{profile_of};
+ghost use Rattle.nntp_article.specs.declared.profile.Profile.{Profile};
 ghost use Rattle.nntp_check.specs.Checking.{Keeps, HasPassed, StandsFor, IsToldBad, decided, told_bad, has_failed, client_count, server_count};
 ghost use Rattle.nntp_check.specs.CheckerView.{checked, of_state};
 ghost use Rattle.nntp_check.specs.Judging.{IsVerdict};
@@ -10,6 +12,7 @@ use crate::judge::Judge;
 use crate::verdict::Verdict;
 use nntp_facts::Class;
 use nntp_pair::{Ending, Feed, PairClass, PairError, Peek};
+use nntp_wire::{Limit, Marks};
 use std::alloc::{AllocError, Allocator, Global};
 use std::marker::Model;
 use std::mem;
@@ -57,18 +60,19 @@ impl<A: Allocator> Model for Ongoing<A> {
 }
 
 impl<A: Allocator + Copy> Checker<A> {
-    /// A checker to which nothing has come.
-    pub fn new(alloc: A) -> Checker<A>
-        ensures { StandsFor (checked result) [] [] }
+    /// A checker to which nothing has come. It judges as [`check`](crate::check) does by the limit and the
+    /// marks.
+    pub fn new(alloc: A, limit: Limit, marks: Marks) -> Checker<A>
+        ensures { StandsFor limit marks (checked result) [] [] }
     {
         Checker {
-            state: State::Judging(Ongoing::new(alloc)),
+            state: State::Judging(Ongoing::new(alloc, limit, marks)),
         }
     }
 
     /// Takes the next octets of the client's stream, and judges the answers that are whole then.
     pub fn feed_client(&mut self, piece: &[u8]) -> Result<(), CheckError>
-        ensures fed { OnOk result ((client server : List ℕ) → StandsFor (checked self.old) client server → StandsFor (checked self.new) (client ++ piece.now) server) }
+        ensures fed { OnOk result ((limit : Limit) (marks : Marks) (client server : List ℕ) → StandsFor limit marks (checked self.old) client server → StandsFor limit marks (checked self.new) (client ++ piece.now) server) }
         ensures failed { IsErrOf result CheckError.Failed ↔ (has_failed (checked self.old) ≡ true) }
         ensures too_long { IsErrOf result CheckError.TooLong ↔ ((has_failed (checked self.old) ≡ false) × (2 ^ 64 ≤ client_count (checked self.old) + length piece.now)) }
         ensures memory { IsErrOf result CheckError.Memory → has_failed (checked self.new) ≡ true }
@@ -89,7 +93,7 @@ impl<A: Allocator + Copy> Checker<A> {
 
     /// Takes the next octets of the server's stream, and judges the answers that are whole then.
     pub fn feed_server(&mut self, piece: &[u8]) -> Result<(), CheckError>
-        ensures fed { OnOk result ((client server : List ℕ) → StandsFor (checked self.old) client server → StandsFor (checked self.new) client (server ++ piece.now)) }
+        ensures fed { OnOk result ((limit : Limit) (marks : Marks) (client server : List ℕ) → StandsFor limit marks (checked self.old) client server → StandsFor limit marks (checked self.new) client (server ++ piece.now)) }
         ensures failed { IsErrOf result CheckError.Failed ↔ (has_failed (checked self.old) ≡ true) }
         ensures too_long { IsErrOf result CheckError.TooLong ↔ ((has_failed (checked self.old) ≡ false) × (2 ^ 64 ≤ server_count (checked self.old) + length piece.now)) }
         ensures memory { IsErrOf result CheckError.Memory → has_failed (checked self.new) ≡ true }
@@ -110,7 +114,7 @@ impl<A: Allocator + Copy> Checker<A> {
 
     /// The verdict on the octets that came, as [`check`](crate::check) gives it of the joined pieces.
     pub fn finish(self) -> Result<Verdict<A>, CheckError>
-        ensures verdict { IfOk result (λ verdict. (client server : List ℕ) → StandsFor (checked self) client server → IsVerdict client server (verdict_shown verdict)) }
+        ensures verdict { IfOk result (λ verdict. (limit : Limit) (marks : Marks) (client server : List ℕ) → StandsFor limit marks (checked self) client server → IsVerdict limit marks client server (verdict_shown verdict)) }
         ensures failed { IsErrOf result CheckError.Failed ↔ (has_failed (checked self) ≡ true) }
         ensures not_too_long { ¬ (IsErrOf result CheckError.TooLong) }
     {
@@ -127,7 +131,7 @@ impl<A: Allocator + Copy> Checker<A> {
     /// The answer that is bad, and its class, where no octets that follow can change that: it is none of class Cut, and
     /// none of class Surplus while the connection is open.
     pub fn bad(&self) -> Option<(u64, Class)>
-        ensures told { (client server : List ℕ) → StandsFor (checked self.now) client server → IsToldBad client server result }
+        ensures told { (limit : Limit) (marks : Marks) (client server : List ℕ) → StandsFor limit marks (checked self.now) client server → IsToldBad (profile_of limit marks) client server result }
         ensures failed { has_failed (checked self.now) ≡ true → result ≡ None }
     {
         match &self.state {
@@ -177,7 +181,7 @@ impl<A: Allocator + Copy> State<A> {
     fn with_client(self, piece: &[u8]) -> Result<State<A>, AllocError>
         requires whole { has_failed (of_state self) ≡ false }
         requires room { client_count (of_state self) + length piece.now < 2 ^ 64 }
-        ensures { IfOk result (λ state. (client server : List ℕ) → StandsFor (of_state self) client server → StandsFor (of_state state) (client ++ piece.now) server) }
+        ensures { IfOk result (λ state. (limit : Limit) (marks : Marks) (client server : List ℕ) → StandsFor limit marks (of_state self) client server → StandsFor limit marks (of_state state) (client ++ piece.now) server) }
     {
         match self {
             State::Judging(ongoing) => ongoing.with_client(piece),
@@ -198,7 +202,7 @@ impl<A: Allocator + Copy> State<A> {
     fn with_server(self, piece: &[u8]) -> Result<State<A>, AllocError>
         requires whole { has_failed (of_state self) ≡ false }
         requires room { server_count (of_state self) + length piece.now < 2 ^ 64 }
-        ensures { IfOk result (λ state. (client server : List ℕ) → StandsFor (of_state self) client server → StandsFor (of_state state) client (server ++ piece.now)) }
+        ensures { IfOk result (λ state. (limit : Limit) (marks : Marks) (client server : List ℕ) → StandsFor limit marks (of_state self) client server → StandsFor limit marks (of_state state) client (server ++ piece.now)) }
     {
         match self {
             State::Judging(ongoing) => ongoing.with_server(piece),
@@ -218,11 +222,11 @@ impl<A: Allocator + Copy> State<A> {
 
 impl<A: Allocator + Copy> Ongoing<A> {
     /// Nothing has come.
-    fn new(alloc: A) -> Ongoing<A>
-        ensures { HasPassed result.facts result.fed [] [] }
+    fn new(alloc: A, limit: Limit, marks: Marks) -> Ongoing<A>
+        ensures { HasPassed (profile_of limit marks) result.facts result.fed [] [] }
     {
         Ongoing {
-            judge: Judge::new(alloc),
+            judge: Judge::new(alloc, limit, marks),
             feed: Feed::new(alloc),
         }
     }
@@ -238,7 +242,7 @@ impl<A: Allocator + Copy> Ongoing<A> {
     /// The judgement with more octets of the client.
     fn with_client(self, piece: &[u8]) -> Result<State<A>, AllocError>
         requires { self.fed.client_count + length piece.now < 2 ^ 64 }
-        ensures { IfOk result (λ state. (client server : List ℕ) → HasPassed self.facts self.fed client server → StandsFor (of_state state) (client ++ piece.now) server) }
+        ensures { IfOk result (λ state. (limit : Limit) (marks : Marks) (client server : List ℕ) → HasPassed (profile_of limit marks) self.facts self.fed client server → StandsFor limit marks (of_state state) (client ++ piece.now) server) }
     {
         let Ongoing { judge, mut feed } = self;
         match feed.feed_client(piece) {
@@ -251,7 +255,7 @@ impl<A: Allocator + Copy> Ongoing<A> {
     /// The judgement with more octets of the server.
     fn with_server(self, piece: &[u8]) -> Result<State<A>, AllocError>
         requires { self.fed.server_count + length piece.now < 2 ^ 64 }
-        ensures { IfOk result (λ state. (client server : List ℕ) → HasPassed self.facts self.fed client server → StandsFor (of_state state) client (server ++ piece.now)) }
+        ensures { IfOk result (λ state. (limit : Limit) (marks : Marks) (client server : List ℕ) → HasPassed (profile_of limit marks) self.facts self.fed client server → StandsFor limit marks (of_state state) client (server ++ piece.now)) }
     {
         let Ongoing { judge, mut feed } = self;
         match feed.feed_server(piece) {
@@ -263,7 +267,7 @@ impl<A: Allocator + Copy> Ongoing<A> {
 
     /// The verdict, if no more octets come.
     fn finish(self) -> Result<Verdict<A>, AllocError>
-        ensures { IfOk result (λ verdict. (client server : List ℕ) → HasPassed self.facts self.fed client server → IsVerdict client server (verdict_shown verdict)) }
+        ensures { IfOk result (λ verdict. (limit : Limit) (marks : Marks) (client server : List ℕ) → HasPassed (profile_of limit marks) self.facts self.fed client server → IsVerdict limit marks client server (verdict_shown verdict)) }
     {
         match self.feed.finish() {
             Ending::End { .. } => self.judge.ended(),
@@ -274,7 +278,7 @@ impl<A: Allocator + Copy> Ongoing<A> {
 
     /// The place of octets that answer nothing, whatever follows, and their class.
     fn bad(&self) -> Option<(u64, Class)>
-        ensures { (client server : List ℕ) → HasPassed self.now.facts self.now.fed client server → IsToldBad client server result }
+        ensures { (profile : Profile) (client server : List ℕ) → HasPassed profile self.now.facts self.now.fed client server → IsToldBad profile client server result }
     {
         match self.feed.peek() {
             Peek::Bad { index, class } => Some((index, Class::from(class))),
@@ -289,8 +293,8 @@ fn go_on<A: Allocator + Copy>(
     mut judge: Judge<A>,
     mut feed: Feed<A>,
 ) -> Result<State<A>, AllocError>
-    requires { (client : List ℕ) × (server : List ℕ) × Keeps judge.facts feed judge.answers client server }
-    ensures { IfOk result (λ state. (client server : List ℕ) → Keeps judge.facts feed judge.answers client server → StandsFor (of_state state) client server) }
+    requires { (limit : Limit) × (marks : Marks) × (client : List ℕ) × (server : List ℕ) × Keeps (profile_of limit marks) judge.facts feed judge.answers client server }
+    ensures { IfOk result (λ state. (limit : Limit) (marks : Marks) (client server : List ℕ) → Keeps (profile_of limit marks) judge.facts feed judge.answers client server → StandsFor limit marks (of_state state) client server) }
 {
     loop {
         match feed.peek() {

@@ -1,4 +1,6 @@
 //! A checker takes the streams of a capture.
+ghost use Rattle.nntp_wire.specs.declared.limit.Limit.{Limit};
+ghost use Rattle.nntp_wire.specs.declared.marks.Marks.{Marks};
 ghost use Rattle.nntp_check.specs.Checking.{StandsFor};
 ghost use Rattle.nntp_check.specs.CheckerView.{checked};
 
@@ -10,7 +12,9 @@ use std::alloc::{AllocError, Allocator};
 
 /// It passes over the text of a spool.
 impl<A: Allocator + Copy> Sink for Checker<A> {
-    ghost stands = { λ checker client server spool. StandsFor (checked checker) client server };
+    ghost By = { Limit × Marks };
+
+    ghost stands = { λ by checker client server spool. StandsFor by.0 by.1 (checked checker) client server };
 
     fn take(&mut self, source: Source, octets: &[u8]) -> Result<(), AllocError> {
         let outcome = match source {

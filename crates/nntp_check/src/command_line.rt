@@ -3,18 +3,19 @@ ghost use Rattle.std.specs.Prelude.{◌≡◌};
 ghost use Rattle.nntp_check.specs.CommandLine.{exit_status};
 
 use crate::run_fault::RunFault;
-use clap::Command;
 use clap::error::ErrorKind;
-use std::alloc::Global;
+use clap::{Arg, ArgAction, ArgMatches, Command};
+use nntp_wire::{Limit, Marks};
+use std::alloc::{AllocError, Global};
 use thiserror::Error;
 
 /// What the words ask for.
 #[derive(Clone, Copy, Debug, PartialEq, Eq)]
 pub enum Task {
-    /// Judge a session.
-    Check,
-    /// Tell whether a given spool explains a session.
-    Verify,
+    /// Judge a session, by the limit and the marks.
+    Check { limit: Limit, marks: Marks },
+    /// Tell whether a given spool explains a session, where marks are read so.
+    Verify { marks: Marks },
     /// Show a session as a reader sees it.
     Show,
 }
@@ -28,7 +29,8 @@ Exit status: 0 if a spool explains the session, 1 if none does, 2 if the command
 3 after a fault, which is told on standard error.";
 
 const VERIFY_HELP: &str = "\
-Reads a capture from standard input, to its end; its joined spool pieces are the text of a spool.
+Reads a capture from standard input, to its end; its joined spool pieces are the text of a spool, which
+says how large article numbers may be.
 Writes to standard output one line: how many answers the spool permits, or the first that it doesn't.
 Exit status: 0 if the spool explains the session, 1 if it doesn't, 2 if the command line is refused,
 3 after a fault, which is told on standard error.";
@@ -38,6 +40,7 @@ Reads a capture from standard input, to its end, and passes over its spool piece
 Writes to standard output a line for each answer, with the command line that it answers, and under
 it the group that it names, or what the head that it sends says: its control messages, and which
 required headers are missing. The last line tells how the session ends.
+A capture has all that was sent, passwords too, and this prints them.
 Exit status: 0 if all octets of the server are answers, 1 if some are not, 2 if the command line is
 refused, 3 after a fault, which is told on standard error.";
 
@@ -54,6 +57,9 @@ pub enum Failure {
     /// The words were refused, ask for help, or memory ran out while they were read.
     #[error("{0}")]
     Words(clap::Error),
+    /// The words were refused, and one behind the task is no option, as the name of a file isn't.
+    #[error("{0}\na capture is read from standard input: nntpcheck check < my.capture")]
+    ExtraWord(clap::Error),
     /// A word is not UTF-8.
     #[error("nntpcheck: a word is not UTF-8")]
     NotText,
@@ -64,23 +70,94 @@ pub enum Failure {
     Run(RunFault),
 }
 
-/// Reads the words, of which the first is the program's name.
-pub fn job(alloc: Global, words: &[String]) -> Result<Task, clap::Error> {
-    let check = Command::new(alloc, "check")
+/// The option by which article numbers may be wide.
+const WIDE: &str = "wide";
+
+/// The option by which marks are read strictly.
+const STRICT_MARKS: &str = "strict-marks";
+
+/// An option without a value.
+fn flag<'a>(alloc: Global, name: &'a str, help: &'a str) -> Arg<'a> {
+    Arg::new(alloc, name)
+        .long(name)
+        .action(ArgAction::SetTrue)
+        .help(help)
+}
+
+/// The option by which marks are read strictly.
+fn strict_marks<'a>(alloc: Global) -> Arg<'a> {
+    flag(
+        alloc,
+        STRICT_MARKS,
+        "Read the marks of a 211 as the least and the greatest number of a group that has numbers, not as bounds",
+    )
+}
+
+/// The command that judges a session.
+fn check<'a>(alloc: Global) -> Result<Command<'a>, AllocError> {
+    Command::new(alloc, "check")
         .about(
             "Judge the capture on standard input: write a spool that explains the session, or name the first answer that none explains",
         )
-        .after_help(CHECK_HELP);
-    let verify = Command::new(alloc, "verify")
+        .override_usage("nntpcheck check [OPTIONS] < CAPTURE")
+        .after_help(CHECK_HELP)
+        .arg(flag(
+            alloc,
+            WIDE,
+            "Let article numbers go up to 9,999,999,999,999,999, not up to 2,147,483,647",
+        ))?
+        .arg(strict_marks(alloc))
+}
+
+/// The command that tells whether a given spool explains a session.
+fn verify<'a>(alloc: Global) -> Result<Command<'a>, AllocError> {
+    Command::new(alloc, "verify")
         .about(
             "Tell whether the spool in the capture on standard input explains its session, or name the first answer that it doesn't explain",
         )
-        .after_help(VERIFY_HELP);
-    let show = Command::new(alloc, "show")
+        .override_usage("nntpcheck verify [OPTIONS] < CAPTURE")
+        .after_help(VERIFY_HELP)
+        .arg(strict_marks(alloc))
+}
+
+/// The command that shows a session.
+fn show<'a>(alloc: Global) -> Command<'a> {
+    Command::new(alloc, "show")
         .about(
             "Show the session of the capture on standard input as a reader sees it, and judge nothing else",
         )
-        .after_help(SHOW_HELP);
+        .override_usage("nntpcheck show < CAPTURE")
+        .after_help(SHOW_HELP)
+}
+
+/// Whether the option stands behind the task.
+fn is_given(matches: &ArgMatches<'_>, task: &str, option: &str) -> bool {
+    match matches.subcommand_matches(task) {
+        Some(options) => options.get_flag(option),
+        None => false,
+    }
+}
+
+/// How the task is to read marks.
+fn marks_for(matches: &ArgMatches<'_>, task: &str) -> Marks {
+    if is_given(matches, task, STRICT_MARKS) {
+        Marks::Strict
+    } else {
+        Marks::Lenient
+    }
+}
+
+/// How large `check` lets article numbers be.
+fn limit_for_check(matches: &ArgMatches<'_>) -> Limit {
+    if is_given(matches, "check", WIDE) {
+        Limit::Wide
+    } else {
+        Limit::Narrow
+    }
+}
+
+/// Reads the words, of which the first is the program's name.
+pub fn job(alloc: Global, words: &[String]) -> Result<Task, clap::Error> {
     let command = Command::new(alloc, "nntpcheck")
         .version("0.1.0")
         .about(
@@ -88,15 +165,35 @@ pub fn job(alloc: Global, words: &[String]) -> Result<Task, clap::Error> {
         )
         .after_help(PROGRAM_HELP)
         .subcommand_required(true)
-        .subcommand(check)?
-        .subcommand(verify)?
-        .subcommand(show)?;
+        .subcommand(check(alloc)?)?
+        .subcommand(verify(alloc)?)?
+        .subcommand(show(alloc))?;
     let matches = command.try_get_matches_from(words)?;
     match matches.subcommand_name() {
-        Some("verify") => Ok(Task::Verify),
+        Some("verify") => Ok(Task::Verify {
+            marks: marks_for(&matches, "verify"),
+        }),
         Some("show") => Ok(Task::Show),
-        _ => Ok(Task::Check),
+        _ => Ok(Task::Check {
+            limit: limit_for_check(&matches),
+            marks: marks_for(&matches, "check"),
+        }),
     }
+}
+
+/// Why there is no task: the words were refused or ask for help. Where a word that is no option stands behind the
+/// task, that says so.
+pub fn refusal(error: clap::Error, words: &[String]) -> Failure {
+    if error.kind() == ErrorKind::UnknownArgument && has_extra_word(words) {
+        Failure::ExtraWord(error)
+    } else {
+        Failure::Words(error)
+    }
+}
+
+/// Whether a word that is no option stands behind the program's name and the task.
+fn has_extra_word(words: &[String]) -> bool {
+    words.iter().skip(2).any(|word| !word.starts_with('-'))
 }
 
 /// The status that the process ends with: 0 yes and help, 1 no, 2 words that were refused, 3 a fault.
@@ -111,6 +208,7 @@ pub fn status(outcome: &Result<bool, Failure>) -> u8
             ErrorKind::OutOfMemory => 3,
             _ => 2,
         },
+        Err(Failure::ExtraWord(_)) => 2,
         Err(Failure::NotText) => 2,
         Err(Failure::Help) => 3,
         Err(Failure::Run(_)) => 3,

@@ -19,8 +19,9 @@ pub(crate) fn read_capture<R: Read, S: Sink>(
     sink: &mut S,
     most: u64,
 ) -> Result<(), RunFault>
-    requires { S.stands sink.old [] [] [] }
-    ensures ok { OnOk result ((client : List ℕ) × (server : List ℕ) × (spool : List ℕ) × ReadsCapture (read_by R.remaining input.old input.new most) client server spool × S.stands sink.new client server spool) }
+    requires { (by : S.By) × S.stands by sink.old [] [] [] }
+    ensures ok { OnOk result ((by : S.By) → S.stands by sink.old [] [] []
+        → (client : List ℕ) × (server : List ℕ) × (spool : List ℕ) × ReadsCapture (read_by R.remaining input.old input.new most) client server spool × S.stands by sink.new client server spool) }
     ensures err { IfErr result (IsInputFault (read_by R.remaining input.old input.new most)) }
     ensures failed { has_failed_of input.old ≡ false → (IsErrOf result RunFault.Read ↔ (has_failed_of input.new ≡ true)) }
 {
@@ -46,9 +47,9 @@ pub(crate) fn read_capture<R: Read, S: Sink>(
 
 /// Passes octets of a capture on to a sink, up to the first fault.
 fn pass_on<S: Sink>(reader: &mut CaptureReader, sink: &mut S, octets: &[u8]) -> Result<(), RunFault>
-    requires room { FitBehind reader.old (S.stands sink.old) octets.now }
-    ensures ok { OnOk result (PassesOn reader.old reader.new (S.stands sink.old) (S.stands sink.new) octets.now []) }
-    ensures err { IfErr result (StopsBehind reader.old (S.stands sink.old) octets.now) }
+    requires room { (by : S.By) × FitBehind reader.old (S.stands by sink.old) octets.now }
+    ensures ok { OnOk result ((by : S.By) → PassesOn reader.old reader.new (S.stands by sink.old) (S.stands by sink.new) octets.now []) }
+    ensures err { IfErr result (λ fault. (by : S.By) → StopsBehind reader.old (S.stands by sink.old) octets.now fault) }
 {
     let mut rest = octets;
     while !rest.is_empty() {
@@ -64,9 +65,9 @@ fn pass_front<'a, S: Sink>(
     octets: &'a [u8],
 ) -> Result<&'a [u8], RunFault>
     requires some { 0 < length octets.now }
-    requires room { FitBehind reader.old (S.stands sink.old) octets.now }
-    ensures ok { IfOk result (λ rest. PassesOn reader.old reader.new (S.stands sink.old) (S.stands sink.new) octets.now rest.now × (length rest.now < length octets.now)) }
-    ensures err { IfErr result (StopsBehind reader.old (S.stands sink.old) octets.now) }
+    requires room { (by : S.By) × FitBehind reader.old (S.stands by sink.old) octets.now }
+    ensures ok { IfOk result (λ rest. ((by : S.By) → PassesOn reader.old reader.new (S.stands by sink.old) (S.stands by sink.new) octets.now rest.now) × (length rest.now < length octets.now)) }
+    ensures err { IfErr result (λ fault. (by : S.By) → StopsBehind reader.old (S.stands by sink.old) octets.now fault) }
 {
     let taken = reader.take(octets)?;
     if let Some(source) = taken.source {

@@ -2,7 +2,7 @@
 ghost use Rattle.std.specs.Prelude.{◌≡◌, ℕ, List, [], ◌∷◌, ◌++◌, IfOk, MatchOption, ⊤};
 ghost use Rattle.std.specs.Option.{option_copied, option_map};
 ghost use Rattle.nntp_pair.specs.Pairing.{Unpaired, IsNext, Ends, end};
-ghost use Rattle.nntp_article.specs.Limit.{profile_31_bits};
+ghost use Rattle.nntp_article.specs.Limit.{profile_of};
 ghost use Rattle.nntp_facts.specs.Noted.{HasNoted, IsDue};
 ghost use Rattle.nntp_witness.specs.Witness.{HaveNotedSome};
 ghost use Rattle.nntp_check.specs.Judging.{IsFirstLine, IsVerdict, Passed, StopsHere, IsNoForGood, OnMalformed, class_noted, shown};
@@ -19,15 +19,18 @@ use std::alloc::{AllocError, Allocator};
 const SHOWN: usize = 512;
 
 /// Judges the octets that a client and a server sent: whether some spool explains all answers, and
-/// if none does, which answer is the first that no spool explains together with those before it.
+/// if none does, which answer is the first that no spool explains together with those before it. The spools
+/// are those whose article numbers are within the limit, and the marks of a 211 are read so.
 pub fn check<A: Allocator + Copy>(
     alloc: A,
+    limit: Limit,
+    marks: Marks,
     client: &[u8],
     server: &[u8],
 ) -> Result<Verdict<A>, AllocError>
-    ensures { IfOk result (λ verdict. IsVerdict client.now server.now (verdict_shown verdict)) }
+    ensures { IfOk result (λ verdict. IsVerdict limit marks client.now server.now (verdict_shown verdict)) }
 {
-    let mut judge = Judge::new(alloc);
+    let mut judge = Judge::new(alloc, limit, marks);
     let mut pairs = Pairs::new(client, server);
     loop {
         match pairs.next() {
@@ -53,13 +56,13 @@ pub(crate) struct Judge<A: Allocator> {
 
 impl<A: Allocator + Copy> Judge<A> {
     /// No exchange has passed yet. It takes no memory.
-    pub(crate) fn new(alloc: A) -> Judge<A>
-        ensures facts { HasNoted profile_31_bits result.facts [] }
+    pub(crate) fn new(alloc: A, limit: Limit, marks: Marks) -> Judge<A>
+        ensures facts { HasNoted (profile_of limit marks) result.facts [] }
         ensures answers { result.answers ≡ 0 }
     {
         Judge {
             alloc,
-            facts: Facts::new(alloc, Limit::Narrow, Marks::Lenient),
+            facts: Facts::new(alloc, limit, marks),
             answers: 0,
         }
     }
@@ -68,10 +71,10 @@ impl<A: Allocator + Copy> Judge<A> {
     /// verdict is that its answer is bad.
     pub(crate) fn note(&mut self, exchange: &Exchange<'_>) -> Result<Option<Verdict<A>>, AllocError>
         requires { IsDue self.old.facts exchange.now }
-        ensures judged { IfOk result (λ told. (client server : List ℕ) (left behind : Unpaired)
-            → (before : Passed profile_31_bits client server self.old.facts left self.old.answers) → IsNext left exchange.now behind
-            → MatchOption told ((now : Passed profile_31_bits client server self.new.facts behind self.new.answers) × (now.pairs ≡ before.pairs ++ exchange.now ∷ []))
-            (λ verdict. IsVerdict client server (verdict_shown verdict))) }
+        ensures judged { IfOk result (λ told. (limit : Limit) (marks : Marks) (client server : List ℕ) (left behind : Unpaired)
+            → (before : Passed (profile_of limit marks) client server self.old.facts left self.old.answers) → IsNext left exchange.now behind
+            → MatchOption told ((now : Passed (profile_of limit marks) client server self.new.facts behind self.new.answers) × (now.pairs ≡ before.pairs ++ exchange.now ∷ []))
+            (λ verdict. IsVerdict limit marks client server (verdict_shown verdict))) }
         ensures for_good { IfOk result (λ told. MatchOption told ⊤ (λ verdict. IsNoForGood (verdict_shown verdict))) }
     {
         let Ok(noted) = self.facts.note(exchange) else {
@@ -99,9 +102,9 @@ impl<A: Allocator + Copy> Judge<A> {
         class: PairClass,
         ahead: Ahead<'_>,
     ) -> Result<Verdict<A>, AllocError>
-        ensures verdict { IfOk result (λ verdict. (client server : List ℕ) (left : Unpaired)
-            → Passed profile_31_bits client server self.now.facts left self.now.answers → StopsHere left index class (option_copied ahead.entry.line) ahead.entry.rest.now
-            → IsVerdict client server (verdict_shown verdict)) }
+        ensures verdict { IfOk result (λ verdict. (limit : Limit) (marks : Marks) (client server : List ℕ) (left : Unpaired)
+            → Passed (profile_of limit marks) client server self.now.facts left self.now.answers → StopsHere left index class (option_copied ahead.entry.line) ahead.entry.rest.now
+            → IsVerdict limit marks client server (verdict_shown verdict)) }
         ensures for_good { IfOk result (λ verdict. OnMalformed class (IsNoForGood (verdict_shown verdict))) }
     {
         let reply = first_line(ahead.rest);
@@ -110,10 +113,10 @@ impl<A: Allocator + Copy> Judge<A> {
 
     /// The verdict where no octet of the server is left: that the given spool explains both streams.
     pub(crate) fn ended(&self) -> Result<Verdict<A>, AllocError>
-        requires { HaveNotedSome profile_31_bits self.now.facts }
-        ensures { IfOk result (λ verdict. (client server : List ℕ) (left : Unpaired) (unanswered : ℕ)
-            → Passed profile_31_bits client server self.now.facts left self.now.answers → Ends left (end unanswered)
-            → IsVerdict client server (verdict_shown verdict)) }
+        requires { HaveNotedSome self.now.facts }
+        ensures { IfOk result (λ verdict. (limit : Limit) (marks : Marks) (client server : List ℕ) (left : Unpaired) (unanswered : ℕ)
+            → Passed (profile_of limit marks) client server self.now.facts left self.now.answers → Ends left (end unanswered)
+            → IsVerdict limit marks client server (verdict_shown verdict)) }
     {
         let spool = witness(self.alloc, &self.facts)?;
         Ok(Verdict::Consistent {

@@ -1,9 +1,12 @@
 //! Laws of captures: octets are pieces, one after the other, in one way. And of verdicts: two streams
 //! have one, and it is a yes exactly if some spool explains them; and what is bad for good stays so.
 ghost use Rattle.std.specs.Prelude.{◌≡◌, ◌↔◌, ◌++◌, ◌⊎◌, ℕ, List, Option, is_some, IsTrue};
+ghost use Rattle.nntp_wire.specs.declared.limit.Limit.{Limit};
+ghost use Rattle.nntp_wire.specs.declared.marks.Marks.{Marks};
 ghost use Rattle.nntp_article.specs.Explains.{Explains};
-ghost use Rattle.nntp_article.specs.Limit.{profile_31_bits};
+ghost use Rattle.nntp_article.specs.Limit.{profile_of};
 ghost use Rattle.nntp_article.specs.Spool.{Spool};
+ghost use Rattle.nntp_article.specs.declared.profile.Profile.{Profile};
 ghost use Rattle.nntp_check.specs.Capture.{AreStreams, BeginsCapture, IsBadPieceForGood, IsBadPiece, IsCapture, IsPiece, Part, spelled};
 ghost use Rattle.nntp_check.specs.Checking.{IsBadForGood, IsToldBad};
 ghost use Rattle.nntp_check.specs.Judging.{IsVerdict};
@@ -48,26 +51,26 @@ pub fn bad_piece_for_good()
     ensures { (octets : List ℕ) (number : ℕ) → IsBadPieceForGood octets number → ((more : List ℕ) → IsBadPieceForGood (octets ++ more) number) × (¬ (BeginsCapture octets)) }
 {}
 
-/// Two streams have one verdict.
+/// Two streams have one verdict by a limit and marks.
 pub fn one_verdict()
-    ensures { (client server : List ℕ) (verdict other : Judgement) → IsVerdict client server verdict → IsVerdict client server other → verdict ≡ other }
+    ensures { (limit : Limit) (marks : Marks) (client server : List ℕ) (verdict other : Judgement) → IsVerdict limit marks client server verdict → IsVerdict limit marks client server other → verdict ≡ other }
 {}
 
 /// It is a yes exactly if some spool explains them.
 pub fn yes_where_a_spool_explains()
-    ensures { (client server : List ℕ) (verdict : Judgement) → IsVerdict client server verdict
-        → IsTrue (is_consistent verdict) ↔ ((S : Spool) × (n : ℕ) × Explains profile_31_bits S client server n) }
+    ensures { (limit : Limit) (marks : Marks) (client server : List ℕ) (verdict : Judgement) → IsVerdict limit marks client server verdict
+        → IsTrue (is_consistent verdict) ↔ ((S : Spool) × (n : ℕ) × Explains (profile_of limit marks) S client server n) }
 {}
 
 /// An answer that is bad for good is so whatever octets follow.
 pub fn bad_for_good_stays()
-    ensures { (client server client_more server_more : List ℕ) (answer : ℕ) (class : Class)
-        → IsBadForGood client server answer class → IsBadForGood (client ++ client_more) (server ++ server_more) answer class }
+    ensures { (profile : Profile) (client server client_more server_more : List ℕ) (answer : ℕ) (class : Class)
+        → IsBadForGood profile client server answer class → IsBadForGood profile (client ++ client_more) (server ++ server_more) answer class }
 {}
 
 /// What may be told of two streams as bad is one thing; and where an answer is told, it is told whatever octets follow.
 pub fn one_is_told_bad()
-    ensures one { (client server : List ℕ) (told other : Option (ℕ × Class)) → IsToldBad client server told → IsToldBad client server other → told ≡ other }
-    ensures stays { (client server client_more server_more : List ℕ) (told other : Option (ℕ × Class)) → IsTrue (is_some told)
-        → IsToldBad client server told → IsToldBad (client ++ client_more) (server ++ server_more) other → other ≡ told }
+    ensures one { (profile : Profile) (client server : List ℕ) (told other : Option (ℕ × Class)) → IsToldBad profile client server told → IsToldBad profile client server other → told ≡ other }
+    ensures stays { (profile : Profile) (client server client_more server_more : List ℕ) (told other : Option (ℕ × Class)) → IsTrue (is_some told)
+        → IsToldBad profile client server told → IsToldBad profile (client ++ client_more) (server ++ server_more) other → other ≡ told }
 {}

@@ -27,10 +27,11 @@ mod verdict;
 
 pub use check_error::CheckError;
 pub use checker::Checker;
-pub use command_line::{Failure, Task, job, status};
+pub use command_line::{Failure, Task, job, refusal, status};
 pub use judge::check;
 pub use nntp_facts::Class;
 pub use nntp_spool::{Counts, Kind, ReadFault, Spool, Watched, WriteFault};
+pub use nntp_wire::{Limit, Marks};
 pub use run::{run_check, run_show, run_verify};
 pub use run_fault::RunFault;
 pub use verdict::Verdict;

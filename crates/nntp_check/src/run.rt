@@ -18,6 +18,7 @@ use crate::shower::Shower;
 use crate::streams::Streams;
 use crate::verdict::Verdict;
 use nntp_spool::{Spool, Verified, Watched, WriteFault, put, verify};
+use nntp_wire::{Limit, Marks};
 use std::alloc::{AllocError, Allocator};
 use std::io::{Read, Write};
 
@@ -45,8 +46,8 @@ fn is_permitted(verified: Verified) -> bool
 
 /// The verdict on all that came to a checker to which no memory was refused.
 fn verdict<A: Allocator + Copy>(checker: Checker<A>) -> Result<Verdict<A>, AllocError>
-    requires { (client : List ℕ) × (server : List ℕ) × StandsFor (checked checker) client server }
-    ensures { IfOk result (λ verdict. (client server : List ℕ) → StandsFor (checked checker) client server → IsVerdict client server (verdict_shown verdict)) }
+    requires { (limit : Limit) × (marks : Marks) × (client : List ℕ) × (server : List ℕ) × StandsFor limit marks (checked checker) client server }
+    ensures { IfOk result (λ verdict. (limit : Limit) (marks : Marks) (client server : List ℕ) → StandsFor limit marks (checked checker) client server → IsVerdict limit marks client server (verdict_shown verdict)) }
 {
     match checker.finish() {
         Ok(verdict) => Ok(verdict),
@@ -55,27 +56,29 @@ fn verdict<A: Allocator + Copy>(checker: Checker<A>) -> Result<Verdict<A>, Alloc
     }
 }
 
-/// Judges the session of the capture that the input has, as it comes, and writes the report on it: the
-/// answer is whether the session is consistent. It reads to the input's end, behind a bad answer too, at
+/// Judges the session of the capture that the input has, as it comes, by the limit and the marks, and writes
+/// the report on it: the answer is whether the session is consistent. It reads to the input's end, behind a bad answer too, at
 /// most `most` octets, and passes over spool pieces; at the first fault it ends. The whole report is made
 /// before its first octet is written; one flush follows the last.
 pub fn run_check<A: Allocator + Copy, R: Read, W: Write>(
     alloc: A,
+    limit: Limit,
+    marks: Marks,
     input: &mut Watched<R>,
     output: &mut Watched<W>,
     most: u64,
 ) -> Result<bool, RunFault>
     // What was read is a capture, and what was written is the report on its streams.
-    ensures ok { IfOk result (IsReported CheckReports (read_by R.remaining input.old input.new most) (written_by W.contents output.old output.new)) }
+    ensures ok { IfOk result (IsReported (CheckReports limit marks) (read_by R.remaining input.old input.new most) (written_by W.contents output.old output.new)) }
     // Which fault it is, by what was read and written.
-    ensures err { IfErr result (IsCheckFault (read_by R.remaining input.old input.new most) (written_by W.contents output.old output.new)) }
+    ensures err { IfErr result (IsCheckFault limit marks (read_by R.remaining input.old input.new most) (written_by W.contents output.old output.new)) }
     // Before the report is whole, the writer isn't touched.
     ensures unwritten { IfErr result (λ e. e ≢ RunFault.Write → output.new ≡ output.old) }
 
     ensures read_failed { has_failed_of input.old ≡ false → (IsErrOf result RunFault.Read ↔ (has_failed_of input.new ≡ true)) }
     ensures write_failed { has_failed_of output.old ≡ false → (IsErrOf result RunFault.Write ↔ (has_failed_of output.new ≡ true)) }
 {
-    let mut checker = Checker::new(alloc);
+    let mut checker = Checker::new(alloc, limit, marks);
     read_capture(input, &mut checker, most)?;
     let verdict = verdict(checker)?;
     let text = report(alloc, &verdict)?;
@@ -85,17 +88,19 @@ pub fn run_check<A: Allocator + Copy, R: Read, W: Write>(
 
 /// Tells whether the spool of a capture explains its session, and writes the report on it: the answer
 /// is whether the spool permits all answers. The spool is the one whose text the joined spool pieces
-/// are. It reads and writes as `run_check` does.
+/// are; numbers are judged by its limit, and the marks of a 211 are read as is told. It reads and writes as
+/// `run_check` does.
 pub fn run_verify<A: Allocator + Copy, R: Read, W: Write>(
     alloc: A,
+    marks: Marks,
     input: &mut Watched<R>,
     output: &mut Watched<W>,
     most: u64,
 ) -> Result<bool, RunFault>
     // What was read is a capture, and what was written is the report on its streams and its spool.
-    ensures ok { IfOk result (IsReported VerifyReports (read_by R.remaining input.old input.new most) (written_by W.contents output.old output.new)) }
+    ensures ok { IfOk result (IsReported (VerifyReports marks) (read_by R.remaining input.old input.new most) (written_by W.contents output.old output.new)) }
     // Which fault it is, by what was read and written.
-    ensures err { IfErr result (IsVerifyFault (read_by R.remaining input.old input.new most) (written_by W.contents output.old output.new)) }
+    ensures err { IfErr result (IsVerifyFault marks (read_by R.remaining input.old input.new most) (written_by W.contents output.old output.new)) }
     // Before the report is whole, the writer isn't touched.
     ensures unwritten { IfErr result (λ e. e ≢ RunFault.Write → output.new ≡ output.old) }
 
@@ -105,7 +110,7 @@ pub fn run_verify<A: Allocator + Copy, R: Read, W: Write>(
     let mut streams = Streams::new(alloc);
     read_capture(input, &mut streams, most)?;
     let spool = Spool::read(alloc, &streams.spool)?;
-    let verified = verify(alloc, &spool, &streams.client, &streams.server)?;
+    let verified = verify(alloc, marks, &spool, &streams.client, &streams.server)?;
     let text = verified_report(alloc, verified)?;
     print(&text, output)?;
     Ok(is_permitted(verified))

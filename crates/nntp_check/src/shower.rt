@@ -103,7 +103,9 @@ impl<A: Allocator + Copy> Shower<A> {
 
 /// It passes over the text of a spool.
 impl<A: Allocator + Copy> Sink for Shower<A> {
-    ghost stands = { λ shower client server spool. ShowsWhole shower client server };
+    ghost By = { Unit {0} };
+
+    ghost stands = { λ _ shower client server spool. ShowsWhole shower client server };
 
     fn take(&mut self, source: Source, octets: &[u8]) -> Result<(), AllocError> {
         self.feed(source, octets)?;

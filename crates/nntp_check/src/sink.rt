@@ -7,11 +7,14 @@ use std::alloc::AllocError;
 
 /// Takes the streams of a capture as they come, in octets of one source each time.
 pub(crate) trait Sink {
+    /// What it judges the streams by; the unit type, where it judges none.
+    ghost By: { Type 0 };
+
     /// What it holds is that of these octets of the client, of the server and of a spool's text.
-    ghost stands: { Self → List ℕ → List ℕ → List ℕ → Type 0 };
+    ghost stands: { By → Self → List ℕ → List ℕ → List ℕ → Type 0 };
 
     /// Takes the next octets of a source. After an error it takes no more.
     fn take(&mut self, source: Source, octets: &[u8]) -> Result<(), AllocError>
-        requires { HasRoom (stands self.old) octets.now }
-        ensures { OnOk result (Takes (stands self.old) (stands self.new) source octets.now) };
+        requires { (by : By) × HasRoom (stands by self.old) octets.now }
+        ensures { OnOk result ((by : By) → Takes (stands by self.old) (stands by self.new) source octets.now) };
 }

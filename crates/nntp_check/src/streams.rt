@@ -32,7 +32,9 @@ impl<A: Allocator + Copy> Streams<A> {
 }
 
 impl<A: Allocator + Copy> Sink for Streams<A> {
-    ghost stands = { λ s client server spool. (s.client.items ≡ client) × (s.server.items ≡ server) × (s.spool.items ≡ spool) };
+    ghost By = { Unit {0} };
+
+    ghost stands = { λ _ s client server spool. (s.client.items ≡ client) × (s.server.items ≡ server) × (s.spool.items ≡ spool) };
 
     fn take(&mut self, source: Source, octets: &[u8]) -> Result<(), AllocError> {
         match source {

@@ -106,7 +106,7 @@ pub record AreTold (profile : Profile) (facts : List Fact) : Type 0 where
 -- some spool has them exactly if they stand together
 pub told_together : (profile : Profile) (facts : List Fact) → AreTold profile facts → size facts < 2 ^ 210 → SomeHas profile facts ↔ Together facts
 told_together profile facts t small = (
-  λ h. stand profile h.0 facts h.1 h.2,
+  λ h. stand profile.limit h.0 facts h.1 h.2,
   λ together. some_has profile facts
       (all_from (IsFitting profile) facts (λ fact i. let s = t.source fact i in all_at (IsFitting profile) fact (told profile s.0) (told_fitting profile s.0 s.1) s.2))
       (all_from (IsPlaced Lenient facts) facts (λ fact i. let s = t.source fact i in all_at (IsPlaced Lenient facts) fact (told profile s.0) (told_placed profile facts s.0 s.3) s.2))
@@ -276,7 +276,7 @@ one_behind limit zero one le = absurd (omega arith)
 one_behind limit (suc p) one le = in_map suc p (below limit) (in_below p limit (omega arith))
 
 -- that there is such a group says no more of a spool that has it
-pub group_holds : (profile : Profile) (S : Spool) (name : Name) → IsSpool profile S → IsGroup S name → AllByRecursion (Holds S) (a_group profile name)
+pub group_holds : (profile : Profile) (S : Spool) (name : Name) → IsSpool profile.limit S → IsGroup S name → AllByRecursion (Holds S) (a_group profile name)
 group_holds profile S name spool group =
     let in_limit : (n : ℕ) → IsNumber (numbers S name) n → (1 ≤ n) × (n ≤ profile.limit) = λ n i. spool.numbers_in_limit name n i in
     let few = keys_among nat_cmp_total (numbers S name) (map suc (below profile.limit)) (λ q i. let l = in_limit q i in one_behind profile.limit q l.0 l.1) in
@@ -284,7 +284,7 @@ group_holds profile S name spool group =
     (group, ((count, in_limit, tt), tt))
 
 -- a fact of a group that a spool has says no more by itself
-with_holds : (profile : Profile) (S : Spool) (all : List Fact) → IsSpool profile S → AllByRecursion (Holds S) all → (fact : Fact) → Holds S fact → IsPlaced profile.marks all fact → AllByRecursion (Holds S) (with_group profile fact)
+with_holds : (profile : Profile) (S : Spool) (all : List Fact) → IsSpool profile.limit S → AllByRecursion (Holds S) all → (fact : Fact) → Holds S fact → IsPlaced profile.marks all fact → AllByRecursion (Holds S) (with_group profile fact)
 with_holds profile S all spool holds (ThereIs name) h p = group_holds profile S name spool h
 with_holds profile S all spool holds (Asks name ask) h p = all_both (Holds S) (a_group profile name) (Asks name ask ∷ []) (group_holds profile S name spool (all_at (Holds S) (ThereIs name) all holds p.there)) (h, tt)
 with_holds profile S all spool holds (IdAt name n id) h p = all_both (Holds S) (a_group profile name) (IdAt name n id ∷ []) (group_holds profile S name spool (all_at (Holds S) (ThereIs name) all holds p.there)) (h, tt)
@@ -294,7 +294,7 @@ with_holds profile S all spool holds (NoArticle id) h p = (h, tt)
 with_holds profile S all spool holds (GroupsAre w lines) h p = (h, tt)
 
 -- what is told of a session holds where all that it says does
-told_holds : (profile : Profile) (S : Spool) (all : List Fact) → IsSpool profile S → AllByRecursion (Holds S) all
+told_holds : (profile : Profile) (S : Spool) (all : List Fact) → IsSpool profile.limit S → AllByRecursion (Holds S) all
     → (v : Visible) (at : Position) (ps : List Asked) (answers : List Response) → AllByRecursion (Holds S) (facts_from profile.marks v at ps answers) → AllByRecursion (IsPlaced profile.marks all) (facts_from profile.marks v at ps answers)
     → AllByRecursion (Holds S) (flat_map (told profile) (placed_from v at ps answers))
 told_holds profile S all spool holds v at [] answers h p = tt
@@ -405,4 +405,4 @@ at_point facts (BodyOf id) h t = h (t.bodies id)
 
 -- so no spool has it
 pub none_at_point : (profile : Profile) (facts : List Fact) (point : Point) → ConflictAt facts point → SomeHas profile facts → ⊥
-none_at_point profile facts point h s = at_point facts point h (stand profile s.0 facts s.1 s.2)
+none_at_point profile facts point h s = at_point facts point h (stand profile.limit s.0 facts s.1 s.2)

@@ -11,7 +11,6 @@ use Rattle.std.proofs.lemmas.List.Elements.{recursion_from_All, All-from_recursi
 use Rattle.nntp_article.proofs.Decide.{Dec, dec_true, dec_le, dec_both, dec_three, dec_by, dec_to, dec_texts}
 use Rattle.nntp_article.specs.Article.{is_head, said_id, Id}
 use Rattle.nntp_article.specs.Spool.{Spool, Text, Numbers, numbers, IsSpool, Name, is_line}
-use Rattle.nntp_article.specs.declared.profile.Profile.{Profile}
 use Rattle.nntp_facts.proofs.Members.{all_at, all_from, dec_each_in}
 use Rattle.nntp_facts.proofs.GivenHolds.{group_of_number}
 use Rattle.nntp_facts.proofs.Maps.{get_in, in_get}
@@ -31,9 +30,9 @@ dec_entries o same P d m =
 dec_numbers : (P : ℕ → Id → Type 0) → ((n : ℕ) (id : Id) → Dec (P n id)) → (N : Numbers) → Dec ((n : ℕ) (id : Id) → get N n ≡ Some id → P n id)
 dec_numbers P d N = dec_entries nat_cmp_total nat_cmp-IsAntisymmetric P d N
 
--- the numbers are within the profile
-abbrev InLimit : Profile → Numbers → Type 0
-InLimit profile N = (n : ℕ) (id : Id) → get N n ≡ Some id → (1 ≤ n) × (n ≤ profile.limit)
+-- the numbers are within the limit
+abbrev InLimit : ℕ → Numbers → Type 0
+InLimit limit N = (n : ℕ) (id : Id) → get N n ≡ Some id → (1 ≤ n) × (n ≤ limit)
 
 -- an id has one number
 abbrev OneToOne : Numbers → Type 0
@@ -44,8 +43,8 @@ abbrev HaveArticles : Spool → Numbers → Type 0
 HaveArticles S N = (n : ℕ) (id : Id) → get N n ≡ Some id → IsSome (get S.articles id)
 
 -- a group of a spool
-abbrev GoodGroup : Profile → Spool → Name → Numbers → Type 0
-GoodGroup profile S name N = (IsGroupName name × InLimit profile N) × (OneToOne N × HaveArticles S N)
+abbrev GoodGroup : ℕ → Spool → Name → Numbers → Type 0
+GoodGroup limit S name N = (IsGroupName name × InLimit limit N) × (OneToOne N × HaveArticles S N)
 
 -- an article of a spool
 abbrev GoodText : Id → Text → Type 0
@@ -57,10 +56,10 @@ dec_own id None = inl (λ said e. cc)
 dec_own id (Some x) = dec_by (λ h said e. let s : x ≡ said = cc in sym s ∙ h) (λ h. h x refl) (dec_texts x id)
 
 -- whether a group is good
-dec_group : (profile : Profile) (S : Spool) (name : Name) (N : Numbers) → Dec (GoodGroup profile S name N)
-dec_group profile S name N =
+dec_group : (limit : ℕ) (S : Spool) (name : Name) (N : Numbers) → Dec (GoodGroup limit S name N)
+dec_group limit S name N =
     dec_both
-    (dec_both (dec_by (group_name-iff name).0 (group_name-iff name).1 (dec_true (is_group_name name))) (dec_numbers (λ n id. (1 ≤ n) × (n ≤ profile.limit)) (λ n id. dec_both (dec_le 1 n) (dec_le n profile.limit)) N))
+    (dec_both (dec_by (group_name-iff name).0 (group_name-iff name).1 (dec_true (is_group_name name))) (dec_numbers (λ n id. (1 ≤ n) × (n ≤ limit)) (λ n id. dec_both (dec_le 1 n) (dec_le n limit)) N))
     (dec_both
     (dec_numbers (λ n id. (m : ℕ) (other : Id) → get N m ≡ Some other → id ≡ other → n ≡ m) (λ n id. dec_numbers (λ m other. id ≡ other → n ≡ m) (λ m other. dec_to (dec_texts id other) (cases_eq n m)) N) N)
     (dec_numbers (λ n id. IsSome (get S.articles id)) (λ n id. dec_true (is_some (get S.articles id))) N))
@@ -72,9 +71,9 @@ dec_text id t =
     (dec_both (dec_true (is_head t.head)) (dec_by (all_from (λ line. IsTrue (is_line line)) (t.head ++ t.body)) (λ h line i. all_at (λ line. IsTrue (is_line line)) line (t.head ++ t.body) h i) (dec_each_in (λ line. IsTrue (is_line line)) (λ line. dec_true (is_line line)) (t.head ++ t.body))))
     (dec_own id (said_id t.head))
 
-module _ (profile : Profile) (S : Spool) where
+module _ (limit : ℕ) (S : Spool) where
   -- good groups and articles are a spool
-  good : ((name : Name) (N : Numbers) → get S.groups name ≡ Some N → GoodGroup profile S name N) → ((id : Id) (t : Text) → get S.articles id ≡ Some t → GoodText id t) → IsSpool profile S
+  good : ((name : Name) (N : Numbers) → get S.groups name ≡ Some N → GoodGroup limit S name N) → ((id : Id) (t : Text) → get S.articles id ≡ Some t → GoodText id t) → IsSpool limit S
   good g a = record {
     names = λ name i. (let N = some_is (get S.groups name) i in (g name N.0 N.1).0.0);
     numbers_in_limit = λ name n i. (let N = group_of_number S name n i in let at = some_is (get (numbers S name) n) i in (g name N.0 N.1).0.1 n at.0 (subst (λ N. get N n ≡ Some at.0) N.2 at.1));
@@ -90,7 +89,7 @@ module _ (profile : Profile) (S : Spool) where
   in_spool name N e n id at = ap (λ o. get (unwrap_or o empty) n) e ∙ at
 
   -- and back
-  bad : IsSpool profile S → ((name : Name) (N : Numbers) → get S.groups name ≡ Some N → GoodGroup profile S name N) × ((id : Id) (t : Text) → get S.articles id ≡ Some t → GoodText id t)
+  bad : IsSpool limit S → ((name : Name) (N : Numbers) → get S.groups name ≡ Some N → GoodGroup limit S name N) × ((id : Id) (t : Text) → get S.articles id ≡ Some t → GoodText id t)
   bad s = (
     λ name N e. (
       (s.names name (ap is_some e), λ n id at. s.numbers_in_limit name n (ap is_some (in_spool name N e n id at))),
@@ -103,7 +102,7 @@ module _ (profile : Profile) (S : Spool) where
   )
 
   -- whether groups and articles are a spool
-  pub dec_spool : Dec (IsSpool profile S)
+  pub dec_spool : Dec (IsSpool limit S)
   dec_spool =
       dec_by (λ h. good h.0 h.1) bad
-      (dec_both (dec_entries nat_list_cmp_total names_apart (GoodGroup profile S) (dec_group profile S) S.groups) (dec_entries nat_list_cmp_total names_apart GoodText dec_text S.articles))
+      (dec_both (dec_entries nat_list_cmp_total names_apart (GoodGroup limit S) (dec_group limit S) S.groups) (dec_entries nat_list_cmp_total names_apart GoodText dec_text S.articles))

@@ -44,10 +44,10 @@ permitted_together profile ps answers small = (
 
 -- some spool permits a session, or none does
 pub some_or_none : (profile : Profile) (ps : List Asked) (answers : List Response) → size (facts_of_session profile.marks ps answers) < 2 ^ 210
-    → ((S : Spool) × IsSpool profile S × Run profile S start ps answers) ⊎ ((S : Spool) → IsSpool profile S → Run profile S start ps answers → ⊥)
-some_or_none profile ps answers small = by (dec_both (dec_spool profile (made_for profile ps answers)) (dec_run profile (made_for profile ps answers) start ps answers))
+    → ((S : Spool) × IsSpool profile.limit S × Run profile S start ps answers) ⊎ ((S : Spool) → IsSpool profile.limit S → Run profile S start ps answers → ⊥)
+some_or_none profile ps answers small = by (dec_both (dec_spool profile.limit (made_for profile ps answers)) (dec_run profile (made_for profile ps answers) start ps answers))
   where
-    by : Dec (IsSpool profile (made_for profile ps answers) × Run profile (made_for profile ps answers) start ps answers)
-        → ((S : Spool) × IsSpool profile S × Run profile S start ps answers) ⊎ ((S : Spool) → IsSpool profile S → Run profile S start ps answers → ⊥)
+    by : Dec (IsSpool profile.limit (made_for profile ps answers) × Run profile (made_for profile ps answers) start ps answers)
+        → ((S : Spool) × IsSpool profile.limit S × Run profile S start ps answers) ⊎ ((S : Spool) → IsSpool profile.limit S → Run profile S start ps answers → ⊥)
     by (inl h) = inl (made_for profile ps answers, h.0, h.1)
     by (inr h) = inr (λ S spool run. let s = stands profile S ps answers spool run in h (given_permits profile (made_for profile ps answers) ps answers s.0 s.1 small (given_exists profile ps answers s.0 small)))

@@ -7,7 +7,7 @@ use Rattle.std.proofs.lemmas.Bool.{and_parts, or_cases, eqb-true, true≢false, 
 use Rattle.std.proofs.lemmas.Bool.Decides.{nat_tests}
 use Rattle.nntp_article.specs.Spool.{Spool}
 use Rattle.nntp_article.specs.declared.profile.Profile.{Profile}
-use Rattle.nntp_article.specs.Machine.{Visible, Agrees, visible_after, Row, CodeAgrees, is_generic, is_one_of, is_num, code_fits, number_fits, head_fits, fits}
+use Rattle.nntp_article.specs.Machine.{Visible, Agrees, visible_after, Row, CodeAgrees, is_generic, is_one_of, is_article_number, code_fits, number_fits, head_fits, fits}
 use Rattle.nntp_facts.specs.Asks.{state_at, position_after, RunsAt}
 use Rattle.nntp_facts.specs.declared.position.Position.{Position}
 use Rattle.nntp_facts.specs.Facts.{Fact, Holds, facts_of, facts_of_code, facts_from, on, FitsAll}
@@ -130,8 +130,8 @@ row_from S v at ill_formed code f h = absurd (false≢true f)
 
 -- ---- the codes of successes
 
-stepped : (profile : Profile) (v : Visible) (sent : Success) → IsTrue (sent.code == 223 && is_some v.selected && is_num profile sent.number) → IsTrue (sent.code == 223)
-stepped profile v sent f = (and_parts (sent.code == 223) (is_some v.selected) (and_parts (sent.code == 223 && is_some v.selected) (is_num profile sent.number) f).0).0
+stepped : (profile : Profile) (v : Visible) (sent : Success) → IsTrue (sent.code == 223 && is_some v.selected && is_article_number profile.limit sent.number) → IsTrue (sent.code == 223)
+stepped profile v sent f = (and_parts (sent.code == 223) (is_some v.selected) (and_parts (sent.code == 223 && is_some v.selected) (is_article_number profile.limit sent.number) f).0).0
 
 succeeded : (profile : Profile) (v : Visible) (what : What) (which : Target) (sent : Success) → IsTrue (fits profile v (to (retrieve what which)) (sends sent)) → IsTrue (sent.code == success_code what)
 succeeded profile v what which sent f =

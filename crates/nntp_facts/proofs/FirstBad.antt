@@ -72,7 +72,7 @@ no_number : (name : Name) (n : ℕ) → get (numbers no_spool name) n ≡ None
 no_number name n = ap (λ (o : Option Numbers). get (unwrap_or o empty) n) (no_group name) ∙ get-empty nat_cmp n
 
 -- nothing at all is a spool
-empty_is_spool : (profile : Profile) → IsSpool profile no_spool
+empty_is_spool : (profile : Profile) → IsSpool profile.limit no_spool
 empty_is_spool profile = record {
   names = λ name i. absurd (true≢false (sym i ∙ ap is_some (no_group name)));
   numbers_in_limit = λ name n i. absurd (true≢false (sym i ∙ ap is_some (no_number name n)));

@@ -6,7 +6,7 @@ use Rattle.std.specs.Option.{option_map_or, option_or}
 use Rattle.std.proofs.lemmas.Bool.{and_parts, or_cases, true≢false, eqb-true, leb-true}
 use Rattle.nntp_article.specs.Spool.{Name}
 use Rattle.nntp_article.specs.declared.profile.Profile.{Profile}
-use Rattle.nntp_article.specs.Machine.{Visible, visible_after, start, fits, marks_fit, are_zeros, is_ascending, is_same, is_num, is_in_range, number_fits, head_fits, active_fits}
+use Rattle.nntp_article.specs.Machine.{Visible, visible_after, start, fits, marks_fit, are_zeros, is_ascending, is_same, is_article_number, is_in_range, number_fits, head_fits, active_fits}
 use Rattle.nntp_wire.specs.Listing.{listed_numbers, active_groups}
 use Rattle.nntp_facts.specs.Asks.{position_after, Estimates, ListsIn, Has, StandsAt, StepsUp, StepsDown}
 use Rattle.nntp_facts.specs.declared.position.Position.{Position}
@@ -22,12 +22,12 @@ use Rattle.nntp_wire.specs.declared.command.What.{What}
 -- marks and numbers are within the limit, a low mark of 0 estimates no number, a text has the parts that were asked for, and listed groups match
 abbrev pub IsFitting : Profile → Fact → Type 0
 IsFitting profile (Asks name (Estimates how m)) = (m.high ≤ profile.limit) × (m.low ≡ 0 → m.estimate ≡ 0)
-IsFitting profile (Asks name (ListsIn r ns)) = AllByRecursion (λ n. IsTrue (is_num profile n)) ns
-IsFitting profile (Asks name (Has n)) = IsTrue (is_num profile n)
-IsFitting profile (Asks name (StandsAt at n)) = IsTrue (is_num profile n)
-IsFitting profile (Asks name (StepsUp at n)) = IsTrue (is_num profile n)
-IsFitting profile (Asks name (StepsDown at n)) = IsTrue (is_num profile n)
-IsFitting profile (IdAt name n id) = IsTrue (is_num profile n)
+IsFitting profile (Asks name (ListsIn r ns)) = AllByRecursion (λ n. IsTrue (is_article_number profile.limit n)) ns
+IsFitting profile (Asks name (Has n)) = IsTrue (is_article_number profile.limit n)
+IsFitting profile (Asks name (StandsAt at n)) = IsTrue (is_article_number profile.limit n)
+IsFitting profile (Asks name (StepsUp at n)) = IsTrue (is_article_number profile.limit n)
+IsFitting profile (Asks name (StepsDown at n)) = IsTrue (is_article_number profile.limit n)
+IsFitting profile (IdAt name n id) = IsTrue (is_article_number profile.limit n)
 IsFitting profile (TextIs what id lines) = IsTrue (head_fits what id lines)
 IsFitting profile (GroupsAre p lines) = AllByRecursion (λ line. IsTrue (active_fits profile p line)) lines
 IsFitting profile fact = ⊤
@@ -101,8 +101,8 @@ answer_fitting profile v at (to (list_group word range)) (numbers_are m name lin
       (
         marks_fitting profile v name m marks,
         (
-          all_from (λ n. IsTrue (is_num profile n)) (listed_numbers lines)
-              (λ n i. (and_parts (is_num profile n) _ (each_of (λ n. is_num profile n && is_in_range range n) (listed_numbers lines) n each.1 i)).0),
+          all_from (λ n. IsTrue (is_article_number profile.limit n)) (listed_numbers lines)
+              (λ n i. (and_parts (is_article_number profile.limit n) _ (each_of (λ n. is_article_number profile.limit n && is_in_range range n) (listed_numbers lines) n each.1 i)).0),
           tt,
         ),
       ),
@@ -117,7 +117,7 @@ answer_fitting profile v at (to (retrieve what (by_number (Some n)))) (sends sen
     let s = success_fits profile v what (by_number (Some n)) sent f in
     let p = and_parts (is_some v.selected && sent.number == n) _ s.0 in
     let same : sent.number ≡ n = eqb-true sent.number n (and_parts (is_some v.selected) _ p.0).1 in
-    (s.1, (subst (λ n. IsTrue (is_num profile n)) (sym same) p.1, tt))
+    (s.1, (subst (λ n. IsTrue (is_article_number profile.limit n)) (sym same) p.1, tt))
 answer_fitting profile v at (to (retrieve what current)) (sends sent) f =
     let s = success_fits profile v what current sent f in
     let n = (and_parts (is_some v.selected) _ s.0).1 in

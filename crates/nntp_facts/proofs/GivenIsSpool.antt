@@ -64,7 +64,7 @@ module _ (profile : Profile) (B : ℕ) (G : Spool) (facts : List Fact) (s : Sett
   name_is : (name : Name) → IsGroup G name → IsGroupName name
   name_is name i = shown_named facts name s.together.well_formed ((s.given.groups name).0 i)
 
-  -- the numbers are within the profile
+  -- the numbers are within the limit
   in_limit : (name : Name) (n : ℕ) → IsNumber (numbers G name) n → (1 ≤ n) × (n ≤ profile.limit)
   in_limit name n i =
       let g = group_of_number G name n i in
@@ -174,7 +174,7 @@ module _ (profile : Profile) (B : ℕ) (G : Spool) (facts : List Fact) (s : Sett
       by (Some lines) is = let f = first_found (body_in id) facts lines is in sent_body id lines f.0 (formed f.0 f.1) f.2
 
   -- the given spool is a spool
-  pub given_is_spool : IsSpool profile G
+  pub given_is_spool : IsSpool profile.limit G
   given_is_spool = record {
     names = name_is;
     numbers_in_limit = in_limit;

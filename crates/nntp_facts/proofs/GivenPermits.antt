@@ -27,8 +27,8 @@ pub said : (profile : Profile) (S : Spool) (ps : List Asked) (answers : List Res
 said profile S ps answers run = facts_of_run profile S start.visible Nowhere ps answers (read_off profile S start.visible Nowhere ps answers run)
 
 -- what some spool permits fits and stands together
-pub stands : (profile : Profile) (S : Spool) (ps : List Asked) (answers : List Response) → IsSpool profile S → Run profile S start ps answers → FitsAll profile start.visible ps answers × Together (facts_of_session profile.marks ps answers)
-stands profile S ps answers spool run = let says = said profile S ps answers run in (says.0, stand profile S (facts_of_session profile.marks ps answers) spool says.1)
+pub stands : (profile : Profile) (S : Spool) (ps : List Asked) (answers : List Response) → IsSpool profile.limit S → Run profile S start ps answers → FitsAll profile start.visible ps answers × Together (facts_of_session profile.marks ps answers)
+stands profile S ps answers spool run = let says = said profile S ps answers run in (says.0, stand profile.limit S (facts_of_session profile.marks ps answers) spool says.1)
 
 -- what the laws below stand on
 setting : (profile : Profile) (G : Spool) (ps : List Asked) (answers : List Response) → FitsAll profile start.visible ps answers → Together (facts_of_session profile.marks ps answers) → size (facts_of_session profile.marks ps answers) < 2 ^ 210
@@ -40,23 +40,23 @@ setting profile G ps answers fits together small given =
 
 -- the spool that is given for what fits and stands together is a spool and permits the session
 pub given_permits : (profile : Profile) (G : Spool) (ps : List Asked) (answers : List Response) → FitsAll profile start.visible ps answers → Together (facts_of_session profile.marks ps answers) → size (facts_of_session profile.marks ps answers) < 2 ^ 210
-    → IsGiven (facts_of_session profile.marks ps answers) G → IsSpool profile G × Run profile G start ps answers
+    → IsGiven (facts_of_session profile.marks ps answers) G → IsSpool profile.limit G × Run profile G start ps answers
 given_permits profile G ps answers fits together small given =
     let facts = facts_of_session profile.marks ps answers in
     let s = setting profile G ps answers fits together small given in
     (given_is_spool profile (10 ^ 64) G facts s, run_from profile G start.visible Nowhere ps answers (run_of_facts profile G start.visible Nowhere ps answers fits (all_hold profile (10 ^ 64) G facts s)))
 
 -- a spool that permits a session has what the session shows, and as many numbers as are given
-pub given_is_least : (profile : Profile) (S G : Spool) (ps : List Asked) (answers : List Response) → IsSpool profile S → Run profile S start ps answers → IsGiven (facts_of_session profile.marks ps answers) G → HasAtLeast (facts_of_session profile.marks ps answers) G S
+pub given_is_least : (profile : Profile) (S G : Spool) (ps : List Asked) (answers : List Response) → IsSpool profile.limit S → Run profile S start ps answers → IsGiven (facts_of_session profile.marks ps answers) G → HasAtLeast (facts_of_session profile.marks ps answers) G S
 given_is_least profile S G ps answers spool run given =
     let facts = facts_of_session profile.marks ps answers in
     let holds = (said profile S ps answers run).1 in
     let met : (name : Name) → AllByRecursion (Meets (numbers S name)) (asks_of name facts) = λ name. met_by_facts S name facts holds in
     record {
-      groups = λ name i. group_in_S profile S facts spool holds name ((given.groups name).0 i);
+      groups = λ name i. group_in_S profile.limit S facts spool holds name ((given.groups name).0 i);
       numbers_shown = λ name n t. shown_are_numbers (numbers S name) (asks_of name facts) n (met name) t;
-      ids_shown = id_in_S profile S facts spool holds;
-      heads_sent = head_in_S profile S facts spool holds;
-      bodies_sent = body_in_S profile S facts spool holds;
+      ids_shown = id_in_S profile.limit S facts spool holds;
+      heads_sent = head_in_S profile.limit S facts spool holds;
+      bodies_sent = body_in_S profile.limit S facts spool holds;
       counts = λ name i. as_few (asks_of name facts) (numbers S name) (met name) (λ n j. (spool.numbers_in_limit name n j).0) (numbers G name) (given.numbers_given name i);
     }

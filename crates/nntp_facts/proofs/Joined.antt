@@ -202,7 +202,7 @@ permitted_more profile ps answers asked response comes small (S, spool, run) = (
   λ h.
       let says = said profile h.0 ps (answers ++ response ∷ []) h.2 in
       let f = grown.0 says.0 in
-      (f.1, f.2, joins.0 (subst Together same (stand profile h.0 (facts_of_session profile.marks ps (answers ++ response ∷ [])) h.1 says.1))),
+      (f.1, f.2, joins.0 (subst Together same (stand profile.limit h.0 (facts_of_session profile.marks ps (answers ++ response ∷ [])) h.1 says.1))),
   λ h. (permitted_together profile ps (answers ++ response ∷ []) small).1 (grown.1 (before.0, h.0, h.1), subst Together (sym same) (joins.1 h.2)),
 )
   where
@@ -216,7 +216,7 @@ permitted_more profile ps answers asked response comes small (S, spool, run) = (
     before = said profile S ps answers run
 
     joins : Together (facts_of_session profile.marks ps answers ++ new) ↔ Join (facts_of_session profile.marks ps answers) new
-    joins = together_more (facts_of_session profile.marks ps answers) new (stand profile S (facts_of_session profile.marks ps answers) spool before.1) (answer_agrees profile.marks (visible_from start.visible ps answers) (position_from Nowhere ps answers) asked response)
+    joins = together_more (facts_of_session profile.marks ps answers) new (stand profile.limit S (facts_of_session profile.marks ps answers) spool before.1) (answer_agrees profile.marks (visible_from start.visible ps answers) (position_from Nowhere ps answers) asked response)
 
     grown : FitsAll profile start.visible ps (answers ++ response ∷ []) ↔ (FitsAll profile start.visible ps answers × ((visible_from start.visible ps answers).closed ≡ false) × IsTrue (fits profile (visible_from start.visible ps answers) asked response))
     grown = fitting_grows profile start.visible ps answers asked response comes

@@ -9,7 +9,7 @@ use Rattle.std.specs.Cmp.Lexicographic.{same_text}
 use Rattle.std.proofs.lemmas.Bool.{true≢false, and_parts, or_cases, or_right, eqb-true, leb-true, lt-ltb, cases_lt, cases_eq, false_from_ne_true}
 use Rattle.nntp_article.specs.Spool.{Name}
 use Rattle.nntp_article.specs.declared.profile.Profile.{Profile}
-use Rattle.nntp_article.specs.Machine.{is_same, is_num, active_fits}
+use Rattle.nntp_article.specs.Machine.{is_same, is_article_number, active_fits}
 use Rattle.nntp_facts.specs.Asks.{Ask, Estimates, Bounds, ListsIn, Has, StandsAt, StepsUp, StepsDown}
 use Rattle.nntp_facts.specs.declared.position.Position.TheVariants.{First}
 use Rattle.nntp_facts.specs.Facts.{Fact, ThereIs, Asks, IdAt, GroupsAre}
@@ -62,16 +62,16 @@ module _ (profile : Profile) (facts : List Fact) (how : Marks) (fitting : AllByR
       by fact j t = cc
 
   -- a number that an ask shows is one
-  num_of : (name : Name) (ask : Ask) (n : ℕ) → IsFitting profile (Asks name ask) → shows ask n ≡ true → IsTrue (is_num profile n)
-  num_of name (ListsIn r ns) n h t = let f = found_in (λ m. n == m) ns t in subst (λ n. IsTrue (is_num profile n)) (sym (eqb-true n f.0 f.2)) (all_at (λ n. IsTrue (is_num profile n)) f.0 ns h f.1)
-  num_of name (Has m) n h t = subst (λ n. IsTrue (is_num profile n)) (eqb-true m n t) h
-  num_of name (StandsAt First m) n h t = subst (λ n. IsTrue (is_num profile n)) (eqb-true m n t) h
-  num_of name (StepsUp at m) n h t = subst (λ n. IsTrue (is_num profile n)) (eqb-true m n t) h
-  num_of name (StepsDown at m) n h t = subst (λ n. IsTrue (is_num profile n)) (eqb-true m n t) h
+  num_of : (name : Name) (ask : Ask) (n : ℕ) → IsFitting profile (Asks name ask) → shows ask n ≡ true → IsTrue (is_article_number profile.limit n)
+  num_of name (ListsIn r ns) n h t = let f = found_in (λ m. n == m) ns t in subst (λ n. IsTrue (is_article_number profile.limit n)) (sym (eqb-true n f.0 f.2)) (all_at (λ n. IsTrue (is_article_number profile.limit n)) f.0 ns h f.1)
+  num_of name (Has m) n h t = subst (λ n. IsTrue (is_article_number profile.limit n)) (eqb-true m n t) h
+  num_of name (StandsAt First m) n h t = subst (λ n. IsTrue (is_article_number profile.limit n)) (eqb-true m n t) h
+  num_of name (StepsUp at m) n h t = subst (λ n. IsTrue (is_article_number profile.limit n)) (eqb-true m n t) h
+  num_of name (StepsDown at m) n h t = subst (λ n. IsTrue (is_article_number profile.limit n)) (eqb-true m n t) h
   num_of name ask n h t = cc
 
   -- a number that is shown is one
-  shown_num : (name : Name) (n : ℕ) → IsTrue (is_shown (asks_of name facts) n) → IsTrue (is_num profile n)
+  shown_num : (name : Name) (n : ℕ) → IsTrue (is_shown (asks_of name facts) n) → IsTrue (is_article_number profile.limit n)
   shown_num name n t =
       let f = found_in (λ ask. shows ask n) (asks_of name facts) t in
       let g = from_flat (asks_in name) f.0 facts f.1 in
@@ -81,7 +81,7 @@ module _ (profile : Profile) (facts : List Fact) (how : Marks) (fitting : AllByR
       only true x ask i = elim i [ inl e ↦ e | inr j ↦ absurd j ]
       only false x ask i = absurd i
 
-      by : (fact : Fact) → IsFitting profile fact → (ask : Ask) → In ask (asks_in name fact) → shows ask n ≡ true → IsTrue (is_num profile n)
+      by : (fact : Fact) → IsFitting profile fact → (ask : Ask) → In ask (asks_in name fact) → shows ask n ≡ true → IsTrue (is_article_number profile.limit n)
       by (Asks g x) h ask i t = num_of g x n h (subst (λ a. shows a n ≡ true) (sym (only (is_same g name) x ask i)) t)
       by (IdAt g m id) h ask i t = num_of g (Has m) n h (subst (λ a. shows a n ≡ true) (sym (only (is_same g name) (Has m) ask i)) t)
       by (GroupsAre p lines) h ask i t =

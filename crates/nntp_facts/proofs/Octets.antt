@@ -172,7 +172,7 @@ explained_or_bad profile client server small =
           )
     ]
   where
-    all : (S : Spool) → IsSpool profile S → Run profile S start (prompts_of client) (read (prompts_of client) server).answers → (rest : List ℕ) → server ≡ (read (prompts_of client) server).spelled ++ rest
+    all : (S : Spool) → IsSpool profile.limit S → Run profile S start (prompts_of client) (read (prompts_of client) server).answers → (rest : List ℕ) → server ≡ (read (prompts_of client) server).spelled ++ rest
         → ((S : Spool) × (n : ℕ) × Explains profile S client server n) ⊎ ((k : ℕ) × Bad profile client server k)
     all S spool run [] whole = inl (S, length (read (prompts_of client) server).answers, record { is_spool = spool; answers = (read (prompts_of client) server).answers; octets = (read (prompts_of client) server).spelled; count = refl; run = run; spelled = (read (prompts_of client) server).is; whole = whole })
     all S spool run (c ∷ cs) whole =

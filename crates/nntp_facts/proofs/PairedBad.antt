@@ -22,7 +22,7 @@ use Rattle.nntp_facts.proofs.PairedLemmas.{first_asked, paired_up, count, has_cl
 
 -- where the pairing comes to its end, who permits its responses explains both streams
 pub explained_end : (profile : Profile) (S : Spool) (client server : List ℕ) (pairs : List Paired) (unanswered : ℕ) → IsPairing client server pairs (end unanswered)
-    → IsSpool profile S → Run profile S start (prompts_of client) (responses_of pairs) → Explains profile S client server (length pairs)
+    → IsSpool profile.limit S → Run profile S start (prompts_of client) (responses_of pairs) → Explains profile S client server (length pairs)
 explained_end profile S client server pairs unanswered pairing spool run =
     subst (λ rest. ExplainsUpTo profile S client server (length pairs) rest) pairing.ends.0 (explained_pairs profile S client server pairs pairing.left pairing.paired spool run)
 

@@ -120,7 +120,7 @@ end_has_class profile client server pairs left class paired h =
 
 -- who permits the responses of the pairs explains them
 pub explained_pairs : (profile : Profile) (S : Spool) (client server : List ℕ) (pairs : List Paired) (left : Unpaired) → AreNext (streams client server) pairs left
-    → IsSpool profile S → Run profile S start (prompts_of client) (responses_of pairs) → ExplainsUpTo profile S client server (length pairs) left.server
+    → IsSpool profile.limit S → Run profile S start (prompts_of client) (responses_of pairs) → ExplainsUpTo profile S client server (length pairs) left.server
 unfolding pairs_before
 explained_pairs profile S client server pairs left paired spool run =
     let before = pairs_before client server pairs left paired in

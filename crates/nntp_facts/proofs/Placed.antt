@@ -6,7 +6,7 @@ use Rattle.std.specs.List.{AllByRecursion}
 use Rattle.std.proofs.lemmas.Bool.{and_parts, or_cases, eqb-true, true≢false}
 use Rattle.nntp_article.specs.Spool.{Name}
 use Rattle.nntp_article.specs.declared.profile.Profile.{Profile}
-use Rattle.nntp_article.specs.Machine.{Visible, visible_after, start, fits, is_same, is_num, number_fits}
+use Rattle.nntp_article.specs.Machine.{Visible, visible_after, start, fits, is_same, is_article_number, number_fits}
 use Rattle.nntp_facts.specs.Asks.{position_after, Estimates}
 use Rattle.nntp_facts.specs.declared.position.Position.{Position}
 use Rattle.nntp_facts.specs.declared.position.Position.TheVariants.{Nowhere}
@@ -82,7 +82,7 @@ unless_zero how all v true fact h = tt
 unless_zero how all v false fact h = (h refl, tt)
 
 -- a step is answered where a group is selected
-step_selected : (profile : Profile) (v : Visible) (sent : Success) → IsTrue (sent.code == 223 && is_some v.selected && is_num profile sent.number) → IsTrue (is_some v.selected)
+step_selected : (profile : Profile) (v : Visible) (sent : Success) → IsTrue (sent.code == 223 && is_some v.selected && is_article_number profile.limit sent.number) → IsTrue (is_some v.selected)
 step_selected profile v sent f = (and_parts (sent.code == 223) _ (and_parts (sent.code == 223 && is_some v.selected) _ f).0).1
 
 -- the number of a success fits

@@ -1,7 +1,7 @@
 -- What each kind of answer that fits tells.
-use Rattle.std.proofs.Common.{◌≡◌, ℕ, true, IsTrue, List, [], ◌∷◌, Option, None, Some, is_some, inl, inr, refl, sym, ap, subst, rules, tests, ◌<◌, ◌||◌, nat_lt, ◌∙◌}
-use Rattle.std.specs.Prelude.{IfSome, unwrap_or, ◌^◌}
-use Rattle.std.proofs.lemmas.Bool.{true≢false, or_left, or_right}
+use Rattle.std.proofs.Common.{◌≡◌, ℕ, true, IsTrue, List, [], ◌∷◌, Option, None, Some, is_some, inl, inr, refl, sym, ap, subst, ◌∙◌}
+use Rattle.std.specs.Prelude.{IfSome, unwrap_or}
+use Rattle.std.proofs.lemmas.Bool.{true≢false}
 use Rattle.nntp_article.specs.Article.{Id, Line}
 use Rattle.nntp_article.specs.Spool.{Name}
 use Rattle.nntp_article.specs.Machine.{Visible, head_fits}
@@ -13,7 +13,7 @@ use Rattle.nntp_wire.specs.declared.water_marks.WaterMarks.{WaterMarks}
 use Rattle.nntp_facts.specs.declared.position.Position.{Position}
 use Rattle.nntp_facts.specs.Asks.{Ask, Estimates, ListsIn, Has, StandsAt}
 use Rattle.nntp_facts.specs.Facts.{Fact, ThereIs, Asks, IdAt, TextIs, NoArticle, GroupsAre, here}
-use Rattle.nntp_facts.specs.Given.{is_denied, is_shown_group}
+use Rattle.nntp_facts.specs.Given.{is_shown_group}
 use Rattle.nntp_facts.specs.ListedGroups.{MayList}
 use Rattle.nntp_facts.specs.Part.{Said, Says}
 use Rattle.nntp_facts.specs.Summary.{AreBounded}

@@ -9,7 +9,6 @@ use Rattle.std.proofs.lemmas.Bool.{true≢false, and_parts, eqb-true, false_from
 use Rattle.std.proofs.lemmas.List.Elements.{recursion_from_All}
 use Rattle.nntp_article.specs.Article.{Line, Id, head_part, body_part}
 use Rattle.nntp_article.specs.Spool.{Spool, Text, IsGroup, numbers, IsSpool, HasText, text_of, is_line, Name}
-use Rattle.nntp_article.specs.declared.profile.Profile.{Profile}
 use Rattle.nntp_article.specs.Machine.{is_same}
 use Rattle.nntp_article.proofs.HeadParts.{parts}
 use Rattle.nntp_facts.specs.Facts.{Fact, Holds, ThereIs, ThereIsNo, Asks, IdAt, TextIs, NoArticle, GroupsAre}
@@ -58,7 +57,7 @@ give_one {A} Q one f facts says = all_from _ facts (λ fact i. by fact i (f fact
         let w = first_found f facts z.0 z.1 in
         z.1 ∙ ap Some (one z.0 x (says w.0 w.1 z.0 w.2) (says fact i x e))
 
-module _ (profile : Profile) (S : Spool) (facts : List Fact) (spool : IsSpool profile S) (holds : AllByRecursion (Holds S) facts) where
+module _ (limit : ℕ) (S : Spool) (facts : List Fact) (spool : IsSpool limit S) (holds : AllByRecursion (Holds S) facts) where
   -- a fact holds
   of_fact : (fact : Fact) → In fact facts → Holds S fact
   of_fact fact i = all_at (Holds S) fact facts holds i

@@ -54,7 +54,7 @@ told profile a = flat_map (with_group profile) (facts_of profile.marks a.visible
 
 -- some spool has all the facts
 abbrev pub SomeHas : Profile → List Fact → Type 0
-SomeHas profile facts = (S : Spool) × IsSpool profile S × AllByRecursion (Holds S) facts
+SomeHas profile facts = (S : Spool) × IsSpool profile.limit S × AllByRecursion (Holds S) facts
 
 -- what the answer at the place says, if there is one
 abbrev pub told_at : Profile → List Placed → ℕ → List Fact

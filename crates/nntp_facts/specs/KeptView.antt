@@ -1,12 +1,8 @@
 -- The codes of what is kept of a session.
-use Rattle.nntp_wire.specs.declared.marks.Marks.TheVariants.{Lenient, Strict}
-use Rattle.nntp_wire.specs.declared.marks.Marks.{Marks}
-use Rattle.std.specs.Prelude.{ℕ, Bool, true, false, Option, None, Some, ◌≡◌, refl}
+use Rattle.std.specs.Prelude.{ℕ, Option, None, Some, ◌≡◌, refl}
 use Rattle.std.specs.Coded.{Coded, code_by, coded×, coded_ℕ, coded_list, coded_option, coded_bool}
 use Rattle.std.specs.FinMap as map
-use Rattle.nntp_article.specs.Coded.{coded_visible}
-use Rattle.nntp_wire.specs.declared.limit.Limit.{Limit}
-use Rattle.nntp_wire.specs.declared.limit.Limit.TheVariants.{Narrow, Wide}
+use Rattle.nntp_article.specs.Coded.{coded_limit, coded_marks, coded_visible}
 use Rattle.nntp_facts.specs.declared.position.Position.{Position}
 use Rattle.nntp_facts.specs.declared.position.Position.TheVariants.{Nowhere, First, Known}
 use Rattle.nntp_facts.specs.Kept.{KeptNames, Kept}
@@ -45,40 +41,6 @@ same_position_back (Known n) = refl
 
 abbrev pub coded_position : Coded Position
 coded_position = code_by _ (coded_option (coded_option coded_ℕ)) of_position to_position same_position_back
-
--- how marks are read, as one of two
-abbrev pub of_marks : Marks → Bool
-of_marks Lenient = false
-of_marks Strict = true
-
--- and back
-abbrev pub to_marks : Bool → Marks
-to_marks false = Lenient
-to_marks true = Strict
-
-pub same_marks_back : (how : Marks) → to_marks (of_marks how) ≡ how
-same_marks_back Lenient = refl
-same_marks_back Strict = refl
-
-abbrev pub coded_marks : Coded Marks
-coded_marks = code_by _ coded_bool of_marks to_marks same_marks_back
-
--- the limit, as one of two
-abbrev pub of_limit : Limit → Bool
-of_limit Narrow = false
-of_limit Wide = true
-
--- and back
-abbrev pub to_limit : Bool → Limit
-to_limit false = Narrow
-to_limit true = Wide
-
-pub same_limit_back : (limit : Limit) → to_limit (of_limit limit) ≡ limit
-same_limit_back Narrow = refl
-same_limit_back Wide = refl
-
-abbrev pub coded_limit : Coded Limit
-coded_limit = code_by _ coded_bool of_limit to_limit same_limit_back
 
 abbrev pub coded_facts : Coded FactsKept
 coded_facts =

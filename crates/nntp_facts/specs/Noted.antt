@@ -29,13 +29,17 @@ pub record FactsKept : Type 0 where
   pub kept : Kept
   pub has_failed : Bool
 
+-- by what the facts judge
+abbrev pub profile_kept : FactsKept → Profile
+profile_kept facts = profile_of facts.limit facts.marks
+
 -- what the exchanges say of the spool, where marks are read so
 abbrev pub said_by : Marks → List Paired → List Fact
 said_by how past = facts_of_session how (asked_of past) (responses_of past)
 
 -- the facts are those of these exchanges, which some spool permits
 pub record HasNoted (profile : Profile) (facts : FactsKept) (past : List Paired) : Type 0 where
-  pub profile_is : profile_of facts.limit facts.marks ≡ profile
+  pub profile_is : profile_kept facts ≡ profile
   pub is_whole : facts.has_failed ≡ false
   pub count : facts.count ≡ length past
   pub visible : facts.visible ≡ visible_from start.visible (asked_of past) (responses_of past)

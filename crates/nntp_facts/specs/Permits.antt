@@ -7,7 +7,7 @@ use Rattle.nntp_wire.specs.Answer.{Asked, Response}
 
 -- some spool permits the session
 abbrev pub SomePermits : Profile → List Asked → List Response → Type 0
-SomePermits profile prompts answers = (S : Spool) × IsSpool profile S × Run profile S start prompts answers
+SomePermits profile prompts answers = (S : Spool) × IsSpool profile.limit S × Run profile S start prompts answers
 
 -- some spool permits the answers before k, and none those up to k
 abbrev pub IsFirstUnpermitted : Profile → List Asked → List Response → ℕ → Type 0

@@ -42,8 +42,8 @@ pub fn permitted_by_facts()
 
 /// The given numbers of a group meet what is asked of them, if a spool's numbers do.
 pub fn given_numbers_meet_what_is_asked()
-    ensures { (profile : Profile) (S : Spool) (facts : List Fact) (name : Name) (G : Numbers)
-        → IsSpool profile S → AllByRecursion (Holds S) facts → HasGivenNumbers (asks_of name facts) G
+    ensures { (limit : ℕ) (S : Spool) (facts : List Fact) (name : Name) (G : Numbers)
+        → IsSpool limit S → AllByRecursion (Holds S) facts → HasGivenNumbers (asks_of name facts) G
         → AllByRecursion (Meets G) (asks_of name facts) }
 {}
 
@@ -135,28 +135,28 @@ pub fn no_answers_are_permitted()
 /// If a spool permits a session, then so does the given spool.
 pub fn given_spool_permits()
     ensures { (profile : Profile) (S G : Spool) (prompts : List Asked) (answers : List Response)
-        → IsSpool profile S → Run profile S start prompts answers → size (facts_of_session profile.marks prompts answers) < 2 ^ 210
-        → IsGiven (facts_of_session profile.marks prompts answers) G → IsSpool profile G × Run profile G start prompts answers }
+        → IsSpool profile.limit S → Run profile S start prompts answers → size (facts_of_session profile.marks prompts answers) < 2 ^ 210
+        → IsGiven (facts_of_session profile.marks prompts answers) G → IsSpool profile.limit G × Run profile G start prompts answers }
 {}
 
 /// No spool that permits a session lacks what the session shows, or has fewer numbers in a group
 /// than the given one.
 pub fn given_spool_is_least()
     ensures { (profile : Profile) (S G : Spool) (prompts : List Asked) (answers : List Response)
-        → IsSpool profile S → Run profile S start prompts answers → size (facts_of_session profile.marks prompts answers) < 2 ^ 210
+        → IsSpool profile.limit S → Run profile S start prompts answers → size (facts_of_session profile.marks prompts answers) < 2 ^ 210
         → IsGiven (facts_of_session profile.marks prompts answers) G → HasAtLeast (facts_of_session profile.marks prompts answers) G S }
 {}
 
 /// If a spool permits a session, then a spool is given for it.
 pub fn given_spool_exists()
     ensures { (profile : Profile) (S : Spool) (prompts : List Asked) (answers : List Response)
-        → IsSpool profile S → Run profile S start prompts answers → size (facts_of_session profile.marks prompts answers) < 2 ^ 210
+        → IsSpool profile.limit S → Run profile S start prompts answers → size (facts_of_session profile.marks prompts answers) < 2 ^ 210
         → (G : Spool) × IsGiven (facts_of_session profile.marks prompts answers) G }
 {}
 
 /// Some spool permits a session exactly if each answer fits and what the answers say stands together.
 pub fn permitted_where_all_stands_together()
-    ensures of_spool { (profile : Profile) (S : Spool) (facts : List Fact) → IsSpool profile S → AllByRecursion (Holds S) facts → Together facts }
+    ensures of_spool { (limit : ℕ) (S : Spool) (facts : List Fact) → IsSpool limit S → AllByRecursion (Holds S) facts → Together facts }
     ensures only_if { (profile : Profile) (prompts : List Asked) (answers : List Response)
         → SomePermits profile prompts answers → FitsAll profile start.visible prompts answers × Together (facts_of_session profile.marks prompts answers) }
     ensures exactly_if { (profile : Profile) (prompts : List Asked) (answers : List Response) → size (facts_of_session profile.marks prompts answers) < 2 ^ 210
@@ -165,7 +165,7 @@ pub fn permitted_where_all_stands_together()
         → FitsAll profile start.visible prompts answers → size (facts_of_session profile.marks prompts answers) < 2 ^ 210 → (G : Spool) × IsGiven (facts_of_session profile.marks prompts answers) G }
     ensures given_permits { (profile : Profile) (G : Spool) (prompts : List Asked) (answers : List Response)
         → FitsAll profile start.visible prompts answers → Together (facts_of_session profile.marks prompts answers) → size (facts_of_session profile.marks prompts answers) < 2 ^ 210
-        → IsGiven (facts_of_session profile.marks prompts answers) G → IsSpool profile G × Run profile G start prompts answers }
+        → IsGiven (facts_of_session profile.marks prompts answers) G → IsSpool profile.limit G × Run profile G start prompts answers }
 {}
 
 /// Behind answers that some spool permits, some spool permits one more exactly if it fits and what it
@@ -238,7 +238,7 @@ pub fn pairing_ends_in_class()
 /// streams.
 pub fn pairing_to_the_end_is_explained()
     ensures { (profile : Profile) (S : Spool) (client server : List ℕ) (pairs : List Paired) (unanswered : ℕ)
-        → IsPairing client server pairs (end unanswered) → IsSpool profile S
+        → IsPairing client server pairs (end unanswered) → IsSpool profile.limit S
         → Run profile S start (prompts_of client) (responses_of pairs) → Explains profile S client server (length pairs) }
 {}
 
@@ -365,7 +365,7 @@ pub fn core_is_found()
 /// a contradiction conflicts with those before it. That there is a group says no more of a spool that
 /// has it.
 pub fn contradiction_conflicts_with_those_before()
-    ensures group { (profile : Profile) (S : Spool) (name : Name) → IsSpool profile S → IsGroup S name → AllByRecursion (Holds S) (a_group profile name) }
+    ensures group { (profile : Profile) (S : Spool) (name : Name) → IsSpool profile.limit S → IsGroup S name → AllByRecursion (Holds S) (a_group profile name) }
     ensures session { (profile : Profile) (prompts : List Asked) (answers : List Response) → FitsAll profile start.visible prompts answers
         → SomePermits profile prompts answers ↔ SomeHas profile (flat_map (told profile) (placed_from start.visible Nowhere prompts answers)) }
     ensures bad { (profile : Profile) (prompts : List Asked) (answers : List Response) (asked : Asked) (response : Response)

@@ -8,9 +8,8 @@ use Rattle.std.specs.FinMap.{get, insert, empty, get-empty}
 use Rattle.std.proofs.lemmas.Bool.{true≢false, and_parts}
 use Rattle.nntp_wire.specs.Decided.{is_group_name, is_message_id}
 use Rattle.nntp_article.specs.Article.{Id}
-use Rattle.nntp_article.specs.Machine.{is_num}
+use Rattle.nntp_article.specs.Machine.{is_article_number}
 use Rattle.nntp_article.specs.Spool.{Name, Spool, Numbers, Text, numbers, is_line}
-use Rattle.nntp_article.specs.declared.profile.Profile.{Profile}
 use Rattle.nntp_spool.specs.declared.value.spool_fault.SpoolFault.TheVariants as faults
 use Rattle.nntp_spool.specs.Numbers.{has_id}
 use Rattle.nntp_spool.specs.Content.{is_head_of, with_group, with_article, no_spool}
@@ -32,43 +31,43 @@ not_not false e = absurd (true≢false e)
 none : {A : Type 0} (x : A) → None ≡ Some x → ⊥
 none x e = cc
 
-pub nothing : (profile : Profile) → IsContent profile no_spool
-nothing profile = record {
+pub nothing : (limit : ℕ) → IsContent limit no_spool
+nothing limit = record {
   groups = λ name N g. absurd (none N (sym (get-empty (slice_cmp nat_cmp) name) ∙ g));
   articles = λ id t g. absurd (none t (sym (get-empty (slice_cmp nat_cmp) id) ∙ g));
 }
 
-module _ (profile : Profile) (S : Spool) (content : IsContent profile S) where
-  with_named : (name : Name) (N : Numbers) → IsNamed profile name N → IsContent profile (with_group S name N)
+module _ (limit : ℕ) (S : Spool) (content : IsContent limit S) where
+  with_named : (name : Name) (N : Numbers) → IsNamed limit name N → IsContent limit (with_group S name N)
   with_named name N named = record { groups = λ q M g. by q M (got_more nat_list_cmp_total octet_keys S.groups name N q M g); articles = content.articles }
     where
-      by : (q : Name) (M : Numbers) → ((q ≡ name) × (M ≡ N)) ⊎ (get S.groups q ≡ Some M) → IsNamed profile q M
-      by q M (inl e) = record { is_name = ap is_group_name e.0 ∙ named.is_name; numbers = subst (AreNumbers profile) (sym e.1) named.numbers }
+      by : (q : Name) (M : Numbers) → ((q ≡ name) × (M ≡ N)) ⊎ (get S.groups q ≡ Some M) → IsNamed limit q M
+      by q M (inl e) = record { is_name = ap is_group_name e.0 ∙ named.is_name; numbers = subst (AreNumbers limit) (sym e.1) named.numbers }
       by q M (inr g) = content.groups q M g
 
-  pub group_added : (name : Name) → group_fault S name ≡ None → IsContent profile (with_group S name empty)
+  pub group_added : (name : Name) → group_fault S name ≡ None → IsContent limit (with_group S name empty)
   group_added name e =
       let a = no_fault (not (is_group_name name)) faults.BadName _ e in
-      with_named name empty (record { is_name = not_not (is_group_name name) a.0; numbers = no_numbers profile })
+      with_named name empty (record { is_name = not_not (is_group_name name) a.0; numbers = no_numbers limit })
 
-  pub number_added : (name : Name) (n : ℕ) (id : Id) → number_fault profile S name n id ≡ None → IsContent profile (with_group S name (insert (numbers S name) n id))
+  pub number_added : (name : Name) (n : ℕ) (id : Id) → number_fault limit S name n id ≡ None → IsContent limit (with_group S name (insert (numbers S name) n id))
   number_added name n id e =
       let a = no_fault (is_none (get S.groups name)) faults.UnknownGroup _ e in
-      let b = no_fault (not (is_num profile n)) faults.BadNumber _ a.1 in
+      let b = no_fault (not (is_article_number limit n)) faults.BadNumber _ a.1 in
       let c = no_fault (not (is_message_id id)) faults.BadId _ b.1 in
       let d = no_fault (is_some (get (numbers S name) n)) faults.DuplicateNumber _ c.1 in
       let f = no_fault (has_id (numbers S name) id) faults.DuplicateId None d.1 in
-      by (get S.groups name) refl a.0 (not_not (is_num profile n) b.0) (not_not (is_message_id id) c.0) f.0
+      by (get S.groups name) refl a.0 (not_not (is_article_number limit n) b.0) (not_not (is_message_id id) c.0) f.0
     where
-      by : (o : Option Numbers) → get S.groups name ≡ o → is_none (get S.groups name) ≡ false → is_num profile n ≡ true → is_message_id id ≡ true → has_id (numbers S name) id ≡ false
-          → IsContent profile (with_group S name (insert (numbers S name) n id))
+      by : (o : Option Numbers) → get S.groups name ≡ o → is_none (get S.groups name) ≡ false → is_article_number limit n ≡ true → is_message_id id ≡ true → has_id (numbers S name) id ≡ false
+          → IsContent limit (with_group S name (insert (numbers S name) n id))
       by None g some num is_id fresh = absurd (true≢false (sym (ap is_none g) ∙ some))
       by (Some N) g some num is_id fresh =
           let named = content.groups name N g in
           let same : numbers S name ≡ N = ap (λ o. unwrap_or o empty) g in
-          with_named name (insert (numbers S name) n id) (record { is_name = named.is_name; numbers = one_more profile (numbers S name) n id (subst (AreNumbers profile) (sym same) named.numbers) num is_id fresh })
+          with_named name (insert (numbers S name) n id) (record { is_name = named.is_name; numbers = one_more limit (numbers S name) n id (subst (AreNumbers limit) (sym same) named.numbers) num is_id fresh })
 
-  pub article_added : (id : Id) (t : Text) → article_fault S id t ≡ None → IsContent profile (with_article S id t)
+  pub article_added : (id : Id) (t : Text) → article_fault S id t ≡ None → IsContent limit (with_article S id t)
   article_added id t e =
       let a = no_fault (not (is_message_id id)) faults.BadId _ e in
       let b = no_fault (not (list_all is_line t.head && is_head_of id t.head)) faults.BadHead _ a.1 in

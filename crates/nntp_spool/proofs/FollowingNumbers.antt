@@ -3,15 +3,14 @@ use Rattle.std.specs.Prelude.{◌≡◌, ℕ, true, false, List, [], ◌∷◌, 
 use Rattle.std.specs.FinMap.{insert}
 use Rattle.nntp_wire.specs.Decided.{is_message_id}
 use Rattle.nntp_article.specs.Spool.{Numbers}
-use Rattle.nntp_article.specs.declared.profile.Profile.{Profile}
-use Rattle.nntp_article.specs.Machine.{is_num}
+use Rattle.nntp_article.specs.Machine.{is_article_number}
 use Rattle.nntp_spool.specs.Text.{number_line}
 use Rattle.nntp_spool.specs.Ascending.{is_last}
 use Rattle.nntp_spool.specs.Numbers.{has_id}
 
 -- a number that may stand behind others
-pub record Follows (profile : Profile) (N : Numbers) (n : ℕ) (id : List ℕ) : Type 0 where
-  pub num : is_num profile n ≡ true
+pub record Follows (limit : ℕ) (N : Numbers) (n : ℕ) (id : List ℕ) : Type 0 where
+  pub num : is_article_number limit n ≡ true
   pub is_id : is_message_id id ≡ true
   pub last : is_last N n ≡ true
   pub fresh : has_id N id ≡ false
@@ -20,9 +19,9 @@ abbrev pub number_lines : List (ℕ × List ℕ) → List (List ℕ)
 number_lines es = map (λ e. number_line e.0 e.1) es
 
 -- each may stand behind those before it
-abbrev pub AllFollow : Profile → Numbers → List (ℕ × List ℕ) → Type 0
-AllFollow profile N [] = Unit {0}
-AllFollow profile N (e ∷ es) = Follows profile N e.0 e.1 × AllFollow profile (insert N e.0 e.1) es
+abbrev pub AllFollow : ℕ → Numbers → List (ℕ × List ℕ) → Type 0
+AllFollow limit N [] = Unit {0}
+AllFollow limit N (e ∷ es) = Follows limit N e.0 e.1 × AllFollow limit (insert N e.0 e.1) es
 
 abbrev pub with_all : Numbers → List (ℕ × List ℕ) → Numbers
 with_all N [] = N

@@ -1,37 +1,34 @@
--- A text that is read is that of the spool it is read as, and the text of a spool is read as this spool.
-use Rattle.std.proofs.Common.{◌≡◌, inl, inr, ℕ, zero, suc, ◌+◌, ◌^◌, ◌<◌, Bool, true, false, cond, List, [], ◌∷◌, ◌++◌, Some, Result, Ok, Err, length, refl, sym, ap, subst, ◌∙◌, append_assoc, arith}
-use Rattle.std.specs.Prelude.{codes, bytes_eq}
+-- The groups and articles that are read are those that are written, and those that are written are read.
+use Rattle.std.proofs.Common.{◌≡◌, inl, inr, ℕ, zero, suc, ◌+◌, ◌^◌, ◌<◌, Bool, true, false, cond, List, [], ◌∷◌, ◌++◌, Some, Result, Ok, length, refl, sym, ap, subst, ◌∙◌, append_assoc, arith}
+use Rattle.std.specs.Prelude.{codes}
 use Rattle.std.specs.declared.cmp.Ordering.{Ordering}
 use Rattle.std.specs.Ordering.{nat_cmp, is_lt}
 use Rattle.std.specs.Cmp.Lexicographic.{slice_cmp, nat_list_cmp_total}
-use Rattle.std.specs.List.{list_all, flat_map, AllByRecursion, join_with_byte}
+use Rattle.std.specs.List.{list_all, flat_map, AllByRecursion}
 use Rattle.std.specs.FinMap.{FinMap, get, insert, empty, entries, find, is_sorted, entries_sorted, get-entries, len-empty, len-entries, same_entries_map}
 use Rattle.std.proofs.lemmas.Bool.{true≢false, and_parts}
 use Rattle.std.proofs.lemmas.List.{append-nil, nil_from_length}
-use Rattle.std.proofs.lemmas.List.Splits.{join_with_byte-slice_split}
-use Rattle.std.proofs.lemmas.Slice.Eq.{bytes_eq-Decides}
 use Rattle.nntp_article.specs.Article.{Line, Id, is_empty}
 use Rattle.nntp_article.specs.Spool.{Name, Spool, Numbers, Text}
-use Rattle.nntp_article.specs.declared.profile.Profile.{Profile}
 use Rattle.nntp_spool.specs.declared.text.read_fault.ReadFault.{ReadFault}
 use Rattle.nntp_spool.specs.declared.text.read_fault.Kind.TheVariants as kinds
-use Rattle.nntp_spool.specs.Text.{HasLineCounts, group_lines, article_lines, spool_lines, spool_text, with_line_ends}
-use Rattle.nntp_spool.specs.Reading.{◌>>=◌, fault, Place, Turn, line_at, segments_of, item_at, items_at, turn_then, is_end, spool_at}
+use Rattle.nntp_spool.specs.Text.{HasLineCounts, group_lines, article_lines, content_lines}
+use Rattle.nntp_spool.specs.Reading.{◌>>=◌, fault, Place, Turn, item_at, items_at, turn_then, is_end, content_at}
 use Rattle.nntp_spool.specs.Ascending.{is_last}
 use Rattle.nntp_spool.specs.Content.{with_group, with_article, no_spool, ids_have_articles}
 use Rattle.nntp_spool.specs.Content.{IsNamed, IsArticle, IsContent}
 use Rattle.nntp_spool.proofs.ShownMaps.{spool_is, octet_keys}
 use Rattle.nntp_spool.proofs.MapEntries.{is_passed, less_before, find_middle, all_got, entries-insert_last}
 use Rattle.nntp_spool.proofs.NumbersInOrder.{few_numbers}
-use Rattle.nntp_spool.proofs.NumbersRead.{bind_ok, ok_is, done, line_takes}
+use Rattle.nntp_spool.proofs.NumbersRead.{bind_ok, ok_is, done, fits_test}
 use Rattle.nntp_spool.proofs.ItemsRead.{TakenItem, item_takes, item_group_again, item_article_again, item_end_again}
 
 -- ---- what was read
 
-record Taken (profile : Profile) (articles : Bool) (S : Spool) (p : Place) (x : Spool × Place) : Type 0 where
+record Taken (limit : ℕ) (articles : Bool) (S : Spool) (p : Place) (x : Spool × Place) : Type 0 where
   groups : List (Name × Numbers)
   texts : List (Id × Text)
-  named : AllByRecursion (λ g. IsNamed profile g.0 g.1) groups
+  named : AllByRecursion (λ g. IsNamed limit g.0 g.1) groups
   are_articles : AllByRecursion (λ a. IsArticle a.0 a.1) texts
   none : articles ≡ true → groups ≡ []
   with_groups : entries x.0.groups ≡ entries S.groups ++ groups
@@ -39,16 +36,16 @@ record Taken (profile : Profile) (articles : Bool) (S : Spool) (p : Place) (x : 
   known : ids_have_articles x.0 ≡ true
   segments : p.segments ≡ flat_map group_lines groups ++ (flat_map article_lines texts ++ codes "end" ∷ x.1.segments)
 
-items_take : (profile : Profile) (most : ℕ) (articles : Bool) (S : Spool) (p : Place) (x : Spool × Place) → profile.limit < 2 ^ 64 → items_at profile most articles S p ≡ Ok x → Taken profile articles S p x
-items_take profile zero articles S p x le e = absurd cc
-items_take profile (suc most) articles S p x le e =
-    let a = bind_ok (item_at profile articles S p) (turn_then (items_at profile most)) x e in
-    taken a.0 (item_takes profile articles S p a.0 le a.1) a.2 (λ b T q f. items_take profile most b T q x le f)
+items_take : (limit most : ℕ) (articles : Bool) (S : Spool) (p : Place) (x : Spool × Place) → limit < 2 ^ 64 → items_at limit most articles S p ≡ Ok x → Taken limit articles S p x
+items_take limit zero articles S p x le e = absurd cc
+items_take limit (suc most) articles S p x le e =
+    let a = bind_ok (item_at limit articles S p) (turn_then (items_at limit most)) x e in
+    taken a.0 (item_takes limit articles S p a.0 le a.1) a.2 (λ b T q f. items_take limit most b T q x le f)
   where
-    taken : (turn : Turn) → TakenItem profile articles S p turn → turn_then (items_at profile most) turn ≡ Ok x
-        → ((b : Bool) (T : Spool) (q : Place) → items_at profile most b T q ≡ Ok x → Taken profile b T q x) → Taken profile articles S p x
+    taken : (turn : Turn) → TakenItem limit articles S p turn → turn_then (items_at limit most) turn ≡ Ok x
+        → ((b : Bool) (T : Spool) (q : Place) → items_at limit most b T q ≡ Ok x → Taken limit b T q x) → Taken limit articles S p x
     taken turn (inl g) f more =
-        let rest = more false (with_group S g.name g.numbers) g.next (ap (turn_then (items_at profile most)) (sym g.is) ∙ f) in
+        let rest = more false (with_group S g.name g.numbers) g.next (ap (turn_then (items_at limit most)) (sym g.is) ∙ f) in
         record {
           groups = (g.name, g.numbers) ∷ rest.groups;
           texts = rest.texts;
@@ -61,7 +58,7 @@ items_take profile (suc most) articles S p x le e =
           segments = g.segments ∙ ap (λ (t : List Line). group_lines (g.name, g.numbers) ++ t) rest.segments ∙ sym (append_assoc (group_lines (g.name, g.numbers)) (flat_map group_lines rest.groups) (flat_map article_lines rest.texts ++ codes "end" ∷ x.1.segments));
         }
     taken turn (inr (inl a)) f more =
-        let rest = more true (with_article S a.id a.text) a.next (ap (turn_then (items_at profile most)) (sym a.is) ∙ f) in
+        let rest = more true (with_article S a.id a.text) a.next (ap (turn_then (items_at limit most)) (sym a.is) ∙ f) in
         let none = rest.none refl in
         record {
           groups = [];
@@ -76,7 +73,7 @@ items_take profile (suc most) articles S p x le e =
               ∙ sym (append_assoc (article_lines (a.id, a.text)) (flat_map article_lines rest.texts) (codes "end" ∷ x.1.segments));
         }
     taken turn (inr (inr d)) f more =
-        let same : ◌≡◌ {A = Spool × Place} (S, d.next) x = ok_is (S, d.next) x (ap (turn_then (items_at profile most)) (sym d.is) ∙ f) in
+        let same : ◌≡◌ {A = Spool × Place} (S, d.next) x = ok_is (S, d.next) x (ap (turn_then (items_at limit most)) (sym d.is) ∙ f) in
         record {
           groups = [];
           texts = [];
@@ -92,11 +89,6 @@ items_take profile (suc most) articles S p x le e =
 pub no_entries : {K X : Type 0} (R : K → K → Ordering) → entries (empty {X = X} {R = R}) ≡ []
 no_entries {X = X} R = nil_from_length (entries (empty {R = R})) (sym (len-entries (empty {R = R})) ∙ len-empty R X)
 
-joined : (lines : List Line) → join_with_byte 10 (lines ++ [] ∷ []) ≡ with_line_ends lines
-joined [] = refl
-joined (l ∷ []) = ap (λ (t : List ℕ). t) (sym (append-nil (l ++ 10 ∷ [])))
-joined (l ∷ k ∷ lines) = ap (λ (t : List ℕ). l ++ 10 ∷ t) (joined (k ∷ lines)) ∙ sym (append_assoc l (10 ∷ []) (with_line_ends (k ∷ lines)))
-
 empty_is : (xs : List Line) → is_empty xs ≡ true → xs ≡ []
 empty_is [] e = refl
 empty_is (x ∷ xs) e = absurd (true≢false (sym e))
@@ -111,45 +103,34 @@ end_is (segment ∷ segments) e =
     let both = and_parts (is_empty segment) (is_empty segments) e in
     ap (λ (t : Line). t ∷ segments) (empty_line_is segment both.0) ∙ ap (λ (t : List Line). [] ∷ t) (empty_is segments both.1)
 
-fits_test : {A : Type 0} (b : Bool) (r : Result A ReadFault) (f : ReadFault) (y : A) → cond b r (Err f) ≡ Ok y → (b ≡ true) × (r ≡ Ok y)
-fits_test true r f y e = (refl, e)
-fits_test false r f y e = absurd cc
-
--- a text that is read
-pub record ReadAs (profile : Profile) (bytes : List ℕ) (S : Spool) : Type 0 where
-  pub content : IsContent profile S
+-- what stands behind the lines of the limit, and is read
+pub record ContentTaken (limit : ℕ) (p : Place) (S : Spool) : Type 0 where
+  pub content : IsContent limit S
   pub known : ids_have_articles S ≡ true
-  pub text : bytes ≡ spool_text S
+  pub segments : p.segments ≡ content_lines S ++ [] ∷ []
 
-pub text_takes : (profile : Profile) (bytes : List ℕ) (S : Spool) → profile.limit < 2 ^ 64 → spool_at profile bytes ≡ Ok S → ReadAs profile bytes S
-unfolding spool_at
-text_takes profile bytes S le e =
-    let start : Place = record { line = 1; segments = segments_of bytes } in
+pub content_takes : (limit most : ℕ) (p : Place) (S : Spool) → limit < 2 ^ 64 → content_at limit most p ≡ Ok S → ContentTaken limit p S
+unfolding content_at
+content_takes limit most p S le e =
     let last_step = λ (s : Spool × Place). cond (is_end s.1.segments) (done s.0) (fault s.1.line kinds.Shape) in
-    let items = λ (l : Line × Place). cond (bytes_eq l.0 (codes "spool 1")) (items_at profile (length bytes) false no_spool l.1) (fault 1 kinds.Shape) in
-    let a = bind_ok (line_at start) (λ l. items l >>= last_step) S e in
-    let b = bind_ok (items a.0) last_step S a.2 in
-    let c = fits_test (bytes_eq a.0.0 (codes "spool 1")) (items_at profile (length bytes) false no_spool a.0.1) (record { line = 1; kind = kinds.Shape }) b.0 b.1 in
+    let b = bind_ok (items_at limit most false no_spool p) last_step S e in
     let d = fits_test (is_end b.0.1.segments) (done b.0.0) (record { line = b.0.1.line; kind = kinds.Shape }) S b.2 in
-    let t = items_take profile (length bytes) false no_spool a.0.1 b.0 le c.1 in
+    let t = items_take limit most false no_spool p b.0 le b.1 in
     let same : b.0.0 ≡ S = ok_is b.0.0 S d.1 in
     let groups : entries S.groups ≡ t.groups = ap (λ (T : Spool). entries T.groups) (sym same) ∙ t.with_groups ∙ ap (λ (es : List (Name × Numbers)). es ++ t.groups) (no_entries (slice_cmp nat_cmp)) in
     let texts : entries S.articles ≡ t.texts = ap (λ (T : Spool). entries T.articles) (sym same) ∙ t.with_texts ∙ ap (λ (es : List (Id × Text)). es ++ t.texts) (no_entries (slice_cmp nat_cmp)) in
-    let lines : segments_of bytes ≡ spool_lines S ++ [] ∷ [] =
-    line_takes start a.0 a.1 ∙ ap (λ (l : Line). l ∷ a.0.1.segments) ((bytes_eq-Decides a.0.0 (codes "spool 1")).0 c.0)
-    ∙ ap (λ (ps : List Line). codes "spool 1" ∷ ps) (t.segments
-    ∙ ap (λ (ps : List Line). flat_map group_lines t.groups ++ (flat_map article_lines t.texts ++ codes "end" ∷ ps)) (end_is b.0.1.segments d.0)
-    ∙ ap (λ (es : List (Name × Numbers)). flat_map group_lines es ++ (flat_map article_lines t.texts ++ codes "end" ∷ [] ∷ [])) (sym groups)
-    ∙ ap (λ (es : List (Id × Text)). flat_map group_lines (entries S.groups) ++ (flat_map article_lines es ++ codes "end" ∷ [] ∷ [])) (sym texts)
-    ∙ ap (λ (ps : List Line). flat_map group_lines (entries S.groups) ++ ps) (sym (append_assoc (flat_map article_lines (entries S.articles)) (codes "end" ∷ []) ([] ∷ [])))
-    ∙ sym (append_assoc (flat_map group_lines (entries S.groups)) (flat_map article_lines (entries S.articles) ++ codes "end" ∷ []) ([] ∷ []))) in
     record {
       content = record {
-        groups = all_got nat_list_cmp_total octet_keys (λ name N. IsNamed profile name N) S.groups (subst (AllByRecursion (λ g. IsNamed profile g.0 g.1)) (sym groups) t.named);
+        groups = all_got nat_list_cmp_total octet_keys (λ name N. IsNamed limit name N) S.groups (subst (AllByRecursion (λ g. IsNamed limit g.0 g.1)) (sym groups) t.named);
         articles = all_got nat_list_cmp_total octet_keys (λ id text. IsArticle id text) S.articles (subst (AllByRecursion (λ a. IsArticle a.0 a.1)) (sym texts) t.are_articles);
       };
       known = ap ids_have_articles (sym same) ∙ t.known;
-      text = sym (join_with_byte-slice_split 10 bytes) ∙ ap (join_with_byte 10) lines ∙ joined (spool_lines S);
+      segments = t.segments
+          ∙ ap (λ (ps : List Line). flat_map group_lines t.groups ++ (flat_map article_lines t.texts ++ codes "end" ∷ ps)) (end_is b.0.1.segments d.0)
+          ∙ ap (λ (es : List (Name × Numbers)). flat_map group_lines es ++ (flat_map article_lines t.texts ++ codes "end" ∷ [] ∷ [])) (sym groups)
+          ∙ ap (λ (es : List (Id × Text)). flat_map group_lines (entries S.groups) ++ (flat_map article_lines es ++ codes "end" ∷ [] ∷ [])) (sym texts)
+          ∙ ap (λ (ps : List Line). flat_map group_lines (entries S.groups) ++ ps) (sym (append_assoc (flat_map article_lines (entries S.articles)) (codes "end" ∷ []) ([] ∷ [])))
+          ∙ sym (append_assoc (flat_map group_lines (entries S.groups)) (flat_map article_lines (entries S.articles) ++ codes "end" ∷ []) ([] ∷ []));
     }
 
 -- ---- what is written is read
@@ -179,26 +160,26 @@ pub first_lines : (groups : List (Name × Numbers)) (texts : List (Id × Text)) 
 first_lines [] texts = first_tail texts
 first_lines (g ∷ groups) texts = (_, _, refl)
 
-module _ (profile : Profile) (F : Spool) (le : profile.limit < 2 ^ 64) (content : IsContent profile F) (sizes : HasLineCounts F) (known : ids_have_articles F ≡ true) where
+module _ (limit : ℕ) (F : Spool) (le : limit < 2 ^ 64) (content : IsContent limit F) (sizes : HasLineCounts F) (known : ids_have_articles F ≡ true) where
   abbrev pub ReadsTo : ℕ → Bool → Spool → ℕ → List Line → Type 0
-  ReadsTo most articles S line segments = (end : ℕ) × (items_at profile most articles S (record { line = line; segments = segments }) ≡ Ok (F, record { line = end; segments = [] ∷ [] }))
+  ReadsTo most articles S line segments = (end : ℕ) × (items_at limit most articles S (record { line = line; segments = segments }) ≡ Ok (F, record { line = end; segments = [] ∷ [] }))
 
   texts_again : (most line : ℕ) (articles : Bool) (S : Spool) (texts : List (Id × Text)) → S.groups ≡ F.groups → entries F.articles ≡ entries S.articles ++ texts → length texts < most → ReadsTo most articles S line (tail_lines texts)
   texts_again zero line articles S texts g t lt = absurd (omega arith)
   texts_again (suc most) line articles S [] g t lt =
       let same : S ≡ F = spool_is S F g (same_entries_map S.articles F.articles (sym (append-nil (entries S.articles)) ∙ sym t)) in
-      (line + 1, rw (item_end_again profile line articles S [] [] (ap ids_have_articles same ∙ known)) (ap (λ (T : Spool). done (T, record { line = line + 1; segments = [] ∷ [] })) same))
+      (line + 1, rw (item_end_again limit line articles S [] [] (ap ids_have_articles same ∙ known)) (ap (λ (T : Spool). done (T, record { line = line + 1; segments = [] ∷ [] })) same))
   texts_again (suc most) line articles S (a ∷ texts) g t lt =
       let at = placed F.articles (entries S.articles) a texts t in
       let size = sizes a.0 a.1 at.here in
       let front = first_tail texts in
-      let one = item_article_again profile line articles S a.0 a.1 front.0 front.1 size.0 size.1 (content.articles a.0 a.1 at.here) at.less in
+      let one = item_article_again limit line articles S a.0 a.1 front.0 front.1 size.0 size.1 (content.articles a.0 a.1 at.here) at.less in
       let split : tail_lines (a ∷ texts) ≡ article_lines a ++ front.0 ∷ front.1 = append_assoc (article_lines a) (flat_map article_lines texts) (codes "end" ∷ [] ∷ []) ∙ ap (λ (ps : List Line). article_lines a ++ ps) front.2 in
       let rest = texts_again most one.0 true (with_article S a.0 a.1) texts g (next_entry S.articles F.articles a.0 a.1 texts t at.less) (omega arith) in (
         rest.0,
-        ap (λ (ps : List Line). items_at profile (suc most) articles S (record { line = line; segments = ps })) split
-            ∙ ap (λ (r : Result Turn ReadFault). r >>= turn_then (items_at profile most)) one.1
-            ∙ ap (λ (ps : List Line). items_at profile most true (with_article S a.0 a.1) (record { line = one.0; segments = ps })) (sym front.2)
+        ap (λ (ps : List Line). items_at limit (suc most) articles S (record { line = line; segments = ps })) split
+            ∙ ap (λ (r : Result Turn ReadFault). r >>= turn_then (items_at limit most)) one.1
+            ∙ ap (λ (ps : List Line). items_at limit most true (with_article S a.0 a.1) (record { line = one.0; segments = ps })) (sym front.2)
             ∙ rest.1,
       )
 
@@ -209,12 +190,12 @@ module _ (profile : Profile) (F : Spool) (le : profile.limit < 2 ^ 64) (content 
   groups_again (suc most) line S (n ∷ groups) texts g t lt =
       let at = placed F.groups (entries S.groups) n groups g in
       let front = first_lines groups texts in
-      let one = item_group_again profile line S n.0 n.1 front.0 front.1 le (few_numbers profile n.1 le (content.groups n.0 n.1 at.here).numbers) (content.groups n.0 n.1 at.here) at.less in
+      let one = item_group_again limit line S n.0 n.1 front.0 front.1 le (few_numbers limit n.1 le (content.groups n.0 n.1 at.here).numbers) (content.groups n.0 n.1 at.here) at.less in
       let split : flat_map group_lines (n ∷ groups) ++ tail_lines texts ≡ group_lines n ++ front.0 ∷ front.1 = append_assoc (group_lines n) (flat_map group_lines groups) (tail_lines texts) ∙ ap (λ (ps : List Line). group_lines n ++ ps) front.2 in
       let rest = groups_again most one.0 (with_group S n.0 n.1) groups texts (next_entry S.groups F.groups n.0 n.1 groups g at.less) t (omega arith) in (
         rest.0,
-        ap (λ (ps : List Line). items_at profile (suc most) false S (record { line = line; segments = ps })) split
-            ∙ ap (λ (r : Result Turn ReadFault). r >>= turn_then (items_at profile most)) one.1
-            ∙ ap (λ (ps : List Line). items_at profile most false (with_group S n.0 n.1) (record { line = one.0; segments = ps })) (sym front.2)
+        ap (λ (ps : List Line). items_at limit (suc most) false S (record { line = line; segments = ps })) split
+            ∙ ap (λ (r : Result Turn ReadFault). r >>= turn_then (items_at limit most)) one.1
+            ∙ ap (λ (ps : List Line). items_at limit most false (with_group S n.0 n.1) (record { line = one.0; segments = ps })) (sym front.2)
             ∙ rest.1,
       )

@@ -6,7 +6,6 @@ use Rattle.std.specs.FinMap.{empty, entries, len, len-entries}
 use Rattle.nntp_wire.specs.Decided.{is_group_name, is_message_id}
 use Rattle.nntp_article.specs.Article.{Line, Id}
 use Rattle.nntp_article.specs.Spool.{Name, Spool, Numbers, Text, is_line}
-use Rattle.nntp_article.specs.declared.profile.Profile.{Profile}
 use Rattle.nntp_spool.specs.declared.text.read_fault.ReadFault.{ReadFault}
 use Rattle.nntp_spool.specs.declared.text.read_fault.Kind.TheVariants as kinds
 use Rattle.nntp_spool.specs.Text.{group_line, article_line, barred, group_lines, article_lines}
@@ -24,28 +23,28 @@ use Rattle.nntp_spool.proofs.NumbersInOrder.{entries-empty, no_numbers, all_more
 
 -- ---- what was read
 
-record GroupTaken (profile : Profile) (name : Name) (count : ℕ) (S : Spool) (p : Place) (x : Spool × Place) : Type 0 where
+record GroupTaken (limit : ℕ) (name : Name) (count : ℕ) (S : Spool) (p : Place) (x : Spool × Place) : Type 0 where
   numbers : Numbers
-  named : IsNamed profile name numbers
+  named : IsNamed limit name numbers
   last : is_last S.groups name ≡ true
   made : x.0 ≡ with_group S name numbers
   segments : group_line name count ∷ p.segments ≡ group_lines (name, numbers) ++ x.1.segments
 
-group_takes : (profile : Profile) (line : ℕ) (name : Name) (count : ℕ) (S : Spool) (p : Place) (x : Spool × Place) → profile.limit < 2 ^ 64 → group_at profile line name count S p ≡ Ok x → GroupTaken profile name count S p x
+group_takes : (limit line : ℕ) (name : Name) (count : ℕ) (S : Spool) (p : Place) (x : Spool × Place) → limit < 2 ^ 64 → group_at limit line name count S p ≡ Ok x → GroupTaken limit name count S p x
 unfolding group_at
-group_takes profile line name count S p x le e =
+group_takes limit line name count S p x le e =
     let rest = λ (N : Numbers × Place). done (with_group S name N.0, N.1) in
     let a = unless_ok (is_group_name name) (record { line = line; kind = kinds.Name }) _ x e in
     let b = unless_ok (is_last S.groups name) (record { line = line; kind = kinds.Order }) _ x a.1 in
-    let c = bind_ok (numbers_at profile count p) rest x b.1 in
-    let taken = numbers_take profile count empty p c.0 le c.1 in
+    let c = bind_ok (numbers_at limit count p) rest x b.1 in
+    let taken = numbers_take limit count empty p c.0 le c.1 in
     let es = taken.0 in
     let same : ◌≡◌ {A = Spool × Place} (with_group S name c.0.0, c.0.1) x = ok_is (with_group S name c.0.0, c.0.1) x c.2 in
-    let listed : entries c.0.0 ≡ es = ap entries taken.3 ∙ entries-with_all profile empty es taken.1 ∙ ap (λ fs. fs ++ es) (entries-empty empty refl) in
+    let listed : entries c.0.0 ≡ es = ap entries taken.3 ∙ entries-with_all limit empty es taken.1 ∙ ap (λ fs. fs ++ es) (entries-empty empty refl) in
     let counted : count ≡ len c.0.0 = sym taken.2 ∙ ap length (sym listed) ∙ sym (len-entries c.0.0) in
     record {
       numbers = c.0.0;
-      named = record { is_name = a.0; numbers = subst (AreNumbers profile) (sym taken.3) (all_more profile empty es (no_numbers profile) taken.1) };
+      named = record { is_name = a.0; numbers = subst (AreNumbers limit) (sym taken.3) (all_more limit empty es (no_numbers limit) taken.1) };
       last = b.0;
       made = sym (ap (λ (y : Spool × Place). y.0) same);
       segments = ap (λ (t : List Line). group_line name count ∷ t) taken.4
@@ -93,12 +92,12 @@ article_takes line id heads bodies S p x e =
     fitting false d r y e = absurd cc
 
 -- what an item was read as
-pub record TakenGroup (profile : Profile) (articles : Bool) (S : Spool) (p : Place) (turn : Turn) : Type 0 where
+pub record TakenGroup (limit : ℕ) (articles : Bool) (S : Spool) (p : Place) (turn : Turn) : Type 0 where
   pub name : Name
   pub numbers : Numbers
   pub next : Place
   pub none : articles ≡ false
-  pub named : IsNamed profile name numbers
+  pub named : IsNamed limit name numbers
   pub last : is_last S.groups name ≡ true
   pub is : turn ≡ On false (with_group S name numbers) next
   pub segments : p.segments ≡ group_lines (name, numbers) ++ next.segments
@@ -118,21 +117,21 @@ pub record TakenEnd (S : Spool) (p : Place) (turn : Turn) : Type 0 where
   pub is : turn ≡ Done S next
   pub segments : p.segments ≡ codes "end" ∷ next.segments
 
-abbrev pub TakenItem : Profile → Bool → Spool → Place → Turn → Type 0
-TakenItem profile articles S p turn = TakenGroup profile articles S p turn ⊎ (TakenArticle S p turn ⊎ TakenEnd S p turn)
+abbrev pub TakenItem : ℕ → Bool → Spool → Place → Turn → Type 0
+TakenItem limit articles S p turn = TakenGroup limit articles S p turn ⊎ (TakenArticle S p turn ⊎ TakenEnd S p turn)
 
-pub item_takes : (profile : Profile) (articles : Bool) (S : Spool) (p : Place) (turn : Turn) → profile.limit < 2 ^ 64 → item_at profile articles S p ≡ Ok turn → TakenItem profile articles S p turn
+pub item_takes : (limit : ℕ) (articles : Bool) (S : Spool) (p : Place) (turn : Turn) → limit < 2 ^ 64 → item_at limit articles S p ≡ Ok turn → TakenItem limit articles S p turn
 unfolding item_at
-item_takes profile articles S p turn le e =
-    let a = bind_ok (line_at p) (λ l. shaped p.line (opening_of (fields_of l.0)) >>= item_then profile p.line articles S l.1) turn e in
-    let b = bind_ok (shaped p.line (opening_of (fields_of a.0.0))) (item_then profile p.line articles S a.0.1) turn a.2 in
+item_takes limit articles S p turn le e =
+    let a = bind_ok (line_at p) (λ l. shaped p.line (opening_of (fields_of l.0)) >>= item_then limit p.line articles S l.1) turn e in
+    let b = bind_ok (shaped p.line (opening_of (fields_of a.0.0))) (item_then limit p.line articles S a.0.1) turn a.2 in
     taken b.0 a.0.0 a.0.1 (line_takes p a.0 a.1) (opening_line a.0.0 b.0 (shaped_ok p.line (opening_of (fields_of a.0.0)) b.0 b.1)) b.2
   where
-    taken : (item : OpeningValue) (l : Line) (q : Place) → p.segments ≡ l ∷ q.segments → OpeningLine item l → item_then profile p.line articles S q item ≡ Ok turn → TakenItem profile articles S p turn
+    taken : (item : OpeningValue) (l : Line) (q : Place) → p.segments ≡ l ∷ q.segments → OpeningLine item l → item_then limit p.line articles S q item ≡ Ok turn → TakenItem limit articles S p turn
     taken (Group name count) l q front is e =
-        let none = guard_ok articles (record { line = p.line; kind = kinds.Shape }) (group_at profile p.line name count S q >>= λ g. done (On false g.0 g.1)) turn e in
-        let c = bind_ok (group_at profile p.line name count S q) (λ g. done (On false g.0 g.1)) turn none.1 in
-        let g = group_takes profile p.line name count S q c.0 le c.1 in
+        let none = guard_ok articles (record { line = p.line; kind = kinds.Shape }) (group_at limit p.line name count S q >>= λ g. done (On false g.0 g.1)) turn e in
+        let c = bind_ok (group_at limit p.line name count S q) (λ g. done (On false g.0 g.1)) turn none.1 in
+        let g = group_takes limit p.line name count S q c.0 le c.1 in
         inl (record {
           name = name;
           numbers = g.numbers;
@@ -157,7 +156,7 @@ item_takes profile articles S p turn le e =
         }))
     taken End l q front is e = at_end (ids_have_articles S) refl e
       where
-        at_end : (b : Bool) → ids_have_articles S ≡ b → cond b (done (Done S q)) (fault p.line kinds.UnknownId) ≡ Ok turn → TakenItem profile articles S p turn
+        at_end : (b : Bool) → ids_have_articles S ≡ b → cond b (done (Done S q)) (fault p.line kinds.UnknownId) ≡ Ok turn → TakenItem limit articles S p turn
         at_end true known e = inr (inr (record { next = q; known = known; is = sym (ok_is (Done S q) turn e); segments = front ∙ ap (λ (t : Line). t ∷ q.segments) is }))
         at_end false known e = absurd cc
 
@@ -171,14 +170,14 @@ first_of : (ls : List Line) (next : Line) (segments : List Line) → (a : Line) 
 first_of [] next segments = (next, segments, refl)
 first_of (l ∷ ls) next segments = (l, ls ++ next ∷ segments, refl)
 
-group_again : (profile : Profile) (line at : ℕ) (S : Spool) (name : Name) (N : Numbers) (next : Line) (segments : List Line) → profile.limit < 2 ^ 64 → IsNamed profile name N → is_last S.groups name ≡ true
-    → (end : ℕ) × (group_at profile at name (len N) S (record { line = line; segments = number_lines (entries N) ++ next ∷ segments }) ≡ Ok (with_group S name N, record { line = end; segments = next ∷ segments }))
+group_again : (limit line at : ℕ) (S : Spool) (name : Name) (N : Numbers) (next : Line) (segments : List Line) → limit < 2 ^ 64 → IsNamed limit name N → is_last S.groups name ≡ true
+    → (end : ℕ) × (group_at limit at name (len N) S (record { line = line; segments = number_lines (entries N) ++ next ∷ segments }) ≡ Ok (with_group S name N, record { line = end; segments = next ∷ segments }))
 unfolding group_at
-group_again profile line at S name N next segments le named last =
-    let all = with_all-entries profile N named.numbers in
-    let again = numbers_again profile line (entries N) next segments empty le all.0 in
-    let read : numbers_at profile (len N) (record { line = line; segments = number_lines (entries N) ++ next ∷ segments }) ≡ done (N, record { line = again.0; segments = next ∷ segments })
-    = ap (λ (n : ℕ). numbers_at profile n (record { line = line; segments = number_lines (entries N) ++ next ∷ segments })) (len-entries N) ∙ again.1 ∙ ap (λ (M : Numbers). done (M, record { line = again.0; segments = next ∷ segments })) all.1 in
+group_again limit line at S name N next segments le named last =
+    let all = with_all-entries limit N named.numbers in
+    let again = numbers_again limit line (entries N) next segments empty le all.0 in
+    let read : numbers_at limit (len N) (record { line = line; segments = number_lines (entries N) ++ next ∷ segments }) ≡ done (N, record { line = again.0; segments = next ∷ segments })
+    = ap (λ (n : ℕ). numbers_at limit n (record { line = line; segments = number_lines (entries N) ++ next ∷ segments })) (len-entries N) ∙ again.1 ∙ ap (λ (M : Numbers). done (M, record { line = again.0; segments = next ∷ segments })) all.1 in
     (again.0, rw (named.is_name, last, read) refl)
 
 article_again : (line at : ℕ) (S : Spool) (id : Id) (t : Text) (next : Line) (segments : List Line) → IsArticle id t → is_last S.articles id ≡ true
@@ -192,24 +191,24 @@ article_again line at S id t next segments is last =
     = ap (λ (ps : List Line). barred_lines_at (length t.head) (record { line = line; segments = barred t.head ++ ps })) body_first.2 ∙ head.1 ∙ ap (λ (ps : List Line). done (t.head, record { line = head.0; segments = ps })) (sym body_first.2) in
     (body.0, rw (is.is_id, last, read_head, body.1, is.head) refl)
 
-pub item_group_again : (profile : Profile) (line : ℕ) (S : Spool) (name : Name) (N : Numbers) (next : Line) (segments : List Line) → profile.limit < 2 ^ 64 → len N < 2 ^ 64 → IsNamed profile name N → is_last S.groups name ≡ true
-    → (end : ℕ) × (item_at profile false S (record { line = line; segments = group_lines (name, N) ++ next ∷ segments }) ≡ Ok (On false (with_group S name N) (record { line = end; segments = next ∷ segments })))
+pub item_group_again : (limit line : ℕ) (S : Spool) (name : Name) (N : Numbers) (next : Line) (segments : List Line) → limit < 2 ^ 64 → len N < 2 ^ 64 → IsNamed limit name N → is_last S.groups name ≡ true
+    → (end : ℕ) × (item_at limit false S (record { line = line; segments = group_lines (name, N) ++ next ∷ segments }) ≡ Ok (On false (with_group S name N) (record { line = end; segments = next ∷ segments })))
 unfolding item_at
-item_group_again profile line S name N next segments le small named last =
-    let again = group_again profile (line + 1) line S name N next segments le named last in
+item_group_again limit line S name N next segments le small named last =
+    let again = group_again limit (line + 1) line S name N next segments le named last in
     let item = opening-group_line name (len N) (name-lacks 32 name (omega arith) refl named.is_name) (name-some name named.is_name) small in
     (again.0, rw (line_again line (group_line name (len N)) (number_lines (entries N)) next segments, item, again.1) refl)
 
-pub item_article_again : (profile : Profile) (line : ℕ) (articles : Bool) (S : Spool) (id : Id) (t : Text) (next : Line) (segments : List Line) → length t.head < 2 ^ 64 → length t.body < 2 ^ 64 → IsArticle id t → is_last S.articles id ≡ true
-    → (end : ℕ) × (item_at profile articles S (record { line = line; segments = article_lines (id, t) ++ next ∷ segments }) ≡ Ok (On true (with_article S id t) (record { line = end; segments = next ∷ segments })))
+pub item_article_again : (limit line : ℕ) (articles : Bool) (S : Spool) (id : Id) (t : Text) (next : Line) (segments : List Line) → length t.head < 2 ^ 64 → length t.body < 2 ^ 64 → IsArticle id t → is_last S.articles id ≡ true
+    → (end : ℕ) × (item_at limit articles S (record { line = line; segments = article_lines (id, t) ++ next ∷ segments }) ≡ Ok (On true (with_article S id t) (record { line = end; segments = next ∷ segments })))
 unfolding item_at
-item_article_again profile line articles S id t next segments h b is last =
+item_article_again limit line articles S id t next segments h b is last =
     let again = article_again (line + 1) line S id t next segments is last in
     let item = opening-article_line id (length t.head) (length t.body) (id-lacks 32 id (omega arith) is.is_id) (id-some id is.is_id) h b in
     let behind : (barred t.head ++ barred t.body) ++ next ∷ segments ≡ barred t.head ++ (barred t.body ++ next ∷ segments) = append_assoc (barred t.head) (barred t.body) (next ∷ segments) in
     (again.0, rw (line_again line (article_line id (length t.head) (length t.body)) (barred t.head ++ barred t.body) next segments, item, behind, again.1) refl)
 
-pub item_end_again : (profile : Profile) (line : ℕ) (articles : Bool) (S : Spool) (next : Line) (segments : List Line) → ids_have_articles S ≡ true
-    → item_at profile articles S (record { line = line; segments = codes "end" ∷ next ∷ segments }) ≡ Ok (Done S (record { line = line + 1; segments = next ∷ segments }))
+pub item_end_again : (limit line : ℕ) (articles : Bool) (S : Spool) (next : Line) (segments : List Line) → ids_have_articles S ≡ true
+    → item_at limit articles S (record { line = line; segments = codes "end" ∷ next ∷ segments }) ≡ Ok (Done S (record { line = line + 1; segments = next ∷ segments }))
 unfolding item_at
-item_end_again profile line articles S next segments known = rw known refl
+item_end_again limit line articles S next segments known = rw known refl

@@ -10,10 +10,12 @@ pub mod LineFields
 pub mod NameOctets
 pub mod FollowingNumbers
 pub mod NumbersRead
+pub mod LimitLines
 pub mod ArticleLinesRead
 pub mod NumbersInOrder
 pub mod ItemsRead
 pub mod ItemsOfText
+pub mod TextTaken
 pub mod TextReadAgain
 pub mod WholeSpools
 pub mod BuiltContent

@@ -12,9 +12,8 @@ use Rattle.std.proofs.lemmas.Bool.Decides.{nat_tests}
 use Rattle.std.proofs.lemmas.List.{nil_from_length}
 use Rattle.std.proofs.lemmas.Slice.Eq.{bytes_eq-Decides}
 use Rattle.nntp_wire.specs.Decided.{is_message_id}
-use Rattle.nntp_article.specs.Machine.{is_num}
+use Rattle.nntp_article.specs.Machine.{is_article_number}
 use Rattle.nntp_article.specs.Spool.{Numbers}
-use Rattle.nntp_article.specs.declared.profile.Profile.{Profile}
 use Rattle.nntp_spool.specs.Numbers.{has_id}
 use Rattle.nntp_spool.specs.Ascending.{is_last}
 use Rattle.nntp_spool.proofs.FollowingNumbers.{AllFollow, with_all}
@@ -41,8 +40,8 @@ all_passed p (x ∷ xs) h = let both = and_parts (p x) (list_all p xs) h in (bot
 pub entries-empty : (N : Numbers) → N ≡ empty → entries N ≡ []
 entries-empty N e = nil_from_length (entries N) (sym (len-entries N) ∙ ap len e ∙ len-empty nat_cmp (List ℕ))
 
-pub no_numbers : (profile : Profile) → AreNumbers profile empty
-no_numbers profile = record {
+pub no_numbers : (limit : ℕ) → AreNumbers limit empty
+no_numbers limit = record {
   each = λ n id g. absurd (none id (sym (get-empty nat_cmp n) ∙ g));
   one_to_one = λ n m id g h. absurd (none id (sym (get-empty nat_cmp n) ∙ g));
 }
@@ -56,16 +55,16 @@ fresh_id N id fresh q g =
     let other : bytes_eq id id ≡ false = all_got nat_cmp_total nat_cmp-IsAntisymmetric (λ k v. bytes_eq v id ≡ false) N (none_any (λ e. bytes_eq e.1 id) (entries N) fresh) q id g in
     true≢false (sym ((bytes_eq-Decides id id).1 refl) ∙ other)
 
-pub one_more : (profile : Profile) (N : Numbers) (n : ℕ) (id : List ℕ) → AreNumbers profile N → is_num profile n ≡ true → is_message_id id ≡ true → has_id N id ≡ false → AreNumbers profile (insert N n id)
-one_more profile N n id a num is_id fresh =
+pub one_more : (limit : ℕ) (N : Numbers) (n : ℕ) (id : List ℕ) → AreNumbers limit N → is_article_number limit n ≡ true → is_message_id id ≡ true → has_id N id ≡ false → AreNumbers limit (insert N n id)
+one_more limit N n id a num is_id fresh =
     let before = got_more nat_cmp_total nat_cmp-IsAntisymmetric N n id in
     record {
       each = λ q x g. each_is q x (before q x g);
       one_to_one = λ q m x g h. one_is q m x (before q x g) (before m x h);
     }
   where
-    each_is : (q : ℕ) (x : List ℕ) → ((q ≡ n) × (x ≡ id)) ⊎ (get N q ≡ Some x) → (is_num profile q ≡ true) × (is_message_id x ≡ true)
-    each_is q x (inl e) = (ap (is_num profile) e.0 ∙ num, ap is_message_id e.1 ∙ is_id)
+    each_is : (q : ℕ) (x : List ℕ) → ((q ≡ n) × (x ≡ id)) ⊎ (get N q ≡ Some x) → (is_article_number limit q ≡ true) × (is_message_id x ≡ true)
+    each_is q x (inl e) = (ap (is_article_number limit) e.0 ∙ num, ap is_message_id e.1 ∙ is_id)
     each_is q x (inr g) = a.each q x g
 
     one_is : (q m : ℕ) (x : List ℕ) → ((q ≡ n) × (x ≡ id)) ⊎ (get N q ≡ Some x) → ((m ≡ n) × (x ≡ id)) ⊎ (get N m ≡ Some x) → q ≡ m
@@ -74,13 +73,13 @@ one_more profile N n id a num is_id fresh =
     one_is q m x (inr g) (inl d) = absurd (fresh_id N id fresh q (g ∙ ap Some d.1))
     one_is q m x (inr g) (inr h) = a.one_to_one q m x g h
 
-pub all_more : (profile : Profile) (N : Numbers) (es : List (ℕ × List ℕ)) → AreNumbers profile N → AllFollow profile N es → AreNumbers profile (with_all N es)
-all_more profile N [] a h = a
-all_more profile N (e ∷ es) a h = all_more profile (insert N e.0 e.1) es (one_more profile N e.0 e.1 a h.0.num h.0.is_id h.0.fresh) h.1
+pub all_more : (limit : ℕ) (N : Numbers) (es : List (ℕ × List ℕ)) → AreNumbers limit N → AllFollow limit N es → AreNumbers limit (with_all N es)
+all_more limit N [] a h = a
+all_more limit N (e ∷ es) a h = all_more limit (insert N e.0 e.1) es (one_more limit N e.0 e.1 a h.0.num h.0.is_id h.0.fresh) h.1
 
-pub numbers_follow : (profile : Profile) (N M : Numbers) (es : List (ℕ × List ℕ)) → entries M ≡ entries N ++ es → AreNumbers profile M → AllFollow profile N es
-numbers_follow profile N M [] e a = tt
-numbers_follow profile N M (x ∷ es) e a = (record { num = (a.each x.0 x.1 here).0; is_id = (a.each x.0 x.1 here).1; last = last; fresh = fresh }, numbers_follow profile (insert N x.0 x.1) M es behind a)
+pub numbers_follow : (limit : ℕ) (N M : Numbers) (es : List (ℕ × List ℕ)) → entries M ≡ entries N ++ es → AreNumbers limit M → AllFollow limit N es
+numbers_follow limit N M [] e a = tt
+numbers_follow limit N M (x ∷ es) e a = (record { num = (a.each x.0 x.1 here).0; is_id = (a.each x.0 x.1 here).1; last = last; fresh = fresh }, numbers_follow limit (insert N x.0 x.1) M es behind a)
   where
     last : is_last N x.0 ≡ true
     last = less_before nat_cmp_total (entries N) x es (ap (is_sorted nat_cmp) (sym e) ∙ is_passed _ (entries_sorted M))
@@ -103,10 +102,10 @@ numbers_follow profile N M (x ∷ es) e a = (record { num = (a.each x.0 x.1 here
     behind = (e ∙ sym (append_assoc (entries N) (x ∷ []) es) ∙ ap (λ fs. fs ++ es) (sym (entries-insert_last nat_cmp_total N x.0 x.1 last)))
 
 -- a group's numbers, put in one after the other
-pub with_all-entries : (profile : Profile) (N : Numbers) → AreNumbers profile N → AllFollow profile empty (entries N) × (with_all empty (entries N) ≡ N)
-with_all-entries profile N a =
-    let follow = numbers_follow profile empty N (entries N) (ap (λ es. es ++ entries N) (sym (entries-empty empty refl))) a in
-    (follow, same_entries_map _ N (entries-with_all profile empty (entries N) follow ∙ ap (λ es. es ++ entries N) (entries-empty empty refl)))
+pub with_all-entries : (limit : ℕ) (N : Numbers) → AreNumbers limit N → AllFollow limit empty (entries N) × (with_all empty (entries N) ≡ N)
+with_all-entries limit N a =
+    let follow = numbers_follow limit empty N (entries N) (ap (λ es. es ++ entries N) (sym (entries-empty empty refl))) a in
+    (follow, same_entries_map _ N (entries-with_all limit empty (entries N) follow ∙ ap (λ es. es ++ entries N) (entries-empty empty refl)))
 
 -- ---- how many numbers there are
 
@@ -134,12 +133,12 @@ within_limit least limit (e ∷ es) sorted all le =
     omega arith
 
 -- a group has no more numbers than the limit allows
-pub few_numbers : (profile : Profile) (N : Numbers) → profile.limit < 2 ^ 64 → AreNumbers profile N → len N < 2 ^ 64
-few_numbers profile N le are =
+pub few_numbers : (limit : ℕ) (N : Numbers) → limit < 2 ^ 64 → AreNumbers limit N → len N < 2 ^ 64
+few_numbers limit N le are =
     let between = λ (n : ℕ) (id : List ℕ) (here : get N n ≡ Some id). in_limit n (are.each n id here).0 in
-    let all = got_all nat_cmp_total nat_cmp-IsAntisymmetric (λ n id. (0 < n) × (n ≤ profile.limit)) N between in
-    let few = within_limit 0 profile.limit (entries N) (is_passed _ (entries_sorted N)) all (omega arith) in
+    let all = got_all nat_cmp_total nat_cmp-IsAntisymmetric (λ n id. (0 < n) × (n ≤ limit)) N between in
+    let few = within_limit 0 limit (entries N) (is_passed _ (entries_sorted N)) all (omega arith) in
     omega (arith, len-entries N)
   where
-    in_limit : (n : ℕ) → is_num profile n ≡ true → (0 < n) × (n ≤ profile.limit)
+    in_limit : (n : ℕ) → is_article_number limit n ≡ true → (0 < n) × (n ≤ limit)
     in_limit n h = (grind (arith, nat_tests, and_parts), grind (arith, nat_tests, and_parts))

@@ -7,8 +7,7 @@ use Rattle.std.proofs.lemmas.Bool.Decides.{nat_tests}
 use Rattle.std.proofs.lemmas.List.{append-nil}
 use Rattle.nntp_wire.specs.Decided.{is_message_id}
 use Rattle.nntp_article.specs.Spool.{Numbers}
-use Rattle.nntp_article.specs.declared.profile.Profile.{Profile}
-use Rattle.nntp_article.specs.Machine.{is_num}
+use Rattle.nntp_article.specs.Machine.{is_article_number}
 use Rattle.nntp_spool.specs.declared.text.read_fault.ReadFault.{ReadFault}
 use Rattle.nntp_spool.specs.declared.text.read_fault.Kind.TheVariants as kinds
 use Rattle.nntp_spool.specs.Text.{number_line}
@@ -30,6 +29,10 @@ bind_ok (Err d) f y e = absurd cc
 pub unless_ok : {A : Type 0} (b : Bool) (d : ReadFault) (r : Result A ReadFault) (y : A) → cond (not b) (Err d) r ≡ Ok y → (b ≡ true) × (r ≡ Ok y)
 unless_ok true d r y e = (refl, e)
 unless_ok false d r y e = absurd cc
+
+pub fits_test : {A : Type 0} (b : Bool) (r : Result A ReadFault) (f : ReadFault) (y : A) → cond b r (Err f) ≡ Ok y → (b ≡ true) × (r ≡ Ok y)
+fits_test true r f y e = (refl, e)
+fits_test false r f y e = absurd cc
 
 pub guard_ok : {A : Type 0} (b : Bool) (d : ReadFault) (r : Result A ReadFault) (y : A) → cond b (Err d) r ≡ Ok y → (b ≡ false) × (r ≡ Ok y)
 guard_ok true d r y e = absurd cc
@@ -55,39 +58,39 @@ line_takes p x e = takes p.line p.segments x e
 
 -- ---- one number
 
-num_below : (profile : Profile) (n : ℕ) → profile.limit < 2 ^ 64 → is_num profile n ≡ true → n < 2 ^ 64
-num_below profile n le h = grind (arith, nat_tests, and_parts)
+num_below : (limit n : ℕ) → limit < 2 ^ 64 → is_article_number limit n ≡ true → n < 2 ^ 64
+num_below limit n le h = grind (arith, nat_tests, and_parts)
 
-pub number_in_again : (profile : Profile) (line n : ℕ) (id : List ℕ) → profile.limit < 2 ^ 64 → is_num profile n ≡ true → is_message_id id ≡ true → number_in profile line (number_line n id) ≡ Ok (n, id)
+pub number_in_again : (limit line n : ℕ) (id : List ℕ) → limit < 2 ^ 64 → is_article_number limit n ≡ true → is_message_id id ≡ true → number_in limit line (number_line n id) ≡ Ok (n, id)
 unfolding number_in
-number_in_again profile line n id le num is_id =
-    rw (number_and_id-number_line n id (num_below profile n le num) (id-lacks 32 id (omega arith) is_id) (id-some id is_id), num, is_id) refl
+number_in_again limit line n id le num is_id =
+    rw (number_and_id-number_line n id (num_below limit n le num) (id-lacks 32 id (omega arith) is_id) (id-some id is_id), num, is_id) refl
 
-pub number_in_takes : (profile : Profile) (line : ℕ) (l : List ℕ) (x : ℕ × List ℕ) → profile.limit < 2 ^ 64 → number_in profile line l ≡ Ok x → (l ≡ number_line x.0 x.1) × (is_num profile x.0 ≡ true) × (is_message_id x.1 ≡ true)
+pub number_in_takes : (limit line : ℕ) (l : List ℕ) (x : ℕ × List ℕ) → limit < 2 ^ 64 → number_in limit line l ≡ Ok x → (l ≡ number_line x.0 x.1) × (is_article_number limit x.0 ≡ true) × (is_message_id x.1 ≡ true)
 unfolding number_in
-number_in_takes profile line l x le e =
-    let a = bind_ok (shaped line (number_and_id (fields_of l))) (λ v. cond (not (is_num profile v.0)) (fault line kinds.Number) (cond (not (is_message_id v.1)) (fault line kinds.Id) (Ok v))) x e in
-    let b = unless_ok (is_num profile a.0.0) (record { line = line; kind = kinds.Number }) _ x a.2 in
+number_in_takes limit line l x le e =
+    let a = bind_ok (shaped line (number_and_id (fields_of l))) (λ v. cond (not (is_article_number limit v.0)) (fault line kinds.Number) (cond (not (is_message_id v.1)) (fault line kinds.Id) (Ok v))) x e in
+    let b = unless_ok (is_article_number limit a.0.0) (record { line = line; kind = kinds.Number }) _ x a.2 in
     let c = unless_ok (is_message_id a.0.1) (record { line = line; kind = kinds.Id }) (Ok a.0) x b.1 in
-    let text = number_line-number_and_id l a.0.0 a.0.1 (num_below profile a.0.0 le b.0) (shaped_ok line _ a.0 a.1) in
-    subst (λ (y : ℕ × List ℕ). (l ≡ number_line y.0 y.1) × (is_num profile y.0 ≡ true) × (is_message_id y.1 ≡ true)) (ok_is a.0 x c.1) (text, b.0, c.0)
+    let text = number_line-number_and_id l a.0.0 a.0.1 (num_below limit a.0.0 le b.0) (shaped_ok line _ a.0 a.1) in
+    subst (λ (y : ℕ × List ℕ). (l ≡ number_line y.0 y.1) × (is_article_number limit y.0 ≡ true) × (is_message_id y.1 ≡ true)) (ok_is a.0 x c.1) (text, b.0, c.0)
 
-pub number_at_again : (profile : Profile) (line n : ℕ) (id next : List ℕ) (segments : List (List ℕ)) (N : Numbers) → profile.limit < 2 ^ 64 → Follows profile N n id
-    → number_at profile (N, record { line = line; segments = number_line n id ∷ next ∷ segments }) ≡ Ok (insert N n id, record { line = line + 1; segments = next ∷ segments })
+pub number_at_again : (limit line n : ℕ) (id next : List ℕ) (segments : List (List ℕ)) (N : Numbers) → limit < 2 ^ 64 → Follows limit N n id
+    → number_at limit (N, record { line = line; segments = number_line n id ∷ next ∷ segments }) ≡ Ok (insert N n id, record { line = line + 1; segments = next ∷ segments })
 unfolding number_at
-number_at_again profile line n id next segments N le f = rw (number_in_again profile line n id le f.num f.is_id, f.last, f.fresh) refl
+number_at_again limit line n id next segments N le f = rw (number_in_again limit line n id le f.num f.is_id, f.last, f.fresh) refl
 
-pub number_at_takes : (profile : Profile) (N : Numbers) (p : Place) (x : Numbers × Place) → profile.limit < 2 ^ 64 → number_at profile (N, p) ≡ Ok x
-    → (n : ℕ) × (id : List ℕ) × Follows profile N n id × (x.0 ≡ insert N n id) × (p.segments ≡ number_line n id ∷ x.1.segments)
+pub number_at_takes : (limit : ℕ) (N : Numbers) (p : Place) (x : Numbers × Place) → limit < 2 ^ 64 → number_at limit (N, p) ≡ Ok x
+    → (n : ℕ) × (id : List ℕ) × Follows limit N n id × (x.0 ≡ insert N n id) × (p.segments ≡ number_line n id ∷ x.1.segments)
 unfolding number_at
-number_at_takes profile N p x le e =
+number_at_takes limit N p x le e =
     let rest = λ (l : List ℕ × Place) (v : ℕ × List ℕ). cond (not (is_last N v.0)) (fault p.line kinds.Order) (cond (has_id N v.1) (fault p.line kinds.DuplicateId) (done (insert N v.0 v.1, l.1))) in
-    let a = bind_ok (line_at p) (λ l. number_in profile p.line l.0 >>= rest l) x e in
-    let b = bind_ok (number_in profile p.line a.0.0) (rest a.0) x a.2 in
+    let a = bind_ok (line_at p) (λ l. number_in limit p.line l.0 >>= rest l) x e in
+    let b = bind_ok (number_in limit p.line a.0.0) (rest a.0) x a.2 in
     let c = unless_ok (is_last N b.0.0) (record { line = p.line; kind = kinds.Order }) _ x b.2 in
     let d = guard_ok (has_id N b.0.1) (record { line = p.line; kind = kinds.DuplicateId }) (done (insert N b.0.0 b.0.1, a.0.1)) x c.1 in
     let same : ◌≡◌ {A = Numbers × Place} (insert N b.0.0 b.0.1, a.0.1) x = ok_is _ _ d.1 in
-    let one = number_in_takes profile p.line a.0.0 b.0 le b.1 in
+    let one = number_in_takes limit p.line a.0.0 b.0 le b.1 in
     let segments = line_takes p a.0 a.1 in (
       b.0.0,
       b.0.1,
@@ -98,31 +101,31 @@ number_at_takes profile N p x le e =
 
 -- ---- the numbers of a group
 
-pub entries-with_all : (profile : Profile) (N : Numbers) (es : List (ℕ × List ℕ)) → AllFollow profile N es → entries (with_all N es) ≡ entries N ++ es
-entries-with_all profile N [] h = sym (append-nil (entries N))
-entries-with_all profile N (e ∷ es) h =
-    entries-with_all profile (insert N e.0 e.1) es h.1 ∙ ap (λ (fs : List (ℕ × List ℕ)). fs ++ es) (entries-insert_last nat_cmp_total N e.0 e.1 h.0.last) ∙ append_assoc (entries N) (e ∷ []) es
+pub entries-with_all : (limit : ℕ) (N : Numbers) (es : List (ℕ × List ℕ)) → AllFollow limit N es → entries (with_all N es) ≡ entries N ++ es
+entries-with_all limit N [] h = sym (append-nil (entries N))
+entries-with_all limit N (e ∷ es) h =
+    entries-with_all limit (insert N e.0 e.1) es h.1 ∙ ap (λ (fs : List (ℕ × List ℕ)). fs ++ es) (entries-insert_last nat_cmp_total N e.0 e.1 h.0.last) ∙ append_assoc (entries N) (e ∷ []) es
 
-pub numbers_take : (profile : Profile) (count : ℕ) (N : Numbers) (p : Place) (x : Numbers × Place) → profile.limit < 2 ^ 64 → repeat (number_at profile) count (N, p) ≡ Ok x
-    → (es : List (ℕ × List ℕ)) × AllFollow profile N es × (length es ≡ count) × (x.0 ≡ with_all N es) × (p.segments ≡ number_lines es ++ x.1.segments)
-numbers_take profile zero N p x le e =
+pub numbers_take : (limit count : ℕ) (N : Numbers) (p : Place) (x : Numbers × Place) → limit < 2 ^ 64 → repeat (number_at limit) count (N, p) ≡ Ok x
+    → (es : List (ℕ × List ℕ)) × AllFollow limit N es × (length es ≡ count) × (x.0 ≡ with_all N es) × (p.segments ≡ number_lines es ++ x.1.segments)
+numbers_take limit zero N p x le e =
     let same : ◌≡◌ {A = Numbers × Place} (N, p) x = ok_is _ _ e in
     ([], tt, refl, sym (ap (λ (y : Numbers × Place). y.0) same), ap (λ (y : Numbers × Place). y.1.segments) same)
-numbers_take profile (suc count) N p x le e =
-    let a = bind_ok (number_at profile (N, p)) (repeat (number_at profile) count) x e in
-    let one = number_at_takes profile N p a.0 le a.1 in
-    let more = numbers_take profile count a.0.0 a.0.1 x le a.2 in (
+numbers_take limit (suc count) N p x le e =
+    let a = bind_ok (number_at limit (N, p)) (repeat (number_at limit) count) x e in
+    let one = number_at_takes limit N p a.0 le a.1 in
+    let more = numbers_take limit count a.0.0 a.0.1 x le a.2 in (
       (one.0, one.1) ∷ more.0,
-      (one.2, subst (λ (M : Numbers). AllFollow profile M more.0) one.3 more.1),
+      (one.2, subst (λ (M : Numbers). AllFollow limit M more.0) one.3 more.1),
       ap suc more.2,
       more.3 ∙ ap (λ (M : Numbers). with_all M more.0) one.3,
       one.4 ∙ ap (λ (t : List (List ℕ)). number_line one.0 one.1 ∷ t) more.4,
     )
 
-pub numbers_again : (profile : Profile) (line : ℕ) (es : List (ℕ × List ℕ)) (next : List ℕ) (segments : List (List ℕ)) (N : Numbers) → profile.limit < 2 ^ 64 → AllFollow profile N es
-    → (end : ℕ) × (repeat (number_at profile) (length es) (N, record { line = line; segments = number_lines es ++ next ∷ segments }) ≡ Ok (with_all N es, record { line = end; segments = next ∷ segments }))
-numbers_again profile line [] next segments N le h = (line, refl)
-numbers_again profile line (e ∷ []) next segments N le h = (line + 1, rw (number_at_again profile line e.0 e.1 next segments N le h.0) refl)
-numbers_again profile line (e ∷ f ∷ es) next segments N le h =
-    let more = numbers_again profile (line + 1) (f ∷ es) next segments (insert N e.0 e.1) le h.1 in
-    (more.0, rw (number_at_again profile line e.0 e.1 (number_line f.0 f.1) (number_lines es ++ next ∷ segments) N le h.0) more.1)
+pub numbers_again : (limit line : ℕ) (es : List (ℕ × List ℕ)) (next : List ℕ) (segments : List (List ℕ)) (N : Numbers) → limit < 2 ^ 64 → AllFollow limit N es
+    → (end : ℕ) × (repeat (number_at limit) (length es) (N, record { line = line; segments = number_lines es ++ next ∷ segments }) ≡ Ok (with_all N es, record { line = end; segments = next ∷ segments }))
+numbers_again limit line [] next segments N le h = (line, refl)
+numbers_again limit line (e ∷ []) next segments N le h = (line + 1, rw (number_at_again limit line e.0 e.1 next segments N le h.0) refl)
+numbers_again limit line (e ∷ f ∷ es) next segments N le h =
+    let more = numbers_again limit (line + 1) (f ∷ es) next segments (insert N e.0 e.1) le h.1 in
+    (more.0, rw (number_at_again limit line e.0 e.1 (number_line f.0 f.1) (number_lines es ++ next ∷ segments) N le h.0) more.1)

@@ -60,7 +60,7 @@ all-more profile S s (y ∷ pairs) x all may = (all.0, all-more profile S (after
 
 -- ---- both
 
-module _ (profile : Profile) (S : Spool) (is : IsSpool profile S) (client server : List ℕ) where
+module _ (profile : Profile) (S : Spool) (is : IsSpool profile.limit S) (client server : List ℕ) where
   -- pairs that are permitted are explained
   pub permitted-explained : (pairs : List Paired) (left : Unpaired) → AreNext (streams client server) pairs left → MayAnswerAll profile S start pairs → ExplainsUpTo profile S client server (length pairs) left.server
   permitted-explained pairs left n may =

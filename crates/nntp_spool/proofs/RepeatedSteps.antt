@@ -5,7 +5,6 @@ use Rattle.nntp_spool.specs.declared.text.read_fault.ReadError.{ReadError}
 use Rattle.nntp_spool.specs.declared.text.read_fault.ReadError.TheVariants as errors
 use Rattle.nntp_spool.specs.declared.text.read_fault.Kind.TheVariants as kinds
 use Rattle.nntp_article.specs.Spool.{Spool}
-use Rattle.nntp_article.specs.declared.profile.Profile.{Profile}
 use Rattle.nntp_spool.specs.Reading.{Fails, repeat, fault, Place, On, Done, item_at, items_at}
 
 module _ {S : Type 0} (step : S → Result S ReadFault) where
@@ -30,29 +29,29 @@ module _ {S : Type 0} (step : S → Result S ReadFault) where
 
 -- ---- the same for items, which may end
 
-module _ (profile : Profile) (most i : ℕ) (articles : Bool) (S : Spool) (p : Place) (total : Result (Spool × Place) ReadFault) where
-  pub item_goes_on : (behind : Bool) (next : Spool) (q : Place) → i < most → item_at profile articles S p ≡ Ok (On behind next q) → items_at profile (most - i) articles S p ≡ total
-      → items_at profile (most - (i + 1)) behind next q ≡ total
+module _ (limit most i : ℕ) (articles : Bool) (S : Spool) (p : Place) (total : Result (Spool × Place) ReadFault) where
+  pub item_goes_on : (behind : Bool) (next : Spool) (q : Place) → i < most → item_at limit articles S p ≡ Ok (On behind next q) → items_at limit (most - i) articles S p ≡ total
+      → items_at limit (most - (i + 1)) behind next q ≡ total
   item_goes_on behind next q lt one so_far =
       let k : most - i ≡ suc (most - (i + 1)) = omega arith in
-      let more : items_at profile (most - i) articles S p ≡ items_at profile (most - (i + 1)) behind next q = rw (k, one) refl in
+      let more : items_at limit (most - i) articles S p ≡ items_at limit (most - (i + 1)) behind next q = rw (k, one) refl in
       sym more ∙ so_far
 
-  pub item_is_last : (next : Spool) (q : Place) → i < most → item_at profile articles S p ≡ Ok (Done next q) → items_at profile (most - i) articles S p ≡ total → total ≡ Ok (next, q)
+  pub item_is_last : (next : Spool) (q : Place) → i < most → item_at limit articles S p ≡ Ok (Done next q) → items_at limit (most - i) articles S p ≡ total → total ≡ Ok (next, q)
   item_is_last next q lt one so_far =
       let k : most - i ≡ suc (most - (i + 1)) = omega arith in
-      let more : items_at profile (most - i) articles S p ≡ Ok (next, q) = rw (k, one) refl in
+      let more : items_at limit (most - i) articles S p ≡ Ok (next, q) = rw (k, one) refl in
       sym so_far ∙ more
 
-  pub item_fails : (e : ReadError) → i < most → Fails e (item_at profile articles S p) → items_at profile (most - i) articles S p ≡ total → Fails e total
+  pub item_fails : (e : ReadError) → i < most → Fails e (item_at limit articles S p) → items_at limit (most - i) articles S p ≡ total → Fails e total
   item_fails errors.Memory lt h so_far = tt
   item_fails (errors.Fault f) lt h so_far =
       let k : most - i ≡ suc (most - (i + 1)) = omega arith in
-      let more : items_at profile (most - i) articles S p ≡ Err f = rw (k, h) refl in
+      let more : items_at limit (most - i) articles S p ≡ Err f = rw (k, h) refl in
       sym so_far ∙ more
 
-  pub items_end : most ≤ i → items_at profile (most - i) articles S p ≡ total → total ≡ fault p.line kinds.Shape
+  pub items_end : most ≤ i → items_at limit (most - i) articles S p ≡ total → total ≡ fault p.line kinds.Shape
   items_end le so_far =
       let k : most - i ≡ 0 = omega arith in
-      let more : items_at profile (most - i) articles S p ≡ fault p.line kinds.Shape = rw k refl in
+      let more : items_at limit (most - i) articles S p ≡ fault p.line kinds.Shape = rw k refl in
       sym so_far ∙ more

@@ -11,13 +11,16 @@ use Rattle.std.proofs.lemmas.Bool.{and_from, and_parts}
 use Rattle.std.proofs.lemmas.Bool.Decides.{nat_tests}
 use Rattle.std.proofs.lemmas.List.{length-map}
 use Rattle.std.proofs.lemmas.List.Folds.{list_all-append}
+use Rattle.nntp_wire.specs.Limit.{greatest}
 use Rattle.nntp_wire.specs.Octets.{is_clean, is_line_breaking}
+use Rattle.nntp_wire.specs.declared.limit.Limit.{Limit}
+use Rattle.nntp_wire.specs.declared.limit.Limit.TheVariants.{Narrow, Wide}
 use Rattle.nntp_article.specs.Article.{Line, Id}
 use Rattle.nntp_article.specs.Spool.{Name, Spool, Numbers, Text, is_line}
-use Rattle.nntp_article.specs.declared.profile.Profile.{Profile}
-use Rattle.nntp_article.specs.Machine.{is_num}
-use Rattle.nntp_spool.specs.Text.{HasLineCounts, number_line, group_line, article_line, barred, group_lines, article_lines, spool_lines, spool_text, with_line_ends}
-use Rattle.nntp_spool.specs.Reading.{line_at, next_line, segments_of, spool_at}
+use Rattle.nntp_article.specs.Machine.{is_article_number}
+use Rattle.nntp_spool.specs.Limited.{LimitedSpool}
+use Rattle.nntp_spool.specs.Text.{HasLineCounts, number_line, group_line, article_line, barred, group_lines, article_lines, limit_lines, content_lines, spool_lines, spool_text, with_line_ends}
+use Rattle.nntp_spool.specs.Reading.{segments_of, limit_at, content_at, spool_at}
 use Rattle.nntp_spool.specs.Content.{no_spool, ids_have_articles}
 use Rattle.nntp_spool.specs.Content.{IsNamed, IsArticle, IsContent}
 use Rattle.nntp_spool.proofs.MapEntries.{all_got, got_all}
@@ -25,6 +28,7 @@ use Rattle.nntp_spool.proofs.LineFields.{lacks, lacks-append, lacks-digits, are_
 use Rattle.nntp_spool.proofs.NameOctets.{name-lacks, id-lacks}
 use Rattle.nntp_spool.proofs.ShownMaps.{octet_keys}
 use Rattle.nntp_spool.proofs.NumbersInOrder.{few_numbers}
+use Rattle.nntp_spool.proofs.LimitLines.{greatest_small, some_limit_line, limit_again}
 use Rattle.nntp_spool.proofs.ItemsOfText.{no_entries, groups_again, first_lines, tail_lines}
 
 -- ---- lines have no line feed inside
@@ -49,14 +53,14 @@ spaced-lacks xs ys h g = lacks-append 10 xs (32 ∷ ys) h g
 decimal-lacks : (n : ℕ) → n < 2 ^ 64 → lacks 10 (decimal n) ≡ true
 decimal-lacks n lt = lacks-digits 10 (decimal n) (omega arith) (are_digits-decimal n lt)
 
-num-small : (profile : Profile) (n : ℕ) → profile.limit < 2 ^ 64 → is_num profile n ≡ true → n < 2 ^ 64
-num-small profile n le h = grind (arith, nat_tests, and_parts)
+num-small : (limit n : ℕ) → limit < 2 ^ 64 → is_article_number limit n ≡ true → n < 2 ^ 64
+num-small limit n le h = grind (arith, nat_tests, and_parts)
 
-clean-group : (profile : Profile) (name : Name) (N : Numbers) → profile.limit < 2 ^ 64 → len N < 2 ^ 64 → IsNamed profile name N → clean (group_lines (name, N)) ≡ true
-clean-group profile name N le small named =
+clean-group : (limit : ℕ) (name : Name) (N : Numbers) → limit < 2 ^ 64 → len N < 2 ^ 64 → IsNamed limit name N → clean (group_lines (name, N)) ≡ true
+clean-group limit name N le small named =
     let first = spaced-lacks (codes "group") (name ++ 32 ∷ decimal (len N)) refl (spaced-lacks name (decimal (len N)) (name-lacks 10 name (omega arith) refl named.is_name) (decimal-lacks (len N) small)) in
     let each = got_all nat_cmp_total nat_cmp-IsAntisymmetric (λ n id. lacks 10 (number_line n id) ≡ true) N (λ n id g.
-    let is = named.numbers.each n id g in spaced-lacks (decimal n) id (decimal-lacks n (num-small profile n le is.0)) (id-lacks 10 id (omega arith) is.1)) in
+    let is = named.numbers.each n id g in spaced-lacks (decimal n) id (decimal-lacks n (num-small limit n le is.0)) (id-lacks 10 id (omega arith) is.1)) in
     and_from (lacks 10 (group_line name (len N))) (clean (map (λ e. number_line e.0 e.1) (entries N))) first (clean-map (λ e. number_line e.0 e.1) (entries N) each)
 
 line-lacks : (l : Line) → is_line l ≡ true → lacks 10 l ≡ true
@@ -78,11 +82,18 @@ clean-article id t h b is =
     barred-clean [] h = refl
     barred-clean (l ∷ lines) h = let both = and_parts (is_line l) (list_all is_line lines) h in and_from (lacks 10 (124 ∷ l)) (clean (barred lines)) (line-lacks l both.0) (barred-clean lines both.1)
 
-clean-text : (profile : Profile) (F : Spool) → profile.limit < 2 ^ 64 → IsContent profile F → HasLineCounts F → clean (spool_lines F) ≡ true
-clean-text profile F le content sizes =
-    let groups = clean-flat group_lines (entries F.groups) (got_all nat_list_cmp_total octet_keys (λ name N. clean (group_lines (name, N)) ≡ true) F.groups (λ name N g. clean-group profile name N le (few_numbers profile N le (content.groups name N g).numbers) (content.groups name N g))) in
+clean-content : (limit : ℕ) (F : Spool) → limit < 2 ^ 64 → IsContent limit F → HasLineCounts F → clean (content_lines F) ≡ true
+clean-content limit F le content sizes =
+    let groups = clean-flat group_lines (entries F.groups) (got_all nat_list_cmp_total octet_keys (λ name N. clean (group_lines (name, N)) ≡ true) F.groups (λ name N g. clean-group limit name N le (few_numbers limit N le (content.groups name N g).numbers) (content.groups name N g))) in
     let articles = clean-flat article_lines (entries F.articles) (got_all nat_list_cmp_total octet_keys (λ id t. clean (article_lines (id, t)) ≡ true) F.articles (λ id t g. let s = sizes id t g in clean-article id t s.0 s.1 (content.articles id t g))) in
     clean-append (flat_map group_lines (entries F.groups)) (flat_map article_lines (entries F.articles) ++ codes "end" ∷ []) groups (clean-append (flat_map article_lines (entries F.articles)) (codes "end" ∷ []) articles refl)
+
+clean-limit : (limit : Limit) → clean (limit_lines limit) ≡ true
+clean-limit Narrow = refl
+clean-limit Wide = refl
+
+clean-text : (L : LimitedSpool) → IsContent (greatest L.limit) L.spool → HasLineCounts L.spool → clean (spool_lines L) ≡ true
+clean-text L content sizes = clean-append (limit_lines L.limit) (content_lines L.spool) (clean-limit L.limit) (clean-content (greatest L.limit) L.spool (greatest_small L.limit) content sizes)
 
 segments_of-with_line_ends : (lines : List Line) → clean lines ≡ true → segments_of (with_line_ends lines) ≡ lines ++ [] ∷ []
 segments_of-with_line_ends [] h = refl
@@ -104,17 +115,18 @@ enough : {X : Type 0} (f : X → List Line) (xs : List X) → ((x : X) → 1 ≤
 enough f [] h = omega arith
 enough f (x ∷ xs) h = omega (arith, length-append (f x) (flat_map f xs), h x, enough f xs h)
 
-length-text : (F : Spool) → length (flat_map group_lines (entries F.groups)) + length (flat_map article_lines (entries F.articles)) + 2 ≤ length (spool_text F)
-length-text F =
-    let groups = flat_map group_lines (entries F.groups) in
-    let articles = flat_map article_lines (entries F.articles) in
-    omega (arith, length-with_line_ends (spool_lines F), length-append groups (articles ++ codes "end" ∷ []), length-append articles (codes "end" ∷ []))
+length-text : (L : LimitedSpool) → length (flat_map group_lines (entries L.spool.groups)) + length (flat_map article_lines (entries L.spool.articles)) + 2 ≤ length (spool_text L)
+length-text L =
+    let groups = flat_map group_lines (entries L.spool.groups) in
+    let articles = flat_map article_lines (entries L.spool.articles) in
+    omega (arith, length-with_line_ends (spool_lines L), length-append (limit_lines L.limit) (content_lines L.spool), some_limit_line L.limit, length-append groups (articles ++ codes "end" ∷ []), length-append articles (codes "end" ∷ []))
 
-pub counted : (F : Spool) → length (spool_text F) < 2 ^ 64 → HasLineCounts F
-counted F lt =
-    let whole = length-text F in
+pub counted : (L : LimitedSpool) → length (spool_text L) < 2 ^ 64 → HasLineCounts L.spool
+counted L lt =
+    let F = L.spool in
+    let whole = length-text L in
     λ id t g.
-    let fits = all_got nat_list_cmp_total octet_keys (λ id t. length (article_lines (id, t)) ≤ length (spool_text F)) F.articles (within article_lines (entries F.articles) (length (spool_text F)) (omega arith)) id t g in
+    let fits = all_got nat_list_cmp_total octet_keys (λ id t. length (article_lines (id, t)) ≤ length (spool_text L)) F.articles (within article_lines (entries F.articles) (length (spool_text L)) (omega arith)) id t g in
     let both = length-append (barred t.head) (barred t.body) in
     let heads = length-map t.head (λ line. 124 ∷ line) in
     let bodies = length-map t.body (λ line. 124 ∷ line) in
@@ -122,18 +134,31 @@ counted F lt =
 
 -- ---- the whole
 
-pub text_again : (profile : Profile) (F : Spool) → profile.limit < 2 ^ 64 → IsContent profile F → HasLineCounts F → ids_have_articles F ≡ true → spool_at profile (spool_text F) ≡ Ok F
-unfolding spool_at
-text_again profile F le content sizes known =
+-- behind the lines of the limit
+content_again : (limit most line : ℕ) (F : Spool) → limit < 2 ^ 64 → IsContent limit F → HasLineCounts F → ids_have_articles F ≡ true → length (entries F.groups) + length (entries F.articles) < most
+    → content_at limit most (record { line = line; segments = flat_map group_lines (entries F.groups) ++ tail_lines (entries F.articles) }) ≡ Ok F
+unfolding content_at
+content_again limit most line F le content sizes known enough =
     let groups = entries F.groups in
     let texts = entries F.articles in
-    let lines : segments_of (spool_text F) ≡ codes "spool 1" ∷ (flat_map group_lines groups ++ tail_lines texts) =
-    segments_of-with_line_ends (spool_lines F) (clean-text profile F le content sizes)
-    ∙ ap (λ (ps : List Line). codes "spool 1" ∷ ps) (append_assoc (flat_map group_lines groups) (flat_map article_lines texts ++ codes "end" ∷ []) ([] ∷ []) ∙ ap (λ (ps : List Line). flat_map group_lines groups ++ ps) (append_assoc (flat_map article_lines texts) (codes "end" ∷ []) ([] ∷ []))) in
+    let again = groups_again limit F le content sizes known most line no_spool groups texts (ap (λ (es : List (Name × Numbers)). es ++ groups) (sym (no_entries (slice_cmp nat_cmp)))) (ap (λ (es : List (Id × Text)). es ++ texts) (sym (no_entries (slice_cmp nat_cmp)))) enough in
+    rw again.1 refl
+
+pub text_again : (L : LimitedSpool) → IsContent (greatest L.limit) L.spool → HasLineCounts L.spool → ids_have_articles L.spool ≡ true → spool_at (spool_text L) ≡ Ok L
+unfolding spool_at
+text_again L content sizes known =
+    let groups = entries L.spool.groups in
+    let texts = entries L.spool.articles in
+    let behind = flat_map group_lines groups ++ tail_lines texts in
+    let lines : segments_of (spool_text L) ≡ limit_lines L.limit ++ behind =
+    segments_of-with_line_ends (spool_lines L) (clean-text L content sizes)
+    ∙ append_assoc (limit_lines L.limit) (content_lines L.spool) ([] ∷ [])
+    ∙ ap (λ (ps : List Line). limit_lines L.limit ++ ps) (append_assoc (flat_map group_lines groups) (flat_map article_lines texts ++ codes "end" ∷ []) ([] ∷ []) ∙ ap (λ (ps : List Line). flat_map group_lines groups ++ ps) (append_assoc (flat_map article_lines texts) (codes "end" ∷ []) ([] ∷ []))) in
     let front = first_lines groups texts in
-    let most : length groups + length texts < length (spool_text F) =
-    omega (arith, length-text F, enough group_lines groups (λ g. omega arith), enough article_lines texts (λ a. omega arith)) in
-    let again = groups_again profile F le content sizes known (length (spool_text F)) 2 no_spool groups texts (ap (λ (es : List (Name × Numbers)). es ++ groups) (sym (no_entries (slice_cmp nat_cmp)))) (ap (λ (es : List (Id × Text)). es ++ texts) (sym (no_entries (slice_cmp nat_cmp)))) most in
-    let line : line_at (record { line = 1; segments = segments_of (spool_text F) }) ≡ Ok (codes "spool 1", record { line = 2; segments = flat_map group_lines groups ++ tail_lines texts }) =
-    ap (next_line 1) lines ∙ ap (λ (ps : List Line). next_line 1 (codes "spool 1" ∷ ps)) front.2 ∙ ap (λ (ps : List Line). Ok (codes "spool 1", record { line = 2; segments = ps })) (sym front.2) in
-    rw (line, again.1) refl
+    let most : length groups + length texts < length (spool_text L) =
+    omega (arith, length-text L, enough group_lines groups (λ g. omega arith), enough article_lines texts (λ a. omega arith)) in
+    let first = limit_again L.limit front.0 front.1 in
+    let limit : limit_at (record { line = 1; segments = segments_of (spool_text L) }) ≡ Ok (L.limit, record { line = first.0; segments = behind }) =
+    ap (λ (ps : List Line). limit_at (record { line = 1; segments = ps })) (lines ∙ ap (λ (ps : List Line). limit_lines L.limit ++ ps) front.2)
+    ∙ first.1 ∙ ap (λ (ps : List Line). Ok (L.limit, record { line = first.0; segments = ps })) (sym front.2) in
+    rw (limit, content_again (greatest L.limit) (length (spool_text L)) first.0 L.spool (greatest_small L.limit) content sizes known most) refl

@@ -7,8 +7,18 @@ use Rattle.nntp_article.specs.Spool.{Spool, IsSpool}
 use Rattle.nntp_article.specs.declared.profile.Profile.{Profile}
 use Rattle.nntp_article.specs.Explains.{Explains, ExplainsUpTo}
 use Rattle.nntp_article.specs.Machine.{State, start, MayAnswer, after}
+use Rattle.nntp_spool.specs.declared.verification.verified.Verified.{Verified}
+use Rattle.nntp_spool.specs.Verifying.{IsVerified}
 use Rattle.nntp_spool.specs.Sessions.{state_after, MayAnswerAll, RefusesAt}
 use Rattle.nntp_spool.proofs.PermittedPairs.{state-more, all-more, permitted-explained, unpermitted-refused, bad-refused}
+
+-- a spool and a profile that are the same leave what is verified as it is
+pub verified_by_same : (profile other : Profile) (S T : Spool) (client server : List ℕ) (verified : Verified) → profile ≡ other → S ≡ T → IsVerified profile S client server verified → IsVerified other T client server verified
+verified_by_same profile other S T client server verified same equal is =
+    subst (λ (U : Spool). IsVerified other U client server verified) equal (subst (λ (p : Profile). IsVerified p S client server verified) same is)
+
+pub spool_by_same : (profile other : Profile) (S T : Spool) → profile ≡ other → S ≡ T → IsSpool other.limit T → IsSpool profile.limit S
+spool_by_same profile other S T same equal is = subst (λ (U : Spool). IsSpool profile.limit U) (sym equal) (subst (λ (p : Profile). IsSpool p.limit T) (sym same) is)
 
 -- so far the exchanges are permitted
 pub record Permitted (profile : Profile) (S : Spool) (client server : List ℕ) (left : Unpaired) (s : State) (count : ℕ) : Type 0 where
@@ -28,7 +38,7 @@ one_more_pair profile S client server left behind s new count x p is may leads =
   counted = ap (λ n. n + 1) (is.index ∙ index-counts client server p.pairs left p.next) ∙ sym (length-append p.pairs (x ∷ []));
 }
 
-module _ (profile : Profile) (S : Spool) (is : IsSpool profile S) (client server : List ℕ) (left : Unpaired) (s : State) (count : ℕ) (p : Permitted profile S client server left s count) where
+module _ (profile : Profile) (S : Spool) (is : IsSpool profile.limit S) (client server : List ℕ) (left : Unpaired) (s : State) (count : ℕ) (p : Permitted profile S client server left s count) where
   pub not_permitted : (behind : Unpaired) (x : Paired) → IsNext left x behind → (MayAnswer profile S s (asked_at x.line) x.response → ⊥) → RefusesAt profile S client server count
   not_permitted behind x is_next never =
       subst (RefusesAt profile S client server) (sym p.counted) (unpermitted-refused profile S is client server p.pairs left behind x p.next p.may is_next (λ may. never (subst (λ (t : State). MayAnswer profile S t (asked_at x.line) x.response) (sym p.state) may)))

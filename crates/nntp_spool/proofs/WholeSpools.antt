@@ -12,22 +12,23 @@ use Rattle.std.proofs.lemmas.Bool.Decides.{nat_tests}
 use Rattle.std.proofs.lemmas.List.Sums.{AllPass-from_list_all, list_all-from_AllPass}
 use Rattle.std.proofs.lemmas.List.Folds.{list_all-append}
 use Rattle.nntp_wire.proofs.DecidedLemmas.{group_name-iff, message_id-iff}
+use Rattle.nntp_wire.specs.Limit.{greatest}
 use Rattle.nntp_wire.specs.Octets.{is_clean}
 use Rattle.nntp_spool.proofs.LineFields.{list_all_weaken}
 use Rattle.nntp_article.specs.Article.{Line, Id, is_head, is_clean_head, said_id}
-use Rattle.nntp_article.specs.Machine.{is_num, says_own_id, is_same}
+use Rattle.nntp_article.specs.Machine.{is_article_number, says_own_id, is_same}
 use Rattle.nntp_article.specs.Spool.{Name, Spool, Numbers, numbers, IsSpool, is_line}
-use Rattle.nntp_article.specs.declared.profile.Profile.{Profile}
 use Rattle.nntp_spool.specs.Content.{all_known, ids_have_articles}
 use Rattle.nntp_spool.specs.Reading.{spool_at}
 use Rattle.nntp_spool.specs.declared.text.read_fault.ReadFault.{ReadFault}
-use Rattle.nntp_spool.specs.Text.{spool_text, HasLineCounts, IsWritten}
+use Rattle.nntp_spool.specs.Limited.{LimitedSpool, IsWithinLimit}
+use Rattle.nntp_spool.specs.Text.{spool_text, IsWritten}
 use Rattle.nntp_spool.specs.Content.{AreNumbers, IsNamed, IsContent}
 use Rattle.nntp_spool.proofs.MapEntries.{all_got, got_all}
 use Rattle.nntp_spool.proofs.NumbersInOrder.{no_numbers, all_passed}
 use Rattle.nntp_spool.proofs.NumbersRead.{ok_is, done}
 use Rattle.nntp_spool.proofs.ShownMaps.{octet_keys}
-use Rattle.nntp_spool.proofs.ItemsOfText.{text_takes}
+use Rattle.nntp_spool.proofs.TextTaken.{text_takes}
 use Rattle.nntp_spool.proofs.TextReadAgain.{text_again, counted}
 
 value_of_some : {A : Type 0} (o : Option A) → IsSome o → (x : A) × (o ≡ Some x)
@@ -38,11 +39,11 @@ pub passed_all : {X : Type 0} (p : X → Bool) (xs : List X) → AllByRecursion 
 passed_all p [] h = refl
 passed_all p (x ∷ xs) h = and_from (p x) (list_all p xs) h.0 (passed_all p xs h.1)
 
-num_between : (profile : Profile) (n : ℕ) → is_num profile n ≡ true → (1 ≤ n) × (n ≤ profile.limit)
-num_between profile n h = (grind (arith, nat_tests, and_parts), grind (arith, nat_tests, and_parts))
+num_between : (limit n : ℕ) → is_article_number limit n ≡ true → (1 ≤ n) × (n ≤ limit)
+num_between limit n h = (grind (arith, nat_tests, and_parts), grind (arith, nat_tests, and_parts))
 
-num_is : (profile : Profile) (n : ℕ) → 1 ≤ n → n ≤ profile.limit → is_num profile n ≡ true
-num_is profile n a b = grind (arith, nat_tests)
+num_is : (limit n : ℕ) → 1 ≤ n → n ≤ limit → is_article_number limit n ≡ true
+num_is limit n a b = grind (arith, nat_tests)
 
 -- what a head says is told by the test
 said_own : (id said : Id) (head : List Line) → says_own_id id head ≡ true → said_id head ≡ Some said → said ≡ id
@@ -52,12 +53,12 @@ own_said : (id : Id) (o : Option Id) → ((said : Id) → o ≡ Some said → sa
 own_said id None h = refl
 own_said id (Some said) h = (bytes_decides said id).1 (h said refl)
 
-module _ (profile : Profile) (S : Spool) where
-  numbers_of_groups : ((name : Name) (N : Numbers) → get S.groups name ≡ Some N → IsNamed profile name N) → (name : Name) → AreNumbers profile (numbers S name)
+module _ (limit : ℕ) (S : Spool) where
+  numbers_of_groups : ((name : Name) (N : Numbers) → get S.groups name ≡ Some N → IsNamed limit name N) → (name : Name) → AreNumbers limit (numbers S name)
   numbers_of_groups groups name = by (get S.groups name) refl
     where
-      by : (o : Option Numbers) → get S.groups name ≡ o → AreNumbers profile (unwrap_or o empty)
-      by None e = no_numbers profile
+      by : (o : Option Numbers) → get S.groups name ≡ o → AreNumbers limit (unwrap_or o empty)
+      by None e = no_numbers limit
       by (Some N) e = (groups name N e).numbers
 
   known_ids : ids_have_articles S ≡ true → (name : Name) (n : ℕ) (id : Id) → get (numbers S name) n ≡ Some id → IsSome (get S.articles id)
@@ -72,10 +73,10 @@ module _ (profile : Profile) (S : Spool) where
           let all = all_got nat_list_cmp_total octet_keys (λ name N. all_known S N ≡ true) S.groups (all_passed (λ g. all_known S g.1) (entries S.groups) known) name N e in
           all_got nat_cmp_total nat_cmp-IsAntisymmetric (λ n id. is_some (get S.articles id) ≡ true) N (all_passed (λ e. is_some (get S.articles e.1)) (entries N) all) n id g
 
-  pub to_spool : IsContent profile S → ids_have_articles S ≡ true → IsSpool profile S
+  pub to_spool : IsContent limit S → ids_have_articles S ≡ true → IsSpool limit S
   to_spool content known = record {
     names = λ name g. let N = value_of_some (get S.groups name) g in (group_name-iff name).0 (content.groups name N.0 N.1).is_name;
-    numbers_in_limit = λ name n is. let id = value_of_some (get (numbers S name) n) is in num_between profile n ((numbers_of_groups content.groups name).each n id.0 id.1).0;
+    numbers_in_limit = λ name n is. let id = value_of_some (get (numbers S name) n) is in num_between limit n ((numbers_of_groups content.groups name).each n id.0 id.1).0;
     one_to_one = λ name. (numbers_of_groups content.groups name).one_to_one;
     ids_have_articles = known_ids known;
     ids = λ id is. let t = value_of_some (get S.articles id) is in (message_id-iff id).0 (content.articles id t.0 t.1).is_id;
@@ -85,16 +86,16 @@ module _ (profile : Profile) (S : Spool) where
     own_ids = λ id said t g says. said_own id said t.head (and_parts (is_clean_head t.head) (says_own_id id t.head) (content.articles id t g).head).1 says;
   }
 
-  pub content_of_spool : IsSpool profile S → IsContent profile S
+  pub content_of_spool : IsSpool limit S → IsContent limit S
   content_of_spool s = record {
     groups = λ name N g.
         let same : numbers S name ≡ N = ap (λ o. unwrap_or o empty) g in
         record {
           is_name = (group_name-iff name).1 (s.names name (ap is_some g));
-          numbers = subst (AreNumbers profile) same (record {
+          numbers = subst (AreNumbers limit) same (record {
             each = λ n id at.
                 let between = s.numbers_in_limit name n (ap is_some at) in
-                (num_is profile n between.0 between.1, (message_id-iff id).1 (s.ids id (s.ids_have_articles name n id at)));
+                (num_is limit n between.0 between.1, (message_id-iff id).1 (s.ids id (s.ids_have_articles name n id at)));
             one_to_one = s.one_to_one name;
           });
         };
@@ -109,38 +110,35 @@ module _ (profile : Profile) (S : Spool) where
         };
   }
 
-  pub spool_knows : IsSpool profile S → ids_have_articles S ≡ true
+  pub spool_knows : IsSpool limit S → ids_have_articles S ≡ true
   spool_knows s =
       passed_all (λ g. all_known S g.1) (entries S.groups) (got_all nat_list_cmp_total octet_keys (λ name N. all_known S N ≡ true) S.groups (λ name N g.
       passed_all (λ e. is_some (get S.articles e.1)) (entries N) (got_all nat_cmp_total nat_cmp-IsAntisymmetric (λ n id. is_some (get S.articles id) ≡ true) N (λ n id at. s.ids_have_articles name n id (ap (λ o. get (unwrap_or o empty) n) g ∙ at)))))
 
 -- ---- texts
 
-pub read_is_text : (profile : Profile) (octets : List ℕ) (S : Spool) → profile.limit < 2 ^ 64 → spool_at profile octets ≡ Ok S → IsSpool profile S × (octets ≡ spool_text S)
-read_is_text profile octets S le e = let read = text_takes profile octets S le e in (to_spool profile S read.content read.known, read.text)
+pub read_is_text : (octets : List ℕ) (L : LimitedSpool) → spool_at octets ≡ Ok L → IsWithinLimit L × (octets ≡ spool_text L)
+read_is_text octets L e = let read = text_takes octets L e in (to_spool (greatest L.limit) L.spool read.content read.known, read.text)
 
-pub text_is_read : (profile : Profile) (S : Spool) → profile.limit < 2 ^ 64 → IsSpool profile S → HasLineCounts S → spool_at profile (spool_text S) ≡ Ok S
-text_is_read profile S le is sizes = text_again profile S le (content_of_spool profile S is) sizes (spool_knows profile S is)
+pub written_is_read : (L : LimitedSpool) → IsWritten L → spool_at (spool_text L) ≡ Ok L
+written_is_read L is = text_again L (content_of_spool (greatest L.limit) L.spool is.is_spool) is.line_counts (spool_knows (greatest L.limit) L.spool is.is_spool)
 
 -- octets in memory that are the text of a spool
-pub memory_is_read : (profile : Profile) (S : Spool) → profile.limit < 2 ^ 64 → IsSpool profile S → length (spool_text S) < 2 ^ 64 → spool_at profile (spool_text S) ≡ Ok S
-memory_is_read profile S le is lt = text_is_read profile S le is (counted S lt)
+pub memory_is_read : (L : LimitedSpool) → IsWithinLimit L → length (spool_text L) < 2 ^ 64 → spool_at (spool_text L) ≡ Ok L
+memory_is_read L is lt = written_is_read L (record { is_spool = is; line_counts = counted L lt })
 
-pub written_is_read : (profile : Profile) (S : Spool) → profile.limit < 2 ^ 64 → IsWritten profile S → spool_at profile (spool_text S) ≡ Ok S
-written_is_read profile S le is = text_is_read profile S le is.is_spool is.line_counts
-
-pub same_text : (profile : Profile) (S T : Spool) → profile.limit < 2 ^ 64 → IsWritten profile S → IsWritten profile T → spool_text S ≡ spool_text T → S ≡ T
-same_text profile S T le s t e = ok_is S T (sym (written_is_read profile S le s) ∙ ap (spool_at profile) e ∙ written_is_read profile T le t)
+pub same_text : (K L : LimitedSpool) → IsWritten K → IsWritten L → spool_text K ≡ spool_text L → K ≡ L
+same_text K L k l e = ok_is K L (sym (written_is_read K k) ∙ ap spool_at e ∙ written_is_read L l)
 
 -- what was read is the spool whose text the octets are
-pub read_is_same : (profile : Profile) (octets : List ℕ) (T S : Spool) → profile.limit < 2 ^ 64 → length octets < 2 ^ 64 → spool_at profile octets ≡ Ok T → IsSpool profile S → octets ≡ spool_text S → T ≡ S
-read_is_same profile octets T S le lt e is same =
-    ok_is T S (sym e ∙ ap (spool_at profile) same ∙ memory_is_read profile S le is (subst (λ (os : List ℕ). length os < 2 ^ 64) same lt))
+pub read_is_same : (octets : List ℕ) (K L : LimitedSpool) → length octets < 2 ^ 64 → spool_at octets ≡ Ok K → IsWithinLimit L → octets ≡ spool_text L → K ≡ L
+read_is_same octets K L lt e is same =
+    ok_is K L (sym e ∙ ap spool_at same ∙ memory_is_read L is (subst (λ (os : List ℕ). length os < 2 ^ 64) same lt))
 
 -- octets with a fault are no text
-pub fault_is_no_text : (profile : Profile) (octets : List ℕ) (fault : ReadFault) → profile.limit < 2 ^ 64 → length octets < 2 ^ 64 → spool_at profile octets ≡ Err fault → (S : Spool) → IsSpool profile S → octets ≡ spool_text S → ⊥
-fault_is_no_text profile octets fault le lt e S is same =
-    not_both S fault (sym (memory_is_read profile S le is (subst (λ (os : List ℕ). length os < 2 ^ 64) same lt)) ∙ ap (spool_at profile) (sym same) ∙ e)
+pub fault_is_no_text : (octets : List ℕ) (fault : ReadFault) → length octets < 2 ^ 64 → spool_at octets ≡ Err fault → (L : LimitedSpool) → IsWithinLimit L → octets ≡ spool_text L → ⊥
+fault_is_no_text octets fault lt e L is same =
+    not_both L fault (sym (memory_is_read L is (subst (λ (os : List ℕ). length os < 2 ^ 64) same lt)) ∙ ap spool_at (sym same) ∙ e)
   where
-    not_both : (S : Spool) (fault : ReadFault) → done S ≡ Err fault → ⊥
-    not_both S fault e = cc
+    not_both : (L : LimitedSpool) (fault : ReadFault) → done L ≡ Err fault → ⊥
+    not_both L fault e = cc

@@ -1,13 +1,12 @@
 -- What a writer took of lines.
-use Rattle.std.proofs.Common.{◌≡◌, ℕ, List, [], ◌∷◌, ◌++◌, Option, subst, sym, ap}
-use Rattle.std.specs.Prelude.{codes}
-use Rattle.std.specs.List.{flat_map}
-use Rattle.std.specs.FinMap.{entries}
+use Rattle.std.proofs.Common.{◌≡◌, ℕ, List, [], ◌∷◌, ◌++◌, Option, Result, subst, sym, ap}
 use Rattle.std.proofs.lemmas.List.{append-nil}
 use Rattle.std.proofs.lemmas.List.Concat.{flat_map-append}
+use Rattle.nntp_wire.specs.declared.limit.Limit.{Limit}
 use Rattle.nntp_article.specs.Spool.{Spool}
-use Rattle.nntp_spool.specs.Text.{with_line_ends, group_line, article_line, group_lines, article_lines, spool_text}
-use Rattle.nntp_spool.specs.Writing.{Wrote}
+use Rattle.nntp_spool.specs.Limited.{LimitedSpool}
+use Rattle.nntp_spool.specs.Text.{with_line_ends, group_line, article_line, limit_lines, content_lines, spool_text}
+use Rattle.nntp_spool.specs.Writing.{Wrote, Writes}
 use Rattle.nntp_spool.proofs.Written.{Wrote-on, Wrote-first}
 
 pub with_line_ends-cons : (line : List ℕ) (lines : List (List ℕ)) → with_line_ends (line ∷ lines) ≡ with_line_ends (line ∷ []) ++ with_line_ends lines
@@ -33,11 +32,11 @@ pub Article-first : (a b : Option (List ℕ)) (id : List ℕ) (m heads n bodies 
 Article-first a b id m heads n bodies more rest e f g =
     Lines-first a b (article_line id heads bodies ∷ []) more rest (subst (λ (k : ℕ). Wrote a b (with_line_ends (article_line id k bodies ∷ [])) rest) e (subst (λ (k : ℕ). Wrote a b (with_line_ends (article_line id m k ∷ [])) rest) f g))
 
--- what is left of a spool's text behind its first line, and behind its groups
-pub Groups-left : (S : Spool) (a b : Option (List ℕ)) → Wrote a b (with_line_ends (codes "spool 1" ∷ [])) []
-    → Wrote a b (spool_text S) (with_line_ends (flat_map group_lines (entries S.groups) ++ (flat_map article_lines (entries S.articles) ++ codes "end" ∷ [])))
-Groups-left S a b first = Lines-first a b (codes "spool 1" ∷ []) (flat_map group_lines (entries S.groups) ++ (flat_map article_lines (entries S.articles) ++ codes "end" ∷ [])) [] first
+-- the lines of a spool's limit, and its groups and articles
+pub Limit-first : (a b : Option (List ℕ)) (limit : Limit) (L : LimitedSpool) (rest : List ℕ) → limit ≡ L.limit
+    → Wrote a b (with_line_ends (limit_lines limit)) rest → Wrote a b (spool_text L) (rest ++ with_line_ends (content_lines L.spool))
+Limit-first a b limit L rest e g = Lines-first a b (limit_lines L.limit) (content_lines L.spool) rest (subst (λ (l : Limit). Wrote a b (with_line_ends (limit_lines l)) rest) e g)
 
-pub Articles-left : (S : Spool) (a b c : Option (List ℕ)) → Wrote a b (with_line_ends (codes "spool 1" ∷ [])) [] → Wrote b c (with_line_ends (flat_map group_lines (entries S.groups))) []
-    → Wrote a c (spool_text S) (with_line_ends (flat_map article_lines (entries S.articles) ++ codes "end" ∷ []))
-Articles-left S a b c first groups = Lines-next a b c (spool_text S) (flat_map group_lines (entries S.groups)) (flat_map article_lines (entries S.articles) ++ codes "end" ∷ []) [] (Groups-left S a b first) groups
+pub Content-written : {A E : Type 0} (r : Result A E) (a b : Option (List ℕ)) (S : Spool) (L : LimitedSpool) → S ≡ L.spool
+    → Writes r a b (with_line_ends (content_lines S)) → Writes r a b (with_line_ends (content_lines L.spool))
+Content-written r a b S L e g = subst (λ (T : Spool). Writes r a b (with_line_ends (content_lines T))) e g

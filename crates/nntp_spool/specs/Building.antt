@@ -4,33 +4,36 @@ use Rattle.std.specs.List.{list_all}
 use Rattle.std.specs.Coded.{Coded, code_by, coded×, coded_bool}
 use Rattle.std.specs.FinMap.{get}
 use Rattle.nntp_wire.specs.Decided.{is_group_name, is_message_id}
+use Rattle.nntp_wire.specs.declared.limit.Limit.{Limit}
+use Rattle.nntp_article.specs.Coded.{coded_limit}
 use Rattle.nntp_article.specs.Article.{Id}
 use Rattle.nntp_article.specs.Spool.{Name, Spool, Text, numbers, is_line}
-use Rattle.nntp_article.specs.declared.profile.Profile.{Profile}
-use Rattle.nntp_article.specs.Machine.{is_num}
+use Rattle.nntp_article.specs.Machine.{is_article_number}
 use Rattle.nntp_spool.specs.declared.value.spool_fault.SpoolFault.{SpoolFault}
 use Rattle.nntp_spool.specs.declared.value.spool_fault.SpoolFault.TheVariants as faults
 use Rattle.nntp_spool.specs.Codes.{coded_spool}
+use Rattle.nntp_spool.specs.Limited.{LimitedSpool}
 use Rattle.nntp_spool.specs.Numbers.{has_id}
 use Rattle.nntp_spool.specs.Content.{is_head_of, ids_have_articles}
 
--- a builder's content, and whether it failed
+-- a builder's limit, its content, and whether it failed
 pub record Building : Type 0 where
+  pub limit : Limit
   pub spool : Spool
   pub failed : Bool
 
 abbrev pub coded_building : Coded Building
-coded_building = code_by _ (coded× coded_spool coded_bool) (λ b. (b.spool, b.failed)) (λ p. record { spool = p.0; failed = p.1 }) (λ _. refl)
+coded_building = code_by _ (coded× coded_limit (coded× coded_spool coded_bool)) (λ b. (b.limit, (b.spool, b.failed))) (λ p. record { limit = p.0; spool = p.1.0; failed = p.1.1 }) (λ _. refl)
 
 abbrev pub group_fault : Spool → Name → Option SpoolFault
 group_fault S name =
     if not (is_group_name name) then Some faults.BadName
     else (if is_some (get S.groups name) then Some faults.DuplicateGroup else None)
 
-abbrev pub number_fault : Profile → Spool → Name → ℕ → Id → Option SpoolFault
-number_fault profile S name n id =
+abbrev pub number_fault : ℕ → Spool → Name → ℕ → Id → Option SpoolFault
+number_fault limit S name n id =
     if is_none (get S.groups name) then Some faults.UnknownGroup
-    else (if not (is_num profile n) then Some faults.BadNumber
+    else (if not (is_article_number limit n) then Some faults.BadNumber
     else (if not (is_message_id id) then Some faults.BadId
     else (if is_some (get (numbers S name) n) then Some faults.DuplicateNumber
     else (if has_id (numbers S name) id then Some faults.DuplicateId else None))))
@@ -43,16 +46,16 @@ article_fault S id text =
     else (if is_some (get S.articles id) then Some faults.DuplicateId else None)))
 
 -- what a builder is given up for
-abbrev pub finished : Building → Result Spool SpoolFault
+abbrev pub finished : Building → Result LimitedSpool SpoolFault
 finished b =
     if b.failed then Err faults.Failed
-    else (if not (ids_have_articles b.spool) then Err faults.UnknownId else Ok b.spool)
+    else (if not (ids_have_articles b.spool) then Err faults.UnknownId else Ok (record { limit = b.limit; spool = b.spool }))
 
 -- A call on a builder: it failed before; there is a fault; it is done; memory was refused.
 abbrev pub BuildsBy : Bool → Option SpoolFault → Spool → Result (Unit {0}) SpoolFault → Building → Building → Type 0
 BuildsBy true fault made r old new = (r ≡ Err faults.Failed) × (new ≡ old)
 BuildsBy false (Some fault) made r old new = (r ≡ Err fault) × (new ≡ old)
-BuildsBy false None made (Ok x) old new = new ≡ record { spool = made; failed = false }
+BuildsBy false None made (Ok x) old new = new ≡ record old { spool = made }
 BuildsBy false None made (Err e) old new = (e ≡ faults.Memory) × (new.failed ≡ true)
 
 -- where the fault, if there is one, and the new content are these

@@ -5,8 +5,7 @@ use Rattle.std.specs.FinMap.{get, insert, empty, entries}
 use Rattle.nntp_wire.specs.Decided.{is_group_name, is_message_id}
 use Rattle.nntp_article.specs.Article.{Line, Id, is_clean_head}
 use Rattle.nntp_article.specs.Spool.{Name, Spool, Numbers, Text, is_line}
-use Rattle.nntp_article.specs.declared.profile.Profile.{Profile}
-use Rattle.nntp_article.specs.Machine.{is_num, says_own_id}
+use Rattle.nntp_article.specs.Machine.{is_article_number, says_own_id}
 
 -- no group and no article
 abbrev pub no_spool : Spool
@@ -31,14 +30,14 @@ abbrev pub ids_have_articles : Spool → Bool
 ids_have_articles S = list_all (λ g. all_known S g.1) (entries S.groups)
 
 -- the numbers of a group: 1 to the limit, each with an id of its own
-pub record AreNumbers (profile : Profile) (N : Numbers) : Type 0 where
-  pub each : (n : ℕ) (id : Id) → get N n ≡ Some id → (is_num profile n ≡ true) × (is_message_id id ≡ true)
+pub record AreNumbers (limit : ℕ) (N : Numbers) : Type 0 where
+  pub each : (n : ℕ) (id : Id) → get N n ≡ Some id → (is_article_number limit n ≡ true) × (is_message_id id ≡ true)
   pub one_to_one : (n m : ℕ) (id : Id) → get N n ≡ Some id → get N m ≡ Some id → n ≡ m
 
 -- a group with its name
-pub record IsNamed (profile : Profile) (name : Name) (N : Numbers) : Type 0 where
+pub record IsNamed (limit : ℕ) (name : Name) (N : Numbers) : Type 0 where
   pub is_name : is_group_name name ≡ true
-  pub numbers : AreNumbers profile N
+  pub numbers : AreNumbers limit N
 
 -- the article of an id
 pub record IsArticle (id : Id) (t : Text) : Type 0 where
@@ -47,6 +46,6 @@ pub record IsArticle (id : Id) (t : Text) : Type 0 where
   pub head_lines : list_all is_line t.head ≡ true
   pub body_lines : list_all is_line t.body ≡ true
 
-pub record IsContent (profile : Profile) (S : Spool) : Type 0 where
-  pub groups : (name : Name) (N : Numbers) → get S.groups name ≡ Some N → IsNamed profile name N
+pub record IsContent (limit : ℕ) (S : Spool) : Type 0 where
+  pub groups : (name : Name) (N : Numbers) → get S.groups name ≡ Some N → IsNamed limit name N
   pub articles : (id : Id) (t : Text) → get S.articles id ≡ Some t → IsArticle id t

@@ -1,6 +1,7 @@
 pub mod Watched
 pub mod Writing
 pub mod Codes
+pub mod Limited
 pub mod ArticleLines
 pub mod Text
 pub mod Fields

@@ -3,15 +3,18 @@ use Rattle.std.specs.Prelude.{◌≡◌, ℕ, zero, suc, ◌+◌, Bool, true, fa
 use Rattle.std.specs.List.{slice_split}
 use Rattle.std.specs.FinMap.{insert, empty}
 use Rattle.nntp_wire.specs.Decided.{is_group_name, is_message_id}
+use Rattle.nntp_wire.specs.Limit.{greatest}
+use Rattle.nntp_wire.specs.declared.limit.Limit.{Limit}
+use Rattle.nntp_wire.specs.declared.limit.Limit.TheVariants.{Narrow, Wide}
 use Rattle.nntp_article.specs.Article.{Line, Id, is_empty}
 use Rattle.nntp_article.specs.Spool.{Name, Spool, Numbers}
-use Rattle.nntp_article.specs.declared.profile.Profile.{Profile}
-use Rattle.nntp_article.specs.Machine.{is_num}
+use Rattle.nntp_article.specs.Machine.{is_article_number}
 use Rattle.nntp_spool.specs.declared.text.read_fault.Kind.{Kind}
 use Rattle.nntp_spool.specs.declared.text.read_fault.Kind.TheVariants as kinds
 use Rattle.nntp_spool.specs.declared.text.read_fault.ReadFault.{ReadFault}
 use Rattle.nntp_spool.specs.declared.text.read_fault.ReadError.{ReadError}
 use Rattle.nntp_spool.specs.declared.text.read_fault.ReadError.TheVariants as errors
+use Rattle.nntp_spool.specs.Limited.{LimitedSpool}
 use Rattle.nntp_spool.specs.Ascending.{is_last}
 use Rattle.nntp_spool.specs.Numbers.{has_id}
 use Rattle.nntp_spool.specs.Content.{no_spool, with_group, with_article, is_head_of, ids_have_articles}
@@ -65,22 +68,22 @@ repeat step zero s = Ok s
 repeat step (suc count) s = step s >>= repeat step count
 
 -- the number and the id of a line
-unfoldable pub number_in : Profile → ℕ → Line → Result (ℕ × Id) ReadFault
-number_in profile line l = do
+unfoldable pub number_in : ℕ → ℕ → Line → Result (ℕ × Id) ReadFault
+number_in limit line l = do
   e ← shaped line (number_and_id (fields_of l))
-  if not (is_num profile e.0) then fault line kinds.Number
+  if not (is_article_number limit e.0) then fault line kinds.Number
       else (if not (is_message_id e.1) then fault line kinds.Id else Ok e)
 
 -- one more number of a group
-unfoldable pub number_at : Profile → Numbers × Place → Result (Numbers × Place) ReadFault
-number_at profile s = do
+unfoldable pub number_at : ℕ → Numbers × Place → Result (Numbers × Place) ReadFault
+number_at limit s = do
   l ← line_at s.1
-  e ← number_in profile s.1.line l.0
+  e ← number_in limit s.1.line l.0
   if not (is_last s.0 e.0) then fault s.1.line kinds.Order
       else (if has_id s.0 e.1 then fault s.1.line kinds.DuplicateId else Ok (insert s.0 e.0 e.1, l.1))
 
-abbrev pub numbers_at : Profile → ℕ → Place → Result (Numbers × Place) ReadFault
-numbers_at profile count p = repeat (number_at profile) count (empty, p)
+abbrev pub numbers_at : ℕ → ℕ → Place → Result (Numbers × Place) ReadFault
+numbers_at limit count p = repeat (number_at limit) count (empty, p)
 
 -- one more line of an article
 unfoldable pub barred_line_at : List Line × Place → Result (List Line × Place) ReadFault
@@ -95,11 +98,11 @@ barred_lines_at count p = repeat barred_line_at count ([], p)
 -- ---- items
 
 -- the numbers of a group, whose line is the one given
-unfoldable pub group_at : Profile → ℕ → Name → ℕ → Spool → Place → Result (Spool × Place) ReadFault
-group_at profile line name count S p =
+unfoldable pub group_at : ℕ → ℕ → Name → ℕ → Spool → Place → Result (Spool × Place) ReadFault
+group_at limit line name count S p =
     if not (is_group_name name) then fault line kinds.Name
     else (if not (is_last S.groups name) then fault line kinds.Order
-    else (numbers_at profile count p >>= λ N. Ok (with_group S name N.0, N.1)))
+    else (numbers_at limit count p >>= λ N. Ok (with_group S name N.0, N.1)))
 
 -- the lines of an article, whose line is the one given
 unfoldable pub article_at : ℕ → Id → ℕ → ℕ → Spool → Place → Result (Spool × Place) ReadFault
@@ -114,36 +117,61 @@ pub data Turn : Type 0 where
   On : (articles : Bool) → (spool : Spool) → (place : Place) → Turn
   Done : (spool : Spool) → (place : Place) → Turn
 
+-- the end, where each id has its article
+abbrev pub end_at : ℕ → Spool → Place → Result Turn ReadFault
+end_at line S p = if ids_have_articles S then Ok (Done S p) else fault line kinds.UnknownId
+
 -- what stands behind an item's line
-abbrev pub item_then : Profile → ℕ → Bool → Spool → Place → OpeningValue → Result Turn ReadFault
-item_then profile line articles S p (Group name count) = if articles then fault line kinds.Shape else (group_at profile line name count S p >>= λ g. Ok (On false g.0 g.1))
-item_then profile line articles S p (Article id heads bodies) = article_at line id heads bodies S p >>= λ a. Ok (On true a.0 a.1)
-item_then profile line articles S p End = if ids_have_articles S then Ok (Done S p) else fault line kinds.UnknownId
+abbrev pub item_then : ℕ → ℕ → Bool → Spool → Place → OpeningValue → Result Turn ReadFault
+item_then limit line articles S p (Group name count) = if articles then fault line kinds.Shape else (group_at limit line name count S p >>= λ g. Ok (On false g.0 g.1))
+item_then limit line articles S p (Article id heads bodies) = article_at line id heads bodies S p >>= λ a. Ok (On true a.0 a.1)
+item_then limit line articles S p End = end_at line S p
 
 -- an item, no group behind an article
-unfoldable pub item_at : Profile → Bool → Spool → Place → Result Turn ReadFault
-item_at profile articles S p = do
+unfoldable pub item_at : ℕ → Bool → Spool → Place → Result Turn ReadFault
+item_at limit articles S p = do
   l ← line_at p
   item ← shaped p.line (opening_of (fields_of l.0))
-  item_then profile p.line articles S l.1 item
+  item_then limit p.line articles S l.1 item
 
 abbrev pub turn_then : (Bool → Spool → Place → Result (Spool × Place) ReadFault) → Turn → Result (Spool × Place) ReadFault
 turn_then more (On articles S p) = more articles S p
 turn_then more (Done S p) = Ok (S, p)
 
 -- the items up to `end`, at most so many
-abbrev pub items_at : Profile → ℕ → Bool → Spool → Place → Result (Spool × Place) ReadFault
-items_at profile zero articles S p = fault p.line kinds.Shape
-items_at profile (suc most) articles S p = item_at profile articles S p >>= turn_then (items_at profile most)
+abbrev pub items_at : ℕ → ℕ → Bool → Spool → Place → Result (Spool × Place) ReadFault
+items_at limit zero articles S p = fault p.line kinds.Shape
+items_at limit (suc most) articles S p = item_at limit articles S p >>= turn_then (items_at limit most)
 
 -- nothing is left behind the last line
 abbrev pub is_end : List Line → Bool
 is_end [] = false
 is_end (segment ∷ segments) = is_empty segment && is_empty segments
 
--- A whole text. It has fewer items than octets.
-unfoldable pub spool_at : Profile → List ℕ → Result Spool ReadFault
-spool_at profile bytes = do
-  l ← line_at (record { line = 1; segments = segments_of bytes })
-  s ← (if bytes_eq l.0 (codes "spool 1") then items_at profile (length bytes) false no_spool l.1 else fault 1 kinds.Shape)
+-- the rest of a text, behind the lines of its limit
+unfoldable pub content_at : ℕ → ℕ → Place → Result Spool ReadFault
+content_at limit most p = do
+  s ← items_at limit most false no_spool p
   if is_end s.1.segments then Ok s.0 else fault s.1.line kinds.Shape
+
+-- ---- the limit
+
+-- the second line of a text whose limit is the wide one
+unfoldable pub wide_at : Place → Result (Limit × Place) ReadFault
+wide_at p = do
+  l ← line_at p
+  if bytes_eq l.0 (codes "limit 9999999999999999") then Ok (Wide, l.1) else fault p.line kinds.Shape
+
+-- the limit, and where its lines end
+unfoldable pub limit_at : Place → Result (Limit × Place) ReadFault
+limit_at p = do
+  l ← line_at p
+  if bytes_eq l.0 (codes "spool 1") then Ok (Narrow, l.1)
+      else (if bytes_eq l.0 (codes "spool 2") then wide_at l.1 else fault p.line kinds.Shape)
+
+-- A whole text. It has fewer items than octets.
+unfoldable pub spool_at : List ℕ → Result LimitedSpool ReadFault
+spool_at bytes = do
+  l ← limit_at (record { line = 1; segments = segments_of bytes })
+  S ← content_at (greatest l.0) (length bytes) l.1
+  Ok (record { limit = l.0; spool = S })

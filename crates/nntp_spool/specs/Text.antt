@@ -3,9 +3,11 @@ use Rattle.std.specs.Prelude.{◌≡◌, Some, ℕ, ◌<◌, ◌^◌, List, [], 
 use Rattle.std.specs.Fmt.{decimal}
 use Rattle.std.specs.List.{flat_map, join_with_byte}
 use Rattle.std.specs.FinMap.{get, entries, len}
+use Rattle.nntp_wire.specs.declared.limit.Limit.{Limit}
+use Rattle.nntp_wire.specs.declared.limit.Limit.TheVariants.{Narrow, Wide}
 use Rattle.nntp_article.specs.Article.{Line, Id}
-use Rattle.nntp_article.specs.Spool.{Name, Spool, Numbers, Text, IsSpool}
-use Rattle.nntp_article.specs.declared.profile.Profile.{Profile}
+use Rattle.nntp_article.specs.Spool.{Name, Spool, Numbers, Text}
+use Rattle.nntp_spool.specs.Limited.{LimitedSpool, IsWithinLimit}
 
 -- words, with one space between each two
 abbrev pub spaced : List (List ℕ) → Line
@@ -31,21 +33,30 @@ group_lines g = group_line g.0 (len g.1) ∷ map (λ e. number_line e.0 e.1) (en
 abbrev pub article_lines : Id × Text → List Line
 article_lines a = article_line a.0 (length a.1.head) (length a.1.body) ∷ (barred a.1.head ++ barred a.1.body)
 
-abbrev pub spool_lines : Spool → List Line
-spool_lines S = codes "spool 1" ∷ (flat_map group_lines (entries S.groups) ++ (flat_map article_lines (entries S.articles) ++ codes "end" ∷ []))
+-- the first lines, which say the limit
+abbrev pub limit_lines : Limit → List Line
+limit_lines Narrow = codes "spool 1" ∷ []
+limit_lines Wide = codes "spool 2" ∷ codes "limit 9999999999999999" ∷ []
+
+-- all groups and all articles, and the end
+abbrev pub content_lines : Spool → List Line
+content_lines S = flat_map group_lines (entries S.groups) ++ (flat_map article_lines (entries S.articles) ++ codes "end" ∷ [])
+
+abbrev pub spool_lines : LimitedSpool → List Line
+spool_lines L = limit_lines L.limit ++ content_lines L.spool
 
 -- each line with its end
 abbrev pub with_line_ends : List Line → List ℕ
 with_line_ends lines = flat_map (λ line. line ++ 10 ∷ []) lines
 
-abbrev pub spool_text : Spool → List ℕ
-spool_text S = with_line_ends (spool_lines S)
+abbrev pub spool_text : LimitedSpool → List ℕ
+spool_text L = with_line_ends (spool_lines L)
 
 -- each head and each body has fewer than 2^64 lines, as those of articles in memory have
 abbrev pub HasLineCounts : Spool → Type 0
 HasLineCounts S = (id : Id) (t : Text) → get S.articles id ≡ Some t → (length t.head < 2 ^ 64) × (length t.body < 2 ^ 64)
 
 -- a spool whose counts fit 64 bits, as those of each spool in memory do; a count of numbers is within the limit of article numbers
-pub record IsWritten (profile : Profile) (S : Spool) : Type 0 where
-  pub is_spool : IsSpool profile S
-  pub line_counts : HasLineCounts S
+pub record IsWritten (L : LimitedSpool) : Type 0 where
+  pub is_spool : IsWithinLimit L
+  pub line_counts : HasLineCounts L.spool

@@ -7,43 +7,42 @@ ghost use Rattle.nntp_article.specs.Explains.{Explains, ExplainsUpTo};
 ghost use Rattle.nntp_spool.specs.Sessions.{state_after, MayAnswerAll, RefusesAt};
 ghost use Rattle.nntp_article.specs.Spool.{Spool, IsSpool};
 ghost use Rattle.nntp_article.specs.declared.profile.Profile.{Profile};
+ghost use Rattle.nntp_spool.specs.Limited.{LimitedSpool, IsWithinLimit};
 ghost use Rattle.nntp_spool.specs.Text.{spool_text, IsWritten};
 ghost use Rattle.nntp_spool.specs.Reading.{spool_at};
 
 /// Octets that are read as a spool are its text.
 pub fn what_is_read_is_a_text()
-    ensures { (profile : Profile) (octets : List ℕ) (S : Spool) → profile.limit < 2 ^ 64 → spool_at profile octets ≡ Ok S
-        → IsSpool profile S × (octets ≡ spool_text S) }
+    ensures { (octets : List ℕ) (L : LimitedSpool) → spool_at octets ≡ Ok L → IsWithinLimit L × (octets ≡ spool_text L) }
 {}
 
 /// The text of a spool is read as this spool. A spool in memory is one that `IsWritten` speaks of, as
 /// `Spool::counts` says.
 pub fn each_text_is_read()
-    ensures { (profile : Profile) (S : Spool) → profile.limit < 2 ^ 64 → IsWritten profile S → spool_at profile (spool_text S) ≡ Ok S }
+    ensures { (L : LimitedSpool) → IsWritten L → spool_at (spool_text L) ≡ Ok L }
 {}
 
 /// The text of a spool, where memory holds it, is read as this spool. So what `write` writes of a spool
 /// is read as the same spool.
 pub fn text_in_memory_is_read()
-    ensures { (profile : Profile) (S : Spool) → profile.limit < 2 ^ 64 → IsSpool profile S → length (spool_text S) < 2 ^ 64 → spool_at profile (spool_text S) ≡ Ok S }
+    ensures { (L : LimitedSpool) → IsWithinLimit L → length (spool_text L) < 2 ^ 64 → spool_at (spool_text L) ≡ Ok L }
 {}
 
-/// Different spools have different texts.
+/// Different spools have different texts, and so has one spool with different limits.
 pub fn texts_differ()
-    ensures { (profile : Profile) (S T : Spool) → profile.limit < 2 ^ 64 → IsWritten profile S → IsWritten profile T
-        → spool_text S ≡ spool_text T → S ≡ T }
+    ensures { (K L : LimitedSpool) → IsWritten K → IsWritten L → spool_text K ≡ spool_text L → K ≡ L }
 {}
 
 /// Where a pairing's responses are permitted, the spool explains as many answers, up to the octets
 /// that are left.
 pub fn what_is_permitted_is_explained()
-    ensures { (profile : Profile) (S : Spool) (client server : List ℕ) (pairs : List Paired) (left : Unpaired) → IsSpool profile S
+    ensures { (profile : Profile) (S : Spool) (client server : List ℕ) (pairs : List Paired) (left : Unpaired) → IsSpool profile.limit S
         → AreNext (streams client server) pairs left → MayAnswerAll profile S start pairs → ExplainsUpTo profile S client server (length pairs) left.server }
 {}
 
 /// A response that isn't permitted behind those that are is the first that the spool doesn't explain.
 pub fn what_is_not_permitted_is_refused()
-    ensures { (profile : Profile) (S : Spool) (client server : List ℕ) (pairs : List Paired) (left behind : Unpaired) (x : Paired) → IsSpool profile S
+    ensures { (profile : Profile) (S : Spool) (client server : List ℕ) (pairs : List Paired) (left behind : Unpaired) (x : Paired) → IsSpool profile.limit S
         → AreNext (streams client server) pairs left → MayAnswerAll profile S start pairs → IsNext left x behind
         → ¬ (MayAnswer profile S (state_after S start pairs) (asked_at x.line) x.response) → RefusesAt profile S client server (length pairs) }
 {}
@@ -51,7 +50,7 @@ pub fn what_is_not_permitted_is_refused()
 /// Octets that answer nothing behind responses that are permitted are the first answer that the spool
 /// doesn't explain.
 pub fn what_answers_nothing_is_refused()
-    ensures { (profile : Profile) (S : Spool) (client server : List ℕ) (pairs : List Paired) (left : Unpaired) (class : PairClass) → IsSpool profile S
+    ensures { (profile : Profile) (S : Spool) (client server : List ℕ) (pairs : List Paired) (left : Unpaired) (class : PairClass) → IsSpool profile.limit S
         → AreNext (streams client server) pairs left → MayAnswerAll profile S start pairs → Ends left (bad class) → RefusesAt profile S client server (length pairs) }
 {}
 

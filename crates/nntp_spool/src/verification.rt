@@ -1,6 +1,6 @@
 //! Whether a given spool explains a session.
 ghost use Rattle.std.specs.Prelude.{◌≡◌, IfOk};
-ghost use Rattle.nntp_article.specs.Limit.{profile_31_bits};
+ghost use Rattle.nntp_article.specs.Limit.{profile_of};
 ghost use Rattle.nntp_spool.specs.Verifying.{IsVerified};
 
 mod agreement;
@@ -13,22 +13,26 @@ mod verified;
 
 use crate::value::Spool;
 use asked_counts::AskedCounts;
-use nntp_article::PROFILE_31_BITS;
+use nntp_article::Profile;
 use nntp_pair::{Pairs, Step};
+use nntp_wire::Marks;
 use session::Session;
 use std::alloc::{AllocError, Allocator};
 pub use verified::Verified;
 
-/// Whether the spool explains both streams of a session; and if not, which answer is the first that
-/// it doesn't explain together with those before it. `Err` says that memory was refused.
+/// Whether the spool explains both streams of a session, judged by the spool's limit and with marks read so; and if
+/// not, which answer is the first that it doesn't explain together with those before it. `Err` says that memory was
+/// refused.
 pub fn verify<A: Allocator + Copy>(
     alloc: A,
+    marks: Marks,
     spool: &Spool<A>,
     client: &[u8],
     server: &[u8],
 ) -> Result<Verified, AllocError>
-    ensures { IfOk result (λ verified. IsVerified profile_31_bits spool.now client.now server.now verified) }
+    ensures { IfOk result (λ verified. IsVerified (profile_of spool.now.limit marks) spool.now.spool client.now server.now verified) }
 {
+    let profile = Profile::of(spool.limit(), marks);
     let content = spool.content();
     let mut pairs = Pairs::new(client, server);
     let mut session = Session::new(alloc);
@@ -37,7 +41,7 @@ pub fn verify<A: Allocator + Copy>(
     loop {
         match pairs.next() {
             Step::Exchange(exchange) => {
-                if !session.may_answer(PROFILE_31_BITS, content, &mut counts, &exchange)? {
+                if !session.may_answer(profile, content, &mut counts, &exchange)? {
                     return Ok(Verified::Refuses { index: answers });
                 }
                 session.advance(content, &exchange)?;

@@ -1,4 +1,5 @@
 //! Checkers: the worked sessions in pieces, and what is told as bad while octets come.
+use crate::profiles::{NARROW_LENIENT, Profile};
 use crate::random::Random;
 use crate::sessions::{Session, TABLES};
 use crate::verdicts::shown;
@@ -52,12 +53,13 @@ fn feed_cut(
 pub(crate) fn expect_cut(
     rt: &impl Abort,
     alloc: Global,
+    profile: Profile,
     name: &str,
     streams: (&[u8], &[u8]),
     places: (usize, usize),
     wanted: &[u8],
 ) -> Result<(), Fail> {
-    let mut checker = Checker::new(alloc);
+    let mut checker = profile.checker(alloc);
     feed_cut(&mut checker, streams, places)?;
     expect(rt, alloc, name, checker, wanted)
 }
@@ -65,10 +67,11 @@ pub(crate) fn expect_cut(
 /// Cuts the server's stream at each place, behind the whole stream of the client.
 fn cut_server(rt: &impl Abort, alloc: Global, session: &Session) -> Result<(), Fail> {
     let wanted = session.report(alloc)?;
+    let Session { name, profile, .. } = *session;
     let streams = session.streams();
     for at_server in 0..session.server.len() {
         let places = (session.client.len(), at_server);
-        expect_cut(rt, alloc, session.name, streams, places, wanted.as_bytes())?;
+        expect_cut(rt, alloc, profile, name, streams, places, wanted.as_bytes())?;
     }
     Ok(())
 }
@@ -76,10 +79,11 @@ fn cut_server(rt: &impl Abort, alloc: Global, session: &Session) -> Result<(), F
 /// Cuts the client's stream at each place, round the whole stream of the server.
 fn cut_client(rt: &impl Abort, alloc: Global, session: &Session) -> Result<(), Fail> {
     let wanted = session.report(alloc)?;
+    let Session { name, profile, .. } = *session;
     let streams = session.streams();
     for at_client in 0..session.client.len() {
         let places = (at_client, session.server.len());
-        expect_cut(rt, alloc, session.name, streams, places, wanted.as_bytes())?;
+        expect_cut(rt, alloc, profile, name, streams, places, wanted.as_bytes())?;
     }
     Ok(())
 }
@@ -178,7 +182,7 @@ fn judge_by_octets(
     order: Order,
 ) -> Result<(), Fail> {
     let wanted = session.report(alloc)?;
-    let mut checker = Checker::new(alloc);
+    let mut checker = session.profile.checker(alloc);
     feed_by_octets(rt, &mut checker, session, order)?;
     expect(rt, alloc, session.name, checker, wanted.as_bytes())
 }
@@ -217,11 +221,11 @@ fn feed_at_random(
 
 #[test]
 fn sessions_in_pieces_at_random(rt: HostRuntime) -> Result<(), Fail> {
-    let mut random = Random::new(16);
+    let mut random = Random::new(16, 0);
     for table in TABLES {
         for session in table {
             let wanted = session.report(rt.alloc())?;
-            let mut checker = Checker::new(rt.alloc());
+            let mut checker = session.profile.checker(rt.alloc());
             feed_at_random(&mut checker, &mut random, session)?;
             expect(&rt, rt.alloc(), session.name, checker, wanted.as_bytes())?;
         }
@@ -243,7 +247,7 @@ fn feed_after_quit(rt: &impl Abort, checker: &mut Checker) -> Result<(), CheckEr
 
 #[test]
 fn octets_on_a_closed_connection(rt: HostRuntime) -> Result<(), Fail> {
-    let mut checker = Checker::new(rt.alloc());
+    let mut checker = NARROW_LENIENT.checker(rt.alloc());
     feed_after_quit(&rt, &mut checker)?;
     let wanted = b"bad answer 2 Surplus\nno command\nanswer xy\n";
     expect(&rt, rt.alloc(), "no line follows", checker, wanted)
@@ -251,7 +255,7 @@ fn octets_on_a_closed_connection(rt: HostRuntime) -> Result<(), Fail> {
 
 #[test]
 fn a_line_on_a_closed_connection(rt: HostRuntime) -> Result<(), Fail> {
-    let mut checker = Checker::new(rt.alloc());
+    let mut checker = NARROW_LENIENT.checker(rt.alloc());
     feed_after_quit(&rt, &mut checker)?;
     checker.feed_client(b"GROUP g\r\n")?;
     let wanted = b"bad answer 2 Surplus\ncommand GROUP g\nanswer xy\n";
@@ -269,7 +273,7 @@ fn feed_answer_first(rt: &impl Abort, checker: &mut Checker) -> Result<(), Check
 
 #[test]
 fn an_answer_that_comes_before_its_line(rt: HostRuntime) -> Result<(), Fail> {
-    let mut checker = Checker::new(rt.alloc());
+    let mut checker = NARROW_LENIENT.checker(rt.alloc());
     feed_answer_first(&rt, &mut checker)?;
     let wanted = b"consistent answers=2 groups=0 numbers=0 articles=0\nspool 1\nend\n";
     expect(&rt, rt.alloc(), "an answer first", checker, wanted)
@@ -288,7 +292,7 @@ fn feed_out_of_place(rt: &impl Abort, checker: &mut Checker) -> Result<(), Check
 
 #[test]
 fn a_bad_answer_stays(rt: HostRuntime) -> Result<(), Fail> {
-    let mut checker = Checker::new(rt.alloc());
+    let mut checker = NARROW_LENIENT.checker(rt.alloc());
     feed_out_of_place(&rt, &mut checker)?;
     let wanted = b"bad answer 1 OutOfPlace\ncommand NEXT\nanswer 223 1 <a@b>\n";
     expect(&rt, rt.alloc(), "an answer out of place", checker, wanted)

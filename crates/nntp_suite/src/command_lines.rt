@@ -1,6 +1,7 @@
 //! The command line, the words on standard error, and the exit status.
+use crate::profiles::{NARROW_LENIENT, NARROW_STRICT, WIDE_LENIENT, WIDE_STRICT};
 use clap::error::ErrorKind;
-use nntp_check::{Failure, Kind, ReadFault, RunFault, Task, job, status};
+use nntp_check::{Failure, Kind, ReadFault, RunFault, Task, job, refusal, status};
 use std::alloc::{AllocError, Global};
 use std::process::Abort;
 use std::test::Fail;
@@ -15,42 +16,89 @@ fn words(alloc: Global, of: &[&str]) -> Result<Vec<String>, AllocError> {
 
 #[test]
 fn words_that_ask_for_a_task(rt: HostRuntime) -> Result<(), Fail> {
-    let check = words(rt.alloc(), &["nntpcheck", "check"])?;
-    assert_eq!(rt; job(rt.alloc(), &check)?, Task::Check);
-    let verify = words(rt.alloc(), &["nntpcheck", "verify"])?;
-    assert_eq!(rt; job(rt.alloc(), &verify)?, Task::Verify);
-    let show = words(rt.alloc(), &["nntpcheck", "show"])?;
-    assert_eq!(rt; job(rt.alloc(), &show)?, Task::Show);
+    let rows: [(&[&str], Task); 8] = [
+        (&["nntpcheck", "check"], NARROW_LENIENT.check_task()),
+        (
+            &["nntpcheck", "check", "--strict-marks"],
+            NARROW_STRICT.check_task(),
+        ),
+        (&["nntpcheck", "check", "--wide"], WIDE_LENIENT.check_task()),
+        (
+            &["nntpcheck", "check", "--wide", "--strict-marks"],
+            WIDE_STRICT.check_task(),
+        ),
+        (
+            &["nntpcheck", "check", "--strict-marks", "--wide"],
+            WIDE_STRICT.check_task(),
+        ),
+        (&["nntpcheck", "verify"], NARROW_LENIENT.verify_task()),
+        (
+            &["nntpcheck", "verify", "--strict-marks"],
+            NARROW_STRICT.verify_task(),
+        ),
+        (&["nntpcheck", "show"], Task::Show),
+    ];
+    for (of, task) in rows {
+        let words = words(rt.alloc(), of)?;
+        assert_eq!(rt; job(rt.alloc(), &words)?, task, "{of:?}");
+    }
     Ok(())
 }
+
+/// Words that ask for no task, of which kind the error is, and the exit status.
+const REFUSED: [(&[&str], ErrorKind, u8); 15] = [
+    (&["nntpcheck"], ErrorKind::MissingSubcommand, 2),
+    (&["nntpcheck", "check", "x"], ErrorKind::UnknownArgument, 2),
+    (
+        &["nntpcheck", "check", "--x"],
+        ErrorKind::UnknownArgument,
+        2,
+    ),
+    (&["nntpcheck", "verify", "x"], ErrorKind::UnknownArgument, 2),
+    (&["nntpcheck", "show", "x"], ErrorKind::UnknownArgument, 2),
+    (
+        &["nntpcheck", "verify", "--wide"],
+        ErrorKind::UnknownArgument,
+        2,
+    ),
+    (
+        &["nntpcheck", "show", "--wide"],
+        ErrorKind::UnknownArgument,
+        2,
+    ),
+    (
+        &["nntpcheck", "show", "--strict-marks"],
+        ErrorKind::UnknownArgument,
+        2,
+    ),
+    (
+        &["nntpcheck", "--wide", "check"],
+        ErrorKind::UnknownArgument,
+        2,
+    ),
+    (
+        &["nntpcheck", "check", "--strict"],
+        ErrorKind::UnknownArgument,
+        2,
+    ),
+    (&["nntpcheck", "tell"], ErrorKind::InvalidSubcommand, 2),
+    (&["nntpcheck", "--help"], ErrorKind::DisplayHelp, 0),
+    (&["nntpcheck", "check", "-h"], ErrorKind::DisplayHelp, 0),
+    (&["nntpcheck", "show", "--help"], ErrorKind::DisplayHelp, 0),
+    (&["nntpcheck", "--version"], ErrorKind::DisplayVersion, 0),
+];
 
 #[test]
 fn words_that_ask_for_no_task(rt: HostRuntime) -> Result<(), Fail> {
     let alloc = rt.alloc();
-    let rows: [(&[&str], ErrorKind, u8); 10] = [
-        (&["nntpcheck"], ErrorKind::MissingSubcommand, 2),
-        (&["nntpcheck", "check", "x"], ErrorKind::UnknownArgument, 2),
-        (
-            &["nntpcheck", "check", "--x"],
-            ErrorKind::UnknownArgument,
-            2,
-        ),
-        (&["nntpcheck", "verify", "x"], ErrorKind::UnknownArgument, 2),
-        (&["nntpcheck", "show", "x"], ErrorKind::UnknownArgument, 2),
-        (&["nntpcheck", "tell"], ErrorKind::InvalidSubcommand, 2),
-        (&["nntpcheck", "--help"], ErrorKind::DisplayHelp, 0),
-        (&["nntpcheck", "check", "-h"], ErrorKind::DisplayHelp, 0),
-        (&["nntpcheck", "show", "--help"], ErrorKind::DisplayHelp, 0),
-        (&["nntpcheck", "--version"], ErrorKind::DisplayVersion, 0),
-    ];
-    for (of, kind, code) in rows {
+    for (of, kind, code) in REFUSED {
         let words = words(alloc, of)?;
         match job(alloc, &words) {
             Ok(_) => assert!(rt; false, "not refused"),
             Err(error) => {
                 assert_eq!(rt; error.kind(), kind);
                 assert_eq!(rt; error.use_stderr(), code == 2);
-                assert_eq!(rt; status(&Err(Failure::Words(error))), code);
+                assert_eq!(rt; status(&Err(refusal(error, &words))), code);
             }
         }
     }
@@ -58,45 +106,78 @@ fn words_that_ask_for_no_task(rt: HostRuntime) -> Result<(), Fail> {
 }
 
 #[test]
+fn a_word_that_is_no_option(rt: HostRuntime) -> Result<(), Fail> {
+    let alloc = rt.alloc();
+    let hint = "\na capture is read from standard input: nntpcheck check < my.capture";
+    let rows: [(&[&str], bool); 5] = [
+        (&["nntpcheck", "check", "my.capture"], true),
+        (
+            &["nntpcheck", "verify", "--strict-marks", "my.capture"],
+            true,
+        ),
+        (&["nntpcheck", "check", "--x"], false),
+        (&["nntpcheck", "my.capture"], false),
+        (&["nntpcheck"], false),
+    ];
+    for (of, has_hint) in rows {
+        let words = words(alloc, of)?;
+        match job(alloc, &words) {
+            Ok(_) => assert!(rt; false, "not refused"),
+            Err(error) => {
+                let told = format!(in alloc; "{}", refusal(error, &words))?;
+                assert_eq!(rt; told.ends_with(hint), has_hint, "{told}");
+            }
+        }
+    }
+    Ok(())
+}
+
+/// Words that ask for help, and what that tells.
+const HELPS: [(&[&str], &[&str]); 4] = [
+    (
+        &["nntpcheck", "--help"],
+        &[
+            "  check ",
+            "  verify ",
+            "  show ",
+            "Example:\n  printf 'client 15\\nGROUP g",
+            "docs/FORMATS.md",
+        ],
+    ),
+    (
+        &["nntpcheck", "check", "--help"],
+        &[
+            "  --wide",
+            "9,999,999,999,999,999",
+            "  --strict-marks",
+            "\nReads a capture",
+            "\nWrites to standard output",
+            "\nExit status: 0 if",
+        ],
+    ),
+    (
+        &["nntpcheck", "verify", "--help"],
+        &[
+            "  --strict-marks",
+            "\nReads a capture",
+            "\nWrites to standard output",
+            "\nExit status: 0 if",
+        ],
+    ),
+    (
+        &["nntpcheck", "show", "-h"],
+        &[
+            "\nReads a capture",
+            "\nWrites to standard output",
+            "\nExit status: 0 if",
+        ],
+    ),
+];
+
+#[test]
 fn help_tells_what_is_read_and_written(rt: HostRuntime) -> Result<(), Fail> {
     let alloc = rt.alloc();
-    let rows: [(&[&str], &[&str]); 4] = [
-        (
-            &["nntpcheck", "--help"],
-            &[
-                "  check ",
-                "  verify ",
-                "  show ",
-                "Example:\n  printf 'client 15\\nGROUP g",
-                "docs/FORMATS.md",
-            ],
-        ),
-        (
-            &["nntpcheck", "check", "--help"],
-            &[
-                "\nReads a capture",
-                "\nWrites to standard output",
-                "\nExit status: 0 if",
-            ],
-        ),
-        (
-            &["nntpcheck", "verify", "--help"],
-            &[
-                "\nReads a capture",
-                "\nWrites to standard output",
-                "\nExit status: 0 if",
-            ],
-        ),
-        (
-            &["nntpcheck", "show", "-h"],
-            &[
-                "\nReads a capture",
-                "\nWrites to standard output",
-                "\nExit status: 0 if",
-            ],
-        ),
-    ];
-    for (of, wanted) in rows {
+    for (of, wanted) in HELPS {
         let words = words(alloc, of)?;
         match job(alloc, &words) {
             Ok(_) => assert!(rt; false, "no help"),

@@ -4,21 +4,21 @@ use crate::sessions::{Session, TABLES};
 use crate::slow_judge::{Answered, exchanges};
 use crate::slowly_judged::begins;
 use crate::verdicts::shown;
-use nntp_check::check;
 use std::alloc::{AllocError, Global};
 use std::process::Abort;
 use std::test::Fail;
 
-/// The report of `check`, on which `Checker` agrees.
+/// The report of `check` on these streams by the profile of the session, on which `Checker` agrees.
 fn report(
     rt: &impl Abort,
     alloc: Global,
-    name: &str,
+    session: &Session,
     (client, server): (&[u8], &[u8]),
 ) -> Result<Vec<u8>, Fail> {
-    let report = shown(alloc, &check(alloc, client, server)?)?;
+    let Session { name, profile, .. } = *session;
+    let report = shown(alloc, &profile.check(alloc, (client, server))?)?;
     let places = (client.len() / 2, server.len() / 2);
-    expect_cut(rt, alloc, name, (client, server), places, &report)?;
+    expect_cut(rt, alloc, profile, name, (client, server), places, &report)?;
     Ok(report)
 }
 
@@ -50,7 +50,7 @@ fn cut_server(rt: &impl Abort, alloc: Global, session: &Session) -> Result<(), F
     let exchanges = exchanges(alloc, client, server)?;
     for place in 0..server.len() {
         let (front, _) = server.split_at(place);
-        let report = report(rt, alloc, session.name, (client, front))?;
+        let report = report(rt, alloc, session, (client, front))?;
         let first = first_line(alloc, &exchanges, place)?;
         begins(rt, session.name, &report, first.as_str());
     }
@@ -88,7 +88,7 @@ fn cut_line(
     let length = answered.exchange.line().map_or(0, |line| line.len());
     for missing in 1..=length.saturating_add(2) {
         let (front, _) = lines.split_at(lines.len().saturating_sub(missing));
-        let report = report(rt, alloc, session.name, (front, server))?;
+        let report = report(rt, alloc, session, (front, server))?;
         let name = session.name;
         assert_eq!(rt;
             report.as_slice(),

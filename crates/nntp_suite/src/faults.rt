@@ -22,7 +22,7 @@ impl Run {
     fn of_check(alloc: Global, session: &Session) -> Result<Run, AllocError> {
         Ok(Run {
             name: session.name,
-            task: Task::Check,
+            task: session.profile.check_task(),
             capture: session.capture(alloc)?.into_bytes(),
             answer: session.is_consistent(),
             report: session.report(alloc)?.into_bytes(),
@@ -34,7 +34,7 @@ impl Run {
         let streams = session.capture(alloc)?;
         Ok(Run {
             name: session.name,
-            task: Task::Verify,
+            task: session.profile.verify_task(),
             capture: with_spool(alloc, streams.as_str(), text)?.into_bytes(),
             answer: session.is_consistent(),
             report: verified_report(alloc, verified)?.into_bytes(),

@@ -25,6 +25,8 @@ mod marks;
 #[cfg(test)]
 mod memory;
 #[cfg(test)]
+mod profiles;
+#[cfg(test)]
 mod random;
 #[cfg(test)]
 mod runs;
@@ -40,3 +42,5 @@ mod slowly_judged;
 mod slowly_noted;
 #[cfg(test)]
 mod verdicts;
+#[cfg(test)]
+mod widened;

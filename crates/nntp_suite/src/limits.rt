@@ -1,8 +1,8 @@
 //! Lines at their greatest length and past it, and lines with octets that none may have.
 use crate::checkers::expect_cut;
+use crate::profiles::NARROW_LENIENT;
 use crate::sessions::capture;
 use crate::verdicts::{run, shown};
-use nntp_check::check;
 use std::alloc::{AllocError, Global};
 use std::process::Abort;
 use std::test::Fail;
@@ -17,11 +17,20 @@ fn expect(
     written: &str,
 ) -> Result<(), Fail> {
     let streams = (client.as_bytes(), server.as_bytes());
-    let verdict = check(alloc, streams.0, streams.1)?;
+    let verdict = NARROW_LENIENT.check(alloc, streams)?;
     assert_eq!(rt; shown(alloc, &verdict)?.as_slice(), told.as_bytes());
     let places = (client.len() / 2, server.len() / 2);
-    expect_cut(rt, alloc, written, streams, places, told.as_bytes())?;
-    let (answer, report) = run(alloc, capture(alloc, client, server)?.as_str())?;
+    expect_cut(
+        rt,
+        alloc,
+        NARROW_LENIENT,
+        written,
+        streams,
+        places,
+        told.as_bytes(),
+    )?;
+    let capture = capture(alloc, client, server)?;
+    let (answer, report) = run(alloc, NARROW_LENIENT, capture.as_str())?;
     assert_eq!(rt; report.as_slice(), written.as_bytes());
     assert_eq!(rt; answer, written.starts_with("consistent "));
     Ok(())

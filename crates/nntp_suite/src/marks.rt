@@ -6,9 +6,11 @@ mod more_pairs;
 mod one_pair;
 
 use crate::group_lines::group_lines;
-use crate::memory::facts::{Stop, note_all};
+use crate::memory::facts::{Stop, beginning, note_all};
+use crate::profiles::{NARROW_LENIENT, NARROW_STRICT, Profile};
+use crate::slowly_judged::begins;
+use crate::verdicts::shown;
 use nntp_facts::Class;
-use nntp_wire::Marks;
 use std::alloc::Global;
 use std::process::Abort;
 use std::test::Fail;
@@ -59,17 +61,18 @@ impl Row {
         (self.client.as_bytes(), self.server.as_bytes())
     }
 
-    /// Notes the session, which has to end so.
+    /// Notes the session, which has to end so, and judges it, which has to say the same.
     fn note(
         &self,
         rt: &impl Abort,
         alloc: Global,
-        marks: Marks,
+        profile: Profile,
         wanted: Outcome,
     ) -> Result<(), Fail> {
         let name = self.name;
+        let Profile { limit, marks } = profile;
         let (client, server) = self.streams();
-        match note_all(alloc, marks, client, server) {
+        match note_all(alloc, limit, marks, client, server) {
             Ok(whole) => {
                 assert_eq!(rt;
                     (whole.answers, whole.class),
@@ -86,6 +89,10 @@ impl Row {
             }
             Err(stop) => assert!(rt; false, "{name}, {marks:?}: {stop:?}"),
         }
+        let (answer, class) = wanted.bad();
+        let first = beginning(alloc, answer, class)?;
+        let report = shown(alloc, &profile.check(alloc, (client, server))?)?;
+        begins(rt, name, &report, first.as_str());
         Ok(())
     }
 }
@@ -94,7 +101,7 @@ impl Row {
 fn lenient_marks(rt: HostRuntime) -> Result<(), Fail> {
     for table in ROWS {
         for row in table {
-            row.note(&rt, rt.alloc(), Marks::Lenient, row.lenient)?;
+            row.note(&rt, rt.alloc(), NARROW_LENIENT, row.lenient)?;
         }
     }
     Ok(())
@@ -104,7 +111,7 @@ fn lenient_marks(rt: HostRuntime) -> Result<(), Fail> {
 fn strict_marks(rt: HostRuntime) -> Result<(), Fail> {
     for table in ROWS {
         for row in table {
-            row.note(&rt, rt.alloc(), Marks::Strict, row.strict)?;
+            row.note(&rt, rt.alloc(), NARROW_STRICT, row.strict)?;
         }
     }
     Ok(())

@@ -1,15 +1,20 @@
 //! Exchanges made by a fixed seed, over two groups, a few numbers and a few ids.
-use std::alloc::AllocError;
+use std::alloc::{AllocError, Global};
 
 /// Numbers that look random, and are the same each time.
 #[derive(Drop)]
 pub(crate) struct Random {
     state: u64,
+    /// Article numbers are this one and the next few.
+    base: u64,
 }
+
+/// Numbers below those that random sessions have: 0, and of each limit a number shortly below it.
+pub(crate) const BASES: [u64; 3] = [0, 2_147_483_642, 9_999_999_999_999_993];
 
 /// Commands and answers, `/` between their lines. `$g` is a group, `$n` a number and `$i` an id, the same
 /// each time; `$m` is any number, `$j` any id, `$M` are marks, `$L` is a list, `$R` a range, `$H` a head and
-/// `$W` a wildmat.
+/// `$W` a wildmat. `#` and a digit are the number that is so far above the base.
 const EXCHANGES: [(&str, &str); 56] = [
     ("GROUP $g", "211 $M $g"),
     ("GROUP $g", "211 $M $g"),
@@ -61,19 +66,19 @@ const EXCHANGES: [(&str, &str); 56] = [
     ("ARTICLE $i", "220 0 $i/$H//one/."),
     ("ARTICLE $n", "220 $n $i/$H//."),
     ("ARTICLE", "220 $n $i/$H//$m/."),
-    ("LIST", "215 list/$g 5 1 y/."),
-    ("LIST ACTIVE $W", "215 list/$g 5 1 y/."),
-    ("LIST ACTIVE $W", "215 list/g 6 1 y/h 5 2 y/."),
+    ("LIST", "215 list/$g #5 #1 y/."),
+    ("LIST ACTIVE $W", "215 list/$g #5 #1 y/."),
+    ("LIST ACTIVE $W", "215 list/g #6 #1 y/h #5 #2 y/."),
     ("LIST ACTIVE $W", "215 list/."),
     ("DATE", "111 20261122"),
     ("HELP", "503 no"),
 ];
 
 const MARKS: [&str; 9] = [
-    "3 1 5", "2 1 5", "5 1 6", "4 2 6", "1 1 5", "0 1 0", "2 3 6", "1 4 4", "0 0 0",
+    "3 #1 #5", "2 #1 #5", "5 #1 #6", "4 #2 #6", "1 #1 #5", "0 #1 #0", "2 #3 #6", "1 #4 #4", "0 0 0",
 ];
 
-const NUMBERS: [&str; 6] = ["1", "2", "3", "4", "5", "6"];
+const NUMBERS: [&str; 6] = ["#1", "#2", "#3", "#4", "#5", "#6"];
 
 const IDS: [&str; 6] = [
     "<a@b>",
@@ -84,9 +89,17 @@ const IDS: [&str; 6] = [
     "<w2@invented.invalid>",
 ];
 
-const LISTS: [&str; 7] = ["1/2/3/4/5/", "2/4/", "3/", "1/5/", "4/5/", "2/3/4/6/", ""];
+const LISTS: [&str; 7] = [
+    "#1/#2/#3/#4/#5/",
+    "#2/#4/",
+    "#3/",
+    "#1/#5/",
+    "#4/#5/",
+    "#2/#3/#4/#6/",
+    "",
+];
 
-const RANGES: [&str; 5] = ["2-4", "3-", "4-9", "5-2", "1-3"];
+const RANGES: [&str; 5] = ["#2-#4", "#3-", "#4-#9", "#5-#2", "#1-#3"];
 
 const HEADS: [&str; 3] = ["Subject: one", "Subject: two", "Subject: one/X: y"];
 
@@ -101,8 +114,8 @@ struct Letters {
 }
 
 impl Random {
-    pub(crate) fn new(seed: u64) -> Random {
-        Random { state: seed }
+    pub(crate) fn new(seed: u64, base: u64) -> Random {
+        Random { state: seed, base }
     }
 
     /// A number below the bound, or 0.
@@ -124,6 +137,7 @@ impl Random {
     /// Adds a command and an answer to both streams.
     pub(crate) fn exchange(
         &mut self,
+        alloc: Global,
         client: &mut Vec<u8>,
         server: &mut Vec<u8>,
     ) -> Result<(), AllocError> {
@@ -135,27 +149,30 @@ impl Random {
             number: NUMBERS.get(place).copied().unwrap_or("1"),
             id: IDS.get(place).copied().unwrap_or("<a@b>"),
         };
-        self.write(client, command, letters)?;
-        self.write(server, answer, letters)
+        self.write(alloc, client, command, letters)?;
+        self.write(alloc, server, answer, letters)
     }
 
     /// Writes lines, and something for each letter behind `$`.
     fn write(
         &mut self,
+        alloc: Global,
         stream: &mut Vec<u8>,
         lines: &str,
         letters: Letters,
     ) -> Result<(), AllocError> {
+        let mut text = Vec::new(alloc);
         let mut is_letter = false;
         for octet in lines.as_bytes() {
             if is_letter {
-                put(stream, self.text(*octet, letters).as_bytes())?;
+                text.extend_from_slice(self.text(*octet, letters).as_bytes())?;
             } else if *octet != b'$' {
-                put(stream, &[*octet])?;
+                text.push(*octet)?;
             }
             is_letter = *octet == b'$';
         }
-        put(stream, b"/")
+        text.push(b'/')?;
+        put(alloc, stream, self.base, &text)
     }
 
     /// What a letter stands for.
@@ -176,13 +193,21 @@ impl Random {
     }
 }
 
-/// Writes octets, and CRLF for each `/`.
-fn put(stream: &mut Vec<u8>, octets: &[u8]) -> Result<(), AllocError> {
+/// Writes octets, CRLF for each `/`, and for `#` and a digit the number that is so far above the base. No number has
+/// more than 16 digits.
+fn put(alloc: Global, stream: &mut Vec<u8>, base: u64, octets: &[u8]) -> Result<(), AllocError> {
+    let mut is_number = false;
     for octet in octets {
-        match *octet {
-            b'/' => stream.extend_from_slice(b"\r\n")?,
-            octet => stream.push(octet)?,
+        if is_number {
+            let above = u64::from(octet.saturating_sub(b'0'));
+            let number = base.saturating_add(above).min(9_999_999_999_999_999);
+            stream.extend_from_slice(format!(in alloc; "{number}")?.as_bytes())?;
+        } else if *octet == b'/' {
+            stream.extend_from_slice(b"\r\n")?;
+        } else if *octet != b'#' {
+            stream.push(*octet)?;
         }
+        is_number = *octet == b'#';
     }
     Ok(())
 }

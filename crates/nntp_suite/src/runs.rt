@@ -1,7 +1,9 @@
 //! Runs over captures, by readers and writers that give and take a little or fail.
 use crate::fakes::{Full, cut_reader, endless_reader, reader, writer};
-use nntp_check::{Failure, RunFault, Task, Watched, run_check, run_show, run_verify, status};
-use std::alloc::{AllocError, Global};
+use nntp_check::{
+    Failure, Limit, Marks, RunFault, Task, Watched, run_check, run_show, run_verify, status,
+};
+use std::alloc::{AllocError, Allocator, Global};
 use std::io::{Read, Write};
 use std::process::Abort;
 use std::test::Fail;
@@ -21,15 +23,43 @@ pub(crate) const CAPTURE: &[u8] =
 pub(crate) const REPORT: &[u8] =
     b"consistent answers=3 groups=1 numbers=0 articles=0\nspool 1\ngroup g 0\nend\n";
 
-const RUNS: [Run; 3] = [
+pub(crate) const CHECK: Task = Task::Check {
+    limit: Limit::Narrow,
+    marks: Marks::Lenient,
+};
+
+const CHECK_WIDE_AND_STRICT: Task = Task::Check {
+    limit: Limit::Wide,
+    marks: Marks::Strict,
+};
+
+pub(crate) const VERIFY: Task = Task::Verify {
+    marks: Marks::Lenient,
+};
+
+const VERIFY_STRICTLY: Task = Task::Verify {
+    marks: Marks::Strict,
+};
+
+const RUNS: [Run; 5] = [
     Run {
-        task: Task::Check,
+        task: CHECK,
         capture: CAPTURE,
         report: REPORT,
     },
     Run {
-        task: Task::Verify,
+        task: CHECK_WIDE_AND_STRICT,
+        capture: CAPTURE,
+        report: b"consistent answers=3 groups=1 numbers=0 articles=0\nspool 2\nlimit 9999999999999999\ngroup g 0\nend\n",
+    },
+    Run {
+        task: VERIFY,
         capture: b"client 15\nGROUP g\r\nQUIT\r\nserver 30\n200 hi\r\n211 0 1 0 g\r\n205 bye\r\nspool 22\nspool 1\ngroup g 0\nend\n",
+        report: b"permits answers=3\n",
+    },
+    Run {
+        task: VERIFY_STRICTLY,
+        capture: b"client 15\nGROUP g\r\nQUIT\r\nserver 30\n200 hi\r\n211 0 1 0 g\r\n205 bye\r\nspool 45\nspool 2\nlimit 9999999999999999\ngroup g 0\nend\n",
         report: b"permits answers=3\n",
     },
     Run {
@@ -39,18 +69,24 @@ const RUNS: [Run; 3] = [
     },
 ];
 
-const TASKS: [Task; 3] = [Task::Check, Task::Verify, Task::Show];
+const TASKS: [Task; 5] = [
+    CHECK,
+    CHECK_WIDE_AND_STRICT,
+    VERIFY,
+    VERIFY_STRICTLY,
+    Task::Show,
+];
 
-pub(crate) fn perform<R: Read, W: Write>(
-    alloc: Global,
+pub(crate) fn perform<A: Allocator + Copy, R: Read, W: Write>(
+    alloc: A,
     task: Task,
     input: &mut Watched<R>,
     output: &mut Watched<W>,
     most: u64,
 ) -> Result<bool, RunFault> {
     match task {
-        Task::Check => run_check(alloc, input, output, most),
-        Task::Verify => run_verify(alloc, input, output, most),
+        Task::Check { limit, marks } => run_check(alloc, limit, marks, input, output, most),
+        Task::Verify { marks } => run_verify(alloc, marks, input, output, most),
         Task::Show => run_show(alloc, input, output, most),
     }
 }
@@ -87,7 +123,7 @@ fn pieces_of_one_stream_are_joined(rt: HostRuntime) -> Result<(), Fail> {
     for capture in captures {
         let mut input = reader(capture, 4096, 0);
         let mut output = writer(rt.alloc(), 1000, 1000, Full::Fails);
-        assert!(rt; run_check(rt.alloc(), &mut input, &mut output, 1 << 30)?);
+        assert!(rt; perform(rt.alloc(), CHECK, &mut input, &mut output, 1 << 30)?);
         assert_eq!(rt; output.into_inner().held.as_slice(), REPORT);
     }
     Ok(())

@@ -6,8 +6,11 @@ mod groups;
 mod lists_of_groups;
 mod lists_of_numbers;
 mod numbers;
+mod strict_marks;
 mod texts;
+mod wide_numbers;
 
+use crate::profiles::Profile;
 use nntp_spool::Verified;
 use std::alloc::{AllocError, Global};
 
@@ -18,6 +21,8 @@ pub(crate) struct Session {
     /// What the client sent, and what the server sent.
     pub(crate) client: &'static str,
     pub(crate) server: &'static str,
+    /// By what it is judged.
+    pub(crate) profile: Profile,
     /// The lines of the report of `check` that come before a spool's text.
     pub(crate) verdict: &'static str,
     /// The text of the given spool, and what `verify` answers of it. Where an answer is bad, it is the
@@ -28,7 +33,7 @@ pub(crate) struct Session {
 }
 
 /// All of them.
-pub(crate) const TABLES: [&[Session]; 7] = [
+pub(crate) const TABLES: [&[Session]; 9] = [
     &ends::SESSIONS,
     &groups::SESSIONS,
     &lists_of_groups::SESSIONS,
@@ -36,6 +41,8 @@ pub(crate) const TABLES: [&[Session]; 7] = [
     &numbers::SESSIONS,
     &current_articles::SESSIONS,
     &articles::SESSIONS,
+    &wide_numbers::SESSIONS,
+    &strict_marks::SESSIONS,
 ];
 
 impl Session {

@@ -7,6 +7,7 @@ mod numbers;
 mod said;
 mod visible;
 
+use crate::profiles::Profile;
 use given::{given_spool, have_ends};
 use nntp_check::Watched;
 use nntp_pair::{Exchange, Pairs, Step};
@@ -53,18 +54,18 @@ pub(crate) enum Judged {
 /// of the spool that is given for all of them, where that one explains them.
 pub(crate) fn judge(
     alloc: Global,
-    marks: Marks,
+    profile: Profile,
     client: &[u8],
     server: &[u8],
     exchanges: &[Answered<'_>],
 ) -> Result<(Judged, Vec<u8>), AllocError> {
-    if !fits(alloc, exchanges)? {
+    if !fits(alloc, profile, exchanges)? {
         return Ok((Judged::OutOfPlace, Vec::new(alloc)));
     }
     let said = hear(alloc, exchanges)?;
     let end = exchanges.last().map_or(0, |answered| answered.end);
     let (front, _) = server.split_at(end.min(server.len()));
-    match explaining_text(alloc, marks, &said, client, front)? {
+    match explaining_text(alloc, profile, &said, client, front)? {
         Some(text) => Ok((Judged::Consistent, text)),
         None => Ok((Judged::Contradiction, Vec::new(alloc))),
     }
@@ -90,8 +91,8 @@ fn hear<'a>(alloc: Global, exchanges: &[Answered<'a>]) -> Result<Said<'a>, Alloc
 }
 
 /// Whether the last exchange fits the visible state that those before it leave.
-fn fits(alloc: Global, exchanges: &[Answered<'_>]) -> Result<bool, AllocError> {
-    let mut visible = Visible::new(alloc);
+fn fits(alloc: Global, profile: Profile, exchanges: &[Answered<'_>]) -> Result<bool, AllocError> {
+    let mut visible = Visible::new(alloc, profile.limit);
     let mut fits = true;
     for answered in exchanges {
         fits = visible.fits(&answered.exchange);
@@ -100,21 +101,22 @@ fn fits(alloc: Global, exchanges: &[Answered<'_>]) -> Result<bool, AllocError> {
     Ok(fits)
 }
 
-/// The text of the spool that is given for what was said, if it explains both streams.
+/// The text of the spool that is given for what was said, if it explains both streams. `verify` reads the marks
+/// as they may be read at least, and strict ones are looked at here.
 fn explaining_text(
     alloc: Global,
-    marks: Marks,
+    profile: Profile,
     said: &Said<'_>,
     client: &[u8],
     server: &[u8],
 ) -> Result<Option<Vec<u8>>, AllocError> {
-    let Some(spool) = given_spool(alloc, marks, said)? else {
+    let Some(spool) = given_spool(alloc, profile, said)? else {
         return Ok(None);
     };
-    if marks == Marks::Strict && !have_ends(alloc, said)? {
+    if profile.marks == Marks::Strict && !have_ends(alloc, said)? {
         return Ok(None);
     }
-    if let Verified::Refuses { .. } = verify(alloc, &spool, client, server)? {
+    if let Verified::Refuses { .. } = verify(alloc, Marks::Lenient, &spool, client, server)? {
         return Ok(None);
     }
     let mut output = Watched::new(Vec::new(alloc));

@@ -1,10 +1,14 @@
 //! Sessions that the slow judge judges too, answer by answer.
-use crate::random::Random;
+use crate::marks::ROWS;
+use crate::profiles::{
+    NARROW_LENIENT, NARROW_STRICT, PROFILES, Profile, WIDE_LENIENT, WIDE_STRICT,
+};
+use crate::random::{BASES, Random};
 use crate::sessions::{Session, TABLES};
 use crate::slow_judge::{Answered, Judged, exchanges, judge};
 use crate::verdicts::shown;
-use nntp_check::check;
-use nntp_wire::Marks;
+use nntp_check::Verdict;
+use nntp_spool::{Verified, verify};
 use std::alloc::{AllocError, Global};
 use std::process::Abort;
 use std::test::Fail;
@@ -22,10 +26,11 @@ impl Slow {
     /// Judges one exchange more. `good` is the number of those before it.
     fn next(
         alloc: Global,
+        profile: Profile,
         (client, server): (&[u8], &[u8]),
         exchanges: &[Answered<'_>],
     ) -> Result<Slow, AllocError> {
-        let (judged, text) = judge(alloc, Marks::Lenient, client, server, exchanges)?;
+        let (judged, text) = judge(alloc, profile, client, server, exchanges)?;
         let good = match judged {
             Judged::Consistent => exchanges.len(),
             _ => exchanges.len().saturating_sub(1),
@@ -36,14 +41,15 @@ impl Slow {
     /// Judges one exchange after the other.
     fn all(
         alloc: Global,
+        profile: Profile,
         streams: (&[u8], &[u8]),
         exchanges: &[Answered<'_>],
     ) -> Result<Slow, AllocError> {
-        let mut slow = Slow::next(alloc, streams, &[])?;
+        let mut slow = Slow::next(alloc, profile, streams, &[])?;
         for count in 1..=exchanges.len() {
             if slow.judged == Judged::Consistent {
                 let (front, _) = exchanges.split_at(count);
-                slow = Slow::next(alloc, streams, front)?;
+                slow = Slow::next(alloc, profile, streams, front)?;
             }
         }
         Ok(slow)
@@ -75,16 +81,23 @@ impl Slow {
         Ok(())
     }
 
-    /// Compares `check` of such streams with it.
+    /// Compares `check` of such streams with it. `verify` permits the spool that is given.
     fn compare_check(
         &self,
         rt: &impl Abort,
         alloc: Global,
+        profile: Profile,
         name: &str,
         (client, server): (&[u8], &[u8]),
     ) -> Result<(), Fail> {
-        let verdict = check(alloc, client, server)?;
-        self.compare(rt, alloc, name, &shown(alloc, &verdict)?)
+        let verdict = profile.check(alloc, (client, server))?;
+        self.compare(rt, alloc, name, &shown(alloc, &verdict)?)?;
+        if let Verdict::Consistent { spool, answers } = &verdict {
+            let verified = verify(alloc, profile.marks, spool, client, server)?;
+            let wanted = Verified::Permits { answers: *answers };
+            assert_eq!(rt; verified, wanted, "{name}");
+        }
+        Ok(())
     }
 }
 
@@ -93,6 +106,7 @@ impl Slow {
 pub(crate) fn compare_report(
     rt: &impl Abort,
     alloc: Global,
+    profile: Profile,
     name: &str,
     streams: (&[u8], &[u8]),
     count: usize,
@@ -100,7 +114,7 @@ pub(crate) fn compare_report(
 ) -> Result<(), Fail> {
     let exchanges = exchanges(alloc, streams.0, streams.1)?;
     assert_eq!(rt; exchanges.len(), count, "{name}, exchanges");
-    let slow = Slow::all(alloc, streams, &exchanges)?;
+    let slow = Slow::all(alloc, profile, streams, &exchanges)?;
     slow.compare(rt, alloc, name, report)
 }
 
@@ -113,20 +127,20 @@ pub(crate) fn begins(rt: &impl Abort, name: &str, report: &[u8], first: &str) {
 /// are consistent.
 fn judge_streams(
     alloc: Global,
-    client: &[u8],
-    server: &[u8],
+    profile: Profile,
+    (client, server): (&[u8], &[u8]),
 ) -> Result<(Slow, Vec<u8>), AllocError> {
     let exchanges = exchanges(alloc, client, server)?;
-    let slow = Slow::all(alloc, (client, server), &exchanges)?;
+    let slow = Slow::all(alloc, profile, (client, server), &exchanges)?;
     let (front, _) = exchanges.split_at(slow.good.min(exchanges.len()));
-    let (_, text) = judge(alloc, Marks::Lenient, client, server, front)?;
+    let (_, text) = judge(alloc, profile, client, server, front)?;
     Ok((slow, text))
 }
 
 /// The verdict on a worked session is that of the slow judge, as is the spool.
 fn judge_worked(rt: &impl Abort, alloc: Global, session: &Session) -> Result<(), Fail> {
     let name = session.name;
-    let (slow, text) = judge_streams(alloc, session.client.as_bytes(), session.server.as_bytes())?;
+    let (slow, text) = judge_streams(alloc, session.profile, session.streams())?;
     let first = slow.first_line(alloc, session.is_consistent())?;
     begins(rt, name, session.verdict.as_bytes(), first.as_str());
     assert_eq!(rt; text.as_slice(), session.given.0.as_bytes(), "{name}");
@@ -144,24 +158,43 @@ fn worked_sessions(rt: HostRuntime) -> Result<(), Fail> {
 }
 
 /// Judges each front of a session that ends behind an answer.
-fn judge_fronts(rt: &impl Abort, alloc: Global, session: &Session) -> Result<(), Fail> {
-    let (client, server) = (session.client.as_bytes(), session.server.as_bytes());
+fn judge_fronts(
+    rt: &impl Abort,
+    alloc: Global,
+    profile: Profile,
+    name: &str,
+    (client, server): (&[u8], &[u8]),
+) -> Result<(), Fail> {
     let exchanges = exchanges(alloc, client, server)?;
     for count in 0..=exchanges.len() {
         let (front, _) = exchanges.split_at(count);
         let end = front.last().map_or(0, |answered| answered.end);
         let (server, _) = server.split_at(end.min(server.len()));
-        let slow = Slow::all(alloc, (client, server), front)?;
-        slow.compare_check(rt, alloc, session.name, (client, server))?;
+        let slow = Slow::all(alloc, profile, (client, server), front)?;
+        slow.compare_check(rt, alloc, profile, name, (client, server))?;
     }
     Ok(())
 }
 
 #[test]
 fn fronts_of_worked_sessions(rt: HostRuntime) -> Result<(), Fail> {
-    for table in TABLES {
-        for session in table {
-            judge_fronts(&rt, rt.alloc(), session)?;
+    for profile in PROFILES {
+        for table in TABLES {
+            for session in table {
+                judge_fronts(&rt, rt.alloc(), profile, session.name, session.streams())?;
+            }
+        }
+    }
+    Ok(())
+}
+
+#[test]
+fn fronts_of_sessions_with_marks(rt: HostRuntime) -> Result<(), Fail> {
+    for profile in PROFILES {
+        for table in ROWS {
+            for row in table {
+                judge_fronts(&rt, rt.alloc(), profile, row.name, row.streams())?;
+            }
         }
     }
     Ok(())
@@ -198,14 +231,15 @@ impl Counts {
 fn judge_last(
     rt: &impl Abort,
     alloc: Global,
+    profile: Profile,
     streams: (&[u8], &[u8]),
     count: usize,
 ) -> Result<Judged, Fail> {
     let exchanges = exchanges(alloc, streams.0, streams.1)?;
     assert_eq!(rt; exchanges.len(), count);
-    let slow = Slow::next(alloc, streams, &exchanges)?;
-    let name = format!(in alloc; "{}", streams.0.escape_ascii())?;
-    slow.compare_check(rt, alloc, name.as_str(), streams)?;
+    let slow = Slow::next(alloc, profile, streams, &exchanges)?;
+    let name = format!(in alloc; "{profile:?}: {}", streams.0.escape_ascii())?;
+    slow.compare_check(rt, alloc, profile, name.as_str(), streams)?;
     Ok(slow.judged)
 }
 
@@ -213,6 +247,7 @@ fn judge_last(
 fn wander(
     rt: &impl Abort,
     alloc: Global,
+    profile: Profile,
     random: &mut Random,
     counts: &mut Counts,
 ) -> Result<(), Fail> {
@@ -221,8 +256,8 @@ fn wander(
     let mut count = 2usize;
     for _ in 0..12 {
         let (asked, answered) = (client.len(), server.len());
-        random.exchange(&mut client, &mut server)?;
-        let judged = judge_last(rt, alloc, (&client, &server), count)?;
+        random.exchange(alloc, &mut client, &mut server)?;
+        let judged = judge_last(rt, alloc, profile, (&client, &server), count)?;
         counts.add(judged);
         if judged == Judged::Consistent {
             count = count.saturating_add(1);
@@ -234,15 +269,37 @@ fn wander(
     Ok(())
 }
 
-#[test]
-fn random_sessions(rt: HostRuntime) -> Result<(), Fail> {
-    let mut random = Random::new(20_261_122);
+/// Judges random sessions about 0 and about each limit.
+fn judge_random(rt: &impl Abort, alloc: Global, profile: Profile) -> Result<(), Fail> {
     let mut counts = Counts::new();
-    for _ in 0..500 {
-        wander(&rt, rt.alloc(), &mut random, &mut counts)?;
+    for base in BASES {
+        let mut random = Random::new(20_261_122, base);
+        for _ in 0..100 {
+            wander(rt, alloc, profile, &mut random, &mut counts)?;
+        }
     }
-    assert!(rt; counts.consistent > 600, "{}", counts.consistent);
-    assert!(rt; counts.out_of_place > 120, "{}", counts.out_of_place);
-    assert!(rt; counts.contradictions > 120, "{}", counts.contradictions);
+    assert!(rt; counts.consistent > 300, "{}", counts.consistent);
+    assert!(rt; counts.out_of_place > 60, "{}", counts.out_of_place);
+    assert!(rt; counts.contradictions > 60, "{}", counts.contradictions);
     Ok(())
+}
+
+#[test]
+fn random_sessions_with_narrow_numbers(rt: HostRuntime) -> Result<(), Fail> {
+    judge_random(&rt, rt.alloc(), NARROW_LENIENT)
+}
+
+#[test]
+fn random_sessions_with_narrow_numbers_and_strict_marks(rt: HostRuntime) -> Result<(), Fail> {
+    judge_random(&rt, rt.alloc(), NARROW_STRICT)
+}
+
+#[test]
+fn random_sessions_with_wide_numbers(rt: HostRuntime) -> Result<(), Fail> {
+    judge_random(&rt, rt.alloc(), WIDE_LENIENT)
+}
+
+#[test]
+fn random_sessions_with_wide_numbers_and_strict_marks(rt: HostRuntime) -> Result<(), Fail> {
+    judge_random(&rt, rt.alloc(), WIDE_STRICT)
 }

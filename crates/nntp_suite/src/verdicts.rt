@@ -1,7 +1,8 @@
 //! The verdicts of `check`, and the reports of its runs.
 use crate::fakes::{Full, reader, writer};
+use crate::profiles::{NARROW_LENIENT, Profile};
 use crate::sessions::{Session, TABLES, capture};
-use nntp_check::{Verdict, Watched, check, run_check};
+use nntp_check::{Verdict, Watched, run_check};
 use std::alloc::{AllocError, Allocator, Global};
 use std::process::Abort;
 use std::test::Fail;
@@ -62,11 +63,7 @@ pub(crate) fn shown<A: Allocator>(
 fn verdicts_on_worked_sessions(rt: HostRuntime) -> Result<(), Fail> {
     for table in TABLES {
         for session in table {
-            let verdict = check(
-                rt.alloc(),
-                session.client.as_bytes(),
-                session.server.as_bytes(),
-            )?;
+            let verdict = session.profile.check(rt.alloc(), session.streams())?;
             let name = session.name;
             let wanted = session.report(rt.alloc())?;
             assert_eq!(rt;
@@ -80,10 +77,11 @@ fn verdicts_on_worked_sessions(rt: HostRuntime) -> Result<(), Fail> {
 }
 
 /// What a run answers and writes.
-pub(crate) fn run(alloc: Global, capture: &str) -> Result<(bool, Vec<u8>), Fail> {
+pub(crate) fn run(alloc: Global, profile: Profile, capture: &str) -> Result<(bool, Vec<u8>), Fail> {
     let mut input = reader(capture.as_bytes(), 4096, 0);
     let mut output = writer(alloc, 100_000, 100_000, Full::Fails);
-    let answer = run_check(alloc, &mut input, &mut output, 1 << 30)?;
+    let Profile { limit, marks } = profile;
+    let answer = run_check(alloc, limit, marks, &mut input, &mut output, 1 << 30)?;
     Ok((answer, output.into_inner().held))
 }
 
@@ -92,7 +90,8 @@ fn reports_on_worked_sessions(rt: HostRuntime) -> Result<(), Fail> {
     for table in TABLES {
         for session in table {
             let name = session.name;
-            let (answer, written) = run(rt.alloc(), session.capture(rt.alloc())?.as_str())?;
+            let capture = session.capture(rt.alloc())?;
+            let (answer, written) = run(rt.alloc(), session.profile, capture.as_str())?;
             let wanted = session.report(rt.alloc())?;
             assert_eq!(rt; written.as_slice(), wanted.as_bytes(), "{name}");
             assert_eq!(rt; answer, session.is_consistent(), "{name}");
@@ -104,7 +103,7 @@ fn reports_on_worked_sessions(rt: HostRuntime) -> Result<(), Fail> {
 #[test]
 fn octets_that_are_not_printed(rt: HostRuntime) -> Result<(), Fail> {
     let capture = capture(rt.alloc(), "GROUP \\\t\x01\r\n", "200 hi\r\n2\u{e9}\r\n")?;
-    let (answer, written) = run(rt.alloc(), capture.as_str())?;
+    let (answer, written) = run(rt.alloc(), NARROW_LENIENT, capture.as_str())?;
     let wanted = b"bad answer 1 Malformed\ncommand GROUP \\\\\\x09\\x01\nanswer 2\\xc3\\xa9\n";
     assert_eq!(rt; written.as_slice(), wanted.as_slice());
     assert!(rt; !answer);
@@ -118,7 +117,7 @@ fn verdicts_show_at_most_512_octets(rt: HostRuntime) -> Result<(), Fail> {
     client[601] = b'\n';
     let mut server = [b'y'; 608];
     server[..8].copy_from_slice(b"200 hi\r\n");
-    let verdict = check(rt.alloc(), &client, &server)?;
+    let verdict = NARROW_LENIENT.check(rt.alloc(), (&client, &server))?;
     match &verdict {
         Verdict::Bad {
             answer: 1,

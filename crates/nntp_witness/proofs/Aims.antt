@@ -1,9 +1,9 @@
 -- The spool that is aimed at: the facts of a session that stand have a witness.
-use Rattle.std.proofs.Common.{List}
+use Rattle.std.proofs.Common.{List, sym, subst}
 use Rattle.nntp_article.specs.declared.profile.Profile.{Profile}
 use Rattle.nntp_article.specs.Spool.{Spool}
 use Rattle.nntp_pair.specs.Pairing.{Paired, asked_of, responses_of}
-use Rattle.nntp_facts.specs.Noted.{FactsKept, HasNoted}
+use Rattle.nntp_facts.specs.Noted.{FactsKept, HasNoted, profile_kept}
 use Rattle.nntp_facts.proofs.Exists.{given_exists, made_for}
 use Rattle.nntp_facts.proofs.GivenPermits.{stands, given_permits}
 use Rattle.nntp_facts.proofs.Size.{pairs_size}
@@ -19,3 +19,7 @@ aim profile facts past s =
     let given = given_exists profile ps answers fits.0 small in
     let permits = given_permits profile (made_for profile ps answers) ps answers fits.0 fits.1 small given in
     (made_for profile ps answers, record { given = given; is_spool = permits.0; permits = permits.1 })
+
+-- facts of some exchanges are so by the profile that they hold
+pub noted_as_kept : (profile : Profile) (facts : FactsKept) (past : List Paired) → HasNoted profile facts past → HasNoted (profile_kept facts) facts past
+noted_as_kept profile facts past noted = subst (λ p. HasNoted p facts past) (sym noted.profile_is) noted

@@ -8,12 +8,12 @@ use Rattle.std.specs.FinMap.{get, entries, nat_cmp-IsAntisymmetric}
 use Rattle.std.proofs.lemmas.Bool.{true≢false, and_from, false_from_ne_true, or_left, or_right}
 use Rattle.std.proofs.lemmas.Slice.Eq.{bytes_eq-Decides}
 use Rattle.nntp_wire.specs.Decided.{is_group_name, is_message_id}
+use Rattle.nntp_wire.specs.Limit.{greatest}
+use Rattle.nntp_wire.specs.declared.limit.Limit.{Limit}
 use Rattle.nntp_wire.proofs.OptionLemmas.{some_is}
 use Rattle.nntp_article.specs.Article.{Id, Line}
-use Rattle.nntp_article.specs.Limit.{profile_31_bits}
-use Rattle.nntp_article.specs.Machine.{is_num}
+use Rattle.nntp_article.specs.Machine.{is_article_number}
 use Rattle.nntp_article.specs.Spool.{Spool, Name, Numbers, Text, IsGroup, IsSpool, numbers, is_line}
-use Rattle.nntp_article.specs.declared.profile.Profile.{Profile}
 use Rattle.nntp_facts.specs.Facts.{Fact, TextIs}
 use Rattle.nntp_facts.specs.Given.{mentions, is_mentioned, first_given, head_in, body_in, plain_head, IsGiven}
 use Rattle.nntp_facts.specs.Articles.{head_sent, body_sent}
@@ -42,11 +42,11 @@ no_group_fault S name is absent =
     (passed (is_some (get S.groups name)) faults.DuplicateGroup None (ap is_some absent) refl)
 
 -- a number and an id that may be, and aren't there
-no_number_fault : (profile : Profile) (S : Spool) (name : Name) (n : ℕ) (id : Id) → IsGroup S name → is_num profile n ≡ true → is_message_id id ≡ true → get (numbers S name) n ≡ None → has_id (numbers S name) id ≡ false
-    → number_fault profile S name n id ≡ None
-no_number_fault profile S name n id there num is_id absent fresh =
+no_number_fault : (limit : ℕ) (S : Spool) (name : Name) (n : ℕ) (id : Id) → IsGroup S name → is_article_number limit n ≡ true → is_message_id id ≡ true → get (numbers S name) n ≡ None → has_id (numbers S name) id ≡ false
+    → number_fault limit S name n id ≡ None
+no_number_fault limit S name n id there num is_id absent fresh =
     passed (is_none (get S.groups name)) faults.UnknownGroup _ (ap not there)
-    (passed (not (is_num profile n)) faults.BadNumber _ (ap not num)
+    (passed (not (is_article_number limit n)) faults.BadNumber _ (ap not num)
     (passed (not (is_message_id id)) faults.BadId _ (ap not is_id)
     (passed (is_some (get (numbers S name) n)) faults.DuplicateNumber _ (ap is_some absent)
     (passed (has_id (numbers S name) id) faults.DuplicateId None fresh refl))))
@@ -72,27 +72,27 @@ no_id N id nowhere = false_from_ne_true (has_id N id) (λ t.
 none_some : {A : Type 0} (x : A) → None ≡ Some x → ⊥
 none_some x e = cc
 
-module _ (facts : List Fact) (G S : Spool) (is_spool : IsSpool profile_31_bits G) (part : IsPart facts G S) where
+module _ (limit : Limit) (facts : List Fact) (G S : Spool) (is_spool : IsSpool (greatest limit) G) (part : IsPart facts G S) where
   -- a group of the spool is added
   pub group_fits : (name : Name) → IsGroup G name → get S.groups name ≡ None → group_fault S name ≡ None
   group_fits name there absent =
       let N = some_is (get G.groups name) there in
-      no_group_fault S name ((content_of_spool profile_31_bits G is_spool).groups name N.0 N.1).is_name absent
+      no_group_fault S name ((content_of_spool (greatest limit) G is_spool).groups name N.0 N.1).is_name absent
 
   -- a number of the spool is added, with its id
-  pub number_fits : (name : Name) (n : ℕ) (id : Id) → IsGroup S name → get (numbers G name) n ≡ Some id → get (numbers S name) n ≡ None → number_fault profile_31_bits S name n id ≡ None
+  pub number_fits : (name : Name) (n : ℕ) (id : Id) → IsGroup S name → get (numbers G name) n ≡ Some id → get (numbers S name) n ≡ None → number_fault (greatest limit) S name n id ≡ None
   number_fits name n id there at absent =
       let g = group_of_number G name n (ap is_some at) in
-      let are = ((content_of_spool profile_31_bits G is_spool).groups name g.0 g.1).numbers in
+      let are = ((content_of_spool (greatest limit) G is_spool).groups name g.0 g.1).numbers in
       let may = are.each n id (subst (λ (N : Numbers). get N n ≡ Some id) g.2 at) in
-      no_number_fault profile_31_bits S name n id there may.0 may.1 absent (no_id (numbers S name) id (λ m e.
+      no_number_fault (greatest limit) S name n id there may.0 may.1 absent (no_id (numbers S name) id (λ m e.
       let same : m ≡ n = is_spool.one_to_one name m n id (part.numbers name m id e) at in
       none_some id (sym absent ∙ ap (get (numbers S name)) (sym same) ∙ e)))
 
 -- an article of the spool is added
-pub article_fits : (G S : Spool) → IsSpool profile_31_bits G → (id : Id) (t : Text) → get G.articles id ≡ Some t → get S.articles id ≡ None → article_fault S id t ≡ None
-article_fits G S is_spool id t at absent =
-    let is = (content_of_spool profile_31_bits G is_spool).articles id t at in
+pub article_fits : (limit : Limit) (G S : Spool) → IsSpool (greatest limit) G → (id : Id) (t : Text) → get G.articles id ≡ Some t → get S.articles id ≡ None → article_fault S id t ≡ None
+article_fits limit G S is_spool id t at absent =
+    let is = (content_of_spool (greatest limit) G is_spool).articles id t at in
     no_article_fault S id t is.is_id is.head_lines is.head is.body_lines absent
 
 -- ---- an article of which nothing is sent

@@ -13,8 +13,9 @@ use Rattle.std.proofs.lemmas.Cmp.{tied_itself}
 use Rattle.std.proofs.lemmas.List.{append-nil}
 use Rattle.nntp_wire.proofs.OptionLemmas.{none_of}
 use Rattle.nntp_article.proofs.Decide.{dec_texts}
+use Rattle.nntp_wire.specs.Limit.{greatest}
+use Rattle.nntp_wire.specs.declared.limit.Limit.{Limit}
 use Rattle.nntp_article.specs.Article.{Id}
-use Rattle.nntp_article.specs.Limit.{profile_31_bits}
 use Rattle.nntp_article.specs.Machine.{is_same}
 use Rattle.nntp_article.specs.Spool.{Spool, Name, Numbers, IsNumber, IsSpool, numbers}
 use Rattle.nntp_facts.specs.Facts.{Fact}
@@ -46,12 +47,12 @@ some_value : (o : Option Numbers) → IsSome o → o ≡ Some (unwrap_or o empty
 some_value None i = cc
 some_value (Some N) i = refl
 
-module _ (facts : List Fact) (G : Spool) (given : IsGiven facts G) (is_spool : IsSpool profile_31_bits G) (g : ShownGroup) (left : List ShownGroup) (b : Building) (next : ℕ) (l : GroupsLeft facts G (g ∷ left) b next) where
+module _ (limit : Limit) (facts : List Fact) (G : Spool) (given : IsGiven facts G) (is_spool : IsSpool (greatest limit) G) (g : ShownGroup) (left : List ShownGroup) (b : Building) (next : ℕ) (l : GroupsLeft limit facts G (g ∷ left) b next) where
   -- ---- the group without its numbers
 
   -- it is added without a fault
   group_added : group_fault b.spool g.name ≡ None
-  group_added = group_fits facts G b.spool is_spool l.begun.part g.name l.of_spool.0 l.not_made.0
+  group_added = group_fits limit facts G b.spool is_spool l.begun.part g.name l.of_spool.0 l.not_made.0
 
   -- the content with it
   abbrev bare : Spool
@@ -72,9 +73,10 @@ module _ (facts : List Fact) (G : Spool) (given : IsGiven facts G) (is_spool : I
       any_in (λ (e : ℕ × Option Id). e.0 == n) f.0 (given_numbers g) f.1 (eq-eqb f.0.0 n f.2)
 
   -- all of them are left
-  all_left : NumbersLeft facts G b.spool g.name (unshown_of G left) (given_numbers g) (record { spool = bare; failed = false }) next
+  all_left : NumbersLeft limit facts G b.spool g.name (unshown_of G left) (given_numbers g) (record { limit = b.limit; spool = bare; failed = false }) next
   all_left = record {
     begun = record {
+      limit_is = l.begun.limit_is;
       is_whole = refl;
       part = part_with_group facts G b.spool g.name l.begun.part l.of_spool.0;
       invented_before = l.begun.invented_before;
@@ -92,7 +94,7 @@ module _ (facts : List Fact) (G : Spool) (given : IsGiven facts G) (is_spool : I
 
   -- ---- the group with all of them
 
-  module _ (c : Building) (after : ℕ) (done : NumbersLeft facts G b.spool g.name (unshown_of G left) [] c after) where
+  module _ (c : Building) (after : ℕ) (done : NumbersLeft limit facts G b.spool g.name (unshown_of G left) [] c after) where
     -- a number that isn't made isn't in the spool
     absent_too : (n : ℕ) → get (numbers c.spool g.name) n ≡ None → get (numbers G g.name) n ≡ None
     absent_too n absent = none_of (get (numbers G g.name) n) (λ i. elim (done.others n i) [
@@ -130,7 +132,7 @@ module _ (facts : List Fact) (G : Spool) (given : IsGiven facts G) (is_spool : I
     other_left name apart (inr same) = inr (done.other_groups name apart ∙ same)
 
     -- one group less is left
-    group_made : GroupsLeft facts G left c after
+    group_made : GroupsLeft limit facts G left c after
     unfolding IsStrictlySortedBy
     group_made = record {
       begun = done.begun;
@@ -153,14 +155,14 @@ module _ (facts : List Fact) (G : Spool) (given : IsGiven facts G) (is_spool : I
 
   -- where it is added, its numbers are left
   pub numbers_next : (name : Name) (low high : Option ℕ) (ns : List (ℕ × Option Id)) (x : Unit {0}) (new : Building) → name ≡ g.name → low ≡ g.unseen → ns ≡ g.numbers → high ≡ g.unseen_high
-      → Builds (group_fault b.spool name) (with_group b.spool name empty) (Ok x) b new → NumbersLeft facts G b.spool name (unshown_of G left) (unseen_number low ++ (ns ++ (unseen_number high ++ []))) new next
+      → Builds (group_fault b.spool name) (with_group b.spool name empty) (Ok x) b new → NumbersLeft limit facts G b.spool name (unshown_of G left) (unseen_number low ++ (ns ++ (unseen_number high ++ []))) new next
   numbers_next name low high ns x new is low_is numbers_are high_is h =
-      let built : new ≡ record { spool = bare; failed = false } = call_done (group_fault b.spool g.name) bare x b new l.begun.is_whole group_added (subst (λ q. Builds (group_fault b.spool q) (with_group b.spool q empty) (Ok x) b new) is h) in
+      let built : new ≡ record { limit = b.limit; spool = bare; failed = false } = call_done (group_fault b.spool g.name) bare x b new l.begun.is_whole group_added (subst (λ q. Builds (group_fault b.spool q) (with_group b.spool q empty) (Ok x) b new) is h) in
       let given : given_numbers g ≡ unseen_number low ++ (ns ++ (unseen_number high ++ [])) =
       (λ i. unseen_number (sym low_is i) ++ (sym numbers_are i ++ unseen_number (sym high_is i))) ∙ ap (λ xs. unseen_number low ++ (ns ++ xs)) (sym (append-nil (unseen_number high))) in
-      subst (λ (t : Type 0). t) (λ i. NumbersLeft facts G b.spool (sym is i) (unshown_of G left) (given i) (sym built i) next) all_left
+      subst (λ (t : Type 0). t) (λ i. NumbersLeft limit facts G b.spool (sym is i) (unshown_of G left) (given i) (sym built i) next) all_left
 
   -- and once they are made, one group less is left
-  pub group_makes : (other : Name) (r : Result (Unit {0}) SpoolFault) (c : Building) (after : ℕ) → other ≡ g.name → Makes r (λ _. NumbersLeft facts G b.spool other (unshown_of G left) [] c after) → Makes r (λ _. GroupsLeft facts G left c after)
-  group_makes other (Ok x) c after is done = group_made c after (subst (λ q. NumbersLeft facts G b.spool q (unshown_of G left) [] c after) is done)
+  pub group_makes : (other : Name) (r : Result (Unit {0}) SpoolFault) (c : Building) (after : ℕ) → other ≡ g.name → Makes r (λ _. NumbersLeft limit facts G b.spool other (unshown_of G left) [] c after) → Makes r (λ _. GroupsLeft limit facts G left c after)
+  group_makes other (Ok x) c after is done = group_made c after (subst (λ q. NumbersLeft limit facts G b.spool q (unshown_of G left) [] c after) is done)
   group_makes other (Err x) c after is refused = refused

@@ -6,6 +6,7 @@ use Rattle.std.specs.Ordering.{nat_cmp}
 use Rattle.std.specs.Cmp.{nat_cmp_total}
 use Rattle.std.specs.Cmp.Lexicographic.{slice_cmp, same_text, nat_list_cmp_total}
 use Rattle.std.specs.FinMap.{get, entries, empty, get-empty, nat_cmp-IsAntisymmetric}
+use Rattle.nntp_wire.specs.declared.limit.Limit.{Limit}
 use Rattle.nntp_article.specs.Article.{Id}
 use Rattle.nntp_article.specs.Machine.{is_same}
 use Rattle.nntp_article.specs.Spool.{Spool, Name, Numbers, IsGroup, numbers}
@@ -117,9 +118,10 @@ none_is_part facts G = record {
 }
 
 -- at the start all groups are left
-pub all_left : (facts : List Fact) (G : Spool) (groups : List ShownGroup) → IsGiven facts G → AreShownGroups facts groups → GroupsLeft facts G groups (record { spool = no_spool; failed = false }) 0
-all_left facts G groups given shown = record {
+pub all_left : (limit : Limit) (facts : List Fact) (G : Spool) (groups : List ShownGroup) → IsGiven facts G → AreShownGroups facts groups → GroupsLeft limit facts G groups (record { limit = limit; spool = no_spool; failed = false }) 0
+all_left limit facts G groups given shown = record {
   begun = record {
+    limit_is = refl;
     is_whole = refl;
     part = none_is_part facts G;
     invented_before = λ id i. absurd (none_there (get no_spool.articles id) (no_article id) i);

@@ -10,8 +10,9 @@ use Rattle.std.proofs.lemmas.Cmp.{tied_itself}
 use Rattle.std.specs.Cmp.Lexicographic.{slice_cmp, nat_list_cmp_total}
 use Rattle.std.specs.FinMap.{FinMap, get, insert, nat_cmp-IsAntisymmetric}
 use Rattle.std.proofs.lemmas.Bool.{or_cases, eqb-true}
+use Rattle.nntp_wire.specs.Limit.{greatest}
+use Rattle.nntp_wire.specs.declared.limit.Limit.{Limit}
 use Rattle.nntp_article.specs.Article.{Id}
-use Rattle.nntp_article.specs.Limit.{profile_31_bits}
 use Rattle.nntp_article.specs.Spool.{Spool, Name, Numbers, Text, IsNumber, IsSpool, numbers}
 use Rattle.nntp_facts.specs.Facts.{Fact}
 use Rattle.nntp_facts.specs.Given.{is_mentioned, invented, plain_head, AreInvented, IsFirstFree, IsGiven}
@@ -49,12 +50,12 @@ abbrev with_both : Spool → FinMap (slice_cmp nat_cmp) Text → Name → ℕ �
 with_both S articles name n id = record { groups = insert S.groups name (insert (numbers S name) n id); articles = articles }
 
 -- one number less is left, once it is there
-one_less : (facts : List Fact) (G before : Spool) (name : Name) (behind : List Id) (n : ℕ) (o : Option Id) (left : List (ℕ × Option Id)) (b : Building) (next after : ℕ) (id : Id) (articles : FinMap (slice_cmp nat_cmp) Text)
-    → NumbersLeft facts G before name behind ((n, o) ∷ left) b next → IsBegun facts G (record { spool = with_both b.spool articles name n id; failed = false }) after
+one_less : (limit : Limit) (facts : List Fact) (G before : Spool) (name : Name) (behind : List Id) (n : ℕ) (o : Option Id) (left : List (ℕ × Option Id)) (b : Building) (next after : ℕ) (id : Id) (articles : FinMap (slice_cmp nat_cmp) Text)
+    → NumbersLeft limit facts G before name behind ((n, o) ∷ left) b next → IsBegun limit facts G (record { limit = b.limit; spool = with_both b.spool articles name n id; failed = false }) after
     → AreInvented facts after (unshown_at (numbers G name) left ++ behind)
-    → NumbersLeft facts G before name behind left (record { spool = with_both b.spool articles name n id; failed = false }) after
+    → NumbersLeft limit facts G before name behind left (record { limit = b.limit; spool = with_both b.spool articles name n id; failed = false }) after
 unfolding IsStrictlySortedBy
-one_less facts G before name behind n o left b next after id articles l begun to_invent = record {
+one_less limit facts G before name behind n o left b next after id articles l begun to_invent = record {
   begun = begun;
   to_invent = to_invent;
   is_group = group_here b.spool name (insert (numbers b.spool name) n id);
@@ -78,23 +79,28 @@ one_less facts G before name behind n o left b next after id articles l begun to
 
 -- ---- a number whose id is shown
 
-module _ (facts : List Fact) (G before : Spool) (given : IsGiven facts G) (is_spool : IsSpool profile_31_bits G) (name : Name) (behind : List Id) (n : ℕ) (left : List (ℕ × Option Id)) (b : Building) (next : ℕ) where
+module _ (limit : Limit) (facts : List Fact) (G before : Spool) (given : IsGiven facts G) (is_spool : IsSpool (greatest limit) G) (name : Name) (behind : List Id) (n : ℕ) (left : List (ℕ × Option Id)) (b : Building) (next : ℕ) where
+  -- the spool is one within the builder's limit
+  own_limit : b.limit ≡ limit → IsSpool (greatest b.limit) G
+  own_limit is = subst (λ l. IsSpool (greatest l) G) (sym is) is_spool
+
   -- an id that is shown isn't none
   some_none : (id : Id) → Some id ≡ None → ⊥
   some_none id e = cc
 
   -- the number has the id in the spool
-  shown_there : (id : Id) → NumbersLeft facts G before name behind ((n, Some id) ∷ left) b next → get (numbers G name) n ≡ Some id
+  shown_there : (id : Id) → NumbersLeft limit facts G before name behind ((n, Some id) ∷ left) b next → get (numbers G name) n ≡ Some id
   shown_there id l = given.ids_shown name n id l.of_group.0.0 (sym l.of_group.0.1)
 
   -- it is added without a fault
-  shown_fits : (id : Id) → NumbersLeft facts G before name behind ((n, Some id) ∷ left) b next → number_fault profile_31_bits b.spool name n id ≡ None
-  shown_fits id l = number_fits facts G b.spool is_spool l.begun.part name n id l.is_group (shown_there id l) l.not_made.0
+  shown_fits : (id : Id) → NumbersLeft limit facts G before name behind ((n, Some id) ∷ left) b next → number_fault (greatest b.limit) b.spool name n id ≡ None
+  shown_fits id l = number_fits b.limit facts G b.spool (own_limit l.begun.limit_is) l.begun.part name n id l.is_group (shown_there id l) l.not_made.0
 
   -- the others are left
-  shown_made : (id : Id) → NumbersLeft facts G before name behind ((n, Some id) ∷ left) b next → NumbersLeft facts G before name behind left (record { spool = with_both b.spool b.spool.articles name n id; failed = false }) next
+  shown_made : (id : Id) → NumbersLeft limit facts G before name behind ((n, Some id) ∷ left) b next → NumbersLeft limit facts G before name behind left (record { limit = b.limit; spool = with_both b.spool b.spool.articles name n id; failed = false }) next
   shown_made id l =
-      one_less facts G before name behind n (Some id) left b next next id b.spool.articles l (record {
+      one_less limit facts G before name behind n (Some id) left b next next id b.spool.articles l (record {
+        limit_is = l.begun.limit_is;
         is_whole = refl;
         part = part_with_number facts G b.spool b.spool.articles name n id l.begun.part l.is_group (shown_there id l) (λ q i. i) l.begun.part.articles (λ none. absurd (some_none id (l.of_group.0.1 ∙ none)));
         invented_before = l.begun.invented_before;
@@ -102,16 +108,16 @@ module _ (facts : List Fact) (G before : Spool) (given : IsGiven facts G) (is_sp
       }) l.to_invent
 
   -- so the call makes it
-  pub shown_makes : (o : Option Id) (id : Id) (r : Result (Unit {0}) SpoolFault) (new : Building) → o ≡ Some id → NumbersLeft facts G before name behind ((n, o) ∷ left) b next
-      → Builds (number_fault profile_31_bits b.spool name n id) (with_group b.spool name (insert (numbers b.spool name) n id)) r b new → Makes r (λ _. NumbersLeft facts G before name behind left new next)
+  pub shown_makes : (o : Option Id) (id : Id) (r : Result (Unit {0}) SpoolFault) (new : Building) → o ≡ Some id → NumbersLeft limit facts G before name behind ((n, o) ∷ left) b next
+      → Builds (number_fault (greatest b.limit) b.spool name n id) (with_group b.spool name (insert (numbers b.spool name) n id)) r b new → Makes r (λ _. NumbersLeft limit facts G before name behind left new next)
   shown_makes o id r new is was h =
-      let l = subst (λ o. NumbersLeft facts G before name behind ((n, o) ∷ left) b next) is was in
-      called (λ c. NumbersLeft facts G before name behind left c next) (number_fault profile_31_bits b.spool name n id) (with_group b.spool name (insert (numbers b.spool name) n id)) r b new l.begun.is_whole (shown_fits id l) (shown_made id l) h
+      let l = subst (λ o. NumbersLeft limit facts G before name behind ((n, o) ∷ left) b next) is was in
+      called (λ c. NumbersLeft limit facts G before name behind left c next) (number_fault (greatest b.limit) b.spool name n id) (with_group b.spool name (insert (numbers b.spool name) n id)) r b new l.begun.is_whole (shown_fits id l) (shown_made id l) h
 
   -- ---- a number for which none is shown
 
   -- its id is invented
-  module _ (l : NumbersLeft facts G before name behind ((n, None) ∷ left) b next) (j : ℕ) (first : IsFirstFree (λ k. is_mentioned facts (invented k)) next j) (small : j < 2 ^ 64 - 1) where
+  module _ (l : NumbersLeft limit facts G before name behind ((n, None) ∷ left) b next) (j : ℕ) (first : IsFirstFree (λ k. is_mentioned facts (invented k)) next j) (small : j < 2 ^ 64 - 1) where
     -- with this number
     same_number : l.to_invent.0 ≡ j
     same_number = first_free_once (λ k. is_mentioned facts (invented k)) next l.to_invent.0 j l.to_invent.1 first
@@ -124,8 +130,8 @@ module _ (facts : List Fact) (G before : Spool) (given : IsGiven facts G) (is_sp
         at.1 ∙ ap Some (is ∙ ap invented same_number)
 
     -- it is added without a fault
-    invented_fits : number_fault profile_31_bits b.spool name n (invented j) ≡ None
-    invented_fits = number_fits facts G b.spool is_spool l.begun.part name n (invented j) l.is_group invented_there l.not_made.0
+    invented_fits : number_fault (greatest b.limit) b.spool name n (invented j) ≡ None
+    invented_fits = number_fits b.limit facts G b.spool (own_limit l.begun.limit_is) l.begun.part name n (invented j) l.is_group invented_there l.not_made.0
 
     -- the article has nothing but the id
     abbrev plain : Text
@@ -148,7 +154,7 @@ module _ (facts : List Fact) (G before : Spool) (given : IsGiven facts G) (is_sp
 
     -- it is added without a fault
     plain_fits : article_fault (with_group b.spool name (insert (numbers b.spool name) n (invented j))) (invented j) plain ≡ None
-    plain_fits = article_fits G (with_group b.spool name (insert (numbers b.spool name) n (invented j))) is_spool (invented j) plain plain_there plain_absent
+    plain_fits = article_fits limit G (with_group b.spool name (insert (numbers b.spool name) n (invented j))) is_spool (invented j) plain plain_there plain_absent
 
     -- the articles with it
     abbrev more : FinMap (slice_cmp nat_cmp) Text
@@ -171,9 +177,10 @@ module _ (facts : List Fact) (G before : Spool) (given : IsGiven facts G) (is_sp
         ]
 
     -- the others are left
-    invented_made : NumbersLeft facts G before name behind left (record { spool = with_both b.spool more name n (invented j); failed = false }) (j + 1)
+    invented_made : NumbersLeft limit facts G before name behind left (record { limit = b.limit; spool = with_both b.spool more name n (invented j); failed = false }) (j + 1)
     invented_made =
-        one_less facts G before name behind n None left b next (j + 1) (invented j) more l (record {
+        one_less limit facts G before name behind n None left b next (j + 1) (invented j) more l (record {
+          limit_is = l.begun.limit_is;
           is_whole = refl;
           part = part_with_number facts G b.spool more name n (invented j) l.begun.part l.is_group invented_there (λ q i. got_still nat_list_cmp_total octet_keys b.spool.articles (invented j) plain q i) more_there
               (λ _. ap is_some (got_here nat_list_cmp_total b.spool.articles (invented j) plain));
@@ -183,26 +190,26 @@ module _ (facts : List Fact) (G before : Spool) (given : IsGiven facts G) (is_sp
 
   -- what the call of the number gives, with the id as the code has it
   abbrev Numbered : Id → Result (Unit {0}) SpoolFault → Building → Type 0
-  Numbered id r new = Builds (number_fault profile_31_bits b.spool name n id) (with_group b.spool name (insert (numbers b.spool name) n id)) r b new
+  Numbered id r new = Builds (number_fault (greatest b.limit) b.spool name n id) (with_group b.spool name (insert (numbers b.spool name) n id)) r b new
 
   -- a refusal of the number is want of memory
-  pub unshown_refused : (o : Option Id) (id : Id) (j : ℕ) (x : SpoolFault) (new : Building) → o ≡ None → NumbersLeft facts G before name behind ((n, o) ∷ left) b next
+  pub unshown_refused : (o : Option Id) (id : Id) (j : ℕ) (x : SpoolFault) (new : Building) → o ≡ None → NumbersLeft limit facts G before name behind ((n, o) ∷ left) b next
       → id ≡ invented j → IsFirstFree (λ k. is_mentioned facts (invented k)) next j → j < 2 ^ 64 - 1 → Numbered id (Err x) new → x ≡ Memory
   unshown_refused o id j x new none was is first small h =
-      let l = subst (λ o. NumbersLeft facts G before name behind ((n, o) ∷ left) b next) none was in
-      call_refused (number_fault profile_31_bits b.spool name n (invented j)) (with_group b.spool name (insert (numbers b.spool name) n (invented j))) x b new l.begun.is_whole (invented_fits l j first small)
+      let l = subst (λ o. NumbersLeft limit facts G before name behind ((n, o) ∷ left) b next) none was in
+      call_refused (number_fault (greatest b.limit) b.spool name n (invented j)) (with_group b.spool name (insert (numbers b.spool name) n (invented j))) x b new l.begun.is_whole (invented_fits l j first small)
       (subst (λ id. Numbered id (Err x) new) is h)
 
   -- the two calls make the number and the article
-  pub unshown_makes : (o : Option Id) (id other : Id) (t : Text) (j : ℕ) (x : Unit {0}) (r : Result (Unit {0}) SpoolFault) (mid new : Building) → o ≡ None → NumbersLeft facts G before name behind ((n, o) ∷ left) b next
+  pub unshown_makes : (o : Option Id) (id other : Id) (t : Text) (j : ℕ) (x : Unit {0}) (r : Result (Unit {0}) SpoolFault) (mid new : Building) → o ≡ None → NumbersLeft limit facts G before name behind ((n, o) ∷ left) b next
       → id ≡ invented j → other ≡ invented j → t ≡ record { head = plain_head other; body = [] } → IsFirstFree (λ k. is_mentioned facts (invented k)) next j → j < 2 ^ 64 - 1
-      → Numbered id (Ok x) mid → Builds (article_fault mid.spool other t) (with_article mid.spool other t) r mid new → Makes r (λ _. NumbersLeft facts G before name behind left new (j + 1))
+      → Numbered id (Ok x) mid → Builds (article_fault mid.spool other t) (with_article mid.spool other t) r mid new → Makes r (λ _. NumbersLeft limit facts G before name behind left new (j + 1))
   unshown_makes o id other t j x r mid new none was is also text first small h g =
-      let l = subst (λ o. NumbersLeft facts G before name behind ((n, o) ∷ left) b next) none was in
+      let l = subst (λ o. NumbersLeft limit facts G before name behind ((n, o) ∷ left) b next) none was in
       let S : Spool = with_group b.spool name (insert (numbers b.spool name) n (invented j)) in
-      let middle : mid ≡ record { spool = S; failed = false } = call_done (number_fault profile_31_bits b.spool name n (invented j)) S x b mid l.begun.is_whole (invented_fits l j first small) (subst (λ id. Numbered id (Ok x) mid) is h) in
+      let middle : mid ≡ record { limit = b.limit; spool = S; failed = false } = call_done (number_fault (greatest b.limit) b.spool name n (invented j)) S x b mid l.begun.is_whole (invented_fits l j first small) (subst (λ id. Numbered id (Ok x) mid) is h) in
       let plain_is : t ≡ plain l j first small = text ∙ (λ i. record { head = plain_head (also i); body = [] }) in
-      called (λ c. NumbersLeft facts G before name behind left c (j + 1)) (article_fault S (invented j) (plain l j first small)) (with_article S (invented j) (plain l j first small)) r (record { spool = S; failed = false }) new
+      called (λ c. NumbersLeft limit facts G before name behind left c (j + 1)) (article_fault S (invented j) (plain l j first small)) (with_article S (invented j) (plain l j first small)) r (record { limit = b.limit; spool = S; failed = false }) new
       refl (plain_fits l j first small) (invented_made l j first small)
       (subst (λ m. Builds (article_fault m.spool (invented j) (plain l j first small)) (with_article m.spool (invented j) (plain l j first small)) r m new) middle
       (subst (λ u. Builds (article_fault mid.spool (invented j) u) (with_article mid.spool (invented j) u) r mid new) plain_is

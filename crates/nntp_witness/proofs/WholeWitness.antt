@@ -5,8 +5,11 @@ use Rattle.std.specs.List.{list_any}
 use Rattle.std.specs.Cmp.Lexicographic.{nat_list_cmp_total}
 use Rattle.std.specs.FinMap.{get, empty, same_map}
 use Rattle.std.proofs.lemmas.Bool.{true≢false, false≢true}
+use Rattle.nntp_wire.specs.Limit.{greatest}
+use Rattle.nntp_wire.specs.declared.limit.Limit.{Limit}
+use Rattle.nntp_wire.specs.declared.marks.Marks.{Marks}
 use Rattle.nntp_article.specs.Article.{Id}
-use Rattle.nntp_article.specs.Limit.{profile_31_bits}
+use Rattle.nntp_article.specs.Limit.{profile_of}
 use Rattle.nntp_article.specs.Machine.{is_same}
 use Rattle.nntp_article.specs.Spool.{Spool, Name, Text, numbers}
 use Rattle.nntp_pair.specs.Pairing.{Paired}
@@ -19,6 +22,7 @@ use Rattle.nntp_facts.proofs.Members.{any_in, found_in, first_found}
 use Rattle.nntp_facts.proofs.Stand.{same_itself}
 use Rattle.nntp_spool.specs.Building.{Building, finished}
 use Rattle.nntp_spool.specs.Content.{ids_have_articles}
+use Rattle.nntp_spool.specs.Limited.{LimitedSpool}
 use Rattle.nntp_spool.specs.declared.value.spool_fault.SpoolFault.{SpoolFault}
 use Rattle.nntp_spool.specs.declared.value.spool_fault.SpoolFault.TheVariants as faults
 use Rattle.nntp_spool.proofs.ShownMaps.{spool_is}
@@ -52,7 +56,7 @@ id_is_shown facts name n id e = let f = first_found (id_in name n) facts id e in
 
 -- ---- the articles
 
-module _ (facts : List Fact) (G : Spool) (b : Building) (given : IsGiven facts G) (left : ArticlesLeft facts G [] b) where
+module _ (limit : Limit) (facts : List Fact) (G : Spool) (b : Building) (given : IsGiven facts G) (left : ArticlesLeft limit facts G [] b) where
   -- an id that is shown has its article
   shown_is_made : (id : Id) → IsTrue (list_any (shows_article id) facts) → IsSome (get b.spool.articles id)
   shown_is_made id t = elim (left.others id t) [ inl none ↦ absurd (false≢true none) | inr made ↦ made ]
@@ -90,13 +94,13 @@ module _ (facts : List Fact) (G : Spool) (b : Building) (given : IsGiven facts G
 -- ---- the spool
 
 -- a builder that hasn't failed hands out its spool, where each id has an article
-finished_is : (b : Building) (G : Spool) → b.failed ≡ false → b.spool ≡ G → ids_have_articles G ≡ true → finished b ≡ Ok G
-finished_is b G whole same knows = (λ i. handed (whole i) (same i)) ∙ ap (λ k. cond (not k) (Err faults.UnknownId) (Ok G)) knows
+finished_is : (limit : Limit) (b : Building) (G : Spool) → b.limit ≡ limit → b.failed ≡ false → b.spool ≡ G → ids_have_articles G ≡ true → finished b ≡ Ok (record { limit = limit; spool = G })
+finished_is limit b G is whole same knows = (λ i. handed (is i) (whole i) (same i)) ∙ ap (λ k. cond (not k) (Err faults.UnknownId) (Ok (record { limit = limit; spool = G }))) knows
   where
-    handed : Bool → Spool → Result Spool SpoolFault
-    handed failed S = cond failed (Err faults.Failed) (cond (not (ids_have_articles S)) (Err faults.UnknownId) (Ok S))
+    handed : Limit → Bool → Spool → Result LimitedSpool SpoolFault
+    handed limit failed S = cond failed (Err faults.Failed) (cond (not (ids_have_articles S)) (Err faults.UnknownId) (Ok (record { limit = limit; spool = S })))
 
 -- where no article is left the builder hands out the given spool
-pub finished_is_given : (past : List Paired) (G : Spool) (b : Building) → IsWitness profile_31_bits past G → ArticlesLeft (said_by profile_31_bits.marks past) G [] b → finished b ≡ Ok G
-finished_is_given past G b witness left =
-    finished_is b G left.is_whole (made_is_given (said_by profile_31_bits.marks past) G b witness.given left) (spool_knows profile_31_bits G witness.is_spool)
+pub finished_is_given : (limit : Limit) (marks : Marks) (past : List Paired) (G : Spool) (b : Building) → IsWitness (profile_of limit marks) past G → ArticlesLeft limit (said_by marks past) G [] b → finished b ≡ Ok (record { limit = limit; spool = G })
+finished_is_given limit marks past G b witness left =
+    finished_is limit b G left.limit_is left.is_whole (made_is_given limit (said_by marks past) G b witness.given left) (spool_knows (greatest limit) G witness.is_spool)

@@ -5,6 +5,7 @@ use Rattle.std.specs.List.Sorted.{IsStrictlySortedBy}
 use Rattle.std.specs.Ordering.{nat_cmp}
 use Rattle.std.specs.Cmp.Lexicographic.{slice_cmp}
 use Rattle.std.specs.FinMap.{get}
+use Rattle.nntp_wire.specs.declared.limit.Limit.{Limit}
 use Rattle.nntp_article.specs.Article.{Id}
 use Rattle.nntp_article.specs.Machine.{is_same}
 use Rattle.nntp_article.specs.Spool.{Spool, Name, Numbers, Text, IsGroup, IsNumber, numbers}
@@ -54,16 +55,17 @@ pub record IsPart (facts : List Fact) (G made : Spool) : Type 0 where
   pub unshown : (name : Name) (n : ℕ) (id : Id) → get (numbers made name) n ≡ Some id → id_shown facts name n ≡ None → IsSome (get made.articles id)
   pub numbers : (name : Name) (n : ℕ) (id : Id) → get (numbers made name) n ≡ Some id → get (numbers G name) n ≡ Some id
 
--- a part of the spool is made, by a builder that hasn't failed, and its articles are those of ids that were invented with numbers below `next`
-pub record IsBegun (facts : List Fact) (G : Spool) (builder : Building) (next : ℕ) : Type 0 where
+-- a part of the spool is made, by a builder of this limit that hasn't failed, and its articles are those of ids that were invented with numbers below `next`
+pub record IsBegun (limit : Limit) (facts : List Fact) (G : Spool) (builder : Building) (next : ℕ) : Type 0 where
+  pub limit_is : builder.limit ≡ limit
   pub is_whole : builder.failed ≡ false
   pub part : IsPart facts G builder.spool
   pub invented_before : (id : Id) → IsSome (get builder.spool.articles id) → (k : ℕ) × (k < next) × (id ≡ invented k) × IsFalse (is_mentioned facts id)
   pub small : next < 2 ^ 64
 
 -- these groups are left: nothing of them is made, and the others are whole
-pub record GroupsLeft (facts : List Fact) (G : Spool) (left : List ShownGroup) (builder : Building) (next : ℕ) : Type 0 where
-  pub begun : IsBegun facts G builder next
+pub record GroupsLeft (limit : Limit) (facts : List Fact) (G : Spool) (left : List ShownGroup) (builder : Building) (next : ℕ) : Type 0 where
+  pub begun : IsBegun limit facts G builder next
   pub to_invent : AreInvented facts next (unshown_of G left)
   pub shown : AllByRecursion (HasShownNumbers facts) left
   pub ascending : IsStrictlySortedBy (slice_cmp nat_cmp) (map (λ g. g.name) left)
@@ -72,8 +74,8 @@ pub record GroupsLeft (facts : List Fact) (G : Spool) (left : List ShownGroup) (
   pub others : (name : Name) → IsTrue (list_any (λ g. is_same g.name name) left) ⊎ (get builder.spool.groups name ≡ get G.groups name)
 
 -- these numbers of a group are left, each with its id, where one is shown, and then these ids are to be invented; the other groups are as they were
-pub record NumbersLeft (facts : List Fact) (G before : Spool) (name : Name) (behind : List Id) (left : List (ℕ × Option Id)) (builder : Building) (next : ℕ) : Type 0 where
-  pub begun : IsBegun facts G builder next
+pub record NumbersLeft (limit : Limit) (facts : List Fact) (G before : Spool) (name : Name) (behind : List Id) (left : List (ℕ × Option Id)) (builder : Building) (next : ℕ) : Type 0 where
+  pub begun : IsBegun limit facts G builder next
   pub to_invent : AreInvented facts next (unshown_at (numbers G name) left ++ behind)
   pub is_group : IsGroup builder.spool name
   pub ascending : IsStrictlySortedBy nat_cmp (map (λ e. e.0) left)
@@ -83,7 +85,8 @@ pub record NumbersLeft (facts : List Fact) (G before : Spool) (name : Name) (beh
   pub other_groups : (other : Name) → other ≢ name → get builder.spool.groups other ≡ get before.groups other
 
 -- all groups are made, and these articles are left of those that are shown
-pub record ArticlesLeft (facts : List Fact) (G : Spool) (left : List ShownArticle) (builder : Building) : Type 0 where
+pub record ArticlesLeft (limit : Limit) (facts : List Fact) (G : Spool) (left : List ShownArticle) (builder : Building) : Type 0 where
+  pub limit_is : builder.limit ≡ limit
   pub is_whole : builder.failed ≡ false
   pub part : IsPart facts G builder.spool
   pub groups : builder.spool.groups ≡ G.groups

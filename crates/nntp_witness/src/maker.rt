@@ -1,11 +1,13 @@
 //! The given spool as far as it is made.
 ghost use Rattle.std.specs.Prelude.{◌≡◌, ℕ, List, [], ◌∷◌, ◌++◌, Option, IfOk};
 ghost use Rattle.std.specs.Option.{option_copied};
+ghost use Rattle.nntp_wire.specs.declared.limit.Limit.{Limit};
+ghost use Rattle.nntp_wire.specs.declared.marks.Marks.{Marks};
 ghost use Rattle.nntp_article.specs.Article.{Id};
-ghost use Rattle.nntp_article.specs.Limit.{profile_31_bits};
+ghost use Rattle.nntp_article.specs.Limit.{profile_of};
 ghost use Rattle.nntp_article.specs.Spool.{Spool as SpoolValue};
 ghost use Rattle.nntp_pair.specs.Pairing.{Paired};
-ghost use Rattle.nntp_facts.specs.Noted.{HasNoted, said_by};
+ghost use Rattle.nntp_facts.specs.Noted.{HasNoted, profile_kept, said_by};
 ghost use Rattle.nntp_facts.specs.Readers.{ShownGroup as GroupValue, ShownArticle as ArticleValue};
 ghost use Rattle.nntp_spool.specs.Text.{IsWritten};
 ghost use Rattle.nntp_witness.specs.Witness.{IsWitness};
@@ -29,11 +31,11 @@ pub(crate) struct SpoolMaker<A: Allocator> {
 impl<A: Allocator + Copy> SpoolMaker<A> {
     /// With the groups that are shown, and articles of ids that are invented.
     pub(crate) fn of_groups(alloc: A, facts: &Facts<A>) -> Result<SpoolMaker<A>, SpoolFault>
-        ensures { (past : List Paired) (G : SpoolValue) → HasNoted profile_31_bits facts.now past → IsWitness profile_31_bits past G → Makes result (λ maker. GroupsLeft (said_by profile_31_bits.marks past) G [] maker.builder maker.next) }
+        ensures { (past : List Paired) (G : SpoolValue) → HasNoted (profile_kept facts.now) facts.now past → IsWitness (profile_kept facts.now) past G → Makes result (λ maker. GroupsLeft facts.now.limit (said_by facts.now.marks past) G [] maker.builder maker.next) }
     {
         let mut maker = SpoolMaker {
             alloc,
-            builder: SpoolBuilder::new(alloc),
+            builder: SpoolBuilder::new(alloc, facts.limit()),
             next: 0,
         };
         let mut groups = facts.groups();
@@ -45,8 +47,8 @@ impl<A: Allocator + Copy> SpoolMaker<A> {
 
     /// Adds a group with its numbers.
     fn add_group(&mut self, facts: &Facts<A>, group: &ShownGroup<'_, A>) -> Result<(), SpoolFault>
-        ensures { (past : List Paired) (G : SpoolValue) (left : List GroupValue) → HasNoted profile_31_bits facts.now past → IsWitness profile_31_bits past G → GroupsLeft (said_by profile_31_bits.marks past) G (group.now ∷ left) self.old.builder self.old.next
-            → Makes result (λ _. GroupsLeft (said_by profile_31_bits.marks past) G left self.new.builder self.new.next) }
+        ensures { (past : List Paired) (G : SpoolValue) (left : List GroupValue) → HasNoted (profile_kept facts.now) facts.now past → IsWitness (profile_kept facts.now) past G → GroupsLeft facts.now.limit (said_by facts.now.marks past) G (group.now ∷ left) self.old.builder self.old.next
+            → Makes result (λ _. GroupsLeft facts.now.limit (said_by facts.now.marks past) G left self.new.builder self.new.next) }
     {
         let name = group.name();
         self.builder.group(name)?;
@@ -62,9 +64,9 @@ impl<A: Allocator + Copy> SpoolMaker<A> {
         name: &[u8],
         unseen: Option<u64>,
     ) -> Result<(), SpoolFault>
-        ensures { (past : List Paired) (G before : SpoolValue) (behind : List Id) (left : List (ℕ × Option Id)) → HasNoted profile_31_bits facts.now past → IsWitness profile_31_bits past G
-            → NumbersLeft (said_by profile_31_bits.marks past) G before name.now behind (unseen_number unseen ++ left) self.old.builder self.old.next
-            → Makes result (λ _. NumbersLeft (said_by profile_31_bits.marks past) G before name.now behind left self.new.builder self.new.next) }
+        ensures { (past : List Paired) (G before : SpoolValue) (behind : List Id) (left : List (ℕ × Option Id)) → HasNoted (profile_kept facts.now) facts.now past → IsWitness (profile_kept facts.now) past G
+            → NumbersLeft facts.now.limit (said_by facts.now.marks past) G before name.now behind (unseen_number unseen ++ left) self.old.builder self.old.next
+            → Makes result (λ _. NumbersLeft facts.now.limit (said_by facts.now.marks past) G before name.now behind left self.new.builder self.new.next) }
     {
         match unseen {
             Some(number) => self.add_number(facts, name, number, None),
@@ -79,9 +81,9 @@ impl<A: Allocator + Copy> SpoolMaker<A> {
         name: &[u8],
         mut numbers: ShownNumbers<'_, A>,
     ) -> Result<(), SpoolFault>
-        ensures { (past : List Paired) (G before : SpoolValue) (behind : List Id) (left : List (ℕ × Option Id)) → HasNoted profile_31_bits facts.now past → IsWitness profile_31_bits past G
-            → NumbersLeft (said_by profile_31_bits.marks past) G before name.now behind (numbers.entry ++ left) self.old.builder self.old.next
-            → Makes result (λ _. NumbersLeft (said_by profile_31_bits.marks past) G before name.now behind left self.new.builder self.new.next) }
+        ensures { (past : List Paired) (G before : SpoolValue) (behind : List Id) (left : List (ℕ × Option Id)) → HasNoted (profile_kept facts.now) facts.now past → IsWitness (profile_kept facts.now) past G
+            → NumbersLeft facts.now.limit (said_by facts.now.marks past) G before name.now behind (numbers.entry ++ left) self.old.builder self.old.next
+            → Makes result (λ _. NumbersLeft facts.now.limit (said_by facts.now.marks past) G before name.now behind left self.new.builder self.new.next) }
     {
         while let Some(shown) = numbers.next() {
             self.add_number(facts, name, shown.number, shown.id)?;
@@ -97,9 +99,9 @@ impl<A: Allocator + Copy> SpoolMaker<A> {
         number: u64,
         id: Option<&[u8]>,
     ) -> Result<(), SpoolFault>
-        ensures { (past : List Paired) (G before : SpoolValue) (behind : List Id) (left : List (ℕ × Option Id)) → HasNoted profile_31_bits facts.now past → IsWitness profile_31_bits past G
-            → NumbersLeft (said_by profile_31_bits.marks past) G before name.now behind ((number, option_copied id.entry) ∷ left) self.old.builder self.old.next
-            → Makes result (λ _. NumbersLeft (said_by profile_31_bits.marks past) G before name.now behind left self.new.builder self.new.next) }
+        ensures { (past : List Paired) (G before : SpoolValue) (behind : List Id) (left : List (ℕ × Option Id)) → HasNoted (profile_kept facts.now) facts.now past → IsWitness (profile_kept facts.now) past G
+            → NumbersLeft facts.now.limit (said_by facts.now.marks past) G before name.now behind ((number, option_copied id.entry) ∷ left) self.old.builder self.old.next
+            → Makes result (λ _. NumbersLeft facts.now.limit (said_by facts.now.marks past) G before name.now behind left self.new.builder self.new.next) }
     {
         if let Some(id) = id {
             return self.builder.number(name, number, id);
@@ -117,8 +119,8 @@ impl<A: Allocator + Copy> SpoolMaker<A> {
 
     /// Adds the articles that are shown.
     pub(crate) fn add_articles(&mut self, facts: &Facts<A>) -> Result<(), SpoolFault>
-        ensures { (past : List Paired) (G : SpoolValue) → HasNoted profile_31_bits facts.now past → IsWitness profile_31_bits past G → GroupsLeft (said_by profile_31_bits.marks past) G [] self.old.builder self.old.next
-            → Makes result (λ _. ArticlesLeft (said_by profile_31_bits.marks past) G [] self.new.builder) }
+        ensures { (past : List Paired) (G : SpoolValue) → HasNoted (profile_kept facts.now) facts.now past → IsWitness (profile_kept facts.now) past G → GroupsLeft facts.now.limit (said_by facts.now.marks past) G [] self.old.builder self.old.next
+            → Makes result (λ _. ArticlesLeft facts.now.limit (said_by facts.now.marks past) G [] self.new.builder) }
     {
         let mut articles = facts.articles();
         while let Some(article) = articles.next() {
@@ -129,8 +131,8 @@ impl<A: Allocator + Copy> SpoolMaker<A> {
 
     /// Adds an article that is shown.
     fn add_article(&mut self, shown: &ShownArticle<'_, A>) -> Result<(), SpoolFault>
-        ensures { (past : List Paired) (G : SpoolValue) (left : List ArticleValue) → IsWitness profile_31_bits past G → ArticlesLeft (said_by profile_31_bits.marks past) G (shown.now ∷ left) self.old.builder
-            → Makes result (λ _. ArticlesLeft (said_by profile_31_bits.marks past) G left self.new.builder) }
+        ensures { (limit : Limit) (marks : Marks) (past : List Paired) (G : SpoolValue) (left : List ArticleValue) → IsWitness (profile_of limit marks) past G → ArticlesLeft limit (said_by marks past) G (shown.now ∷ left) self.old.builder
+            → Makes result (λ _. ArticlesLeft limit (said_by marks past) G left self.new.builder) }
     {
         let Ok(article) = given_article(self.alloc, shown) else {
             return Err(SpoolFault::Memory);
@@ -140,8 +142,9 @@ impl<A: Allocator + Copy> SpoolMaker<A> {
 
     /// The spool that is made.
     pub(crate) fn finish(self) -> Result<Spool<A>, SpoolFault>
-        ensures given { (past : List Paired) (G : SpoolValue) → IsWitness profile_31_bits past G → ArticlesLeft (said_by profile_31_bits.marks past) G [] self.builder → Makes result (λ spool. spool ≡ G) }
-        ensures is_written { IfOk result (λ spool. IsWritten profile_31_bits spool) }
+        ensures given { (limit : Limit) (marks : Marks) (past : List Paired) (G : SpoolValue) → IsWitness (profile_of limit marks) past G → ArticlesLeft limit (said_by marks past) G [] self.builder
+            → Makes result (λ spool. spool ≡ record { limit = limit; spool = G }) }
+        ensures is_written { IfOk result IsWritten }
     {
         self.builder.finish()
     }

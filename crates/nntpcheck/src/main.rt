@@ -2,7 +2,9 @@
 #![tactic(auto)]
 
 use clap::error::ErrorKind;
-use nntp_check::{Failure, RunFault, Task, Watched, job, run_check, run_show, run_verify, status};
+use nntp_check::{
+    Failure, RunFault, Task, Watched, job, refusal, run_check, run_show, run_verify, status,
+};
 use std::process::ExitCode;
 use std::{env, io};
 
@@ -31,13 +33,15 @@ fn run(rt: &HostRuntime) -> Result<bool, Failure> {
     };
     let task = match job(rt.alloc(), &words) {
         Ok(task) => task,
-        Err(error) => return Err(Failure::Words(error)),
+        Err(error) => return Err(refusal(error, &words)),
     };
     let mut input = Watched::new(rt.stdin());
     let mut output = Watched::new(rt.stdout());
     let outcome = match task {
-        Task::Check => run_check(rt.alloc(), &mut input, &mut output, MOST),
-        Task::Verify => run_verify(rt.alloc(), &mut input, &mut output, MOST),
+        Task::Check { limit, marks } => {
+            run_check(rt.alloc(), limit, marks, &mut input, &mut output, MOST)
+        }
+        Task::Verify { marks } => run_verify(rt.alloc(), marks, &mut input, &mut output, MOST),
         Task::Show => run_show(rt.alloc(), &mut input, &mut output, MOST),
     };
     outcome.map_err(Failure::Run)

@@ -11,7 +11,7 @@ use crate::visible::Visible;
 use crate::visible::codes::is_success;
 use crate::visible::groups::{fit_groups, names_differ};
 use crate::visible::heads::{fits_head, is_same};
-use crate::visible::numbers::{are_in_range, is_ascending, is_num};
+use crate::visible::numbers::{are_in_range, is_article_number, is_ascending};
 use nntp_wire::{Answer, Block, Command, Prompt, WaterMarks};
 use std::alloc::{AllocError, Allocator};
 
@@ -78,7 +78,7 @@ impl<A: Allocator + Copy> Visible<A> {
                 self.is_listed(group, name)
                     && self.fits_marks(profile, name, marks)
                     && is_ascending(block)
-                    && are_in_range(profile, *range, block)
+                    && are_in_range(profile.limit, *range, block)
             }
             _ => false,
         }
@@ -111,7 +111,7 @@ impl<A: Allocator + Copy> Visible<A> {
     {
         match prompt {
             Prompt::To(Command::Next) | Prompt::To(Command::Last) => {
-                code == 223 && self.is_selected() && is_num(profile, number)
+                code == 223 && self.is_selected() && is_article_number(profile.limit, number)
             }
             Prompt::To(Command::Retrieve { what, which }) => {
                 is_success(*what, code)

@@ -4,7 +4,7 @@ ghost use Rattle.std.specs.List.{list_all};
 ghost use Rattle.std.specs.Option.{option_map_or};
 ghost use Rattle.nntp_wire.specs.View.{target};
 ghost use Rattle.nntp_wire.specs.Listing.{listed_numbers};
-ghost use Rattle.nntp_article.specs.Machine.{is_num, is_in_range, is_ascending, number_fits};
+ghost use Rattle.nntp_article.specs.Machine.{is_article_number, is_in_range, is_ascending, number_fits};
 
 use crate::profile::Profile;
 use crate::visible::Visible;
@@ -12,11 +12,11 @@ use crate::visible::heads::is_same;
 use nntp_wire::{Block, Range, Which};
 use std::alloc::Allocator;
 
-/// Whether the number is an article number.
-pub(crate) fn is_num(profile: Profile, number: u64) -> bool
-    ensures { result ≡ is_num profile number }
+/// Whether the number is an article number, where `limit` is the greatest (RFC 3977, section 6).
+pub fn is_article_number(limit: u64, number: u64) -> bool
+    ensures { result ≡ is_article_number limit number }
 {
-    number >= 1 && number <= profile.limit
+    number >= 1 && number <= limit
 }
 
 fn is_in_range(range: Range, number: u64) -> bool
@@ -29,19 +29,19 @@ fn is_in_range(range: Range, number: u64) -> bool
         }
 }
 
-fn is_num_in_range(profile: Profile, range: Range, number: u64) -> bool
-    ensures { result ≡ (is_num profile number && is_in_range range number) }
+fn is_article_number_in_range(limit: u64, range: Range, number: u64) -> bool
+    ensures { result ≡ (is_article_number limit number && is_in_range range number) }
 {
-    is_num(profile, number) && is_in_range(range, number)
+    is_article_number(limit, number) && is_in_range(range, number)
 }
 
 /// Whether the listed numbers are article numbers within the range.
-pub(crate) fn are_in_range(profile: Profile, range: Range, block: &Block<'_>) -> bool
-    ensures { result ≡ list_all (λ n. is_num profile n && is_in_range range n) (listed_numbers block.now) }
+pub(crate) fn are_in_range(limit: u64, range: Range, block: &Block<'_>) -> bool
+    ensures { result ≡ list_all (λ n. is_article_number limit n && is_in_range range n) (listed_numbers block.now) }
 {
     block
         .numbers()
-        .all(|number| is_num_in_range(profile, range, number))
+        .all(|number| is_article_number_in_range(limit, range, number))
 }
 
 fn is_above(before: Option<u64>, number: u64) -> bool
@@ -84,7 +84,7 @@ impl<A: Allocator> Visible<A> {
     ) -> bool
         ensures { result ≡ number_fits profile self.now (target which.now) number id.now }
     {
-        let is_known = self.is_selected() && is_num(profile, number);
+        let is_known = self.is_selected() && is_article_number(profile.limit, number);
         match which {
             Which::Id(word) => is_same(id, *word) && (number == 0 || is_known),
             Which::Number(None) => false,

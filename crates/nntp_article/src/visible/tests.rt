@@ -1,13 +1,20 @@
 //! What a session shows of its state, answer by answer.
-use crate::{PROFILE_31_BITS, Visible};
-use nntp_wire::{Answer, Command, Malformed, Prompt, frame};
+use crate::{Profile, Visible, is_article_number};
+use nntp_wire::{Answer, Command, Limit, Malformed, Marks, Prompt, frame};
 use std::test::Fail;
 
 /// One answer of a session: the line that is answered, the answer's octets, and whether it fits.
 type Row = (&'static [u8], &'static [u8], bool);
 
-/// The state behind the rows that fit. Fails with the line of the first row that doesn't do as it says.
+/// The state behind the rows that fit, where article numbers have 31 bits. Fails where a row doesn't do as
+/// it says.
 fn state_after(rt: &HostRuntime, rows: &[Row]) -> Result<Visible, Fail> {
+    state_within(rt, Limit::Narrow, rows)
+}
+
+/// The same, where article numbers are within the limit.
+fn state_within(rt: &HostRuntime, limit: Limit, rows: &[Row]) -> Result<Visible, Fail> {
+    let profile = Profile::of(limit, Marks::Lenient);
     let mut visible = Visible::new(rt.alloc());
     for (line, server, fits) in rows {
         let prompt = if line.is_empty() {
@@ -22,7 +29,7 @@ fn state_after(rt: &HostRuntime, rows: &[Row]) -> Result<Visible, Fail> {
         let Ok(answer) = answer else {
             return Err("malformed".into());
         };
-        if visible.fits(PROFILE_31_BITS, &prompt, &answer)? != *fits {
+        if visible.fits(profile, &prompt, &answer)? != *fits {
             return Err("fits otherwise".into());
         }
         if *fits {
@@ -87,13 +94,41 @@ fn lists_ascend_and_name_no_group_twice(rt: HostRuntime) -> Result<(), Fail> {
 
 #[test]
 fn numbers_have_31_bits(rt: HostRuntime) -> Result<(), Fail> {
-    let rows: [Row; 3] = [
+    let rows: [Row; 4] = [
         (b"GROUP g", b"211 1 1 2147483648 g\r\n", false),
         (b"GROUP g", b"211 1 1 2147483647 g\r\n", true),
         (b"STAT", b"223 2147483648 <a@b>\r\n", false),
+        (b"STAT", b"223 2147483647 <a@b>\r\n", true),
     ];
     state_after(&rt, &rows)?;
     Ok(())
+}
+
+#[test]
+fn numbers_have_16_digits(rt: HostRuntime) -> Result<(), Fail> {
+    let rows: [Row; 5] = [
+        (b"GROUP g", b"211 1 1 9999999999999999 g\r\n", true),
+        (b"STAT", b"223 0 <a@b>\r\n", false),
+        (b"STAT", b"223 2147483648 <a@b>\r\n", true),
+        (b"STAT", b"223 9999999999999999 <a@b>\r\n", true),
+        (
+            b"LISTGROUP g",
+            b"211 1 1 9999999999999999 g\r\n9999999999999999\r\n.\r\n",
+            true,
+        ),
+    ];
+    state_within(&rt, Limit::Wide, &rows)?;
+    Ok(())
+}
+
+#[test]
+fn article_numbers_are_from_1_to_the_limit(rt: HostRuntime) {
+    assert!(rt; !is_article_number(2147483647, 0));
+    assert!(rt; is_article_number(2147483647, 1));
+    assert!(rt; is_article_number(2147483647, 2147483647));
+    assert!(rt; !is_article_number(2147483647, 2147483648));
+    assert!(rt; is_article_number(9999999999999999, 9999999999999999));
+    assert!(rt; !is_article_number(9999999999999999, 10000000000000000));
 }
 
 #[test]

@@ -2,14 +2,13 @@
 ghost use Rattle.std.specs.Prelude.{◌≡◌, ◌≤◌, ◌^◌, ◌∷◌, [], Some, None, true, option_map, option_copied, position, ◌==◌, MatchOption, if◌then◌else◌};
 ghost use Rattle.nntp_spool.specs.Reading.{Gives, line_at};
 ghost use Rattle.nntp_spool.specs.Fields.{fields_of, are_digits, is_decimal, is_count, value_of, opening_of, number_and_id, unbarred};
-ghost use Rattle.nntp_article.specs.Machine.{is_num};
-ghost use Rattle.nntp_article.specs.Limit.{profile_31_bits};
+ghost use Rattle.nntp_article.specs.Machine.{is_article_number};
 ghost use Rattle.nntp_spool.specs.ReadingView.{place_shown, opening_shown, number_line_shown, words_from};
 
 use crate::text::place::{NumberLine, Opening, Place};
 use crate::text::read_fault::{Kind, ReadError, ReadFault};
 use crate::value::well_formed::is_line;
-use nntp_article::PROFILE_31_BITS;
+use nntp_article::is_article_number;
 
 pub(crate) fn fault(line: u64, kind: Kind) -> ReadError
     ensures { result ≡ ReadError.Fault (record { line = line; kind = kind }) }
@@ -183,15 +182,15 @@ pub(crate) fn number_and_id(line: &[u8]) -> Option<NumberLine<'_>>
 }
 
 /// The number of a line, if it is an article number.
-pub(crate) fn article_number(line: NumberLine<'_>) -> Option<u64>
-    ensures { result ≡ (if is_num profile_31_bits (value_of line.entry.digits.now) then Some (value_of line.entry.digits.now) else None) }
+pub(crate) fn article_number(limit: u64, line: NumberLine<'_>) -> Option<u64>
+    ensures { result ≡ (if is_article_number limit (value_of line.entry.digits.now) then Some (value_of line.entry.digits.now) else None) }
 {
     match value(line.digits) {
         Some(number) => {
-            if number < 1 || number > PROFILE_31_BITS.limit {
-                None
-            } else {
+            if is_article_number(limit, number) {
                 Some(number)
+            } else {
+                None
             }
         }
         None => None,

@@ -1,11 +1,9 @@
 //! The parts of a spool's text, read line by line.
-ghost use Rattle.std.specs.Prelude.{◌≡◌, true, false, IfOk, IfErr};
-ghost use Rattle.nntp_article.specs.Limit.{profile_31_bits};
-ghost use Rattle.nntp_spool.specs.Reading.{Gives, barred_line_at, barred_lines_at, number_in, number_at, numbers_at, group_at, article_at, item_at, items_at, item_then, spool_at};
-ghost use Rattle.nntp_spool.specs.Fields.{End};
+ghost use Rattle.std.specs.Prelude.{◌≡◌, false, IfOk, IfErr};
+ghost use Rattle.nntp_spool.specs.Reading.{Gives, barred_line_at, barred_lines_at, number_in, number_at, numbers_at, group_at, article_at, item_at, items_at, end_at, content_at, wide_at, limit_at, spool_at};
 ghost use Rattle.nntp_spool.specs.ReadingView.{place_shown, turn_shown};
 ghost use Rattle.nntp_wire.specs.Held.{held};
-ghost use Rattle.nntp_article.specs.Spool.{Spool as SpoolValue, IsSpool};
+ghost use Rattle.nntp_spool.specs.Limited.{LimitedSpool, IsWithinLimit};
 ghost use Rattle.nntp_spool.specs.Text.{spool_text};
 ghost use Rattle.nntp_spool.specs.Faults.{IsFault};
 
@@ -17,6 +15,7 @@ use crate::value::article::Article;
 use crate::value::content::Content;
 use crate::value::numbers::Numbers;
 use crate::value::well_formed::{is_head_of, is_id, is_name};
+use nntp_wire::Limit;
 use std::alloc::Allocator;
 
 /// One more line of an article.
@@ -54,13 +53,13 @@ fn barred_lines_at<A: Allocator + Copy>(
 
 /// The number and the id of a line.
 #[tactic(auto, unfolding(crate::specs::Reading::number_in))]
-fn number_in(at: u64, line: &[u8]) -> Result<(u64, &[u8]), ReadError>
-    ensures { Gives (λ x. (x.0, x.1.now)) result (number_in profile_31_bits at line.now) }
+fn number_in(limit: u64, at: u64, line: &[u8]) -> Result<(u64, &[u8]), ReadError>
+    ensures { Gives (λ x. (x.0, x.1.now)) result (number_in limit at line.now) }
 {
     let Some(line) = number_and_id(line) else {
         return Err(fault(at, Kind::Shape));
     };
-    let Some(number) = article_number(line) else {
+    let Some(number) = article_number(limit, line) else {
         return Err(fault(at, Kind::Number));
     };
     if !is_id(line.id) {
@@ -73,13 +72,14 @@ fn number_in(at: u64, line: &[u8]) -> Result<(u64, &[u8]), ReadError>
 #[tactic(auto, using(crate::proofs::NumberIds::id_in_the_way), unfolding(crate::specs::Reading::number_at))]
 fn number_at<'a, A: Allocator + Copy>(
     alloc: A,
+    limit: u64,
     numbers: &mut Numbers<A>,
     place: Place<'a>,
 ) -> Result<Place<'a>, ReadError>
-    ensures { Gives (λ next. (numbers.new, place_shown next)) result (number_at profile_31_bits (numbers.old, place_shown place.entry)) }
+    ensures { Gives (λ next. (numbers.new, place_shown next)) result (number_at limit (numbers.old, place_shown place.entry)) }
 {
     let (line, next) = next_line(place)?;
-    let (number, id) = number_in(place.line, line)?;
+    let (number, id) = number_in(limit, place.line, line)?;
     if !numbers.is_after(number) {
         return Err(fault(place.line, Kind::Order));
     }
@@ -92,15 +92,16 @@ fn number_at<'a, A: Allocator + Copy>(
 /// The numbers of a group.
 fn numbers_at<A: Allocator + Copy>(
     alloc: A,
+    limit: u64,
     count: u64,
     place: Place<'_>,
 ) -> Result<(Numbers<A>, Place<'_>), ReadError>
-    ensures { Gives (λ x. (x.0, place_shown x.1)) result (numbers_at profile_31_bits count (place_shown place.entry)) }
+    ensures { Gives (λ x. (x.0, place_shown x.1)) result (numbers_at limit count (place_shown place.entry)) }
 {
     let mut numbers = Numbers::new(alloc);
     let mut rest = place;
     for _ in 0..count {
-        rest = number_at(alloc, &mut numbers, rest)?;
+        rest = number_at(alloc, limit, &mut numbers, rest)?;
     }
     Ok((numbers, rest))
 }
@@ -109,13 +110,14 @@ fn numbers_at<A: Allocator + Copy>(
 #[tactic(auto, unfolding(crate::specs::Reading::group_at))]
 fn group_at<'a, A: Allocator + Copy>(
     alloc: A,
+    limit: u64,
     line: u64,
     name: &[u8],
     count: u64,
     content: &mut Content<A>,
     place: Place<'a>,
 ) -> Result<Place<'a>, ReadError>
-    ensures { Gives (λ next. (content.new, place_shown next)) result (group_at profile_31_bits line name.now count content.old (place_shown place.entry)) }
+    ensures { Gives (λ next. (content.new, place_shown next)) result (group_at limit line name.now count content.old (place_shown place.entry)) }
 {
     if !is_name(name) {
         return Err(fault(line, Kind::Name));
@@ -123,7 +125,7 @@ fn group_at<'a, A: Allocator + Copy>(
     if !content.is_after_groups(name) {
         return Err(fault(line, Kind::Order));
     }
-    let (numbers, next) = numbers_at(alloc, count, place)?;
+    let (numbers, next) = numbers_at(alloc, limit, count, place)?;
     content.put_group(Vec::from_slice(alloc, name)?, numbers)?;
     Ok(next)
 }
@@ -162,7 +164,7 @@ fn ends_at<'a, A: Allocator>(
     content: &Content<A>,
     place: Place<'a>,
 ) -> Result<Turn<'a>, ReadError>
-    ensures { Gives (turn_shown content.now) result (item_then profile_31_bits line true content.now (place_shown place.entry) End) }
+    ensures { Gives (turn_shown content.now) result (end_at line content.now (place_shown place.entry)) }
 {
     if content.has_articles() {
         Ok(Turn::Done { place })
@@ -175,11 +177,12 @@ fn ends_at<'a, A: Allocator>(
 #[tactic(auto, unfolding(crate::specs::Reading::item_at))]
 fn item_at<'a, A: Allocator + Copy>(
     alloc: A,
+    limit: u64,
     articles: bool,
     content: &mut Content<A>,
     place: Place<'a>,
 ) -> Result<Turn<'a>, ReadError>
-    ensures { Gives (turn_shown content.new) result (item_at profile_31_bits articles content.old (place_shown place.entry)) }
+    ensures { Gives (turn_shown content.new) result (item_at limit articles content.old (place_shown place.entry)) }
 {
     let (line, next) = next_line(place)?;
     let Some(opening) = opening_of(line) else {
@@ -190,7 +193,7 @@ fn item_at<'a, A: Allocator + Copy>(
             if articles {
                 return Err(fault(place.line, Kind::Shape));
             }
-            let place = group_at(alloc, place.line, name, count, content, next)?;
+            let place = group_at(alloc, limit, place.line, name, count, content, next)?;
             Ok(Turn::On {
                 articles: false,
                 place,
@@ -210,16 +213,17 @@ fn item_at<'a, A: Allocator + Copy>(
 /// All groups and articles, up to the end.
 fn items_at<'a, A: Allocator + Copy>(
     alloc: A,
+    limit: u64,
     most: u64,
     content: &mut Content<A>,
     place: Place<'a>,
 ) -> Result<Place<'a>, ReadError>
-    ensures { Gives (λ next. (content.new, place_shown next)) result (items_at profile_31_bits most false content.old (place_shown place.entry)) }
+    ensures { Gives (λ next. (content.new, place_shown next)) result (items_at limit most false content.old (place_shown place.entry)) }
 {
     let mut articles = false;
     let mut rest = place;
     for _ in 0..most {
-        match item_at(alloc, articles, content, rest)? {
+        match item_at(alloc, limit, articles, content, rest)? {
             Turn::On {
                 articles: behind,
                 place,
@@ -233,28 +237,67 @@ fn items_at<'a, A: Allocator + Copy>(
     Err(fault(rest.line, Kind::Shape))
 }
 
-/// A whole text.
-#[tactic(auto, using(crate::proofs::SplitLines::ended), unfolding(crate::specs::Reading::spool_at))]
-pub(crate) fn content_of_text<A: Allocator + Copy>(
+/// All groups and articles, behind the lines of the limit.
+#[tactic(auto, using(crate::proofs::SplitLines::ended), unfolding(crate::specs::Reading::content_at))]
+fn content_at<A: Allocator + Copy>(
+    alloc: A,
+    limit: u64,
+    most: u64,
+    place: Place<'_>,
+) -> Result<Content<A>, ReadError>
+    ensures { Gives (λ content. content) result (content_at limit most (place_shown place.entry)) }
+{
+    let mut content = Content::new(alloc);
+    let end = items_at(alloc, limit, most, &mut content, place)?;
+    if !end.rest.is_empty() {
+        return Err(fault(end.line, Kind::Shape));
+    }
+    Ok(content)
+}
+
+/// The second line of a text whose limit is the wide one.
+#[tactic(auto, unfolding(crate::specs::Reading::wide_at))]
+fn wide_at(place: Place<'_>) -> Result<(Limit, Place<'_>), ReadError>
+    ensures { Gives (λ x. (x.0, place_shown x.1)) result (wide_at (place_shown place.entry)) }
+{
+    let (line, next) = next_line(place)?;
+    if line == b"limit 9999999999999999".as_slice() {
+        Ok((Limit::Wide, next))
+    } else {
+        Err(fault(place.line, Kind::Shape))
+    }
+}
+
+/// The limit, and the place behind its lines.
+#[tactic(auto, unfolding(crate::specs::Reading::limit_at))]
+fn limit_at(place: Place<'_>) -> Result<(Limit, Place<'_>), ReadError>
+    ensures { Gives (λ x. (x.0, place_shown x.1)) result (limit_at (place_shown place.entry)) }
+{
+    let (line, next) = next_line(place)?;
+    if line == b"spool 1".as_slice() {
+        Ok((Limit::Narrow, next))
+    } else if line == b"spool 2".as_slice() {
+        wide_at(next)
+    } else {
+        Err(fault(place.line, Kind::Shape))
+    }
+}
+
+/// A whole text: the limit, and all groups and articles.
+#[tactic(auto, unfolding(crate::specs::Reading::spool_at))]
+fn parts_of_text<A: Allocator + Copy>(
     alloc: A,
     octets: &[u8],
-) -> Result<Content<A>, ReadError>
-    ensures { Gives (λ content. content) result (spool_at profile_31_bits octets.now) }
+) -> Result<(Limit, Content<A>), ReadError>
+    ensures { Gives (λ x. record { limit = x.0; spool = x.1 }) result (spool_at octets.now) }
 {
     let start = Place {
         line: 1,
         rest: octets,
     };
-    let (first, rest) = next_line(start)?;
-    if first != b"spool 1".as_slice() {
-        return Err(fault(1, Kind::Shape));
-    }
-    let mut content = Content::new(alloc);
-    let end = items_at(alloc, octets.len() as u64, &mut content, rest)?;
-    if !end.rest.is_empty() {
-        return Err(fault(end.line, Kind::Shape));
-    }
-    Ok(content)
+    let (limit, rest) = limit_at(start)?;
+    let content = content_at(alloc, limit.value(), octets.len() as u64, rest)?;
+    Ok((limit, content))
 }
 
 impl<A: Allocator + Copy> Spool<A> {
@@ -262,11 +305,11 @@ impl<A: Allocator + Copy> Spool<A> {
     /// the word of a count alone.
     pub fn read(alloc: A, octets: &[u8]) -> Result<Spool<A>, ReadFault>
         ensures spool { IfOk result (λ spool. octets.now ≡ spool_text spool) }
-        ensures same { (S : SpoolValue) → IsSpool profile_31_bits S → octets.now ≡ spool_text S → IfOk result (λ spool. spool ≡ S) }
-        ensures fault { IfErr result (λ fault. IsFault profile_31_bits octets.now fault) }
+        ensures same { (L : LimitedSpool) → IsWithinLimit L → octets.now ≡ spool_text L → IfOk result (λ spool. spool ≡ L) }
+        ensures fault { IfErr result (λ fault. IsFault octets.now fault) }
     {
-        match content_of_text(alloc, octets) {
-            Ok(content) => Ok(Spool::new(content)),
+        match parts_of_text(alloc, octets) {
+            Ok((limit, content)) => Ok(Spool::new(limit, content)),
             Err(ReadError::Fault(fault)) => Err(fault),
             Err(ReadError::Memory) => Err(ReadFault {
                 line: 0,

@@ -1,4 +1,5 @@
 use crate::{Kind, ReadFault, Spool, Watched};
+use nntp_wire::Limit;
 use std::test::*;
 
 /// A group with the numbers 1 and 4, and their articles.
@@ -8,6 +9,17 @@ const TWO_NUMBERS: &[u8] =
 /// An article in no group, whose body has lines that begin with dots.
 const DOTTED_BODY: &[u8] = b"spool 1\narticle <a@b> 1 3\n|Message-ID: <a@b>\n|.\n|..x\n|\nend\n";
 
+/// A group with the first number that a narrow spool hasn't, and the greatest that a wide one has.
+const WIDE_NUMBERS: &[u8] =
+    b"spool 2\nlimit 9999999999999999\ngroup g 2\n2147483648 <a@b>\n9999999999999999 <c@d>\narticle <a@b> 1 0\n|Message-ID: <a@b>\narticle <c@d> 1 1\n|A: b\n|x\nend\n";
+
+/// A wide spool whose only number a narrow one could have too.
+const WIDE_WITH_SMALL_NUMBER: &[u8] =
+    b"spool 2\nlimit 9999999999999999\ngroup g 1\n1 <a@b>\narticle <a@b> 1 0\n|A: b\nend\n";
+
+/// A wide spool with nothing in it.
+const WIDE_WITHOUT_GROUPS: &[u8] = b"spool 2\nlimit 9999999999999999\nend\n";
+
 fn fault_of(rt: &HostRuntime, text: &[u8]) -> Option<ReadFault> {
     Spool::read(rt.alloc(), text).err()
 }
@@ -16,14 +28,26 @@ fn told(line: u64, kind: Kind) -> Option<ReadFault> {
     Some(ReadFault { line, kind })
 }
 
+/// Whether the text is read as a spool of this limit, and written again as it was.
+fn is_read_and_written(rt: &HostRuntime, text: &[u8], limit: Limit) -> Result<bool, Fail> {
+    let spool = Spool::read(rt.alloc(), text)?;
+    let mut out = Watched::new(Vec::new(rt.alloc()));
+    spool.write(&mut out)?;
+    Ok(spool.limit() == limit && !out.failed() && out.into_inner().as_slice() == text)
+}
+
 #[test]
 fn texts_are_read_and_written_again(rt: HostRuntime) -> Result<(), Fail> {
     for text in [TWO_NUMBERS, DOTTED_BODY, b"spool 1\nend\n".as_slice()] {
-        let spool = Spool::read(rt.alloc(), text)?;
-        let mut out = Watched::new(Vec::new(rt.alloc()));
-        assert!(rt; spool.write(&mut out).is_ok());
-        assert!(rt; !out.failed());
-        assert_eq!(rt; out.into_inner().as_slice(), text);
+        assert!(rt; is_read_and_written(&rt, text, Limit::Narrow)?);
+    }
+    Ok(())
+}
+
+#[test]
+fn wide_texts_are_read_and_written_again(rt: HostRuntime) -> Result<(), Fail> {
+    for text in [WIDE_NUMBERS, WIDE_WITH_SMALL_NUMBER, WIDE_WITHOUT_GROUPS] {
+        assert!(rt; is_read_and_written(&rt, text, Limit::Wide)?);
     }
     Ok(())
 }
@@ -33,7 +57,8 @@ fn lines_of_another_form(rt: HostRuntime) {
     let shape = |line| told(line, Kind::Shape);
     assert!(rt; fault_of(&rt, b"") == shape(1));
     assert!(rt; fault_of(&rt, b"spool 1") == shape(1));
-    assert!(rt; fault_of(&rt, b"spool 2\nend\n") == shape(1));
+    assert!(rt; fault_of(&rt, b"spool 3\nend\n") == shape(1));
+    assert!(rt; fault_of(&rt, b"spool 0\nend\n") == shape(1));
     assert!(rt; fault_of(&rt, b"spool 1\n") == shape(2));
     assert!(rt; fault_of(&rt, b"spool 1\nend") == shape(2));
     assert!(rt; fault_of(&rt, b"spool 1\r\nend\r\n") == shape(1));
@@ -45,6 +70,42 @@ fn lines_of_another_form(rt: HostRuntime) {
     assert!(rt; fault_of(&rt, b"spool 1\ngroup g 1\n1  <a@b>\nend\n") == shape(3));
     assert!(rt; fault_of(&rt, b"spool 1\ngroup  0\nend\n") == shape(2));
     assert!(rt; fault_of(&rt, b"spool 1\ngroup g 00\nend\n") == shape(2));
+}
+
+#[test]
+fn limits_of_another_form(rt: HostRuntime) {
+    let shape = |line| told(line, Kind::Shape);
+    assert!(rt; fault_of(&rt, b"spool 2") == shape(1));
+    assert!(rt; fault_of(&rt, b"spool 2\n") == shape(2));
+    assert!(rt; fault_of(&rt, b"spool 2\nend\n") == shape(2));
+    assert!(rt; fault_of(&rt, b"spool 2\nlimit 2147483647\nend\n") == shape(2));
+    assert!(rt; fault_of(&rt, b"spool 2\nlimit 9999999999999999") == shape(2));
+    assert!(rt; fault_of(&rt, b"spool 2\nlimit 9999999999999999\r\nend\n") == shape(2));
+    assert!(rt; fault_of(&rt, b"spool 2\nlimit 09999999999999999\nend\n") == shape(2));
+    assert!(rt; fault_of(&rt, b"spool 2\nlimit 99999999999999999\nend\n") == shape(2));
+    assert!(rt; fault_of(&rt, b"spool 2\n\nlimit 9999999999999999\nend\n") == shape(2));
+    assert!(rt; fault_of(&rt, b"spool 2\nlimit 9999999999999999\n") == shape(3));
+    assert!(rt;
+        fault_of(
+            &rt,
+            b"spool 2\nlimit 9999999999999999\nlimit 9999999999999999\nend\n"
+        ) == shape(3)
+    );
+    assert!(rt; fault_of(&rt, b"spool 1\nlimit 2147483647\nend\n") == shape(2));
+    assert!(rt; fault_of(&rt, b"spool 1\nlimit 9999999999999999\nend\n") == shape(2));
+    assert!(rt; fault_of(&rt, b"limit 9999999999999999\nend\n") == shape(1));
+}
+
+#[test]
+fn numbers_of_wide_spools(rt: HostRuntime) {
+    let above = b"spool 2\nlimit 9999999999999999\ngroup g 1\n10000000000000000 <a@b>\n";
+    assert!(rt; fault_of(&rt, above) == told(4, Kind::Number));
+    let zero = b"spool 2\nlimit 9999999999999999\ngroup g 1\n0 <a@b>\n";
+    assert!(rt; fault_of(&rt, zero) == told(4, Kind::Number));
+    let long = b"spool 2\nlimit 9999999999999999\ngroup g 1\n99999999999999999999999 <a@b>\n";
+    assert!(rt; fault_of(&rt, long) == told(4, Kind::Number));
+    let unknown = b"spool 2\nlimit 9999999999999999\ngroup g 1\n9999999999999999 <a@b>\nend\n";
+    assert!(rt; fault_of(&rt, unknown) == told(5, Kind::UnknownId));
 }
 
 #[test]

@@ -2,7 +2,7 @@
 ghost use Rattle.std.specs.Prelude.{◌≡◌, ◌∷◌, [], ◌||◌, is_err, map as list_map};
 ghost use Rattle.std.specs.List.{flat_map};
 ghost use Rattle.std.specs.FinMap as map;
-ghost use Rattle.nntp_spool.specs.Text.{with_line_ends, number_line, group_line, article_line, barred, group_lines, article_lines, spool_text};
+ghost use Rattle.nntp_spool.specs.Text.{with_line_ends, number_line, group_line, article_line, barred, group_lines, article_lines, limit_lines, content_lines, spool_text};
 ghost use Rattle.nntp_wire.specs.Held.{held};
 ghost use Rattle.nntp_spool.specs.ArticleLines.{text_of_article};
 ghost use Rattle.nntp_spool.specs.Watched.{inner_of, has_failed_of};
@@ -15,6 +15,7 @@ use crate::value::content::Content;
 use crate::value::numbers::Numbers;
 use crate::watched::Watched;
 use itoa::Buffer;
+use nntp_wire::Limit;
 use std::alloc::Allocator;
 use std::io::Write;
 
@@ -109,6 +110,17 @@ fn put_article<W: Write, A: Allocator>(
     put_barred_lines(w, &article.body)
 }
 
+/// The lines that say the limit.
+fn put_limit<W: Write>(w: &mut Watched<W>, limit: Limit) -> Result<(), WriteFault>
+    ensures text { Writes result (W.contents (inner_of w.old)) (W.contents (inner_of w.new)) (with_line_ends (limit_lines limit)) }
+    ensures failed { has_failed_of w.new ≡ (has_failed_of w.old || is_err result) }
+{
+    match limit {
+        Limit::Narrow => put(w, b"spool 1\n"),
+        Limit::Wide => put(w, b"spool 2\nlimit 9999999999999999\n"),
+    }
+}
+
 impl<A: Allocator> Content<A> {
     /// Writes the lines of all groups.
     fn write_groups<W: Write>(&self, w: &mut Watched<W>) -> Result<(), WriteFault>
@@ -134,12 +146,11 @@ impl<A: Allocator> Content<A> {
         Ok(())
     }
 
-    /// Writes the text. After a fault the writer took a front of it.
-    pub(crate) fn write<W: Write>(&self, w: &mut Watched<W>) -> Result<(), WriteFault>
-        ensures text { Writes result (W.contents (inner_of w.old)) (W.contents (inner_of w.new)) (spool_text self.now) }
+    /// Writes all groups and all articles, and the end.
+    fn write<W: Write>(&self, w: &mut Watched<W>) -> Result<(), WriteFault>
+        ensures text { Writes result (W.contents (inner_of w.old)) (W.contents (inner_of w.new)) (with_line_ends (content_lines self.now)) }
         ensures failed { has_failed_of w.new ≡ (has_failed_of w.old || is_err result) }
     {
-        put(w, b"spool 1\n")?;
         self.write_groups(w)?;
         self.write_articles(w)?;
         put(w, b"end\n")
@@ -152,6 +163,7 @@ impl<A: Allocator> Spool<A> {
         ensures text { Writes result (W.contents (inner_of w.old)) (W.contents (inner_of w.new)) (spool_text self.now) }
         ensures failed { has_failed_of w.new ≡ (has_failed_of w.old || is_err result) }
     {
+        put_limit(w, self.limit())?;
         self.content().write(w)
     }
 }

@@ -2,7 +2,7 @@
 ghost use Rattle.std.specs.Prelude.{◌≡◌, false, IfOk};
 ghost use Rattle.std.specs.FinMap as map;
 ghost use Rattle.nntp_article.specs.Spool.{numbers as numbers_of};
-ghost use Rattle.nntp_article.specs.Limit.{profile_31_bits};
+ghost use Rattle.nntp_wire.specs.Limit.{greatest};
 ghost use Rattle.nntp_spool.specs.Building.{Builds, group_fault, number_fault, article_fault, finished};
 ghost use Rattle.nntp_spool.specs.Content.{with_group, with_article, no_spool};
 ghost use Rattle.nntp_spool.specs.ArticleLines.{text_of_article};
@@ -14,7 +14,8 @@ use crate::value::content::Content;
 use crate::value::numbers::Numbers;
 use crate::value::spool_fault::SpoolFault;
 use crate::value::well_formed::{are_lines, is_head_of, is_id, is_name};
-use nntp_article::PROFILE_31_BITS;
+use nntp_article::is_article_number;
+use nntp_wire::Limit;
 use std::alloc::{AllocError, Allocator, Global};
 use std::marker::Model;
 
@@ -22,6 +23,7 @@ use std::marker::Model;
 #[derive(Drop)]
 pub struct SpoolBuilder<A: Allocator = Global> {
     alloc: A,
+    limit: Limit,
     content: Content<A>,
     failed: bool,
 }
@@ -29,15 +31,15 @@ pub struct SpoolBuilder<A: Allocator = Global> {
 impl<A: Allocator> Model for SpoolBuilder<A> {
     ghost use Rattle.nntp_spool.specs.Building.{Building, coded_building};
     ghost use Rattle.nntp_spool.specs.Content.{IsContent};
-    ghost use Rattle.nntp_article.specs.Limit.{profile_31_bits};
+    ghost use Rattle.nntp_wire.specs.Limit.{greatest};
 
     ghost Value = { Building };
 
     ghost coded = { coded_building };
 
-    ghost view = { λ b. record { spool = b.content; failed = b.failed } };
+    ghost view = { λ b. record { limit = b.limit; spool = b.content; failed = b.failed } };
 
-    ghost invariant = { λ b. IsContent profile_31_bits b.content };
+    ghost invariant = { λ b. IsContent (greatest b.limit) b.content };
 }
 
 /// Why a group can't be added.
@@ -55,17 +57,18 @@ fn group_fault<A: Allocator>(content: &Content<A>, name: &[u8]) -> Option<SpoolF
 
 /// Why a number can't be added.
 fn number_fault<A: Allocator>(
+    limit: u64,
     content: &Content<A>,
     name: &[u8],
     number: u64,
     id: &[u8],
 ) -> Option<SpoolFault>
-    ensures { result ≡ number_fault profile_31_bits content.now name.now number id.now }
+    ensures { result ≡ number_fault limit content.now name.now number id.now }
 {
     let Some(numbers) = content.group(name) else {
         return Some(SpoolFault::UnknownGroup);
     };
-    if number < 1 || number > PROFILE_31_BITS.limit {
+    if !is_article_number(limit, number) {
         return Some(SpoolFault::BadNumber);
     }
     if !is_id(id) {
@@ -104,12 +107,14 @@ fn article_fault<A: Allocator>(
 }
 
 impl<A: Allocator + Copy> SpoolBuilder<A> {
-    /// A builder of a spool with nothing in it. It takes no memory yet.
-    pub fn new(alloc: A) -> SpoolBuilder<A>
-        ensures { result ≡ record { spool = no_spool; failed = false } }
+    /// A builder of a spool with nothing in it, which takes article numbers within the limit. It takes no
+    /// memory yet.
+    pub fn new(alloc: A, limit: Limit) -> SpoolBuilder<A>
+        ensures { result ≡ record { limit = limit; spool = no_spool; failed = false } }
     {
         SpoolBuilder {
             alloc,
+            limit,
             content: Content::new(alloc),
             failed: false,
         }
@@ -138,12 +143,12 @@ impl<A: Allocator + Copy> SpoolBuilder<A> {
 
     /// Adds a number, with its id, to a group that is there.
     pub fn number(&mut self, name: &[u8], number: u64, id: &[u8]) -> Result<(), SpoolFault>
-        ensures { Builds (number_fault profile_31_bits self.old.spool name.now number id.now) (with_group self.old.spool name.now (map.insert (numbers_of self.old.spool name.now) number id.now)) result self.old self.new }
+        ensures { Builds (number_fault (greatest self.old.limit) self.old.spool name.now number id.now) (with_group self.old.spool name.now (map.insert (numbers_of self.old.spool name.now) number id.now)) result self.old self.new }
     {
         if self.failed {
             return Err(SpoolFault::Failed);
         }
-        if let Some(fault) = number_fault(&self.content, name, number, id) {
+        if let Some(fault) = number_fault(self.limit.value(), &self.content, name, number, id) {
             return Err(fault);
         }
         let Ok(_) = self.content.put_number(self.alloc, name, number, id) else {
@@ -177,7 +182,7 @@ impl<A: Allocator + Copy> SpoolBuilder<A> {
     /// The spool that was built, where each id of a number has an article.
     pub fn finish(self) -> Result<Spool<A>, SpoolFault>
         ensures value { result ≡ finished self }
-        ensures is_written { IfOk result (λ spool. IsWritten profile_31_bits spool) }
+        ensures is_written { IfOk result IsWritten }
     {
         if self.failed {
             return Err(SpoolFault::Failed);
@@ -185,6 +190,6 @@ impl<A: Allocator + Copy> SpoolBuilder<A> {
         if !self.content.has_articles() {
             return Err(SpoolFault::UnknownId);
         }
-        Ok(Spool::new(self.content))
+        Ok(Spool::new(self.limit, self.content))
     }
 }

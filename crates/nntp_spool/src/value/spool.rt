@@ -1,12 +1,15 @@
 //! A spool: the groups of a server with their numbers, and its articles.
 ghost use Rattle.std.specs.Prelude.{◌≡◌};
 ghost use Rattle.std.specs.FinMap.{len};
+ghost use Rattle.nntp_wire.specs.Limit.{greatest};
+ghost use Rattle.nntp_wire.specs.declared.limit.Limit.TheVariants.{Wide};
 ghost use Rattle.nntp_article.specs.Spool.{IsSpool};
 ghost use Rattle.nntp_spool.specs.Counts.{numbers_in};
+ghost use Rattle.nntp_spool.specs.Limited.{IsWithinLimit};
 ghost use Rattle.nntp_spool.specs.Text.{IsWritten};
-ghost use Rattle.nntp_article.specs.Limit.{profile_31_bits};
 
 use crate::value::content::Content;
+use nntp_wire::Limit;
 use std::alloc::{Allocator, Global};
 use std::marker::Model;
 
@@ -21,50 +24,69 @@ pub struct Counts {
     pub articles: u64,
 }
 
-/// A fixed collection of groups and articles. Each id at a number has an article.
+/// A fixed collection of groups and articles, and the limit that the article numbers are within. Each id at a number
+/// has an article.
 #[derive(Drop)]
 pub struct Spool<A: Allocator = Global> {
+    limit: Limit,
     content: Content<A>,
 }
 
 impl<A: Allocator> Model for Spool<A> {
-    ghost use Rattle.nntp_article.specs.Spool.{Spool as SpoolValue, IsSpool};
-    ghost use Rattle.nntp_spool.specs.Codes.{coded_spool};
-    ghost use Rattle.nntp_article.specs.Limit.{profile_31_bits};
+    ghost use Rattle.nntp_wire.specs.Limit.{greatest};
+    ghost use Rattle.nntp_article.specs.Spool.{IsSpool};
+    ghost use Rattle.nntp_spool.specs.Limited.{LimitedSpool, coded_limited};
 
-    ghost Value = { SpoolValue };
+    ghost Value = { LimitedSpool };
 
-    ghost coded = { coded_spool };
+    ghost coded = { coded_limited };
 
-    ghost view = { λ a. a.content };
+    ghost view = { λ a. record { limit = a.limit; spool = a.content } };
 
-    ghost invariant = { λ a. IsSpool profile_31_bits a.content };
+    ghost invariant = { λ a. IsSpool (greatest a.limit) a.content };
 }
 
 impl<A: Allocator> Spool<A> {
-    /// The spool of groups and articles where each id has its article.
-    pub(crate) fn new(content: Content<A>) -> Spool<A>
-        requires { IsSpool profile_31_bits content }
-        ensures { result ≡ content }
+    /// The spool of groups and articles where each id has its article, and the numbers are within the limit.
+    pub(crate) fn new(limit: Limit, content: Content<A>) -> Spool<A>
+        requires { IsSpool (greatest limit) content }
+        ensures { result ≡ record { limit = limit; spool = content } }
     {
-        Spool { content }
+        Spool { limit, content }
+    }
+
+    /// The limit that its article numbers are within.
+    pub fn limit(&self) -> Limit
+        ensures { result ≡ self.now.limit }
+    {
+        self.limit
+    }
+
+    /// The same groups and articles, with the greater limit.
+    pub fn widened(self) -> Spool<A>
+        ensures { result ≡ record { limit = Wide; spool = self.spool } }
+    {
+        Spool {
+            limit: Limit::Wide,
+            content: self.content,
+        }
     }
 
     /// Its groups and articles.
     pub(crate) fn content(&self) -> &Content<A>
-        ensures value { result.now ≡ self.now }
-        ensures is_spool { IsSpool profile_31_bits self.now }
+        ensures value { result.now ≡ self.now.spool }
+        ensures is_spool { IsWithinLimit self.now }
     {
         &self.content
     }
 
     /// How many groups, numbers and articles there are.
     pub fn counts(&self) -> Counts
-        ensures groups { result.groups ≡ len self.now.groups }
-        ensures numbers { result.numbers ≡ numbers_in self.now }
-        ensures articles { result.articles ≡ len self.now.articles }
-        ensures is_spool { IsSpool profile_31_bits self.now }
-        ensures is_written { IsWritten profile_31_bits self.now }
+        ensures groups { result.groups ≡ len self.now.spool.groups }
+        ensures numbers { result.numbers ≡ numbers_in self.now.spool }
+        ensures articles { result.articles ≡ len self.now.spool.articles }
+        ensures is_spool { IsWithinLimit self.now }
+        ensures is_written { IsWritten self.now }
     {
         Counts {
             groups: self.content.count_groups(),

@@ -1,4 +1,5 @@
 use crate::{Article, Counts, Spool, SpoolBuilder, SpoolFault, Watched};
+use nntp_wire::Limit;
 use std::test::*;
 
 #[test]
@@ -34,7 +35,7 @@ fn lines(rt: &HostRuntime, texts: &[&[u8]]) -> Result<Vec<Vec<u8>>, Fail> {
 
 /// A builder with a group that has one number.
 fn with_one_number(rt: &HostRuntime) -> Result<SpoolBuilder, Fail> {
-    let mut builder = SpoolBuilder::new(rt.alloc());
+    let mut builder = SpoolBuilder::new(rt.alloc(), Limit::Narrow);
     builder.group(b"g")?;
     builder.number(b"g", 1, b"<a@b>")?;
     Ok(builder)
@@ -42,7 +43,7 @@ fn with_one_number(rt: &HostRuntime) -> Result<SpoolBuilder, Fail> {
 
 #[test]
 fn calls_that_are_refused(rt: HostRuntime) -> Result<(), Fail> {
-    let mut builder = SpoolBuilder::new(rt.alloc());
+    let mut builder = SpoolBuilder::new(rt.alloc(), Limit::Narrow);
     assert!(rt; builder.group(b"g").is_ok());
     assert!(rt; builder.group(b"g") == Err(SpoolFault::DuplicateGroup));
     assert!(rt; builder.group(b"a,b") == Err(SpoolFault::BadName));
@@ -94,5 +95,75 @@ fn a_spool_is_built(rt: HostRuntime) -> Result<(), Fail> {
     spool.write(&mut out)?;
     let text = b"spool 1\ngroup g 1\n1 <a@b>\narticle <a@b> 1 0\n|Subject: s\nend\n";
     assert_eq!(rt; out.into_inner().as_slice(), text.as_slice());
+    Ok(())
+}
+
+/// What a builder answers to a number of its only group.
+fn takes(rt: &HostRuntime, limit: Limit, number: u64) -> Result<Result<(), SpoolFault>, Fail> {
+    let mut builder = SpoolBuilder::new(rt.alloc(), limit);
+    builder.group(b"g")?;
+    Ok(builder.number(b"g", number, b"<a@b>"))
+}
+
+#[test]
+fn numbers_within_the_limit(rt: HostRuntime) -> Result<(), Fail> {
+    for number in [1, 2_147_483_647] {
+        assert!(rt; takes(&rt, Limit::Narrow, number)?.is_ok());
+    }
+    for number in [1, 2_147_483_647, 2_147_483_648, 9_999_999_999_999_999] {
+        assert!(rt; takes(&rt, Limit::Wide, number)?.is_ok());
+    }
+    Ok(())
+}
+
+#[test]
+fn numbers_past_the_limit(rt: HostRuntime) -> Result<(), Fail> {
+    for number in [0, 2_147_483_648, 9_999_999_999_999_999, u64::MAX] {
+        assert!(rt; takes(&rt, Limit::Narrow, number)? == Err(SpoolFault::BadNumber));
+    }
+    for number in [0, 10_000_000_000_000_000, u64::MAX] {
+        assert!(rt; takes(&rt, Limit::Wide, number)? == Err(SpoolFault::BadNumber));
+    }
+    Ok(())
+}
+
+/// The text of a spool.
+fn text_of(rt: &HostRuntime, spool: &Spool) -> Result<Vec<u8>, Fail> {
+    let mut out = Watched::new(Vec::new(rt.alloc()));
+    spool.write(&mut out)?;
+    Ok(out.into_inner())
+}
+
+#[test]
+fn a_spool_is_widened(rt: HostRuntime) -> Result<(), Fail> {
+    let mut builder = SpoolBuilder::new(rt.alloc(), Limit::Narrow);
+    builder.group(b"g")?;
+    let spool = builder.finish()?;
+    assert!(rt; spool.limit() == Limit::Narrow);
+    assert_eq!(rt;
+        text_of(&rt, &spool)?.as_slice(),
+        b"spool 1\ngroup g 0\nend\n".as_slice()
+    );
+    let wide = spool.widened();
+    assert!(rt; wide.limit() == Limit::Wide);
+    let text = b"spool 2\nlimit 9999999999999999\ngroup g 0\nend\n";
+    assert_eq!(rt; text_of(&rt, &wide)?.as_slice(), text.as_slice());
+    let again = wide.widened();
+    assert!(rt; again.limit() == Limit::Wide);
+    assert_eq!(rt; text_of(&rt, &again)?.as_slice(), text.as_slice());
+    Ok(())
+}
+
+#[test]
+fn a_wide_spool_is_built(rt: HostRuntime) -> Result<(), Fail> {
+    let mut builder = SpoolBuilder::new(rt.alloc(), Limit::Wide);
+    builder.group(b"g")?;
+    builder.number(b"g", 9_999_999_999_999_999, b"<a@b>")?;
+    builder.article(b"<a@b>", article(&rt, &[b"Subject: s"], &[])?)?;
+    let spool = builder.finish()?;
+    assert!(rt; spool.limit() == Limit::Wide);
+    let text =
+        b"spool 2\nlimit 9999999999999999\ngroup g 1\n9999999999999999 <a@b>\narticle <a@b> 1 0\n|Subject: s\nend\n";
+    assert_eq!(rt; text_of(&rt, &spool)?.as_slice(), text.as_slice());
     Ok(())
 }

@@ -57,7 +57,7 @@ impl<A: Allocator + Copy> Session<A> {
         counts: &mut AskedCounts<A>,
         exchange: &Exchange<'_>,
     ) -> Result<bool, AllocError>
-        requires spool { IsSpool profile spool.now }
+        requires spool { IsSpool profile.limit spool.now }
         requires counted { AreCounted spool.now counts.old }
         ensures counted { IfOk result (λ _. AreCounted spool.now counts.new) }
         ensures may { IfOk result (λ may. IsTrue may ↔ MayAnswer profile spool.now self.now (asked_at exchange.now.line) exchange.now.response) }

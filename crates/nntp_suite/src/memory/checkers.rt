@@ -37,7 +37,7 @@ fn after_want<A: Allocator + Copy>(mut checker: Checker<A>) -> Ended {
 
 /// By a checker.
 fn judge<A: Allocator + Copy>(alloc: Global, heap: A, session: &Session, wanted: &str) -> Ended {
-    let mut checker = Checker::new(heap);
+    let mut checker = session.profile.checker(heap);
     match feed(&mut checker, session) {
         Ok(()) => {}
         Err(CheckError::Memory) => return after_want(checker),

@@ -1,10 +1,10 @@
 //! Want of memory while exchanges are noted, and while the spool is made of what was noted.
 ghost use Rattle.std.specs.Prelude.{◌≡◌, true, IfOk};
-ghost use Rattle.nntp_article.specs.Limit.{profile_of};
 ghost use Rattle.nntp_witness.specs.Witness.{HaveNotedSome};
 
 use super::{Ended, refuse_each, right_if};
 use crate::marks::ROWS;
+use crate::profiles::Profile;
 use crate::sessions::{Session, TABLES};
 use nntp_facts::{Class, Facts, FactsError, Noted};
 use nntp_pair::{Exchange, Pairs, Step};
@@ -49,16 +49,17 @@ fn after_want<A: Allocator + Copy>(mut facts: Facts<A>, exchange: &Exchange<'_>)
     }
 }
 
-/// Notes the exchanges of a session one after the other, by marks that are read so.
+/// Notes the exchanges of a session one after the other.
 pub(crate) fn note_all<A: Allocator + Copy>(
     alloc: A,
+    limit: Limit,
     marks: Marks,
     client: &[u8],
     server: &[u8],
 ) -> Result<Whole<A>, Stop>
-    ensures { IfOk result (λ whole. HaveNotedSome (profile_of Limit.Narrow marks) whole.facts) }
+    ensures { IfOk result (λ whole. HaveNotedSome whole.facts) }
 {
-    let mut facts = Facts::new(alloc, Limit::Narrow, marks);
+    let mut facts = Facts::new(alloc, limit, marks);
     let mut answers = 0u64;
     let mut pairs = Pairs::new(client, server);
     loop {
@@ -98,7 +99,11 @@ pub(crate) fn note_all<A: Allocator + Copy>(
 }
 
 /// How the report on a session begins, by the answer that is bad, or by how many are right.
-fn beginning(alloc: Global, answer: u64, class: Option<Class>) -> Result<String, AllocError> {
+pub(crate) fn beginning(
+    alloc: Global,
+    answer: u64,
+    class: Option<Class>,
+) -> Result<String, AllocError> {
     match class {
         Some(class) => format!(in alloc; "bad answer {answer} {class}\n"),
         None => format!(in alloc; "consistent answers={answer} "),
@@ -118,7 +123,8 @@ fn outcome<A: Allocator>(noted: Result<Whole<A>, Stop>) -> Result<(u64, Option<C
 /// Notes the exchanges of a session, up to the one that its verdict calls bad.
 fn note<A: Allocator + Copy>(alloc: Global, heap: A, session: &Session) -> Ended {
     let (client, server) = session.streams();
-    let (answer, class) = match outcome(note_all(heap, Marks::Lenient, client, server)) {
+    let Profile { limit, marks } = session.profile;
+    let (answer, class) = match outcome(note_all(heap, limit, marks, client, server)) {
         Ok(outcome) => outcome,
         Err(ended) => return ended,
     };
@@ -146,10 +152,11 @@ fn exchanges_of_worked_sessions_are_noted(rt: HostRuntime) {
 /// bad where a class is told.
 fn note_strictly<A: Allocator + Copy>(
     heap: A,
+    limit: Limit,
     (client, server): (&[u8], &[u8]),
     wanted: (u64, Option<Class>),
 ) -> Ended {
-    match outcome(note_all(heap, Marks::Strict, client, server)) {
+    match outcome(note_all(heap, limit, Marks::Strict, client, server)) {
         Ok(outcome) => right_if(outcome == wanted),
         Err(ended) => ended,
     }
@@ -161,7 +168,7 @@ fn exchanges_with_strict_marks_are_noted(rt: HostRuntime) {
     for table in ROWS {
         for row in table {
             let refused = refuse_each(&rt, rt.alloc(), row.name, |heap| {
-                note_strictly(heap, row.streams(), row.strict.bad())
+                note_strictly(heap, Limit::Narrow, row.streams(), row.strict.bad())
             });
             most = refused.max(most);
         }
@@ -174,12 +181,13 @@ fn exchanges_of_worked_sessions_are_noted_by_strict_marks(rt: HostRuntime) {
     let ample = Refusing::new(rt.alloc(), Refusal::Never);
     for table in TABLES {
         for session in table {
+            let limit = session.profile.limit;
             let (client, server) = session.streams();
-            let wanted = outcome(note_all(&ample, Marks::Strict, client, server));
+            let wanted = outcome(note_all(&ample, limit, Marks::Strict, client, server));
             match wanted {
                 Ok(wanted) => {
                     refuse_each(&rt, rt.alloc(), session.name, |heap| {
-                        note_strictly(heap, (client, server), wanted)
+                        note_strictly(heap, limit, (client, server), wanted)
                     });
                 }
                 Err(_) => assert!(rt; false, "{}", session.name),
@@ -197,7 +205,8 @@ fn is_written<A: Allocator>(alloc: Global, spool: &Spool<A>, text: &str) -> bool
 /// Makes the spool that is given for a session, of facts that are kept in `ample` memory.
 fn make<A: Allocator + Copy>(alloc: Global, heap: A, ample: A, session: &Session) -> Ended {
     let (client, server) = session.streams();
-    let Ok(whole) = note_all(ample, Marks::Lenient, client, server) else {
+    let Profile { limit, marks } = session.profile;
+    let Ok(whole) = note_all(ample, limit, marks, client, server) else {
         return Ended::Wrong;
     };
     match witness(heap, &whole.facts) {

@@ -1,12 +1,10 @@
 //! Want of memory in a run: nothing is written, and the exit status is 3.
 use super::{Ended, give_each, refuse_each, right_if};
 use crate::fakes::{FakeWriter, Full, reader, writer};
-use crate::runs::{CAPTURE, REPORT};
+use crate::runs::{CAPTURE, CHECK, REPORT, VERIFY, perform};
 use crate::sessions::{Session, TABLES, capture, verified_report, with_spool};
 use crate::shows::SHOWN;
-use nntp_check::{
-    Failure, Kind, ReadFault, RunFault, Task, run_check, run_show, run_verify, status,
-};
+use nntp_check::{Failure, Kind, ReadFault, RunFault, Task, status};
 use std::alloc::{AllocError, Allocator, Global};
 use std::process::Abort;
 use std::test::Fail;
@@ -40,11 +38,7 @@ impl<'a> Run<'a> {
     fn end<A: Allocator + Copy>(&self, alloc: Global, heap: A) -> Ended {
         let mut input = reader(self.input, 7, 0);
         let mut output = writer(alloc, 10000, 10000, Full::Fails);
-        let outcome = match self.task {
-            Task::Check => run_check(heap, &mut input, &mut output, self.most),
-            Task::Verify => run_verify(heap, &mut input, &mut output, self.most),
-            Task::Show => run_show(heap, &mut input, &mut output, self.most),
-        };
+        let outcome = perform(heap, self.task, &mut input, &mut output, self.most);
         self.compare(outcome, &output.into_inner())
     }
 }
@@ -54,7 +48,7 @@ fn runs_over_captures(rt: HostRuntime) {
     let rows = [
         Run {
             name: "a session of two commands",
-            task: Task::Check,
+            task: CHECK,
             input: CAPTURE,
             most: 1 << 30,
             answer: Ok(true),
@@ -62,7 +56,7 @@ fn runs_over_captures(rt: HostRuntime) {
         },
         Run {
             name: "a piece that is cut",
-            task: Task::Check,
+            task: CHECK,
             input: b"client 5\nQUIT",
             most: 1 << 30,
             answer: Err(RunFault::Capture { piece: 1 }),
@@ -78,7 +72,7 @@ fn runs_over_captures(rt: HostRuntime) {
         },
         Run {
             name: "a piece that is bad behind a spool",
-            task: Task::Verify,
+            task: VERIFY,
             input: b"client 6\nHELP\r\nspool 8\nspool 1\nz",
             most: 1 << 30,
             answer: Err(RunFault::Capture { piece: 3 }),
@@ -86,7 +80,7 @@ fn runs_over_captures(rt: HostRuntime) {
         },
         Run {
             name: "more octets than may be read",
-            task: Task::Check,
+            task: CHECK,
             input: CAPTURE,
             most: 20,
             answer: Err(RunFault::TooLong),
@@ -106,7 +100,7 @@ fn runs_over_a_text_of_no_spool(rt: HostRuntime) -> Result<(), Fail> {
     let capture = with_spool(rt.alloc(), session.as_str(), "spool 1\ngroup a,b 0\nend\n")?;
     let run = Run {
         name: "a text of no spool",
-        task: Task::Verify,
+        task: VERIFY,
         input: capture.as_bytes(),
         most: 1 << 30,
         answer: Err(RunFault::Spool(ReadFault {
@@ -129,7 +123,7 @@ fn refuse(rt: &impl Abort, alloc: Global, run: Run<'_>) {
 fn run_of<'a>(session: &'a Session, capture: &'a str, report: &'a str) -> Run<'a> {
     Run {
         name: session.name,
-        task: Task::Check,
+        task: session.profile.check_task(),
         input: capture.as_bytes(),
         most: 1 << 30,
         answer: Ok(session.is_consistent()),
@@ -160,7 +154,7 @@ fn refuse_verify(rt: &impl Abort, alloc: Global, session: &Session) -> Result<()
         alloc,
         Run {
             name: session.name,
-            task: Task::Verify,
+            task: session.profile.verify_task(),
             input: capture.as_bytes(),
             most: 1 << 30,
             answer: Ok(session.is_consistent()),

@@ -2,7 +2,7 @@
 use super::{AMPLE, Ended, give_each, refuse_each, right_if};
 use crate::sessions::{Session, TABLES};
 use linked_list_allocator::LocalHeap;
-use nntp_check::Watched;
+use nntp_check::{Limit, Watched};
 use nntp_refusing::{Refusal, Refusing};
 use nntp_spool::{
     Article, Counts, Kind, ReadFault, Spool, SpoolBuilder, SpoolFault, Verified, verify,
@@ -58,6 +58,27 @@ const CALLS: [(Call, Result<(), SpoolFault>); 14] = [
     ),
 ];
 
+/// A number that is above a narrow limit.
+const BAD_NUMBER: [(Call, Result<(), SpoolFault>); 3] = [
+    (Call::Group(b"g"), Ok(())),
+    (Call::Article(b"<a@b>", &[b"Subject: s"], &[]), Ok(())),
+    (
+        Call::Number(b"g", 2_147_483_648, b"<a@b>"),
+        Err(SpoolFault::BadNumber),
+    ),
+];
+
+/// The greatest number by a wide limit, and the next one.
+const WIDE_NUMBERS: [(Call, Result<(), SpoolFault>); 4] = [
+    (Call::Group(b"g"), Ok(())),
+    (
+        Call::Number(b"g", 10_000_000_000_000_000, b"<a@b>"),
+        Err(SpoolFault::BadNumber),
+    ),
+    (Call::Number(b"g", 9_999_999_999_999_999, b"<a@b>"), Ok(())),
+    (Call::Article(b"<a@b>", &[b"Subject: s"], &[]), Ok(())),
+];
+
 /// Lines that are held.
 fn lines<'a>(
     heap: Heap<'a>,
@@ -103,10 +124,11 @@ fn still_fails(builder: &mut SpoolBuilder<Heap<'_>>) -> bool {
 fn build<'a>(
     heap: Heap<'a>,
     ample: Heap<'a>,
+    limit: Limit,
     calls: &[(Call, Result<(), SpoolFault>)],
     wanted: Result<Counts, SpoolFault>,
 ) -> Ended {
-    let mut builder = SpoolBuilder::new(heap);
+    let mut builder = SpoolBuilder::new(heap, limit);
     let mut has_failed = false;
     for (call, outcome) in calls {
         let Ok(told) = call.make(&mut builder, ample) else {
@@ -134,28 +156,81 @@ fn build<'a>(
     right_if(!has_failed && finished == wanted)
 }
 
+/// Calls by name, with the limit of the builder before them and the answer of `finish` behind them.
+type Building<'a> = (
+    &'a str,
+    Limit,
+    &'a [(Call, Result<(), SpoolFault>)],
+    Result<Counts, SpoolFault>,
+);
+
+/// Builds a spool, with each request refused in turn.
+fn refuse_building(rt: &impl Abort, alloc: Global, building: Building<'_>) {
+    let (name, limit, calls, wanted) = building;
+    let ample = Refusing::new(alloc, Refusal::Never);
+    let refused = refuse_each(rt, alloc, name, |heap| {
+        build(heap, &ample, limit, calls, wanted)
+    });
+    assert!(rt; refused > 3, "{refused}");
+}
+
+const ONE_ARTICLE: Counts = Counts {
+    groups: 1,
+    numbers: 1,
+    articles: 1,
+};
+
 #[test]
 fn spools_that_are_built(rt: HostRuntime) {
-    let counts = Counts {
-        groups: 1,
-        numbers: 1,
-        articles: 1,
-    };
     let (unknown, _) = CALLS.split_at(12);
-    let rows = [
+    let rows: [Building<'_>; 3] = [
         (
             "an id without its article",
+            Limit::Narrow,
             unknown,
             Err(SpoolFault::UnknownId),
         ),
-        ("a spool of one article", CALLS.as_slice(), Ok(counts)),
+        (
+            "a spool of one article",
+            Limit::Narrow,
+            CALLS.as_slice(),
+            Ok(ONE_ARTICLE),
+        ),
+        (
+            "a wide spool of one article",
+            Limit::Wide,
+            CALLS.as_slice(),
+            Ok(ONE_ARTICLE),
+        ),
     ];
-    let ample = Refusing::new(rt.alloc(), Refusal::Never);
-    for (name, calls, wanted) in rows {
-        let refused = refuse_each(&rt, rt.alloc(), name, |heap| {
-            build(heap, &ample, calls, wanted)
-        });
-        assert!(rt; refused > 3, "{refused}");
+    for row in rows {
+        refuse_building(&rt, rt.alloc(), row);
+    }
+}
+
+#[test]
+fn spools_with_numbers_above_31_bits(rt: HostRuntime) {
+    let no_number = Counts {
+        groups: 1,
+        numbers: 0,
+        articles: 1,
+    };
+    let rows: [Building<'_>; 2] = [
+        (
+            "a number above 31 bits",
+            Limit::Narrow,
+            BAD_NUMBER.as_slice(),
+            Ok(no_number),
+        ),
+        (
+            "numbers of a wide spool",
+            Limit::Wide,
+            WIDE_NUMBERS.as_slice(),
+            Ok(ONE_ARTICLE),
+        ),
+    ];
+    for row in rows {
+        refuse_building(&rt, rt.alloc(), row);
     }
 }
 
@@ -194,30 +269,44 @@ fn spools_of_worked_sessions_are_read(rt: HostRuntime) {
     }
 }
 
+/// Octets by name that are no text of a spool, and the first fault.
+const NO_SPOOLS: [(&str, &[u8], u64, Kind); 6] = [
+    (
+        "a number that begins with 0",
+        b"spool 1\ngroup g 1\n01 <a@b>\nend\n",
+        3,
+        Kind::Shape,
+    ),
+    (
+        "groups in another order",
+        b"spool 1\ngroup h 0\ngroup g 0\nend\n",
+        3,
+        Kind::Order,
+    ),
+    (
+        "an id without its article",
+        b"spool 1\ngroup g 1\n1 <a@b>\nend\n",
+        4,
+        Kind::UnknownId,
+    ),
+    ("no octets", b"", 1, Kind::Shape),
+    (
+        "another limit",
+        b"spool 2\nlimit 2147483647\nend\n",
+        2,
+        Kind::Shape,
+    ),
+    (
+        "a number above a narrow limit",
+        b"spool 1\ngroup g 1\n2147483648 <a@b>\n",
+        3,
+        Kind::Number,
+    ),
+];
+
 #[test]
 fn texts_of_no_spool_are_read(rt: HostRuntime) {
-    let rows: [(&str, &[u8], u64, Kind); 4] = [
-        (
-            "a number that begins with 0",
-            b"spool 1\ngroup g 1\n01 <a@b>\nend\n",
-            3,
-            Kind::Shape,
-        ),
-        (
-            "groups in another order",
-            b"spool 1\ngroup h 0\ngroup g 0\nend\n",
-            3,
-            Kind::Order,
-        ),
-        (
-            "an id without its article",
-            b"spool 1\ngroup g 1\n1 <a@b>\nend\n",
-            4,
-            Kind::UnknownId,
-        ),
-        ("no octets", b"", 1, Kind::Shape),
-    ];
-    for (name, text, line, kind) in rows {
+    for (name, text, line, kind) in NO_SPOOLS {
         let fault = Some(ReadFault { line, kind });
         refuse_each(&rt, rt.alloc(), name, |heap| {
             read(rt.alloc(), heap, text, fault)
@@ -235,12 +324,8 @@ fn put<A: Allocator + Copy>(
     let Ok(spool) = Spool::read(ample, text.as_bytes()) else {
         return Ended::Wrong;
     };
-    match verify(
-        heap,
-        &spool,
-        session.client.as_bytes(),
-        session.server.as_bytes(),
-    ) {
+    let (client, server) = session.streams();
+    match verify(heap, session.profile.marks, &spool, client, server) {
         Ok(verified) => right_if(verified == wanted),
         Err(AllocError) => Ended::Memory,
     }

@@ -2,14 +2,13 @@
 use super::{Ended, give_each, refuse_each, right_if};
 use crate::sessions::{Session, TABLES};
 use crate::verdicts::shown;
-use nntp_check::check;
 use std::alloc::{Allocator, Global};
 use std::process::Abort;
 use std::test::Fail;
 
 /// By `check`.
 fn judge<A: Allocator + Copy>(alloc: Global, heap: A, session: &Session, wanted: &str) -> Ended {
-    match check(heap, session.client.as_bytes(), session.server.as_bytes()) {
+    match session.profile.check(heap, session.streams()) {
         Ok(verdict) => right_if(match shown(alloc, &verdict) {
             Ok(octets) => octets.as_slice() == wanted.as_bytes(),
             Err(_) => false,

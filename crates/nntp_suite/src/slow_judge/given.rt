@@ -3,6 +3,7 @@ use super::ends::{add_marks, are_ends, unseen_marks};
 use super::numbers::least_free;
 use super::said::Said;
 use crate::group_lines::{push_name, push_number, push_unseen};
+use crate::profiles::Profile;
 use nntp_spool::{Article, Spool, SpoolBuilder, SpoolFault};
 use nntp_wire::Marks;
 use std::alloc::{AllocError, Global};
@@ -13,10 +14,10 @@ type Number<'a> = (u64, Option<&'a [u8]>);
 /// The spool that is given, or none where what is said makes no spool.
 pub(crate) fn given_spool(
     alloc: Global,
-    marks: Marks,
+    profile: Profile,
     said: &Said<'_>,
 ) -> Result<Option<Spool>, AllocError> {
-    let mut builder = SpoolBuilder::new(alloc);
+    let mut builder = SpoolBuilder::new(alloc, profile.limit);
     let mut ids = Vec::new(alloc);
     let mut next = 0;
     for name in names(alloc, said)? {
@@ -24,7 +25,7 @@ pub(crate) fn given_spool(
         if !is_done(outcome)? {
             return Ok(None);
         }
-        for (number, shown) in with_ids(alloc, marks, said, name)? {
+        for (number, shown) in with_ids(alloc, profile.marks, said, name)? {
             let id = match shown {
                 Some(id) => Vec::from_slice(alloc, id)?,
                 None => invented(alloc, said, &mut next)?,

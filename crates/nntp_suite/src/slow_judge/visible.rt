@@ -2,24 +2,26 @@
 use nntp_article::{Head, Parts};
 use nntp_pair::Exchange;
 use nntp_wire::{
-    Answer, Block, Command, MessageId, Prompt, Range, WaterMarks, What, Which, Wildmat,
+    Answer, Block, Command, Limit, MessageId, Prompt, Range, WaterMarks, What, Which, Wildmat,
     active_line, listed_number,
 };
 use std::alloc::{AllocError, Global};
 
-/// The greatest article number.
-const LIMIT: u64 = 2_147_483_647;
-
-/// The selected group, and the low marks that were reported.
+/// The greatest article number, the selected group, and the low marks that were reported.
 #[derive(Drop)]
 pub(crate) struct Visible<'a> {
     alloc: Global,
+    greatest: u64,
     selected: Option<&'a [u8]>,
     lows: Vec<(&'a [u8], u64)>,
 }
 
-fn is_number(number: u64) -> bool {
-    1 <= number && number <= LIMIT
+/// The greatest number of 31 bits, or of 16 digits.
+fn greatest(limit: Limit) -> u64 {
+    match limit {
+        Limit::Narrow => (1 << 31) - 1,
+        Limit::Wide => 9_999_999_999_999_999,
+    }
 }
 
 fn is_generic(code: u64) -> bool {
@@ -29,15 +31,11 @@ fn is_generic(code: u64) -> bool {
     )
 }
 
-/// Whether marks without an estimate are well formed.
-fn are_marks(low: u64, high: u64) -> bool {
-    (low == 0 && high == 0) || (1 <= low && low <= high.saturating_add(1) && high <= LIMIT)
-}
-
 impl<'a> Visible<'a> {
-    pub(crate) fn new(alloc: Global) -> Visible<'a> {
+    pub(crate) fn new(alloc: Global, limit: Limit) -> Visible<'a> {
         Visible {
             alloc,
+            greatest: greatest(limit),
             selected: None,
             lows: Vec::new(alloc),
         }
@@ -66,6 +64,16 @@ impl<'a> Visible<'a> {
             (Prompt::To(command), answer) => self.answer_fits(command, answer),
             _ => false,
         }
+    }
+
+    fn is_number(&self, number: u64) -> bool {
+        1 <= number && number <= self.greatest
+    }
+
+    /// Whether marks without an estimate are well formed.
+    fn are_marks(&self, low: u64, high: u64) -> bool {
+        let are_zeros = low == 0 && high == 0;
+        are_zeros || (1 <= low && low <= high.saturating_add(1) && high <= self.greatest)
     }
 
     fn code_fits(&self, command: &Command<'_>, code: u64) -> bool {
@@ -109,12 +117,12 @@ impl<'a> Visible<'a> {
                     Some(wanted) => {
                         name.as_slice() == wanted
                             && self.marks_fit(*marks, wanted)
-                            && list_fits(range, block)
+                            && self.list_fits(range, block)
                     }
                     None => false,
                 },
             (Command::Next | Command::Last, Answer::Sent { number, .. }) => {
-                self.selected.is_some() && is_number(*number)
+                self.selected.is_some() && self.is_number(*number)
             }
             (
                 Command::Retrieve { what, which },
@@ -143,7 +151,7 @@ impl<'a> Visible<'a> {
         }
         let room = high.saturating_add(1).saturating_sub(low);
         1 <= low
-            && are_marks(low, high)
+            && self.are_marks(low, high)
             && estimate <= room
             && !self
                 .lows
@@ -152,7 +160,7 @@ impl<'a> Visible<'a> {
     }
 
     fn number_fits(&self, which: &Which<'_>, number: u64, id: &MessageId<'_>) -> bool {
-        let is_there = self.selected.is_some() && is_number(number);
+        let is_there = self.selected.is_some() && self.is_number(number);
         match which {
             Which::Id(word) => id.as_slice() == *word && (number == 0 || is_there),
             Which::Number(wanted) => *wanted == Some(number) && is_there,
@@ -169,7 +177,7 @@ impl<'a> Visible<'a> {
                 Some(wildmat) => wildmat.matches(&active.name),
                 None => true,
             };
-            if !matches || !are_marks(active.low, active.high) {
+            if !matches || !self.are_marks(active.low, active.high) {
                 return false;
             }
             let name = active.name.as_slice();
@@ -181,22 +189,23 @@ impl<'a> Visible<'a> {
         }
         true
     }
-}
 
-/// Whether the listed numbers ascend and are numbers of the range.
-fn list_fits(range: &Range, block: &Block<'_>) -> bool {
-    let mut before = 0;
-    for line in block.lines() {
-        let Some(number) = listed_number(line) else {
-            return false;
-        };
-        let last = range.last.unwrap_or(LIMIT);
-        if number <= before || !is_number(number) || number < range.first || last < number {
-            return false;
+    /// Whether the listed numbers ascend and are numbers of the range.
+    fn list_fits(&self, range: &Range, block: &Block<'_>) -> bool {
+        let last = range.last.unwrap_or(self.greatest);
+        let mut before = 0;
+        for line in block.lines() {
+            let Some(number) = listed_number(line) else {
+                return false;
+            };
+            let is_within = range.first <= number && number <= last;
+            if number <= before || !self.is_number(number) || !is_within {
+                return false;
+            }
+            before = number;
         }
-        before = number;
+        true
     }
-    true
 }
 
 /// Whether a head is sent where one is due, and says no other id.

@@ -3,7 +3,7 @@ use Rattle.nntp_check.specs.Sinks.{PassesOn}
 use Rattle.nntp_check.proofs.input.pass_on.Given as goal
 
 abbrev pub invariant-loop-rest : goal.invariant-loop-rest
-invariant-loop-rest g l = PassesOn l.fn.reader l.reader (g.S.Sink.stands l.fn.sink) (g.S.Sink.stands l.sink) l.octets l.rest
+invariant-loop-rest g l = (by : g.S.Sink.By) → PassesOn l.fn.reader l.reader (g.S.Sink.stands by l.fn.sink) (g.S.Sink.stands by l.sink) l.octets l.rest
 
 abbrev pub decreases-loop-rest : goal.decreases-loop-rest
 decreases-loop-rest g l = length l.rest

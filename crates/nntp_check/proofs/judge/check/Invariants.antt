@@ -1,10 +1,10 @@
 use Rattle.std.proofs.Common.{length}
-use Rattle.nntp_article.specs.Limit.{profile_31_bits}
+use Rattle.nntp_article.specs.Limit.{profile_of}
 use Rattle.nntp_check.specs.Judging.{Passed}
 use Rattle.nntp_check.proofs.judge.check.Given as goal
 
 abbrev pub invariant-loop-exchange : goal.invariant-loop-exchange
-invariant-loop-exchange g l = Passed profile_31_bits l.client l.server l.judge.facts l.pairs l.judge.answers
+invariant-loop-exchange g l = Passed (profile_of l.fn.limit l.fn.marks) l.client l.server l.judge.facts l.pairs l.judge.answers
 
 abbrev pub decreases-loop-exchange : goal.decreases-loop-exchange
 decreases-loop-exchange g l = length l.pairs.server

@@ -1,4 +1,5 @@
 use Rattle.std.proofs.Common.{sym, subst}
+use Rattle.nntp_article.specs.Limit.{profile_of}
 use Rattle.nntp_check.specs.Checking.{StandsFor, IsToldBad}
 use Rattle.nntp_check.specs.CheckerView.{of_state}
 use Rattle.nntp_check.specs.Verdict.{verdict_shown}
@@ -7,7 +8,7 @@ use Rattle.nntp_check.proofs.CheckerLemmas.{decided-verdict}
 use Rattle.nntp_check.proofs.checker.Checker.bad.Goals as goal
 
 pub returns-in-Decided-clause-told : goal.returns-in-Decided-clause-told
-returns-in-Decided-clause-told g c = λ client server stands.
-    let here = subst (λ s. StandsFor (of_state s) client server) c.in-Decided.is stands in
-    subst (IsToldBad client server) (sym c.bad_answer.ensures)
-    (decided-told client server (verdict_shown c.in-Decided.verdict) here.0.for_good (decided-verdict (verdict_shown c.in-Decided.verdict) c.in-Decided.client_count c.in-Decided.server_count client server here))
+returns-in-Decided-clause-told g c = λ limit marks client server stands.
+    let here = subst (λ s. StandsFor limit marks (of_state s) client server) c.in-Decided.is stands in
+    subst (IsToldBad (profile_of limit marks) client server) (sym c.bad_answer.ensures)
+    (decided-told limit marks client server (verdict_shown c.in-Decided.verdict) here.0.for_good (decided-verdict limit marks (verdict_shown c.in-Decided.verdict) c.in-Decided.client_count c.in-Decided.server_count client server here))

@@ -6,17 +6,17 @@ use Rattle.nntp_check.proofs.BadLemmas.{told, untold}
 use Rattle.nntp_check.proofs.checker.Ongoing.bad.Goals as goal
 
 pub returns-in-Bad : goal.returns-in-Bad
-returns-in-Bad g c = λ client server passed.
+returns-in-Bad g c = λ profile client server passed.
     let judge = c.self.inside.judge in
     let fed = c.self.inside.feed in
-    let here = subst (λ (h : Held). HasPassed h.facts h.fed client server) (sym c.self.view_is) passed in
-    told client server judge.facts (left_of fed) judge.answers (passed-now judge.facts fed judge.answers client server (kept judge.facts fed judge.answers client server here c.self.invariant.is_whole c.self.invariant.count))
+    let here = subst (λ (h : Held). HasPassed profile h.facts h.fed client server) (sym c.self.view_is) passed in
+    told profile client server judge.facts (left_of fed) judge.answers (passed-now profile judge.facts fed judge.answers client server (kept profile judge.facts fed judge.answers client server here c.self.invariant.is_whole c.self.invariant.count))
     c.in-Bad.class c.in-Bad.ensures.2 c.in-Bad.index c.in-Bad.ensures.1 c.from.result c.from.ensures
 
 pub returns-in-Nothing : goal.returns-in-Nothing
-returns-in-Nothing g c = λ client server passed.
+returns-in-Nothing g c = λ profile client server passed.
     let judge = c.self.inside.judge in
     let fed = c.self.inside.feed in
-    let here = subst (λ (h : Held). HasPassed h.facts h.fed client server) (sym c.self.view_is) passed in
-    untold client server judge.facts (left_of fed) judge.answers (passed-now judge.facts fed judge.answers client server (kept judge.facts fed judge.answers client server here c.self.invariant.is_whole c.self.invariant.count))
+    let here = subst (λ (h : Held). HasPassed profile h.facts h.fed client server) (sym c.self.view_is) passed in
+    untold profile client server judge.facts (left_of fed) judge.answers (passed-now profile judge.facts fed judge.answers client server (kept profile judge.facts fed judge.answers client server here c.self.invariant.is_whole c.self.invariant.count))
     c.in-Nothing.ensures.1 c.in-Nothing.ensures.2

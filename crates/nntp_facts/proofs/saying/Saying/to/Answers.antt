@@ -1,5 +1,4 @@
-use Rattle.std.proofs.Common.{◌≡◌, ◌<◌, [], ◌∷◌, IsTrue, sym, ap, subst, arith, rules}
-use Rattle.std.specs.Prelude.{◌^◌}
+use Rattle.std.proofs.Common.{◌≡◌, [], ◌∷◌, IsTrue, sym, ap, subst, rules}
 use Rattle.std.specs.Option.{option_copied}
 use Rattle.nntp_wire.specs.declared.water_marks.WaterMarks.{WaterMarks}
 use Rattle.nntp_wire.specs.Answer.{Asked, to, active_are}

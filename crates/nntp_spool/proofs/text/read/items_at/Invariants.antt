@@ -1,8 +1,7 @@
 use Rattle.std.proofs.Common.{◌≡◌, ◌-◌, false}
 use Rattle.nntp_spool.specs.Reading.{items_at}
-use Rattle.nntp_article.specs.Limit.{profile_31_bits}
 use Rattle.nntp_spool.specs.ReadingView.{place_shown}
 use Rattle.nntp_spool.proofs.text.read.items_at.Given as goal
 
 abbrev pub invariant-loop : goal.invariant-loop
-invariant-loop g l = items_at profile_31_bits (l.most - l.counter) l.articles l.content (place_shown l.rest) ≡ items_at profile_31_bits l.most false l.fn.content (place_shown l.place)
+invariant-loop g l = items_at l.limit (l.most - l.counter) l.articles l.content (place_shown l.rest) ≡ items_at l.limit l.most false l.fn.content (place_shown l.place)

@@ -1,8 +1,7 @@
 use Rattle.std.proofs.Common.{◌≡◌, ◌-◌}
 use Rattle.nntp_spool.specs.Reading.{numbers_at, number_at, repeat}
-use Rattle.nntp_article.specs.Limit.{profile_31_bits}
 use Rattle.nntp_spool.specs.ReadingView.{place_shown}
 use Rattle.nntp_spool.proofs.text.read.numbers_at.Given as goal
 
 abbrev pub invariant-loop : goal.invariant-loop
-invariant-loop g l = repeat (number_at profile_31_bits) (l.count - l.counter) (l.numbers, place_shown l.rest) ≡ numbers_at profile_31_bits l.count (place_shown l.place)
+invariant-loop g l = repeat (number_at l.limit) (l.count - l.counter) (l.numbers, place_shown l.rest) ≡ numbers_at l.limit l.count (place_shown l.place)

@@ -1,6 +1,6 @@
 use Rattle.std.proofs.Common.{sym, refl, [], ap}
-use Rattle.nntp_wire.specs.declared.limit.Limit.TheVariants.{Narrow}
 use Rattle.nntp_article.specs.Limit.{profile_of}
+use Rattle.nntp_witness.proofs.Aims.{noted_as_kept}
 use Rattle.nntp_check.specs.Judging.{class_noted}
 use Rattle.nntp_check.proofs.JudgeLemmas.{is-due, one-more}
 use Rattle.nntp_suite.proofs.memory.facts.note_all.Goals as goal
@@ -9,21 +9,26 @@ pub loop-exchange-init : goal.loop-exchange-init
 loop-exchange-init g c = record { pairs = []; before = sym c.new-pairs.ensures; count = refl; stands = c.new-facts.ensures.stands }
 
 pub returns-in-Bad : goal.returns-in-Bad
-returns-in-Bad g c = (c.loop-exchange.invariant.pairs, c.loop-exchange.invariant.stands)
+returns-in-Bad g c =
+    let passed = c.loop-exchange.invariant in
+    (passed.pairs, noted_as_kept (profile_of c.args.limit c.args.marks) c.loop-exchange.facts passed.pairs passed.stands)
 
 pub returns-in-End : goal.returns-in-End
-returns-in-End g c = (c.loop-exchange.invariant.pairs, c.loop-exchange.invariant.stands)
+returns-in-End g c =
+    let passed = c.loop-exchange.invariant in
+    (passed.pairs, noted_as_kept (profile_of c.args.limit c.args.marks) c.loop-exchange.facts passed.pairs passed.stands)
 
 pub note-requires : goal.note-requires
-note-requires g c = λ whole. is-due (profile_of Narrow c.args.marks) c.args.client.now c.args.server.now c.loop-exchange.facts c.loop-exchange.pairs c.next.new.self c.loop-exchange.answers c.in-Exchange.exchange c.loop-exchange.invariant c.in-Exchange.ensures.step
+note-requires g c =
+    λ whole. is-due (profile_of c.args.limit c.args.marks) c.args.client.now c.args.server.now c.loop-exchange.facts c.loop-exchange.pairs c.next.new.self c.loop-exchange.answers c.in-Exchange.exchange c.loop-exchange.invariant c.in-Exchange.ensures.step
 
 pub loop-exchange-smaller : goal.loop-exchange-smaller
 loop-exchange-smaller g c = c.in-Exchange.ensures.progress
 
 pub loop-exchange-preserved : goal.loop-exchange-preserved
 loop-exchange-preserved g c =
-    (one-more (profile_of Narrow c.args.marks) c.args.client.now c.args.server.now c.loop-exchange.facts c.note.new.self c.loop-exchange.pairs c.next.new.self c.loop-exchange.answers c.in-Exchange.exchange c.in-Ok-Consistent.field-0
-    c.loop-exchange.invariant c.in-Exchange.ensures.step (c.in-Ok-Consistent.ensures.noted (profile_of Narrow c.args.marks)) (ap class_noted c.in-Ok-Consistent.field-0-is) c.index-answer.result c.index-answer.ensures.value).0
+    (one-more (profile_of c.args.limit c.args.marks) c.args.client.now c.args.server.now c.loop-exchange.facts c.note.new.self c.loop-exchange.pairs c.next.new.self c.loop-exchange.answers c.in-Exchange.exchange c.in-Ok-Consistent.field-0
+    c.loop-exchange.invariant c.in-Exchange.ensures.step (c.in-Ok-Consistent.ensures.noted (profile_of c.args.limit c.args.marks)) (ap class_noted c.in-Ok-Consistent.field-0-is) c.index-answer.result c.index-answer.ensures.value).0
 
 pub after_want-requires : goal.after_want-requires
-after_want-requires g c = (c.in-Err-Memory.ensures.noted (profile_of Narrow c.args.marks) c.loop-exchange.invariant.pairs c.loop-exchange.invariant.stands).1
+after_want-requires g c = (c.in-Err-Memory.ensures.noted (profile_of c.args.limit c.args.marks) c.loop-exchange.invariant.pairs c.loop-exchange.invariant.stands).1

@@ -1,11 +1,10 @@
 use Rattle.std.proofs.Common.{length}
-use Rattle.nntp_wire.specs.declared.limit.Limit.TheVariants.{Narrow}
 use Rattle.nntp_article.specs.Limit.{profile_of}
 use Rattle.nntp_check.specs.Judging.{Passed}
 use Rattle.nntp_suite.proofs.memory.facts.note_all.Given as goal
 
 abbrev pub invariant-loop-exchange : goal.invariant-loop-exchange
-invariant-loop-exchange g l = Passed (profile_of Narrow l.fn.marks) l.client l.server l.facts l.pairs l.answers
+invariant-loop-exchange g l = Passed (profile_of l.fn.limit l.fn.marks) l.client l.server l.facts l.pairs l.answers
 
 abbrev pub decreases-loop-exchange : goal.decreases-loop-exchange
 decreases-loop-exchange g l = length l.pairs.server

@@ -1,7 +1,7 @@
-use Rattle.std.proofs.Common.{◌∷◌, sym, subst}
-use Rattle.nntp_article.specs.Limit.{profile_31_bits}
-use Rattle.nntp_facts.specs.Noted.{said_by}
+use Rattle.std.proofs.Common.{◌∷◌, ◌∙◌, false, ap, sym, subst}
+use Rattle.nntp_facts.specs.Noted.{profile_kept, said_by}
 use Rattle.nntp_spool.specs.Building.{Building}
+use Rattle.nntp_spool.specs.Content.{no_spool}
 use Rattle.nntp_witness.specs.Making.{GroupsLeft}
 use Rattle.nntp_witness.proofs.Faults.{memory_passed}
 use Rattle.nntp_witness.proofs.GroupsInOrder.{all_left}
@@ -9,21 +9,22 @@ use Rattle.nntp_witness.proofs.maker.SpoolMaker.of_groups.Goals as goal
 
 pub loop-group-init : goal.loop-group-init
 loop-group-init g c past G stands witness =
-    subst (λ (b : Building). GroupsLeft (said_by profile_31_bits.marks past) G c.groups-groups.result b 0) (sym c.new.ensures) (all_left (said_by profile_31_bits.marks past) G c.groups-groups.result witness.given (c.groups-groups.ensures profile_31_bits past stands))
+    let made = c.new.ensures ∙ ap (λ limit. record { limit = limit; spool = no_spool; failed = false }) c.limit.ensures in
+    subst (λ (b : Building). GroupsLeft c.args.facts.now.limit (said_by c.args.facts.now.marks past) G c.groups-groups.result b 0) (sym made) (all_left c.args.facts.now.limit (said_by c.args.facts.now.marks past) G c.groups-groups.result witness.given (c.groups-groups.ensures (profile_kept c.args.facts.now) past stands))
 
 pub loop-group-preserved : goal.loop-group-preserved
 loop-group-preserved g c past G stands witness =
-    let left : GroupsLeft (said_by profile_31_bits.marks past) G (c.in-Some.group ∷ c.next.new.self) c.loop-group.maker.builder c.loop-group.maker.next =
-    subst (λ groups. GroupsLeft (said_by profile_31_bits.marks past) G groups c.loop-group.maker.builder c.loop-group.maker.next) c.in-Some.ensures.steps (c.loop-group.invariant past G stands witness) in
+    let left : GroupsLeft c.args.facts.now.limit (said_by c.args.facts.now.marks past) G (c.in-Some.group ∷ c.next.new.self) c.loop-group.maker.builder c.loop-group.maker.next =
+    subst (λ groups. GroupsLeft c.args.facts.now.limit (said_by c.args.facts.now.marks past) G groups c.loop-group.maker.builder c.loop-group.maker.next) c.in-Some.ensures.steps (c.loop-group.invariant past G stands witness) in
     c.in_ok-add_group.ensures past G c.next.new.self stands witness left
 
 pub returns-in_err-add_group : goal.returns-in_err-add_group
 returns-in_err-add_group g c past G stands witness =
-    let left : GroupsLeft (said_by profile_31_bits.marks past) G (c.in-Some.group ∷ c.next.new.self) c.loop-group.maker.builder c.loop-group.maker.next =
-    subst (λ groups. GroupsLeft (said_by profile_31_bits.marks past) G groups c.loop-group.maker.builder c.loop-group.maker.next) c.in-Some.ensures.steps (c.loop-group.invariant past G stands witness) in
+    let left : GroupsLeft c.args.facts.now.limit (said_by c.args.facts.now.marks past) G (c.in-Some.group ∷ c.next.new.self) c.loop-group.maker.builder c.loop-group.maker.next =
+    subst (λ groups. GroupsLeft c.args.facts.now.limit (said_by c.args.facts.now.marks past) G groups c.loop-group.maker.builder c.loop-group.maker.next) c.in-Some.ensures.steps (c.loop-group.invariant past G stands witness) in
     let memory = c.in_err-add_group.ensures past G c.next.new.self stands witness left in
     memory_passed c.from_residual.result _ c.in_err-add_group.field-0.0 c.from_residual.ensures memory
 
 pub returns : goal.returns
 returns g c past G stands witness =
-    subst (λ groups. GroupsLeft (said_by profile_31_bits.marks past) G groups c.loop-group.maker.builder c.loop-group.maker.next) c.in_default.ensures.steps.0 (c.loop-group.invariant past G stands witness)
+    subst (λ groups. GroupsLeft c.args.facts.now.limit (said_by c.args.facts.now.marks past) G groups c.loop-group.maker.builder c.loop-group.maker.next) c.in_default.ensures.steps.0 (c.loop-group.invariant past G stands witness)

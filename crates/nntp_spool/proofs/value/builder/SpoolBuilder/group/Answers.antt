@@ -1,5 +1,5 @@
 use Rattle.std.proofs.Common.{subst, sym, ap, ◌∙◌}
-use Rattle.nntp_article.specs.Limit.{profile_31_bits}
+use Rattle.nntp_wire.specs.Limit.{greatest}
 use Rattle.nntp_spool.specs.Content.{IsContent}
 use Rattle.nntp_spool.specs.Content.{with_group}
 use Rattle.nntp_spool.proofs.BuiltContent.{group_added}
@@ -9,4 +9,4 @@ pub invariant_of-self-in-Ok-put_group : goal.invariant_of-self-in-Ok-put_group
 invariant_of-self-in-Ok-put_group g c =
     let S = c.self.inside.content in
     let is = c.in-Ok-put_group.ensures.ok ∙ ap (λ k. with_group S k c.new.result) c.in-Ok.ensures.items ∙ ap (λ N. with_group S c.args.name.now N) c.new.ensures in
-    subst (IsContent profile_31_bits) (sym is) (group_added profile_31_bits S c.self.invariant c.args.name.now (sym c.group_fault.ensures ∙ c.in_default.is))
+    subst (IsContent (greatest c.self.inside.limit)) (sym is) (group_added (greatest c.self.inside.limit) S c.self.invariant c.args.name.now (sym c.group_fault.ensures ∙ c.in_default.is))

@@ -1,26 +1,18 @@
-use Rattle.std.proofs.Common.{[], ◌∷◌}
+use Rattle.std.proofs.Common.{[], ◌∷◌, ◌++◌}
 use Rattle.std.specs.Prelude.{codes}
 use Rattle.std.specs.List.{flat_map}
 use Rattle.std.specs.FinMap as map
 use Rattle.std.proofs.lemmas.Result.{err_from_is_err_and}
 use Rattle.nntp_spool.specs.Text.{group_lines, article_lines}
 use Rattle.nntp_spool.proofs.Written.{Writes-last}
-use Rattle.nntp_spool.proofs.WrittenLines.{Lines-first, Lines-next, Groups-left, Articles-left}
+use Rattle.nntp_spool.proofs.WrittenLines.{Lines-first, Lines-next}
 use Rattle.nntp_spool.proofs.value.content.Content.write.Goals as goal
-
-pub returns-in_err-put-clause-text : goal.returns-in_err-put-clause-text
-returns-in_err-put-clause-text g c =
-    let p = err_from_is_err_and c.from_residual.result c.from_residual.ensures.1 in
-    let w = c.in_err-put.ensures.text in
-    rw p.1 (_, Lines-first _ _ (codes "spool 1" ∷ []) _ w.0 w.1)
 
 pub returns-in_err-write_groups-clause-text : goal.returns-in_err-write_groups-clause-text
 returns-in_err-write_groups-clause-text g c =
-    let r = c.from_residual-in_err-write_groups in
-    let p = err_from_is_err_and r.result r.ensures.1 in
+    let p = err_from_is_err_and c.from_residual.result c.from_residual.ensures.1 in
     let w = c.in_err-write_groups.ensures.text in
-    let S = c.args.self.now in
-    rw p.1 (_, Lines-next _ _ _ _ (flat_map group_lines (map.entries S.groups)) _ w.0 (Groups-left S _ _ c.in_ok-put.ensures.text) w.1)
+    rw p.1 (_, Lines-first _ _ (flat_map group_lines (map.entries c.args.self.now.groups)) _ w.0 w.1)
 
 pub returns-in_err-write_articles-clause-text : goal.returns-in_err-write_articles-clause-text
 returns-in_err-write_articles-clause-text g c =
@@ -28,12 +20,14 @@ returns-in_err-write_articles-clause-text g c =
     let p = err_from_is_err_and r.result r.ensures.1 in
     let w = c.in_err-write_articles.ensures.text in
     let S = c.args.self.now in
-    let groups = Articles-left S _ _ _ c.in_ok-put.ensures.text c.in_ok-write_groups.ensures.text in
-    rw p.1 (_, Lines-next _ _ _ _ (flat_map article_lines (map.entries S.articles)) _ w.0 groups w.1)
+    let articles = flat_map article_lines (map.entries S.articles) in
+    let groups = Lines-first _ _ (flat_map group_lines (map.entries S.groups)) (articles ++ codes "end" ∷ []) [] c.in_ok-write_groups.ensures.text in
+    rw p.1 (_, Lines-next _ _ _ _ articles _ w.0 groups w.1)
 
 pub returns-clause-text : goal.returns-clause-text
 returns-clause-text g c =
     let S = c.args.self.now in
-    let groups = Articles-left S _ _ _ c.in_ok-put.ensures.text c.in_ok-write_groups.ensures.text in
-    let articles = Lines-next _ _ _ _ (flat_map article_lines (map.entries S.articles)) (codes "end" ∷ []) [] groups c.in_ok-write_articles.ensures.text in
-    Writes-last c.put-2.result _ _ _ _ _ articles c.put-2.ensures.text
+    let articles = flat_map article_lines (map.entries S.articles) in
+    let groups = Lines-first _ _ (flat_map group_lines (map.entries S.groups)) (articles ++ codes "end" ∷ []) [] c.in_ok-write_groups.ensures.text in
+    let behind = Lines-next _ _ _ _ articles (codes "end" ∷ []) [] groups c.in_ok-write_articles.ensures.text in
+    Writes-last c.put.result _ _ _ _ _ behind c.put.ensures.text

@@ -1,0 +1,72 @@
+//! Spools that are widened: they have the same groups and articles, and the greater limit.
+use crate::sessions::{Session, TABLES};
+use nntp_check::{Limit, Watched};
+use nntp_spool::{Spool, Verified, verify};
+use std::alloc::Global;
+use std::process::Abort;
+use std::test::Fail;
+
+/// The first lines of the text of a narrow spool, and of a wide one.
+const NARROW: &str = "spool 1\n";
+
+const WIDE: &str = "spool 2\nlimit 9999999999999999\n";
+
+/// The limit of the spool with this text, and the lines behind those that tell it.
+fn limit_and_content(text: &str) -> Option<(Limit, &str)> {
+    match text.strip_prefix(NARROW) {
+        Some(content) => Some((Limit::Narrow, content)),
+        None => Some((Limit::Wide, text.strip_prefix(WIDE)?)),
+    }
+}
+
+/// The text of a spool.
+fn text_of(alloc: Global, spool: &Spool) -> Result<Vec<u8>, Fail> {
+    let mut output = Watched::new(Vec::new(alloc));
+    spool.write(&mut output)?;
+    Ok(output.into_inner())
+}
+
+/// Widens the spool of this text, which is then written with the same content.
+fn widen(rt: &impl Abort, alloc: Global, text: &str) -> Result<Spool, Fail> {
+    let Some((limit, content)) = limit_and_content(text) else {
+        return Err("a text with another first line".into());
+    };
+    let spool = Spool::read(alloc, text.as_bytes())?;
+    assert_eq!(rt; spool.limit(), limit, "{text}");
+    let widened = spool.widened();
+    assert_eq!(rt; widened.limit(), Limit::Wide, "{text}");
+    let wanted = format!(in alloc; "{WIDE}{content}")?;
+    let written = text_of(alloc, &widened)?;
+    assert_eq!(rt; written.as_slice(), wanted.as_bytes(), "{text}");
+    Ok(Spool::read(alloc, &written)?)
+}
+
+#[test]
+fn a_group_without_numbers(rt: HostRuntime) -> Result<(), Fail> {
+    let wide = widen(&rt, rt.alloc(), "spool 1\ngroup g 0\nend\n")?;
+    let wanted = b"spool 2\nlimit 9999999999999999\ngroup g 0\nend\n";
+    assert_eq!(rt; text_of(rt.alloc(), &wide)?.as_slice(), wanted.as_slice());
+    Ok(())
+}
+
+/// Widens the spool that is given for a session. It permits the session still, if it did.
+fn widen_given(rt: &impl Abort, alloc: Global, session: &Session) -> Result<(), Fail> {
+    let (text, verified) = session.given;
+    let wide = widen(rt, alloc, text)?;
+    if let Verified::Permits { .. } = verified {
+        let (client, server) = session.streams();
+        let again = verify(alloc, session.profile.marks, &wide, client, server)?;
+        assert_eq!(rt; again, verified, "{}", session.name);
+    }
+    Ok(())
+}
+
+#[test]
+fn given_spools(rt: HostRuntime) -> Result<(), Fail> {
+    for table in TABLES {
+        for session in table {
+            widen_given(&rt, rt.alloc(), session)?;
+        }
+    }
+    Ok(())
+}
