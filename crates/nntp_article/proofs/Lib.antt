@@ -17,4 +17,3 @@ pub mod ArticleLaws
 pub mod Ascends
 pub mod Names
 pub mod SetKeys
-pub mod SpoolLimits
