@@ -1,11 +1,2 @@
 pub mod Article
-pub mod Spool
-pub mod Machine
-pub mod Explains
-pub mod Coded
-pub mod Fitting
-pub mod Control
-pub mod Required
-pub mod SaidId
-pub mod View
-pub mod Limit
+pub mod Session

@@ -1,30 +1,12 @@
-//! Articles (RFC 3977, section 3.6; RFC 1036): their parts, heads, headers and control messages. And
-//! the definitions of a spool, and of the machine of a session over one spool, with their laws.
+//! Two things, each in a room of its own. `article`: articles (RFC 3977, section 3.6; RFC 1036), that
+//! is, their parts, heads, headers and control messages. `session`: what a spool is, and the machine of
+//! a session over one spool, with its laws, and the part of that machine that no spool is asked for.
 #![tactic(auto)]
 
-pub mod article_laws;
-mod control_headers;
-mod control_message;
-mod head;
-mod head_line;
-mod header;
-pub mod laws;
-mod missing_headers;
-mod parts;
-mod profile;
-mod required_headers;
-mod said_id;
-#[cfg(test)]
-mod tests;
-mod visible;
+pub mod article;
+pub mod session;
 
-pub use control_headers::control;
-pub use control_message::Control;
-pub use head::Head;
-pub use header::{Header, Headers, content};
-pub use missing_headers::Missing;
-pub use parts::Parts;
-pub use profile::Profile;
-pub use required_headers::missing;
-pub use said_id::lines_say;
-pub use visible::{Visible, is_article_number, is_generic_failure, is_success};
+pub use article::{
+    Control, Head, Header, Headers, Missing, Parts, content, control, lines_say, missing,
+};
+pub use session::{Profile, Visible, is_article_number, is_generic_failure};

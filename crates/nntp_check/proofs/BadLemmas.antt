@@ -9,8 +9,8 @@ use Rattle.nntp_wire.specs.Session.{closes}
 use Rattle.nntp_wire.proofs.SpellLemmas.{spelling-frame}
 use Rattle.nntp_wire.proofs.SpellsDecided.{dec_spelling}
 use Rattle.nntp_wire.proofs.FramesDecided.{dec_frame}
-use Rattle.nntp_article.specs.Limit.{profile_of}
-use Rattle.nntp_article.specs.declared.profile.Profile.{Profile}
+use Rattle.nntp_article.specs.Session.Limit.{profile_of}
+use Rattle.nntp_article.specs.declared.session.profile.Profile.{Profile}
 use Rattle.nntp_pair.specs.declared.class.PairClass.{PairClass}
 use Rattle.nntp_pair.specs.declared.class.PairClass.TheVariants as pair
 use Rattle.nntp_pair.specs.Pairing.{Unpaired, Ends, Ending, end, bad as pair_end, asked_at}
@@ -19,21 +19,22 @@ use Rattle.nntp_pair.proofs.PairingLemmas.{index-counts}
 use Rattle.nntp_facts.specs.declared.class.Class.{Class}
 use Rattle.nntp_facts.specs.declared.class.Class.TheVariants as class
 use Rattle.nntp_facts.specs.Classes.{IsSettled, class_of}
-use Rattle.nntp_facts.specs.Headline.{No, IsHeadline}
+use Rattle.nntp_facts.specs.Outcome.{No, IsOutcome}
 use Rattle.nntp_facts.specs.Noted.{FactsKept}
-use Rattle.nntp_facts.proofs.ClassLemmas.{bad_stays as answer_stays, class_stays, settled_stays}
-use Rattle.nntp_facts.proofs.Grow.{pairs_permitted}
-use Rattle.nntp_facts.proofs.Headlines.{one_headline}
-use Rattle.nntp_facts.proofs.Octets.{explained_not_bad}
-use Rattle.nntp_facts.proofs.PairedBad.{explained_end}
-use Rattle.nntp_facts.proofs.PairedLemmas.{settled_lasts}
+use Rattle.nntp_facts.proofs.Streams.OneClass.{bad_stays as answer_stays, class_stays, settled_stays}
+use Rattle.nntp_facts.proofs.Session.OneMoreAnswer.{pairs_permitted}
+use Rattle.nntp_facts.proofs.Streams.OneOutcome.{one_headline}
+use Rattle.nntp_facts.proofs.Streams.ExplainedOrBad.{explained_not_bad}
+use Rattle.nntp_facts.proofs.Streams.PairedStreams.{explained_end}
+use Rattle.nntp_facts.proofs.Streams.ClassAtTheEnd.{settled_lasts}
 use Rattle.nntp_check.specs.Judging.{Passed, IsVerdict, IsNoForGood}
 use Rattle.nntp_check.specs.Verdict.{Judgement, consistent, bad}
 use Rattle.nntp_check.specs.Checking.{IsBadForGood, IsToldBad, told_bad}
 use Rattle.nntp_check.proofs.JudgeLemmas.{octets-right}
 
 -- a spelling is the next exchange
-spelled-next : (index : ℕ) (place : Option (List ℕ)) (places : List (Option (List ℕ))) (server front rest : List ℕ) (response : Response) → Spells (asked_at place) response front → server ≡ front ++ rest
+spelled-next : (index : ℕ) (place : Option (List ℕ)) (places : List (Option (List ℕ))) (server front rest : List ℕ)
+    (response : Response) → Spells (asked_at place) response front → server ≡ front ++ rest
     → HasNext (record { index = index; places = place ∷ places; server = server; is_closed = false })
 spelled-next index place places server front rest response spells whole =
     let found = spelling-frame (asked_at place) response front rest spells in (
@@ -90,7 +91,7 @@ module _ (profile : Profile) (client server : List ℕ) (facts : FactsKept) (lef
   )
 
   -- where all answers are explained none is bad
-  no-bad-explained : (unanswered : ℕ) → Ends left (end unanswered) → (answer : ℕ) (class : Class) → IsHeadline profile client server (No answer class) → ⊥
+  no-bad-explained : (unanswered : ℕ) → Ends left (end unanswered) → (answer : ℕ) (class : Class) → IsOutcome profile client server (No answer class) → ⊥
   no-bad-explained unanswered ends answer class headline =
       let some = (pairs_permitted profile client server p.pairs left p.before).1 p.stands.permitted in
       explained_not_bad profile some.0 client server (length p.pairs) answer
@@ -99,7 +100,8 @@ module _ (profile : Profile) (client server : List ℕ) (facts : FactsKept) (lef
   -- and what is bad for good is at an end that stays
   stays : (class : PairClass) → Ends left (pair_end class) → (answer : ℕ) (of : Class) → IsBadForGood profile client server answer of → EndsForGood class left
   stays class ends answer of (headline, settled) =
-      let e = one_headline profile client server (No answer of) (No left.index (class_of class)) headline (octets-right profile client server facts left answers class p ends left.index refl (class_of class) refl) in
+      let e = one_headline profile client server (No answer of) (No left.index (class_of class)) headline
+      (octets-right profile client server facts left answers class p ends left.index refl (class_of class) refl) in
       let place : answer ≡ length p.pairs = (let at : answer ≡ left.index = cc in at) ∙ index-counts client server p.pairs left p.before in
       let same : of ≡ class_of class = cc in
       (ends, (settled_lasts client server p.pairs left class p.before).0 (subst (λ (x : ℕ × Class). IsSettled client server x.0 x.1) (λ i. (place i, same i)) settled))
@@ -121,14 +123,16 @@ settled-whole client server answer class.OutOfPlace command reply whole = tt
 settled-whole client server answer class.Contradiction command reply whole = tt
 
 -- and told as bad
-pub decided-told : (limit : Limit) (marks : Marks) (client server : List ℕ) (j : Judgement) → IsNoForGood j → IsVerdict limit marks client server j → IsToldBad (profile_of limit marks) client server (told_bad j)
+pub decided-told : (limit : Limit) (marks : Marks) (client server : List ℕ) (j : Judgement) → IsNoForGood j
+    → IsVerdict limit marks client server j → IsToldBad (profile_of limit marks) client server (told_bad j)
 decided-told limit marks client server (consistent L answers) whole verdict = absurd whole
 decided-told limit marks client server (bad answer class command reply) whole verdict = (verdict.headline, settled-whole client server answer class command reply whole)
 
 -- ---- laws
 
 -- what is bad for good stays so
-pub bad-stays : (profile : Profile) (client server client_more server_more : List ℕ) (answer : ℕ) (c : Class) → IsBadForGood profile client server answer c → IsBadForGood profile (client ++ client_more) (server ++ server_more) answer c
+pub bad-stays : (profile : Profile) (client server client_more server_more : List ℕ) (answer : ℕ) (c : Class)
+    → IsBadForGood profile client server answer c → IsBadForGood profile (client ++ client_more) (server ++ server_more) answer c
 bad-stays profile client server client_more server_more answer c (headline, settled) = (
   (
     answer_stays profile client server client_more server_more answer c headline.1 settled headline.0,
@@ -153,7 +157,9 @@ one-told profile client server (Some x) None p q = absurd (q x.0 x.1 p)
 one-told profile client server (Some x) (Some y) p q = ap Some (one-bad profile client server x y p q)
 
 -- and it stays
-pub told-stays : (profile : Profile) (client server client_more server_more : List ℕ) (x y : Option (ℕ × Class)) → IsTrue (is_some x) → IsToldBad profile client server x → IsToldBad profile (client ++ client_more) (server ++ server_more) y → y ≡ x
+pub told-stays : (profile : Profile) (client server client_more server_more : List ℕ) (x y : Option (ℕ × Class))
+    → IsTrue (is_some x) → IsToldBad profile client server x
+    → IsToldBad profile (client ++ client_more) (server ++ server_more) y → y ≡ x
 told-stays profile client server client_more server_more None y some p q = cc
 told-stays profile client server client_more server_more (Some x) y some p q =
     one-told profile (client ++ client_more) (server ++ server_more) y (Some x) q (bad-stays profile client server client_more server_more x.0 x.1 p)

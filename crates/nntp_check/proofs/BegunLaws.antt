@@ -1,5 +1,7 @@
 -- Octets begin a capture, or a piece of theirs is bad whatever follows.
-use Rattle.std.proofs.Common.{◌≡◌, ◌≢◌, ◌⊎◌, ◌∙◌, ℕ, ◌+◌, ◌-◌, ◌<◌, ◌≤◌, true, false, List, [], ◌∷◌, ◌++◌, Option, Some, None, length, take, drop, inl, inr, refl, sym, ap, append_assoc, arith, length-append, length-take, flat_map}
+use Rattle.std.proofs.Common.{◌≡◌, ◌≢◌, ◌⊎◌, ◌∙◌, ℕ, ◌+◌, ◌-◌, ◌<◌, ◌≤◌, true, false, List, [], ◌∷◌, ◌++◌, Option, Some, None}
+use Rattle.std.proofs.Common.{length, take, drop, inl, inr, refl, sym, ap, append_assoc, arith, length-append, length-take}
+use Rattle.std.proofs.Common.{flat_map}
 use Rattle.std.proofs.lemmas.Bool.{cases_Bool, cases_eq, cases_lt, and_from, and_parts, true≢false}
 use Rattle.std.proofs.lemmas.List.{take-append-drop}
 use Rattle.std.specs.List.{list_all}
@@ -30,7 +32,9 @@ fork (c ∷ word) (b ∷ octets) = elim (cases_eq b c) [
 ]
 
 -- all are digits, or an octet that is none stands behind digits
-first-other : (line : List ℕ) → (list_all is_ascii_digit line ≡ true) ⊎ ((ds : List ℕ) × (c : ℕ) × (more : List ℕ) × (list_all is_ascii_digit ds ≡ true) × (is_ascii_digit c ≡ false) × (line ≡ ds ++ c ∷ more))
+first-other : (line : List ℕ) → (list_all is_ascii_digit line ≡ true)
+    ⊎ ((ds : List ℕ) × (c : ℕ) × (more : List ℕ) × (list_all is_ascii_digit ds ≡ true) × (is_ascii_digit c ≡ false)
+    × (line ≡ ds ++ c ∷ more))
 first-other [] = inl refl
 first-other (b ∷ line) = elim (cases_Bool (is_ascii_digit b)) [
   | inr other ↦ inr ([], b, line, refl, other, refl)
@@ -62,7 +66,8 @@ many-digits s octets line is each many more p after piece e =
     omega arith
 
 -- nor do digits with another octet than LF behind them
-other-octet : (s : Source) (octets ds : List ℕ) (c : ℕ) (rest : List ℕ) → octets ≡ word_of s ++ (ds ++ c ∷ rest) → list_all is_ascii_digit ds ≡ true → is_ascii_digit c ≡ false → (c ≡ 10 → count_of ds ≡ None) → NeverBegins octets
+other-octet : (s : Source) (octets ds : List ℕ) (c : ℕ) (rest : List ℕ) → octets ≡ word_of s ++ (ds ++ c ∷ rest)
+    → list_all is_ascii_digit ds ≡ true → is_ascii_digit c ≡ false → (c ≡ 10 → count_of ds ≡ None) → NeverBegins octets
 other-octet s octets ds c rest is each other none more p after piece e =
     let line = sym (append_assoc ds (c ∷ rest) more) ∙ line-of s octets (ds ++ c ∷ rest) more p after is e in
     elim (digits-then ds p.digits c (rest ++ more) (p.octets ++ after) each (counted p.digits (length p.octets) piece) line) [

@@ -73,7 +73,8 @@ same-parts (p ∷ parts) (q ∷ others) rest left each also none no_more e =
     ((λ k. first.0 k ∷ behind.0 k), behind.1)
 
 -- the same of octets
-one-begin : (octets : List ℕ) (parts others : List Part) (rest left : List ℕ) → Begins octets parts rest → Begins octets others left → BeginsNoPiece rest → BeginsNoPiece left → (parts ≡ others) × (rest ≡ left)
+one-begin : (octets : List ℕ) (parts others : List Part) (rest left : List ℕ) → Begins octets parts rest
+    → Begins octets others left → BeginsNoPiece rest → BeginsNoPiece left → (parts ≡ others) × (rest ≡ left)
 one-begin octets parts others rest left b c none no_more = same-parts parts others rest left b.each c.each none no_more (sym b.whole ∙ c.whole)
 
 -- never a capture with a bad piece

@@ -26,7 +26,12 @@ places-longer true client more = lines-longer client more
 
 -- what is left then
 left-longer : (fed : Fed) (client server : List ℕ) → left_of (longer client server fed) ≡ with_more (map Some (lines-joined fed.client client).0) server (left_of fed)
-left-longer fed client server = ap (λ places. record { index = fed.index; places = places; server = fed.server ++ server; is_closed = fed.is_closed }) (places-longer (nat_lt 0 fed.index) fed.client client)
+left-longer fed client server = ap (λ places. record {
+  index = fed.index;
+  places = places;
+  server = fed.server ++ server;
+  is_closed = fed.is_closed;
+}) (places-longer (nat_lt 0 fed.index) fed.client client)
 
 left-none : (fed : Fed) → left_of (longer [] [] fed) ≡ left_of fed
 left-none fed i = record { index = fed.index; places = places_from (nat_lt 0 fed.index) (append-nil fed.client i); server = append-nil fed.server i; is_closed = fed.is_closed }
@@ -53,7 +58,8 @@ line-longer : (places more : List (Option (List ℕ))) (place : Option (List ℕ
 line-longer places more place rest e = ap (λ p. line_ahead (p ++ more)) e ∙ sym (ap line_ahead e)
 
 -- and octets that spell nothing stay where they are
-pub malformed-longer : (fed : Fed) (client server : List ℕ) (index : ℕ) (line : Option (List ℕ)) (octets : List ℕ) → EndsForGood Malformed (left_of fed) → index ≡ fed.index → line ≡ line_ahead (left_of fed).places → octets ≡ fed.server
+pub malformed-longer : (fed : Fed) (client server : List ℕ) (index : ℕ) (line : Option (List ℕ)) (octets : List ℕ)
+    → EndsForGood Malformed (left_of fed) → index ≡ fed.index → line ≡ line_ahead (left_of fed).places → octets ≡ fed.server
     → StopsHere (left_of (longer client server fed)) index Malformed line octets
 malformed-longer fed client server index line octets ((some, (place, awaits, why)), lasting) at line-is octets-are =
     let places = map Some (lines-joined fed.client client).0 in

@@ -104,7 +104,8 @@ abbrev pub BeginsWithPiece : List ℕ → Type 0
 BeginsWithPiece bytes = (p : Part) × (more : List ℕ) × IsPiece p × (bytes ≡ spelled p ++ more)
 
 -- where digits and LF are behind the word
-at_count : (s : Source) (bytes ds after : List ℕ) (count : Option ℕ) → list_all is_ascii_digit ds ≡ true → bytes ≡ word_of s ++ (ds ++ 10 ∷ after) → count_of ds ≡ count → BeginsWithPiece bytes ⊎ BeginsNoPiece bytes
+at_count : (s : Source) (bytes ds after : List ℕ) (count : Option ℕ) → list_all is_ascii_digit ds ≡ true
+    → bytes ≡ word_of s ++ (ds ++ 10 ∷ after) → count_of ds ≡ count → BeginsWithPiece bytes ⊎ BeginsNoPiece bytes
 at_count s bytes ds after None digits e none = inr (λ p more is f.
     let line = one_line ds p.digits after (p.octets ++ more) digits (counted p.digits (length p.octets) is) (piece_line s bytes (ds ++ 10 ∷ after) p more e f) in
     let some : None ≡ Some (length p.octets) = sym none ∙ ap count_of line.0 ∙ is in

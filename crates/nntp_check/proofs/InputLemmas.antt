@@ -1,5 +1,6 @@
 -- What a run has read, read by read.
-use Rattle.std.proofs.Common.{◌≡◌, ◌||◌, Bool, true, false, ◌≢◌, ◌∙◌, ℕ, ◌+◌, ◌<◌, ◌≤◌, List, [], ◌∷◌, ◌++◌, Option, length, take, drop, inl, inr, refl, sym, ap, subst, append_assoc, arith, length-append}
+use Rattle.std.proofs.Common.{◌≡◌, ◌||◌, Bool, true, false, ◌≢◌, ◌∙◌, ℕ, ◌+◌, ◌<◌, ◌≤◌, List, [], ◌∷◌, ◌++◌, Option, length}
+use Rattle.std.proofs.Common.{take, drop, inl, inr, refl, sym, ap, subst, append_assoc, arith, length-append}
 use Rattle.std.proofs.Math.Bool.{or-false}
 use Rattle.std.proofs.lemmas.Bool.{true≢false}
 use Rattle.std.specs.Io.KnownBytes.{Consumes, IsAtEnd}
@@ -19,11 +20,13 @@ pub take-split : (n m : ℕ) (xs : List ℕ) → n ≤ m → take m xs ≡ take 
 take-split n m xs le = sym (take-append-drop n (take m xs)) ∙ ap (λ t. t ++ drop n (take m xs)) (take-take n m xs le)
 
 -- where all octets are passed on, both stand for them
-pub all-passed : (before after : CaptureReader) (Stood HasNoted : List ℕ → List ℕ → List ℕ → Type 0) (came octets : List ℕ) → PassesOn before after Stood HasNoted octets [] → BothStand before Stood came → BothStand after HasNoted (came ++ octets)
+pub all-passed : (before after : CaptureReader) (Stood HasNoted : List ℕ → List ℕ → List ℕ → Type 0) (came octets : List ℕ)
+    → PassesOn before after Stood HasNoted octets [] → BothStand before Stood came → BothStand after HasNoted (came ++ octets)
 all-passed before after Stood HasNoted came octets p both = subst (λ (front : List ℕ). BothStand after HasNoted (came ++ front)) (sym (p.cut ∙ append-nil p.front)) (p.stands came both)
 
 -- at the input's end a piece is bad
-pub ends-bad : (before old after : Option (List ℕ)) (most piece : ℕ) (octets got : List ℕ) → Consumes before old octets → Consumes old after got → length got ≡ 0 → IsAtEnd after → length octets ≤ most → IsBadPiece octets piece
+pub ends-bad : (before old after : Option (List ℕ)) (most piece : ℕ) (octets got : List ℕ) → Consumes before old octets
+    → Consumes old after got → length got ≡ 0 → IsAtEnd after → length octets ≤ most → IsBadPiece octets piece
     → ReadsBadPiece (record { before = before; after = after; most = most }) piece
 ends-bad before old after most piece octets [] read gave none end few bad = record {
   front = octets;
@@ -35,7 +38,9 @@ ends-bad before old after most piece octets [] read gave none end few bad = reco
 ends-bad before old after most piece octets (b ∷ got) read gave none end few bad = absurd (omega arith)
 
 -- within what may be read a piece is bad
-bad-within : (before old after : Option (List ℕ)) (most piece : ℕ) (octets got fitting rest : List ℕ) → Consumes before old octets → Consumes old after got → got ≡ fitting ++ rest → length octets + length fitting ≤ most → HasBadFront octets fitting piece
+bad-within : (before old after : Option (List ℕ)) (most piece : ℕ) (octets got fitting rest : List ℕ)
+    → Consumes before old octets → Consumes old after got → got ≡ fitting ++ rest → length octets + length fitting ≤ most
+    → HasBadFront octets fitting piece
     → ReadsBadPiece (record { before = before; after = after; most = most }) piece
 bad-within before old after most piece octets got fitting rest read gave cut few h =
     let all : octets ++ got ≡ (octets ++ h.front) ++ (h.rest ++ rest) =
@@ -51,7 +56,8 @@ bad-within before old after most piece octets got fitting rest read gave cut few
     }
 
 -- why reading stops within it
-pub stops-bad : (before old after : Option (List ℕ)) (most : ℕ) (octets got fitting rest : List ℕ) (fault : RunFault) → Consumes before old octets → Consumes old after got → got ≡ fitting ++ rest → length octets + length fitting ≤ most
+pub stops-bad : (before old after : Option (List ℕ)) (most : ℕ) (octets got fitting rest : List ℕ) (fault : RunFault)
+    → Consumes before old octets → Consumes old after got → got ≡ fitting ++ rest → length octets + length fitting ≤ most
     → StopsWithin octets fitting fault → IsInputFault (record { before = before; after = after; most = most }) fault
 stops-bad before old after most octets got fitting rest (faults.Capture piece) read gave cut few stops = bad-within before old after most piece octets got fitting rest read gave cut few stops
 stops-bad before old after most octets got fitting rest faults.Memory read gave cut few stops = stops
@@ -65,7 +71,8 @@ pub stops-unread : (octets fitting : List ℕ) (fault : RunFault) → StopsWithi
 stops-unread octets fitting fault stops e = subst (StopsWithin octets fitting) e stops
 
 -- more came than may be
-pub reads-more : (before old after : Option (List ℕ)) (most : ℕ) (octets got fitting rest : List ℕ) → Consumes before old octets → Consumes old after got → got ≡ fitting ++ rest → length octets + length fitting ≡ most → 0 < length rest
+pub reads-more : (before old after : Option (List ℕ)) (most : ℕ) (octets got fitting rest : List ℕ) → Consumes before old octets
+    → Consumes old after got → got ≡ fitting ++ rest → length octets + length fitting ≡ most → 0 < length rest
     → BeginsCapture (octets ++ fitting) → ReadsMore (record { before = before; after = after; most = most })
 reads-more before old after most octets got fitting rest read gave cut many some begun =
     let all : octets ++ got ≡ (octets ++ fitting) ++ rest = ap (λ t. octets ++ t) cut ∙ sym (append_assoc octets fitting rest) in

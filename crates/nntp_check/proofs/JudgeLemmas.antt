@@ -8,12 +8,12 @@ use Rattle.nntp_wire.specs.declared.limit.Limit.{Limit}
 use Rattle.nntp_wire.specs.declared.marks.Marks.{Marks}
 use Rattle.nntp_wire.specs.declared.limit.Limit.TheVariants.{Narrow, Wide}
 use Rattle.nntp_wire.specs.Frame.{framed, frame_octets}
-use Rattle.nntp_article.specs.Explains.{Explains}
-use Rattle.nntp_article.specs.Limit.{profile_of}
-use Rattle.nntp_article.specs.declared.profile.Profile.{Profile}
-use Rattle.nntp_article.specs.Machine.{Visible, visible_after, start, fits}
-use Rattle.nntp_article.specs.Spool.{Spool}
-use Rattle.nntp_article.proofs.Closing.{after-closes}
+use Rattle.nntp_article.specs.Session.Explains.{Explains}
+use Rattle.nntp_article.specs.Session.Limit.{profile_of}
+use Rattle.nntp_article.specs.declared.session.profile.Profile.{Profile}
+use Rattle.nntp_article.specs.Session.Machine.{Visible, visible_after, start, fits}
+use Rattle.nntp_article.specs.Session.Spool.{Spool}
+use Rattle.nntp_article.proofs.SessionLemmas.ClosingAnswers.{after-closes}
 use Rattle.nntp_pair.specs.Pairing.{Paired, Unpaired, IsNext, AreNext, Ends, IsBad, IsPairing, end, bad as pair_end, line_ahead, streams, asked_at, asked_of, responses_of}
 use Rattle.nntp_pair.specs.declared.class.PairClass.{PairClass}
 use Rattle.nntp_pair.specs.declared.class.PairClass.TheVariants as pair
@@ -23,10 +23,10 @@ use Rattle.nntp_facts.specs.declared.class.Class.TheVariants.{OutOfPlace, Contra
 use Rattle.nntp_facts.specs.declared.noted.Noted.{Noted}
 use Rattle.nntp_facts.specs.declared.noted.Noted.TheVariants as kinds
 use Rattle.nntp_facts.specs.Classes.{class_of, class_by, visible_from}
-use Rattle.nntp_facts.specs.Headline.{Yes, No, IsHeadline}
+use Rattle.nntp_facts.specs.Outcome.{Yes, No, IsOutcome}
 use Rattle.nntp_facts.specs.Noted.{FactsKept, HasNoted, IsDue, IsNoted}
-use Rattle.nntp_facts.proofs.Size.{pairs_size}
-use Rattle.nntp_facts.proofs.Headlines.{same_answers, headline_at_end, headline_at_octets, headline_at_response, headline_at_unfitting}
+use Rattle.nntp_facts.proofs.Ids.SizeOfASession.{pairs_size}
+use Rattle.nntp_facts.proofs.Streams.OneOutcome.{same_answers, outcome_at_end, outcome_at_octets, outcome_at_response, outcome_at_unfitting}
 use Rattle.nntp_spool.specs.Limited.{LimitedSpool}
 use Rattle.nntp_spool.specs.Text.{IsWritten}
 use Rattle.nntp_spool.specs.Verifying.{IsVerified}
@@ -45,20 +45,23 @@ abbrev visible_left : List Paired → Visible
 visible_left pairs = visible_from start.visible (asked_of pairs) (responses_of pairs)
 
 -- what is left of both streams is closed exactly if the visible state is
-closed-by : (v : Visible) (before left : Unpaired) (pairs : List Paired) → before.is_closed ≡ v.closed → AreNext before pairs left → left.is_closed ≡ (visible_from v (asked_of pairs) (responses_of pairs)).closed
+closed-by : (v : Visible) (before left : Unpaired) (pairs : List Paired) → before.is_closed ≡ v.closed
+    → AreNext before pairs left → left.is_closed ≡ (visible_from v (asked_of pairs) (responses_of pairs)).closed
 closed-by v before left [] same e = ap (λ (u : Unpaired). u.is_closed) (sym e) ∙ same
 closed-by v before left (pair ∷ pairs) same (between, first, more) =
     closed-by (visible_after v (asked_at pair.line) pair.response) between left pairs (first.closing ∙ sym (after-closes v (asked_at pair.line) pair.response (sym same ∙ first.is_open))) more
 
 -- the next exchange is due
-pub is-due : (profile : Profile) (client server : List ℕ) (facts : FactsKept) (left behind : Unpaired) (answers : ℕ) (x : Paired) → Passed profile client server facts left answers → IsNext left x behind → IsDue facts x
+pub is-due : (profile : Profile) (client server : List ℕ) (facts : FactsKept) (left behind : Unpaired) (answers : ℕ) (x : Paired)
+    → Passed profile client server facts left answers → IsNext left x behind → IsDue facts x
 is-due profile client server facts left behind answers x p next = record {
   index = next.index ∙ index-counts client server p.pairs left p.before ∙ sym p.stands.count;
   is_open = ap (λ (v : Visible). v.closed) p.stands.visible ∙ sym (closed-by start.visible (streams client server) left p.pairs refl p.before) ∙ next.is_open;
 }
 
 -- and then it has passed
-pub one-more : (profile : Profile) (client server : List ℕ) (old new : FactsKept) (left behind : Unpaired) (answers : ℕ) (x : Paired) (noted : Noted) → (p : Passed profile client server old left answers) → IsNext left x behind
+pub one-more : (profile : Profile) (client server : List ℕ) (old new : FactsKept) (left behind : Unpaired) (answers : ℕ)
+    (x : Paired) (noted : Noted) → (p : Passed profile client server old left answers) → IsNext left x behind
     → ((past : List Paired) → HasNoted profile old past → IsNoted profile past x old new noted) → class_noted noted ≡ None → (k : ℕ) → k ≡ x.index
     → (now : Passed profile client server new behind (k + 1)) × (now.pairs ≡ p.pairs ++ (x ∷ []))
 one-more profile client server old new left behind answers x noted p next notes good k at = by noted good (notes p.pairs p.stands)
@@ -90,7 +93,9 @@ of-exchange kinds.OutOfPlace class is = let same : class ≡ OutOfPlace = cc in 
 of-exchange kinds.Contradiction class is = let same : class ≡ Contradiction = cc in ap pair_class_of same
 
 -- a bad exchange
-pub at-exchange : (profile : Profile) (client server : List ℕ) (facts : FactsKept) (left behind : Unpaired) (answers : ℕ) (x : Paired) (noted : Noted) (class : Class) → Passed profile client server facts left answers → IsNext left x behind → Some class ≡ class_noted noted
+pub at-exchange : (profile : Profile) (client server : List ℕ) (facts : FactsKept) (left behind : Unpaired) (answers : ℕ)
+    (x : Paired) (noted : Noted) (class : Class) → Passed profile client server facts left answers → IsNext left x behind
+    → Some class ≡ class_noted noted
     → (k : ℕ) → k ≡ x.index → (line : Option (List ℕ)) → line ≡ x.line → (initial : List ℕ) → initial ≡ x.initial
     → StopsAt client server k class (option_map shown line) (shown initial)
 at-exchange profile client server facts left behind answers x noted class p next judged k at line line-is initial initial-is =
@@ -134,15 +139,17 @@ at-octets profile client server facts left answers index class line octets first
 -- ---- what a verdict says
 
 -- `verify` answers of a spool that explains both streams that it permits as many answers
-only-permits : (profile : Profile) (S : Spool) (client server : List ℕ) (n : ℕ) → Explains profile S client server n → (verified : Verified) → IsVerified profile S client server verified → verified ≡ Permits n
+only-permits : (profile : Profile) (S : Spool) (client server : List ℕ) (n : ℕ) → Explains profile S client server n
+    → (verified : Verified) → IsVerified profile S client server verified → verified ≡ Permits n
 only-permits profile S client server n x (Permits m) y = ap Permits (sym y.count ∙ ap length (same_answers profile S S client server m n y x) ∙ x.count)
 only-permits profile S client server n x (Refuses k) r = absurd (explained-unrefused profile S x.is_spool client server n k x r)
 
 -- an exchange that isn't accepted is bad, of its class
-pub exchange-right : (profile : Profile) (client server : List ℕ) (old new : FactsKept) (left behind : Unpaired) (answers : ℕ) (x : Paired) (noted : Noted) (class : Class) → Passed profile client server old left answers → IsNext left x behind
-    → ((past : List Paired) → HasNoted profile old past → IsNoted profile past x old new noted) → Some class ≡ class_noted noted → (k : ℕ) → k ≡ x.index → IsHeadline profile client server (No k class)
+pub exchange-right : (profile : Profile) (client server : List ℕ) (old new : FactsKept) (left behind : Unpaired) (answers : ℕ)
+    (x : Paired) (noted : Noted) (class : Class) → Passed profile client server old left answers → IsNext left x behind
+    → ((past : List Paired) → HasNoted profile old past → IsNoted profile past x old new noted) → Some class ≡ class_noted noted → (k : ℕ) → k ≡ x.index → IsOutcome profile client server (No k class)
 exchange-right profile client server old new left behind answers x noted class p next notes judged k at =
-    subst (λ n. IsHeadline profile client server (No n class)) (sym place) (by noted judged (notes p.pairs p.stands))
+    subst (λ n. IsOutcome profile client server (No n class)) (sym place) (by noted judged (notes p.pairs p.stands))
   where
     place : k ≡ length p.pairs
     place = at ∙ next.index ∙ index-counts client server p.pairs left p.before
@@ -150,24 +157,25 @@ exchange-right profile client server old new left behind answers x noted class p
     fitting : fits profile old.visible (asked_at x.line) x.response ≡ fits profile (visible_left p.pairs) (asked_at x.line) x.response
     fitting i = fits profile (p.stands.visible i) (asked_at x.line) x.response
 
-    by : (noted : Noted) → Some class ≡ class_noted noted → IsNoted profile p.pairs x old new noted → IsHeadline profile client server (No (length p.pairs) class)
+    by : (noted : Noted) → Some class ≡ class_noted noted → IsNoted profile p.pairs x old new noted → IsOutcome profile client server (No (length p.pairs) class)
     by kinds.Consistent judged h = cc
     by kinds.OutOfPlace judged h =
         let same : OutOfPlace ≡ class = cc in
-        subst (λ c. IsHeadline profile client server (No (length p.pairs) c)) same
-        (headline_at_unfitting profile client server p.pairs x left behind p.before next p.stands.permitted (sym fitting ∙ h.0))
+        subst (λ c. IsOutcome profile client server (No (length p.pairs) c)) same
+        (outcome_at_unfitting profile client server p.pairs x left behind p.before next p.stands.permitted (sym fitting ∙ h.0))
     by kinds.Contradiction judged h =
         let same : class_by (fits profile (visible_left p.pairs) (asked_at x.line) x.response) ≡ class = ap class_by (sym fitting ∙ h.0) ∙ (let c : Contradiction ≡ class = cc in c) in
-        subst (λ c. IsHeadline profile client server (No (length p.pairs) c)) same
-        (headline_at_response profile client server p.pairs x left behind p.before next p.stands.permitted h.1)
+        subst (λ c. IsOutcome profile client server (No (length p.pairs) c)) same
+        (outcome_at_response profile client server p.pairs x left behind p.before next p.stands.permitted h.1)
 
 -- octets that answer nothing are bad, of their class
-pub octets-right : (profile : Profile) (client server : List ℕ) (facts : FactsKept) (left : Unpaired) (answers : ℕ) (class : PairClass) → Passed profile client server facts left answers → Ends left (pair_end class)
-    → (k : ℕ) → k ≡ left.index → (of : Class) → of ≡ class_of class → IsHeadline profile client server (No k of)
+pub octets-right : (profile : Profile) (client server : List ℕ) (facts : FactsKept) (left : Unpaired) (answers : ℕ)
+    (class : PairClass) → Passed profile client server facts left answers → Ends left (pair_end class)
+    → (k : ℕ) → k ≡ left.index → (of : Class) → of ≡ class_of class → IsOutcome profile client server (No k of)
 octets-right profile client server facts left answers class p ends k at of is =
     let place : length p.pairs ≡ k = sym (at ∙ index-counts client server p.pairs left p.before) in
-    subst (λ (x : ℕ × Class). IsHeadline profile client server (No x.0 x.1)) (λ i. (place i, sym is i))
-    (headline_at_octets profile client server p.pairs class (record { left = left; paired = p.before; ends = ends }) p.stands.permitted)
+    subst (λ (x : ℕ × Class). IsOutcome profile client server (No x.0 x.1)) (λ i. (place i, sym is i))
+    (outcome_at_octets profile client server p.pairs class (record { left = left; paired = p.before; ends = ends }) p.stands.permitted)
 
 -- limits of which the greatest numbers are one are one
 same-limit : (limit other : Limit) → greatest limit ≡ greatest other → limit ≡ other
@@ -181,12 +189,16 @@ limit-kept : (limit : Limit) (marks : Marks) (facts : FactsKept) (past : List Pa
 limit-kept limit marks facts past noted = same-limit facts.limit limit (ap (λ (p : Profile). p.limit) noted.profile_is)
 
 -- where no octet is left, and the spool is a witness of the exchanges that passed, it is a yes
-pub at-end : (limit : Limit) (marks : Marks) (client server : List ℕ) (facts : FactsKept) (left : Unpaired) (answers unanswered : ℕ) (L : LimitedSpool) → (p : Passed (profile_of limit marks) client server facts left answers) → Ends left (end unanswered)
+pub at-end : (limit : Limit) (marks : Marks) (client server : List ℕ) (facts : FactsKept) (left : Unpaired)
+    (answers unanswered : ℕ) (L : LimitedSpool) → (p : Passed (profile_of limit marks) client server facts left answers)
+    → Ends left (end unanswered)
     → IsWitnessWithin facts.limit (profile_of limit marks) p.pairs L → IsWritten L → IsYes limit marks client server L answers
 at-end limit marks client server facts left answers unanswered L p ends witness written =
     let profile = profile_of limit marks in
     let pairing : IsPairing client server p.pairs (end unanswered) = record { left = left; paired = p.before; ends = ends } in
-    let headline = subst (λ n. IsHeadline profile client server (Yes L.spool n)) (sym p.count) (headline_at_end profile client server p.pairs unanswered L.spool (pairs_size marks p.pairs p.stands.lines p.stands.few) pairing p.stands.permitted witness.0.given) in
+    let headline = subst (λ n. IsOutcome profile client server (Yes L.spool n)) (sym p.count)
+    (outcome_at_end profile client server p.pairs unanswered L.spool
+    (pairs_size marks p.pairs p.stands.lines p.stands.few) pairing p.stands.permitted witness.0.given) in
     record {
       limit_is = witness.1 ∙ limit-kept limit marks facts p.pairs p.stands;
       headline = headline;
@@ -201,7 +213,9 @@ told (Ok v) P j p ok = subst P (sym ok) p
 told (Err e) P j p ok = ok
 
 -- an exchange that isn't accepted, with what is shown of it, is a verdict
-pub refused : (limit : Limit) (marks : Marks) (client server : List ℕ) (old new : FactsKept) (left behind : Unpaired) (answers : ℕ) (x : Paired) (noted : Noted) (class : Class) → Passed (profile_of limit marks) client server old left answers → IsNext left x behind
+pub refused : (limit : Limit) (marks : Marks) (client server : List ℕ) (old new : FactsKept) (left behind : Unpaired)
+    (answers : ℕ) (x : Paired) (noted : Noted) (class : Class) → Passed (profile_of limit marks) client server old left answers
+    → IsNext left x behind
     → ((past : List Paired) → HasNoted (profile_of limit marks) old past → IsNoted (profile_of limit marks) past x old new noted) → Some class ≡ class_noted noted → (k : ℕ) → k ≡ x.index
     → (line : Option (List ℕ)) → line ≡ x.line → (initial : List ℕ) → initial ≡ x.initial → IsVerdict limit marks client server (bad k class (option_map shown line) (shown initial))
 refused limit marks client server old new left behind answers x noted class p next notes judged k at line line-is initial initial-is = record {
@@ -211,7 +225,9 @@ refused limit marks client server old new left behind answers x noted class p ne
 
 -- and so are octets that answer nothing
 pub stopped : (limit : Limit) (marks : Marks) (client server : List ℕ) (facts : FactsKept) (left : Unpaired) (answers index : ℕ) (class : PairClass) (line : Option (List ℕ)) (octets first : List ℕ)
-    → Passed (profile_of limit marks) client server facts left answers → StopsHere left index class line octets → (of : Class) → of ≡ class_of class → IsFirstLine octets first → IsVerdict limit marks client server (bad index of (option_map shown line) (shown first))
+    → Passed (profile_of limit marks) client server facts left answers → StopsHere left index class line octets → (of : Class)
+    → of ≡ class_of class → IsFirstLine octets first
+    → IsVerdict limit marks client server (bad index of (option_map shown line) (shown first))
 stopped limit marks client server facts left answers index class line octets first p stop of of-is is-first = record {
   headline = octets-right (profile_of limit marks) client server facts left answers class p stop.ends index stop.index_is of of-is;
   place = at-octets (profile_of limit marks) client server facts left answers index class line octets first p stop of of-is is-first;

@@ -23,7 +23,8 @@ joined ps = length (flat_map (octets_from Client) ps) + length (flat_map (octets
 one-joined : (p : Part) → length (octets_from Client p) + length (octets_from Server p) + length (octets_from Spool p) ≡ length p.octets
 one-joined p = by p.source p.octets
   where
-    by : (s : Source) (os : List ℕ) → (let q : Part = record { source = s; digits = []; octets = os } in length (octets_from Client q) + length (octets_from Server q) + length (octets_from Spool q) ≡ length os)
+    by : (s : Source) (os : List ℕ) → (let q : Part = record { source = s; digits = []; octets = os } in length
+        (octets_from Client q) + length (octets_from Server q) + length (octets_from Spool q) ≡ length os)
     by Client os = omega arith
     by Server os = omega arith
     by Spool os = omega arith
@@ -58,14 +59,17 @@ streams-few reader came client server spool r =
     let begun = begun-few reader.place h.octets h.begun h.at in
     let few = joined-few (h.parts ++ h.begun) in
     let whole : length came ≡ length (flat_map spelled h.parts) + length h.octets = ap length h.whole ∙ length-append (flat_map spelled h.parts) h.octets in
-    let all : length (flat_map spelled (h.parts ++ h.begun)) ≡ length (flat_map spelled h.parts) + length (flat_map spelled h.begun) = ap length (flat_map-append spelled h.parts h.begun) ∙ length-append (flat_map spelled h.parts) (flat_map spelled h.begun) in
+    let all : length (flat_map spelled (h.parts ++ h.begun)) ≡ length (flat_map spelled h.parts) + length
+    (flat_map spelled h.begun) = ap length (flat_map-append spelled h.parts h.begun)
+    ∙ length-append (flat_map spelled h.parts) (flat_map spelled h.begun) in
     let of-client : length client ≡ length (flat_map (octets_from Client) (h.parts ++ h.begun)) = ap length h.from_client in
     let of-server : length server ≡ length (flat_map (octets_from Server) (h.parts ++ h.begun)) = ap length h.from_server in
     let of-spool : length spool ≡ length (flat_map (octets_from Spool) (h.parts ++ h.begun)) = ap length h.from_spool in
     omega arith
 
 -- so a sink has room for a front of what fits
-pub has-room : (reader : CaptureReader) (HasNoted : List ℕ → List ℕ → List ℕ → Type 0) (came octets front rest : List ℕ) → BothStand reader HasNoted came → length came + length octets < 2 ^ 64 → octets ≡ front ++ rest → HasRoom HasNoted front
+pub has-room : (reader : CaptureReader) (HasNoted : List ℕ → List ℕ → List ℕ → Type 0) (came octets front rest : List ℕ)
+    → BothStand reader HasNoted came → length came + length octets < 2 ^ 64 → octets ≡ front ++ rest → HasRoom HasNoted front
 has-room reader HasNoted came octets front rest both few cut =
     let streams = streams-few reader came both.0 both.1 both.2 both.3 in
     let all : length octets ≡ length front + length rest = ap length cut ∙ length-append front rest in
@@ -74,7 +78,8 @@ has-room reader HasNoted came octets front rest both few cut =
 -- ---- octets that are passed on
 
 -- octets of a source
-pub passed-source : (before after : CaptureReader) (Stood HasNoted : List ℕ → List ℕ → List ℕ → Type 0) (source : Source) (taken : Option Source) (octets front rest : List ℕ) → taken ≡ Some source → octets ≡ front ++ rest
+pub passed-source : (before after : CaptureReader) (Stood HasNoted : List ℕ → List ℕ → List ℕ → Type 0) (source : Source)
+    (taken : Option Source) (octets front rest : List ℕ) → taken ≡ Some source → octets ≡ front ++ rest
     → Reads before after taken front → Takes Stood HasNoted source front → PassesOn before after Stood HasNoted octets rest
 passed-source before after Stood HasNoted source taken octets front rest is cut reads takes =
     let read = subst (λ (t : Option Source). Reads before after t front) is reads in
@@ -113,7 +118,9 @@ passed-none reader HasNoted octets = record {
 }
 
 -- one after the other
-pub passed-more : (before between after : CaptureReader) (Stood Standing HasNoted : List ℕ → List ℕ → List ℕ → Type 0) (octets left rest : List ℕ) → PassesOn before between Stood Standing octets left → PassesOn between after Standing HasNoted left rest
+pub passed-more : (before between after : CaptureReader) (Stood Standing HasNoted : List ℕ → List ℕ → List ℕ → Type 0)
+    (octets left rest : List ℕ) → PassesOn before between Stood Standing octets left
+    → PassesOn between after Standing HasNoted left rest
     → PassesOn before after Stood HasNoted octets rest
 passed-more before between after Stood Standing HasNoted octets left rest p q = record {
   front = p.front ++ q.front;
@@ -122,7 +129,8 @@ passed-more before between after Stood Standing HasNoted octets left rest p q = 
 }
 
 -- what is left has room where all had
-pub left-room : (before after : CaptureReader) (Stood HasNoted : List ℕ → List ℕ → List ℕ → Type 0) (octets rest came : List ℕ) → PassesOn before after Stood HasNoted octets rest → BothStand before Stood came → length came + length octets < 2 ^ 64
+pub left-room : (before after : CaptureReader) (Stood HasNoted : List ℕ → List ℕ → List ℕ → Type 0) (octets rest came : List ℕ)
+    → PassesOn before after Stood HasNoted octets rest → BothStand before Stood came → length came + length octets < 2 ^ 64
     → (more : List ℕ) × BothStand after HasNoted more × (length more + length rest < 2 ^ 64)
 left-room before after Stood HasNoted octets rest came p both few =
     let all : length octets ≡ length p.front + length rest = ap length p.cut ∙ length-append p.front rest in

@@ -1,5 +1,7 @@
 -- How a reader of a capture goes on, octet by octet.
-use Rattle.std.proofs.Common.{◌≡◌, ◌≢◌, ◌⊎◌, ◌∙◌, ℕ, ◌+◌, ◌*◌, ◌-◌, ◌<◌, ◌≤◌, ◌^◌, true, List, [], ◌∷◌, ◌++◌, Some, length, take, drop, get_or, nat_lt, nat_le, inl, inr, refl, sym, ap, subst, append_assoc, arith, length-append, flat_map}
+use Rattle.std.proofs.Common.{◌≡◌, ◌≢◌, ◌⊎◌, ◌∙◌, ℕ, ◌+◌, ◌*◌, ◌-◌, ◌<◌, ◌≤◌, ◌^◌, true, List, [], ◌∷◌, ◌++◌, Some, length}
+use Rattle.std.proofs.Common.{take, drop, get_or, nat_lt, nat_le, inl, inr, refl, sym, ap, subst, append_assoc, arith}
+use Rattle.std.proofs.Common.{length-append, flat_map}
 use Rattle.std.proofs.lemmas.List.{append-nil, append_cancel_left}
 use Rattle.std.proofs.lemmas.Bool.{cases_Bool, and_parts, true≢false}
 use Rattle.std.specs.List.{list_all}
@@ -53,7 +55,8 @@ from-none s (p ∷ ps) e =
     ap (λ t. t ++ flat_map (octets_from s) ps) first ∙ from-none s ps both.1
 
 -- a stream stays as it is
-stream-stays : (s : Source) (parts begun next : List Part) (stream : List ℕ) → begun ≡ [] → flat_map (λ p. p.octets) next ≡ [] → stream ≡ flat_map (octets_from s) (parts ++ begun) → stream ++ [] ≡ flat_map (octets_from s) (parts ++ next)
+stream-stays : (s : Source) (parts begun next : List Part) (stream : List ℕ) → begun ≡ [] → flat_map (λ p. p.octets) next ≡ []
+    → stream ≡ flat_map (octets_from s) (parts ++ begun) → stream ++ [] ≡ flat_map (octets_from s) (parts ++ next)
 stream-stays s parts begun next stream none also e =
     append-nil stream ∙ e ∙ ap (λ b. flat_map (octets_from s) (parts ++ b)) none ∙ flat_map-append (octets_from s) parts []
     ∙ ap (λ t. flat_map (octets_from s) parts ++ t) (sym (from-none s next also)) ∙ sym (flat_map-append (octets_from s) parts next)
@@ -92,7 +95,8 @@ not-nil [] x ys e = cc
 not-nil (z ∷ xs) x ys e = cc
 
 -- or none
-pub cant-go-on : (number octet : ℕ) (place : Place) (came client server spool octets rest : List ℕ) → IsInLine place → HasCome number place came client server spool → CantGoOn place octet → octets ≡ (octet ∷ []) ++ rest
+pub cant-go-on : (number octet : ℕ) (place : Place) (came client server spool octets rest : List ℕ) → IsInLine place
+    → HasCome number place came client server spool → CantGoOn place octet → octets ≡ (octet ∷ []) ++ rest
     → HasBadFront came octets number
 cant-go-on number octet place came client server spool octets rest line h cant cut =
     let none = none-begun place h.octets h.begun line h.at in
@@ -129,7 +133,8 @@ stream-grows s source parts begun p stream front begun-is source-is e =
     ∙ sym (flat_map-snoc (octets_from s) parts (record p { octets = p.octets ++ front }))
 
 -- some of the octets that are to come
-pub octets-come : (number left : ℕ) (source : Source) (came client server spool front : List ℕ) (behind : ℕ) → HasCome number (places.Octets source left) came client server spool → behind + length front ≡ left
+pub octets-come : (number left : ℕ) (source : Source) (came client server spool front : List ℕ) (behind : ℕ)
+    → HasCome number (places.Octets source left) came client server spool → behind + length front ≡ left
     → HasCome number (places.Octets source behind) (came ++ front) (client ++ given Client source front) (server ++ given Server source front) (spool ++ given Spool source front)
 octets-come number left source came client server spool front behind h many =
     let at = h.at in
@@ -173,12 +178,15 @@ pieces-few (p ∷ ps) =
     omega arith
 
 -- and the number of a piece that has begun fits
-pub number-fits : (number left : ℕ) (source : Source) (place : Place) (came client server spool : List ℕ) → place ≡ places.Octets source left → HasCome number place came client server spool → number + number ≤ length came
+pub number-fits : (number left : ℕ) (source : Source) (place : Place) (came client server spool : List ℕ)
+    → place ≡ places.Octets source left → HasCome number place came client server spool → number + number ≤ length came
 number-fits number left source place came client server spool is of-place =
     let h = subst (λ (p : Place). HasCome number p came client server spool) is of-place in
     let behind = pieces-few h.parts in
     let first = spelled-longer h.at.piece in
-    let all : length came ≡ length (flat_map spelled h.parts) + length (spelled h.at.piece) = ap length (h.whole ∙ ap (λ t. flat_map spelled h.parts ++ t) h.at.whole) ∙ length-append (flat_map spelled h.parts) (spelled h.at.piece) in
+    let all : length came ≡ length (flat_map spelled h.parts) + length (spelled h.at.piece) = ap length
+    (h.whole ∙ ap (λ t. flat_map spelled h.parts ++ t) h.at.whole)
+    ∙ length-append (flat_map spelled h.parts) (spelled h.at.piece) in
     let is = h.number_is in
     omega arith
 
@@ -245,7 +253,9 @@ some-octets : (place : Place) (octets : List ℕ) (begun : List Part) → IsAt p
 some-octets places.Start octets begun at other e = other refl
 some-octets places.LetterS octets begun at other e = let is : ◌≡◌ {A = List ℕ} (115 ∷ []) [] = sym at.0 ∙ e in cc
 some-octets (places.Word source rest) octets begun at other e =
-    absurd (two-sources (at.0.one Client (word_of Client) [] (ap (λ t. t ++ word_of Client) e ∙ sym (append-nil (word_of Client))) ∙ sym (at.0.one Server (word_of Server) [] (ap (λ t. t ++ word_of Server) e ∙ sym (append-nil (word_of Server))))))
+    absurd (two-sources (at.0.one Client (word_of Client) []
+    (ap (λ t. t ++ word_of Client) e ∙ sym (append-nil (word_of Client)))
+    ∙ sym (at.0.one Server (word_of Server) [] (ap (λ t. t ++ word_of Server) e ∙ sym (append-nil (word_of Server))))))
 some-octets (places.Digits source many value) octets begun at other e =
     let whole : word_of source ++ at.0.digits ≡ [] = sym at.0.whole ∙ e in
     by source at.0.digits whole
@@ -345,7 +355,9 @@ digits-then (b ∷ ds) (d ∷ es) c x y h i e =
 pub no-digit : (line : List ℕ) (source : Source) (many value octet : ℕ) → IsInDigits line source many value → (octet ≡ 10 → many ≡ 0) → (is_ascii_digit octet ≡ true → 10 ≤ many)
     → (more : List ℕ) → BeginsNoPiece (line ++ octet ∷ more)
 no-digit line source many value octet h none full more p after is e =
-    let word = one_word source p.source (h.digits ++ octet ∷ more) (p.digits ++ 10 ∷ (p.octets ++ after)) (sym (append_assoc (word_of source) h.digits (octet ∷ more)) ∙ ap (λ t. t ++ octet ∷ more) (sym h.whole) ∙ e ∙ spelled-append p after) in
+    let word = one_word source p.source (h.digits ++ octet ∷ more) (p.digits ++ 10 ∷ (p.octets ++ after))
+    (sym (append_assoc (word_of source) h.digits (octet ∷ more)) ∙ ap (λ t. t ++ octet ∷ more) (sym h.whole) ∙ e
+    ∙ spelled-append p after) in
     let few = counted-few p.digits (length p.octets) is in
     let many-is = h.many_is in
     elim (digits-then h.digits p.digits octet more (p.octets ++ after) h.each (counted p.digits (length p.octets) is) word.1) [
@@ -356,7 +368,8 @@ no-digit line source many value octet h none full more p after is e =
 -- ---- letters
 
 -- no piece goes on with another letter
-pub no-letter : (line rest : List ℕ) (source : Source) (letter octet : ℕ) (behind : List ℕ) → IsInWord line rest source → rest ≡ letter ∷ behind → octet ≢ letter → (more : List ℕ) → BeginsNoPiece (line ++ octet ∷ more)
+pub no-letter : (line rest : List ℕ) (source : Source) (letter octet : ℕ) (behind : List ℕ) → IsInWord line rest source
+    → rest ≡ letter ∷ behind → octet ≢ letter → (more : List ℕ) → BeginsNoPiece (line ++ octet ∷ more)
 no-letter line rest source letter octet behind h is other more p after piece e =
     let same = h.one p.source (octet ∷ more) (p.digits ++ 10 ∷ (p.octets ++ after)) (e ∙ spelled-append p after) in
     let text : line ++ (octet ∷ more) ≡ line ++ (letter ∷ (behind ++ (p.digits ++ 10 ∷ (p.octets ++ after)))) =

@@ -3,7 +3,7 @@ use Rattle.std.proofs.Common.{◌≡◌, ◌∙◌, sym, subst, ℕ, Bool, List,
 use Rattle.std.proofs.lemmas.List.{append-nil}
 use Rattle.std.specs.Io.KnownBytes.{Appends}
 use Rattle.nntp_wire.specs.declared.marks.Marks.{Marks}
-use Rattle.nntp_article.specs.Limit.{profile_of}
+use Rattle.nntp_article.specs.Session.Limit.{profile_of}
 use Rattle.nntp_spool.specs.Limited.{LimitedSpool, IsWithinLimit}
 use Rattle.nntp_spool.specs.Faults.{IsFault, IsFirstFault}
 use Rattle.nntp_spool.specs.Text.{spool_text}
@@ -20,7 +20,9 @@ use Rattle.nntp_check.specs.Run.{Input, Output, ReadsCapture, ReadsNoSpool, Veri
 pub wrote-all : (old new : Option (List ℕ)) (octets lent : List ℕ) → lent ≡ octets → Wrote old new lent [] → Appends old new octets
 wrote-all old new octets lent is w = subst (λ (front : List ℕ). Appends old new front) (sym (append-nil w.0) ∙ sym w.1 ∙ is) w.2
 
-pub verify-reports : (marks : Marks) (L : LimitedSpool) → IsWithinLimit L → (client server spool lent_client lent_server lent_spool : List ℕ) → lent_client ≡ client → lent_server ≡ server → lent_spool ≡ spool
+pub verify-reports : (marks : Marks) (L : LimitedSpool) → IsWithinLimit L
+    → (client server spool lent_client lent_server lent_spool : List ℕ) → lent_client ≡ client → lent_server ≡ server
+    → lent_spool ≡ spool
     → lent_spool ≡ spool_text L → (verified : Verified) → IsVerified (profile_of L.limit marks) L.spool lent_client lent_server verified
     → (text : List ℕ) → text ≡ verified_report verified → (answer : Bool) → answer ≡ is_permitted verified
     → VerifyReports marks client server spool text answer

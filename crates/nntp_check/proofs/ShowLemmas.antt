@@ -40,7 +40,9 @@ no-next fed peek.Failed is works none = absurd (true≢false (sym is ∙ works))
 
 -- one exchange more is shown
 pub one-more : (fed new : Fed) (answers : ℕ) (text shown : List ℕ) (x : Paired) (behind : Unpaired) (client server : List ℕ) → IsShown fed answers text client server → IsNext (left_of fed) x behind
-    → ((pairs : List Paired) → IsFed fed client server pairs → IsFed new client server (pairs ++ x ∷ [])) → new.has_failed ≡ fed.has_failed → shown ≡ text ++ exchange_text x → (k : ℕ) → k ≡ x.index → IsShown new (k + 1) shown client server
+    → ((pairs : List Paired) → IsFed fed client server pairs → IsFed new client server (pairs ++ x ∷ []))
+    → new.has_failed ≡ fed.has_failed → shown ≡ text ++ exchange_text x → (k : ℕ) → k ≡ x.index
+    → IsShown new (k + 1) shown client server
 one-more fed new answers text shown x behind client server p next feeds works more k at = record {
   pairs = p.pairs ++ x ∷ [];
   fed_is = feeds p.pairs p.fed_is;
@@ -50,7 +52,8 @@ one-more fed new answers text shown x behind client server p next feeds works mo
 }
 
 -- behind the last one the ending is shown
-pub at-ending : (fed : Fed) (answers : ℕ) (text shown client server : List ℕ) (ending : Ending) → IsShown fed answers text client server → Ends (left_of fed) ending → shown ≡ text ++ ending_line answers ending
+pub at-ending : (fed : Fed) (answers : ℕ) (text shown client server : List ℕ) (ending : Ending)
+    → IsShown fed answers text client server → Ends (left_of fed) ending → shown ≡ text ++ ending_line answers ending
     → (spool : List ℕ) → ShowReports client server spool shown (is_end ending)
 at-ending fed answers text shown client server ending p ends more spool = record {
   pairs = p.pairs;

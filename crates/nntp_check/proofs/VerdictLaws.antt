@@ -7,14 +7,14 @@ use Rattle.nntp_wire.specs.declared.marks.Marks.{Marks}
 use Rattle.nntp_wire.specs.Lines.{HasNoCrlf}
 use Rattle.memchr.specs.Find.{OccursAt}
 use Rattle.nntp_wire.proofs.FrameLemmas.{one_line, occurs-behind}
-use Rattle.nntp_article.specs.Explains.{Explains}
-use Rattle.nntp_article.specs.Limit.{profile_of}
-use Rattle.nntp_article.specs.Spool.{Spool}
+use Rattle.nntp_article.specs.Session.Explains.{Explains}
+use Rattle.nntp_article.specs.Session.Limit.{profile_of}
+use Rattle.nntp_article.specs.Session.Spool.{Spool}
 use Rattle.nntp_pair.specs.Pairing.{Paired, Unpaired, AreNext, line_ahead, streams}
 use Rattle.nntp_pair.proofs.NextLemmas.{one-next}
 use Rattle.nntp_facts.specs.declared.class.Class.{Class}
-use Rattle.nntp_facts.specs.Headline.{Headline, Yes, No}
-use Rattle.nntp_facts.proofs.Headlines.{one_headline, yes_explained}
+use Rattle.nntp_facts.specs.Outcome.{Outcome, Yes, No}
+use Rattle.nntp_facts.proofs.Streams.OneOutcome.{one_headline, yes_explained}
 use Rattle.nntp_spool.specs.Limited.{LimitedSpool}
 use Rattle.nntp_check.specs.Judging.{IsFirstLine, StopsAt, IsVerdict, shown}
 use Rattle.nntp_check.specs.Verdict.{Judgement, consistent, bad, is_consistent}
@@ -41,7 +41,8 @@ one-first octets l m (p, inr (r, e)) (q, inl f) = absurd (no-line octets l r (su
 one-first octets l m (p, inr (r, e)) (q, inr (t, f)) = (one_line l m r t p q (sym e ∙ f)).0
 
 -- a place shows one command and one reply
-one-place : (client server : List ℕ) (k : ℕ) (class other : Class) (command also : Option (List ℕ)) (reply again : List ℕ) → StopsAt client server k class command reply → StopsAt client server k other also again
+one-place : (client server : List ℕ) (k : ℕ) (class other : Class) (command also : Option (List ℕ)) (reply again : List ℕ)
+    → StopsAt client server k class command reply → StopsAt client server k other also again
     → (command ≡ also) × (reply ≡ again)
 one-place client server k class other command also reply again x y =
     let left = same-left x.pairs y.pairs (streams client server) x.left y.left (sym x.place ∙ y.place) x.before y.before in
@@ -49,7 +50,7 @@ one-place client server k class other command also reply again x y =
     (x.command_is ∙ ap (λ (u : Unpaired). option_map shown (line_ahead u.places)) left ∙ sym y.command_is, x.reply_is ∙ ap shown line ∙ sym y.reply_is)
 
 -- a verdict is one by its limit, its headline, and by what is shown at its place
-abbrev with-place : Limit → Headline → Option (List ℕ) → List ℕ → Judgement
+abbrev with-place : Limit → Outcome → Option (List ℕ) → List ℕ → Judgement
 with-place limit (Yes S n) command reply = consistent (record { limit = limit; spool = S }) n
 with-place limit (No k class) command reply = bad k class command reply
 
@@ -60,9 +61,13 @@ own-limit limit L n is = ap (λ l. consistent (record { limit = l; spool = L.spo
 -- two streams have one verdict
 pub one-verdict : (limit : Limit) (marks : Marks) (client server : List ℕ) (j l : Judgement) → IsVerdict limit marks client server j → IsVerdict limit marks client server l → j ≡ l
 one-verdict limit marks client server (consistent K n) (consistent L m) x y =
-    own-limit limit K n x.limit_is ∙ ap (λ h. with-place limit h None []) (one_headline (profile_of limit marks) client server (Yes K.spool n) (Yes L.spool m) x.headline y.headline) ∙ sym (own-limit limit L m y.limit_is)
-one-verdict limit marks client server (consistent L n) (bad k class command reply) x y = let e = one_headline (profile_of limit marks) client server (Yes L.spool n) (No k class) x.headline y.headline in cc
-one-verdict limit marks client server (bad k class command reply) (consistent L n) x y = let e = one_headline (profile_of limit marks) client server (No k class) (Yes L.spool n) x.headline y.headline in cc
+    own-limit limit K n x.limit_is ∙ ap (λ h. with-place limit h None [])
+    (one_headline (profile_of limit marks) client server (Yes K.spool n) (Yes L.spool m) x.headline y.headline)
+    ∙ sym (own-limit limit L m y.limit_is)
+one-verdict limit marks client server (consistent L n) (bad k class command reply) x y = let e = one_headline
+    (profile_of limit marks) client server (Yes L.spool n) (No k class) x.headline y.headline in cc
+one-verdict limit marks client server (bad k class command reply) (consistent L n) x y = let e = one_headline
+    (profile_of limit marks) client server (No k class) (Yes L.spool n) x.headline y.headline in cc
 one-verdict limit marks client server (bad k c command reply) (bad j d also again) x y =
     let e = one_headline (profile_of limit marks) client server (No k c) (No j d) x.headline y.headline in
     let place : k ≡ j = cc in
@@ -70,6 +75,8 @@ one-verdict limit marks client server (bad k c command reply) (bad j d also agai
     λ i. with-place limit (e i) (shown.0 i) (shown.1 i)
 
 -- a verdict is a yes exactly if some spool explains the streams
-pub yes-if-explained : (limit : Limit) (marks : Marks) (client server : List ℕ) (j : Judgement) → IsVerdict limit marks client server j → IsTrue (is_consistent j) ↔ ((S : Spool) × (n : ℕ) × Explains (profile_of limit marks) S client server n)
+pub yes-if-explained : (limit : Limit) (marks : Marks) (client server : List ℕ) (j : Judgement)
+    → IsVerdict limit marks client server j → IsTrue (is_consistent j)
+    ↔ ((S : Spool) × (n : ℕ) × Explains (profile_of limit marks) S client server n)
 yes-if-explained limit marks client server (consistent L n) x = yes_explained (profile_of limit marks) client server (Yes L.spool n) x.headline
 yes-if-explained limit marks client server (bad k class command reply) x = yes_explained (profile_of limit marks) client server (No k class) x.headline

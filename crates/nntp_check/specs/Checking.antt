@@ -2,18 +2,19 @@
 use Rattle.std.specs.Prelude.{◌≡◌, ℕ, Bool, true, false, List, ◌++◌, length, Option, None, Some, MatchOption}
 use Rattle.nntp_wire.specs.declared.limit.Limit.{Limit}
 use Rattle.nntp_wire.specs.declared.marks.Marks.{Marks}
-use Rattle.nntp_article.specs.Limit.{profile_of}
-use Rattle.nntp_article.specs.declared.profile.Profile.{Profile}
+use Rattle.nntp_article.specs.Session.Limit.{profile_of}
+use Rattle.nntp_article.specs.declared.session.profile.Profile.{Profile}
 use Rattle.nntp_pair.specs.Pairing.{Paired}
 use Rattle.nntp_pair.specs.Feeding.{Fed, IsFed, HasNext, left_of}
 use Rattle.nntp_facts.specs.declared.class.Class.{Class}
 use Rattle.nntp_facts.specs.Classes.{IsSettled}
-use Rattle.nntp_facts.specs.Headline.{No, IsHeadline}
+use Rattle.nntp_facts.specs.Outcome.{No, IsOutcome}
 use Rattle.nntp_facts.specs.Noted.{FactsKept, HasNoted, profile_kept}
 use Rattle.nntp_check.specs.Judging.{IsVerdict, IsNoForGood}
 use Rattle.nntp_check.specs.Verdict.{Judgement, consistent, bad}
 
--- what a checker holds: the facts of the exchanges that passed, and what has come behind them; or the judgement, once no octet can change it, and how many octets came of each stream; or that memory was refused
+-- what a checker holds: the facts of the exchanges that passed, and what has come behind them; or the judgement, once
+-- no octet can change it, and how many octets came of each stream; or that memory was refused
 pub data Checked : Type 0 where
   judging : (facts : FactsKept) → (fed : Fed) → Checked
   decided : (judgement : Judgement) → (of_client of_server : ℕ) → Checked
@@ -77,7 +78,7 @@ StandsFor limit marks failed client server = ⊥
 
 -- the answer is bad, of its class, and no octets that follow change that
 abbrev pub IsBadForGood : Profile → List ℕ → List ℕ → ℕ → Class → Type 0
-IsBadForGood profile client server answer class = IsHeadline profile client server (No answer class) × IsSettled client server answer class
+IsBadForGood profile client server answer class = IsOutcome profile client server (No answer class) × IsSettled client server answer class
 
 -- what is told of the octets that came: the answer that is bad for good, if there is one
 abbrev pub IsToldBad : Profile → List ℕ → List ℕ → Option (ℕ × Class) → Type 0

@@ -13,10 +13,10 @@ use Rattle.nntp_facts.specs.declared.class.Class.{Class}
 use Rattle.nntp_facts.specs.declared.class.Class.TheVariants.{Surplus, Cut, Malformed, OutOfPlace, Contradiction}
 use Rattle.nntp_facts.specs.declared.noted.Noted.{Noted}
 use Rattle.nntp_facts.specs.declared.noted.Noted.TheVariants as noted
-use Rattle.nntp_facts.specs.Headline.{Yes, No, IsHeadline}
+use Rattle.nntp_facts.specs.Outcome.{Yes, No, IsOutcome}
 use Rattle.nntp_facts.specs.Noted.{FactsKept, HasNoted}
-use Rattle.nntp_article.specs.declared.profile.Profile.{Profile}
-use Rattle.nntp_article.specs.Limit.{profile_of}
+use Rattle.nntp_article.specs.declared.session.profile.Profile.{Profile}
+use Rattle.nntp_article.specs.Session.Limit.{profile_of}
 use Rattle.nntp_spool.specs.Limited.{LimitedSpool}
 use Rattle.nntp_spool.specs.Reading.{spool_at}
 use Rattle.nntp_spool.specs.Text.{spool_text}
@@ -71,17 +71,18 @@ pub record IsAnsweredThroughout (client server : List ℕ) (answers : ℕ) : Typ
   pub pairing : IsPairing client server pairs (end unanswered)
   pub count : answers ≡ length pairs
 
--- a yes of both streams: the spool has the limit, and is their least explanation, of so many answers, at which their pairing ends; it is read back from its text; and `verify` answers nothing of it but that it permits them
+-- a yes of both streams: the spool has the limit, and is their least explanation, of so many answers, at which their
+-- pairing ends; it is read back from its text; and `verify` answers nothing of it but that it permits them
 pub record IsYes (limit : Limit) (marks : Marks) (client server : List ℕ) (L : LimitedSpool) (answers : ℕ) : Type 0 where
   pub limit_is : L.limit ≡ limit
-  pub headline : IsHeadline (profile_of limit marks) client server (Yes L.spool answers)
+  pub headline : IsOutcome (profile_of limit marks) client server (Yes L.spool answers)
   pub throughout : IsAnsweredThroughout client server answers
   pub read_back : spool_at (spool_text L) ≡ Ok L
   pub permits : (verified : Verified) → IsVerified (profile_of limit marks) L.spool client server verified → verified ≡ Permits answers
 
 -- a no: the answer is the bad one, of its class, and the command and the reply are those at its place
 pub record IsNo (profile : Profile) (client server : List ℕ) (answer : ℕ) (class : Class) (command : Option (List ℕ)) (reply : List ℕ) : Type 0 where
-  pub headline : IsHeadline profile client server (No answer class)
+  pub headline : IsOutcome profile client server (No answer class)
   pub place : StopsAt client server answer class command reply
 
 -- what a verdict says of both streams is so, where article numbers are within the limit, and marks are read so

@@ -5,7 +5,7 @@ use Rattle.nntp_wire.specs.declared.limit.Limit.{Limit}
 use Rattle.nntp_wire.specs.declared.marks.Marks.{Marks}
 use Rattle.nntp_pair.specs.Pairing.{Paired, Ending, IsPairing}
 use Rattle.nntp_spool.specs.Faults.{IsFirstFault}
-use Rattle.nntp_article.specs.Limit.{profile_of}
+use Rattle.nntp_article.specs.Session.Limit.{profile_of}
 use Rattle.nntp_spool.specs.Limited.{LimitedSpool, IsWithinLimit}
 use Rattle.nntp_spool.specs.Text.{spool_text}
 use Rattle.nntp_spool.specs.Verifying.{IsVerified}

@@ -3,10 +3,10 @@ use Rattle.std.specs.Prelude.{ℕ, Bool, true, false, ◌==◌, ◌||◌, if◌t
 use Rattle.std.specs.List.{flat_map, list_any}
 use Rattle.nntp_wire.specs.Answer.{Response, group_is, numbers_are, sends, active_are, plain}
 use Rattle.nntp_pair.specs.Pairing.{Paired, Ending, end, bad}
-use Rattle.nntp_article.specs.Article.{Line, is_empty, is_head, head_part}
-use Rattle.nntp_article.specs.Control.{ControlValue, cancel, new_group, rm_group, other, controls_of}
-use Rattle.nntp_article.specs.Required.{missing_of}
-use Rattle.nntp_article.specs.declared.missing_headers.Missing.{Missing}
+use Rattle.nntp_article.specs.Article.Parts.{Line, is_empty, is_head, head_part}
+use Rattle.nntp_article.specs.Article.Control.{ControlValue, cancel, new_group, rm_group, other, controls_of}
+use Rattle.nntp_article.specs.Article.Required.{missing_of}
+use Rattle.nntp_article.specs.declared.article.missing_headers.Missing.{Missing}
 use Rattle.nntp_facts.specs.Classes.{class_of}
 use Rattle.nntp_check.specs.Report.{escaped, bad_line}
 

@@ -4,7 +4,7 @@ use Rattle.std.specs.List.{flat_map}
 use Rattle.nntp_pair.specs.Pairing.{Paired}
 use Rattle.nntp_pair.specs.Feeding.{Fed, IsFed, HasNext, left_of}
 use Rattle.nntp_check.specs.Show.{exchange_text}
-use Rattle.nntp_check.specs.declared.shower.Shower.{Shower}
+use Rattle.nntp_check.specs.declared.session_printer.SessionPrinter.{SessionPrinter}
 
 -- these octets of both streams came, so many exchanges of them have passed, and the text shows these
 pub record IsShown (fed : Fed) (answers : ℕ) (text client server : List ℕ) : Type 0 where
@@ -14,10 +14,10 @@ pub record IsShown (fed : Fed) (answers : ℕ) (text client server : List ℕ) :
   pub count : answers ≡ length pairs
   pub text_is : text ≡ flat_map exchange_text pairs
 
--- a shower shows exchanges of these octets
-abbrev pub Shows : {A : Type 0} → Shower A → List ℕ → List ℕ → Type 0
-Shows shower client server = IsShown shower.feed shower.answers shower.text.items client server
+-- the printer shows exchanges of these octets
+abbrev pub Shows : {A : Type 0} → SessionPrinter A → List ℕ → List ℕ → Type 0
+Shows printer client server = IsShown printer.feed printer.answers printer.text.items client server
 
 -- and it shows all that are whole
-abbrev pub ShowsWhole : {A : Type 0} → Shower A → List ℕ → List ℕ → Type 0
-ShowsWhole shower client server = Shows shower client server × (¬ (HasNext (left_of shower.feed)))
+abbrev pub ShowsWhole : {A : Type 0} → SessionPrinter A → List ℕ → List ℕ → Type 0
+ShowsWhole printer client server = Shows printer client server × (¬ (HasNext (left_of printer.feed)))

@@ -1,7 +1,7 @@
 //! The verdict on two streams as they come, in pieces.
 ghost use Rattle.std.specs.Prelude.{◌≡◌, ◌≢◌, ◌↔◌, ◌≤◌, ◌<◌, ◌^◌, ◌+◌, ◌++◌, [], ℕ, List, false, true, None, length, nat_le, IfOk, OnOk, IsErrOf, MatchResult};
-ghost use Rattle.nntp_article.specs.Limit.{profile_of};
-ghost use Rattle.nntp_article.specs.declared.profile.Profile.{Profile};
+ghost use Rattle.nntp_article.specs.Session.Limit.{profile_of};
+ghost use Rattle.nntp_article.specs.declared.session.profile.Profile.{Profile};
 ghost use Rattle.nntp_check.specs.Checking.{Keeps, HasPassed, StandsFor, IsToldBad, decided, told_bad, has_failed, client_count, server_count};
 ghost use Rattle.nntp_check.specs.CheckerView.{checked, of_state};
 ghost use Rattle.nntp_check.specs.Judging.{IsVerdict};
@@ -72,7 +72,9 @@ impl<A: Allocator + Copy> Checker<A> {
 
     /// Takes the next octets of the client's stream, and judges the answers that are whole then.
     pub fn feed_client(&mut self, piece: &[u8]) -> Result<(), CheckError>
-        ensures fed { OnOk result ((limit : Limit) (marks : Marks) (client server : List ℕ) → StandsFor limit marks (checked self.old) client server → StandsFor limit marks (checked self.new) (client ++ piece.now) server) }
+        ensures fed { OnOk result ((limit : Limit) (marks : Marks) (client server : List ℕ)
+            → StandsFor limit marks (checked self.old) client server
+            → StandsFor limit marks (checked self.new) (client ++ piece.now) server) }
         ensures failed { IsErrOf result CheckError.Failed ↔ (has_failed (checked self.old) ≡ true) }
         ensures too_long { IsErrOf result CheckError.TooLong ↔ ((has_failed (checked self.old) ≡ false) × (2 ^ 64 ≤ client_count (checked self.old) + length piece.now)) }
         ensures memory { IsErrOf result CheckError.Memory → has_failed (checked self.new) ≡ true }
@@ -93,7 +95,9 @@ impl<A: Allocator + Copy> Checker<A> {
 
     /// Takes the next octets of the server's stream, and judges the answers that are whole then.
     pub fn feed_server(&mut self, piece: &[u8]) -> Result<(), CheckError>
-        ensures fed { OnOk result ((limit : Limit) (marks : Marks) (client server : List ℕ) → StandsFor limit marks (checked self.old) client server → StandsFor limit marks (checked self.new) client (server ++ piece.now)) }
+        ensures fed { OnOk result ((limit : Limit) (marks : Marks) (client server : List ℕ)
+            → StandsFor limit marks (checked self.old) client server
+            → StandsFor limit marks (checked self.new) client (server ++ piece.now)) }
         ensures failed { IsErrOf result CheckError.Failed ↔ (has_failed (checked self.old) ≡ true) }
         ensures too_long { IsErrOf result CheckError.TooLong ↔ ((has_failed (checked self.old) ≡ false) × (2 ^ 64 ≤ server_count (checked self.old) + length piece.now)) }
         ensures memory { IsErrOf result CheckError.Memory → has_failed (checked self.new) ≡ true }
@@ -114,7 +118,8 @@ impl<A: Allocator + Copy> Checker<A> {
 
     /// The verdict on the octets that came, as [`check`](crate::check) gives it of the joined pieces.
     pub fn finish(self) -> Result<Verdict<A>, CheckError>
-        ensures verdict { IfOk result (λ verdict. (limit : Limit) (marks : Marks) (client server : List ℕ) → StandsFor limit marks (checked self) client server → IsVerdict limit marks client server (verdict_shown verdict)) }
+        ensures verdict { IfOk result (λ verdict. (limit : Limit) (marks : Marks) (client server : List ℕ)
+            → StandsFor limit marks (checked self) client server → IsVerdict limit marks client server (verdict_shown verdict)) }
         ensures failed { IsErrOf result CheckError.Failed ↔ (has_failed (checked self) ≡ true) }
         ensures not_too_long { ¬ (IsErrOf result CheckError.TooLong) }
     {
@@ -181,7 +186,9 @@ impl<A: Allocator + Copy> State<A> {
     fn with_client(self, piece: &[u8]) -> Result<State<A>, AllocError>
         requires whole { has_failed (of_state self) ≡ false }
         requires room { client_count (of_state self) + length piece.now < 2 ^ 64 }
-        ensures { IfOk result (λ state. (limit : Limit) (marks : Marks) (client server : List ℕ) → StandsFor limit marks (of_state self) client server → StandsFor limit marks (of_state state) (client ++ piece.now) server) }
+        ensures { IfOk result (λ state. (limit : Limit) (marks : Marks) (client server : List ℕ)
+            → StandsFor limit marks (of_state self) client server
+            → StandsFor limit marks (of_state state) (client ++ piece.now) server) }
     {
         match self {
             State::Judging(ongoing) => ongoing.with_client(piece),
@@ -202,7 +209,9 @@ impl<A: Allocator + Copy> State<A> {
     fn with_server(self, piece: &[u8]) -> Result<State<A>, AllocError>
         requires whole { has_failed (of_state self) ≡ false }
         requires room { server_count (of_state self) + length piece.now < 2 ^ 64 }
-        ensures { IfOk result (λ state. (limit : Limit) (marks : Marks) (client server : List ℕ) → StandsFor limit marks (of_state self) client server → StandsFor limit marks (of_state state) client (server ++ piece.now)) }
+        ensures { IfOk result (λ state. (limit : Limit) (marks : Marks) (client server : List ℕ)
+            → StandsFor limit marks (of_state self) client server
+            → StandsFor limit marks (of_state state) client (server ++ piece.now)) }
     {
         match self {
             State::Judging(ongoing) => ongoing.with_server(piece),
@@ -242,7 +251,9 @@ impl<A: Allocator + Copy> Ongoing<A> {
     /// The judgement with more octets of the client.
     fn with_client(self, piece: &[u8]) -> Result<State<A>, AllocError>
         requires { self.fed.client_count + length piece.now < 2 ^ 64 }
-        ensures { IfOk result (λ state. (limit : Limit) (marks : Marks) (client server : List ℕ) → HasPassed (profile_of limit marks) self.facts self.fed client server → StandsFor limit marks (of_state state) (client ++ piece.now) server) }
+        ensures { IfOk result (λ state. (limit : Limit) (marks : Marks) (client server : List ℕ)
+            → HasPassed (profile_of limit marks) self.facts self.fed client server
+            → StandsFor limit marks (of_state state) (client ++ piece.now) server) }
     {
         let Ongoing { judge, mut feed } = self;
         match feed.feed_client(piece) {
@@ -255,7 +266,9 @@ impl<A: Allocator + Copy> Ongoing<A> {
     /// The judgement with more octets of the server.
     fn with_server(self, piece: &[u8]) -> Result<State<A>, AllocError>
         requires { self.fed.server_count + length piece.now < 2 ^ 64 }
-        ensures { IfOk result (λ state. (limit : Limit) (marks : Marks) (client server : List ℕ) → HasPassed (profile_of limit marks) self.facts self.fed client server → StandsFor limit marks (of_state state) client (server ++ piece.now)) }
+        ensures { IfOk result (λ state. (limit : Limit) (marks : Marks) (client server : List ℕ)
+            → HasPassed (profile_of limit marks) self.facts self.fed client server
+            → StandsFor limit marks (of_state state) client (server ++ piece.now)) }
     {
         let Ongoing { judge, mut feed } = self;
         match feed.feed_server(piece) {
@@ -267,7 +280,9 @@ impl<A: Allocator + Copy> Ongoing<A> {
 
     /// The verdict, if no more octets come.
     fn finish(self) -> Result<Verdict<A>, AllocError>
-        ensures { IfOk result (λ verdict. (limit : Limit) (marks : Marks) (client server : List ℕ) → HasPassed (profile_of limit marks) self.facts self.fed client server → IsVerdict limit marks client server (verdict_shown verdict)) }
+        ensures { IfOk result (λ verdict. (limit : Limit) (marks : Marks) (client server : List ℕ)
+            → HasPassed (profile_of limit marks) self.facts self.fed client server
+            → IsVerdict limit marks client server (verdict_shown verdict)) }
     {
         match self.feed.finish() {
             Ending::End { .. } => self.judge.ended(),
@@ -294,7 +309,9 @@ fn go_on<A: Allocator + Copy>(
     mut feed: Feed<A>,
 ) -> Result<State<A>, AllocError>
     requires { (limit : Limit) × (marks : Marks) × (client : List ℕ) × (server : List ℕ) × Keeps (profile_of limit marks) judge.facts feed judge.answers client server }
-    ensures { IfOk result (λ state. (limit : Limit) (marks : Marks) (client server : List ℕ) → Keeps (profile_of limit marks) judge.facts feed judge.answers client server → StandsFor limit marks (of_state state) client server) }
+    ensures { IfOk result (λ state. (limit : Limit) (marks : Marks) (client server : List ℕ)
+        → Keeps (profile_of limit marks) judge.facts feed judge.answers client server
+        → StandsFor limit marks (of_state state) client server) }
 {
     loop {
         match feed.peek() {

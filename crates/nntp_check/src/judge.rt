@@ -2,7 +2,7 @@
 ghost use Rattle.std.specs.Prelude.{◌≡◌, ℕ, List, [], ◌∷◌, ◌++◌, IfOk, MatchOption, ⊤};
 ghost use Rattle.std.specs.Option.{option_copied, option_map};
 ghost use Rattle.nntp_pair.specs.Pairing.{Unpaired, IsNext, Ends, end};
-ghost use Rattle.nntp_article.specs.Limit.{profile_of};
+ghost use Rattle.nntp_article.specs.Session.Limit.{profile_of};
 ghost use Rattle.nntp_facts.specs.Noted.{HasNoted, IsDue};
 ghost use Rattle.nntp_witness.specs.Witness.{HaveNotedSome};
 ghost use Rattle.nntp_check.specs.Judging.{IsFirstLine, IsVerdict, Passed, StopsHere, IsNoForGood, OnMalformed, class_noted, shown};

@@ -3,10 +3,10 @@
 ghost use Rattle.std.specs.Prelude.{◌≡◌, ◌↔◌, ◌++◌, ◌⊎◌, ℕ, List, Option, is_some, IsTrue};
 ghost use Rattle.nntp_wire.specs.declared.limit.Limit.{Limit};
 ghost use Rattle.nntp_wire.specs.declared.marks.Marks.{Marks};
-ghost use Rattle.nntp_article.specs.Explains.{Explains};
-ghost use Rattle.nntp_article.specs.Limit.{profile_of};
-ghost use Rattle.nntp_article.specs.Spool.{Spool};
-ghost use Rattle.nntp_article.specs.declared.profile.Profile.{Profile};
+ghost use Rattle.nntp_article.specs.Session.Explains.{Explains};
+ghost use Rattle.nntp_article.specs.Session.Limit.{profile_of};
+ghost use Rattle.nntp_article.specs.Session.Spool.{Spool};
+ghost use Rattle.nntp_article.specs.declared.session.profile.Profile.{Profile};
 ghost use Rattle.nntp_check.specs.Capture.{AreStreams, BeginsCapture, IsBadPieceForGood, IsBadPiece, IsCapture, IsPiece, Part, spelled};
 ghost use Rattle.nntp_check.specs.Checking.{IsBadForGood, IsToldBad};
 ghost use Rattle.nntp_check.specs.Judging.{IsVerdict};
@@ -53,7 +53,8 @@ pub fn bad_piece_for_good()
 
 /// Two streams have one verdict by a limit and marks.
 pub fn one_verdict()
-    ensures { (limit : Limit) (marks : Marks) (client server : List ℕ) (verdict other : Judgement) → IsVerdict limit marks client server verdict → IsVerdict limit marks client server other → verdict ≡ other }
+    ensures { (limit : Limit) (marks : Marks) (client server : List ℕ) (verdict other : Judgement)
+        → IsVerdict limit marks client server verdict → IsVerdict limit marks client server other → verdict ≡ other }
 {}
 
 /// It is a yes exactly if some spool explains them.

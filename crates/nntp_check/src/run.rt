@@ -14,7 +14,7 @@ use crate::checker::Checker;
 use crate::input::read_capture;
 use crate::report::{report, verified_report};
 use crate::run_fault::RunFault;
-use crate::shower::Shower;
+use crate::session_printer::SessionPrinter;
 use crate::streams::Streams;
 use crate::verdict::Verdict;
 use nntp_spool::{Spool, Verified, Watched, WriteFault, put, verify};
@@ -47,7 +47,8 @@ fn is_permitted(verified: Verified) -> bool
 /// The verdict on all that came to a checker to which no memory was refused.
 fn verdict<A: Allocator + Copy>(checker: Checker<A>) -> Result<Verdict<A>, AllocError>
     requires { (limit : Limit) × (marks : Marks) × (client : List ℕ) × (server : List ℕ) × StandsFor limit marks (checked checker) client server }
-    ensures { IfOk result (λ verdict. (limit : Limit) (marks : Marks) (client server : List ℕ) → StandsFor limit marks (checked checker) client server → IsVerdict limit marks client server (verdict_shown verdict)) }
+    ensures { IfOk result (λ verdict. (limit : Limit) (marks : Marks) (client server : List ℕ)
+        → StandsFor limit marks (checked checker) client server → IsVerdict limit marks client server (verdict_shown verdict)) }
 {
     match checker.finish() {
         Ok(verdict) => Ok(verdict),
@@ -134,9 +135,9 @@ pub fn run_show<A: Allocator + Copy, R: Read, W: Write>(
     ensures read_failed { has_failed_of input.old ≡ false → (IsErrOf result RunFault.Read ↔ (has_failed_of input.new ≡ true)) }
     ensures write_failed { has_failed_of output.old ≡ false → (IsErrOf result RunFault.Write ↔ (has_failed_of output.new ≡ true)) }
 {
-    let mut shower = Shower::new(alloc);
-    read_capture(input, &mut shower, most)?;
-    let shown = shower.finish()?;
+    let mut printer = SessionPrinter::new(alloc);
+    read_capture(input, &mut printer, most)?;
+    let shown = printer.finish()?;
     print(&shown.text, output)?;
     Ok(shown.is_answered)
 }

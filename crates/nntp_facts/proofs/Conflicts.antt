@@ -10,35 +10,38 @@ use Rattle.nntp_facts.specs.declared.position.Position.TheVariants.{Nowhere}
 use Rattle.nntp_facts.specs.Classes.{visible_from, position_from, asked_next}
 use Rattle.nntp_facts.specs.Permits.{SomePermits}
 use Rattle.nntp_facts.proofs.Maps.{keys_among}
-use Rattle.nntp_facts.proofs.ReadOff.{run_from}
-use Rattle.nntp_facts.proofs.FactsHold.{run_of_facts}
-use Rattle.nntp_facts.proofs.GivenPermits.{said}
-use Rattle.nntp_facts.proofs.Grow.{facts_grow}
+use Rattle.nntp_facts.proofs.Session.CurrentArticle.{run_from}
+use Rattle.nntp_facts.proofs.Session.FactsHold.{run_of_facts}
+use Rattle.nntp_facts.proofs.Given.GivenPermits.{said}
+use Rattle.nntp_facts.proofs.Session.OneMoreAnswer.{facts_grow}
 use Rattle.nntp_wire.specs.Answer.{Asked, Response}
-use Rattle.nntp_article.specs.Spool.{Spool, IsSpool, IsGroup, IsNumber, numbers, Name}
-use Rattle.nntp_article.specs.declared.profile.Profile.{Profile}
+use Rattle.nntp_article.specs.Session.Spool.{Spool, IsSpool, IsGroup, IsNumber, numbers, Name}
+use Rattle.nntp_article.specs.declared.session.profile.Profile.{Profile}
 use Rattle.nntp_wire.specs.declared.marks.Marks.TheVariants.{Lenient}
-use Rattle.nntp_article.specs.Machine.{Visible, visible_after, start, fits}
+use Rattle.nntp_article.specs.Session.Machine.{Visible, visible_after, start, fits}
 use Rattle.nntp_facts.specs.Asks.{position_after}
 use Rattle.nntp_facts.specs.declared.position.Position.{Position}
 use Rattle.nntp_facts.specs.Facts.{Fact, Holds, ThereIs, ThereIsNo, Asks, IdAt, TextIs, NoArticle, GroupsAre, facts_of, facts_from, FitsAll}
 use Rattle.nntp_facts.specs.Given.{unshown_ids, size, asks_of, is_shown}
 use Rattle.nntp_facts.specs.Together.{Together, is_possible}
-use Rattle.nntp_facts.specs.Conflict.{Placed, placed_from, FitsThere, widest, a_group, with_group, told, SomeHas, told_at, told_with, below, IsCore, AreFound, IsPartOfCore, Point, Step, Group, Number, Numbers, IdOf, PlaceOf, Article, HeadOf, BodyOf, ConflictAt}
+use Rattle.nntp_facts.specs.Conflict.{Placed, placed_from, FitsThere, widest, a_group, with_group, told, SomeHas, told_at}
+use Rattle.nntp_facts.specs.Conflict.{told_with, below, IsCore, AreFound, IsPartOfCore, Point, Step, Group, Number, Numbers}
+use Rattle.nntp_facts.specs.Conflict.{IdOf, PlaceOf, Article, HeadOf, BodyOf, ConflictAt}
 use Rattle.nntp_facts.proofs.Members.{In, all_at, all_from, all_both, all_front, all_back, all_part, all_parts, in_front, in_back, in_cases, in_map, found_in, to_flat, from_flat}
-use Rattle.nntp_facts.proofs.Placed.{Placed as IsPlaced, Among, selectable, session_placed}
-use Rattle.nntp_facts.proofs.Fitting.{IsFitting, answer_fitting}
-use Rattle.nntp_facts.proofs.Limits.{free_in_limit}
-use Rattle.nntp_facts.proofs.Few.{few_enough, unshown_ids_few}
-use Rattle.nntp_facts.proofs.Invented.{number-invented, invented_is_id}
-use Rattle.nntp_facts.proofs.Made.{made, made_group, made_given, made_is_given}
-use Rattle.nntp_facts.proofs.GivenHolds.{Setting, all_hold}
-use Rattle.nntp_facts.proofs.GivenIsSpool.{given_is_spool}
-use Rattle.nntp_facts.proofs.Stand.{stand}
+use Rattle.nntp_facts.proofs.Session.NumbersOfShownGroups.{Placed as IsPlaced, Among, selectable, session_placed}
+use Rattle.nntp_facts.proofs.Session.FittingFacts.{IsFitting, answer_fitting}
+use Rattle.nntp_facts.proofs.Session.NumbersWithinLimit.{free_in_limit}
+use Rattle.nntp_facts.proofs.Ids.SmallGivenSpool.{few_enough, unshown_ids_few}
+use Rattle.nntp_facts.proofs.Ids.InventedIds.{number-invented, invented_is_id}
+use Rattle.nntp_facts.proofs.Given.ConstructedSpool.{made, made_group, made_given, made_is_given}
+use Rattle.nntp_facts.proofs.Given.GivenHolds.{Setting, all_hold}
+use Rattle.nntp_facts.proofs.Given.GivenIsSpool.{given_is_spool}
+use Rattle.nntp_facts.proofs.Together.FactsOfASpoolStand.{stand}
 
 -- ---- what fits, is placed and stands together is had by some spool
 
-pub some_has : (profile : Profile) (facts : List Fact) → AllByRecursion (IsFitting profile) facts → AllByRecursion (IsPlaced Lenient facts) facts → size facts < 2 ^ 210 → Together facts → SomeHas profile facts
+pub some_has : (profile : Profile) (facts : List Fact) → AllByRecursion (IsFitting profile) facts
+    → AllByRecursion (IsPlaced Lenient facts) facts → size facts < 2 ^ 210 → Together facts → SomeHas profile facts
 some_has profile facts fitting placed small together =
     let G = made profile.limit (10 ^ 64) facts in
     let within = free_in_limit profile facts Lenient fitting placed in
@@ -47,7 +50,17 @@ some_has profile facts fitting placed small together =
     (few_enough facts (length (unshown_ids facts G)) small
     (unshown_ids_few facts G (λ name. (group name).0) (λ name i. made_given profile.limit (10 ^ 64) facts name (λ e x. within name ((group name).0 i) e x.first.1) i))) in
     let few = few_enough facts (length (unshown_ids facts G)) small (unshown_ids_few facts G (λ name. (given.groups name).0) given.numbers_given) in
-    let s : Setting profile (10 ^ 64) G facts = record { small = number-invented; ids = invented_is_id; fitting = fitting; how = Lenient; placed = placed; together = together; given = given; few = few } in
+    let s : Setting profile (10 ^ 64) G facts =
+    record {
+      small = number-invented;
+      ids = invented_is_id;
+      fitting = fitting;
+      how = Lenient;
+      placed = placed;
+      together = together;
+      given = given;
+      few = few;
+    } in
     (G, given_is_spool profile (10 ^ 64) G facts s, all_hold profile (10 ^ 64) G facts s)
 
 -- ---- what answers say, where each fits
@@ -129,7 +142,8 @@ told_there profile (a ∷ answers) zero fact fits i = (a, fits.0, refl)
 told_there profile (a ∷ answers) (suc k) fact fits i = told_there profile answers k fact fits.1 i
 
 -- what is told by an answer with those at the places
-pub with_told : (profile : Profile) (bad : Placed) (answers : List Placed) (places : List ℕ) → FitsThere profile bad → AllByRecursion (FitsThere profile) answers → AreTold profile (told_with profile bad answers places)
+pub with_told : (profile : Profile) (bad : Placed) (answers : List Placed) (places : List ℕ) → FitsThere profile bad
+    → AllByRecursion (FitsThere profile) answers → AreTold profile (told_with profile bad answers places)
 with_told profile bad answers places fit fits = record { source = λ fact i. by fact (in_cases fact (told profile bad) others i) }
   where
     others : List Fact
@@ -149,11 +163,14 @@ with_told profile bad answers places fit fits = record { source = λ fact i. by 
           a.0,
           a.1,
           subst (λ facts. In fact facts) a.2 f.2,
-          all_from (Among all) (told profile a.0) (λ other l. in_back other (told profile bad) others (to_flat (told_at profile answers) f.0 other places f.1 (subst (λ facts. In other facts) (sym a.2) l))),
+          all_from (Among all) (told profile a.0)
+              (λ other l. in_back other (told profile bad) others
+              (to_flat (told_at profile answers) f.0 other places f.1 (subst (λ facts. In other facts) (sym a.2) l))),
         )
 
 -- the answers of a session that fits fit where they stand
-pub session_fits : (profile : Profile) (v : Visible) (at : Position) (ps : List Asked) (answers : List Response) → FitsAll profile v ps answers → AllByRecursion (FitsThere profile) (placed_from v at ps answers)
+pub session_fits : (profile : Profile) (v : Visible) (at : Position) (ps : List Asked) (answers : List Response)
+    → FitsAll profile v ps answers → AllByRecursion (FitsThere profile) (placed_from v at ps answers)
 session_fits profile v at [] answers f = tt
 session_fits profile v at (p ∷ ps) [] f = tt
 session_fits profile v at (p ∷ ps) (a ∷ more) f = (f.1, session_fits profile (visible_after v p a) (position_after at p a) ps more f.2)
@@ -224,7 +241,9 @@ split Stand bound (j ∷ front) back k f =
     let l = r.1 in
     ((omega arith, r.0), omega arith, r.2)
 
-pub core_start : (profile : Profile) (bad : Placed) (answers : List Placed) → (SomeHas profile (told_with profile bad answers (below (length answers))) → ⊥) → IsPartOfCore profile bad answers (length answers) []
+pub core_start : (profile : Profile) (bad : Placed) (answers : List Placed)
+    → (SomeHas profile (told_with profile bad answers (below (length answers))) → ⊥)
+    → IsPartOfCore profile bad answers (length answers) []
 core_start profile bad answers none = record {
   there = tt;
   conflict = λ h. none (fewer_places profile bad answers (below (length answers)) (below (length answers) ++ []) (λ k i. in_front k (below (length answers)) [] i) h);
@@ -284,10 +303,13 @@ group_holds profile S name spool group =
     (group, ((count, in_limit, tt), tt))
 
 -- a fact of a group that a spool has says no more by itself
-with_holds : (profile : Profile) (S : Spool) (all : List Fact) → IsSpool profile.limit S → AllByRecursion (Holds S) all → (fact : Fact) → Holds S fact → IsPlaced profile.marks all fact → AllByRecursion (Holds S) (with_group profile fact)
+with_holds : (profile : Profile) (S : Spool) (all : List Fact) → IsSpool profile.limit S → AllByRecursion (Holds S) all
+    → (fact : Fact) → Holds S fact → IsPlaced profile.marks all fact → AllByRecursion (Holds S) (with_group profile fact)
 with_holds profile S all spool holds (ThereIs name) h p = group_holds profile S name spool h
-with_holds profile S all spool holds (Asks name ask) h p = all_both (Holds S) (a_group profile name) (Asks name ask ∷ []) (group_holds profile S name spool (all_at (Holds S) (ThereIs name) all holds p.there)) (h, tt)
-with_holds profile S all spool holds (IdAt name n id) h p = all_both (Holds S) (a_group profile name) (IdAt name n id ∷ []) (group_holds profile S name spool (all_at (Holds S) (ThereIs name) all holds p.there)) (h, tt)
+with_holds profile S all spool holds (Asks name ask) h p = all_both (Holds S) (a_group profile name) (Asks name ask ∷ [])
+    (group_holds profile S name spool (all_at (Holds S) (ThereIs name) all holds p.there)) (h, tt)
+with_holds profile S all spool holds (IdAt name n id) h p = all_both (Holds S) (a_group profile name) (IdAt name n id ∷ [])
+    (group_holds profile S name spool (all_at (Holds S) (ThereIs name) all holds p.there)) (h, tt)
 with_holds profile S all spool holds (ThereIsNo name) h p = (h, tt)
 with_holds profile S all spool holds (TextIs what id lines) h p = (h, tt)
 with_holds profile S all spool holds (NoArticle id) h p = (h, tt)
@@ -295,7 +317,9 @@ with_holds profile S all spool holds (GroupsAre w lines) h p = (h, tt)
 
 -- what is told of a session holds where all that it says does
 told_holds : (profile : Profile) (S : Spool) (all : List Fact) → IsSpool profile.limit S → AllByRecursion (Holds S) all
-    → (v : Visible) (at : Position) (ps : List Asked) (answers : List Response) → AllByRecursion (Holds S) (facts_from profile.marks v at ps answers) → AllByRecursion (IsPlaced profile.marks all) (facts_from profile.marks v at ps answers)
+    → (v : Visible) (at : Position) (ps : List Asked) (answers : List Response)
+    → AllByRecursion (Holds S) (facts_from profile.marks v at ps answers)
+    → AllByRecursion (IsPlaced profile.marks all) (facts_from profile.marks v at ps answers)
     → AllByRecursion (Holds S) (flat_map (told profile) (placed_from v at ps answers))
 told_holds profile S all spool holds v at [] answers h p = tt
 told_holds profile S all spool holds v at (q ∷ ps) [] h p = tt
@@ -305,7 +329,9 @@ told_holds profile S all spool holds v at (q ∷ ps) (a ∷ more) h p =
     let own_hold = all_front (Holds S) own rest h in
     let own_placed = all_front (IsPlaced profile.marks all) own rest p in
     all_both (Holds S) (flat_map (with_group profile) own) (flat_map (told profile) (placed_from (visible_after v q a) (position_after at q a) ps more))
-    (all_parts (Holds S) (with_group profile) own (λ fact i. with_holds profile S all spool holds fact (all_at (Holds S) fact own own_hold i) (all_at (IsPlaced profile.marks all) fact own own_placed i)))
+    (all_parts (Holds S) (with_group profile) own
+    (λ fact i. with_holds profile S all spool holds fact (all_at (Holds S) fact own own_hold i)
+    (all_at (IsPlaced profile.marks all) fact own own_placed i)))
     (told_holds profile S all spool holds (visible_after v q a) (position_after at q a) ps more (all_back (Holds S) own rest h) (all_back (IsPlaced profile.marks all) own rest p))
 
 -- a session that fits is permitted exactly if some spool has what is told of it
@@ -314,7 +340,13 @@ pub session_had : (profile : Profile) (ps : List Asked) (answers : List Response
 session_had profile ps answers fits = (
   λ h. (let says = said profile h.0 ps answers h.2 in
       (h.0, h.1, told_holds profile h.0 (facts_from profile.marks start.visible Nowhere ps answers) h.1 says.1 start.visible Nowhere ps answers says.1 (session_placed profile ps answers fits))),
-  λ h. (h.0, h.1, run_from profile h.0 start.visible Nowhere ps answers (run_of_facts profile h.0 start.visible Nowhere ps answers fits (session_told profile h.0 start.visible Nowhere ps answers h.2))),
+  λ h. (
+    h.0,
+    h.1,
+    run_from profile h.0 start.visible Nowhere ps answers
+        (run_of_facts profile h.0 start.visible Nowhere ps answers fits
+        (session_told profile h.0 start.visible Nowhere ps answers h.2)),
+  ),
 )
 
 -- each answer has its place
@@ -324,7 +356,9 @@ in_places profile (b ∷ answers) a (inl e) = (0, omega arith, ap (told profile)
 in_places profile (b ∷ answers) a (inr i) = let r = in_places profile answers a i in (suc r.0, (let l = r.1 in omega arith), r.2)
 
 -- what is told at all places is told of all answers
-all_places : (profile : Profile) (S : Spool) (answers : List Placed) → AllByRecursion (Holds S) (flat_map (told_at profile answers) (below (length answers))) → AllByRecursion (Holds S) (flat_map (told profile) answers)
+all_places : (profile : Profile) (S : Spool) (answers : List Placed)
+    → AllByRecursion (Holds S) (flat_map (told_at profile answers) (below (length answers)))
+    → AllByRecursion (Holds S) (flat_map (told profile) answers)
 all_places profile S answers h = all_from (Holds S) (flat_map (told profile) answers) (λ fact i.
     let f = from_flat (told profile) fact answers i in
     let p = in_places profile answers f.0 f.1 in
@@ -335,7 +369,13 @@ all_places profile S answers h = all_from (Holds S) (flat_map (told profile) ans
 pub contradicts : (profile : Profile) (ps : List Asked) (answers : List Response) (asked : Asked) (response : Response) → asked_next ps answers ≡ Some asked
     → FitsAll profile start.visible ps (answers ++ response ∷ [])
     → (SomePermits profile ps (answers ++ response ∷ []) → ⊥)
-    → SomeHas profile (told_with profile (record { visible = visible_from start.visible ps answers; position = position_from Nowhere ps answers; asked = asked; response = response }) (placed_from start.visible Nowhere ps answers) (below (length (placed_from start.visible Nowhere ps answers)))) → ⊥
+    → SomeHas profile (told_with profile (record {
+      visible = visible_from start.visible ps answers;
+      position = position_from Nowhere ps answers;
+      asked = asked;
+      response = response;
+    })
+    (placed_from start.visible Nowhere ps answers) (below (length (placed_from start.visible Nowhere ps answers)))) → ⊥
 contradicts profile ps answers asked response comes fits none (S, spool, holds) =
     let v = visible_from start.visible ps answers in
     let at = position_from Nowhere ps answers in
@@ -344,7 +384,10 @@ contradicts profile ps answers asked response comes fits none (S, spool, holds) 
     let others = flat_map (told_at profile placed) (below (length placed)) in
     let own = told_own profile S (facts_of profile.marks v at asked response) (all_front (Holds S) (told profile bad) others holds) in
     let before = session_told profile S start.visible Nowhere ps answers (all_places profile S placed (all_back (Holds S) (told profile bad) others holds)) in
-    let all = subst (AllByRecursion (Holds S)) (sym (facts_grow profile.marks start.visible Nowhere ps answers asked response comes)) (all_both (Holds S) (facts_from profile.marks start.visible Nowhere ps answers) (facts_of profile.marks v at asked response) before own) in
+    let all = subst (AllByRecursion (Holds S))
+    (sym (facts_grow profile.marks start.visible Nowhere ps answers asked response comes))
+    (all_both (Holds S) (facts_from profile.marks start.visible Nowhere ps answers)
+    (facts_of profile.marks v at asked response) before own) in
     none (S, spool, run_from profile S start.visible Nowhere ps (answers ++ response ∷ []) (run_of_facts profile S start.visible Nowhere ps (answers ++ response ∷ []) fits all))
 
 -- ---- what is found is in each conflict

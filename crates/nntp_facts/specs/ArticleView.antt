@@ -5,7 +5,7 @@ use Rattle.std.specs.Ordering.{nat_cmp, is_eq}
 use Rattle.std.specs.Cmp.Lexicographic.{slice_cmp}
 use Rattle.std.specs.Map.{lookup}
 use Rattle.nntp_wire.specs.Held.{held}
-use Rattle.nntp_article.specs.Article.{Id, Line}
+use Rattle.nntp_article.specs.Article.Parts.{Id, Line}
 use Rattle.nntp_facts.specs.Kept.{KeptArticle}
 use Rattle.nntp_facts.specs.Articles.{denied}
 use Rattle.nntp_facts.specs.declared.articles.known.Known.{Known}

@@ -4,7 +4,7 @@ use Rattle.std.specs.List.{filter}
 use Rattle.std.specs.Option.{option_or}
 use Rattle.nntp_wire.specs.declared.command.What.{What}
 use Rattle.nntp_wire.specs.declared.command.What.TheVariants.{Article, Head, Body}
-use Rattle.nntp_article.specs.Article.{head_part, body_part, Id, Line}
+use Rattle.nntp_article.specs.Article.Parts.{head_part, body_part, Id, Line}
 use Rattle.nntp_facts.specs.Kept.{KeptArticle}
 
 -- ---- what is sent of an article
@@ -21,7 +21,7 @@ body_sent Article (Some lines) = Some (body_part lines)
 body_sent Body (Some lines) = Some lines
 body_sent what lines = None
 
--- lines that are there twice are the same
+-- lines that are there twice are the same lines
 abbrev pub AreSame : Option (List Line) → Option (List Line) → Type 0
 AreSame sent known = IfSome sent (λ x. IfSome known (λ y. x ≡ y))
 
@@ -31,15 +31,15 @@ MayBeSent a head body = (a.is_denied ≡ false) × AreSame head a.head × AreSam
 
 -- ---- what is kept then
 
--- of an id that has no article
+-- what is kept of an id that has no article
 abbrev pub denied : KeptArticle
 denied = record { is_denied = true; is_sent = false; head = None; body = None }
 
--- of an id that has an article, of which nothing was sent
+-- what is kept of an id that has an article, of which nothing was sent
 abbrev pub unsent : KeptArticle
 unsent = record { is_denied = false; is_sent = false; head = None; body = None }
 
--- of an article, after a success: what was sent first
+-- what is kept of an article after a success: of each part what was sent first
 abbrev pub with_sent : KeptArticle → Option (List Line) → Option (List Line) → KeptArticle
 with_sent a head body = record { is_denied = a.is_denied; is_sent = true; head = option_or a.head head; body = option_or a.body body }
 

@@ -1,9 +1,9 @@
 -- What answers ask of the numbers of a group, with the current article read off the session (RFC 3977, section 6.1).
 use Rattle.std.specs.Prelude.{◌≡◌, ℕ, ◌≤◌, List, [], ◌∷◌, Option, None, Some, MatchOption, ⊤}
 use Rattle.std.specs.FinMap.{get}
-use Rattle.nntp_article.specs.Spool.{Spool, Numbers, IsNumber, least, IsNextAbove, IsNextBelow, NoneAbove, NoneBelow, Lists}
-use Rattle.nntp_article.specs.declared.profile.Profile.{Profile}
-use Rattle.nntp_article.specs.Machine.{Visible, State, MayAnswer, visible_after, selected_numbers, Bound}
+use Rattle.nntp_article.specs.Session.Spool.{Spool, Numbers, IsNumber, least, IsNextAbove, IsNextBelow, NoneAbove, NoneBelow, Lists}
+use Rattle.nntp_article.specs.declared.session.profile.Profile.{Profile}
+use Rattle.nntp_article.specs.Session.Machine.{Visible, State, MayAnswer, visible_after, selected_numbers, Bound}
 use Rattle.nntp_wire.specs.declared.range.Range.{Range}
 use Rattle.nntp_wire.specs.declared.marks.Marks.{Marks}
 use Rattle.nntp_wire.specs.Answer.{Asked, Response, to, group_is, numbers_are, sends}
@@ -41,17 +41,17 @@ RunsAt profile S v at (asked ∷ ps) (response ∷ more) =
 
 -- one thing that an answer says of the numbers of a group
 pub data Ask : Type 0 where
-  Estimates : (how : Marks) → (marks : WaterMarks) → Ask  -- there are at most so many, between the marks, which are read so
-  Bounds : (low high : ℕ) → Ask  -- all are between the marks
-  ListsIn : (range : Range) → (listed : List ℕ) → Ask  -- those in the range are these
+  Estimates : (how : Marks) → (marks : WaterMarks) → Ask  -- there are at most so many numbers, between the marks, which are read so
+  Bounds : (low high : ℕ) → Ask  -- all numbers are between the marks
+  ListsIn : (range : Range) → (listed : List ℕ) → Ask  -- the numbers in the range are these
   Has : (number : ℕ) → Ask  -- the number is there
-  Lacks : (number : ℕ) → Ask  -- it isn't
-  StandsAt : (at : Position) → (number : ℕ) → Ask  -- the current article is this
+  Lacks : (number : ℕ) → Ask  -- the number isn't there
+  StandsAt : (at : Position) → (number : ℕ) → Ask  -- the current article is this number
   StandsNowhere : (at : Position) → Ask  -- there is no current article
-  StepsUp : (at : Position) → (number : ℕ) → Ask  -- the next one up is this
-  StepsDown : (at : Position) → (number : ℕ) → Ask  -- the next one down is this
-  IsTop : (at : Position) → Ask  -- none is above the current article
-  IsBottom : (at : Position) → Ask  -- none is below it
+  StepsUp : (at : Position) → (number : ℕ) → Ask  -- the next number above the current article is this
+  StepsDown : (at : Position) → (number : ℕ) → Ask  -- the next number below the current article is this
+  IsTop : (at : Position) → Ask  -- no number is above the current article
+  IsBottom : (at : Position) → Ask  -- no number is below the current article
 
 -- the numbers meet what is asked
 abbrev pub Meets : Numbers → Ask → Type 0

@@ -2,8 +2,8 @@
 use Rattle.std.specs.Prelude.{◌≡◌, ℕ, Bool, true, false, List, [], ◌∷◌, ◌++◌, length, Option, None, Some, ⊤}
 use Rattle.nntp_wire.specs.Answer.{Asked, Response, Spells}
 use Rattle.nntp_wire.specs.Session.{prompts_of, Spelled}
-use Rattle.nntp_article.specs.declared.profile.Profile.{Profile}
-use Rattle.nntp_article.specs.Machine.{Visible, start, fits, visible_after}
+use Rattle.nntp_article.specs.declared.session.profile.Profile.{Profile}
+use Rattle.nntp_article.specs.Session.Machine.{Visible, start, fits, visible_after}
 use Rattle.nntp_facts.specs.Asks.{position_after}
 use Rattle.nntp_facts.specs.declared.position.Position.{Position}
 use Rattle.nntp_pair.specs.Pairing.{IsCut, IsMalformed}
@@ -18,7 +18,7 @@ visible_from v ps [] = v
 visible_from v [] (response ∷ more) = v
 visible_from v (asked ∷ ps) (response ∷ more) = visible_from (visible_after v asked response) ps more
 
--- where answers leave the session
+-- where answers leave the session in the selected group
 abbrev pub position_from : Position → List Asked → List Response → Position
 position_from at ps [] = at
 position_from at [] (response ∷ more) = at
@@ -56,7 +56,7 @@ IsOpenClass profile v asked octets Malformed = IsMalformed asked octets
 IsOpenClass profile v asked octets OutOfPlace = BeginsWithAnswer profile v asked octets false
 IsOpenClass profile v asked octets Contradiction = BeginsWithAnswer profile v asked octets true
 
--- the same, where the connection may be closed, or nothing be asked
+-- the class of octets where the connection may be closed, or nothing may be asked
 abbrev pub IsClass : Bool → Profile → Visible → Option Asked → List ℕ → Class → Type 0
 IsClass true profile v next octets class = class ≡ Surplus
 IsClass false profile v None octets class = class ≡ Surplus

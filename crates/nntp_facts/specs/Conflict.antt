@@ -5,12 +5,12 @@ use Rattle.std.specs.Option.{option_map_or}
 use Rattle.nntp_wire.specs.Answer.{Asked, Response}
 use Rattle.nntp_wire.specs.declared.water_marks.WaterMarks.{WaterMarks}
 use Rattle.nntp_wire.specs.declared.marks.Marks.TheVariants.{Lenient}
-use Rattle.nntp_article.specs.Spool.{Spool, IsSpool, Name}
-use Rattle.nntp_article.specs.declared.profile.Profile.{Profile}
-use Rattle.nntp_article.specs.Machine.{Visible, visible_after, fits}
+use Rattle.nntp_article.specs.Session.Spool.{Spool, IsSpool, Name}
+use Rattle.nntp_article.specs.declared.session.profile.Profile.{Profile}
+use Rattle.nntp_article.specs.Session.Machine.{Visible, visible_after, fits}
 use Rattle.nntp_facts.specs.Asks.{position_after, Estimates}
 use Rattle.nntp_facts.specs.declared.position.Position.{Position}
-use Rattle.nntp_article.specs.Article.{Id}
+use Rattle.nntp_article.specs.Article.Parts.{Id}
 use Rattle.nntp_facts.specs.Facts.{Fact, Holds, ThereIs, Asks, IdAt, facts_of}
 use Rattle.nntp_facts.specs.Given.{shows, denies, is_shown, is_denied, asks_in, asks_of, shows_group, is_shown_group, id_in, head_in, body_in}
 use Rattle.nntp_facts.specs.Together.{is_possible, AsksStand, denies_group, number_in, shows_article, denies_article, GiveOne}
@@ -29,7 +29,7 @@ placed_from v at (asked ∷ ps) [] = []
 placed_from v at (asked ∷ ps) (response ∷ more) =
     record { visible = v; position = at; asked = asked; response = response } ∷ placed_from (visible_after v asked response) (position_after at asked response) ps more
 
--- it fits there
+-- the answer fits where it stands
 abbrev pub FitsThere : Profile → Placed → Type 0
 FitsThere profile a = IsTrue (fits profile a.visible a.asked a.response)
 
@@ -37,7 +37,7 @@ FitsThere profile a = IsTrue (fits profile a.visible a.asked a.response)
 abbrev pub widest : Profile → WaterMarks
 widest profile = record { estimate = profile.limit; low = 1; high = profile.limit }
 
--- there is such a group; that says no more than this, as its numbers are within the limit: however the marks of a session are read, these need be no numbers
+-- there is such a group, with numbers within the widest marks, which need be no numbers however marks are read
 abbrev pub a_group : Profile → Name → List Fact
 a_group profile name = ThereIs name ∷ Asks name (Estimates Lenient (widest profile)) ∷ []
 
@@ -92,15 +92,15 @@ pub record IsPartOfCore (profile : Profile) (bad : Placed) (answers : List Place
 
 -- what facts conflict about
 pub data Point : Type 0 where
-  Step : (name : Name) → Point  -- a step, or the current article, that can't be
+  Step : (name : Name) → Point  -- a step, or the current article, can't be
   Group : (name : Name) → Point  -- whether there is such a group
   Number : (name : Name) → (number : ℕ) → Point  -- whether the group has the number
-  Numbers : (name : Name) → Point  -- how many numbers it has, the first one, or a mark that is read strictly
-  IdOf : (name : Name) → (number : ℕ) → Point  -- the id at a number
-  PlaceOf : (name : Name) → (id : Id) → Point  -- the number of an id
+  Numbers : (name : Name) → Point  -- how many numbers the group has, the first one, or a mark that is read strictly
+  IdOf : (name : Name) → (number : ℕ) → Point  -- which id is at the number
+  PlaceOf : (name : Name) → (id : Id) → Point  -- at which number the id is
   Article : (id : Id) → Point  -- whether the id has an article
-  HeadOf : (id : Id) → Point  -- its head
-  BodyOf : (id : Id) → Point  -- its body
+  HeadOf : (id : Id) → Point  -- which head the article has
+  BodyOf : (id : Id) → Point  -- which body the article has
 
 -- the facts conflict there
 abbrev pub ConflictAt : List Fact → Point → Type 0

@@ -1,12 +1,12 @@
 -- What each answer of a session says of the spool, with the current article read off the session.
 use Rattle.std.specs.Prelude.{◌≡◌, ℕ, false, ◌==◌, if◌then◌else◌, List, [], ◌∷◌, ◌++◌, Option, None, Some, unwrap_or, ⊤, IsTrue}
 use Rattle.std.specs.FinMap.{get}
-use Rattle.nntp_article.specs.Spool.{Spool, IsGroup, numbers, HasText, Name}
-use Rattle.nntp_article.specs.declared.profile.Profile.{Profile}
-use Rattle.nntp_article.specs.Machine.{Visible, visible_after, ActivesAgree, fits}
+use Rattle.nntp_article.specs.Session.Spool.{Spool, IsGroup, numbers, HasText, Name}
+use Rattle.nntp_article.specs.declared.session.profile.Profile.{Profile}
+use Rattle.nntp_article.specs.Session.Machine.{Visible, visible_after, ActivesAgree, fits}
 use Rattle.nntp_facts.specs.Asks.{position_after, Ask, Meets, Estimates, ListsIn, Lacks, StandsAt, StandsNowhere, StepsUp, StepsDown, IsTop, IsBottom}
 use Rattle.nntp_facts.specs.declared.position.Position.{Position}
-use Rattle.nntp_article.specs.Article.{Id, Line}
+use Rattle.nntp_article.specs.Article.Parts.{Id, Line}
 use Rattle.nntp_wire.specs.Listing.{ActiveValue, listed_numbers, active_groups}
 use Rattle.nntp_wire.specs.declared.marks.Marks.{Marks}
 use Rattle.nntp_wire.specs.declared.command.What.{What}
@@ -16,12 +16,12 @@ use Rattle.nntp_wire.specs.Answer.{Asked, Response, to, group_is, numbers_are, s
 -- one thing that an answer says of the spool
 pub data Fact : Type 0 where
   ThereIs : (name : Name) → Fact  -- there is such a group
-  ThereIsNo : (name : Name) → Fact  -- there is none
+  ThereIsNo : (name : Name) → Fact  -- there is no such group
   Asks : (name : Name) → (ask : Ask) → Fact  -- this is asked of the numbers of the group
   IdAt : (name : Name) → (number : ℕ) → (id : Id) → Fact  -- the group gives the id at the number
   TextIs : (what : What) → (id : Id) → (lines : Option (List Line)) → Fact  -- the id has an article, of which these lines are sent
-  NoArticle : (id : Id) → Fact  -- the id has none
-  GroupsAre : (wildmat : Option (List ℕ)) → (lines : List ActiveValue) → Fact  -- the matching groups are these
+  NoArticle : (id : Id) → Fact  -- the id has no article
+  GroupsAre : (wildmat : Option (List ℕ)) → (lines : List ActiveValue) → Fact  -- the groups that match are these
 
 -- the fact holds of the spool
 abbrev pub Holds : Spool → Fact → Type 0
@@ -33,7 +33,7 @@ Holds S (TextIs what id lines) = HasText S what id lines
 Holds S (NoArticle id) = get S.articles id ≡ None
 Holds S (GroupsAre p lines) = ActivesAgree S p lines
 
--- the fact, if the code is the expected one
+-- the fact is said, if the code is the expected one
 abbrev pub on : ℕ → ℕ → Fact → List Fact
 on code expected fact = if code == expected then fact ∷ [] else []
 

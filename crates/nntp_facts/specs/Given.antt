@@ -1,11 +1,13 @@
 -- The spool that is given for what a session says.
-use Rattle.std.specs.Prelude.{◌≡◌, ℕ, ◌+◌, ◌<◌, ◌≤◌, Bool, true, false, not, ◌&&◌, ◌||◌, ◌==◌, nat_lt, if◌then◌else◌, IsTrue, IsFalse, IsSome, ◌↔◌, ◌⊎◌, List, [], ◌∷◌, ◌++◌, length, Option, None, Some, is_some, ⊤, unwrap_or, codes, decimal}
+use Rattle.std.specs.Prelude.{◌≡◌, ℕ, ◌+◌, ◌<◌, ◌≤◌, Bool, true, false, not, ◌&&◌, ◌||◌, ◌==◌, nat_lt, if◌then◌else◌, IsTrue}
+use Rattle.std.specs.Prelude.{IsFalse, IsSome, ◌↔◌, ◌⊎◌, List, [], ◌∷◌, ◌++◌, length, Option, None, Some, is_some, ⊤, unwrap_or}
+use Rattle.std.specs.Prelude.{codes, decimal}
 use Rattle.std.specs.List.{list_any, flat_map}
 use Rattle.std.specs.Option.{option_or}
 use Rattle.std.specs.FinMap.{get, entries, len}
-use Rattle.nntp_article.specs.Article.{head_part, body_part, Id, Line}
-use Rattle.nntp_article.specs.Spool.{Spool, Text, Numbers, IsNumber, IsGroup, numbers, Name}
-use Rattle.nntp_article.specs.Machine.{is_in_range, is_same, start}
+use Rattle.nntp_article.specs.Article.Parts.{head_part, body_part, Id, Line}
+use Rattle.nntp_article.specs.Session.Spool.{Spool, Text, Numbers, IsNumber, IsGroup, numbers, Name}
+use Rattle.nntp_article.specs.Session.Machine.{is_in_range, is_same, start}
 use Rattle.nntp_facts.specs.Asks.{Ask, Estimates, Bounds, ListsIn, Has, Lacks, StandsAt, StandsNowhere, StepsUp, StepsDown, IsTop, IsBottom}
 use Rattle.nntp_facts.specs.declared.position.Position.TheVariants.{Nowhere, First, Known}
 use Rattle.nntp_facts.specs.declared.demand.Demand.{Demand}
@@ -133,11 +135,11 @@ asks_in name (IdAt g n id) = if is_same g name then Has n ∷ [] else []
 asks_in name (GroupsAre p lines) = flat_map (λ line. if is_same line.name name then Bounds line.low line.high ∷ [] else []) lines
 asks_in name fact = []
 
--- the same of all facts
+-- what is asked of the numbers of one group by all facts
 abbrev pub asks_of : Name → List Fact → List Ask
 asks_of name facts = flat_map (asks_in name) facts
 
--- the group is shown
+-- the fact shows the group
 abbrev pub shows_group : Name → Fact → Bool
 shows_group name (ThereIs g) = is_same g name
 shows_group name (GroupsAre p lines) = list_any (λ line. is_same line.name name) lines
@@ -161,7 +163,7 @@ id_in name n fact = None
 abbrev pub id_shown : List Fact → Name → ℕ → Option Id
 id_shown facts name n = first_given (id_in name n) facts
 
--- the id is named by a success or a step, or denied
+-- the fact mentions the id: a success or a step names it, or it is denied
 abbrev pub mentions : Id → Fact → Bool
 mentions id (IdAt name n other) = is_same other id
 mentions id (TextIs what other lines) = is_same other id
@@ -172,7 +174,7 @@ mentions id fact = false
 abbrev pub is_mentioned : List Fact → Id → Bool
 is_mentioned facts id = list_any (mentions id) facts
 
--- the id is named by a success
+-- the fact is of a success that names the id
 abbrev pub gives_article : Id → Fact → Bool
 gives_article id (TextIs what other lines) = is_same other id
 gives_article id fact = false
@@ -212,7 +214,7 @@ abbrev pub unshown_in : List Fact → Name → List (ℕ × Id) → List Id
 unshown_in facts name [] = []
 unshown_in facts name (e ∷ es) = (if is_some (id_shown facts name e.0) then [] else e.1 ∷ []) ++ unshown_in facts name es
 
--- those of a spool, groups in byte order and numbers ascending
+-- the ids of a spool at numbers for which none is shown, groups in byte order and numbers ascending
 abbrev pub unshown_ids : List Fact → Spool → List Id
 unshown_ids facts G = flat_map (λ g. unshown_in facts g.0 (entries g.1)) (entries G.groups)
 
@@ -249,7 +251,7 @@ size_in (Asks name (IsBottom at)) = 0
 size_in (GroupsAre p lines) = length lines
 size_in fact = 1
 
--- the same of all facts
+-- a bound on the names, numbers and ids that all facts have from their answers
 abbrev pub size : List Fact → ℕ
 size [] = 0
 size (fact ∷ facts) = size_in fact + size facts

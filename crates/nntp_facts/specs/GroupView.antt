@@ -18,7 +18,7 @@ of_demand OnlyOne = Some (Some None)
 of_demand Impossible = Some (Some (Some None))
 of_demand (SecondIs n) = Some (Some (Some (Some n)))
 
--- and back
+-- the demand that is one of five
 abbrev pub to_demand : Option (Option (Option (Option ℕ))) → Demand
 to_demand None = NoDemand
 to_demand (Some None) = NotEmpty

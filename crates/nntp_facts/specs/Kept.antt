@@ -7,9 +7,9 @@ use Rattle.std.specs.Cmp.Lexicographic.{slice_cmp}
 use Rattle.std.specs.FinMap.{FinMap, get, insert}
 use Rattle.nntp_wire.specs.Decided.{matches_name}
 use Rattle.nntp_wire.specs.Wildmat.{is_wildmat}
-use Rattle.nntp_article.specs.Article.{Id, Line}
-use Rattle.nntp_article.specs.Spool.{Name}
-use Rattle.nntp_article.specs.Machine.{is_same}
+use Rattle.nntp_article.specs.Article.Parts.{Id, Line}
+use Rattle.nntp_article.specs.Session.Spool.{Name}
+use Rattle.nntp_article.specs.Session.Machine.{is_same}
 use Rattle.nntp_facts.specs.Asks.{Ask}
 use Rattle.nntp_facts.specs.Facts.{Fact}
 use Rattle.nntp_facts.specs.Given.{is_shown, asks_of, is_shown_group, first_given, id_in, is_mentioned, is_sent, head_in, body_in}
@@ -33,7 +33,7 @@ joins_at_all joins = true
 
 -- ---- groups
 
--- of a group: its numbers, and the ids that are shown at numbers, both ways
+-- what is kept of a group: its numbers, and the ids that are shown at numbers, both ways
 pub record KeptGroup : Type 0 where
   pub numbers : Summary
   pub ids : FinMap nat_cmp Id
@@ -69,7 +69,7 @@ pub record IsUntold (t : Told) : Type 0 where
   pub no_ids : (n : ℕ) → t.ids n ≡ None
   pub no_places : (id : Id) → t.places id ≡ None
 
--- of each group that is shown is kept what is told of it, and of others nothing is told
+-- what is told of each group that is shown is kept, and of other groups nothing is told
 abbrev pub AreKept : (Name → Told) → FinMap (slice_cmp nat_cmp) KeptGroup → Type 0
 AreKept tells groups = (name : Name) → MatchOption (get groups name) (IsUntold (tells name)) (IsKeptGroup (tells name))
 
@@ -92,11 +92,11 @@ IsFree at place e = IfSome at (λ other. e.1 ≡ other) × IfSome place (λ othe
 abbrev pub MayHave : FinMap nat_cmp Id → FinMap (slice_cmp nat_cmp) ℕ → Option (ℕ × Id) → Type 0
 MayHave ids places id = IfSome id (λ e. IsFree (get ids e.0) (get places e.1) e)
 
--- the same of what is told of the group
+-- the number may have the id, if one is shown, beside what is told of the group
 abbrev pub MayShow : Told → Option (ℕ × Id) → Type 0
 MayShow t id = IfSome id (λ e. IsFree (t.ids e.0) (t.places e.1) e)
 
--- the ids at numbers then, and the numbers of ids
+-- the ids at numbers, once this id is shown at this number
 abbrev pub ids_with : FinMap nat_cmp Id → Option (ℕ × Id) → FinMap nat_cmp Id
 ids_with ids None = ids
 ids_with ids (Some e) = insert ids e.0 e.1
@@ -123,7 +123,7 @@ with_part t asks id = record {
   places = λ other. option_or (t.places other) (place_of id other);
 }
 
--- this is told of one group then, and of others what was told before
+-- what is told of one group is then this, and what is told of others is as before
 pub record Changes (before after : Name → Told) (name : Name) (t : Told) : Type 0 where
   pub here : after name ≡ t
   pub elsewhere : (other : Name) → is_same name other ≡ false → after other ≡ before other
@@ -134,7 +134,7 @@ AreKeptWith before name asks id groups = (after : Name → Told) → Changes bef
 
 -- ---- names
 
--- of names: those that are said to be no group, the wildmats that LIST ACTIVE answered, each with how many groups it listed, and how many it listed without one, if it did
+-- what is kept of names: those that are denied, and for which wildmats, or without one, how many groups were listed
 pub record KeptNames : Type 0 where
   pub denied : List Name
   pub wildmats : List (List ℕ × ℕ)
@@ -144,7 +144,7 @@ pub record KeptNames : Type 0 where
 abbrev pub is_denied_name : KeptNames → Name → Bool
 is_denied_name k name = list_any (λ g. is_same g name) k.denied || is_some k.all_listed || list_any (λ e. matches_name e.0 name) k.wildmats
 
--- this is a wildmat, for which so many groups were listed
+-- the octets are a wildmat, for which so many groups were listed
 abbrev pub WasAnswered : List Fact → List ℕ × ℕ → Type 0
 WasAnswered facts e = IsTrue (is_wildmat e.0) × WereListed facts (Some e.0) e.1
 
@@ -156,7 +156,7 @@ pub record AreKeptNames (facts : List Fact) (k : KeptNames) : Type 0 where
 
 -- ---- ids
 
--- of an id that is mentioned: whether it has no article, whether a success names it, and what was sent of its article
+-- what is kept of an id: whether it is denied, whether a success names it, and what was sent of its article
 pub record KeptArticle : Type 0 where
   pub is_denied : Bool
   pub is_sent : Bool
@@ -181,7 +181,7 @@ IsFactAdded facts fact old new does = IsAddedIf (JoinArticles facts (fact ∷ []
 
 -- ---- the whole
 
--- of all that was said
+-- what is kept of all that was said
 pub record Kept : Type 0 where
   pub groups : FinMap (slice_cmp nat_cmp) KeptGroup
   pub names : KeptNames

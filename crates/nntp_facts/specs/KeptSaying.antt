@@ -2,9 +2,9 @@
 use Rattle.std.specs.Prelude.{◌≡◌, ℕ, List, [], ◌∷◌, ◌++◌, Option, None, Some, MatchOption, IfSome, IsTrue, IsFalse, ⊤}
 use Rattle.std.specs.List.{list_any}
 use Rattle.std.specs.FinMap.{get}
-use Rattle.nntp_article.specs.Article.{Id}
-use Rattle.nntp_article.specs.Spool.{Name}
-use Rattle.nntp_article.specs.Machine.{head_fits}
+use Rattle.nntp_article.specs.Article.Parts.{Id}
+use Rattle.nntp_article.specs.Session.Spool.{Name}
+use Rattle.nntp_article.specs.Session.Machine.{head_fits}
 use Rattle.nntp_facts.specs.Asks.{Ask}
 use Rattle.nntp_facts.specs.Facts.{Fact, IdAt, TextIs, NoArticle}
 use Rattle.nntp_facts.specs.Given.{asks_of, is_shown_group}
@@ -23,7 +23,7 @@ GroupJoins facts asks g = AsksStand (asks_of g.name facts ++ (asks ++ asked_id g
 abbrev pub HasSaid : KeptGroup → OfGroup → Type 0
 HasSaid g p = MatchOption p.id ⊥ (λ e. (p.numbers ≡ only_has e.0) × (get g.ids e.0 ≡ Some e.1))
 
--- what is said of names and of a group joins
+-- what is said of names and of a group joins what was said before
 pub record JoinGroups (facts : List Fact) (s : Saying) (asks : List Ask) : Type 0 where
   pub there_is : IfSome s.there_is (λ name. IsFalse (list_any (denies_group name) facts))
   pub there_is_no : IfSome s.there_is_no (λ name. IsFalse (is_shown_group facts name))
@@ -31,7 +31,7 @@ pub record JoinGroups (facts : List Fact) (s : Saying) (asks : List Ask) : Type 
 
 -- ---- of an id
 
--- where a head is sent, it is one
+-- the lines are a head, where a head is sent
 abbrev pub MayBeSaid : Id × OfArticle → Type 0
 MayBeSaid (id, Sends what lines) = IsTrue (head_fits what id lines)
 MayBeSaid a = ⊤

@@ -2,7 +2,7 @@
 use Rattle.std.specs.Prelude.{ℕ, Option, None, Some, ◌≡◌, refl}
 use Rattle.std.specs.Coded.{Coded, code_by, coded×, coded_ℕ, coded_list, coded_option, coded_bool}
 use Rattle.std.specs.FinMap as map
-use Rattle.nntp_article.specs.Coded.{coded_limit, coded_marks, coded_visible}
+use Rattle.nntp_article.specs.Session.Coded.{coded_limit, coded_marks, coded_visible}
 use Rattle.nntp_facts.specs.declared.position.Position.{Position}
 use Rattle.nntp_facts.specs.declared.position.Position.TheVariants.{Nowhere, First, Known}
 use Rattle.nntp_facts.specs.Kept.{KeptNames, Kept}
@@ -28,7 +28,7 @@ of_position Nowhere = None
 of_position First = Some None
 of_position (Known n) = Some (Some n)
 
--- and back
+-- the position that is one of three
 abbrev pub to_position : Option (Option ℕ) → Position
 to_position None = Nowhere
 to_position (Some None) = First

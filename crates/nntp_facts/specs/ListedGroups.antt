@@ -4,14 +4,14 @@ use Rattle.std.specs.List.{AllByRecursion, list_any}
 use Rattle.std.specs.Option.{option_map_or}
 use Rattle.nntp_wire.specs.Listing.{ActiveValue}
 use Rattle.nntp_wire.specs.Decided.{is_group_name, matches_name}
-use Rattle.nntp_article.specs.Spool.{Name}
-use Rattle.nntp_article.specs.Machine.{is_same, names_differ}
+use Rattle.nntp_article.specs.Session.Spool.{Name}
+use Rattle.nntp_article.specs.Session.Machine.{is_same, names_differ}
 use Rattle.nntp_facts.specs.Asks.{Bounds}
 use Rattle.nntp_facts.specs.Facts.{Fact, GroupsAre}
 use Rattle.nntp_facts.specs.Given.{asks_of, is_shown_group}
 use Rattle.nntp_facts.specs.Together.{AsksStand, denies_group}
 
--- lines that may be listed: each group matches, and none stands twice
+-- these lines may be listed: each group matches, and none stands twice
 pub record MayList (p : Option (List ℕ)) (lines : List ActiveValue) : Type 0 where
   pub matching : AllByRecursion (λ line. IsTrue (option_map_or (λ w. matches_name w line.name) p true)) lines
   pub differ : names_differ lines ≡ true

@@ -1,9 +1,9 @@
 -- What the facts of a session are of the exchanges that were noted.
 use Rattle.std.specs.Prelude.{◌≡◌, ℕ, ◌<◌, ◌^◌, Bool, false, true, IsTrue, IsFalse, List, [], ◌∷◌, ◌++◌, length, Result, Ok, Err}
 use Rattle.std.specs.List.{AllByRecursion}
-use Rattle.nntp_article.specs.declared.profile.Profile.{Profile}
-use Rattle.nntp_article.specs.Machine.{Visible, start, fits}
-use Rattle.nntp_article.specs.Limit.{profile_of}
+use Rattle.nntp_article.specs.declared.session.profile.Profile.{Profile}
+use Rattle.nntp_article.specs.Session.Machine.{Visible, start, fits}
+use Rattle.nntp_article.specs.Session.Limit.{profile_of}
 use Rattle.nntp_wire.specs.declared.limit.Limit.{Limit}
 use Rattle.nntp_wire.specs.declared.marks.Marks.{Marks}
 use Rattle.nntp_pair.specs.Pairing.{Paired, asked_at, asked_of, responses_of, lines_in}
@@ -29,7 +29,7 @@ pub record FactsKept : Type 0 where
   pub kept : Kept
   pub has_failed : Bool
 
--- by what the facts judge
+-- the profile by which the facts judge
 abbrev pub profile_kept : FactsKept → Profile
 profile_kept facts = profile_of facts.limit facts.marks
 
@@ -58,7 +58,8 @@ pub record IsDue (facts : FactsKept) (pair : Paired) : Type 0 where
 abbrev pub ArePermitted : Profile → List Paired → Type 0
 ArePermitted profile pairs = SomePermits profile (asked_of pairs) (responses_of pairs)
 
--- what was said of one more exchange is so: some spool permits it behind those before, and it is added; it doesn't fit the visible state; or it fits, and no spool permits it behind them; and where it isn't added, the facts are as before
+-- what was said of one more exchange is so: some spool permits it behind those before, and it is added; it doesn't fit
+-- the visible state; or it fits, and no spool permits it behind them; and where it isn't added, the facts are as before
 abbrev pub IsNoted : Profile → List Paired → Paired → FactsKept → FactsKept → Noted → Type 0
 IsNoted profile past pair old new Consistent = ArePermitted profile (past ++ pair ∷ []) × HasNoted profile new (past ++ pair ∷ [])
 IsNoted profile past pair old new OutOfPlace = IsFalse (fits profile old.visible (asked_at pair.line) pair.response) × (new ≡ old)

@@ -4,7 +4,7 @@ use Rattle.std.specs.List.{list_any, list_all}
 use Rattle.nntp_wire.specs.declared.marks.Marks.TheVariants.{Strict}
 use Rattle.nntp_wire.specs.declared.range.Range.{Range}
 use Rattle.nntp_intervals.specs.Intervals.{is_between}
-use Rattle.nntp_article.specs.Machine.{is_in_range, is_ascending}
+use Rattle.nntp_article.specs.Session.Machine.{is_in_range, is_ascending}
 use Rattle.nntp_facts.specs.Asks.{Ask, Estimates}
 use Rattle.nntp_facts.specs.Given.{is_shown, is_denied, demand}
 use Rattle.nntp_facts.specs.Together.{is_possible}
@@ -24,13 +24,13 @@ abbrev pub is_within : Option ℕ → ℕ → Bool
 is_within None n = true
 is_within (Some e) n = nat_le n e
 
--- nor than any of the asks estimates
+-- so many are no more than any of the asks estimates
 abbrev pub is_within_all : List Ask → ℕ → Bool
 is_within_all asks n = list_all (λ ask. is_within (estimate_in ask) n) asks
 
 -- ---- strict marks
 
--- the least and the greatest of both
+-- the lesser low mark and the greater high mark of both
 abbrev pub join_ends : Option Ends → Option Ends → Option Ends
 join_ends None e = e
 join_ends (Some a) None = Some a
@@ -46,7 +46,7 @@ abbrev pub ends_of : List Ask → Option Ends
 ends_of [] = None
 ends_of (ask ∷ asks) = join_ends (ends_in ask) (ends_of asks)
 
--- n is one of the two
+-- n is one of the two strict marks
 abbrev pub is_end_of : Option Ends → ℕ → Bool
 is_end_of None n = false
 is_end_of (Some e) n = e.low == n || e.high == n
@@ -62,7 +62,8 @@ is_demanding d = true
 abbrev pub is_one_of : List ℕ → ℕ → Bool
 is_one_of ns n = list_any (λ m. n == m) ns
 
--- what some asks say: whether it can be; that no number is below the low one or above the high one, and that from the first to the last these are the numbers; the least estimate, the strict marks, and the demand
+-- what some asks say: whether it can be; that no number is below the low one or above the high one, and that from the
+-- first to the last these are the numbers; the least estimate, the strict marks, and the demand
 pub record Said : Type 0 where
   pub possible : Bool
   pub low : ℕ
@@ -74,11 +75,11 @@ pub record Said : Type 0 where
   pub ends : Option Ends
   pub demand : Demand
 
--- it says that n isn't there
+-- what is said denies that n is there
 abbrev pub part_denies : Said → ℕ → Bool
 part_denies p n = nat_lt n p.low || nat_lt p.high n || (is_between p.first p.last n && not (is_one_of p.numbers n))
 
--- n is there, and no more is said
+-- what is said where n is there, and no more is said
 abbrev pub only_has : ℕ → Said
 only_has n = record { possible = true; low = 0; high = 2 ^ 64 - 1; first = n; last = n; numbers = n ∷ []; estimate = None; ends = None; demand = NoDemand }
 

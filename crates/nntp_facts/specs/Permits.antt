@@ -1,8 +1,8 @@
 -- Whether some spool permits a session, and the first answer from which on none does.
 use Rattle.std.specs.Prelude.{ℕ, ◌+◌, ◌<◌, List, length, take}
-use Rattle.nntp_article.specs.Spool.{Spool, IsSpool}
-use Rattle.nntp_article.specs.declared.profile.Profile.{Profile}
-use Rattle.nntp_article.specs.Machine.{Run, start}
+use Rattle.nntp_article.specs.Session.Spool.{Spool, IsSpool}
+use Rattle.nntp_article.specs.declared.session.profile.Profile.{Profile}
+use Rattle.nntp_article.specs.Session.Machine.{Run, start}
 use Rattle.nntp_wire.specs.Answer.{Asked, Response}
 
 -- some spool permits the session

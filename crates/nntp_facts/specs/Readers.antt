@@ -6,9 +6,9 @@ use Rattle.std.specs.Ordering.{nat_cmp}
 use Rattle.std.specs.Cmp.Lexicographic.{slice_cmp}
 use Rattle.std.specs.FinMap.{FinMap, get, entries}
 use Rattle.nntp_intervals.specs.Intervals.{holds}
-use Rattle.nntp_article.specs.Article.{Id, Line}
-use Rattle.nntp_article.specs.Spool.{Name}
-use Rattle.nntp_article.specs.Machine.{is_same}
+use Rattle.nntp_article.specs.Article.Parts.{Id, Line}
+use Rattle.nntp_article.specs.Session.Spool.{Name}
+use Rattle.nntp_article.specs.Session.Machine.{is_same}
 use Rattle.nntp_facts.specs.Facts.{Fact}
 use Rattle.nntp_facts.specs.Given.{asks_of, is_shown, is_shown_group, id_shown, is_sent, first_given, head_in, body_in, IsGivenNumber, wants}
 use Rattle.nntp_facts.specs.declared.demand.Demand.{Demand}
@@ -22,14 +22,14 @@ use Rattle.nntp_facts.specs.Articles.{articles_in}
 
 -- ---- what is shown
 
--- of a group: the numbers that are shown, each with its id, where one is shown; the least number that has to be there, where it isn't shown; and the greatest one, where it is neither shown nor the least
+-- what is shown of a group: its numbers, each with its id, and the least and the greatest given number if unshown
 pub record ShownGroup : Type 0 where
   pub name : Name
   pub numbers : List (ℕ × Option Id)
   pub unseen : Option ℕ
   pub unseen_high : Option ℕ
 
--- of an article: whether a success names it, and its head and its body, where they were sent
+-- what is shown of an article: whether a success names it, and its head and its body, where they were sent
 pub record ShownArticle : Type 0 where
   pub id : Id
   pub is_sent : Bool
@@ -44,11 +44,11 @@ pub record AreShownNumbers (facts : List Fact) (name : Name) (numbers : List (�
   pub all : (n : ℕ) → list_any (λ e. e.0 == n) numbers ≡ is_shown (asks_of name facts) n
   pub ids : AllByRecursion (λ e. e.1 ≡ id_shown facts name e.0) numbers
 
--- of what is asked: the number is given, and no given one is less
+-- the number is given, and no given one is less
 abbrev pub IsLeastGiven : List Ask → ℕ → Type 0
 IsLeastGiven asks n = IsGivenNumber asks n × ((m : ℕ) → IsGivenNumber asks m → n ≤ m)
 
--- or none is greater
+-- the number is given, and no given one is greater
 abbrev pub IsGreatestGiven : List Ask → ℕ → Type 0
 IsGreatestGiven asks n = IsGivenNumber asks n × ((m : ℕ) → IsGivenNumber asks m → m ≤ n)
 
@@ -133,11 +133,11 @@ with_ids g ns = map (λ n. (n, get g.ids n)) ns
 abbrev pub shown_group : Name → KeptGroup → ShownGroup
 shown_group name g = record { name = name; numbers = with_ids g g.numbers.shown; unseen = unseen_in g.numbers; unseen_high = unseen_high_in g.numbers }
 
--- the same of groups, one after the other
+-- what is shown of groups that are kept, one after the other
 abbrev pub shown_in : List (Name × KeptGroup) → List ShownGroup
 shown_in entries = map (λ e. shown_group e.0 e.1) entries
 
--- of all groups that are kept
+-- what is shown of all groups that are kept
 abbrev pub shown_groups : FinMap (slice_cmp nat_cmp) KeptGroup → List ShownGroup
 shown_groups groups = shown_in (entries groups)
 
@@ -145,10 +145,10 @@ shown_groups groups = shown_in (entries groups)
 abbrev pub shown_article : Id → KeptArticle → ShownArticle
 shown_article id a = record { id = id; is_sent = a.is_sent; head = a.head; body = a.body }
 
--- of the articles that are kept, one after the other
+-- what is shown of the articles that are kept, one after the other
 abbrev pub articles_shown_in : List (Id × KeptArticle) → List ShownArticle
 articles_shown_in entries = map (λ e. shown_article e.0 e.1) (articles_in entries)
 
--- of all that are kept
+-- what is shown of all articles that are kept
 abbrev pub shown_articles : FinMap (slice_cmp nat_cmp) KeptArticle → List ShownArticle
 shown_articles articles = articles_shown_in (entries articles)

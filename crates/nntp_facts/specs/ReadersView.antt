@@ -2,8 +2,8 @@
 use Rattle.std.specs.Prelude.{ℕ, List, Vec, Option, map, refl}
 use Rattle.std.specs.Option.{option_copied}
 use Rattle.std.specs.Coded.{Coded, code_by, coded×, coded_ℕ, coded_list, coded_option, coded_bool}
-use Rattle.nntp_article.specs.Article.{Id}
-use Rattle.nntp_article.specs.Spool.{Name}
+use Rattle.nntp_article.specs.Article.Parts.{Id}
+use Rattle.nntp_article.specs.Session.Spool.{Name}
 use Rattle.nntp_facts.specs.Kept.{KeptGroup}
 use Rattle.nntp_facts.specs.Readers.{ShownGroup, ShownArticle}
 use Rattle.nntp_facts.specs.declared.shown_numbers.ShownNumber.{ShownNumber}

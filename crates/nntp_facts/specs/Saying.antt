@@ -1,8 +1,8 @@
 -- What an answer says of the spool, in parts (RFC 3977, sections 6 and 7.6.3).
 use Rattle.std.specs.Prelude.{◌≡◌, ℕ, true, IsTrue, List, [], ◌∷◌, ◌++◌, map, Option, None, Some, IfSome, MatchOption, ⊤, ◌⊎◌}
-use Rattle.nntp_article.specs.Article.{Id, Line}
-use Rattle.nntp_article.specs.Spool.{Name}
-use Rattle.nntp_article.specs.Machine.{Visible, head_fits}
+use Rattle.nntp_article.specs.Article.Parts.{Id, Line}
+use Rattle.nntp_article.specs.Session.Spool.{Name}
+use Rattle.nntp_article.specs.Session.Machine.{Visible, head_fits}
 use Rattle.nntp_wire.specs.declared.command.What.{What}
 use Rattle.nntp_wire.specs.Answer.{Response, numbers_are}
 use Rattle.nntp_wire.specs.Listing.{ActiveValue, listed_numbers}
@@ -13,13 +13,13 @@ use Rattle.nntp_facts.specs.Part.{Said, Says}
 use Rattle.nntp_facts.specs.Summary.{AreBounded}
 use Rattle.nntp_facts.specs.ListedGroups.{MayList}
 
--- of one group: what is said of its numbers, and the id at a number, if one is shown
+-- what is said of one group: of its numbers, and the id at a number, if one is shown
 pub record OfGroup : Type 0 where
   pub name : Name
   pub numbers : Said
   pub id : Option (ℕ × Id)
 
--- of an id: that it has no article; that it has one; or that a success names it, and sends these lines
+-- what is said of an id: that it has no article; that it has one; or that a success names it, and sends these lines
 pub data OfArticle : Type 0 where
   Lacks : OfArticle
   Exists : OfArticle
@@ -35,7 +35,7 @@ pub record Saying : Type 0 where
 
 -- ---- as facts
 
--- that the number is there at which an id is shown
+-- the number is there at which an id is shown
 abbrev pub asked_id : Option (ℕ × Id) → List Ask
 asked_id None = []
 asked_id (Some e) = Has e.0 ∷ []
@@ -45,7 +45,7 @@ abbrev pub sent_facts : Option (Id × OfArticle) → List Fact
 sent_facts (Some (id, Sends what lines)) = TextIs what id lines ∷ []
 sent_facts article = []
 
--- that there is none
+-- the id has no article
 abbrev pub lack_facts : Option (Id × OfArticle) → List Fact
 lack_facts (Some (id, Lacks)) = NoArticle id ∷ []
 lack_facts article = []
@@ -60,12 +60,12 @@ abbrev pub group_facts : Option OfGroup → List Ask → List Fact
 group_facts None asks = []
 group_facts (Some g) asks = map (Asks g.name) asks ++ id_facts g.name g.id
 
--- that there is such a group
+-- there is such a group
 abbrev pub there_facts : Option Name → List Fact
 there_facts None = []
 there_facts (Some name) = ThereIs name ∷ []
 
--- or none
+-- there is no such group
 abbrev pub missing_facts : Option Name → List Fact
 missing_facts None = []
 missing_facts (Some name) = ThereIsNo name ∷ []

@@ -1,7 +1,7 @@
 -- What the values of src/saying.rt mean.
 use Rattle.std.specs.Prelude.{ℕ, List, Option, option_map}
 use Rattle.nntp_wire.specs.Listing.{ActiveValue, active_groups}
-use Rattle.nntp_article.specs.Article.{Id}
+use Rattle.nntp_article.specs.Article.Parts.{Id}
 use Rattle.nntp_facts.specs.PartView.{said}
 use Rattle.nntp_facts.specs.Saying as said_of
 use Rattle.nntp_facts.specs.declared.saying.IdAt.{IdAt}
@@ -36,4 +36,10 @@ active_said l = (l.wildmat.now, active_groups l.block.now)
 
 -- all that is said
 abbrev pub saying_of : Saying → said_of.Saying
-saying_of s = record { there_is = option_map (λ name. name.now) s.there_is; there_is_no = option_map (λ name. name.now) s.there_is_no; group = option_map of_group s.group; article = option_map article_said s.article; groups = option_map active_said s.groups }
+saying_of s = record {
+  there_is = option_map (λ name. name.now) s.there_is;
+  there_is_no = option_map (λ name. name.now) s.there_is_no;
+  group = option_map of_group s.group;
+  article = option_map article_said s.article;
+  groups = option_map active_said s.groups;
+}

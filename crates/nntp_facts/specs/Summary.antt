@@ -1,12 +1,13 @@
 -- What is kept of all that is asked of the numbers of one group, and what it says.
-use Rattle.std.specs.Prelude.{not, ◌-◌, nat_lt, nat_le, ◌≡◌, ◌≢◌, ℕ, ◌+◌, ◌^◌, ◌<◌, ◌≤◌, ◌↔◌, Bool, true, false, ◌&&◌, ◌||◌, IsTrue, if◌then◌else◌, List, [], ◌∷◌, Option, None, Some, MatchOption, length, ◌==◌}
+use Rattle.std.specs.Prelude.{not, ◌-◌, nat_lt, nat_le, ◌≡◌, ◌≢◌, ℕ, ◌+◌, ◌^◌, ◌<◌, ◌≤◌, ◌↔◌, Bool, true, false, ◌&&◌, ◌||◌}
+use Rattle.std.specs.Prelude.{IsTrue, if◌then◌else◌, List, [], ◌∷◌, Option, None, Some, MatchOption, length, ◌==◌}
 use Rattle.std.specs.List.{list_any}
 use Rattle.std.specs.List.Sorted.{IsStrictlySortedBy}
 use Rattle.std.specs.Ordering.{nat_cmp}
 use Rattle.std.specs.BTreeMap.{is_at}
 use Rattle.std.specs.FinMap.{len}
 use Rattle.nntp_intervals.specs.Intervals.{holds}
-use Rattle.nntp_article.specs.Spool.{Numbers, IsNumber}
+use Rattle.nntp_article.specs.Session.Spool.{Numbers, IsNumber}
 use Rattle.nntp_facts.specs.Asks.{Ask}
 use Rattle.nntp_facts.specs.Given.{is_shown, is_denied, demand, join, wants, IsFirstFree, is_known}
 use Rattle.nntp_facts.specs.Part.{Said, part_denies, is_one_of, is_within, is_within_all, ends_of, join_ends, is_end_of, is_demanding}
@@ -45,23 +46,23 @@ AreBounded asks = (n : ℕ) → 2 ^ 64 ≤ n → is_denied asks n ≡ true
 
 -- ---- more asks
 
--- n is shown after them
+-- n is shown once these numbers are shown too
 abbrev pub shown_after : List ℕ → List ℕ → ℕ → Bool
 shown_after shown numbers n = has shown n || is_one_of numbers n
 
--- it is said after them that there is a number
+-- it is said that there is a number once this is said too
 abbrev pub says_some_after : Summary → Said → Bool
 says_some_after s p = not (length s.shown == 0) || not (length p.numbers == 0) || is_demanding (join s.demand p.demand)
 
--- the strict marks after them, which are numbers: where it is said that there is one
+-- the strict marks once this is said too, which are numbers: where it is said that there is one
 abbrev pub ends_after : Summary → Said → Option Ends
 ends_after s p = if says_some_after s p then join_ends s.ends p.ends else None
 
--- n is known after them
+-- n is known once this is said too
 abbrev pub known_after : Summary → Said → ℕ → Bool
 known_after s p n = shown_after s.shown p.numbers n || is_end_of (ends_after s p) n
 
--- n is denied after them
+-- n is denied once this is said too
 abbrev pub denied_after : List (ℕ × ℕ) → Said → ℕ → Bool
 denied_after denied p n = holds denied n || part_denies p n
 
@@ -73,7 +74,7 @@ PassSoMany p Absent = (n : ℕ) → p n ≡ false
 PassSoMany p Single = (n : ℕ) × (p n ≡ true) × ((m : ℕ) → p m ≡ true → m ≡ n)
 PassSoMany p Several = (n : ℕ) × (m : ℕ) × (n ≢ m) × (p n ≡ true) × (p m ≡ true)
 
--- one more than that
+-- the count with one number more
 abbrev pub and_one : HowMany → HowMany
 and_one Absent = Single
 and_one w = Several
@@ -100,7 +101,7 @@ is_settled d Several free count estimate = false
 abbrev pub AreCounted : (ℕ → Bool) → ℕ → Type 0
 AreCounted p c = (M : Numbers) × ((n : ℕ) → IsNumber M n ↔ IsTrue (p n)) × (len M ≡ c)
 
--- of the numbers that pass the test so many are found that are wanted, and there are so many
+-- so many numbers pass the test, and so many of these are wanted
 pub record IsTally (p : ℕ → Bool) (d : Demand) (w : HowMany) (c : ℕ) : Type 0 where
   pub found : PassSoMany (λ n. p n && wants d n) w
   pub count : AreCounted p c

@@ -5,9 +5,9 @@ use Rattle.std.specs.Option.{option_map_or}
 use Rattle.std.specs.FinMap.{len}
 use Rattle.nntp_wire.specs.Name.{IsGroupName, IsMessageId}
 use Rattle.nntp_wire.specs.Decided.{matches_name}
-use Rattle.nntp_article.specs.Article.{Id}
-use Rattle.nntp_article.specs.Spool.{Name, Numbers, is_line}
-use Rattle.nntp_article.specs.Machine.{is_in_range, is_same}
+use Rattle.nntp_article.specs.Article.Parts.{Id}
+use Rattle.nntp_article.specs.Session.Spool.{Name, Numbers, is_line}
+use Rattle.nntp_article.specs.Session.Machine.{is_in_range, is_same}
 use Rattle.nntp_facts.specs.Asks.{Ask, Estimates, ListsIn, StandsAt, StandsNowhere, StepsUp, StepsDown, IsTop, IsBottom}
 use Rattle.nntp_facts.specs.declared.position.Position.TheVariants.{Nowhere, Known}
 use Rattle.nntp_facts.specs.Facts.{Fact, ThereIs, ThereIsNo, IdAt, TextIs, NoArticle, GroupsAre}
@@ -53,7 +53,7 @@ pub record AsksStand (asks : List Ask) : Type 0 where
 
 -- ---- groups, ids and texts
 
--- names, ids and lines are such
+-- the names, ids and lines of the fact are names, ids and lines
 abbrev pub IsWellFormed : Fact → Type 0
 IsWellFormed (ThereIs name) = IsGroupName name
 IsWellFormed (IdAt name n id) = IsMessageId id
@@ -72,7 +72,7 @@ abbrev pub number_in : Name → Id → Fact → Option ℕ
 number_in name id (IdAt g n other) = if is_same g name && is_same other id then Some n else None
 number_in name id fact = None
 
--- the id stands at a number, or a success names it
+-- the fact shows that the id has an article: the id stands at a number, or a success names it
 abbrev pub shows_article : Id → Fact → Bool
 shows_article id (IdAt name n other) = is_same other id
 shows_article id (TextIs what other lines) = is_same other id

@@ -15,7 +15,7 @@ use std::alloc::Allocator;
 use std::collections::BTreeSet;
 
 impl<'s> NumbersPart<'s> {
-    /// Whether the part can be, and nothing is both shown and denied.
+    /// Tells whether the part can be, and nothing is both shown and denied.
     pub(crate) fn agrees<A: Allocator>(
         &self,
         shown: &BTreeSet<u64, A>,
@@ -26,28 +26,28 @@ impl<'s> NumbersPart<'s> {
         self.is_possible && self.denies_none(shown) && self.shows_free(denied)
     }
 
-    /// Whether no number that is shown is denied.
+    /// Tells whether no number that is shown is denied by the part.
     fn denies_none<A: Allocator>(&self, shown: &BTreeSet<u64, A>) -> bool
         ensures { IsRegular (said self.now) → IsTrue result ↔ ((n : ℕ) → has shown.now.keys n ≡ true → part_denies (said self.now) n ≡ false) }
     {
         none_outside(shown, self.low, self.high) && none_in_gaps(shown, self.gaps())
     }
 
-    /// Whether no number of the part is denied.
+    /// Tells whether no number of the part is denied.
     fn shows_free<A: Allocator>(&self, denied: &IntervalSet<A>) -> bool
         ensures { result ≡ list_all (is_open denied.now (said self.now)) self.now.numbers.now }
     {
         self.numbers.iter().all(|n| self.is_open(denied, *n))
     }
 
-    /// Whether the number is between the marks, and not denied.
+    /// Tells whether the number is between the marks, and not denied.
     fn is_open<A: Allocator>(&self, denied: &IntervalSet<A>, n: u64) -> bool
         ensures { result ≡ is_open denied.now (said self.now) n }
     {
         self.low <= n && n <= self.high && !denied.contains(n)
     }
 
-    /// Whether neither of the two is denied after the part.
+    /// Tells whether neither of the two strict marks is denied after the part.
     pub(crate) fn leaves<A: Allocator>(&self, denied: &IntervalSet<A>, ends: Option<Ends>) -> bool
         ensures { IsTrue result ↔ AreOpen denied.now (said self.now) ends }
     {
@@ -59,14 +59,14 @@ impl<'s> NumbersPart<'s> {
         }
     }
 
-    /// Whether the number is denied after the part.
+    /// Tells whether the number is denied after the part.
     fn denies_after<A: Allocator>(&self, denied: &IntervalSet<A>, n: u64) -> bool
         ensures { result ≡ denied_after denied.now (said self.now) n }
     {
         denied.contains(n) || self.denies(n)
     }
 
-    /// Whether the part says that the number isn't there.
+    /// Tells whether the part says that the number isn't there.
     fn denies(&self, n: u64) -> bool
         ensures { result ≡ part_denies (said self.now) n }
     {
@@ -75,7 +75,7 @@ impl<'s> NumbersPart<'s> {
             || (self.first <= n && n <= self.last && !self.numbers.contains(&n))
     }
 
-    /// The numbers of the interval that aren't there.
+    /// Returns the intervals of numbers of which the part says that they aren't there.
     pub(crate) fn gaps(&self) -> Gaps<'s>
         ensures { result ≡ gaps (Some self.now.first) self.now.last self.now.numbers.now }
     {

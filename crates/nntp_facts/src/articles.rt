@@ -4,8 +4,8 @@ ghost use Rattle.std.specs.FinMap as map;
 ghost use Rattle.std.specs.BTreeMap.{insert_entry};
 ghost use Rattle.std.specs.Ordering.{nat_cmp};
 ghost use Rattle.std.specs.Cmp.Lexicographic.{slice_cmp};
-ghost use Rattle.nntp_article.specs.Spool.{Name};
-ghost use Rattle.nntp_article.specs.Machine.{head_fits};
+ghost use Rattle.nntp_article.specs.Session.Spool.{Name};
+ghost use Rattle.nntp_article.specs.Session.Machine.{head_fits};
 ghost use Rattle.nntp_facts.specs.Facts.{Fact, IdAt, TextIs, NoArticle};
 ghost use Rattle.nntp_facts.specs.Given.{is_mentioned};
 ghost use Rattle.nntp_facts.specs.Kept.{AreKeptArticles, IsFactAdded};
@@ -51,14 +51,14 @@ impl<A: Allocator> Model for Articles<A> {
 }
 
 impl<A: Allocator> Articles<A> {
-    /// What is known of the id.
+    /// Returns what is known of the id.
     fn get(&self, id: &[u8]) -> Option<&Known<A>>
         ensures { option_map (λ k. known_value k.now) result ≡ map.get self.now id.now }
     {
         self.known.get(id)
     }
 
-    /// Whether an answer mentions the id.
+    /// Tells whether an answer mentions the id.
     pub(crate) fn mentions(&self, id: &[u8]) -> bool
         ensures is { result ≡ is_some (map.get self.now id.now) }
         ensures facts { (facts : List Fact) → AreKeptArticles facts self.now → result ≡ is_mentioned facts id.now }
@@ -68,7 +68,7 @@ impl<A: Allocator> Articles<A> {
 }
 
 impl<A: Allocator> Articles<A> {
-    /// The ids that have articles, in byte order, with what is known of each.
+    /// Returns the ids that have articles, in byte order, with what is known of each.
     pub(crate) fn shown(&self) -> ShownArticles<'_, A>
         ensures { result ≡ shown_articles self.now }
     {
@@ -77,7 +77,7 @@ impl<A: Allocator> Articles<A> {
 }
 
 impl<A: Allocator + Copy> Articles<A> {
-    /// Of no answers.
+    /// Creates what is kept of a session without answers: no id is known.
     pub(crate) fn new(alloc: A) -> Articles<A>
         ensures { result ≡ map.empty }
     {

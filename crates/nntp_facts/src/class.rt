@@ -1,22 +1,23 @@
-//! Why an answer is bad.
+//! The classes of bad answers.
 ghost use Rattle.std.specs.Prelude.{◌≡◌};
 
 use nntp_pair::PairClass;
 use thiserror::Error;
 
-/// Why an answer is bad. One of them holds, and only one.
+/// The class of a bad answer, which tells why it is bad. Each bad answer has exactly one.
 #[derive(Clone, Copy, Debug, PartialEq, Eq, Error)]
 pub enum Class {
-    /// Octets where the connection is closed, or where no command is left to be answered.
+    /// There are octets behind the end of the connection, or where no command is left to be
+    /// answered.
     #[error("Surplus")]
     Surplus,
-    /// The octets end within the response (RFC 3977, section 3.1).
+    /// The octets end within the response (RFC 3977, sections 3.1 and 3.1.1).
     #[error("Cut")]
     Cut,
-    /// The response spells no answer to its command.
+    /// The response spells no answer to its command (RFC 3977, section 3.2).
     #[error("Malformed")]
     Malformed,
-    /// The answer is one that the command or the answers before it rule out, whatever the articles are.
+    /// The command or the answers before it rule the answer out, whatever the articles are.
     #[error("OutOfPlace")]
     OutOfPlace,
     /// No spool gives this answer together with those before it.

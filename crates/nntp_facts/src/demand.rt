@@ -1,24 +1,25 @@
-//! What is said of the first number of a group where it isn't shown.
+//! The demands on the first number of a group, where it isn't shown.
 ghost use Rattle.std.specs.Prelude.{◌≡◌};
 ghost use Rattle.nntp_facts.specs.Given.{join, wants};
 ghost use Rattle.nntp_facts.specs.Part.{is_demanding};
 
-/// What is said of the first number of a group where it isn't shown.
+/// A demand on the first number of a group: what answers say of it where they don't show it.
 #[derive(Clone, Copy, PartialEq, Eq)]
 pub(crate) enum Demand {
+    /// Nothing is said of the first number.
     NoDemand,
-    /// There is one.
+    /// There is a first number.
     NotEmpty,
-    /// It is the only number.
+    /// The first number is the only one.
     OnlyOne,
-    /// There is one, and the next one up is this.
+    /// There is a first number, and the next one above it is this.
     SecondIs(u64),
-    /// What can't be.
+    /// What is said of the first number can't be.
     Impossible,
 }
 
 impl Demand {
-    /// Both as one.
+    /// Joins two demands into one that says what both say.
     pub(crate) fn join(self, other: Demand) -> Demand
         ensures { result ≡ join self other }
     {
@@ -34,7 +35,7 @@ impl Demand {
         }
     }
 
-    /// Whether the number would do as the first one.
+    /// Tells whether the number would do as the first one.
     pub(crate) fn wants(self, n: u64) -> bool
         ensures { result ≡ wants self n }
     {
@@ -45,7 +46,7 @@ impl Demand {
         }
     }
 
-    /// Whether it is said that there is a number.
+    /// Tells whether it is said that there is a number.
     pub(crate) fn is_some(self) -> bool
         ensures { result ≡ is_demanding self }
     {

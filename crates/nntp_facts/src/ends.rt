@@ -5,16 +5,18 @@ ghost use Rattle.nntp_facts.specs.Part.{ends_in, join_ends};
 
 use nntp_wire::{Marks, WaterMarks};
 
-/// The least and the greatest of all strict marks of a group. Where the group has a number, both are
-/// numbers.
+/// The least and the greatest of all strict marks of a group (RFC 3977, section 6.1.1.2). If the
+/// group has any number, both are numbers of it.
 #[derive(Clone, Copy)]
 pub(crate) struct Ends {
+    /// The least low water mark that was reported.
     pub(crate) low: u64,
+    /// The greatest high water mark that was reported.
     pub(crate) high: u64,
 }
 
 impl Ends {
-    /// Those that a 211 reports, where its marks are strict.
+    /// Returns the marks that a 211 reports, if they are read strictly.
     pub(crate) fn of_marks(how: Marks, marks: WaterMarks) -> Option<Ends>
         ensures { result ≡ ends_in (Estimates how marks) }
     {
@@ -28,7 +30,7 @@ impl Ends {
     }
 }
 
-/// Those of both.
+/// Joins the marks of both: the lesser low one, and the greater high one.
 pub(crate) fn join(ends: Option<Ends>, more: Option<Ends>) -> Option<Ends>
     ensures { result ≡ join_ends ends more }
 {

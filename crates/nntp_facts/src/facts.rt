@@ -1,8 +1,8 @@
 //! What the accepted exchanges of a session say of the spool.
 ghost use Rattle.std.specs.Prelude.{◌≡◌, true, false, List, [], IfOk, Err, slice_get};
 ghost use Rattle.nntp_pair.specs.Pairing.{Paired};
-ghost use Rattle.nntp_article.specs.declared.profile.Profile.{Profile};
-ghost use Rattle.nntp_article.specs.Limit.{profile_of};
+ghost use Rattle.nntp_article.specs.declared.session.profile.Profile.{Profile};
+ghost use Rattle.nntp_article.specs.Session.Limit.{profile_of};
 ghost use Rattle.nntp_facts.specs.Given.{is_mentioned};
 ghost use Rattle.nntp_facts.specs.Noted.{HasNoted, IsDue, IsNoted, Notes, said_by};
 ghost use Rattle.nntp_facts.specs.Readers.{ShownGroup as GroupValue, ShownArticle as ArticleValue, AreShownGroups, AreShownArticles};
@@ -19,16 +19,16 @@ use nntp_wire::{Limit, Marks};
 use std::alloc::{AllocError, Allocator, Global};
 use std::marker::Model;
 
-/// What the accepted exchanges of a session say of every spool that permits them.
+/// The facts of a session: what its accepted exchanges say of every spool that permits them.
 #[derive(Drop)]
 pub struct Facts<A: Allocator = Global> {
     alloc: A,
     limit: Limit,
     marks: Marks,
-    /// How many exchanges were accepted.
+    /// The number of exchanges that were accepted.
     count: u64,
     visible: Visible<A>,
-    /// Where the session stands in the selected group.
+    /// The place at which the session stands in the selected group.
     position: Position,
     kept: Kept<A>,
     has_failed: bool,
@@ -46,8 +46,10 @@ impl<A: Allocator> Model for Facts<A> {
 }
 
 impl<A: Allocator + Copy> Facts<A> {
-    /// The facts of no exchanges, where article numbers are within the limit, and the marks of a 211 are read
-    /// so (RFC 3977, sections 6 and 6.1.1.2). It takes no memory yet.
+    /// Creates the facts of a session of which no exchange is accepted yet. No memory is taken yet.
+    ///
+    /// Article numbers are 1 to `limit` (RFC 3977, section 6), and `marks` tells how the water
+    /// marks of a 211 are read (section 6.1.1.2).
     pub fn new(alloc: A, limit: Limit, marks: Marks) -> Facts<A>
         ensures stands { HasNoted (profile_of limit marks) result [] }
         ensures limit { result.limit ≡ limit }
@@ -65,15 +67,23 @@ impl<A: Allocator + Copy> Facts<A> {
         }
     }
 
-    /// Accepts the exchange, if some spool permits it together with those that were accepted before. If
-    /// none does, the facts stay as they were. The exchange has to be the next one: its index is the number
-    /// of those that were accepted, and none of them closed the connection. For k numbers that it lists, and
-    /// n of its group that are kept, it takes time in the order of (k + 1) log n; for LIST ACTIVE in the
-    /// order of the lines, and of the groups that are shown where the wildmat wasn't answered before.
+    /// Accepts the next exchange of the session, if some spool permits it together with those that
+    /// were accepted before. If none does, the facts stay as they were, and the value tells why.
+    ///
+    /// The exchange has to be the next one: its index is the number of exchanges that were
+    /// accepted, and none of these closed the connection.
+    ///
+    /// For an answer that lists k numbers of a group of which n numbers are kept, it takes time in
+    /// the order of (k + 1) log n. For an answer to LIST ACTIVE (RFC 3977, section 7.6.3) it takes
+    /// time in the order of the lines and, where the wildmat wasn't answered before, of the groups
+    /// that are shown.
     ///
     /// # Errors
     ///
-    /// `Memory` where memory was refused; from then on `Failed`.
+    /// [`FactsError::Memory`], if memory is refused. The facts have failed then, and say nothing of
+    /// use.
+    ///
+    /// [`FactsError::Failed`], if an earlier call failed. The facts stay as they are.
     pub fn note(&mut self, exchange: &Exchange<'_>) -> Result<Noted, FactsError>
         requires { self.old.has_failed ≡ false → IsDue self.old exchange.now }
         ensures noted { (profile : Profile) (past : List Paired) → HasNoted profile self.old past → Notes profile past exchange.now self.old self.new result }
@@ -91,7 +101,8 @@ impl<A: Allocator + Copy> Facts<A> {
         }
     }
 
-    /// The same, where memory wasn't refused before. After an error the value says nothing of use.
+    /// Accepts the exchange, where memory wasn't refused before. After an error the value says
+    /// nothing of use.
     fn try_note(&mut self, exchange: &Exchange<'_>) -> Result<Noted, AllocError>
         requires { IsDue self.old exchange.now }
         ensures { IfOk result (λ noted. (profile : Profile) (past : List Paired) → HasNoted profile self.old past → IsNoted profile past exchange.now self.old self.new noted) }
@@ -117,49 +128,58 @@ impl<A: Allocator + Copy> Facts<A> {
 }
 
 impl<A: Allocator> Facts<A> {
-    /// How large article numbers may be.
+    /// Returns the limit of article numbers (RFC 3977, section 6).
     pub fn limit(&self) -> Limit
         ensures { result ≡ self.now.limit }
     {
         self.limit
     }
 
-    /// How the marks of a 211 are read.
+    /// Returns the way in which the water marks of a 211 are read (RFC 3977, section 6.1.1.2).
     pub fn marks(&self) -> Marks
         ensures { result ≡ self.now.marks }
     {
         self.marks
     }
 
-    /// The groups that each spool has, in byte order of their names.
+    /// Returns the groups that the accepted answers show, in byte order of their names. Every spool
+    /// that permits the exchanges has them.
     pub fn groups(&self) -> ShownGroups<'_, A>
         ensures { (profile : Profile) (past : List Paired) → HasNoted profile self.now past → AreShownGroups (said_by profile.marks past) result }
     {
         self.kept.groups()
     }
 
-    /// The group with so many before it, if there are more. It goes through those before.
+    /// Returns the group at the index, which counts from 0 in the order of
+    /// [`groups`](Facts::groups), or `None` if there are no more groups than that. It takes time in
+    /// the order of the index.
     pub fn group(&self, index: usize) -> Option<ShownGroup<'_, A>>
-        ensures { (profile : Profile) (past : List Paired) → HasNoted profile self.now past → (groups : List GroupValue) × AreShownGroups (said_by profile.marks past) groups × (result ≡ slice_get groups index) }
+        ensures { (profile : Profile) (past : List Paired) → HasNoted profile self.now past → (groups : List GroupValue)
+            × AreShownGroups (said_by profile.marks past) groups × (result ≡ slice_get groups index) }
     {
         self.groups().nth(index)
     }
 
-    /// The articles that each spool has, in byte order of their message-ids.
+    /// Returns the articles that the accepted answers show, in byte order of their message-ids.
+    /// Every spool that permits the exchanges has them.
     pub fn articles(&self) -> ShownArticles<'_, A>
         ensures { (profile : Profile) (past : List Paired) → HasNoted profile self.now past → AreShownArticles (said_by profile.marks past) result }
     {
         self.kept.articles()
     }
 
-    /// The article with so many before it, if there are more. It goes through those before.
+    /// Returns the article at the index, which counts from 0 in the order of
+    /// [`articles`](Facts::articles), or `None` if there are no more articles than that. It takes
+    /// time in the order of the ids that are passed over.
     pub fn article(&self, index: usize) -> Option<ShownArticle<'_, A>>
-        ensures { (profile : Profile) (past : List Paired) → HasNoted profile self.now past → (articles : List ArticleValue) × AreShownArticles (said_by profile.marks past) articles × (result ≡ slice_get articles index) }
+        ensures { (profile : Profile) (past : List Paired) → HasNoted profile self.now past → (articles : List ArticleValue)
+            × AreShownArticles (said_by profile.marks past) articles × (result ≡ slice_get articles index) }
     {
         self.articles().nth(index)
     }
 
-    /// Whether an answer mentions the id.
+    /// Tells whether an accepted answer mentions the message-id: names it, or says that it has no
+    /// article.
     pub fn mentions(&self, id: &[u8]) -> bool
         ensures { (profile : Profile) (past : List Paired) → HasNoted profile self.now past → result ≡ is_mentioned (said_by profile.marks past) id.now }
     {

@@ -1,4 +1,4 @@
-//! The first number that is free.
+//! The first number that is free, which no answer denies.
 ghost use Rattle.std.specs.Prelude.{◌≡◌, ℕ, ◌<◌, ◌≤◌, ◌⊎◌, true, false, max, [], IsTrue};
 ghost use Rattle.std.specs.List.{list_all};
 ghost use Rattle.nntp_intervals.specs.Intervals.{holds};
@@ -11,8 +11,8 @@ use nntp_intervals::IntervalSet;
 use std::alloc::Allocator;
 
 impl<'s> NumbersPart<'s> {
-    /// The first free number after the part, where no number of the part is denied: the first of these,
-    /// where what is free without them is in their interval.
+    /// Returns the first free number after the part, where no number of the part is denied: the
+    /// first of these, if what is free without them is in their interval.
     pub(crate) fn first_free<A: Allocator>(&self, denied: &IntervalSet<A>) -> Option<u64>
         ensures { IsRegular (said self.now) → IsTrue (list_all (is_open denied.now (said self.now)) self.now.numbers.now)
             → FirstFreeBelow (denied_after denied.now (said self.now)) result }
@@ -24,7 +24,7 @@ impl<'s> NumbersPart<'s> {
         }
     }
 
-    /// The first free number from `start` on that is outside the interval.
+    /// Returns the first free number from `start` on that is outside the interval.
     fn first_free_outside<A: Allocator>(&self, denied: &IntervalSet<A>, start: u64) -> Option<u64>
         ensures { self.now.numbers.now ≡ [] → start ≡ max self.now.low 1 → FirstFreeBelow (denied_after denied.now (said self.now)) result }
     {
@@ -38,7 +38,7 @@ impl<'s> NumbersPart<'s> {
     }
 }
 
-/// The first free number from `start` on, if it is below `first`; else `n`.
+/// Returns the first free number from `start` on, if it is below `first`, and else `n`.
 fn free_before<A: Allocator>(denied: &IntervalSet<A>, start: u64, first: u64, n: u64) -> u64
     ensures kind { (result < first) ⊎ (result ≡ n) }
     ensures from { start ≤ n → start ≤ result }

@@ -10,12 +10,15 @@ use std::alloc::{AllocError, Allocator};
 use std::collections::BTreeSet;
 use std::marker::Model;
 
-/// The intervals of a range before, between and behind ascending numbers, some of them empty.
+/// An iterator over the intervals of a range before, between and behind ascending numbers, some of
+/// them empty.
 #[derive(Drop)]
 pub(crate) struct Gaps<'a> {
-    /// Where the next one begins, if there is one.
+    /// The number at which the next interval begins, if there is one.
     start: Option<u64>,
+    /// The last number of the range.
     last: u64,
+    /// The numbers that aren't passed yet.
     numbers: &'a [u64],
 }
 
@@ -53,7 +56,7 @@ impl<'a> Iterator for Gaps<'a> {
 }
 
 impl<'a> Gaps<'a> {
-    /// Those of the range from `first` to `last`.
+    /// Begins with the first interval of the range from `first` to `last`.
     pub(crate) fn new(first: u64, last: u64, numbers: &'a [u64]) -> Gaps<'a>
         ensures { result ≡ gaps (Some first) last numbers.now }
     {
@@ -65,7 +68,7 @@ impl<'a> Gaps<'a> {
     }
 }
 
-/// Whether no shown number is in one of the intervals.
+/// Tells whether no shown number is in one of the intervals.
 pub(crate) fn none_in_gaps<A: Allocator>(shown: &BTreeSet<u64, A>, mut gaps: Gaps<'_>) -> bool
     ensures { IsTrue result ↔ ((n : ℕ) → has shown.now.keys n ≡ true → holds gaps.entry n ≡ false) }
 {

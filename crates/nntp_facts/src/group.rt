@@ -23,9 +23,9 @@ use std::marker::Model;
 #[derive(Drop)]
 pub(crate) struct Group<A: Allocator = Global> {
     numbers: Numbers<A>,
-    /// The id that is shown at a number.
+    /// The ids that are shown, each by its number.
     ids: BTreeMap<u64, Vec<u8, A>, A>,
-    /// The number at which an id is shown.
+    /// The numbers at which ids are shown, each by its id.
     places: BTreeMap<Vec<u8, A>, u64, A>,
 }
 
@@ -43,7 +43,7 @@ impl<A: Allocator> Model for Group<A> {
 }
 
 impl<A: Allocator + Copy> Group<A> {
-    /// Of a group of which nothing is said.
+    /// Creates what is kept of a group of which nothing is said yet.
     pub(crate) fn new(alloc: A) -> Group<A>
         ensures numbers { IsSummary result.numbers [] }
         ensures ids { (result.ids ≡ empty) × (result.places ≡ empty) }
@@ -77,10 +77,12 @@ impl<A: Allocator + Copy> Group<A> {
         }
     }
 
-    /// The same of an id. Where one is shown at the number, nothing is new.
+    /// Adds that the number has the id, if it may have it. Nothing is added where an id is shown at
+    /// the number already. After an error the value says nothing of use.
     fn add_id_at(&mut self, alloc: A, at: IdAt<'_>) -> Result<(), AllocError>
         ensures numbers { self.new.numbers ≡ self.old.numbers }
-        ensures ids { OnOk result (Agree (get self.old.ids) (get self.old.places) (Some (at.entry.number, at.entry.id.now)) → IsFree (get self.old.ids at.entry.number) (get self.old.places at.entry.id.now) (at.entry.number, at.entry.id.now)
+        ensures ids { OnOk result (Agree (get self.old.ids) (get self.old.places) (Some (at.entry.number, at.entry.id.now))
+            → IsFree (get self.old.ids at.entry.number) (get self.old.places at.entry.id.now) (at.entry.number, at.entry.id.now)
             → (self.new.ids ≡ insert self.old.ids at.entry.number at.entry.id.now) × (self.new.places ≡ insert self.old.places at.entry.id.now at.entry.number)) }
     {
         if self.id(at.number).is_some() {
@@ -102,8 +104,9 @@ impl<A: Allocator + Copy> Group<A> {
 }
 
 impl<A: Allocator> Group<A> {
-    /// Whether what is said of the group stands together with all before: what is said of its numbers, and
-    /// that the number has the id, which is shown at no other, and no other there.
+    /// Tells whether what is said of the group stands together with all that was said before: what
+    /// is said of its numbers, and that the number has the id, which is shown at no other number,
+    /// and no other id there.
     pub(crate) fn joins(&self, part: &GroupPart<'_>) -> bool
         ensures { (asks more : List Ask) → IsSummary self.now.numbers asks → AsksStand asks → AreBounded (asks ++ more) → Says (said part.now.numbers) more
             → Agree (get self.now.ids) (get self.now.places) (id_at part.now.id) → IsTrue result ↔ (AsksStand (asks ++ more) × MayHave self.now.ids self.now.places (id_at part.now.id)) }
@@ -111,7 +114,8 @@ impl<A: Allocator> Group<A> {
         self.numbers.joins(&part.numbers) && self.may_have(part.id)
     }
 
-    /// Whether all that is said is that a number is there, with the id that is shown there.
+    /// Tells whether nothing is said but that a number is there, with the id that is shown there
+    /// already.
     pub(crate) fn has_said(&self, part: &GroupPart<'_>) -> bool
         ensures { IsTrue result ↔ HasSaid self.now (of_group part.now) }
     {
@@ -121,7 +125,7 @@ impl<A: Allocator> Group<A> {
         }
     }
 
-    /// Whether the id is shown at the number.
+    /// Tells whether the id is shown at the number.
     fn has_id(&self, at: IdAt<'_>) -> bool
         ensures { IsTrue result ↔ (get self.now.ids at.entry.number ≡ Some at.entry.id.now) }
     {
@@ -131,7 +135,7 @@ impl<A: Allocator> Group<A> {
         }
     }
 
-    /// Whether the number may have the id.
+    /// Tells whether the number may have the id.
     fn may_have(&self, id: Option<IdAt<'_>>) -> bool
         ensures { Agree (get self.now.ids) (get self.now.places) (id_at id.entry) → IsTrue result ↔ MayHave self.now.ids self.now.places (id_at id.entry) }
     {
@@ -141,8 +145,8 @@ impl<A: Allocator> Group<A> {
         }
     }
 
-    /// Whether no other id is shown at the number, and the id at no other number: an id that is shown there
-    /// already is shown nowhere else.
+    /// Tells whether no other id is shown at the number, and the id at no other number: an id that
+    /// is shown there already is shown nowhere else.
     fn is_free(&self, at: IdAt<'_>) -> bool
         ensures { Agree (get self.now.ids) (get self.now.places) (Some (at.entry.number, at.entry.id.now))
             → IsTrue result ↔ IsFree (get self.now.ids at.entry.number) (get self.now.places at.entry.id.now) (at.entry.number, at.entry.id.now) }
@@ -153,7 +157,7 @@ impl<A: Allocator> Group<A> {
         }
     }
 
-    /// Whether the id is shown at no other number.
+    /// Tells whether the id is shown at no other number.
     fn has_no_other_place(&self, at: IdAt<'_>) -> bool
         ensures { IsTrue result ↔ IfSome (get self.now.places at.entry.id.now) (λ other. at.entry.number ≡ other) }
     {
@@ -163,28 +167,29 @@ impl<A: Allocator> Group<A> {
         }
     }
 
-    /// The least number that has to be there, where it isn't shown.
+    /// Returns the least number that the group is given, where it isn't shown.
     pub(crate) fn unseen(&self) -> Option<u64>
         ensures { result ≡ unseen_in self.now.numbers }
     {
         self.numbers.unseen()
     }
 
-    /// The greatest number that has to be there, where it is neither shown nor the least.
+    /// Returns the greatest number that the group is given, where it is neither shown nor the
+    /// least.
     pub(crate) fn unseen_high(&self) -> Option<u64>
         ensures { result ≡ unseen_high_in self.now.numbers }
     {
         self.numbers.unseen_high()
     }
 
-    /// The numbers that are shown, ascending.
+    /// Returns the numbers that are shown, ascending.
     pub(crate) fn shown(&self) -> &BTreeSet<u64, A>
         ensures { result.now.keys ≡ self.now.numbers.shown }
     {
         self.numbers.shown()
     }
 
-    /// The id at the number, if one is shown.
+    /// Returns the id at the number, if one is shown.
     pub(crate) fn id(&self, number: u64) -> Option<&[u8]>
         ensures { option_copied result ≡ get self.now.ids number }
     {
@@ -194,7 +199,7 @@ impl<A: Allocator> Group<A> {
         }
     }
 
-    /// The number of the id, if one is shown.
+    /// Returns the number of the id, if one is shown.
     fn place(&self, id: &[u8]) -> Option<u64>
         ensures { result ≡ get self.now.places id.now }
     {

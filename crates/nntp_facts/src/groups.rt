@@ -1,7 +1,7 @@
 //! What answers say of groups.
 ghost use Rattle.std.specs.Prelude.{◌≡◌, ◌↔◌, false, List, ◌++◌, IsTrue, OnOk, option_copied};
 ghost use Rattle.std.specs.FinMap as map;
-ghost use Rattle.nntp_article.specs.Spool.{Name};
+ghost use Rattle.nntp_article.specs.Session.Spool.{Name};
 ghost use Rattle.nntp_facts.specs.Asks.{Ask};
 ghost use Rattle.nntp_facts.specs.Together.{AsksStand};
 ghost use Rattle.nntp_facts.specs.Part.{Says};
@@ -22,7 +22,7 @@ use std::alloc::{AllocError, Allocator, Global};
 use std::collections::BTreeMap;
 use std::marker::Model;
 
-/// The groups that are shown, by their names.
+/// The groups that are shown, by their names, with what is kept of each.
 #[derive(Drop)]
 pub(crate) struct Groups<A: Allocator = Global> {
     alloc: A,
@@ -45,6 +45,7 @@ impl<A: Allocator> Model for Groups<A> {
 }
 
 impl<A: Allocator + Copy> Groups<A> {
+    /// Creates what is kept of a session without answers: no group is shown.
     pub(crate) fn new(alloc: A) -> Groups<A>
         ensures { result ≡ map.empty }
     {
@@ -54,10 +55,13 @@ impl<A: Allocator + Copy> Groups<A> {
         }
     }
 
-    /// Adds what is said of a group, which is shown, or is now. After an error the value says nothing of use.
+    /// Adds what is said of a group, which is shown from now on. After an error the value says
+    /// nothing of use.
     pub(crate) fn add(&mut self, part: &GroupPart<'_>) -> Result<(), AllocError>
         ensures { OnOk result ((before : Name → Told) (asks : List Ask) → AreKept before self.old → Says (said part.now.numbers) asks → ((before part.now.name.now).is_shown ≡ false → AreBounded asks)
-            → Agree (before part.now.name.now).ids (before part.now.name.now).places (id_at part.now.id) → MayShow (before part.now.name.now) (id_at part.now.id) → AreKeptWith before part.now.name.now asks (id_at part.now.id) self.new) }
+            → Agree (before part.now.name.now).ids (before part.now.name.now).places (id_at part.now.id)
+            → MayShow (before part.now.name.now) (id_at part.now.id)
+            → AreKeptWith before part.now.name.now asks (id_at part.now.id) self.new) }
     {
         if let Some(group) = self.groups.get_mut(part.name) {
             return group.add(self.alloc, part);
@@ -76,10 +80,12 @@ impl<A: Allocator + Copy> Groups<A> {
         Ok(())
     }
 
-    /// How what is said of a group joins all before.
+    /// Tells how what is said of a group joins all that was said before.
     pub(crate) fn joins(&self, part: &GroupPart<'_>) -> Joins
         ensures at_all { (tells : Name → Told) (asks : List Ask) → AreKept tells self.now → AsksStand (tells part.now.name.now).asks → Says (said part.now.numbers) asks
-            → ((tells part.now.name.now).is_shown ≡ false → AreBounded asks) → Agree (tells part.now.name.now).ids (tells part.now.name.now).places (id_at part.now.id) → IsShownAt (tells part.now.name.now) (id_at part.now.id)
+            → ((tells part.now.name.now).is_shown ≡ false → AreBounded asks)
+            → Agree (tells part.now.name.now).ids (tells part.now.name.now).places (id_at part.now.id)
+            → IsShownAt (tells part.now.name.now) (id_at part.now.id)
             → IsTrue (joins_at_all result) ↔ (AsksStand ((tells part.now.name.now).asks ++ asks) × MayShow (tells part.now.name.now) (id_at part.now.id)) }
         ensures again { result ≡ Again → (tells : Name → Told) (asks : List Ask) → AreKept tells self.now → Says (said part.now.numbers) asks
             → Agree (tells part.now.name.now).ids (tells part.now.name.now).places (id_at part.now.id) → IsShownAt (tells part.now.name.now) (id_at part.now.id)
@@ -94,21 +100,21 @@ impl<A: Allocator + Copy> Groups<A> {
 }
 
 impl<A: Allocator> Groups<A> {
-    /// Whether the group is shown.
+    /// Tells whether the group is shown.
     pub(crate) fn is_shown(&self, name: &[u8]) -> bool
         ensures { (tells : Name → Told) → AreKept tells self.now → result ≡ (tells name.now).is_shown }
     {
         self.get(name).is_some()
     }
 
-    /// What is kept of a group, if it is shown.
+    /// Returns what is kept of a group, if it is shown.
     fn get(&self, name: &[u8]) -> Option<&Group<A>>
         ensures { option_copied result ≡ map.get self.now name.now }
     {
         self.groups.get(name)
     }
 
-    /// The groups, in byte order of their names.
+    /// Returns the groups, in byte order of their names.
     pub(crate) fn shown(&self) -> ShownGroups<'_, A>
         ensures { result ≡ shown_groups self.now }
     {

@@ -1,28 +1,28 @@
-//! How what is said of a group stands to what is kept of it.
+//! The ways in which what is said of a group stands to what is kept of it.
 ghost use Rattle.std.specs.Prelude.{◌≡◌, ◌≢◌};
 ghost use Rattle.nntp_facts.specs.Kept.{joins_at_all};
 ghost use Rattle.nntp_facts.specs.declared.joins.Joins.TheVariants.{Again};
 
-/// How what is said of a group stands to what is kept of it.
+/// The way in which what is said of a group stands to what is kept of it.
 #[derive(Clone, Copy)]
 pub(crate) enum Joins {
-    /// It contradicts it.
+    /// What is said contradicts what is kept.
     Never,
-    /// It is kept already.
+    /// What is said is kept already.
     Again,
-    /// It joins it, and may say more.
+    /// What is said joins what is kept, and may say more.
     New,
 }
 
 impl Joins {
-    /// Whether it joins at all.
+    /// Tells whether what is said joins what is kept at all.
     pub(crate) fn at_all(self) -> bool
         ensures { result ≡ joins_at_all self }
     {
         !matches!(self, Joins::Never)
     }
 
-    /// The answer of what isn't kept already.
+    /// Returns how what isn't kept already joins, by whether it does.
     pub(crate) fn new_if(does: bool) -> Joins
         ensures at_all { joins_at_all result ≡ does }
         ensures new { result ≢ Again }

@@ -1,9 +1,9 @@
-//! What all answers so far say of the spool.
+//! What is kept of all answers of a session.
 ghost use Rattle.std.specs.Prelude.{◌≡◌, ◌↔◌, ◌++◌, [], false, None, List, ℕ, IsTrue, IsFalse, IfSome, IfOk, OnOk, option_map};
 ghost use Rattle.std.specs.List.{AllByRecursion, list_any};
 ghost use Rattle.std.specs.Option.{option_map_or};
-ghost use Rattle.nntp_article.specs.Spool.{Name};
-ghost use Rattle.nntp_article.specs.Machine.{is_same};
+ghost use Rattle.nntp_article.specs.Session.Spool.{Name};
+ghost use Rattle.nntp_article.specs.Session.Machine.{is_same};
 ghost use Rattle.nntp_facts.specs.Asks.{Ask};
 ghost use Rattle.nntp_facts.specs.Facts.{Fact};
 ghost use Rattle.nntp_facts.specs.Given.{is_shown_group, is_mentioned};
@@ -27,7 +27,7 @@ use nntp_wire::GroupName;
 use std::alloc::{AllocError, Allocator, Global};
 use std::marker::Model;
 
-/// What all answers so far say of the spool.
+/// What is kept of all that the answers so far say of the spool.
 #[derive(Drop)]
 pub(crate) struct Kept<A: Allocator = Global> {
     alloc: A,
@@ -48,7 +48,7 @@ impl<A: Allocator> Model for Kept<A> {
 }
 
 impl<A: Allocator + Copy> Kept<A> {
-    /// Of no answers.
+    /// Creates what is kept of a session without answers: nothing is said yet.
     pub(crate) fn new(alloc: A) -> Kept<A>
         ensures { IsKept [] result }
     {
@@ -72,7 +72,8 @@ impl<A: Allocator + Copy> Kept<A> {
         }
     }
 
-    /// The same where no groups are listed.
+    /// Adds what an answer says that lists no groups, if it stands together with all before, and
+    /// tells whether it does. After an error the value says nothing of use.
     fn note_parts(&mut self, saying: &Saying<'_>) -> Result<bool, AllocError>
         ensures { IfOk result (λ does. (saying_of saying.now).groups ≡ None → (facts more : List Fact) → IsKept facts self.old → Together facts → AllByRecursion IsWellFormed more
             → Tells facts (saying_of saying.now) more → AreAdded facts more self.old self.new does) }
@@ -89,8 +90,8 @@ impl<A: Allocator + Copy> Kept<A> {
         Ok(true)
     }
 
-    /// Adds what is said of an id, if it may be so, and tells whether it may. After an error the value says
-    /// nothing of use.
+    /// Adds what is said of an id, if it may be so, and tells whether it may. After an error the
+    /// value says nothing of use.
     fn note_article(&mut self, article: &Option<ArticlePart<'_>>) -> Result<bool, AllocError>
         ensures rest { (self.new.groups ≡ self.old.groups) × (self.new.names ≡ self.old.names) }
         ensures added { IfOk result (λ does. (facts : List Fact) (name : Name) (n : ℕ) → AreKeptArticles facts self.old.articles → IfSome (option_map article_said article.now) MayBeSaid
@@ -145,11 +146,12 @@ impl<A: Allocator + Copy> Kept<A> {
         }
     }
 
-    /// How what is said of names and of a group joins all before.
+    /// Tells how what is said of names and of a group joins all that was said before.
     fn groups_join(&self, saying: &Saying<'_>) -> Joins
         ensures at_all { (facts : List Fact) (asks : List Ask) → IsKept facts self.now → Together facts → MaySay facts (saying_of saying.now) asks
             → IsTrue (joins_at_all result) ↔ JoinGroups facts (saying_of saying.now) asks }
-        ensures again { result ≡ Again → (facts : List Fact) (asks : List Ask) → (saying_of saying.now).groups ≡ None → IsKept facts self.now → Together facts → MaySay facts (saying_of saying.now) asks
+        ensures again { result ≡ Again → (facts : List Fact) (asks : List Ask) → (saying_of saying.now).groups ≡ None
+            → IsKept facts self.now → Together facts → MaySay facts (saying_of saying.now) asks
             → AreKeptGroups (facts ++ facts_in (saying_of saying.now) asks) self.now.groups }
     {
         if self.may_be_there(saying.there_is) && self.may_be_missing(saying.there_is_no) {
@@ -159,9 +161,10 @@ impl<A: Allocator + Copy> Kept<A> {
         }
     }
 
-    /// Whether there may be such a group.
+    /// Tells whether there may be a group of this name.
     fn may_be_there(&self, name: Option<&GroupName<'_>>) -> bool
-        ensures { (facts : List Fact) → IsKept facts self.now → Together facts → IsTrue result ↔ IfSome (option_map (λ name. name.now) name.entry) (λ name. IsFalse (list_any (denies_group name) facts)) }
+        ensures { (facts : List Fact) → IsKept facts self.now → Together facts → IsTrue result
+            ↔ IfSome (option_map (λ name. name.now) name.entry) (λ name. IsFalse (list_any (denies_group name) facts)) }
     {
         match name {
             Some(name) => self.may_be(name),
@@ -169,7 +172,7 @@ impl<A: Allocator + Copy> Kept<A> {
         }
     }
 
-    /// Whether there may be no such group.
+    /// Tells whether there may be no group of this name.
     fn may_be_missing(&self, name: Option<&[u8]>) -> bool
         ensures { (facts : List Fact) → IsKept facts self.now → IsTrue result ↔ IfSome (option_map (λ name. name.now) name.entry) (λ name. IsFalse (is_shown_group facts name)) }
     {
@@ -179,11 +182,13 @@ impl<A: Allocator + Copy> Kept<A> {
         }
     }
 
-    /// How what is said of a group joins all before.
+    /// Tells how what is said of a group joins all that was said before.
     fn group_joins(&self, group: &Option<GroupPart<'_>>) -> Joins
         ensures at_all { (facts : List Fact) (s : SayingValue) (asks : List Ask) → s.group ≡ option_map of_group group.now → IsKept facts self.now → Together facts → MaySay facts s asks
             → IsTrue (joins_at_all result) ↔ IfSome s.group (GroupJoins facts asks) }
-        ensures again { result ≡ Again → (facts : List Fact) (s : SayingValue) (asks : List Ask) → s.group ≡ option_map of_group group.now → s.groups ≡ None → IsKept facts self.now → Together facts → MaySay facts s asks
+        ensures again { result ≡ Again → (facts : List Fact) (s : SayingValue) (asks : List Ask)
+            → s.group ≡ option_map of_group group.now → s.groups ≡ None → IsKept facts self.now → Together facts
+            → MaySay facts s asks
             → AreKeptGroups (facts ++ facts_in s asks) self.now.groups }
     {
         match group {
@@ -194,7 +199,7 @@ impl<A: Allocator + Copy> Kept<A> {
 }
 
 impl<A: Allocator> Kept<A> {
-    /// Whether the name may be that of a group.
+    /// Tells whether the name may be that of a group.
     pub(crate) fn may_be(&self, name: &GroupName<'_>) -> bool
         ensures { (facts : List Fact) → IsKept facts self.now → Together facts → IsTrue result ↔ IsFalse (list_any (denies_group name.now) facts) }
     {
@@ -203,21 +208,21 @@ impl<A: Allocator> Kept<A> {
 }
 
 impl<A: Allocator> Kept<A> {
-    /// The groups that are shown, in byte order of their names.
+    /// Returns the groups that are shown, in byte order of their names.
     pub(crate) fn groups(&self) -> ShownGroups<'_, A>
         ensures { result ≡ shown_groups self.now.groups }
     {
         self.groups.shown()
     }
 
-    /// The articles that are shown, in byte order of their message-ids.
+    /// Returns the articles that are shown, in byte order of their message-ids.
     pub(crate) fn articles(&self) -> ShownArticles<'_, A>
         ensures { result ≡ shown_articles self.now.articles }
     {
         self.articles.shown()
     }
 
-    /// Whether an answer mentions the id.
+    /// Tells whether an answer mentions the id.
     pub(crate) fn mentions(&self, id: &[u8]) -> bool
         ensures { (facts : List Fact) → IsKept facts self.now → result ≡ is_mentioned facts id.now }
     {

@@ -1,10 +1,10 @@
-//! Laws of the definitions alone.
+//! Laws that follow from the definitions alone.
 ghost use Rattle.std.specs.Prelude.{◌≡◌, ℕ, Contains, ◌↔◌, ◌≤◌, ◌<◌, ◌+◌, ◌^◌, ◌⊎◌, false, List, [], ◌∷◌, ◌++◌, length, IsTrue, Some};
 ghost use Rattle.std.specs.List.{AllByRecursion, flat_map};
 ghost use Rattle.std.specs.FinMap.{insert, len};
-ghost use Rattle.nntp_article.specs.Spool.{Spool, Numbers, IsNumber, IsGroup, IsSpool, Name};
-ghost use Rattle.nntp_article.specs.declared.profile.Profile.{Profile};
-ghost use Rattle.nntp_article.specs.Machine.{Run, start, fits, Visible, visible_after};
+ghost use Rattle.nntp_article.specs.Session.Spool.{Spool, Numbers, IsNumber, IsGroup, IsSpool, Name};
+ghost use Rattle.nntp_article.specs.declared.session.profile.Profile.{Profile};
+ghost use Rattle.nntp_article.specs.Session.Machine.{Run, start, fits, Visible, visible_after};
 ghost use Rattle.nntp_facts.specs.Asks.{RunsAt, Meets, Ask, position_after};
 ghost use Rattle.nntp_facts.specs.declared.position.Position.TheVariants.{Nowhere};
 ghost use Rattle.nntp_facts.specs.declared.position.Position.{Position};
@@ -12,10 +12,10 @@ ghost use Rattle.nntp_facts.specs.Facts.{FitsAll, Holds, Fact, facts_of, facts_f
 ghost use Rattle.nntp_facts.specs.Given.{asks_of, is_known, demand, join, IsOneMore, IsGivenNumber, HasGivenNumbers, IsGiven, facts_of_session, size, weight, HasAtLeast};
 ghost use Rattle.nntp_facts.specs.Together.{MeetsDemand, IsWellFormed, Together, AgreeWithin, Join};
 ghost use Rattle.nntp_facts.specs.Permits.{SomePermits, IsFirstUnpermitted};
-ghost use Rattle.nntp_article.specs.Explains.{Explains, ExplainsUpTo, Bad};
+ghost use Rattle.nntp_article.specs.Session.Explains.{Explains, ExplainsUpTo, Bad};
 ghost use Rattle.nntp_wire.specs.Octets.{are_octets};
 ghost use Rattle.nntp_wire.specs.Session.{prompts_of, Spelled};
-ghost use Rattle.nntp_facts.specs.Headline.{Headline, Yes, No, is_yes, IsHeadline};
+ghost use Rattle.nntp_facts.specs.Outcome.{Outcome, Yes, No, is_yes, IsOutcome};
 ghost use Rattle.nntp_facts.specs.declared.class.Class.{Class};
 ghost use Rattle.nntp_facts.specs.declared.class.Class.TheVariants.{OutOfPlace};
 ghost use Rattle.nntp_facts.specs.Classes.{HasClass, IsSettled, class_of, class_by, visible_from, position_from, asked_next};
@@ -47,8 +47,9 @@ pub fn given_numbers_meet_what_is_asked()
         → AllByRecursion (Meets G) (asks_of name facts) }
 {}
 
-/// The given numbers of a group are those that are known, and the one more if there is one; then the
-/// demand is met, and else if those that are known meet it.
+/// The given numbers of a group are those that are known and, if there is one, the one more number.
+/// With it the demand on the first number is met; without it the demand is met exactly if the known
+/// numbers meet it.
 pub fn given_numbers_are_counted()
     ensures demand_met { (asks : List Ask) (e : ℕ) → IsOneMore asks e → MeetsDemand (demand asks) (IsGivenNumber asks) }
     ensures demand_of_known { (asks : List Ask) → ((e : ℕ) → IsOneMore asks e → ⊥)
@@ -67,20 +68,21 @@ pub fn strict_marks_are_all_that_is_added()
         → IsOneMore (asks_of name (facts_of_session profile.marks prompts answers)) n → ⊥ }
 {}
 
-/// There is one given spool at most.
+/// For some facts there is at most one given spool.
 pub fn given_spool_is_one()
     ensures { (facts : List Fact) (G H : Spool) → IsGiven facts G → IsGiven facts H → G ≡ H }
 {}
 
-/// What a session says is bounded by its answers and their lines, and so what fewer than 2^63 answers
-/// of fewer than 2^64 lines say.
+/// The size of what a session says is bounded by its answers and their lines. So it is below 2^210
+/// for fewer than 2^64 answers, each of fewer than 2^64 lines.
 pub fn size_is_bounded()
     ensures answers { (how : Marks) (prompts : List Asked) (answers : List Response) → size (facts_of_session how prompts answers) ≤ weight answers }
     ensures pairs { (how : Marks) (pairs : List Paired) → AllByRecursion (λ pair. lines_in pair.response < 2 ^ 64) pairs → length pairs < 2 ^ 64
         → size (facts_of_session how (asked_of pairs) (responses_of pairs)) < 2 ^ 210 }
 {}
 
-/// What a session says is bounded by the octets that spell its answers, and so by those of the server.
+/// The size of what a session says is at most the number of octets that spell its answers, and so
+/// of the server's octets.
 pub fn size_is_bounded_by_octets()
     ensures spelled { (how : Marks) (prompts : List Asked) (answers : List Response) (octets : List ℕ)
         → Spelled prompts answers octets → size (facts_of_session how prompts answers) ≤ length octets }
@@ -88,11 +90,13 @@ pub fn size_is_bounded_by_octets()
         → AreNext (streams client server) pairs left → size (facts_of_session how (asked_of pairs) (responses_of pairs)) ≤ length server }
 {}
 
-/// One answer more says what it says behind those before, and it fits if it fits what they leave.
+/// A session with one answer more says what it said before, and then what that answer says. It fits
+/// if it fitted before and left the connection open, and the answer fits the state that it left.
 pub fn answers_add_up()
     ensures facts { (how : Marks) (v : Visible) (at : Position) (prompts : List Asked) (answers : List Response) (asked : Asked) (response : Response)
         → asked_next prompts answers ≡ Some asked
-        → facts_from how v at prompts (answers ++ response ∷ []) ≡ facts_from how v at prompts answers ++ facts_of how (visible_from v prompts answers) (position_from at prompts answers) asked response }
+        → facts_from how v at prompts (answers ++ response ∷ []) ≡ facts_from how v at prompts answers ++ facts_of how
+        (visible_from v prompts answers) (position_from at prompts answers) asked response }
     ensures fitting { (profile : Profile) (v : Visible) (prompts : List Asked) (answers : List Response) (asked : Asked) (response : Response)
         → asked_next prompts answers ≡ Some asked
         → FitsAll profile v prompts (answers ++ response ∷ [])
@@ -105,13 +109,14 @@ pub fn answers_add_up()
         → position_from at prompts (answers ++ response ∷ []) ≡ position_after (position_from at prompts answers) asked response }
 {}
 
-/// What octets spell is well formed.
+/// The names, ids and lines in what an answer says are such, if octets spell the answer.
 pub fn spelled_answers_are_well_formed()
     ensures { (how : Marks) (v : Visible) (at : Position) (asked : Asked) (response : Response) (octets : List ℕ)
         → Spells asked response octets → IsTrue (are_octets octets) → AllByRecursion IsWellFormed (facts_of how v at asked response) }
 {}
 
-/// Only the prompts that are answered matter: those of the lines of the pairs, where answers are paired.
+/// No prompt matters but those that are answered. Where answers are paired, these are the prompts
+/// of the lines of the pairs.
 pub fn answered_prompts_matter()
     ensures permitted { (profile : Profile) (prompts more : List Asked) (answers : List Response) → length prompts ≡ length answers
         → SomePermits profile (prompts ++ more) answers ↔ SomePermits profile prompts answers }
@@ -127,7 +132,7 @@ pub fn answered_prompts_matter()
         → SomePermits profile (prompts_of client) (responses_of pairs) ↔ SomePermits profile (asked_of pairs) (responses_of pairs) }
 {}
 
-/// Some spool permits no answers.
+/// A session without answers is permitted by some spool.
 pub fn no_answers_are_permitted()
     ensures { (profile : Profile) (prompts : List Asked) → SomePermits profile prompts [] }
 {}
@@ -139,8 +144,8 @@ pub fn given_spool_permits()
         → IsGiven (facts_of_session profile.marks prompts answers) G → IsSpool profile.limit G × Run profile G start prompts answers }
 {}
 
-/// No spool that permits a session lacks what the session shows, or has fewer numbers in a group
-/// than the given one.
+/// A spool that permits a session lacks nothing that the session shows, and has no fewer numbers in
+/// a group than the given one.
 pub fn given_spool_is_least()
     ensures { (profile : Profile) (S G : Spool) (prompts : List Asked) (answers : List Response)
         → IsSpool profile.limit S → Run profile S start prompts answers → size (facts_of_session profile.marks prompts answers) < 2 ^ 210
@@ -168,8 +173,8 @@ pub fn permitted_where_all_stands_together()
         → IsGiven (facts_of_session profile.marks prompts answers) G → IsSpool profile.limit G × Run profile G start prompts answers }
 {}
 
-/// Behind answers that some spool permits, some spool permits one more exactly if it fits and what it
-/// says joins what was said.
+/// Some spool permits one answer more behind answers that some spool permits, exactly if it fits
+/// and what it says joins what was said.
 pub fn next_answer_is_permitted_where_it_joins()
     ensures demand { (asks more : List Ask) → demand (asks ++ more) ≡ join (demand asks) (demand more) }
     ensures facts { (facts more : List Fact) → Together facts → AgreeWithin more → Together (facts ++ more) ↔ Join facts more }
@@ -181,7 +186,7 @@ pub fn next_answer_is_permitted_where_it_joins()
         × Join (facts_of_session profile.marks prompts answers) (facts_of profile.marks (visible_from start.visible prompts answers) (position_from Nowhere prompts answers) asked response)) }
 {}
 
-/// Some spool permits a session, or none does.
+/// Either some spool permits a session, or none does.
 pub fn some_spool_permits_or_none()
     ensures { (profile : Profile) (prompts : List Asked) (answers : List Response) → size (facts_of_session profile.marks prompts answers) < 2 ^ 210
         → SomePermits profile prompts answers ⊎ (SomePermits profile prompts answers → ⊥) }
@@ -224,8 +229,8 @@ pub fn settled_answer_stays_bad()
         × HasClass profile (client ++ more_client) (server ++ more_server) k class }
 {}
 
-/// Where the pairing of two streams ends at octets, these have the class of that end, and it is settled
-/// where the end stays.
+/// Where the pairing of two streams ends at octets, these have the class of that end, which is
+/// settled exactly if the end is lasting.
 pub fn pairing_ends_in_class()
     ensures class { (profile : Profile) (client server : List ℕ) (pairs : List Paired) (left : Unpaired) (class : PairClass)
         → AreNext (streams client server) pairs left → IsBad class left
@@ -234,16 +239,16 @@ pub fn pairing_ends_in_class()
         → AreNext (streams client server) pairs left → IsSettled client server (length pairs) (class_of class) ↔ IsLasting class left }
 {}
 
-/// Who permits the responses of a pairing that comes to the end of the server's octets explains both
-/// streams.
+/// A spool explains both streams, if their pairing comes to the end of the server's octets and the
+/// spool permits its responses.
 pub fn pairing_to_the_end_is_explained()
     ensures { (profile : Profile) (S : Spool) (client server : List ℕ) (pairs : List Paired) (unanswered : ℕ)
         → IsPairing client server pairs (end unanswered) → IsSpool profile.limit S
         → Run profile S start (prompts_of client) (responses_of pairs) → Explains profile S client server (length pairs) }
 {}
 
-/// Where a pairing ends at octets, and some spool permits its responses, the answer there is bad, of
-/// the class of that end.
+/// Where a pairing ends at octets, and some spool permits its responses, the answer at these octets
+/// is bad, of the class of that end.
 pub fn pairing_to_octets_is_bad()
     ensures { (profile : Profile) (client server : List ℕ) (pairs : List Paired) (class : PairClass)
         → IsPairing client server pairs (bad class) → SomePermits profile (prompts_of client) (responses_of pairs)
@@ -267,8 +272,8 @@ pub fn unpermitted_response_is_bad()
         → SomePermits profile (prompts_of client) (responses_of pairs ++ pair.response ∷ []) → ⊥ }
 {}
 
-/// The answers of an explanation are those of the first pairs of the streams, in order, and it leaves
-/// the octets that they leave.
+/// The answers of an explanation are the responses of the first pairs of the streams, in order, and
+/// it leaves the octets that these pairs leave.
 pub fn explanation_is_by_pairs()
     ensures { (profile : Profile) (S : Spool) (client server : List ℕ) (n : ℕ) (rest : List ℕ)
         → (explained : ExplainsUpTo profile S client server n rest) → HasPairs (streams client server) explained.answers rest }
@@ -282,56 +287,57 @@ pub fn explanation_is_by_all_pairs()
         → (responses_of pairs ≡ explained.answers) × (unanswered : ℕ) × (ending ≡ end unanswered) }
 {}
 
-/// Two streams have one headline; it is a yes exactly if some spool explains them, and else a no.
-pub fn streams_have_one_headline()
+/// Two streams have exactly one headline. It is a yes if some spool explains them, and else a no.
+pub fn streams_have_one_outcome()
     ensures some { (profile : Profile) (client server : List ℕ) → length server < 2 ^ 210
-        → (headline : Headline) × IsHeadline profile client server headline }
-    ensures one { (profile : Profile) (client server : List ℕ) (headline other : Headline)
-        → IsHeadline profile client server headline → IsHeadline profile client server other → headline ≡ other }
-    ensures yes { (profile : Profile) (client server : List ℕ) (headline : Headline) → IsHeadline profile client server headline
+        → (headline : Outcome) × IsOutcome profile client server headline }
+    ensures one { (profile : Profile) (client server : List ℕ) (headline other : Outcome)
+        → IsOutcome profile client server headline → IsOutcome profile client server other → headline ≡ other }
+    ensures yes { (profile : Profile) (client server : List ℕ) (headline : Outcome) → IsOutcome profile client server headline
         → IsTrue (is_yes headline) ↔ ((S : Spool) × (n : ℕ) × Explains profile S client server n) }
 {}
 
 /// Where the pairing comes to the end of the server's octets, and some spool permits its responses,
 /// the headline is a yes with the given spool.
-pub fn headline_at_the_end()
+pub fn outcome_at_the_end()
     ensures { (profile : Profile) (client server : List ℕ) (pairs : List Paired) (unanswered : ℕ) (G : Spool)
         → size (facts_of_session profile.marks (asked_of pairs) (responses_of pairs)) < 2 ^ 210
         → IsPairing client server pairs (end unanswered) → SomePermits profile (asked_of pairs) (responses_of pairs)
-        → IsGiven (facts_of_session profile.marks (asked_of pairs) (responses_of pairs)) G → IsHeadline profile client server (Yes G (length pairs)) }
+        → IsGiven (facts_of_session profile.marks (asked_of pairs) (responses_of pairs)) G → IsOutcome profile client server (Yes G (length pairs)) }
 {}
 
-/// Where it ends at octets, and some spool permits its responses, the headline is a no there, of the
-/// class of that end.
-pub fn headline_at_octets()
+/// Where the pairing ends at octets, and some spool permits its responses, the headline is a no at
+/// these octets, of the class of that end.
+pub fn outcome_at_octets()
     ensures { (profile : Profile) (client server : List ℕ) (pairs : List Paired) (class : PairClass)
         → IsPairing client server pairs (bad class) → SomePermits profile (asked_of pairs) (responses_of pairs)
-        → IsHeadline profile client server (No (length pairs) (class_of class)) }
+        → IsOutcome profile client server (No (length pairs) (class_of class)) }
 {}
 
-/// At a paired response that no spool permits behind those that some spool permits the headline is a
-/// no; one that doesn't fit is such a response, whatever the spools.
-pub fn headline_at_a_response()
+/// At a paired response that no spool permits behind those that some spool permits, the headline is
+/// a no. It is OutOfPlace where the response doesn't fit the visible state, whatever the spools
+/// are.
+pub fn outcome_at_a_response()
     ensures unpermitted { (profile : Profile) (client server : List ℕ) (pairs : List Paired) (pair : Paired) (before after : Unpaired)
         → AreNext (streams client server) pairs before → IsNext before pair after
         → SomePermits profile (asked_of pairs) (responses_of pairs)
         → (SomePermits profile (asked_of (pairs ++ pair ∷ [])) (responses_of (pairs ++ pair ∷ [])) → ⊥)
-        → IsHeadline profile client server (No (length pairs) (class_by (fits profile (visible_from start.visible (asked_of pairs) (responses_of pairs)) (asked_at pair.line) pair.response))) }
+        → IsOutcome profile client server (No (length pairs) (class_by (fits profile (visible_from start.visible (asked_of pairs) (responses_of pairs)) (asked_at pair.line) pair.response))) }
     ensures unfitting { (profile : Profile) (client server : List ℕ) (pairs : List Paired) (pair : Paired) (before after : Unpaired)
         → AreNext (streams client server) pairs before → IsNext before pair after
         → SomePermits profile (asked_of pairs) (responses_of pairs)
         → fits profile (visible_from start.visible (asked_of pairs) (responses_of pairs)) (asked_at pair.line) pair.response ≡ false
-        → IsHeadline profile client server (No (length pairs) OutOfPlace) }
+        → IsOutcome profile client server (No (length pairs) OutOfPlace) }
 {}
 
-/// What has facts has each part of them.
+/// A spool that has some facts has each part of them.
 pub fn fewer_facts_hold()
     ensures { (profile : Profile) (facts more : List Fact) → ((fact : Fact) → Contains facts fact → Contains more fact)
         → SomeHas profile more → SomeHas profile facts }
 {}
 
-/// Some spool has what answers say, each fitting where it stands, exactly if it stands together; also
-/// where they are no session, as some answers of one.
+/// Some spool has what answers say, each of which fits where it stands, exactly if all of it stands
+/// together. The answers need be no session: they may be some answers of one.
 pub fn answers_stand_together_where_a_spool_has_them()
     ensures all { (profile : Profile) (answers : List Placed) → AllByRecursion (FitsThere profile) answers → size (flat_map (told profile) answers) < 2 ^ 210
         → SomeHas profile (flat_map (told profile) answers) ↔ Together (flat_map (told profile) answers) }
@@ -344,9 +350,10 @@ pub fn answers_stand_together_where_a_spool_has_them()
         → AllByRecursion (Holds S) (flat_map (told profile) (placed_from v at prompts answers)) → AllByRecursion (Holds S) (facts_from profile.marks v at prompts answers) }
 {}
 
-/// How a smallest set of answers is found with which a bad one conflicts. To begin with, nothing is
-/// found; where those below a place still stand with what is found, and those up to it don't, it is
-/// found; and where what is found conflicts alone, it is such a set.
+/// A smallest set of answers with which a bad one conflicts is found from the last answer down. At
+/// the start nothing is found. Where the answers below a place stand with what is found, and those
+/// up to the place don't, the answer at the place is found. What is found is such a set, once it
+/// conflicts alone.
 pub fn core_is_found()
     ensures start { (profile : Profile) (bad : Placed) (answers : List Placed)
         → (SomeHas profile (told_with profile bad answers (below (length answers))) → ⊥) → IsPartOfCore profile bad answers (length answers) [] }
@@ -361,9 +368,9 @@ pub fn core_is_found()
         → IsPartOfCore profile bad answers bound places → (SomeHas profile (told_with profile bad answers places) → ⊥) → IsCore profile bad answers places }
 {}
 
-/// A session that fits is permitted exactly if some spool has what its answers say, each by itself; so
-/// a contradiction conflicts with those before it. That there is a group says no more of a spool that
-/// has it.
+/// A session that fits is permitted exactly if some spool has what its answers say, each by itself.
+/// So a contradiction conflicts with the answers before it. The facts `a_group` hold of each spool
+/// that has the group.
 pub fn contradiction_conflicts_with_those_before()
     ensures group { (profile : Profile) (S : Spool) (name : Name) → IsSpool profile.limit S → IsGroup S name → AllByRecursion (Holds S) (a_group profile name) }
     ensures session { (profile : Profile) (prompts : List Asked) (answers : List Response) → FitsAll profile start.visible prompts answers
@@ -375,7 +382,7 @@ pub fn contradiction_conflicts_with_those_before()
         (placed_from start.visible Nowhere prompts answers) (below (length (placed_from start.visible Nowhere prompts answers)))) → ⊥ }
 {}
 
-/// Where facts conflict somewhere, no spool has them.
+/// No spool has facts that conflict at some point.
 pub fn no_spool_has_what_conflicts()
     ensures { (profile : Profile) (facts : List Fact) (point : Point) → ConflictAt facts point → SomeHas profile facts → ⊥ }
 {}

@@ -5,8 +5,8 @@ ghost use Rattle.std.specs.BTreeMap.{keys};
 ghost use Rattle.nntp_wire.specs.Decided.{matches_name};
 ghost use Rattle.nntp_wire.specs.Wildmat.{is_wildmat};
 ghost use Rattle.nntp_wire.specs.Listing.{ActiveValue};
-ghost use Rattle.nntp_article.specs.Spool.{Name};
-ghost use Rattle.nntp_article.specs.Machine.{is_same};
+ghost use Rattle.nntp_article.specs.Session.Spool.{Name};
+ghost use Rattle.nntp_article.specs.Session.Machine.{is_same};
 ghost use Rattle.nntp_facts.specs.Facts.{Fact, GroupsAre};
 ghost use Rattle.nntp_facts.specs.Given.{is_shown_group};
 ghost use Rattle.nntp_facts.specs.Together.{denies_group};
@@ -26,7 +26,7 @@ pub(crate) struct Names<A: Allocator = Global> {
     denied: BTreeSet<Vec<u8, A>, A>,
     /// The wildmats for which the matching groups were listed, each with how many these are.
     wildmats: BTreeMap<Vec<u8, A>, usize, A>,
-    /// How many groups there are, if all were listed.
+    /// The number of all groups, if LIST ACTIVE listed all of them.
     all_listed: Option<usize>,
 }
 
@@ -40,6 +40,7 @@ impl<A: Allocator> Model for Names<A> {
 }
 
 impl<A: Allocator + Copy> Names<A> {
+    /// Creates what is kept of a session without answers: no name is denied.
     pub(crate) fn new(alloc: A) -> Names<A>
         ensures { AreKeptNames [] result }
     {
@@ -59,7 +60,8 @@ impl<A: Allocator + Copy> Names<A> {
         Ok(())
     }
 
-    /// Adds that the groups that match, or all of them, were listed, and how many these are.
+    /// Adds that all groups that match were listed, or all groups where there is no wildmat, and
+    /// how many these are.
     pub(crate) fn list(
         &mut self,
         alloc: A,
@@ -81,7 +83,7 @@ impl<A: Allocator + Copy> Names<A> {
 }
 
 impl<A: Allocator> Names<A> {
-    /// Whether a name that isn't shown is that of no group.
+    /// Tells whether a name that isn't shown is that of no group.
     pub(crate) fn denies(&self, name: &GroupName<'_>) -> bool
         ensures { (facts : List Fact) → AreKeptNames facts self.now → is_shown_group facts name.now ≡ false → result ≡ list_any (denies_group name.now) facts }
     {
@@ -93,7 +95,7 @@ impl<A: Allocator> Names<A> {
         )
     }
 
-    /// How many groups were listed for the wildmat, or without one, if that was answered.
+    /// Returns how many groups were listed for the wildmat, or without one, if that was answered.
     pub(crate) fn listed(&self, wildmat: &Option<Wildmat<'_>>) -> Option<usize>
         ensures { (facts : List Fact) → AreKeptNames facts self.now → IfSome result (WereListed facts wildmat.now) }
     {
@@ -104,7 +106,8 @@ impl<A: Allocator> Names<A> {
     }
 }
 
-/// Whether the name is denied: as one of these, with all that weren't listed, or by one of the wildmats.
+/// Tells whether the name is denied: it is one of these names; or all groups were listed, and it
+/// isn't shown; or one of the answered wildmats matches it.
 fn is_denied<A: Allocator>(
     denied: &BTreeSet<Vec<u8, A>, A>,
     all_listed: bool,
@@ -117,14 +120,14 @@ fn is_denied<A: Allocator>(
     is_one_of(denied, name.as_slice()) || all_listed || some_matches(wildmats, name)
 }
 
-/// Whether the name is one of these.
+/// Tells whether the name is one of these names.
 fn is_one_of<A: Allocator>(names: &BTreeSet<Vec<u8, A>, A>, name: &[u8]) -> bool
     ensures { result ≡ list_any (λ other. is_same other.items name.now) names.now.keys }
 {
     names.contains(name)
 }
 
-/// Whether one of the wildmats matches the name.
+/// Tells whether one of the wildmats matches the name.
 fn some_matches<A: Allocator>(
     wildmats: &BTreeMap<Vec<u8, A>, usize, A>,
     name: &GroupName<'_>,
@@ -136,7 +139,7 @@ fn some_matches<A: Allocator>(
         .any(|wildmat| matches(wildmat.as_slice(), name))
 }
 
-/// Whether the octets are a wildmat that matches the name.
+/// Tells whether the octets are a wildmat that matches the name.
 fn matches(wildmat: &[u8], name: &GroupName<'_>) -> bool
     ensures { result ≡ (is_wildmat wildmat.now && matches_name wildmat.now name.now) }
 {

@@ -1,24 +1,26 @@
-//! What is said of an exchange that is noted.
+//! The outcomes of handing an exchange to the facts of a session.
 use thiserror::Error;
 
-/// Whether an exchange may stand behind those that were accepted.
+/// The outcome of [`Facts::note`](crate::Facts::note): whether an exchange may stand behind those
+/// that were accepted.
 #[derive(Clone, Copy, Debug, PartialEq, Eq)]
 pub enum Noted {
-    /// Some spool permits it together with those before it; it is accepted.
+    /// Some spool permits the exchange together with those before it, and it is accepted.
     Consistent,
-    /// What the session shows, or the command, rules the answer out, whatever the spool is.
+    /// The command or the answers before it rule the answer out, whatever the spool is.
     OutOfPlace,
-    /// No spool permits it together with those before it.
+    /// The answer fits what the session shows, but no spool permits it together with those before
+    /// it.
     Contradiction,
 }
 
-/// Why an exchange isn't noted.
+/// The error of [`Facts::note`](crate::Facts::note), which comes for want of memory alone.
 #[derive(Clone, Copy, Debug, PartialEq, Eq, Error)]
 pub enum FactsError {
-    /// Memory was refused.
+    /// Memory was refused. From now on each call fails.
     #[error("out of memory")]
     Memory,
-    /// Memory was refused before, and what is kept says nothing of use.
+    /// Memory was refused to an earlier call, and what is kept says nothing of use.
     #[error("failed before")]
     Failed,
 }

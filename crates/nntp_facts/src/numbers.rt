@@ -21,17 +21,18 @@ use std::alloc::{AllocError, Allocator, Global};
 use std::collections::BTreeSet;
 use std::marker::Model;
 
-/// The numbers of a group, so far as answers tell them.
+/// What the answers so far say of the numbers of one group.
 #[derive(Drop)]
 pub(crate) struct Numbers<A: Allocator = Global> {
     /// The numbers that are there.
     shown: BTreeSet<u64, A>,
-    /// The numbers that are not.
+    /// The numbers that are not there.
     denied: IntervalSet<A>,
-    /// There are at most so many.
+    /// The greatest number of numbers that there may be.
     estimate: Option<u64>,
-    /// Where there is a number, both are numbers.
+    /// The strict marks, both of which are numbers if there is any number.
     ends: Option<Ends>,
+    /// What is said of the first number, where it isn't shown.
     demand: Demand,
 }
 
@@ -47,7 +48,7 @@ impl<A: Allocator> Model for Numbers<A> {
 }
 
 impl<A: Allocator + Copy> Numbers<A> {
-    /// Of a group of which nothing is said.
+    /// Creates what is kept of a group of which nothing is said yet.
     pub(crate) fn new(alloc: A) -> Numbers<A>
         ensures { IsSummary result [] }
     {
@@ -74,7 +75,7 @@ impl<A: Allocator + Copy> Numbers<A> {
 }
 
 impl<A: Allocator> Numbers<A> {
-    /// Whether what the part says stands together with all before.
+    /// Tells whether what the part says stands together with all that was said before.
     pub(crate) fn joins(&self, part: &NumbersPart<'_>) -> bool
         ensures { (asks more : List Ask) → IsSummary self.now asks → AsksStand asks → AreBounded (asks ++ more) → Says (said part.now) more
             → IsTrue result ↔ AsksStand (asks ++ more) }
@@ -92,7 +93,7 @@ impl<A: Allocator> Numbers<A> {
             )
     }
 
-    /// The strict marks after the part, where it is said then that there is a number.
+    /// Returns the strict marks after the part, where it is said then that there is a number.
     fn ends_after(&self, part: &NumbersPart<'_>, demand: Demand) -> Option<Ends>
         ensures { demand ≡ join self.now.demand part.now.demand → result ≡ ends_after self.now (said part.now) }
     {
@@ -102,7 +103,7 @@ impl<A: Allocator> Numbers<A> {
         ends::join(self.ends, part.ends)
     }
 
-    /// The least number that has to be there, where it isn't shown.
+    /// Returns the least number that the group is given, where it isn't shown.
     pub(crate) fn unseen(&self) -> Option<u64>
         ensures { result ≡ unseen_in self.now }
     {
@@ -112,7 +113,8 @@ impl<A: Allocator> Numbers<A> {
         }
     }
 
-    /// The greatest number that has to be there, where it is neither shown nor the least.
+    /// Returns the greatest number that the group is given, where it is neither shown nor the
+    /// least.
     pub(crate) fn unseen_high(&self) -> Option<u64>
         ensures { result ≡ unseen_high_in self.now }
     {
@@ -123,7 +125,7 @@ impl<A: Allocator> Numbers<A> {
         self.unless_shown(ends.high)
     }
 
-    /// The strict marks, where it is said that there is a number.
+    /// Returns the strict marks, where it is said that there is a number.
     fn known_ends(&self) -> Option<Ends>
         ensures { result ≡ known_ends_in self.now }
     {
@@ -133,7 +135,7 @@ impl<A: Allocator> Numbers<A> {
         self.ends
     }
 
-    /// The number, where it isn't shown.
+    /// Returns the number, where it isn't shown.
     fn unless_shown(&self, n: u64) -> Option<u64>
         ensures { result ≡ unless_shown self.now.shown n }
     {
@@ -144,7 +146,8 @@ impl<A: Allocator> Numbers<A> {
         }
     }
 
-    /// The number that is known nowhere, and has to be there.
+    /// Returns the one more number: the first that isn't denied, where no number is known that the
+    /// demand wants.
     fn one_more(&self) -> Option<u64>
         ensures { result ≡ one_more_in self.now }
     {
@@ -155,7 +158,7 @@ impl<A: Allocator> Numbers<A> {
         if self.demand.wants(n) { Some(n) } else { None }
     }
 
-    /// The numbers that are shown, ascending.
+    /// Returns the numbers that are shown, ascending.
     pub(crate) fn shown(&self) -> &BTreeSet<u64, A>
         ensures { result.now.keys ≡ self.now.shown }
     {
@@ -163,7 +166,7 @@ impl<A: Allocator> Numbers<A> {
     }
 }
 
-/// The lesser of two estimates.
+/// Returns the lesser of two estimates.
 fn least(a: Option<u64>, b: Option<u64>) -> Option<u64>
     ensures { (n : ℕ) → is_within result n ≡ (is_within a n && is_within b n) }
 {
@@ -174,7 +177,7 @@ fn least(a: Option<u64>, b: Option<u64>) -> Option<u64>
     }
 }
 
-/// Whether so many are no more than is estimated.
+/// Tells whether a count of numbers is no more than is estimated.
 fn is_within(estimate: Option<u64>, count: u64) -> bool
     ensures { result ≡ is_within estimate count }
 {
@@ -184,8 +187,8 @@ fn is_within(estimate: Option<u64>, count: u64) -> bool
     }
 }
 
-/// Whether the demand is met: by the numbers that are known, of which it wants so many, or by one more,
-/// the first free number after the part.
+/// Tells whether the demand is met: by the numbers that are known, of which the tally counts those
+/// that it wants, or by one more, the first free number after the part.
 fn is_settled<A: Allocator>(
     demand: Demand,
     tally: Tally,
@@ -207,7 +210,7 @@ fn is_settled<A: Allocator>(
     }
 }
 
-/// Whether the demand wants the free number, and there is room for it.
+/// Tells whether the demand wants the free number, and there is room for it.
 fn has_room(demand: Demand, free: Option<u64>, count: u64, estimate: Option<u64>) -> bool
     requires { count < 2 ^ 64 - 1 }
     ensures { result ≡ has_room demand free count estimate }

@@ -11,29 +11,31 @@ use crate::position::Position;
 use nntp_wire::{Marks, Range, WaterMarks};
 use std::slice;
 
-/// What is said at once of the numbers of a group.
+/// What one answer says at once of the numbers of a group.
 #[derive(Drop)]
 pub(crate) struct NumbersPart<'s> {
-    /// Whether it can be at all.
+    /// Whether any numbers can be as the answer says.
     pub(crate) is_possible: bool,
-    /// No number is below this.
+    /// The low end: no number of the group is below it.
     pub(crate) low: u64,
-    /// No number is above this.
+    /// The high end: no number of the group is above it.
     pub(crate) high: u64,
-    /// From this number to `last` there are those of `numbers`, and no others.
+    /// The first number of an interval in which the group has those of `numbers`, and no others.
     pub(crate) first: u64,
+    /// The last number of that interval, which is empty where this is below `first`.
     pub(crate) last: u64,
-    /// Numbers that are there, ascending.
+    /// The numbers that are there, ascending.
     pub(crate) numbers: &'s [u64],
-    /// There are at most so many.
+    /// The greatest number of numbers that there may be.
     pub(crate) estimate: Option<u64>,
-    /// Where there is a number, both are numbers.
+    /// The strict marks, both of which are numbers if there is any number.
     pub(crate) ends: Option<Ends>,
+    /// What is said of the first number, where it isn't shown.
     pub(crate) demand: Demand,
 }
 
 impl<'s> NumbersPart<'s> {
-    /// What no ask says.
+    /// Says nothing of the numbers.
     pub(crate) fn nothing() -> NumbersPart<'s>
         ensures { Says (said result) [] }
     {
@@ -50,7 +52,7 @@ impl<'s> NumbersPart<'s> {
         }
     }
 
-    /// Whether it says that the number is there, and no more.
+    /// Tells whether the part says that the number is there, and no more.
     pub(crate) fn says_only(&self, number: u64) -> bool
         ensures { IsTrue result ↔ (said self.now ≡ only_has number) }
     {
@@ -65,7 +67,7 @@ impl<'s> NumbersPart<'s> {
             && !self.demand.is_some()
     }
 
-    /// What a 211 reports: there are at most so many numbers, between the marks.
+    /// Says what a 211 to GROUP reports: there are at most so many numbers, between the marks.
     pub(crate) fn of_marks(how: Marks, marks: WaterMarks) -> NumbersPart<'s>
         ensures says { Says (said result) (Estimates how marks ∷ []) }
         ensures bounded { AreBounded (Estimates how marks ∷ []) }
@@ -79,7 +81,8 @@ impl<'s> NumbersPart<'s> {
         }
     }
 
-    /// The same, and these are the numbers in the range.
+    /// Says what a 211 to LISTGROUP reports: as after GROUP, and that the numbers in the range are
+    /// these.
     pub(crate) fn of_numbers(
         how: Marks,
         marks: WaterMarks,
@@ -101,7 +104,7 @@ impl<'s> NumbersPart<'s> {
         }
     }
 
-    /// All numbers are between the marks.
+    /// Says that all numbers are between the marks.
     pub(crate) fn of_bounds(low: u64, high: u64) -> NumbersPart<'s>
         ensures { Says (said result) (Bounds low high ∷ []) }
     {
@@ -112,7 +115,7 @@ impl<'s> NumbersPart<'s> {
         }
     }
 
-    /// The number is there.
+    /// Says that the number is there.
     pub(crate) fn has(number: &'s u64) -> NumbersPart<'s>
         ensures { 1 ≤ number.now → Says (said result) (Has number.now ∷ []) }
     {
@@ -124,7 +127,7 @@ impl<'s> NumbersPart<'s> {
         }
     }
 
-    /// The number isn't there.
+    /// Says that the number isn't there.
     pub(crate) fn lacks(number: u64) -> NumbersPart<'s>
         ensures { Says (said result) (Lacks number ∷ []) }
     {
@@ -135,7 +138,7 @@ impl<'s> NumbersPart<'s> {
         }
     }
 
-    /// The number at the position is this, and it is there.
+    /// Says that the number at the position is this, and that it is there.
     pub(crate) fn stands_at(at: Position, number: &'s u64) -> NumbersPart<'s>
         ensures { 1 ≤ number.now → Says (said result) (StandsAt at number.now ∷ Has number.now ∷ []) }
     {
@@ -156,7 +159,7 @@ impl<'s> NumbersPart<'s> {
         }
     }
 
-    /// There is no number at the position.
+    /// Says that there is no number at the position.
     pub(crate) fn stands_nowhere(at: Position) -> NumbersPart<'s>
         ensures { Says (said result) (StandsNowhere at ∷ []) }
     {
@@ -175,7 +178,7 @@ impl<'s> NumbersPart<'s> {
         }
     }
 
-    /// The next number above the position is this, and it is there.
+    /// Says that the next number above the position is this, and that it is there.
     pub(crate) fn steps_up(at: Position, number: &'s u64) -> NumbersPart<'s>
         ensures { 1 ≤ number.now → Says (said result) (StepsUp at number.now ∷ Has number.now ∷ []) }
     {
@@ -197,7 +200,7 @@ impl<'s> NumbersPart<'s> {
         }
     }
 
-    /// The next number below the position is this, and it is there.
+    /// Says that the next number below the position is this, and that it is there.
     pub(crate) fn steps_down(at: Position, number: &'s u64) -> NumbersPart<'s>
         ensures { 1 ≤ number.now → Says (said result) (StepsDown at number.now ∷ Has number.now ∷ []) }
     {
@@ -215,7 +218,7 @@ impl<'s> NumbersPart<'s> {
         }
     }
 
-    /// No number is above the position.
+    /// Says that no number is above the position.
     pub(crate) fn is_top(at: Position) -> NumbersPart<'s>
         ensures { Says (said result) (IsTop at ∷ []) }
     {
@@ -236,7 +239,7 @@ impl<'s> NumbersPart<'s> {
         }
     }
 
-    /// No number is below the position.
+    /// Says that no number is below the position.
     pub(crate) fn is_bottom(at: Position) -> NumbersPart<'s>
         ensures { Says (said result) (IsBottom at ∷ []) }
     {
@@ -258,7 +261,7 @@ impl<'s> NumbersPart<'s> {
     }
 }
 
-/// Whether the number is the only one of these.
+/// Tells whether the number is the only one of these.
 fn is_alone(numbers: &[u64], number: u64) -> bool
     ensures { IsTrue result ↔ (numbers.now ≡ number ∷ []) }
 {

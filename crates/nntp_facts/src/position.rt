@@ -6,18 +6,19 @@ ghost use Rattle.nntp_facts.specs.Asks.{position_after};
 
 use nntp_wire::{Answer, Command, Prompt, Which};
 
-/// Where the session stands in the selected group.
+/// The place at which a session stands in the selected group: its current article.
 #[derive(Clone, Copy)]
 pub(crate) enum Position {
+    /// No group was selected yet.
     Nowhere,
-    /// At the first number, whatever it is.
+    /// The session stands at the first number of the group, whatever that is.
     First,
-    /// At a number that was shown.
+    /// The session stands at a number that was shown.
     Known(u64),
 }
 
 impl Position {
-    /// Where an answer leaves the session.
+    /// Returns the position at which an answer leaves the session.
     pub(crate) fn after(self, prompt: &Prompt<'_>, answer: &Answer<'_>) -> Position
         ensures { result ≡ position_after self (asked prompt.now) (response answer.now) }
     {

@@ -6,8 +6,8 @@ ghost use Rattle.nntp_wire.specs.AnswerView.{response};
 ghost use Rattle.nntp_wire.specs.Answer.{to, plain, sends};
 ghost use Rattle.nntp_wire.specs.Command.{retrieve};
 ghost use Rattle.nntp_wire.specs.Listing.{listed_numbers};
-ghost use Rattle.nntp_article.specs.declared.profile.Profile.{Profile};
-ghost use Rattle.nntp_article.specs.Machine.{Visible, fits};
+ghost use Rattle.nntp_article.specs.declared.session.profile.Profile.{Profile};
+ghost use Rattle.nntp_article.specs.Session.Machine.{Visible, fits};
 ghost use Rattle.nntp_facts.specs.Facts.{Fact, here, facts_of, facts_of_code};
 ghost use Rattle.nntp_facts.specs.Saying as said_of;
 ghost use Rattle.nntp_facts.specs.Saying.{IsSelectedShown, Tells, numbers_listed};
@@ -27,20 +27,25 @@ use std::alloc::{AllocError, Allocator};
 /// A number of a group, and the message-id that it has.
 #[derive(Clone, Copy)]
 pub(crate) struct IdAt<'s> {
+    /// The article number.
     pub(crate) number: u64,
+    /// The octets of the message-id.
     pub(crate) id: &'s [u8],
 }
 
-/// What is said of one group.
+/// The part of a saying that is about one group.
 #[derive(Drop)]
 pub(crate) struct GroupPart<'s> {
+    /// The octets of the group's name.
     pub(crate) name: &'s [u8],
+    /// What is said of the numbers of the group.
     pub(crate) numbers: NumbersPart<'s>,
+    /// The id that a number of the group has, if one is said.
     pub(crate) id: Option<IdAt<'s>>,
 }
 
 impl<'s> GroupPart<'s> {
-    /// What LIST ACTIVE says of a group that it lists: its numbers are between the marks.
+    /// Says what LIST ACTIVE says of a group that it lists: its numbers are between the marks.
     pub(crate) fn of_bounds(line: &'s ActiveLine<'s>) -> GroupPart<'s>
         ensures name { result.name.now ≡ line.now.name }
         ensures numbers { Says (said result.numbers) (Bounds line.now.low line.now.high ∷ []) }
@@ -54,7 +59,7 @@ impl<'s> GroupPart<'s> {
         }
     }
 
-    /// This is said of the numbers of the group, and the number has the id.
+    /// Says this of the numbers of the group, and that the number has the id.
     fn with_id(
         name: &'s [u8],
         numbers: NumbersPart<'s>,
@@ -77,45 +82,53 @@ impl<'s> GroupPart<'s> {
 /// What is said of a message-id.
 #[derive(Drop)]
 pub(crate) enum OfArticle<'s> {
-    /// It has no article.
+    /// The id has no article.
     Lacks,
-    /// It has one.
+    /// The id has an article.
     Exists,
-    /// A success names it, and sends this.
+    /// A success names the id, and sends this block of its article.
     Sends {
+        /// The parts of the article that the command asks for.
         what: What,
+        /// The lines that are sent, if any are.
         block: &'s Option<Block<'s>>,
     },
 }
 
-/// A message-id, and what is said of it.
+/// The part of a saying that is about one message-id.
 #[derive(Drop)]
 pub(crate) struct ArticlePart<'s> {
+    /// The octets of the message-id.
     pub(crate) id: &'s [u8],
+    /// What is said of the id.
     pub(crate) said: OfArticle<'s>,
 }
 
-/// The groups that match.
+/// The part of a saying that lists all groups that match.
 #[derive(Drop)]
 pub(crate) struct ActivePart<'s> {
+    /// The wildmat that the groups match, if one is given.
     pub(crate) wildmat: &'s Option<Wildmat<'s>>,
+    /// The lines that list the groups.
     pub(crate) block: &'s Block<'s>,
 }
 
-/// What an answer says of the spool, in parts.
+/// All that one answer says of the spool, in parts.
 #[derive(Drop)]
 pub(crate) struct Saying<'s> {
-    /// There is such a group.
+    /// There is a group of this name.
     pub(crate) there_is: Option<&'s GroupName<'s>>,
-    /// There is none.
+    /// There is no group of this name.
     pub(crate) there_is_no: Option<&'s [u8]>,
+    /// What is said of one group, if anything is.
     pub(crate) group: Option<GroupPart<'s>>,
+    /// What is said of one message-id, if anything is.
     pub(crate) article: Option<ArticlePart<'s>>,
     /// The groups that match are these.
     pub(crate) groups: Option<ActivePart<'s>>,
 }
 
-/// An answer that says nothing.
+/// The saying of an answer that says nothing.
 const NOTHING: Saying<'static> = Saying {
     there_is: None,
     there_is_no: None,
@@ -125,8 +138,8 @@ const NOTHING: Saying<'static> = Saying {
 };
 
 impl<'s> Saying<'s> {
-    /// What an answer says where marks are read so, this group is selected, and the session stands at the
-    /// position; `numbers` are those that the answer lists.
+    /// Returns what an answer says where marks are read so, this group is selected, and the session
+    /// stands at the position; `numbers` are those that the answer lists.
     pub(crate) fn of(
         how: Marks,
         selected: &'s [u8],
@@ -145,7 +158,7 @@ impl<'s> Saying<'s> {
         }
     }
 
-    /// The same of an answer to a command.
+    /// Returns what an answer to a command says.
     fn to(
         how: Marks,
         selected: &'s [u8],
@@ -189,7 +202,7 @@ impl<'s> Saying<'s> {
         }
     }
 
-    /// What a code alone says.
+    /// Returns what a code alone says.
     fn by_code(selected: &'s [u8], at: Position, command: &'s Command<'s>, code: u64) -> Saying<'s>
         ensures { (profile : Profile) (v : Visible) (facts : List Fact) → IsTrue (fits profile v (to (request command.now)) (plain code)) → IsSelectedShown v facts
             → selected.now ≡ here v → Tells facts (saying_of result) (facts_of_code v at (request command.now) code) }
@@ -215,7 +228,7 @@ impl<'s> Saying<'s> {
         }
     }
 
-    /// What a failure of ARTICLE, HEAD, BODY or STAT says.
+    /// Returns what a failure of ARTICLE, HEAD, BODY or STAT says.
     fn by_failure(selected: &'s [u8], at: Position, which: &'s Which<'s>, code: u64) -> Saying<'s>
         ensures { (profile : Profile) (v : Visible) (facts : List Fact) (what : What) → IsTrue (fits profile v (to (retrieve what (target which.now))) (plain code)) → IsSelectedShown v facts
             → selected.now ≡ here v → Tells facts (saying_of result) (facts_of_code v at (retrieve what (target which.now)) code) }
@@ -234,7 +247,7 @@ impl<'s> Saying<'s> {
         }
     }
 
-    /// What a success of ARTICLE, HEAD, BODY or STAT says.
+    /// Returns what a success of ARTICLE, HEAD, BODY or STAT says.
     fn by_success(
         selected: &'s [u8],
         at: Position,
@@ -263,9 +276,15 @@ impl<'s> Saying<'s> {
         }
     }
 
-    /// There is such a group, and this of its numbers.
+    /// Says that there is such a group, and this of its numbers.
     fn selects(name: &'s GroupName<'s>, numbers: NumbersPart<'s>) -> Saying<'s>
-        ensures { saying_of result ≡ record { there_is = Some name.now; there_is_no = None; group = Some (record { name = name.now; numbers = said numbers.entry; id = None }); article = None; groups = None } }
+        ensures { saying_of result ≡ record {
+          there_is = Some name.now;
+          there_is_no = None;
+          group = Some (record { name = name.now; numbers = said numbers.entry; id = None });
+          article = None;
+          groups = None;
+        } }
     {
         Saying {
             there_is: Some(name),
@@ -278,7 +297,7 @@ impl<'s> Saying<'s> {
         }
     }
 
-    /// There is no such group.
+    /// Says that there is no such group.
     fn denies(name: &'s [u8]) -> Saying<'s>
         ensures { saying_of result ≡ record { there_is = None; there_is_no = Some name.now; group = None; article = None; groups = None } }
     {
@@ -288,7 +307,7 @@ impl<'s> Saying<'s> {
         }
     }
 
-    /// This of the numbers of the group.
+    /// Says this of the numbers of the group.
     fn asks(name: &'s [u8], numbers: NumbersPart<'s>) -> Saying<'s>
         ensures { saying_of result ≡ record { there_is = None; there_is_no = None; group = Some (record { name = name.now; numbers = said numbers.entry; id = None }); article = None; groups = None } }
     {
@@ -302,14 +321,21 @@ impl<'s> Saying<'s> {
         }
     }
 
-    /// The same, and the number has the id.
+    /// Says this of the numbers of the group, that the number has the id, and that the id has an
+    /// article.
     fn steps(
         name: &'s [u8],
         numbers: NumbersPart<'s>,
         number: u64,
         id: &'s MessageId<'s>,
     ) -> Saying<'s>
-        ensures { saying_of result ≡ record { there_is = None; there_is_no = None; group = Some (record { name = name.now; numbers = said numbers.entry; id = Some (number, id.now) }); article = Some (id.now, said_of.Exists); groups = None } }
+        ensures { saying_of result ≡ record {
+          there_is = None;
+          there_is_no = None;
+          group = Some (record { name = name.now; numbers = said numbers.entry; id = Some (number, id.now) });
+          article = Some (id.now, said_of.Exists);
+          groups = None;
+        } }
     {
         Saying {
             group: Some(GroupPart::with_id(name, numbers, number, id)),
@@ -321,7 +347,7 @@ impl<'s> Saying<'s> {
         }
     }
 
-    /// This is sent of an article, and this is said of a group, if anything is.
+    /// Says that this is sent of an article, and this of a group, if anything is.
     fn sends(
         group: Option<GroupPart<'s>>,
         what: What,
@@ -341,7 +367,7 @@ impl<'s> Saying<'s> {
     }
 }
 
-/// The numbers that an answer to LISTGROUP lists; of another answer none.
+/// Collects the numbers that an answer to LISTGROUP lists. Another answer lists none.
 pub(crate) fn numbers_listed<A: Allocator + Copy>(
     alloc: A,
     answer: &Answer<'_>,
@@ -354,7 +380,7 @@ pub(crate) fn numbers_listed<A: Allocator + Copy>(
     }
 }
 
-/// The numbers that a block lists.
+/// Collects the numbers that a block lists.
 fn numbers_of<A: Allocator + Copy>(alloc: A, block: &Block<'_>) -> Result<Vec<u64, A>, AllocError>
     ensures { IfOk result (λ numbers. numbers.items ≡ listed_numbers block.now) }
 {

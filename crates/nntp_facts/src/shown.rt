@@ -1,4 +1,4 @@
-//! What is looked up in the numbers that are shown.
+//! The lookups in the numbers that are shown.
 ghost use Rattle.std.specs.Prelude.{◌≡◌, ℕ, option_copied, not, nat_lt, true, false, IsTrue, OnOk, ◌↔◌, ◌&&◌, ◌||◌, ◌==◌};
 ghost use Rattle.std.specs.Ordering.{nat_cmp};
 ghost use Rattle.std.specs.BTreeMap.{get};
@@ -13,16 +13,19 @@ use std::alloc::{AllocError, Allocator};
 use std::collections::{BTreeMap, BTreeSet};
 use std::ops::Bound;
 
-/// How many numbers were found.
+/// How many numbers were found: none, one or more than one.
 #[derive(Clone, Copy)]
 pub(crate) enum HowMany {
+    /// No number was found.
     Absent,
+    /// One number was found.
     Single,
+    /// More than one number was found.
     Several,
 }
 
 impl HowMany {
-    /// One more.
+    /// Returns the count with one number more.
     pub(crate) fn and_one(self) -> HowMany
         ensures { result ≡ and_one self }
     {
@@ -33,7 +36,7 @@ impl HowMany {
     }
 }
 
-/// How many of the shown numbers are wanted.
+/// Counts the shown numbers that the demand wants.
 pub(crate) fn how_many_wanted<A: Allocator>(shown: &BTreeSet<u64, A>, demand: Demand) -> HowMany
     ensures { PassSoMany (λ n. has shown.now.keys n && wants demand n) result }
 {
@@ -44,7 +47,7 @@ pub(crate) fn how_many_wanted<A: Allocator>(shown: &BTreeSet<u64, A>, demand: De
     }
 }
 
-/// How many numbers there are up to an end.
+/// Counts the numbers up to an end.
 fn how_many_up_to<A: Allocator>(shown: &BTreeSet<u64, A>, end: Bound<u64>) -> HowMany
     ensures { PassSoMany (λ n. has shown.now.keys n && not (is_past_end nat_cmp end n)) result }
 {
@@ -56,7 +59,7 @@ fn how_many_up_to<A: Allocator>(shown: &BTreeSet<u64, A>, end: Bound<u64>) -> Ho
     }
 }
 
-/// Whether the number is shown. Sessions ascend, so the greatest one is tried first.
+/// Tells whether the number is shown. Sessions ascend, so the greatest one is tried first.
 pub(crate) fn is_shown<A: Allocator>(shown: &BTreeSet<u64, A>, n: u64) -> bool
     ensures { result ≡ has shown.now.keys n }
 {
@@ -66,7 +69,7 @@ pub(crate) fn is_shown<A: Allocator>(shown: &BTreeSet<u64, A>, n: u64) -> bool
     }
 }
 
-/// What a map has at the number, found in the same way.
+/// Returns what a map has at the number. Sessions ascend, so the greatest number is tried first.
 pub(crate) fn find<V, A: Allocator>(map: &BTreeMap<u64, V, A>, n: u64) -> Option<&V>
     ensures { option_copied result ≡ get nat_cmp map.now n }
 {
@@ -76,7 +79,7 @@ pub(crate) fn find<V, A: Allocator>(map: &BTreeMap<u64, V, A>, n: u64) -> Option
     }
 }
 
-/// Whether a shown number is from `first` to `last`.
+/// Tells whether a shown number is from `first` to `last`.
 pub(crate) fn meets<A: Allocator>(shown: &BTreeSet<u64, A>, first: u64, last: u64) -> bool
     ensures { result ≡ false ↔ ((n : ℕ) → has shown.now.keys n ≡ true → is_between first last n ≡ false) }
 {
@@ -87,14 +90,14 @@ pub(crate) fn meets<A: Allocator>(shown: &BTreeSet<u64, A>, first: u64, last: u6
             .is_some()
 }
 
-/// Whether all shown numbers are between the marks.
+/// Tells whether all shown numbers are between the marks.
 pub(crate) fn none_outside<A: Allocator>(shown: &BTreeSet<u64, A>, low: u64, high: u64) -> bool
     ensures { IsTrue result ↔ ((n : ℕ) → has shown.now.keys n ≡ true → (nat_lt n low || nat_lt high n) ≡ false) }
 {
     none_below(shown, low) && none_above(shown, high)
 }
 
-/// Whether no shown number is below `low`.
+/// Tells whether no shown number is below `low`.
 fn none_below<A: Allocator>(shown: &BTreeSet<u64, A>, low: u64) -> bool
     ensures { IsTrue result ↔ ((n : ℕ) → has shown.now.keys n ≡ true → nat_lt n low ≡ false) }
 {
@@ -105,7 +108,7 @@ fn none_below<A: Allocator>(shown: &BTreeSet<u64, A>, low: u64) -> bool
         }
 }
 
-/// Whether no shown number is above `high`.
+/// Tells whether no shown number is above `high`.
 fn none_above<A: Allocator>(shown: &BTreeSet<u64, A>, high: u64) -> bool
     ensures { IsTrue result ↔ ((n : ℕ) → has shown.now.keys n ≡ true → nat_lt high n ≡ false) }
 {

@@ -1,4 +1,4 @@
-//! The groups that are shown, one after the other.
+//! The groups that answers show, one after the other.
 ghost use Rattle.std.specs.Prelude.{◌≡◌, option_map, slice_get};
 ghost use Rattle.std.specs.Iterator.{YieldsFirst, item_count};
 ghost use Rattle.nntp_facts.specs.Readers.{shown_in};
@@ -10,7 +10,7 @@ use std::alloc::{Allocator, Global};
 use std::collections::btree_map;
 use std::marker::Model;
 
-/// A group that is shown, and the numbers that each spool has in it.
+/// A group that answers show, with the numbers that it is given.
 #[derive(Drop)]
 pub struct ShownGroup<'a, A: Allocator = Global> {
     name: &'a [u8],
@@ -29,36 +29,41 @@ impl<'a, A: Allocator> Model for ShownGroup<'a, A> {
 }
 
 impl<'a, A: Allocator> ShownGroup<'a, A> {
-    /// Its name.
+    /// Returns the octets of the group's name.
     pub fn name(&self) -> &'a [u8]
         ensures { result.now ≡ self.now.name }
     {
         self.name
     }
 
-    /// The numbers that are shown, ascending.
+    /// Returns the numbers that answers show in the group, ascending.
     pub fn numbers(&self) -> ShownNumbers<'a, A>
         ensures { result ≡ self.now.numbers }
     {
         ShownNumbers::new(self.group)
     }
 
-    /// The number with so many before it, if there are more.
+    /// Returns the number at the index, which counts from 0 in the order of
+    /// [`numbers`](ShownGroup::numbers), or `None` if there are no more numbers than that.
     pub fn number(&self, index: usize) -> Option<ShownNumber<'a>>
         ensures { option_map number_value result ≡ slice_get self.now.numbers index }
     {
         self.numbers().nth(index)
     }
 
-    /// The least number that has to be there, if one has to and it isn't shown.
+    /// Returns the least number that the group is given, or `None` if that one is shown, or if
+    /// there is none. It is the low water mark, where marks are read strictly (RFC 3977,
+    /// section 6.1.1.2); and otherwise one more number, where no number that is shown can be the
+    /// first one.
     pub fn unseen(&self) -> Option<u64>
         ensures { result ≡ self.now.unseen }
     {
         self.group.unseen()
     }
 
-    /// The greatest number that has to be there, if one has to and it is neither shown nor the least: a high
-    /// mark that is read strictly.
+    /// Returns the greatest number that the group is given, or `None` if that one is shown or is
+    /// the least, or if there is none. It is the high water mark, where marks are read strictly
+    /// (RFC 3977, section 6.1.1.2).
     pub fn unseen_high(&self) -> Option<u64>
         ensures { result ≡ self.now.unseen_high }
     {
@@ -66,7 +71,7 @@ impl<'a, A: Allocator> ShownGroup<'a, A> {
     }
 }
 
-/// The groups that are shown, in byte order of their names, seen as the list of those that are left.
+/// An iterator over the groups that answers show, in byte order of their names.
 #[derive(Drop)]
 pub struct ShownGroups<'a, A: Allocator = Global> {
     rest: btree_map::Iter<'a, Vec<u8, A>, Group<A>>,
@@ -86,6 +91,7 @@ impl<'a, A: Allocator> Model for ShownGroups<'a, A> {
 }
 
 impl<'a, A: Allocator> ShownGroups<'a, A> {
+    /// Begins with the first of these groups.
     pub(crate) fn new(rest: btree_map::Iter<'a, Vec<u8, A>, Group<A>>) -> ShownGroups<'a, A>
         ensures { result ≡ shown_in (named rest.entry) }
     {

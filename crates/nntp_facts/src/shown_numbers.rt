@@ -1,4 +1,4 @@
-//! The numbers of a group, one after the other.
+//! The numbers that answers show in a group, one after the other.
 ghost use Rattle.std.specs.Prelude.{◌≡◌};
 ghost use Rattle.std.specs.Iterator.{YieldsFirstBy, item_count};
 ghost use Rattle.nntp_facts.specs.Readers.{with_ids};
@@ -9,15 +9,16 @@ use std::alloc::{Allocator, Global};
 use std::collections::btree_set;
 use std::marker::Model;
 
-/// A number that is shown in a group.
+/// A number that answers show in a group.
 #[derive(Clone, Copy)]
 pub struct ShownNumber<'a> {
+    /// The article number.
     pub number: u64,
-    /// Its message-id, where one is shown.
+    /// The octets of the message-id at the number, or `None` if no answer shows it.
     pub id: Option<&'a [u8]>,
 }
 
-/// The numbers that are shown in a group, ascending, seen as the list of those that are left.
+/// An iterator over the numbers that answers show in a group, ascending.
 #[derive(Drop)]
 pub struct ShownNumbers<'a, A: Allocator = Global> {
     rest: btree_set::Iter<'a, u64>,
@@ -26,7 +27,7 @@ pub struct ShownNumbers<'a, A: Allocator = Global> {
 
 impl<'a, A: Allocator> Model for ShownNumbers<'a, A> {
     ghost use Rattle.std.specs.Prelude.{List, ℕ, Option};
-    ghost use Rattle.nntp_article.specs.Article.{Id};
+    ghost use Rattle.nntp_article.specs.Article.Parts.{Id};
     ghost use Rattle.nntp_facts.specs.Readers.{with_ids};
 
     ghost Value = { List (ℕ × Option Id) };
@@ -35,7 +36,7 @@ impl<'a, A: Allocator> Model for ShownNumbers<'a, A> {
 }
 
 impl<'a, A: Allocator> ShownNumbers<'a, A> {
-    /// All that are shown.
+    /// Begins with the first of all numbers that are shown in the group.
     pub(crate) fn new(group: &'a Group<A>) -> ShownNumbers<'a, A>
         ensures { result ≡ with_ids group.now group.now.numbers.shown }
     {

@@ -1,6 +1,6 @@
-//! How many numbers there are, and how many of them a demand wants.
+//! The count of numbers, and of those that a demand wants.
 ghost use Rattle.std.specs.Prelude.{◌≡◌, ℕ, Bool, IsTrue, ◌||◌, ◌==◌, ◌+◌, ◌-◌, ◌^◌, ◌<◌, ◌≤◌};
-ghost use Rattle.nntp_article.specs.Machine.{is_ascending};
+ghost use Rattle.nntp_article.specs.Session.Machine.{is_ascending};
 ghost use Rattle.nntp_facts.specs.Part.{is_one_of, is_end_of};
 ghost use Rattle.nntp_facts.specs.Summary.{shown_after, IsTally};
 
@@ -10,15 +10,17 @@ use crate::shown::{HowMany, how_many_wanted, is_shown};
 use std::alloc::Allocator;
 use std::collections::BTreeSet;
 
-/// How many numbers there are, and how many of them are wanted.
+/// The count of some numbers, and of those among them that a demand wants.
 #[derive(Clone, Copy)]
 pub(crate) struct Tally {
+    /// How many of the numbers the demand wants.
     pub(crate) found: HowMany,
+    /// How many numbers there are.
     pub(crate) count: u64,
 }
 
 impl Tally {
-    /// With one number, which may be among them.
+    /// Counts one number more, unless it is among them.
     fn with(self, demand: Demand, n: u64, is_there: bool) -> Tally
         requires { self.count < 2 ^ 64 - 1 }
         ensures tally { (p : ℕ → Bool) → is_there ≡ p n → IsTally p demand self.found self.count
@@ -38,7 +40,8 @@ impl Tally {
         }
     }
 
-    /// Of the numbers that are shown and those of a list, with the two ends, where there are some.
+    /// Counts the numbers that are shown and those of a list, with the two ends, where there are
+    /// some.
     pub(crate) fn of<A: Allocator>(
         shown: &BTreeSet<u64, A>,
         numbers: &[u64],
@@ -60,7 +63,7 @@ impl Tally {
     }
 }
 
-/// Of the numbers that are shown and those of a list.
+/// Counts the numbers that are shown and those of a list.
 fn tally_shown<A: Allocator>(shown: &BTreeSet<u64, A>, numbers: &[u64], demand: Demand) -> Tally
     ensures tally { IsTrue (is_ascending numbers.now) → IsTally (shown_after shown.now.keys numbers.now) demand result.found result.count }
     ensures small { result.count < 2 ^ 64 - 3 }
@@ -75,7 +78,7 @@ fn tally_shown<A: Allocator>(shown: &BTreeSet<u64, A>, numbers: &[u64], demand: 
     tally
 }
 
-/// Whether the number is shown, or one of the list.
+/// Tells whether the number is shown, or one of the list.
 fn is_shown_after<A: Allocator>(shown: &BTreeSet<u64, A>, numbers: &[u64], n: u64) -> bool
     ensures { result ≡ shown_after shown.now.keys numbers.now n }
 {

@@ -53,7 +53,8 @@ module _ (map : BTreeMap ℕ ℕ) (n : ℕ) (r : List (ℕ × ℕ)) (is : IsRang
   pub last_up_to : (k v : ℕ) (rest : List (ℕ × ℕ)) → AreApart map.entries → r ≡ rest ++ (k, v) ∷ [] → IsLastUpTo map.entries n k v
   last_up_to k v rest apart e =
       let here = is.3 (k, v) rest e in
-      up_to map.entries up (apart_at map.entries apart) n k v here.1 (grind (arith, nat_tests, here.0.1)) (λ q q_le some. let above = is.4 (k, v) rest e q (tt, grind (arith, nat_tests)) some in grind (arith, nat_tests))
+      up_to map.entries up (apart_at map.entries apart) n k v here.1 (grind (arith, nat_tests, here.0.1))
+      (λ q q_le some. let above = is.4 (k, v) rest e q (tt, grind (arith, nat_tests)) some in grind (arith, nat_tests))
 
   pub none_up_to : r ≡ [] → IsFreeUpTo map.entries n
   none_up_to e m le = free_of map.entries up m (λ (s, f, here, lo, hi). let s_le : s ≤ n = omega arith in some_none (last_at map.entries s) f (is.5 e s (tt, grind (arith, nat_tests))) here)

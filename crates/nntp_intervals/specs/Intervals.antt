@@ -14,7 +14,7 @@ holds set n = list_any (λ i. is_between i.0 i.1 n) set
 abbrev pub IsInterval : ℕ × ℕ → Type 0
 IsInterval i = (i.0 ≤ i.1) × (i.1 < 2 ^ 64)
 
--- they ascend, and between two of them there is a number that is in neither
+-- the intervals ascend, and between two of them there is a number that is in neither
 abbrev pub AreApart : List (ℕ × ℕ) → Type 0
 AreApart [] = Unit {0}
 AreApart (i ∷ is) = IsInterval i × AllByRecursion (λ later. i.1 + 1 < later.0) is × AreApart is

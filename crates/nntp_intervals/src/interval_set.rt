@@ -1,4 +1,4 @@
-//! The set, and what it answers.
+//! The set of numbers, and the questions that it answers.
 ghost use Rattle.std.specs.Prelude.{◌≡◌, ℕ, ◌||◌, ◌↔◌, [], if◌then◌else◌, IsSome, IsTrue, OnOk, OnErr, MatchOption};
 ghost use Rattle.std.specs.Ordering.{nat_cmp};
 ghost use Rattle.std.specs.BTreeMap.{get, IsOrdered};
@@ -10,13 +10,14 @@ use std::collections::BTreeMap;
 use std::marker::Model;
 use std::ops::Bound;
 
-/// A set of numbers, as few intervals: between two of them there is a number that is not in the set.
+/// A set of numbers of 64 bits, kept as few intervals: between two of them there is a number that
+/// is not in the set.
 ///
-/// Each operation takes time logarithmic in the number of intervals; `insert` does so on average over
-/// the insertions so far, since it may join intervals that these added.
+/// Each operation takes time logarithmic in the number of intervals; `insert` does so on average
+/// over the insertions so far, since it may join intervals that these added.
 #[derive(Drop)]
 pub struct IntervalSet<A: Allocator = Global> {
-    /// The last number of each interval, by the first.
+    /// The last number of each interval, looked up by its first number.
     lasts: BTreeMap<u64, u64, A>,
 }
 
@@ -33,7 +34,7 @@ impl<A: Allocator> Model for IntervalSet<A> {
 }
 
 impl<A: Allocator + Copy> IntervalSet<A> {
-    /// The empty set.
+    /// Creates the empty set. It takes memory from `alloc`, but none before the first insertion.
     pub fn new(alloc: A) -> IntervalSet<A>
         ensures { result ≡ [] }
     {
@@ -42,7 +43,12 @@ impl<A: Allocator + Copy> IntervalSet<A> {
         }
     }
 
-    /// Adds the numbers from `first` to `last`: none, where `last` is below `first`.
+    /// Adds the numbers from `first` to `last`, both included. It adds none where `last` is below
+    /// `first`.
+    ///
+    /// # Errors
+    ///
+    /// [`AllocError`], if memory is refused. The set stays as it was.
     pub fn insert(&mut self, first: u64, last: u64) -> Result<(), AllocError>
         ensures ok { OnOk result ((n : ℕ) → holds self.new n ≡ (holds self.old n || is_between first last n)) }
         ensures err { OnErr result (self.new ≡ self.old) }
@@ -59,7 +65,7 @@ impl<A: Allocator + Copy> IntervalSet<A> {
 }
 
 impl<A: Allocator> IntervalSet<A> {
-    /// Whether a number is in the set.
+    /// Tells whether the number is in the set.
     pub fn contains(&self, n: u64) -> bool
         ensures { result ≡ holds self.now n }
     {
@@ -69,7 +75,8 @@ impl<A: Allocator> IntervalSet<A> {
         }
     }
 
-    /// The least number that is not in the set, from `n` on.
+    /// Returns the least number from `n` on that isn't in the set, or `None` if each number of 64
+    /// bits from `n` on is in it.
     pub fn least_free_from(&self, n: u64) -> Option<u64>
         ensures { MatchOption result (IsFullFrom self.now n) (IsLeastFree self.now n) }
     {
@@ -79,7 +86,7 @@ impl<A: Allocator> IntervalSet<A> {
         }
     }
 
-    /// Whether each number from `first` to `last` is in the set.
+    /// Tells whether each number from `first` to `last`, both included, is in the set.
     fn covers(&self, first: u64, last: u64) -> bool
         ensures { IsTrue result ↔ Covers self.now first last }
     {
@@ -89,7 +96,7 @@ impl<A: Allocator> IntervalSet<A> {
         }
     }
 
-    /// Whether some number from `first` to `last` is in the set.
+    /// Tells whether some number from `first` to `last`, both included, is in the set.
     pub fn meets(&self, first: u64, last: u64) -> bool
         ensures { IsTrue result ↔ Meets self.now first last }
     {
@@ -99,7 +106,7 @@ impl<A: Allocator> IntervalSet<A> {
         }
     }
 
-    /// The last interval that begins at `n` or before it.
+    /// Returns the first and the last number of the last interval that begins at `n` or before it.
     fn last_up_to(&self, n: u64) -> Option<(u64, u64)>
         ensures { MatchOption result (IsFreeUpTo self.now n) (λ i. IsLastUpTo self.now n i.0 i.1) }
     {
@@ -113,7 +120,7 @@ impl<A: Allocator> IntervalSet<A> {
         }
     }
 
-    /// Where the interval begins that one from `first` on becomes a part of.
+    /// Returns the first number of the interval that numbers from `first` on become a part of.
     fn first_joined(&self, first: u64) -> u64
         ensures { IsFirstJoined self.now first result }
     {
@@ -123,7 +130,7 @@ impl<A: Allocator> IntervalSet<A> {
         }
     }
 
-    /// Where the interval ends that one up to `last` becomes a part of.
+    /// Returns the last number of the interval that numbers up to `last` become a part of.
     fn last_joined(&self, last: u64) -> u64
         ensures { IsLastJoined self.now last result }
     {
@@ -144,7 +151,8 @@ fn remove_within<A: Allocator>(lasts: &mut BTreeMap<u64, u64, A>, start: u64, en
     }
 }
 
-/// The first interval that begins behind `start`, if it does not begin behind `end`.
+/// Returns where the first interval begins that begins behind `start`, if it doesn't begin behind
+/// `end`.
 fn first_within<A: Allocator>(lasts: &BTreeMap<u64, u64, A>, start: u64, end: u64) -> Option<u64>
     ensures { MatchOption result ((n : ℕ) → IsTrue (is_within start end n) → get nat_cmp lasts.now n ≡ None) (λ n. IsTrue (is_within start end n) × IsSome (get nat_cmp lasts.now n)) }
 {

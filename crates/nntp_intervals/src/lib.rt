@@ -1,8 +1,6 @@
-//! A set of numbers, kept as intervals.
+//! Sets of numbers of 64 bits, kept as intervals.
 #![tactic(auto)]
 
 mod interval_set;
-#[cfg(test)]
-mod tests;
 
 pub use interval_set::IntervalSet;

@@ -42,7 +42,9 @@ one-peek fed peek.Failed (peek.Bad n c) has (a, b, ends) = absurd (failed fed a 
 one-peek fed peek.Failed peek.Failed p q = refl
 
 -- what is left with more octets of both streams
-left-more : (fed : Fed) (client_more server_more : List ℕ) → left_of (with_server server_more (with_client client_more fed)) ≡ with_more (places-more (nat_lt 0 fed.index) fed.client client_more).0 server_more (left_of fed)
+left-more : (fed : Fed) (client_more server_more : List ℕ)
+    → left_of (with_server server_more (with_client client_more fed)) ≡ with_more
+    (places-more (nat_lt 0 fed.index) fed.client client_more).0 server_more (left_of fed)
 left-more fed client_more server_more =
     ap (λ places. record { index = fed.index; places = places; server = fed.server ++ server_more; is_closed = fed.is_closed }) (places-more (nat_lt 0 fed.index) fed.client client_more).1
 
@@ -78,7 +80,8 @@ fed-paired fed client server pairs is = (run, index-counts client server pairs (
       (subst (λ t. AreNext (streams (client ++ []) (server ++ [])) pairs (left_from fed.index fed.is_closed t fed.server)) (append-nil fed.client)
       (subst (λ t. AreNext (streams (client ++ []) (server ++ [])) pairs (left_from fed.index fed.is_closed (fed.client ++ []) t)) (append-nil fed.server) (is.paired [] []))))
 
-pub end-pairing : (fed : Fed) (client server : List ℕ) (pairs : List Paired) (unanswered : ℕ) → IsFed fed client server pairs → IsEnding fed (ending.End unanswered) → IsPairing client server pairs (end unanswered)
+pub end-pairing : (fed : Fed) (client server : List ℕ) (pairs : List Paired) (unanswered : ℕ) → IsFed fed client server pairs
+    → IsEnding fed (ending.End unanswered) → IsPairing client server pairs (end unanswered)
 end-pairing fed client server pairs unanswered is (sound, ends) = record { left = left_of fed; paired = (fed-paired fed client server pairs is).0; ends = ends }
 
 pub bad-pairing : (fed : Fed) (client server : List ℕ) (pairs : List Paired) (index : ℕ) (class : PairClass) → IsFed fed client server pairs → IsEnding fed (ending.Bad index class)

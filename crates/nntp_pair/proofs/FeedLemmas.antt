@@ -1,5 +1,7 @@
 -- What a feed holds, and how it goes on with more octets and behind an exchange.
-use Rattle.std.proofs.Common.{◌≡◌, ◌≢◌, ℕ, ◌+◌, ◌-◌, ◌*◌, ◌^◌, ◌<◌, ◌≤◌, List, [], ◌∷◌, ◌++◌, length, drop, map, arith, Option, None, Some, Bool, true, false, refl, sym, ◌∙◌, ap, subst, append_assoc, length-append, MatchOption, inl, inr}
+use Rattle.std.proofs.Common.{◌≡◌, ◌≢◌, ℕ, ◌+◌, ◌-◌, ◌*◌, ◌^◌, ◌<◌, ◌≤◌, List, [], ◌∷◌, ◌++◌, length, drop, map, arith, Option}
+use Rattle.std.proofs.Common.{None, Some, Bool, true, false, refl, sym, ◌∙◌, ap, subst, append_assoc, length-append}
+use Rattle.std.proofs.Common.{MatchOption, inl, inr}
 use Rattle.std.proofs.lemmas.List.{append-nil, map-append, drop_at}
 use Rattle.std.proofs.lemmas.Bool.{false≢true, eqb-true, eqb-false}
 use Rattle.std.specs.Prelude.{◌==◌, nat_lt, ⊤}
@@ -45,7 +47,8 @@ places-more is_greeted client more = at is_greeted where
   at true = (map Some later, lines)
   at false = (map Some later, ap (λ places. None ∷ places) lines)
 
-awaits-client : (index : ℕ) (is_closed : Bool) (client server piece : List ℕ) (place : Option (List ℕ)) → Awaits (left_from index is_closed client server) place → Awaits (left_from index is_closed (client ++ piece) server) place
+awaits-client : (index : ℕ) (is_closed : Bool) (client server piece : List ℕ) (place : Option (List ℕ))
+    → Awaits (left_from index is_closed client server) place → Awaits (left_from index is_closed (client ++ piece) server) place
 awaits-client index is_closed client server piece place awaits =
     let more = places-more (nat_lt 0 index) client piece in
     record { is_open = awaits.is_open; places = awaits.places ++ more.0; first = more.1 ∙ ap (λ places. places ++ more.0) awaits.first }
@@ -66,7 +69,8 @@ line-place index client line rest some is_line whole =
     }
 
 -- at no octets more
-pub begins-here : (index : ℕ) (client : List ℕ) (place : Option (List ℕ)) (rest : List ℕ) → BeginsWithPlace (nat_lt 0 index) client place rest → places_from (nat_lt 0 index) client ≡ place ∷ places_from true rest
+pub begins-here : (index : ℕ) (client : List ℕ) (place : Option (List ℕ)) (rest : List ℕ)
+    → BeginsWithPlace (nat_lt 0 index) client place rest → places_from (nat_lt 0 index) client ≡ place ∷ places_from true rest
 begins-here index client place rest begins =
     ap (places_from (nat_lt 0 index)) (sym (append-nil client)) ∙ begins.places [] ∙ ap (λ t. place ∷ places_from true t) (append-nil rest)
 
@@ -112,13 +116,17 @@ searched-server index is_closed client server piece searches are =
 
 -- searches that have gone through the octets that are held
 pub in-step : (index : ℕ) (is_closed : Bool) (client server held_client held_server : List ℕ) (count : ℕ) (searches : Searches) → client ≡ held_client → server ≡ held_server
-    → 2 * index + length held_server ≤ count → count < 2 ^ 64 → AreSearched (left_from index is_closed client server) client searches → AreThrough (left_from index is_closed client server) client searches
+    → 2 * index + length held_server ≤ count → count < 2 ^ 64
+    → AreSearched (left_from index is_closed client server) client searches
+    → AreThrough (left_from index is_closed client server) client searches
     → IsInStep index is_closed held_client held_server count searches
 in-step index is_closed client server held_client held_server count searches same_client same_server counted small searched through = record {
   counted = counted;
   small = small;
-  searched = subst (λ t. AreSearched (left_from index is_closed held_client t) held_client searches) same_server (subst (λ t. AreSearched (left_from index is_closed t server) t searches) same_client searched);
-  through = subst (λ t. AreThrough (left_from index is_closed held_client t) held_client searches) same_server (subst (λ t. AreThrough (left_from index is_closed t server) t searches) same_client through);
+  searched = subst (λ t. AreSearched (left_from index is_closed held_client t) held_client searches) same_server
+      (subst (λ t. AreSearched (left_from index is_closed t server) t searches) same_client searched);
+  through = subst (λ t. AreThrough (left_from index is_closed held_client t) held_client searches) same_server
+      (subst (λ t. AreThrough (left_from index is_closed t server) t searches) same_client through);
 }
 
 -- ---- what waits
@@ -152,7 +160,8 @@ next-of left place pair rest awaits index line answered = (
 )
 
 -- a frame takes two octets at least
-pub frame-shorter : (place : Option (List ℕ)) (server initial : List ℕ) (block : Option (List ℕ)) (rest : List ℕ) → HasFrame (asked_at place) server initial block rest → length rest + 2 ≤ length server
+pub frame-shorter : (place : Option (List ℕ)) (server initial : List ℕ) (block : Option (List ℕ)) (rest : List ℕ)
+    → HasFrame (asked_at place) server initial block rest → length rest + 2 ≤ length server
 frame-shorter place server initial block rest has =
     let whole : length server ≡ length (frame_octets initial block ++ rest) = ap length has.whole in
     omega (arith, whole, length-append (frame_octets initial block) rest, length-append (initial ++ crlf) (framed block), length-append initial crlf)
@@ -199,7 +208,8 @@ pub fed-client : (fed : Fed) (piece client server : List ℕ) (pairs : List Pair
 fed-client fed piece client server pairs is = record {
   paired = λ client_more server_more.
       subst (λ t. AreNext (streams t (server ++ server_more)) pairs (left_of (with_server server_more (with_client client_more (with_client piece fed))))) (sym (append_assoc client piece client_more))
-      (subst (λ t. AreNext (streams (client ++ (piece ++ client_more)) (server ++ server_more)) pairs (left_from fed.index fed.is_closed t (fed.server ++ server_more))) (sym (append_assoc fed.client piece client_more))
+      (subst (λ t. AreNext (streams (client ++ (piece ++ client_more)) (server ++ server_more)) pairs
+      (left_from fed.index fed.is_closed t (fed.server ++ server_more))) (sym (append_assoc fed.client piece client_more))
       (is.paired (piece ++ client_more) server_more));
   client_came = ap (λ n. n + length piece) is.client_came ∙ sym (length-append client piece);
   server_came = is.server_came;
@@ -210,7 +220,8 @@ pub fed-server : (fed : Fed) (piece client server : List ℕ) (pairs : List Pair
 fed-server fed piece client server pairs is = record {
   paired = λ client_more server_more.
       subst (λ t. AreNext (streams (client ++ client_more) t) pairs (left_of (with_server server_more (with_client client_more (with_server piece fed))))) (sym (append_assoc server piece server_more))
-      (subst (λ t. AreNext (streams (client ++ client_more) (server ++ (piece ++ server_more))) pairs (left_from fed.index fed.is_closed (fed.client ++ client_more) t)) (sym (append_assoc fed.server piece server_more))
+      (subst (λ t. AreNext (streams (client ++ client_more) (server ++ (piece ++ server_more))) pairs
+      (left_from fed.index fed.is_closed (fed.client ++ client_more) t)) (sym (append_assoc fed.server piece server_more))
       (is.paired client_more (piece ++ server_more)));
   client_came = is.client_came;
   server_came = ap (λ n. n + length piece) is.server_came ∙ sym (length-append server piece);
@@ -232,7 +243,8 @@ held-server fed piece held count client server pairs same counted is =
 -- ---- behind an exchange
 
 -- the octets behind the next place
-pub behind-place : (is_greeted : Bool) (client slice : List ℕ) (place : Option (List ℕ)) (rest : List ℕ) → slice ≡ client → BeginsWithPlace is_greeted client place rest → drop (length slice - length rest) client ≡ rest
+pub behind-place : (is_greeted : Bool) (client slice : List ℕ) (place : Option (List ℕ)) (rest : List ℕ) → slice ≡ client
+    → BeginsWithPlace is_greeted client place rest → drop (length slice - length rest) client ≡ rest
 behind-place is_greeted client slice place rest same begins =
     let long : length slice ≡ length client = ap length same in
     let parts : length client ≡ length (begins.front ++ rest) = ap length begins.whole in
@@ -249,7 +261,8 @@ next-frame index is_closed client server slice rest behind place search initial 
     (kind, subst (HasFrame (asked_at place) server initial block) (sym drops) (subst (λ t. HasFrame (asked_at place) t initial block (drop len t)) same (found (asked_at place) kind)))
 
 -- the next pair, with more octets behind both streams
-pub next-behind : (index : ℕ) (is_closed closes_behind : Bool) (client server rest behind_server initial : List ℕ) (block : Option (List ℕ)) (place : Option (List ℕ)) (pair : Paired) (behind : Unpaired)
+pub next-behind : (index : ℕ) (is_closed closes_behind : Bool) (client server rest behind_server initial : List ℕ)
+    (block : Option (List ℕ)) (place : Option (List ℕ)) (pair : Paired) (behind : Unpaired)
     → IsNext (left_from index is_closed client server) pair behind
     → BeginsWithPlace (nat_lt 0 index) client place rest
     → HasFrame (asked_at place) server initial block behind_server
@@ -279,7 +292,9 @@ next-behind index is_closed closes_behind client server rest behind_server initi
 
 -- the same with none
 pub next-here : (index : ℕ) (is_closed closes_behind : Bool) (client server rest behind_server : List ℕ) (pair : Paired)
-    → ((client_more server_more : List ℕ) → IsNext (left_from index is_closed (client ++ client_more) (server ++ server_more)) pair (left_from (index + 1) closes_behind (rest ++ client_more) (behind_server ++ server_more)))
+    → ((client_more server_more : List ℕ) → IsNext
+    (left_from index is_closed (client ++ client_more) (server ++ server_more)) pair
+    (left_from (index + 1) closes_behind (rest ++ client_more) (behind_server ++ server_more)))
     → IsNext (left_from index is_closed client server) pair (left_from (index + 1) closes_behind rest behind_server)
 next-here index is_closed closes_behind client server rest behind_server pair next =
     subst (λ t. IsNext (left_from index is_closed t server) pair (left_from (index + 1) closes_behind rest behind_server)) (append-nil client)
@@ -293,7 +308,9 @@ pub fed-push : (fed after : Fed) (client server : List ℕ) (pairs : List Paired
     → after.client_count ≡ fed.client_count → after.server_count ≡ fed.server_count → IsFed after client server (pairs ++ pair ∷ [])
 fed-push fed after client server pairs pair is next client_count server_count = record {
   paired = λ client_more server_more.
-      AreNext-push pairs (streams (client ++ client_more) (server ++ server_more)) (left_of (with_server server_more (with_client client_more fed))) (left_of (with_server server_more (with_client client_more after))) pair
+      AreNext-push pairs (streams (client ++ client_more) (server ++ server_more))
+      (left_of (with_server server_more (with_client client_more fed)))
+      (left_of (with_server server_more (with_client client_more after))) pair
       (is.paired client_more server_more) (next client_more server_more);
   client_came = client_count ∙ is.client_came;
   server_came = server_count ∙ is.server_came;

@@ -59,13 +59,15 @@ one-run (x ∷ pairs) (y ∷ others) a b c e f (m, n, p) ends (k, o, q) also =
     (cc, rest.1)
 
 -- streams have one pairing
-pub one-pairing : (client server : List ℕ) (pairs others : List Paired) (ending other : Ending) → IsPairing client server pairs ending → IsPairing client server others other → (pairs ≡ others) × (ending ≡ other)
+pub one-pairing : (client server : List ℕ) (pairs others : List Paired) (ending other : Ending)
+    → IsPairing client server pairs ending → IsPairing client server others other → (pairs ≡ others) × (ending ≡ other)
 one-pairing client server pairs others ending other p q =
     let one = one-run pairs others (streams client server) p.left q.left ending other p.paired p.ends q.paired q.ends in
     (one.0, one-end ending other q.left (subst (λ u. Ends u ending) one.1 p.ends) q.ends)
 
 -- a frame stays with octets behind it
-pub frame-more : (place : Option (List ℕ)) (server line : List ℕ) (block : Option (List ℕ)) (rest octets : List ℕ) → HasFrame (asked_at place) server line block rest → HasFrame (asked_at place) (server ++ octets) line block (rest ++ octets)
+pub frame-more : (place : Option (List ℕ)) (server line : List ℕ) (block : Option (List ℕ)) (rest octets : List ℕ)
+    → HasFrame (asked_at place) server line block rest → HasFrame (asked_at place) (server ++ octets) line block (rest ++ octets)
 frame-more place server line block rest octets f =
     record { whole = ap (λ t. t ++ octets) f.whole ∙ append_assoc (frame_octets line block) rest octets; is_line = f.is_line; due = f.due; before_dot_line = f.before_dot_line }
 
@@ -85,7 +87,9 @@ run-more places octets [] a b same = ap (with_more places octets) same
 run-more places octets (x ∷ pairs) a b (m, n, run) = (with_more places octets m, next-more places octets a m x n, run-more places octets pairs m b run)
 
 -- streams with more octets behind both
-streams-more : (client server client_more server_more : List ℕ) → streams (client ++ client_more) (server ++ server_more) ≡ with_more (map Some (lines-joined client client_more).0) server_more (streams client server)
+streams-more : (client server client_more server_more : List ℕ)
+    → streams (client ++ client_more) (server ++ server_more) ≡ with_more
+    (map Some (lines-joined client client_more).0) server_more (streams client server)
 streams-more client server client_more server_more =
     let joined = lines-joined client client_more in
     ap (λ lines. record { index = 0; places = None ∷ map Some lines; server = server ++ server_more; is_closed = false }) joined.1
@@ -95,8 +99,12 @@ streams-more client server client_more server_more =
 pub pairs-stay : (client server client_more server_more : List ℕ) (pairs : List Paired) (left : Unpaired) → AreNext (streams client server) pairs left
     → (places : List (Option (List ℕ))) × AreNext (streams (client ++ client_more) (server ++ server_more)) pairs (with_more places server_more left)
 pairs-stay client server client_more server_more pairs left run =
-    let places = map Some (lines-joined client client_more).0 in
-    (places, subst (λ u. AreNext u pairs (with_more places server_more left)) (sym (streams-more client server client_more server_more)) (run-more places server_more pairs (streams client server) left run))
+    let places = map Some (lines-joined client client_more).0 in (
+      places,
+      subst (λ u. AreNext u pairs (with_more places server_more left))
+          (sym (streams-more client server client_more server_more))
+          (run-more places server_more pairs (streams client server) left run),
+    )
 
 awaits-more : (places : List (Option (List ℕ))) (octets : List ℕ) (left : Unpaired) (place : Option (List ℕ)) → Awaits left place → Awaits (with_more places octets left) place
 awaits-more places octets left place awaits = record { is_open = awaits.is_open; places = awaits.places ++ places; first = ap (λ p. p ++ places) awaits.first }

@@ -44,7 +44,9 @@ abbrev IsOpenFor : Bool → List Response → Type 0
 IsOpenFor is_closed [] = ⊤
 IsOpenFor is_closed (response ∷ responses) = is_closed ≡ false
 
-open-tail : (asked : Asked) (prompts : List Asked) (response : Response) (responses : List Response) → StaysOpen (asked ∷ prompts) (response ∷ responses) → IsOpenFor (closes asked response) responses × StaysOpen prompts responses
+open-tail : (asked : Asked) (prompts : List Asked) (response : Response) (responses : List Response)
+    → StaysOpen (asked ∷ prompts) (response ∷ responses) → IsOpenFor (closes asked response) responses
+    × StaysOpen prompts responses
 open-tail asked prompts response [] stays = (tt, tt)
 open-tail asked prompts response (next ∷ responses) stays = (stays.0, stays.1)
 

@@ -7,7 +7,8 @@ use Rattle.nntp_pair.specs.declared.peek.Peek.TheVariants as peek
 use Rattle.nntp_pair.specs.declared.ending.Ending.{Ending}
 use Rattle.nntp_pair.specs.declared.ending.Ending.TheVariants as ending
 
--- what a feed holds: the index of the next place, the octets of both streams that came and that no exchange has passed, whether the connection is closed, how many octets came of each stream, and whether memory was refused
+-- what a feed holds: the index of the next place, the octets of both streams that came and that no exchange has passed,
+-- whether the connection is closed, how many octets came of each stream, and whether memory was refused
 pub record Fed : Type 0 where
   pub index : ℕ
   pub client : List ℕ

@@ -32,7 +32,8 @@ impl<'a> Model for Exchange<'a> {
 
     ghost view = { λ x. record { index = x.index; line = option_copied x.line; initial = x.initial.now; response = response x.answer } };
 
-    ghost invariant = { λ x. (x.index < 2 ^ 63) × (asked x.prompt ≡ asked_at (option_copied x.line)) × IsSpelled (option_copied x.line) x.initial.now (response x.answer) × (lines_in (response x.answer) < 2 ^ 64) };
+    ghost invariant = { λ x. (x.index < 2 ^ 63) × (asked x.prompt ≡ asked_at (option_copied x.line))
+        × IsSpelled (option_copied x.line) x.initial.now (response x.answer) × (lines_in (response x.answer) < 2 ^ 64) };
 }
 
 /// What is answered at a place.

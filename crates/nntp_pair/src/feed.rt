@@ -39,7 +39,15 @@ impl<A: Allocator> Model for Feed<A> {
 
     ghost Value = { Fed };
 
-    ghost view = { λ f. record { index = f.index; client = f.client; server = f.server; is_closed = f.is_closed; client_count = f.client_count; server_count = f.server_count; has_failed = f.has_failed } };
+    ghost view = { λ f. record {
+      index = f.index;
+      client = f.client;
+      server = f.server;
+      is_closed = f.is_closed;
+      client_count = f.client_count;
+      server_count = f.server_count;
+      has_failed = f.has_failed;
+    } };
 
     ghost invariant = { λ f. IsInStep f.index f.is_closed f.client f.server f.server_count f.searches };
 }
@@ -154,7 +162,9 @@ impl<A: Allocator + Copy> Feed<A> {
     pub fn advance(&mut self)
         requires { HasNext (left_of self.old) }
         ensures next { (pair : Paired) × IsNext (left_of self.old) pair (left_of self.new) }
-        ensures fed { (client server : List ℕ) (pairs : List Paired) (pair : Paired) (behind : Unpaired) → IsFed self.old client server pairs → IsNext (left_of self.old) pair behind → IsFed self.new client server (pairs ++ pair ∷ []) }
+        ensures fed { (client server : List ℕ) (pairs : List Paired) (pair : Paired) (behind : Unpaired)
+            → IsFed self.old client server pairs → IsNext (left_of self.old) pair behind
+            → IsFed self.new client server (pairs ++ pair ∷ []) }
         ensures client_count { self.new.client_count ≡ self.old.client_count }
         ensures server_count { self.new.server_count ≡ self.old.server_count }
         ensures has_failed { self.new.has_failed ≡ self.old.has_failed }

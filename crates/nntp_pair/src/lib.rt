@@ -16,8 +16,6 @@ mod peek;
 mod places;
 mod searches;
 mod step;
-#[cfg(test)]
-mod tests;
 
 pub use class::PairClass;
 pub use ending::Ending;

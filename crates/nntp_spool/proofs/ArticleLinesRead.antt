@@ -4,8 +4,8 @@ use Rattle.std.specs.Prelude.{◌&&◌, ◌==◌}
 use Rattle.std.specs.List.{list_all}
 use Rattle.std.proofs.lemmas.Bool.{and_from, and_parts, eqb-true}
 use Rattle.std.proofs.lemmas.List.{append-nil}
-use Rattle.nntp_article.specs.Article.{Line}
-use Rattle.nntp_article.specs.Spool.{is_line}
+use Rattle.nntp_article.specs.Article.Parts.{Line}
+use Rattle.nntp_article.specs.Session.Spool.{is_line}
 use Rattle.nntp_spool.specs.Text.{barred}
 use Rattle.nntp_spool.specs.Reading.{◌>>=◌, shaped, Place, line_at, barred_line_at, repeat}
 use Rattle.nntp_spool.specs.Fields.{unbarred}
@@ -62,5 +62,9 @@ barred_lines_again line [] next segments ls h = (line, ap (λ (t : List Line). O
 barred_lines_again line (l ∷ []) next segments ls h = (line + 1, rw (barred_line_again line l next segments ls (and_parts (is_line l) true h).0) refl)
 barred_lines_again line (l ∷ k ∷ more) next segments ls h =
     let both = and_parts (is_line l) (list_all is_line (k ∷ more)) h in
-    let rest = barred_lines_again (line + 1) (k ∷ more) next segments (ls ++ l ∷ []) both.1 in
-    (rest.0, rw (barred_line_again line l (124 ∷ k) (barred more ++ next ∷ segments) ls both.0) (rest.1 ∙ ap (λ (t : List Line). Ok (t, record { line = rest.0; segments = next ∷ segments })) (append_assoc ls (l ∷ []) (k ∷ more))))
+    let rest = barred_lines_again (line + 1) (k ∷ more) next segments (ls ++ l ∷ []) both.1 in (
+      rest.0,
+      rw (barred_line_again line l (124 ∷ k) (barred more ++ next ∷ segments) ls both.0)
+          (rest.1 ∙ ap (λ (t : List Line). Ok (t, record { line = rest.0; segments = next ∷ segments }))
+          (append_assoc ls (l ∷ []) (k ∷ more))),
+    )

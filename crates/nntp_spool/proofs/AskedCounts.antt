@@ -5,7 +5,7 @@ use Rattle.std.specs.Ordering.{nat_cmp, eq_by_cmp}
 use Rattle.std.specs.Cmp.Lexicographic.{slice_cmp, nat_list_cmp_total}
 use Rattle.std.specs.FinMap.{get, get-insert}
 use Rattle.nntp_wire.proofs.ShownMaps.{equal_is}
-use Rattle.nntp_article.specs.Spool.{Spool}
+use Rattle.nntp_article.specs.Session.Spool.{Spool}
 use Rattle.nntp_spool.specs.AskedCounts.{AskedCounts, AreCounted, asked_count, with_count}
 use Rattle.nntp_spool.proofs.ShownMaps.{octet_keys}
 

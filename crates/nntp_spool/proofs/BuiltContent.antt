@@ -5,11 +5,11 @@ use Rattle.std.specs.List.{list_all}
 use Rattle.std.specs.Ordering.{nat_cmp}
 use Rattle.std.specs.Cmp.Lexicographic.{slice_cmp, nat_list_cmp_total}
 use Rattle.std.specs.FinMap.{get, insert, empty, get-empty}
-use Rattle.std.proofs.lemmas.Bool.{true≢false, and_parts}
+use Rattle.std.proofs.lemmas.Bool.{true≢false, and_parts, not-false}
 use Rattle.nntp_wire.specs.Decided.{is_group_name, is_message_id}
-use Rattle.nntp_article.specs.Article.{Id}
-use Rattle.nntp_article.specs.Machine.{is_article_number}
-use Rattle.nntp_article.specs.Spool.{Name, Spool, Numbers, Text, numbers, is_line}
+use Rattle.nntp_article.specs.Article.Parts.{Id}
+use Rattle.nntp_article.specs.Session.Machine.{is_article_number}
+use Rattle.nntp_article.specs.Session.Spool.{Name, Spool, Numbers, Text, numbers, is_line}
 use Rattle.nntp_spool.specs.declared.value.spool_fault.SpoolFault.TheVariants as faults
 use Rattle.nntp_spool.specs.Numbers.{has_id}
 use Rattle.nntp_spool.specs.Content.{is_head_of, with_group, with_article, no_spool}
@@ -23,10 +23,6 @@ use Rattle.nntp_spool.proofs.ShownMaps.{octet_keys}
 no_fault : {A : Type 0} (b : Bool) (x : A) (o : Option A) → cond b (Some x) o ≡ None → (b ≡ false) × (o ≡ None)
 no_fault true x o e = absurd cc
 no_fault false x o e = (refl, e)
-
-not_not : (b : Bool) → not b ≡ false → b ≡ true
-not_not true e = refl
-not_not false e = absurd (true≢false e)
 
 none : {A : Type 0} (x : A) → None ≡ Some x → ⊥
 none x e = cc
@@ -48,7 +44,7 @@ module _ (limit : ℕ) (S : Spool) (content : IsContent limit S) where
   pub group_added : (name : Name) → group_fault S name ≡ None → IsContent limit (with_group S name empty)
   group_added name e =
       let a = no_fault (not (is_group_name name)) faults.BadName _ e in
-      with_named name empty (record { is_name = not_not (is_group_name name) a.0; numbers = no_numbers limit })
+      with_named name empty (record { is_name = not-false (is_group_name name) a.0; numbers = no_numbers limit })
 
   pub number_added : (name : Name) (n : ℕ) (id : Id) → number_fault limit S name n id ≡ None → IsContent limit (with_group S name (insert (numbers S name) n id))
   number_added name n id e =
@@ -57,7 +53,7 @@ module _ (limit : ℕ) (S : Spool) (content : IsContent limit S) where
       let c = no_fault (not (is_message_id id)) faults.BadId _ b.1 in
       let d = no_fault (is_some (get (numbers S name) n)) faults.DuplicateNumber _ c.1 in
       let f = no_fault (has_id (numbers S name) id) faults.DuplicateId None d.1 in
-      by (get S.groups name) refl a.0 (not_not (is_article_number limit n) b.0) (not_not (is_message_id id) c.0) f.0
+      by (get S.groups name) refl a.0 (not-false (is_article_number limit n) b.0) (not-false (is_message_id id) c.0) f.0
     where
       by : (o : Option Numbers) → get S.groups name ≡ o → is_none (get S.groups name) ≡ false → is_article_number limit n ≡ true → is_message_id id ≡ true → has_id (numbers S name) id ≡ false
           → IsContent limit (with_group S name (insert (numbers S name) n id))
@@ -65,15 +61,20 @@ module _ (limit : ℕ) (S : Spool) (content : IsContent limit S) where
       by (Some N) g some num is_id fresh =
           let named = content.groups name N g in
           let same : numbers S name ≡ N = ap (λ o. unwrap_or o empty) g in
-          with_named name (insert (numbers S name) n id) (record { is_name = named.is_name; numbers = one_more limit (numbers S name) n id (subst (AreNumbers limit) (sym same) named.numbers) num is_id fresh })
+          with_named name (insert (numbers S name) n id)
+          (record {
+            is_name = named.is_name;
+            numbers = one_more limit (numbers S name) n id
+                (subst (AreNumbers limit) (sym same) named.numbers) num is_id fresh;
+          })
 
   pub article_added : (id : Id) (t : Text) → article_fault S id t ≡ None → IsContent limit (with_article S id t)
   article_added id t e =
       let a = no_fault (not (is_message_id id)) faults.BadId _ e in
       let b = no_fault (not (list_all is_line t.head && is_head_of id t.head)) faults.BadHead _ a.1 in
       let c = no_fault (not (list_all is_line t.body)) faults.BadBody _ b.1 in
-      let head = and_parts (list_all is_line t.head) (is_head_of id t.head) (not_not (list_all is_line t.head && is_head_of id t.head) b.0) in
-      let is : IsArticle id t = record { is_id = not_not (is_message_id id) a.0; head = head.1; head_lines = head.0; body_lines = not_not (list_all is_line t.body) c.0 } in
+      let head = and_parts (list_all is_line t.head) (is_head_of id t.head) (not-false (list_all is_line t.head && is_head_of id t.head) b.0) in
+      let is : IsArticle id t = record { is_id = not-false (is_message_id id) a.0; head = head.1; head_lines = head.0; body_lines = not-false (list_all is_line t.body) c.0 } in
       record { groups = content.groups; articles = λ q u g. by is q u (got_more nat_list_cmp_total octet_keys S.articles id t q u g) }
     where
       by : IsArticle id t → (q : Id) (u : Text) → ((q ≡ id) × (u ≡ t)) ⊎ (get S.articles q ≡ Some u) → IsArticle q u

@@ -1,7 +1,7 @@
 -- A group has one first number.
 use Rattle.std.proofs.Common.{◌≡◌, ℕ, Option, None, Some, IsSome, refl, ap, arith}
 use Rattle.std.specs.FinMap.{get}
-use Rattle.nntp_article.specs.Spool.{Numbers, IsFirst}
+use Rattle.nntp_article.specs.Session.Spool.{Numbers, IsFirst}
 
 -- none is not some
 pub some_none : {A : Type 0} (o : Option A) → o ≡ None → IsSome o → ⊥

@@ -2,8 +2,8 @@
 use Rattle.std.specs.Prelude.{◌≡◌, ℕ, true, false, List, [], ◌∷◌, map}
 use Rattle.std.specs.FinMap.{insert}
 use Rattle.nntp_wire.specs.Decided.{is_message_id}
-use Rattle.nntp_article.specs.Spool.{Numbers}
-use Rattle.nntp_article.specs.Machine.{is_article_number}
+use Rattle.nntp_article.specs.Session.Spool.{Numbers}
+use Rattle.nntp_article.specs.Session.Machine.{is_article_number}
 use Rattle.nntp_spool.specs.Text.{number_line}
 use Rattle.nntp_spool.specs.Ascending.{is_last}
 use Rattle.nntp_spool.specs.Numbers.{has_id}

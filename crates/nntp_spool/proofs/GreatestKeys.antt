@@ -12,7 +12,7 @@ use Rattle.std.specs.FinMap.{FinMap, get, entries, IsAntisymmetric, get-from_ent
 use Rattle.std.proofs.lemmas.Bool.{true≢false}
 use Rattle.std.proofs.lemmas.Bool.Decides.{nat_tests}
 use Rattle.std.proofs.lemmas.List.Elements.{recursion_from_All}
-use Rattle.nntp_article.specs.Spool.{Numbers, IsNumber}
+use Rattle.nntp_article.specs.Session.Spool.{Numbers, IsNumber}
 use Rattle.nntp_spool.specs.Ascending.{is_last}
 use Rattle.nntp_spool.proofs.MapEntries.{less_is, got_all, all_got, all_found}
 use Rattle.nntp_spool.proofs.NumbersInOrder.{all_passed}
@@ -47,7 +47,8 @@ module _ {L V K X : Type 0} (R : K → K → Ordering) (key : L → K) (value : 
   each_shown P [] all = tt
   each_shown P (e ∷ es) all = (all.0, each_shown P es all.1)
 
-  pub last_shown : (es : List (L × V)) (m : FinMap R X) (l : L) (v : V) (k : K) → shown R key value es ≡ m → lookup (λ e. is_eq (R (key l) (key e))) es ≡ Some v → All (λ q. is_lt (R (key l) (key q)) ≡ false) (keys_of es)
+  pub last_shown : (es : List (L × V)) (m : FinMap R X) (l : L) (v : V) (k : K) → shown R key value es ≡ m
+      → lookup (λ e. is_eq (R (key l) (key e))) es ≡ Some v → All (λ q. is_lt (R (key l) (key q)) ≡ false) (keys_of es)
       → is_lt (R (key l) k) ≡ is_last m k
   last_shown es m l v k is here most =
       last_is o same m (key l) k (value v) (ap (λ m. get m (key l)) (sym is) ∙ get-shown R key value o es (key l) ∙ ap (option_map value) here)

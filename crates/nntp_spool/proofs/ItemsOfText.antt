@@ -8,8 +8,8 @@ use Rattle.std.specs.List.{list_all, flat_map, AllByRecursion}
 use Rattle.std.specs.FinMap.{FinMap, get, insert, empty, entries, find, is_sorted, entries_sorted, get-entries, len-empty, len-entries, same_entries_map}
 use Rattle.std.proofs.lemmas.Bool.{true≢false, and_parts}
 use Rattle.std.proofs.lemmas.List.{append-nil, nil_from_length}
-use Rattle.nntp_article.specs.Article.{Line, Id, is_empty}
-use Rattle.nntp_article.specs.Spool.{Name, Spool, Numbers, Text}
+use Rattle.nntp_article.specs.Article.Parts.{Line, Id, is_empty}
+use Rattle.nntp_article.specs.Session.Spool.{Name, Spool, Numbers, Text}
 use Rattle.nntp_spool.specs.declared.text.read_fault.ReadFault.{ReadFault}
 use Rattle.nntp_spool.specs.declared.text.read_fault.Kind.TheVariants as kinds
 use Rattle.nntp_spool.specs.Text.{HasLineCounts, group_lines, article_lines, content_lines}
@@ -52,10 +52,14 @@ items_take limit (suc most) articles S p x le e =
           named = (g.named, rest.named);
           are_articles = rest.are_articles;
           none = λ is. absurd (true≢false (sym is ∙ g.none));
-          with_groups = rest.with_groups ∙ ap (λ (t : List (Name × Numbers)). t ++ rest.groups) (entries-insert_last nat_list_cmp_total S.groups g.name g.numbers g.last) ∙ append_assoc (entries S.groups) ((g.name, g.numbers) ∷ []) rest.groups;
+          with_groups = rest.with_groups ∙ ap (λ (t : List (Name × Numbers)). t ++ rest.groups)
+              (entries-insert_last nat_list_cmp_total S.groups g.name g.numbers g.last)
+              ∙ append_assoc (entries S.groups) ((g.name, g.numbers) ∷ []) rest.groups;
           with_texts = rest.with_texts;
           known = rest.known;
-          segments = g.segments ∙ ap (λ (t : List Line). group_lines (g.name, g.numbers) ++ t) rest.segments ∙ sym (append_assoc (group_lines (g.name, g.numbers)) (flat_map group_lines rest.groups) (flat_map article_lines rest.texts ++ codes "end" ∷ x.1.segments));
+          segments = g.segments ∙ ap (λ (t : List Line). group_lines (g.name, g.numbers) ++ t) rest.segments
+              ∙ sym (append_assoc (group_lines (g.name, g.numbers)) (flat_map group_lines rest.groups)
+              (flat_map article_lines rest.texts ++ codes "end" ∷ x.1.segments));
         }
     taken turn (inr (inl a)) f more =
         let rest = more true (with_article S a.id a.text) a.next (ap (turn_then (items_at limit most)) (sym a.is) ∙ f) in
@@ -67,9 +71,13 @@ items_take limit (suc most) articles S p x le e =
           are_articles = (a.is_article, rest.are_articles);
           none = λ is. refl;
           with_groups = rest.with_groups ∙ ap (λ (t : List (Name × Numbers)). entries S.groups ++ t) none;
-          with_texts = rest.with_texts ∙ ap (λ (t : List (Id × Text)). t ++ rest.texts) (entries-insert_last nat_list_cmp_total S.articles a.id a.text a.last) ∙ append_assoc (entries S.articles) ((a.id, a.text) ∷ []) rest.texts;
+          with_texts = rest.with_texts ∙ ap (λ (t : List (Id × Text)). t ++ rest.texts)
+              (entries-insert_last nat_list_cmp_total S.articles a.id a.text a.last)
+              ∙ append_assoc (entries S.articles) ((a.id, a.text) ∷ []) rest.texts;
           known = rest.known;
-          segments = a.segments ∙ ap (λ (t : List Line). article_lines (a.id, a.text) ++ t) (rest.segments ∙ ap (λ (t : List (Name × Numbers)). flat_map group_lines t ++ (flat_map article_lines rest.texts ++ codes "end" ∷ x.1.segments)) none)
+          segments = a.segments ∙ ap (λ (t : List Line). article_lines (a.id, a.text) ++ t)
+              (rest.segments ∙ ap (λ (t : List (Name × Numbers)). flat_map group_lines t ++
+              (flat_map article_lines rest.texts ++ codes "end" ∷ x.1.segments)) none)
               ∙ sym (append_assoc (article_lines (a.id, a.text)) (flat_map article_lines rest.texts) (codes "end" ∷ x.1.segments));
         }
     taken turn (inr (inr d)) f more =
@@ -146,7 +154,8 @@ placed m before e behind is =
     record { less = less; here = get-entries m e.0 ∙ ap (find (slice_cmp nat_cmp) e.0) is ∙ find_middle nat_list_cmp_total before e behind less }
 
 -- one more entry of the whole map
-next_entry : {X : Type 0} (m whole : FinMap (slice_cmp nat_cmp) X) (k : List ℕ) (v : X) (behind : List (List ℕ × X)) → entries whole ≡ entries m ++ (k, v) ∷ behind → is_last m k ≡ true → entries whole ≡ entries (insert m k v) ++ behind
+next_entry : {X : Type 0} (m whole : FinMap (slice_cmp nat_cmp) X) (k : List ℕ) (v : X) (behind : List (List ℕ × X))
+    → entries whole ≡ entries m ++ (k, v) ∷ behind → is_last m k ≡ true → entries whole ≡ entries (insert m k v) ++ behind
 next_entry m whole k v behind is last = is ∙ sym (append_assoc (entries m) ((k, v) ∷ []) behind) ∙ ap (λ t. t ++ behind) (sym (entries-insert_last nat_list_cmp_total m k v last))
 
 abbrev pub tail_lines : List (Id × Text) → List Line
@@ -164,7 +173,8 @@ module _ (limit : ℕ) (F : Spool) (le : limit < 2 ^ 64) (content : IsContent li
   abbrev pub ReadsTo : ℕ → Bool → Spool → ℕ → List Line → Type 0
   ReadsTo most articles S line segments = (end : ℕ) × (items_at limit most articles S (record { line = line; segments = segments }) ≡ Ok (F, record { line = end; segments = [] ∷ [] }))
 
-  texts_again : (most line : ℕ) (articles : Bool) (S : Spool) (texts : List (Id × Text)) → S.groups ≡ F.groups → entries F.articles ≡ entries S.articles ++ texts → length texts < most → ReadsTo most articles S line (tail_lines texts)
+  texts_again : (most line : ℕ) (articles : Bool) (S : Spool) (texts : List (Id × Text)) → S.groups ≡ F.groups
+      → entries F.articles ≡ entries S.articles ++ texts → length texts < most → ReadsTo most articles S line (tail_lines texts)
   texts_again zero line articles S texts g t lt = absurd (omega arith)
   texts_again (suc most) line articles S [] g t lt =
       let same : S ≡ F = spool_is S F g (same_entries_map S.articles F.articles (sym (append-nil (entries S.articles)) ∙ sym t)) in
@@ -174,7 +184,8 @@ module _ (limit : ℕ) (F : Spool) (le : limit < 2 ^ 64) (content : IsContent li
       let size = sizes a.0 a.1 at.here in
       let front = first_tail texts in
       let one = item_article_again limit line articles S a.0 a.1 front.0 front.1 size.0 size.1 (content.articles a.0 a.1 at.here) at.less in
-      let split : tail_lines (a ∷ texts) ≡ article_lines a ++ front.0 ∷ front.1 = append_assoc (article_lines a) (flat_map article_lines texts) (codes "end" ∷ [] ∷ []) ∙ ap (λ (ps : List Line). article_lines a ++ ps) front.2 in
+      let split : tail_lines (a ∷ texts) ≡ article_lines a ++ front.0 ∷ front.1 = append_assoc (article_lines a)
+      (flat_map article_lines texts) (codes "end" ∷ [] ∷ []) ∙ ap (λ (ps : List Line). article_lines a ++ ps) front.2 in
       let rest = texts_again most one.0 true (with_article S a.0 a.1) texts g (next_entry S.articles F.articles a.0 a.1 texts t at.less) (omega arith) in (
         rest.0,
         ap (λ (ps : List Line). items_at limit (suc most) articles S (record { line = line; segments = ps })) split
@@ -183,7 +194,8 @@ module _ (limit : ℕ) (F : Spool) (le : limit < 2 ^ 64) (content : IsContent li
             ∙ rest.1,
       )
 
-  pub groups_again : (most line : ℕ) (S : Spool) (groups : List (Name × Numbers)) (texts : List (Id × Text)) → entries F.groups ≡ entries S.groups ++ groups → entries F.articles ≡ entries S.articles ++ texts
+  pub groups_again : (most line : ℕ) (S : Spool) (groups : List (Name × Numbers)) (texts : List (Id × Text))
+      → entries F.groups ≡ entries S.groups ++ groups → entries F.articles ≡ entries S.articles ++ texts
       → length groups + length texts < most → ReadsTo most false S line (flat_map group_lines groups ++ tail_lines texts)
   groups_again most line S [] texts g t lt = texts_again most line false S texts (same_entries_map S.groups F.groups (sym (append-nil (entries S.groups)) ∙ sym g)) t (omega arith)
   groups_again zero line S (n ∷ groups) texts g t lt = absurd (omega arith)
@@ -191,7 +203,9 @@ module _ (limit : ℕ) (F : Spool) (le : limit < 2 ^ 64) (content : IsContent li
       let at = placed F.groups (entries S.groups) n groups g in
       let front = first_lines groups texts in
       let one = item_group_again limit line S n.0 n.1 front.0 front.1 le (few_numbers limit n.1 le (content.groups n.0 n.1 at.here).numbers) (content.groups n.0 n.1 at.here) at.less in
-      let split : flat_map group_lines (n ∷ groups) ++ tail_lines texts ≡ group_lines n ++ front.0 ∷ front.1 = append_assoc (group_lines n) (flat_map group_lines groups) (tail_lines texts) ∙ ap (λ (ps : List Line). group_lines n ++ ps) front.2 in
+      let split : flat_map group_lines (n ∷ groups) ++ tail_lines texts ≡ group_lines n ++ front.0 ∷ front.1 = append_assoc
+      (group_lines n) (flat_map group_lines groups) (tail_lines texts)
+      ∙ ap (λ (ps : List Line). group_lines n ++ ps) front.2 in
       let rest = groups_again most one.0 (with_group S n.0 n.1) groups texts (next_entry S.groups F.groups n.0 n.1 groups g at.less) t (omega arith) in (
         rest.0,
         ap (λ (ps : List Line). items_at limit (suc most) false S (record { line = line; segments = ps })) split

@@ -4,8 +4,8 @@ use Rattle.std.specs.Prelude.{codes}
 use Rattle.std.specs.List.{list_all}
 use Rattle.std.specs.FinMap.{empty, entries, len, len-entries}
 use Rattle.nntp_wire.specs.Decided.{is_group_name, is_message_id}
-use Rattle.nntp_article.specs.Article.{Line, Id}
-use Rattle.nntp_article.specs.Spool.{Name, Spool, Numbers, Text, is_line}
+use Rattle.nntp_article.specs.Article.Parts.{Line, Id}
+use Rattle.nntp_article.specs.Session.Spool.{Name, Spool, Numbers, Text, is_line}
 use Rattle.nntp_spool.specs.declared.text.read_fault.ReadFault.{ReadFault}
 use Rattle.nntp_spool.specs.declared.text.read_fault.Kind.TheVariants as kinds
 use Rattle.nntp_spool.specs.Text.{group_line, article_line, barred, group_lines, article_lines}
@@ -162,7 +162,8 @@ item_takes limit articles S p turn le e =
 
 -- ---- what is written is read
 
-pub line_again : (line : ℕ) (l : Line) (ls : List Line) (next : Line) (segments : List Line) → next_line line (l ∷ (ls ++ next ∷ segments)) ≡ Ok (l, record { line = line + 1; segments = ls ++ next ∷ segments })
+pub line_again : (line : ℕ) (l : Line) (ls : List Line) (next : Line) (segments : List Line)
+    → next_line line (l ∷ (ls ++ next ∷ segments)) ≡ Ok (l, record { line = line + 1; segments = ls ++ next ∷ segments })
 line_again line l [] next segments = refl
 line_again line l (k ∷ ls) next segments = refl
 
@@ -171,36 +172,49 @@ first_of [] next segments = (next, segments, refl)
 first_of (l ∷ ls) next segments = (l, ls ++ next ∷ segments, refl)
 
 group_again : (limit line at : ℕ) (S : Spool) (name : Name) (N : Numbers) (next : Line) (segments : List Line) → limit < 2 ^ 64 → IsNamed limit name N → is_last S.groups name ≡ true
-    → (end : ℕ) × (group_at limit at name (len N) S (record { line = line; segments = number_lines (entries N) ++ next ∷ segments }) ≡ Ok (with_group S name N, record { line = end; segments = next ∷ segments }))
+    → (end : ℕ) × (group_at limit at name (len N) S
+    (record { line = line; segments = number_lines (entries N) ++ next ∷ segments }) ≡ Ok
+    (with_group S name N, record { line = end; segments = next ∷ segments }))
 unfolding group_at
 group_again limit line at S name N next segments le named last =
     let all = with_all-entries limit N named.numbers in
     let again = numbers_again limit line (entries N) next segments empty le all.0 in
     let read : numbers_at limit (len N) (record { line = line; segments = number_lines (entries N) ++ next ∷ segments }) ≡ done (N, record { line = again.0; segments = next ∷ segments })
-    = ap (λ (n : ℕ). numbers_at limit n (record { line = line; segments = number_lines (entries N) ++ next ∷ segments })) (len-entries N) ∙ again.1 ∙ ap (λ (M : Numbers). done (M, record { line = again.0; segments = next ∷ segments })) all.1 in
+    = ap (λ (n : ℕ). numbers_at limit n (record { line = line; segments = number_lines (entries N) ++ next ∷ segments }))
+    (len-entries N) ∙ again.1 ∙ ap (λ (M : Numbers). done (M, record { line = again.0; segments = next ∷ segments })) all.1 in
     (again.0, rw (named.is_name, last, read) refl)
 
 article_again : (line at : ℕ) (S : Spool) (id : Id) (t : Text) (next : Line) (segments : List Line) → IsArticle id t → is_last S.articles id ≡ true
-    → (end : ℕ) × (article_at at id (length t.head) (length t.body) S (record { line = line; segments = barred t.head ++ (barred t.body ++ next ∷ segments) }) ≡ Ok (with_article S id t, record { line = end; segments = next ∷ segments }))
+    → (end : ℕ) × (article_at at id (length t.head) (length t.body) S
+    (record { line = line; segments = barred t.head ++ (barred t.body ++ next ∷ segments) }) ≡ Ok
+    (with_article S id t, record { line = end; segments = next ∷ segments }))
 unfolding article_at
 article_again line at S id t next segments is last =
     let body_first = first_of (barred t.body) next segments in
     let head = barred_lines_again line t.head body_first.0 body_first.1 [] is.head_lines in
     let body = barred_lines_again head.0 t.body next segments [] is.body_lines in
-    let read_head : barred_lines_at (length t.head) (record { line = line; segments = barred t.head ++ (barred t.body ++ next ∷ segments) }) ≡ done (t.head, record { line = head.0; segments = barred t.body ++ next ∷ segments })
-    = ap (λ (ps : List Line). barred_lines_at (length t.head) (record { line = line; segments = barred t.head ++ ps })) body_first.2 ∙ head.1 ∙ ap (λ (ps : List Line). done (t.head, record { line = head.0; segments = ps })) (sym body_first.2) in
+    let read_head : barred_lines_at (length t.head)
+    (record { line = line; segments = barred t.head ++ (barred t.body ++ next ∷ segments) }) ≡ done
+    (t.head, record { line = head.0; segments = barred t.body ++ next ∷ segments })
+    = ap (λ (ps : List Line). barred_lines_at (length t.head) (record { line = line; segments = barred t.head ++ ps }))
+    body_first.2 ∙ head.1 ∙ ap (λ (ps : List Line). done (t.head, record { line = head.0; segments = ps }))
+    (sym body_first.2) in
     (body.0, rw (is.is_id, last, read_head, body.1, is.head) refl)
 
-pub item_group_again : (limit line : ℕ) (S : Spool) (name : Name) (N : Numbers) (next : Line) (segments : List Line) → limit < 2 ^ 64 → len N < 2 ^ 64 → IsNamed limit name N → is_last S.groups name ≡ true
-    → (end : ℕ) × (item_at limit false S (record { line = line; segments = group_lines (name, N) ++ next ∷ segments }) ≡ Ok (On false (with_group S name N) (record { line = end; segments = next ∷ segments })))
+pub item_group_again : (limit line : ℕ) (S : Spool) (name : Name) (N : Numbers) (next : Line) (segments : List Line)
+    → limit < 2 ^ 64 → len N < 2 ^ 64 → IsNamed limit name N → is_last S.groups name ≡ true
+    → (end : ℕ) × (item_at limit false S (record { line = line; segments = group_lines (name, N) ++ next ∷ segments }) ≡ Ok
+    (On false (with_group S name N) (record { line = end; segments = next ∷ segments })))
 unfolding item_at
 item_group_again limit line S name N next segments le small named last =
     let again = group_again limit (line + 1) line S name N next segments le named last in
     let item = opening-group_line name (len N) (name-lacks 32 name (omega arith) refl named.is_name) (name-some name named.is_name) small in
     (again.0, rw (line_again line (group_line name (len N)) (number_lines (entries N)) next segments, item, again.1) refl)
 
-pub item_article_again : (limit line : ℕ) (articles : Bool) (S : Spool) (id : Id) (t : Text) (next : Line) (segments : List Line) → length t.head < 2 ^ 64 → length t.body < 2 ^ 64 → IsArticle id t → is_last S.articles id ≡ true
-    → (end : ℕ) × (item_at limit articles S (record { line = line; segments = article_lines (id, t) ++ next ∷ segments }) ≡ Ok (On true (with_article S id t) (record { line = end; segments = next ∷ segments })))
+pub item_article_again : (limit line : ℕ) (articles : Bool) (S : Spool) (id : Id) (t : Text) (next : Line) (segments : List Line)
+    → length t.head < 2 ^ 64 → length t.body < 2 ^ 64 → IsArticle id t → is_last S.articles id ≡ true
+    → (end : ℕ) × (item_at limit articles S (record { line = line; segments = article_lines (id, t) ++ next ∷ segments }) ≡ Ok
+    (On true (with_article S id t) (record { line = end; segments = next ∷ segments })))
 unfolding item_at
 item_article_again limit line articles S id t next segments h b is last =
     let again = article_again (line + 1) line S id t next segments is last in

@@ -5,12 +5,11 @@ use Rattle.std.proofs.lemmas.Slice.Eq.{bytes_eq-Decides}
 use Rattle.std.specs.List.{list_all, join_with_byte}
 use Rattle.std.specs.Char.{is_ascii_digit}
 use Rattle.std.specs.Fmt.{decimal}
-use Rattle.std.proofs.lemmas.Bool.{true≢false, and_from, and_parts}
+use Rattle.std.proofs.lemmas.Bool.{true≢false, and_from, and_parts, not-true}
 use Rattle.std.proofs.lemmas.Bool.Decides.{nat_tests}
 use Rattle.std.proofs.lemmas.List.Splits.{join_with_byte-slice_split}
 use Rattle.std.proofs.lemmas.Fmt.{digits_decimal, digits_value-decimal, decimal-digits_value, decimal_nonempty, first_decimal, decimal_digit}
-use Rattle.nntp_wire.proofs.BoolLemmas.{not_true}
-use Rattle.nntp_article.specs.Article.{is_empty}
+use Rattle.nntp_article.specs.Article.Parts.{is_empty}
 use Rattle.nntp_spool.specs.Text.{number_line, group_line, article_line}
 use Rattle.nntp_spool.specs.Fields.{fields_of, are_digits, is_decimal, is_count, value_of, number_and_id, opening_of, OpeningValue, Group, Article, End}
 use Rattle.nntp_spool.proofs.SplitLines.{segments_at}
@@ -43,14 +42,14 @@ pub parts_front : (c : ℕ) (xs ys : List ℕ) → lacks c xs ≡ true → segme
 parts_front c [] ys h = let same : eqb c c ≡ true = grind (arith, nat_tests) in rw same refl
 parts_front c (x ∷ xs) ys h =
     let both = and_parts (not (eqb x c)) (lacks c xs) h in
-    let other : eqb x c ≡ false = not_true (eqb x c) both.0 in
+    let other : eqb x c ≡ false = not-true (eqb x c) both.0 in
     rw (other, parts_front c xs ys both.1) refl
 
 pub parts_one : (c : ℕ) (xs : List ℕ) → lacks c xs ≡ true → segments_at c xs ≡ xs ∷ []
 parts_one c [] h = refl
 parts_one c (x ∷ xs) h =
     let both = and_parts (not (eqb x c)) (lacks c xs) h in
-    let other : eqb x c ≡ false = not_true (eqb x c) both.0 in
+    let other : eqb x c ≡ false = not-true (eqb x c) both.0 in
     rw (other, parts_one c xs both.1) refl
 
 -- ---- numbers
@@ -115,7 +114,9 @@ number_words (word ∷ []) n id e = absurd cc
 number_words (word ∷ x ∷ y ∷ more) n id e = absurd cc
 number_words (word ∷ x ∷ []) n id e = chosen_number (is_decimal word) (is_empty x) word x n id refl e
   where
-    chosen_number : (b d : Bool) (word x : List ℕ) (n : ℕ) (id : List ℕ) → is_decimal word ≡ b → (cond (b && not d) (some_pair (value_of word) x) None) ≡ Some (n, id) → (w : List ℕ) × (word ∷ x ∷ [] ≡ w ∷ id ∷ []) × (is_decimal w ≡ true) × (value_of w ≡ n)
+    chosen_number : (b d : Bool) (word x : List ℕ) (n : ℕ) (id : List ℕ) → is_decimal word ≡ b
+        → (cond (b && not d) (some_pair (value_of word) x) None) ≡ Some (n, id) → (w : List ℕ) × (word ∷ x ∷ [] ≡ w ∷ id ∷ [])
+        × (is_decimal w ≡ true) × (value_of w ≡ n)
     chosen_number true true word x n id is e = absurd cc
     chosen_number false d word x n id is e = absurd cc
     chosen_number true false word x n id is e =
@@ -151,18 +152,26 @@ is_count-decimal n lt =
 group_is : (name word : List ℕ) → is_empty name ≡ false → is_count word ≡ true → opening_of (codes "group" ∷ name ∷ word ∷ []) ≡ Some (Group name (value_of word))
 group_is name word some count = rw (some, count) refl
 
-article_is : (id heads bodies : List ℕ) → is_empty id ≡ false → is_count heads ≡ true → is_count bodies ≡ true → opening_of (codes "article" ∷ id ∷ heads ∷ bodies ∷ []) ≡ Some (Article id (value_of heads) (value_of bodies))
+article_is : (id heads bodies : List ℕ) → is_empty id ≡ false → is_count heads ≡ true → is_count bodies ≡ true
+    → opening_of (codes "article" ∷ id ∷ heads ∷ bodies ∷ []) ≡ Some (Article id (value_of heads) (value_of bodies))
 article_is id heads bodies some h b = rw (some, h, b) refl
 
 pub opening-group_line : (name : List ℕ) (count : ℕ) → lacks 32 name ≡ true → is_empty name ≡ false → count < 2 ^ 64 → opening_of (fields_of (group_line name count)) ≡ Some (Group name count)
 opening-group_line name count word some lt =
-    ap opening_of (parts_front 32 (codes "group") (name ++ 32 ∷ decimal count) refl ∙ ap (λ ws. codes "group" ∷ ws) (parts_front 32 name (decimal count) word ∙ ap (λ ws. name ∷ ws) (parts_one 32 (decimal count) (lacks-digits 32 (decimal count) (omega arith) (are_digits-decimal count lt)))))
+    ap opening_of (parts_front 32 (codes "group") (name ++ 32 ∷ decimal count) refl
+    ∙ ap (λ ws. codes "group" ∷ ws) (parts_front 32 name (decimal count) word
+    ∙ ap (λ ws. name ∷ ws) (parts_one 32 (decimal count)
+    (lacks-digits 32 (decimal count) (omega arith) (are_digits-decimal count lt)))))
     ∙ group_is name (decimal count) some (is_count-decimal count lt) ∙ ap (λ v. Some (Group name v)) (value_of-decimal count lt)
 
-pub opening-article_line : (id : List ℕ) (heads bodies : ℕ) → lacks 32 id ≡ true → is_empty id ≡ false → heads < 2 ^ 64 → bodies < 2 ^ 64 → opening_of (fields_of (article_line id heads bodies)) ≡ Some (Article id heads bodies)
+pub opening-article_line : (id : List ℕ) (heads bodies : ℕ) → lacks 32 id ≡ true → is_empty id ≡ false → heads < 2 ^ 64
+    → bodies < 2 ^ 64 → opening_of (fields_of (article_line id heads bodies)) ≡ Some (Article id heads bodies)
 opening-article_line id heads bodies word some h b =
-    ap opening_of (parts_front 32 (codes "article") (id ++ 32 ∷ (decimal heads ++ 32 ∷ decimal bodies)) refl ∙ ap (λ ws. codes "article" ∷ ws) (parts_front 32 id (decimal heads ++ 32 ∷ decimal bodies) word ∙ ap (λ ws. id ∷ ws)
-    (parts_front 32 (decimal heads) (decimal bodies) (lacks-digits 32 (decimal heads) (omega arith) (are_digits-decimal heads h)) ∙ ap (λ ws. decimal heads ∷ ws) (parts_one 32 (decimal bodies) (lacks-digits 32 (decimal bodies) (omega arith) (are_digits-decimal bodies b))))))
+    ap opening_of (parts_front 32 (codes "article") (id ++ 32 ∷ (decimal heads ++ 32 ∷ decimal bodies)) refl
+    ∙ ap (λ ws. codes "article" ∷ ws) (parts_front 32 id (decimal heads ++ 32 ∷ decimal bodies) word ∙ ap (λ ws. id ∷ ws)
+    (parts_front 32 (decimal heads) (decimal bodies) (lacks-digits 32 (decimal heads) (omega arith) (are_digits-decimal heads h))
+    ∙ ap (λ ws. decimal heads ∷ ws) (parts_one 32 (decimal bodies)
+    (lacks-digits 32 (decimal bodies) (omega arith) (are_digits-decimal bodies b))))))
     ∙ article_is id (decimal heads) (decimal bodies) some (is_count-decimal heads h) (is_count-decimal bodies b)
     ∙ ap (λ v. Some (Article id v (value_of (decimal bodies)))) (value_of-decimal heads h) ∙ ap (λ v. Some (Article id heads v)) (value_of-decimal bodies b)
 
@@ -191,7 +200,13 @@ opening_words (w ∷ x ∷ y ∷ z ∷ []) item e =
     let word = same_bytes w (codes "article") (and_parts (bytes_eq w (codes "article")) (not (is_empty x)) front.0).0 in
     let heads = count_parts y front.1 in
     let bodies = count_parts z all.1 in
-    subst (λ (i : OpeningValue). OpeningWords i (w ∷ x ∷ y ∷ z ∷ [])) c.1 (heads.0, bodies.0, ap (λ (t : List ℕ). t ∷ x ∷ y ∷ z ∷ []) word ∙ ap (λ (t : List ℕ). codes "article" ∷ x ∷ t ∷ z ∷ []) heads.1 ∙ ap (λ (t : List ℕ). codes "article" ∷ x ∷ decimal (value_of y) ∷ t ∷ []) bodies.1)
+    subst (λ (i : OpeningValue). OpeningWords i (w ∷ x ∷ y ∷ z ∷ [])) c.1 (
+      heads.0,
+      bodies.0,
+      ap (λ (t : List ℕ). t ∷ x ∷ y ∷ z ∷ []) word
+          ∙ ap (λ (t : List ℕ). codes "article" ∷ x ∷ t ∷ z ∷ []) heads.1
+          ∙ ap (λ (t : List ℕ). codes "article" ∷ x ∷ decimal (value_of y) ∷ t ∷ []) bodies.1,
+    )
 opening_words (w ∷ x ∷ y ∷ z ∷ u ∷ more) item e = absurd cc
 
 line_is : (l : List ℕ) (words : List (List ℕ)) → fields_of l ≡ words → l ≡ join_with_byte 32 words

@@ -5,15 +5,15 @@ use Rattle.std.specs.List.{list_any, count_by, AllByRecursion}
 use Rattle.std.specs.Option.{option_map_or}
 use Rattle.std.specs.Cmp.Lexicographic.{bytes_decides}
 use Rattle.std.specs.FinMap.{entries}
-use Rattle.std.proofs.lemmas.Bool.{true≢false, and_parts}
+use Rattle.std.proofs.lemmas.Bool.{true≢false, and_parts, or_right}
 use Rattle.std.proofs.lemmas.List.Elements.{recursion_from_All, All-from_recursion}
 use Rattle.nntp_wire.specs.Decided.{is_group_name, matches_name}
 use Rattle.nntp_wire.specs.Name.{IsGroupName}
 use Rattle.nntp_wire.specs.Wildmat.{MatchesName}
 use Rattle.nntp_wire.specs.Listing.{ActiveValue}
 use Rattle.nntp_wire.proofs.DecidedLemmas.{group_name-iff}
-use Rattle.nntp_article.specs.Spool.{Spool, Name, IsGroup, IsNumber, numbers}
-use Rattle.nntp_article.specs.Machine.{is_same, names_differ, ActivesAgree}
+use Rattle.nntp_article.specs.Session.Spool.{Spool, Name, IsGroup, IsNumber, numbers}
+use Rattle.nntp_article.specs.Session.Machine.{is_same, names_differ, ActivesAgree}
 use Rattle.nntp_spool.specs.ListedGroups.{LineAgrees, is_asked}
 use Rattle.nntp_spool.proofs.MatchingGroups.{as_many, each_listed}
 
@@ -23,7 +23,8 @@ any_contains : (name : List ℕ) (lines : List ActiveValue) → list_any (λ lin
 any_contains name [] e = absurd (true≢false (sym e))
 any_contains name (l ∷ lines) e = by (is_same name l.name) refl e (any_contains name lines)
   where
-    by : (a : Bool) → is_same name l.name ≡ a → (a || list_any (λ line. is_same name line.name) lines) ≡ true → (list_any (λ line. is_same name line.name) lines ≡ true → Contains (map (λ line. line.name) lines) name)
+    by : (a : Bool) → is_same name l.name ≡ a → (a || list_any (λ line. is_same name line.name) lines) ≡ true
+        → (list_any (λ line. is_same name line.name) lines ≡ true → Contains (map (λ line. line.name) lines) name)
         → Contains (map (λ line. line.name) (l ∷ lines)) name
     by true p e rest = (0, omega arith, sym ((bytes_decides name l.name).0 p))
     by false p e rest = let c = rest e in (suc c.0, (let lt = c.1 in omega arith), c.2)
@@ -32,10 +33,6 @@ contains_any : (name : List ℕ) (lines : List ActiveValue) → Contains (map (�
 contains_any name [] (k, lt, e) = absurd (omega arith)
 contains_any name (l ∷ lines) (zero, lt, e) = let here : is_same name l.name ≡ true = (bytes_decides name l.name).1 (sym e) in rw here refl
 contains_any name (l ∷ lines) (suc k, lt, e) = or_right (is_same name l.name) _ (contains_any name lines (k, omega arith, e))
-  where
-    or_right : (a b : Bool) → b ≡ true → (a || b) ≡ true
-    or_right true b e = refl
-    or_right false b e = e
 
 -- what holds of each line holds of each name
 of_name : (P : Name → Type 0) (lines : List ActiveValue) → AllByRecursion (λ line. P line.name) lines → (name : Name) → Contains (map (λ line. line.name) lines) name → P name
@@ -62,7 +59,9 @@ IsAsked S p name = IsGroup S name × IfSome p (λ w. MatchesName w name)
 abbrev IsMarked : Spool → ActiveValue → Type 0
 IsMarked S line = (n : ℕ) → IsNumber (numbers S line.name) n → (line.low ≤ n) × (n ≤ line.high)
 
-module _ (S : Spool) (names : (name : Name) → IsGroup S name → IsGroupName name) (p : Option (List ℕ)) (decided : (name : Name) → IsTrue (option_map_or (λ w. matches_name w name) p true) ↔ IfSome p (λ w. MatchesName w name)) (lines : List ActiveValue) where
+module _ (S : Spool) (names : (name : Name) → IsGroup S name → IsGroupName name) (p : Option (List ℕ))
+    (decided : (name : Name) → IsTrue (option_map_or (λ w. matches_name w name) p true) ↔ IfSome p (λ w. MatchesName w name))
+    (lines : List ActiveValue) where
   is_asked_if : (name : Name) → IsGroup S name → IfSome p (λ w. MatchesName w name) → is_asked p name ≡ true
   is_asked_if name g m = rw ((group_name-iff name).1 (names name g)) ((decided name).1 m)
 
@@ -83,7 +82,8 @@ module _ (S : Spool) (names : (name : Name) → IsGroup S name → IsGroupName n
   )
 
   pub agree-lines : ActivesAgree S p lines → AllByRecursion (LineAgrees S p) lines
-  agree-lines a = both_all (λ line. IsAsked S p line.name) (IsMarked S) (LineAgrees S p) (λ line q m. (q.0, q.1, m)) lines (of_lines (IsAsked S p) lines (λ name c. (a.0 name).0 c)) (recursion_from_All (IsMarked S) lines a.1)
+  agree-lines a = both_all (λ line. IsAsked S p line.name) (IsMarked S) (LineAgrees S p) (λ line q m. (q.0, q.1, m)) lines
+      (of_lines (IsAsked S p) lines (λ name c. (a.0 name).0 c)) (recursion_from_All (IsMarked S) lines a.1)
 
   agree-listed : ActivesAgree S p lines → ListsAll
   agree-listed a name g e = contains_any name lines ((a.0 name).1 (g, asks name e))
@@ -100,6 +100,8 @@ module _ (S : Spool) (names : (name : Name) → IsGroup S name → IsGroupName n
     λ a. as_many S.groups (is_asked p) lines differ (are_asked agree) (agree-listed a),
   )
 
-pub decided_by : ((wildmat name : List ℕ) → IsTrue (matches_name wildmat name) ↔ MatchesName wildmat name) → (p : Option (List ℕ)) (name : Name) → IsTrue (option_map_or (λ w. matches_name w name) p true) ↔ IfSome p (λ w. MatchesName w name)
+pub decided_by : ((wildmat name : List ℕ) → IsTrue (matches_name wildmat name) ↔ MatchesName wildmat name)
+    → (p : Option (List ℕ)) (name : Name) → IsTrue (option_map_or (λ w. matches_name w name) p true)
+    ↔ IfSome p (λ w. MatchesName w name)
 decided_by law None name = (λ t. tt, λ t. refl)
 decided_by law (Some w) name = law w name

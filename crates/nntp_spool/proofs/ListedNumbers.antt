@@ -6,7 +6,7 @@ use Rattle.std.specs.FinMap.{get}
 use Rattle.std.proofs.lemmas.Bool.{and_parts, cases_lt}
 use Rattle.std.proofs.lemmas.Bool.Decides.{nat_tests}
 use Rattle.nntp_wire.specs.declared.range.Range.{Range}
-use Rattle.nntp_article.specs.Spool.{Numbers, IsNumber, Lists}
+use Rattle.nntp_article.specs.Session.Spool.{Numbers, IsNumber, Lists}
 use Rattle.nntp_spool.specs.ListedNumbers.{IsAbove, IsNextFrom, ListsFrom}
 use Rattle.nntp_spool.proofs.Firsts.{some_none}
 
@@ -94,7 +94,11 @@ module _ (N : Numbers) (r : Range) (before : Option ℕ) where
   -- nothing is left
   pub none_left : (first : Option ℕ) → IsNextFrom N before first → ListsFrom N r before [] ↔ MatchOption first ⊤ (λ n. IfSome r.last (λ last. n ≤ last) → ⊥)
   none_left None none = (λ h. tt, λ h m. (λ c. absurd (contains_none m c), λ (is, a, fit). absurd (some_none (get N m) (none m a) is)))
-  none_left (Some n) here = (λ h fit. contains_none n ((h n).1 (here.0, here.1, fit)), λ never m. (λ c. absurd (contains_none m c), λ (is, a, fit). absurd (never (lower r.last m (here.2 m a is) fit))))
+  none_left (Some n) here = (
+    λ h fit. contains_none n ((h n).1 (here.0, here.1, fit)),
+    λ never m.
+        (λ c. absurd (contains_none m c), λ (is, a, fit). absurd (never (lower r.last m (here.2 m a is) fit))),
+  )
     where
       lower : (last : Option ℕ) (m : ℕ) → n ≤ m → IfSome last (λ l. m ≤ l) → IfSome last (λ l. n ≤ l)
       lower None m le fit = tt

@@ -11,7 +11,7 @@ use Rattle.std.specs.Map.{keys_of}
 use Rattle.std.specs.Set.{is_member}
 use Rattle.std.specs.FinMap.{FinMap, get, entries, find, is_sorted, entries_sorted, get-entries}
 use Rattle.std.specs.FinMap.Entries.{below_all, is_some-find, find-where_key}
-use Rattle.std.proofs.lemmas.Bool.{true≢false, and_parts}
+use Rattle.std.proofs.lemmas.Bool.{true≢false, and_parts, not-true}
 use Rattle.std.proofs.lemmas.List.{length-map}
 use Rattle.std.proofs.lemmas.List.Sums.{length-filter}
 use Rattle.std.proofs.lemmas.Map.Entries.{length-keys_of}
@@ -19,8 +19,8 @@ use Rattle.std.proofs.lemmas.Map.Keys.{IsDistinct-from_sorted, IsDistinct-cons}
 use Rattle.std.proofs.lemmas.Map.Made.{IsDistinct-keys_filter, length-le_from_is_member}
 use Rattle.std.proofs.lemmas.Map.Text.{is_eq-slice_cmp}
 use Rattle.nntp_wire.specs.Listing.{ActiveValue}
-use Rattle.nntp_article.specs.Spool.{Name}
-use Rattle.nntp_article.specs.Machine.{is_same, names_differ}
+use Rattle.nntp_article.specs.Session.Spool.{Name}
+use Rattle.nntp_article.specs.Session.Machine.{is_same, names_differ}
 use Rattle.nntp_wire.proofs.ShownMaps.{equal_is}
 use Rattle.nntp_spool.proofs.MapEntries.{less_is, is_passed}
 use Rattle.nntp_spool.proofs.ShownMaps.{octet_keys}
@@ -42,7 +42,9 @@ none_same : (name : List ℕ) (lines : List ActiveValue) → list_any (λ line. 
 none_same name [] e = refl
 none_same name (l ∷ lines) e = by (is_same name l.name) (list_any (λ line. is_same name line.name) lines) refl e (none_same name lines)
   where
-    by : (a b : Bool) → is_same name l.name ≡ a → (a || b) ≡ false → (b ≡ false → list_all (λ other. not (is_same name other.name)) lines ≡ true) → list_all (λ other. not (is_same name other.name)) (l ∷ lines) ≡ true
+    by : (a b : Bool) → is_same name l.name ≡ a → (a || b) ≡ false
+        → (b ≡ false → list_all (λ other. not (is_same name other.name)) lines ≡ true)
+        → list_all (λ other. not (is_same name other.name)) (l ∷ lines) ≡ true
     by true b p e rest = absurd (true≢false e)
     by false b p e rest = rw p (rest e)
 
@@ -50,11 +52,7 @@ no_other : (name : Name) (lines : List ActiveValue) → list_all (λ other. not 
 no_other name [] e = tt
 no_other name (l ∷ lines) e =
     let both = and_parts (not (is_same name l.name)) (list_all (λ other. not (is_same name other.name)) lines) e in
-    (is_eq-slice_cmp name l.name ∙ opposite (is_same name l.name) both.0, no_other name lines both.1)
-  where
-    opposite : (b : Bool) → not b ≡ true → b ≡ false
-    opposite true e = absurd (true≢false (sym e))
-    opposite false e = refl
+    (is_eq-slice_cmp name l.name ∙ not-true (is_same name l.name) both.0, no_other name lines both.1)
 
 distinct_names : (lines : List ActiveValue) → names_differ lines ≡ true → IsDistinct same_name (names_of lines)
 unfolding IsDistinct
@@ -84,7 +82,9 @@ module _ {X : Type 0} where
     count-kept = sym (length-filter (λ e. t e.0) (entries m)) ∙ sym (length-keys_of (filter (λ e. t e.0) (entries m)))
 
     distinct_kept : IsDistinct same_name kept
-    distinct_kept = IsDistinct-keys_filter same_name (λ e. t e.0) (entries m) (IsDistinct-from_sorted (slice_cmp nat_cmp) (keys_of (entries m)) (sorted_keys (entries m) (is_passed _ (entries_sorted m))))
+    distinct_kept = IsDistinct-keys_filter same_name (λ e. t e.0) (entries m)
+        (IsDistinct-from_sorted (slice_cmp nat_cmp) (keys_of (entries m))
+        (sorted_keys (entries m) (is_passed _ (entries_sorted m))))
 
     member_kept : (q : Name) → is_member same_name kept q ≡ cond (t q) (is_some (get m q)) false
     member_kept q =

@@ -11,7 +11,7 @@ use Rattle.std.proofs.lemmas.Str.{inside_one}
 use Rattle.nntp_wire.specs.Name.{is_name_char}
 use Rattle.nntp_wire.specs.Decided.{is_group_name, is_message_id, is_id_octet, begins_id}
 use Rattle.nntp_wire.proofs.DecidedLemmas.{group_name-iff}
-use Rattle.nntp_article.specs.Article.{is_empty}
+use Rattle.nntp_article.specs.Article.Parts.{is_empty}
 use Rattle.nntp_spool.proofs.LineFields.{lacks, lacks_from, lacks-append, list_all_weaken}
 
 encode-lacks : (c d : ℕ) → c < 128 → (d ≡ c → ⊥) → lacks c (encode_utf8 d) ≡ true

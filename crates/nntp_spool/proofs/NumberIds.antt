@@ -15,11 +15,11 @@ use Rattle.std.proofs.lemmas.Bool.{true≢false}
 use Rattle.std.proofs.lemmas.Bool.Decides.{same_from_decides}
 use Rattle.std.proofs.lemmas.Map.Text.{is_eq-slice_cmp}
 use Rattle.std.proofs.lemmas.Slice.Eq.{bytes_eq-Decides}
-use Rattle.nntp_article.specs.Spool.{Numbers}
+use Rattle.nntp_article.specs.Session.Spool.{Numbers}
 use Rattle.nntp_spool.specs.Ascending.{is_last}
 use Rattle.nntp_spool.specs.Numbers.{has_id}
 use Rattle.nntp_spool.specs.Numbers.{is_free, with_number, AreIdsOf}
-use Rattle.nntp_article.proofs.SetKeys.{or_swap, any-insert_key}
+use Rattle.nntp_article.proofs.SessionLemmas.SetKeys.{or_swap, any-insert_key}
 use Rattle.nntp_spool.proofs.MapEntries.{tied_itself, apart, all_got}
 use Rattle.nntp_spool.proofs.NumbersInOrder.{either_false, all_passed, entries-empty}
 use Rattle.nntp_spool.proofs.ShownMaps.{octet_keys}
@@ -101,7 +101,8 @@ module _ {A : Type 0} where
       by Greater e other more = rw other (ap (λ (rest : List (Vec ℕ A)). x ∷ rest) more)
 
   -- an id more, at a number that was not there
-  pub one_id_more : (ids new : List (Vec ℕ A)) (N : Numbers) (n : ℕ) (id : List ℕ) (k : Vec ℕ A) → AreIdsOf ids N → get N n ≡ None → k.items ≡ id → new ≡ insert_key octets_cmp ids k → AreIdsOf new (insert N n id)
+  pub one_id_more : (ids new : List (Vec ℕ A)) (N : Numbers) (n : ℕ) (id : List ℕ) (k : Vec ℕ A) → AreIdsOf ids N
+      → get N n ≡ None → k.items ≡ id → new ≡ insert_key octets_cmp ids k → AreIdsOf new (insert N n id)
   one_id_more ids new N n id k are absent is e q =
       ap (list_any (λ known. bytes_eq q known.items)) e
       ∙ any-insert_key octets_cmp (λ known. bytes_eq q known.items) k ids (λ x tied. ap (bytes_eq q) (sym (octet_keys k.items x.items tied)))
@@ -109,5 +110,7 @@ module _ {A : Type 0} where
       ∙ sym (has_id-insert N n id q absent)
 
   -- an id that was put among others, and taken out again
-  pub id_taken_back : (ids more new : List (Vec ℕ A)) (N M : Numbers) (id : List ℕ) (k : Vec ℕ A) → AreIdsOf ids N → has_id N id ≡ false → k.items ≡ id → more ≡ insert_key octets_cmp ids k → new ≡ remove_key (is_of id) more → M ≡ N → AreIdsOf new M
+  pub id_taken_back : (ids more new : List (Vec ℕ A)) (N M : Numbers) (id : List ℕ) (k : Vec ℕ A) → AreIdsOf ids N
+      → has_id N id ≡ false → k.items ≡ id → more ≡ insert_key octets_cmp ids k → new ≡ remove_key (is_of id) more → M ≡ N
+      → AreIdsOf new M
   id_taken_back ids more new N M id k are fresh is put taken same = same_ids ids new M N (taken ∙ ap (remove_key (is_of id)) put ∙ remove-insert id k ids is (are id ∙ fresh)) same are

@@ -12,8 +12,8 @@ use Rattle.std.proofs.lemmas.Bool.Decides.{nat_tests}
 use Rattle.std.proofs.lemmas.List.{nil_from_length}
 use Rattle.std.proofs.lemmas.Slice.Eq.{bytes_eq-Decides}
 use Rattle.nntp_wire.specs.Decided.{is_message_id}
-use Rattle.nntp_article.specs.Machine.{is_article_number}
-use Rattle.nntp_article.specs.Spool.{Numbers}
+use Rattle.nntp_article.specs.Session.Machine.{is_article_number}
+use Rattle.nntp_article.specs.Session.Spool.{Numbers}
 use Rattle.nntp_spool.specs.Numbers.{has_id}
 use Rattle.nntp_spool.specs.Ascending.{is_last}
 use Rattle.nntp_spool.proofs.FollowingNumbers.{AllFollow, with_all}
@@ -55,7 +55,8 @@ fresh_id N id fresh q g =
     let other : bytes_eq id id ≡ false = all_got nat_cmp_total nat_cmp-IsAntisymmetric (λ k v. bytes_eq v id ≡ false) N (none_any (λ e. bytes_eq e.1 id) (entries N) fresh) q id g in
     true≢false (sym ((bytes_eq-Decides id id).1 refl) ∙ other)
 
-pub one_more : (limit : ℕ) (N : Numbers) (n : ℕ) (id : List ℕ) → AreNumbers limit N → is_article_number limit n ≡ true → is_message_id id ≡ true → has_id N id ≡ false → AreNumbers limit (insert N n id)
+pub one_more : (limit : ℕ) (N : Numbers) (n : ℕ) (id : List ℕ) → AreNumbers limit N → is_article_number limit n ≡ true
+    → is_message_id id ≡ true → has_id N id ≡ false → AreNumbers limit (insert N n id)
 one_more limit N n id a num is_id fresh =
     let before = got_more nat_cmp_total nat_cmp-IsAntisymmetric N n id in
     record {

@@ -1,13 +1,14 @@
 -- The numbers of a group that are read are those that are written, and those that are written are read.
-use Rattle.std.proofs.Common.{◌≡◌, ℕ, zero, suc, ◌+◌, ◌^◌, ◌<◌, Bool, true, false, not, cond, List, [], ◌∷◌, ◌++◌, Option, None, Some, Result, Ok, Err, length, refl, sym, ap, subst, ◌∙◌, append_assoc, arith}
+use Rattle.std.proofs.Common.{◌≡◌, ℕ, zero, suc, ◌+◌, ◌^◌, ◌<◌, Bool, true, false, not, cond, List, [], ◌∷◌, ◌++◌, Option, None}
+use Rattle.std.proofs.Common.{Some, Result, Ok, Err, length, refl, sym, ap, subst, ◌∙◌, append_assoc, arith}
 use Rattle.std.specs.Cmp.{nat_cmp_total}
 use Rattle.std.specs.FinMap.{entries, insert}
 use Rattle.std.proofs.lemmas.Bool.{and_parts}
 use Rattle.std.proofs.lemmas.Bool.Decides.{nat_tests}
 use Rattle.std.proofs.lemmas.List.{append-nil}
 use Rattle.nntp_wire.specs.Decided.{is_message_id}
-use Rattle.nntp_article.specs.Spool.{Numbers}
-use Rattle.nntp_article.specs.Machine.{is_article_number}
+use Rattle.nntp_article.specs.Session.Spool.{Numbers}
+use Rattle.nntp_article.specs.Session.Machine.{is_article_number}
 use Rattle.nntp_spool.specs.declared.text.read_fault.ReadFault.{ReadFault}
 use Rattle.nntp_spool.specs.declared.text.read_fault.Kind.TheVariants as kinds
 use Rattle.nntp_spool.specs.Text.{number_line}
@@ -66,10 +67,13 @@ unfolding number_in
 number_in_again limit line n id le num is_id =
     rw (number_and_id-number_line n id (num_below limit n le num) (id-lacks 32 id (omega arith) is_id) (id-some id is_id), num, is_id) refl
 
-pub number_in_takes : (limit line : ℕ) (l : List ℕ) (x : ℕ × List ℕ) → limit < 2 ^ 64 → number_in limit line l ≡ Ok x → (l ≡ number_line x.0 x.1) × (is_article_number limit x.0 ≡ true) × (is_message_id x.1 ≡ true)
+pub number_in_takes : (limit line : ℕ) (l : List ℕ) (x : ℕ × List ℕ) → limit < 2 ^ 64 → number_in limit line l ≡ Ok x
+    → (l ≡ number_line x.0 x.1) × (is_article_number limit x.0 ≡ true) × (is_message_id x.1 ≡ true)
 unfolding number_in
 number_in_takes limit line l x le e =
-    let a = bind_ok (shaped line (number_and_id (fields_of l))) (λ v. cond (not (is_article_number limit v.0)) (fault line kinds.Number) (cond (not (is_message_id v.1)) (fault line kinds.Id) (Ok v))) x e in
+    let a = bind_ok (shaped line (number_and_id (fields_of l)))
+    (λ v. cond (not (is_article_number limit v.0)) (fault line kinds.Number)
+    (cond (not (is_message_id v.1)) (fault line kinds.Id) (Ok v))) x e in
     let b = unless_ok (is_article_number limit a.0.0) (record { line = line; kind = kinds.Number }) _ x a.2 in
     let c = unless_ok (is_message_id a.0.1) (record { line = line; kind = kinds.Id }) (Ok a.0) x b.1 in
     let text = number_line-number_and_id l a.0.0 a.0.1 (num_below limit a.0.0 le b.0) (shaped_ok line _ a.0 a.1) in
@@ -123,7 +127,9 @@ numbers_take limit (suc count) N p x le e =
     )
 
 pub numbers_again : (limit line : ℕ) (es : List (ℕ × List ℕ)) (next : List ℕ) (segments : List (List ℕ)) (N : Numbers) → limit < 2 ^ 64 → AllFollow limit N es
-    → (end : ℕ) × (repeat (number_at limit) (length es) (N, record { line = line; segments = number_lines es ++ next ∷ segments }) ≡ Ok (with_all N es, record { line = end; segments = next ∷ segments }))
+    → (end : ℕ) × (repeat (number_at limit) (length es)
+    (N, record { line = line; segments = number_lines es ++ next ∷ segments }) ≡ Ok
+    (with_all N es, record { line = end; segments = next ∷ segments }))
 numbers_again limit line [] next segments N le h = (line, refl)
 numbers_again limit line (e ∷ []) next segments N le h = (line + 1, rw (number_at_again limit line e.0 e.1 next segments N le h.0) refl)
 numbers_again limit line (e ∷ f ∷ es) next segments N le h =

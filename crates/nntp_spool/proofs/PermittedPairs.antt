@@ -9,11 +9,11 @@ use Rattle.nntp_pair.specs.Pairing.{Paired, Unpaired, IsNext, AreNext, Ends, bad
 use Rattle.nntp_pair.proofs.NextLemmas.{next-shorter, one-next, next-no-end}
 use Rattle.nntp_pair.proofs.PairingLemmas.{AreNext-push}
 use Rattle.nntp_pair.proofs.SpelledLemmas.{places-prompts, pairs-spelled, spelled-pairs}
-use Rattle.nntp_article.specs.Spool.{Spool, IsSpool}
-use Rattle.nntp_article.specs.declared.profile.Profile.{Profile}
-use Rattle.nntp_article.specs.Machine.{State, start, MayAnswer, Run, after}
-use Rattle.nntp_article.specs.Explains.{Explains, ExplainsUpTo}
-use Rattle.nntp_article.proofs.Closing.{run-stays-open}
+use Rattle.nntp_article.specs.Session.Spool.{Spool, IsSpool}
+use Rattle.nntp_article.specs.declared.session.profile.Profile.{Profile}
+use Rattle.nntp_article.specs.Session.Machine.{State, start, MayAnswer, Run, after}
+use Rattle.nntp_article.specs.Session.Explains.{Explains, ExplainsUpTo}
+use Rattle.nntp_article.proofs.SessionLemmas.ClosingAnswers.{run-stays-open}
 use Rattle.nntp_spool.specs.Sessions.{state_after, MayAnswerAll, RefusesAt}
 
 -- ---- pairs
@@ -29,19 +29,22 @@ further (x ∷ pairs) (y ∷ others) a b c (d, n, more) (f, m, rest) le =
 
 -- ---- runs
 
-pairs-run : (profile : Profile) (S : Spool) (s : State) (pairs : List Paired) (a b : Unpaired) → AreNext a pairs b → MayAnswerAll profile S s pairs → Run profile S s (map asked_at a.places) (responses_of pairs)
+pairs-run : (profile : Profile) (S : Spool) (s : State) (pairs : List Paired) (a b : Unpaired) → AreNext a pairs b
+    → MayAnswerAll profile S s pairs → Run profile S s (map asked_at a.places) (responses_of pairs)
 pairs-run profile S s [] a b n may = tt
 pairs-run profile S s (x ∷ pairs) a b (d, n, more) may =
     let rest = pairs-run profile S (after S s (asked_at x.line) x.response) pairs d b more may.1 in
     subst (λ places. Run profile S s (map asked_at places) (x.response ∷ responses_of pairs)) (sym n.place) (after S s (asked_at x.line) x.response, record { may = may.0; leads = refl }, rest)
 
-run-pairs : (profile : Profile) (S : Spool) (s : State) (pairs : List Paired) (a b : Unpaired) → AreNext a pairs b → Run profile S s (map asked_at a.places) (responses_of pairs) → MayAnswerAll profile S s pairs
+run-pairs : (profile : Profile) (S : Spool) (s : State) (pairs : List Paired) (a b : Unpaired) → AreNext a pairs b
+    → Run profile S s (map asked_at a.places) (responses_of pairs) → MayAnswerAll profile S s pairs
 run-pairs profile S s [] a b n run = tt
 run-pairs profile S s (x ∷ pairs) a b (d, n, more) run =
     let r = subst (λ places. Run profile S s (map asked_at places) (x.response ∷ responses_of pairs)) n.place run in
     (r.1.may, run-pairs profile S (after S s (asked_at x.line) x.response) pairs d b more (subst (λ (t : State). Run profile S t (map asked_at d.places) (responses_of pairs)) r.1.leads r.2))
 
-last-may : (profile : Profile) (S : Spool) (s : State) (pairs more : List Paired) (x : Paired) → MayAnswerAll profile S s (pairs ++ x ∷ more) → MayAnswer profile S (state_after S s pairs) (asked_at x.line) x.response
+last-may : (profile : Profile) (S : Spool) (s : State) (pairs more : List Paired) (x : Paired)
+    → MayAnswerAll profile S s (pairs ++ x ∷ more) → MayAnswer profile S (state_after S s pairs) (asked_at x.line) x.response
 last-may profile S s [] more x may = may.0
 last-may profile S s (y ∷ pairs) more x may = last-may profile S (after S s (asked_at y.line) y.response) pairs more x may.1
 
@@ -54,7 +57,8 @@ pub state-more : (S : Spool) (s : State) (pairs : List Paired) (x : Paired) → 
 state-more S s [] x = refl
 state-more S s (y ∷ pairs) x = state-more S (after S s (asked_at y.line) y.response) pairs x
 
-pub all-more : (profile : Profile) (S : Spool) (s : State) (pairs : List Paired) (x : Paired) → MayAnswerAll profile S s pairs → MayAnswer profile S (state_after S s pairs) (asked_at x.line) x.response → MayAnswerAll profile S s (pairs ++ x ∷ [])
+pub all-more : (profile : Profile) (S : Spool) (s : State) (pairs : List Paired) (x : Paired) → MayAnswerAll profile S s pairs
+    → MayAnswer profile S (state_after S s pairs) (asked_at x.line) x.response → MayAnswerAll profile S s (pairs ++ x ∷ [])
 all-more profile S s [] x all may = (may, tt)
 all-more profile S s (y ∷ pairs) x all may = (all.0, all-more profile S (after S s (asked_at y.line) y.response) pairs x all.1 may)
 
@@ -62,7 +66,8 @@ all-more profile S s (y ∷ pairs) x all may = (all.0, all-more profile S (after
 
 module _ (profile : Profile) (S : Spool) (is : IsSpool profile.limit S) (client server : List ℕ) where
   -- pairs that are permitted are explained
-  pub permitted-explained : (pairs : List Paired) (left : Unpaired) → AreNext (streams client server) pairs left → MayAnswerAll profile S start pairs → ExplainsUpTo profile S client server (length pairs) left.server
+  pub permitted-explained : (pairs : List Paired) (left : Unpaired) → AreNext (streams client server) pairs left
+      → MayAnswerAll profile S start pairs → ExplainsUpTo profile S client server (length pairs) left.server
   permitted-explained pairs left n may =
       let spelled = (pairs-spelled client server pairs left n).0 in
       record {
@@ -80,8 +85,16 @@ module _ (profile : Profile) (S : Spool) (is : IsSpool profile.limit S) (client 
       → (pairs : List Paired) × (left : Unpaired) × AreNext (streams client server) pairs left × MayAnswerAll profile S start pairs × (length pairs ≡ k) × (left.server ≡ rest)
   explained-pairs k rest e =
       let found = spelled-pairs client server e.answers rest (e.octets, e.spelled, e.whole) (run-stays-open profile S start (prompts_of client) e.answers e.run) in
-      let run = subst (λ (rs : List Response). Run profile S start (map asked_at (places_of client)) rs) (sym found.3) (subst (λ (ps : List Asked). Run profile S start ps e.answers) (sym (places-prompts client)) e.run) in
-      (found.0, found.1, found.2, run-pairs profile S start found.0 (streams client server) found.1 found.2 run, sym (length-map found.0 (λ pair. pair.response)) ∙ ap length found.3 ∙ e.count, found.4)
+      let run = subst (λ (rs : List Response). Run profile S start (map asked_at (places_of client)) rs) (sym found.3)
+      (subst (λ (ps : List Asked). Run profile S start ps e.answers) (sym (places-prompts client)) e.run) in (
+        found.0,
+        found.1,
+        found.2,
+        run-pairs profile S start found.0 (streams client server) found.1 found.2 run,
+        sym
+            (length-map found.0 (λ pair. pair.response)) ∙ ap length found.3 ∙ e.count,
+        found.4,
+      )
 
   shorter : (left behind : Unpaired) (x : Paired) → IsNext left x behind → left.server ≡ [] → ⊥
   shorter left behind x is_next none = let lt = next-shorter left behind x is_next in let zero : length left.server ≡ 0 = ap length none in omega arith
@@ -99,7 +112,8 @@ module _ (profile : Profile) (S : Spool) (is : IsSpool profile.limit S) (client 
   )
 
   -- and so are octets that answer nothing
-  pub bad-refused : (pairs : List Paired) (left : Unpaired) (class : PairClass) → AreNext (streams client server) pairs left → MayAnswerAll profile S start pairs → Ends left (bad class) → RefusesAt profile S client server (length pairs)
+  pub bad-refused : (pairs : List Paired) (left : Unpaired) (class : PairClass) → AreNext (streams client server) pairs left
+      → MayAnswerAll profile S start pairs → Ends left (bad class) → RefusesAt profile S client server (length pairs)
   bad-refused pairs left class n may ends = (
     (left.server, permitted-explained pairs left n may, ends.0),
     λ (rest, e).
@@ -118,11 +132,15 @@ module _ (profile : Profile) (S : Spool) (is : IsSpool profile.limit S) (client 
       let all = explained-pairs n [] e in
       let front = explained-pairs k rest before in
       elim (cases_lt k n) [
-        | inl lt ↦ let on = further front.0 all.0 (streams client server) front.1 all.1 front.2 all.2 (omega (arith, front.4, all.4)) in one_more front.0 on.0 front.1 all.1 front.2 on.2 (subst (MayAnswerAll profile S start) on.1 all.3) front.4 (sym all.4 ∙ ap length on.1 ∙ length-append front.0 on.0) lt
-        | inr le ↦ let on = further all.0 front.0 (streams client server) all.1 front.1 all.2 front.2 (omega (arith, front.4, all.4)) in none_left on.0 all.1 front.1 on.2 all.5 (λ none. some (sym front.5 ∙ none))
+        | inl lt ↦ let on = further front.0 all.0 (streams client server) front.1 all.1 front.2 all.2
+            (omega (arith, front.4, all.4)) in one_more front.0 on.0 front.1 all.1 front.2 on.2
+            (subst (MayAnswerAll profile S start) on.1 all.3) front.4 (sym all.4 ∙ ap length on.1 ∙ length-append front.0 on.0) lt
+        | inr le ↦ let on = further all.0 front.0 (streams client server) all.1 front.1 all.2 front.2
+            (omega (arith, front.4, all.4)) in none_left on.0 all.1 front.1 on.2 all.5 (λ none. some (sym front.5 ∙ none))
       ]
     where
-      one_more : (pairs more : List Paired) (b c : Unpaired) → AreNext (streams client server) pairs b → AreNext b more c → MayAnswerAll profile S start (pairs ++ more) → length pairs ≡ k → n ≡ length pairs + length more → k < n → ⊥
+      one_more : (pairs more : List Paired) (b c : Unpaired) → AreNext (streams client server) pairs b → AreNext b more c
+          → MayAnswerAll profile S start (pairs ++ more) → length pairs ≡ k → n ≡ length pairs + length more → k < n → ⊥
       one_more pairs [] b c first on may is count lt = omega arith
       one_more pairs (y ∷ more) b c first (d, is_next, on) may is count lt =
           let whole = first-may profile S start (pairs ++ y ∷ []) more (subst (MayAnswerAll profile S start) (sym (append_assoc pairs (y ∷ []) more)) may) in

@@ -4,7 +4,7 @@ use Rattle.nntp_spool.specs.declared.text.read_fault.ReadFault.{ReadFault}
 use Rattle.nntp_spool.specs.declared.text.read_fault.ReadError.{ReadError}
 use Rattle.nntp_spool.specs.declared.text.read_fault.ReadError.TheVariants as errors
 use Rattle.nntp_spool.specs.declared.text.read_fault.Kind.TheVariants as kinds
-use Rattle.nntp_article.specs.Spool.{Spool}
+use Rattle.nntp_article.specs.Session.Spool.{Spool}
 use Rattle.nntp_spool.specs.Reading.{Fails, repeat, fault, Place, On, Done, item_at, items_at}
 
 module _ {S : Type 0} (step : S → Result S ReadFault) where

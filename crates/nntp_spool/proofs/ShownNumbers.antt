@@ -8,7 +8,7 @@ use Rattle.std.specs.BTreeMap.Range.{IsRangeOf}
 use Rattle.std.specs.declared.ops.Bound.TheVariants.{Excluded, Unbounded}
 use Rattle.std.specs.BTreeMap.{BTreeMap, get, IsLowerBound, IsUpperBound}
 use Rattle.std.proofs.lemmas.Bool.Decides.{nat_tests}
-use Rattle.nntp_article.specs.Spool.{Numbers, IsNumber, IsFirst, IsNextAbove, IsNextBelow, NoneAbove, NoneBelow}
+use Rattle.nntp_article.specs.Session.Spool.{Numbers, IsNumber, IsFirst, IsNextAbove, IsNextBelow, NoneAbove, NoneBelow}
 use Rattle.nntp_wire.proofs.ShownMaps.{shown, get-shown, is_some-option_map}
 
 abbrev pub IsLastOf : Numbers → Option ℕ → Type 0

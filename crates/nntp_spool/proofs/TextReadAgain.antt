@@ -15,9 +15,9 @@ use Rattle.nntp_wire.specs.Limit.{greatest}
 use Rattle.nntp_wire.specs.Octets.{is_clean, is_line_breaking}
 use Rattle.nntp_wire.specs.declared.limit.Limit.{Limit}
 use Rattle.nntp_wire.specs.declared.limit.Limit.TheVariants.{Narrow, Wide}
-use Rattle.nntp_article.specs.Article.{Line, Id}
-use Rattle.nntp_article.specs.Spool.{Name, Spool, Numbers, Text, is_line}
-use Rattle.nntp_article.specs.Machine.{is_article_number}
+use Rattle.nntp_article.specs.Article.Parts.{Line, Id}
+use Rattle.nntp_article.specs.Session.Spool.{Name, Spool, Numbers, Text, is_line}
+use Rattle.nntp_article.specs.Session.Machine.{is_article_number}
 use Rattle.nntp_spool.specs.Limited.{LimitedSpool}
 use Rattle.nntp_spool.specs.Text.{HasLineCounts, number_line, group_line, article_line, barred, group_lines, article_lines, limit_lines, content_lines, spool_lines, spool_text, with_line_ends}
 use Rattle.nntp_spool.specs.Reading.{segments_of, limit_at, content_at, spool_at}
@@ -58,13 +58,17 @@ num-small limit n le h = grind (arith, nat_tests, and_parts)
 
 clean-group : (limit : ℕ) (name : Name) (N : Numbers) → limit < 2 ^ 64 → len N < 2 ^ 64 → IsNamed limit name N → clean (group_lines (name, N)) ≡ true
 clean-group limit name N le small named =
-    let first = spaced-lacks (codes "group") (name ++ 32 ∷ decimal (len N)) refl (spaced-lacks name (decimal (len N)) (name-lacks 10 name (omega arith) refl named.is_name) (decimal-lacks (len N) small)) in
+    let first = spaced-lacks (codes "group") (name ++ 32 ∷ decimal (len N)) refl
+    (spaced-lacks name (decimal (len N)) (name-lacks 10 name (omega arith) refl named.is_name)
+    (decimal-lacks (len N) small)) in
     let each = got_all nat_cmp_total nat_cmp-IsAntisymmetric (λ n id. lacks 10 (number_line n id) ≡ true) N (λ n id g.
     let is = named.numbers.each n id g in spaced-lacks (decimal n) id (decimal-lacks n (num-small limit n le is.0)) (id-lacks 10 id (omega arith) is.1)) in
     and_from (lacks 10 (group_line name (len N))) (clean (map (λ e. number_line e.0 e.1) (entries N))) first (clean-map (λ e. number_line e.0 e.1) (entries N) each)
 
 line-lacks : (l : Line) → is_line l ≡ true → lacks 10 l ≡ true
-line-lacks l h = let both = and_parts (is_clean l) (list_all (λ c. nat_lt c 256) l) h in list_all_weaken (λ c. not (is_line_breaking c)) (λ c. not (eqb c 10)) (λ c passes. no_line_feed c (eqb c 0) (eqb c 13) (eqb c 10) passes) l both.0
+line-lacks l h = let both = and_parts (is_clean l) (list_all (λ c. nat_lt c 256) l) h in list_all_weaken
+    (λ c. not (is_line_breaking c)) (λ c. not (eqb c 10))
+    (λ c passes. no_line_feed c (eqb c 0) (eqb c 13) (eqb c 10) passes) l both.0
   where
     no_line_feed : (c : ℕ) (a b d : Bool) → not (a || b || d) ≡ true → not d ≡ true
     no_line_feed c a b false h = refl
@@ -74,9 +78,11 @@ line-lacks l h = let both = and_parts (is_clean l) (list_all (λ c. nat_lt c 256
 
 clean-article : (id : Id) (t : Text) → length t.head < 2 ^ 64 → length t.body < 2 ^ 64 → IsArticle id t → clean (article_lines (id, t)) ≡ true
 clean-article id t h b is =
-    let first = spaced-lacks (codes "article") (id ++ 32 ∷ (decimal (length t.head) ++ 32 ∷ decimal (length t.body))) refl (spaced-lacks id (decimal (length t.head) ++ 32 ∷ decimal (length t.body)) (id-lacks 10 id (omega arith) is.is_id)
+    let first = spaced-lacks (codes "article") (id ++ 32 ∷ (decimal (length t.head) ++ 32 ∷ decimal (length t.body))) refl
+    (spaced-lacks id (decimal (length t.head) ++ 32 ∷ decimal (length t.body)) (id-lacks 10 id (omega arith) is.is_id)
     (spaced-lacks (decimal (length t.head)) (decimal (length t.body)) (decimal-lacks (length t.head) h) (decimal-lacks (length t.body) b))) in
-    and_from (lacks 10 (article_line id (length t.head) (length t.body))) (clean (barred t.head ++ barred t.body)) first (clean-append (barred t.head) (barred t.body) (barred-clean t.head is.head_lines) (barred-clean t.body is.body_lines))
+    and_from (lacks 10 (article_line id (length t.head) (length t.body))) (clean (barred t.head ++ barred t.body)) first
+    (clean-append (barred t.head) (barred t.body) (barred-clean t.head is.head_lines) (barred-clean t.body is.body_lines))
   where
     barred-clean : (lines : List Line) → list_all is_line lines ≡ true → clean (barred lines) ≡ true
     barred-clean [] h = refl
@@ -84,9 +90,16 @@ clean-article id t h b is =
 
 clean-content : (limit : ℕ) (F : Spool) → limit < 2 ^ 64 → IsContent limit F → HasLineCounts F → clean (content_lines F) ≡ true
 clean-content limit F le content sizes =
-    let groups = clean-flat group_lines (entries F.groups) (got_all nat_list_cmp_total octet_keys (λ name N. clean (group_lines (name, N)) ≡ true) F.groups (λ name N g. clean-group limit name N le (few_numbers limit N le (content.groups name N g).numbers) (content.groups name N g))) in
-    let articles = clean-flat article_lines (entries F.articles) (got_all nat_list_cmp_total octet_keys (λ id t. clean (article_lines (id, t)) ≡ true) F.articles (λ id t g. let s = sizes id t g in clean-article id t s.0 s.1 (content.articles id t g))) in
-    clean-append (flat_map group_lines (entries F.groups)) (flat_map article_lines (entries F.articles) ++ codes "end" ∷ []) groups (clean-append (flat_map article_lines (entries F.articles)) (codes "end" ∷ []) articles refl)
+    let groups = clean-flat group_lines (entries F.groups)
+    (got_all nat_list_cmp_total octet_keys (λ name N. clean (group_lines (name, N)) ≡ true) F.groups
+    (λ name N g. clean-group limit name N le (few_numbers limit N le (content.groups name N g).numbers)
+    (content.groups name N g))) in
+    let articles = clean-flat article_lines (entries F.articles)
+    (got_all nat_list_cmp_total octet_keys (λ id t. clean (article_lines (id, t)) ≡ true) F.articles
+    (λ id t g. let s = sizes id t g in clean-article id t s.0 s.1 (content.articles id t g))) in
+    clean-append (flat_map group_lines (entries F.groups))
+    (flat_map article_lines (entries F.articles) ++ codes "end" ∷ []) groups
+    (clean-append (flat_map article_lines (entries F.articles)) (codes "end" ∷ []) articles refl)
 
 clean-limit : (limit : Limit) → clean (limit_lines limit) ≡ true
 clean-limit Narrow = refl
@@ -119,14 +132,24 @@ length-text : (L : LimitedSpool) → length (flat_map group_lines (entries L.spo
 length-text L =
     let groups = flat_map group_lines (entries L.spool.groups) in
     let articles = flat_map article_lines (entries L.spool.articles) in
-    omega (arith, length-with_line_ends (spool_lines L), length-append (limit_lines L.limit) (content_lines L.spool), some_limit_line L.limit, length-append groups (articles ++ codes "end" ∷ []), length-append articles (codes "end" ∷ []))
+    omega (
+      arith,
+      length-with_line_ends (spool_lines L),
+      length-append (limit_lines L.limit)
+          (content_lines L.spool),
+      some_limit_line L.limit,
+      length-append groups
+          (articles ++ codes "end" ∷ []),
+      length-append articles (codes "end" ∷ []),
+    )
 
 pub counted : (L : LimitedSpool) → length (spool_text L) < 2 ^ 64 → HasLineCounts L.spool
 counted L lt =
     let F = L.spool in
     let whole = length-text L in
     λ id t g.
-    let fits = all_got nat_list_cmp_total octet_keys (λ id t. length (article_lines (id, t)) ≤ length (spool_text L)) F.articles (within article_lines (entries F.articles) (length (spool_text L)) (omega arith)) id t g in
+    let fits = all_got nat_list_cmp_total octet_keys (λ id t. length (article_lines (id, t)) ≤ length (spool_text L)) F.articles
+    (within article_lines (entries F.articles) (length (spool_text L)) (omega arith)) id t g in
     let both = length-append (barred t.head) (barred t.body) in
     let heads = length-map t.head (λ line. 124 ∷ line) in
     let bodies = length-map t.body (λ line. 124 ∷ line) in
@@ -141,7 +164,9 @@ unfolding content_at
 content_again limit most line F le content sizes known enough =
     let groups = entries F.groups in
     let texts = entries F.articles in
-    let again = groups_again limit F le content sizes known most line no_spool groups texts (ap (λ (es : List (Name × Numbers)). es ++ groups) (sym (no_entries (slice_cmp nat_cmp)))) (ap (λ (es : List (Id × Text)). es ++ texts) (sym (no_entries (slice_cmp nat_cmp)))) enough in
+    let again = groups_again limit F le content sizes known most line no_spool groups texts
+    (ap (λ (es : List (Name × Numbers)). es ++ groups) (sym (no_entries (slice_cmp nat_cmp))))
+    (ap (λ (es : List (Id × Text)). es ++ texts) (sym (no_entries (slice_cmp nat_cmp)))) enough in
     rw again.1 refl
 
 pub text_again : (L : LimitedSpool) → IsContent (greatest L.limit) L.spool → HasLineCounts L.spool → ids_have_articles L.spool ≡ true → spool_at (spool_text L) ≡ Ok L
@@ -153,7 +178,10 @@ text_again L content sizes known =
     let lines : segments_of (spool_text L) ≡ limit_lines L.limit ++ behind =
     segments_of-with_line_ends (spool_lines L) (clean-text L content sizes)
     ∙ append_assoc (limit_lines L.limit) (content_lines L.spool) ([] ∷ [])
-    ∙ ap (λ (ps : List Line). limit_lines L.limit ++ ps) (append_assoc (flat_map group_lines groups) (flat_map article_lines texts ++ codes "end" ∷ []) ([] ∷ []) ∙ ap (λ (ps : List Line). flat_map group_lines groups ++ ps) (append_assoc (flat_map article_lines texts) (codes "end" ∷ []) ([] ∷ []))) in
+    ∙ ap (λ (ps : List Line). limit_lines L.limit ++ ps)
+    (append_assoc (flat_map group_lines groups) (flat_map article_lines texts ++ codes "end" ∷ []) ([] ∷ [])
+    ∙ ap (λ (ps : List Line). flat_map group_lines groups ++ ps)
+    (append_assoc (flat_map article_lines texts) (codes "end" ∷ []) ([] ∷ []))) in
     let front = first_lines groups texts in
     let most : length groups + length texts < length (spool_text L) =
     omega (arith, length-text L, enough group_lines groups (λ g. omega arith), enough article_lines texts (λ a. omega arith)) in

@@ -5,8 +5,8 @@ use Rattle.std.proofs.lemmas.List.{append-nil}
 use Rattle.std.proofs.lemmas.List.Splits.{join_with_byte-slice_split}
 use Rattle.nntp_wire.specs.Limit.{greatest}
 use Rattle.nntp_wire.specs.declared.limit.Limit.{Limit}
-use Rattle.nntp_article.specs.Article.{Line}
-use Rattle.nntp_article.specs.Spool.{Spool}
+use Rattle.nntp_article.specs.Article.Parts.{Line}
+use Rattle.nntp_article.specs.Session.Spool.{Spool}
 use Rattle.nntp_spool.specs.Limited.{LimitedSpool}
 use Rattle.nntp_spool.specs.Text.{limit_lines, content_lines, spool_lines, spool_text, with_line_ends}
 use Rattle.nntp_spool.specs.Reading.{◌>>=◌, Place, segments_of, limit_at, content_at, spool_at}

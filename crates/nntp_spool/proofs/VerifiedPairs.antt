@@ -3,17 +3,18 @@ use Rattle.std.proofs.Common.{◌≡◌, ℕ, ◌+◌, List, [], ◌∷◌, ◌+
 use Rattle.nntp_pair.specs.Pairing.{Paired, Unpaired, IsNext, AreNext, Ends, bad, asked_at, streams}
 use Rattle.nntp_pair.specs.declared.class.PairClass.{PairClass}
 use Rattle.nntp_pair.proofs.PairingLemmas.{AreNext-push, index-counts}
-use Rattle.nntp_article.specs.Spool.{Spool, IsSpool}
-use Rattle.nntp_article.specs.declared.profile.Profile.{Profile}
-use Rattle.nntp_article.specs.Explains.{Explains, ExplainsUpTo}
-use Rattle.nntp_article.specs.Machine.{State, start, MayAnswer, after}
+use Rattle.nntp_article.specs.Session.Spool.{Spool, IsSpool}
+use Rattle.nntp_article.specs.declared.session.profile.Profile.{Profile}
+use Rattle.nntp_article.specs.Session.Explains.{Explains, ExplainsUpTo}
+use Rattle.nntp_article.specs.Session.Machine.{State, start, MayAnswer, after}
 use Rattle.nntp_spool.specs.declared.verification.verified.Verified.{Verified}
 use Rattle.nntp_spool.specs.Verifying.{IsVerified}
 use Rattle.nntp_spool.specs.Sessions.{state_after, MayAnswerAll, RefusesAt}
 use Rattle.nntp_spool.proofs.PermittedPairs.{state-more, all-more, permitted-explained, unpermitted-refused, bad-refused}
 
 -- a spool and a profile that are the same leave what is verified as it is
-pub verified_by_same : (profile other : Profile) (S T : Spool) (client server : List ℕ) (verified : Verified) → profile ≡ other → S ≡ T → IsVerified profile S client server verified → IsVerified other T client server verified
+pub verified_by_same : (profile other : Profile) (S T : Spool) (client server : List ℕ) (verified : Verified) → profile ≡ other
+    → S ≡ T → IsVerified profile S client server verified → IsVerified other T client server verified
 verified_by_same profile other S T client server verified same equal is =
     subst (λ (U : Spool). IsVerified other U client server verified) equal (subst (λ (p : Profile). IsVerified p S client server verified) same is)
 
@@ -28,7 +29,8 @@ pub record Permitted (profile : Profile) (S : Spool) (client server : List ℕ) 
   pub state : s ≡ state_after S start pairs
   pub counted : count ≡ length pairs
 
-pub one_more_pair : (profile : Profile) (S : Spool) (client server : List ℕ) (left behind : Unpaired) (s new : State) (count : ℕ) (x : Paired) → Permitted profile S client server left s count → IsNext left x behind
+pub one_more_pair : (profile : Profile) (S : Spool) (client server : List ℕ) (left behind : Unpaired) (s new : State) (count : ℕ)
+    (x : Paired) → Permitted profile S client server left s count → IsNext left x behind
     → MayAnswer profile S s (asked_at x.line) x.response → new ≡ after S s (asked_at x.line) x.response → Permitted profile S client server behind new (x.index + 1)
 one_more_pair profile S client server left behind s new count x p is may leads = record {
   pairs = p.pairs ++ x ∷ [];
@@ -41,7 +43,9 @@ one_more_pair profile S client server left behind s new count x p is may leads =
 module _ (profile : Profile) (S : Spool) (is : IsSpool profile.limit S) (client server : List ℕ) (left : Unpaired) (s : State) (count : ℕ) (p : Permitted profile S client server left s count) where
   pub not_permitted : (behind : Unpaired) (x : Paired) → IsNext left x behind → (MayAnswer profile S s (asked_at x.line) x.response → ⊥) → RefusesAt profile S client server count
   not_permitted behind x is_next never =
-      subst (RefusesAt profile S client server) (sym p.counted) (unpermitted-refused profile S is client server p.pairs left behind x p.next p.may is_next (λ may. never (subst (λ (t : State). MayAnswer profile S t (asked_at x.line) x.response) (sym p.state) may)))
+      subst (RefusesAt profile S client server) (sym p.counted)
+      (unpermitted-refused profile S is client server p.pairs left behind x p.next p.may is_next
+      (λ may. never (subst (λ (t : State). MayAnswer profile S t (asked_at x.line) x.response) (sym p.state) may)))
 
   pub answers_nothing : (class : PairClass) → Ends left (bad class) → RefusesAt profile S client server count
   answers_nothing class ends = subst (RefusesAt profile S client server) (sym p.counted) (bad-refused profile S is client server p.pairs left class p.next p.may ends)

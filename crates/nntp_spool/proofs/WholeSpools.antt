@@ -15,9 +15,9 @@ use Rattle.nntp_wire.proofs.DecidedLemmas.{group_name-iff, message_id-iff}
 use Rattle.nntp_wire.specs.Limit.{greatest}
 use Rattle.nntp_wire.specs.Octets.{is_clean}
 use Rattle.nntp_spool.proofs.LineFields.{list_all_weaken}
-use Rattle.nntp_article.specs.Article.{Line, Id, is_head, is_clean_head, said_id}
-use Rattle.nntp_article.specs.Machine.{is_article_number, says_own_id, is_same}
-use Rattle.nntp_article.specs.Spool.{Name, Spool, Numbers, numbers, IsSpool, is_line}
+use Rattle.nntp_article.specs.Article.Parts.{Line, Id, is_head, is_clean_head, said_id}
+use Rattle.nntp_article.specs.Session.Machine.{is_article_number, says_own_id, is_same}
+use Rattle.nntp_article.specs.Session.Spool.{Name, Spool, Numbers, numbers, IsSpool, is_line}
 use Rattle.nntp_spool.specs.Content.{all_known, ids_have_articles}
 use Rattle.nntp_spool.specs.Reading.{spool_at}
 use Rattle.nntp_spool.specs.declared.text.read_fault.ReadFault.{ReadFault}
@@ -81,8 +81,13 @@ module _ (limit : ℕ) (S : Spool) where
     ids_have_articles = known_ids known;
     ids = λ id is. let t = value_of_some (get S.articles id) is in (message_id-iff id).0 (content.articles id t.0 t.1).is_id;
     heads = λ id t g.
-        let a = content.articles id t g in
-        ((and_parts (list_all is_clean t.head) (is_head t.head) (and_parts (is_clean_head t.head) (says_own_id id t.head) a.head).0).1, AllPass-from_list_all is_line (t.head ++ t.body) (list_all-append is_line t.head t.body ∙ and_from (list_all is_line t.head) (list_all is_line t.body) a.head_lines a.body_lines));
+        let a = content.articles id t g in (
+          (and_parts (list_all is_clean t.head) (is_head t.head)
+              (and_parts (is_clean_head t.head) (says_own_id id t.head) a.head).0).1,
+          AllPass-from_list_all is_line
+              (t.head ++ t.body) (list_all-append is_line t.head t.body
+              ∙ and_from (list_all is_line t.head) (list_all is_line t.body) a.head_lines a.body_lines),
+        );
     own_ids = λ id said t g says. said_own id said t.head (and_parts (is_clean_head t.head) (says_own_id id t.head) (content.articles id t g).head).1 says;
   }
 
@@ -104,7 +109,10 @@ module _ (limit : ℕ) (S : Spool) where
         let lines = and_parts (list_all is_line t.head) (list_all is_line t.body) (sym (list_all-append is_line t.head t.body) ∙ list_all-from_AllPass is_line (t.head ++ t.body) h.1) in
         record {
           is_id = (message_id-iff id).1 (s.ids id (ap is_some g));
-          head = and_from (is_clean_head t.head) (says_own_id id t.head) (and_from (list_all is_clean t.head) (is_head t.head) (list_all_weaken is_line is_clean (λ l passes. (and_parts (is_clean l) _ passes).0) t.head lines.0) h.0) (own_said id (said_id t.head) (λ said says. s.own_ids id said t g says));
+          head = and_from (is_clean_head t.head) (says_own_id id t.head)
+              (and_from (list_all is_clean t.head) (is_head t.head)
+              (list_all_weaken is_line is_clean (λ l passes. (and_parts (is_clean l) _ passes).0) t.head lines.0) h.0)
+              (own_said id (said_id t.head) (λ said says. s.own_ids id said t g says));
           head_lines = lines.0;
           body_lines = lines.1;
         };
@@ -113,7 +121,9 @@ module _ (limit : ℕ) (S : Spool) where
   pub spool_knows : IsSpool limit S → ids_have_articles S ≡ true
   spool_knows s =
       passed_all (λ g. all_known S g.1) (entries S.groups) (got_all nat_list_cmp_total octet_keys (λ name N. all_known S N ≡ true) S.groups (λ name N g.
-      passed_all (λ e. is_some (get S.articles e.1)) (entries N) (got_all nat_cmp_total nat_cmp-IsAntisymmetric (λ n id. is_some (get S.articles id) ≡ true) N (λ n id at. s.ids_have_articles name n id (ap (λ o. get (unwrap_or o empty) n) g ∙ at)))))
+      passed_all (λ e. is_some (get S.articles e.1)) (entries N)
+      (got_all nat_cmp_total nat_cmp-IsAntisymmetric (λ n id. is_some (get S.articles id) ≡ true) N
+      (λ n id at. s.ids_have_articles name n id (ap (λ o. get (unwrap_or o empty) n) g ∙ at)))))
 
 -- ---- texts
 

@@ -3,7 +3,7 @@ use Rattle.std.proofs.Common.{◌≡◌, ℕ, List, [], ◌∷◌, ◌++◌, Opt
 use Rattle.std.proofs.lemmas.List.{append-nil}
 use Rattle.std.proofs.lemmas.List.Concat.{flat_map-append}
 use Rattle.nntp_wire.specs.declared.limit.Limit.{Limit}
-use Rattle.nntp_article.specs.Spool.{Spool}
+use Rattle.nntp_article.specs.Session.Spool.{Spool}
 use Rattle.nntp_spool.specs.Limited.{LimitedSpool}
 use Rattle.nntp_spool.specs.Text.{with_line_ends, group_line, article_line, limit_lines, content_lines, spool_text}
 use Rattle.nntp_spool.specs.Writing.{Wrote, Writes}
@@ -19,7 +19,9 @@ with_line_ends-append xs ys = flat_map-append (λ line. line ++ 10 ∷ []) xs ys
 pub Lines-first : (a b : Option (List ℕ)) (xs ys : List (List ℕ)) (rest : List ℕ) → Wrote a b (with_line_ends xs) rest → Wrote a b (with_line_ends (xs ++ ys)) (rest ++ with_line_ends ys)
 Lines-first a b xs ys rest g = subst (λ (t : List ℕ). Wrote a b t (rest ++ with_line_ends ys)) (sym (with_line_ends-append xs ys)) (Wrote-first a b (with_line_ends xs) (with_line_ends ys) rest g)
 
-pub Lines-next : (a b c : Option (List ℕ)) (whole : List ℕ) (xs ys : List (List ℕ)) (rest : List ℕ) → Wrote a b whole (with_line_ends (xs ++ ys)) → Wrote b c (with_line_ends xs) rest → Wrote a c whole (rest ++ with_line_ends ys)
+pub Lines-next : (a b c : Option (List ℕ)) (whole : List ℕ) (xs ys : List (List ℕ)) (rest : List ℕ)
+    → Wrote a b whole (with_line_ends (xs ++ ys)) → Wrote b c (with_line_ends xs) rest
+    → Wrote a c whole (rest ++ with_line_ends ys)
 Lines-next a b c whole xs ys rest h g = Wrote-on a b c whole (with_line_ends xs) (with_line_ends ys) rest (subst (Wrote a b whole) (with_line_ends-append xs ys) h) g
 
 -- the first line of a group, and of an article
@@ -30,7 +32,9 @@ Group-first a b name n count more rest e g = Lines-first a b (group_line name co
 pub Article-first : (a b : Option (List ℕ)) (id : List ℕ) (m heads n bodies : ℕ) (more : List (List ℕ)) (rest : List ℕ) → m ≡ heads → n ≡ bodies
     → Wrote a b (with_line_ends (article_line id m n ∷ [])) rest → Wrote a b (with_line_ends (article_line id heads bodies ∷ more)) (rest ++ with_line_ends more)
 Article-first a b id m heads n bodies more rest e f g =
-    Lines-first a b (article_line id heads bodies ∷ []) more rest (subst (λ (k : ℕ). Wrote a b (with_line_ends (article_line id k bodies ∷ [])) rest) e (subst (λ (k : ℕ). Wrote a b (with_line_ends (article_line id m k ∷ [])) rest) f g))
+    Lines-first a b (article_line id heads bodies ∷ []) more rest
+    (subst (λ (k : ℕ). Wrote a b (with_line_ends (article_line id k bodies ∷ [])) rest) e
+    (subst (λ (k : ℕ). Wrote a b (with_line_ends (article_line id m k ∷ [])) rest) f g))
 
 -- the lines of a spool's limit, and its groups and articles
 pub Limit-first : (a b : Option (List ℕ)) (limit : Limit) (L : LimitedSpool) (rest : List ℕ) → limit ≡ L.limit

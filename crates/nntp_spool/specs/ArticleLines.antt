@@ -1,6 +1,6 @@
 -- The article that a value of the code shows.
 use Rattle.nntp_wire.specs.Held.{held}
-use Rattle.nntp_article.specs.Spool.{Text}
+use Rattle.nntp_article.specs.Session.Spool.{Text}
 use Rattle.nntp_spool.specs.declared.value.article.Article.{Article}
 
 -- the octets of an article's lines

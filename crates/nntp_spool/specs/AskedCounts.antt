@@ -4,7 +4,7 @@ use Rattle.std.specs.List.{count_by}
 use Rattle.std.specs.Ordering.{nat_cmp}
 use Rattle.std.specs.Cmp.Lexicographic.{slice_cmp}
 use Rattle.std.specs.FinMap.{FinMap, get, insert, entries}
-use Rattle.nntp_article.specs.Spool.{Spool}
+use Rattle.nntp_article.specs.Session.Spool.{Spool}
 use Rattle.nntp_spool.specs.ListedGroups.{is_asked}
 
 -- the counts that are remembered: of all groups, and of those that match a wildmat
@@ -12,7 +12,7 @@ pub record AskedCounts : Type 0 where
   pub all : Option ℕ
   pub by_wildmat : FinMap (slice_cmp nat_cmp) ℕ
 
--- how many groups match the wildmat, or how many there are
+-- how many groups match the wildmat, or how many there are without one
 abbrev pub asked_count : Spool → Option (List ℕ) → ℕ
 asked_count S p = count_by (λ e. is_asked p e.0) (entries S.groups)
 
@@ -21,7 +21,7 @@ abbrev pub remembered : AskedCounts → Option (List ℕ) → Option ℕ
 remembered counts None = counts.all
 remembered counts (Some w) = get counts.by_wildmat w
 
--- with one more count
+-- the counts that are remembered once one more is
 abbrev pub with_count : Option (List ℕ) → ℕ → AskedCounts → AskedCounts
 with_count None n counts = record counts { all = Some n }
 with_count (Some w) n counts = record counts { by_wildmat = insert counts.by_wildmat w n }

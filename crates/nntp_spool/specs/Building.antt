@@ -5,10 +5,10 @@ use Rattle.std.specs.Coded.{Coded, code_by, coded×, coded_bool}
 use Rattle.std.specs.FinMap.{get}
 use Rattle.nntp_wire.specs.Decided.{is_group_name, is_message_id}
 use Rattle.nntp_wire.specs.declared.limit.Limit.{Limit}
-use Rattle.nntp_article.specs.Coded.{coded_limit}
-use Rattle.nntp_article.specs.Article.{Id}
-use Rattle.nntp_article.specs.Spool.{Name, Spool, Text, numbers, is_line}
-use Rattle.nntp_article.specs.Machine.{is_article_number}
+use Rattle.nntp_article.specs.Session.Coded.{coded_limit}
+use Rattle.nntp_article.specs.Article.Parts.{Id}
+use Rattle.nntp_article.specs.Session.Spool.{Name, Spool, Text, numbers, is_line}
+use Rattle.nntp_article.specs.Session.Machine.{is_article_number}
 use Rattle.nntp_spool.specs.declared.value.spool_fault.SpoolFault.{SpoolFault}
 use Rattle.nntp_spool.specs.declared.value.spool_fault.SpoolFault.TheVariants as faults
 use Rattle.nntp_spool.specs.Codes.{coded_spool}
@@ -45,19 +45,19 @@ article_fault S id text =
     else (if not (list_all is_line text.body) then Some faults.BadBody
     else (if is_some (get S.articles id) then Some faults.DuplicateId else None)))
 
--- what a builder is given up for
+-- what a builder gives when it is given up: its spool, or the fault that it has
 abbrev pub finished : Building → Result LimitedSpool SpoolFault
 finished b =
     if b.failed then Err faults.Failed
     else (if not (ids_have_articles b.spool) then Err faults.UnknownId else Ok (record { limit = b.limit; spool = b.spool }))
 
--- A call on a builder: it failed before; there is a fault; it is done; memory was refused.
+-- a call on a builder: it failed before; there is a fault; it is done; or memory was refused
 abbrev pub BuildsBy : Bool → Option SpoolFault → Spool → Result (Unit {0}) SpoolFault → Building → Building → Type 0
 BuildsBy true fault made r old new = (r ≡ Err faults.Failed) × (new ≡ old)
 BuildsBy false (Some fault) made r old new = (r ≡ Err fault) × (new ≡ old)
 BuildsBy false None made (Ok x) old new = new ≡ record old { spool = made }
 BuildsBy false None made (Err e) old new = (e ≡ faults.Memory) × (new.failed ≡ true)
 
--- where the fault, if there is one, and the new content are these
+-- a call on a builder, where the fault, if there is one, and the new content are these
 abbrev pub Builds : Option SpoolFault → Spool → Result (Unit {0}) SpoolFault → Building → Building → Type 0
 Builds fault made r old new = BuildsBy old.failed fault made r old new

@@ -3,9 +3,9 @@ use Rattle.std.specs.Prelude.{◌≡◌, ℕ, Bool, true, ◌&&◌, List, Some, 
 use Rattle.std.specs.List.{list_all}
 use Rattle.std.specs.FinMap.{get, insert, empty, entries}
 use Rattle.nntp_wire.specs.Decided.{is_group_name, is_message_id}
-use Rattle.nntp_article.specs.Article.{Line, Id, is_clean_head}
-use Rattle.nntp_article.specs.Spool.{Name, Spool, Numbers, Text, is_line}
-use Rattle.nntp_article.specs.Machine.{is_article_number, says_own_id}
+use Rattle.nntp_article.specs.Article.Parts.{Line, Id, is_clean_head}
+use Rattle.nntp_article.specs.Session.Spool.{Name, Spool, Numbers, Text, is_line}
+use Rattle.nntp_article.specs.Session.Machine.{is_article_number, says_own_id}
 
 -- no group and no article
 abbrev pub no_spool : Spool
@@ -29,17 +29,17 @@ all_known S N = list_all (λ e. is_some (get S.articles e.1)) (entries N)
 abbrev pub ids_have_articles : Spool → Bool
 ids_have_articles S = list_all (λ g. all_known S g.1) (entries S.groups)
 
--- the numbers of a group: 1 to the limit, each with an id of its own
+-- the numbers of a group are 1 to the limit, each with an id of its own
 pub record AreNumbers (limit : ℕ) (N : Numbers) : Type 0 where
   pub each : (n : ℕ) (id : Id) → get N n ≡ Some id → (is_article_number limit n ≡ true) × (is_message_id id ≡ true)
   pub one_to_one : (n m : ℕ) (id : Id) → get N n ≡ Some id → get N m ≡ Some id → n ≡ m
 
--- a group with its name
+-- the numbers are those of a group, and the name is a group name
 pub record IsNamed (limit : ℕ) (name : Name) (N : Numbers) : Type 0 where
   pub is_name : is_group_name name ≡ true
   pub numbers : AreNumbers limit N
 
--- the article of an id
+-- the text is that of an article of this id
 pub record IsArticle (id : Id) (t : Text) : Type 0 where
   pub is_id : is_message_id id ≡ true
   pub head : is_head_of id t.head ≡ true

@@ -1,7 +1,7 @@
 -- How much a spool holds.
 use Rattle.std.specs.Prelude.{ℕ, sum, map}
 use Rattle.std.specs.FinMap.{entries, len}
-use Rattle.nntp_article.specs.Spool.{Spool}
+use Rattle.nntp_article.specs.Session.Spool.{Spool}
 
 -- the numbers over all groups
 abbrev pub numbers_in : Spool → ℕ

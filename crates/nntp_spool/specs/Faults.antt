@@ -10,6 +10,6 @@ use Rattle.nntp_spool.specs.Reading.{spool_at}
 abbrev pub IsFirstFault : List ℕ → ReadFault → Type 0
 IsFirstFault octets fault = (spool_at octets ≡ Err fault) × ((L : LimitedSpool) → IsWithinLimit L → octets ≢ spool_text L)
 
--- that fault, or want of memory, told of line 0
+-- the fault is the first one of the octets, or want of memory, told of line 0
 abbrev pub IsFault : List ℕ → ReadFault → Type 0
 IsFault octets fault = IsFirstFault octets fault ⊎ (fault ≡ record { line = 0; kind = Memory })

@@ -3,10 +3,10 @@ use Rattle.std.specs.Prelude.{ℕ, ◌^◌, Bool, false, not, ◌&&◌, ◌||◌
 use Rattle.std.specs.List.{slice_split, list_all}
 use Rattle.std.specs.Char.{is_ascii_digit}
 use Rattle.std.specs.Str.Parse.{digits_value}
-use Rattle.nntp_article.specs.Article.{Line, Id, is_empty}
-use Rattle.nntp_article.specs.Spool.{Name, is_line}
+use Rattle.nntp_article.specs.Article.Parts.{Line, Id, is_empty}
+use Rattle.nntp_article.specs.Session.Spool.{Name, is_line}
 
--- what stands between spaces
+-- the fields of a line, which stand between spaces
 abbrev pub fields_of : Line → List (List ℕ)
 fields_of line = slice_split (λ c. c == 32) line
 
@@ -14,7 +14,7 @@ fields_of line = slice_split (λ c. c == 32) line
 abbrev pub are_digits : List ℕ → Bool
 are_digits word = list_all is_ascii_digit word
 
--- a number without leading zeros
+-- the octets are a number without leading zeros
 abbrev pub is_decimal : List ℕ → Bool
 is_decimal [] = false
 is_decimal (d ∷ ds) = are_digits (d ∷ ds) && (not (d == 48) || is_empty ds)
@@ -23,7 +23,7 @@ is_decimal (d ∷ ds) = are_digits (d ∷ ds) && (not (d == 48) || is_empty ds)
 abbrev pub value_of : List ℕ → ℕ
 value_of digits = digits_value 10 digits
 
--- a number below 2^64, without leading zeros
+-- the octets are a number below 2^64, without leading zeros
 abbrev pub is_count : List ℕ → Bool
 is_count word = is_decimal word && nat_lt (value_of word) (2 ^ 64)
 

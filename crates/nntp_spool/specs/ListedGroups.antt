@@ -4,7 +4,7 @@ use Rattle.std.specs.Option.{option_map_or}
 use Rattle.nntp_wire.specs.Wildmat.{MatchesName}
 use Rattle.nntp_wire.specs.Decided.{is_group_name, matches_name}
 use Rattle.nntp_wire.specs.Listing.{ActiveValue}
-use Rattle.nntp_article.specs.Spool.{Spool, Name, IsGroup, IsNumber, numbers}
+use Rattle.nntp_article.specs.Session.Spool.{Spool, Name, IsGroup, IsNumber, numbers}
 
 -- the listed group is one that matches, and the marks bound its numbers
 abbrev pub LineAgrees : Spool → Option (List ℕ) → ActiveValue → Type 0

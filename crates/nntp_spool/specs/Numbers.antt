@@ -2,8 +2,8 @@
 use Rattle.std.specs.Prelude.{◌≡◌, ℕ, Bool, not, ◌&&◌, if◌then◌else◌, List, Vec, is_none, bytes_eq}
 use Rattle.std.specs.List.{list_any}
 use Rattle.std.specs.FinMap.{get, insert, entries}
-use Rattle.nntp_article.specs.Article.{Id}
-use Rattle.nntp_article.specs.Spool.{Numbers}
+use Rattle.nntp_article.specs.Article.Parts.{Id}
+use Rattle.nntp_article.specs.Session.Spool.{Numbers}
 
 -- some number has the id
 abbrev pub has_id : Numbers → Id → Bool
@@ -13,7 +13,7 @@ has_id N id = list_any (λ e. bytes_eq e.1 id) (entries N)
 abbrev pub is_free : Numbers → ℕ → Id → Bool
 is_free N n id = is_none (get N n) && not (has_id N id)
 
--- one number more, if neither it nor the id is there
+-- the numbers with one more, if neither it nor the id is there
 abbrev pub with_number : Numbers → ℕ → Id → Numbers
 with_number N n id = if is_free N n id then insert N n id else N
 

@@ -6,9 +6,9 @@ use Rattle.nntp_wire.specs.Decided.{is_group_name, is_message_id}
 use Rattle.nntp_wire.specs.Limit.{greatest}
 use Rattle.nntp_wire.specs.declared.limit.Limit.{Limit}
 use Rattle.nntp_wire.specs.declared.limit.Limit.TheVariants.{Narrow, Wide}
-use Rattle.nntp_article.specs.Article.{Line, Id, is_empty}
-use Rattle.nntp_article.specs.Spool.{Name, Spool, Numbers}
-use Rattle.nntp_article.specs.Machine.{is_article_number}
+use Rattle.nntp_article.specs.Article.Parts.{Line, Id, is_empty}
+use Rattle.nntp_article.specs.Session.Spool.{Name, Spool, Numbers}
+use Rattle.nntp_article.specs.Session.Machine.{is_article_number}
 use Rattle.nntp_spool.specs.declared.text.read_fault.Kind.{Kind}
 use Rattle.nntp_spool.specs.declared.text.read_fault.Kind.TheVariants as kinds
 use Rattle.nntp_spool.specs.declared.text.read_fault.ReadFault.{ReadFault}
@@ -62,7 +62,7 @@ shaped line (Some x) = Ok x
 
 -- ---- lists
 
--- so many steps, each from where the one before led
+-- so many steps are made, each from where the one before led
 abbrev pub repeat : {S : Type 0} → (S → Result S ReadFault) → ℕ → S → Result S ReadFault
 repeat step zero s = Ok s
 repeat step (suc count) s = step s >>= repeat step count
@@ -117,7 +117,7 @@ pub data Turn : Type 0 where
   On : (articles : Bool) → (spool : Spool) → (place : Place) → Turn
   Done : (spool : Spool) → (place : Place) → Turn
 
--- the end, where each id has its article
+-- the end is read, where each id has its article
 abbrev pub end_at : ℕ → Spool → Place → Result Turn ReadFault
 end_at line S p = if ids_have_articles S then Ok (Done S p) else fault line kinds.UnknownId
 
@@ -127,7 +127,7 @@ item_then limit line articles S p (Group name count) = if articles then fault li
 item_then limit line articles S p (Article id heads bodies) = article_at line id heads bodies S p >>= λ a. Ok (On true a.0 a.1)
 item_then limit line articles S p End = end_at line S p
 
--- an item, no group behind an article
+-- an item is read: no group stands behind an article
 unfoldable pub item_at : ℕ → Bool → Spool → Place → Result Turn ReadFault
 item_at limit articles S p = do
   l ← line_at p
@@ -143,7 +143,7 @@ abbrev pub items_at : ℕ → ℕ → Bool → Spool → Place → Result (Spool
 items_at limit zero articles S p = fault p.line kinds.Shape
 items_at limit (suc most) articles S p = item_at limit articles S p >>= turn_then (items_at limit most)
 
--- nothing is left behind the last line
+-- no octet is left behind the last line
 abbrev pub is_end : List Line → Bool
 is_end [] = false
 is_end (segment ∷ segments) = is_empty segment && is_empty segments

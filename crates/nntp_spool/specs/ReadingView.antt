@@ -7,8 +7,8 @@ use Rattle.nntp_spool.specs.declared.text.place.Opening.TheVariants as InCode
 use Rattle.nntp_spool.specs.declared.text.place.NumberLine.{NumberLine}
 use Rattle.nntp_spool.specs.declared.text.place.Turn.{Turn as TurnInCode}
 use Rattle.nntp_spool.specs.declared.text.place.Turn.TheVariants as turns
-use Rattle.nntp_article.specs.Article.{Id}
-use Rattle.nntp_article.specs.Spool.{Spool}
+use Rattle.nntp_article.specs.Article.Parts.{Id}
+use Rattle.nntp_article.specs.Session.Spool.{Spool}
 use Rattle.nntp_spool.specs.Reading.{Place, Turn, On, Done, segments_of}
 use Rattle.nntp_spool.specs.Fields.{OpeningValue, Group, Article, End, fields_of, value_of}
 

@@ -3,10 +3,10 @@ use Rattle.std.specs.Prelude.{Bool, true, ◌≢◌, ℕ, List, [], ◌∷◌, �
 use Rattle.nntp_wire.specs.Answer.{Response, numbers_are, active_are}
 use Rattle.nntp_wire.specs.Listing.{listed_numbers, active_groups}
 use Rattle.nntp_pair.specs.Pairing.{Paired, asked_at}
-use Rattle.nntp_article.specs.Spool.{Spool}
-use Rattle.nntp_article.specs.declared.profile.Profile.{Profile}
-use Rattle.nntp_article.specs.Machine.{State, is_ascending, names_differ, MayAnswer, after}
-use Rattle.nntp_article.specs.Explains.{ExplainsUpTo, ExplainsFirst}
+use Rattle.nntp_article.specs.Session.Spool.{Spool}
+use Rattle.nntp_article.specs.declared.session.profile.Profile.{Profile}
+use Rattle.nntp_article.specs.Session.Machine.{State, is_ascending, names_differ, MayAnswer, after}
+use Rattle.nntp_article.specs.Session.Explains.{ExplainsUpTo, ExplainsFirst}
 
 -- listed numbers ascend, and no group is listed twice
 abbrev pub is_in_order : Response → Bool

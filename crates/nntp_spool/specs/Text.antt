@@ -5,8 +5,8 @@ use Rattle.std.specs.List.{flat_map, join_with_byte}
 use Rattle.std.specs.FinMap.{get, entries, len}
 use Rattle.nntp_wire.specs.declared.limit.Limit.{Limit}
 use Rattle.nntp_wire.specs.declared.limit.Limit.TheVariants.{Narrow, Wide}
-use Rattle.nntp_article.specs.Article.{Line, Id}
-use Rattle.nntp_article.specs.Spool.{Name, Spool, Numbers, Text}
+use Rattle.nntp_article.specs.Article.Parts.{Line, Id}
+use Rattle.nntp_article.specs.Session.Spool.{Name, Spool, Numbers, Text}
 use Rattle.nntp_spool.specs.Limited.{LimitedSpool, IsWithinLimit}
 
 -- words, with one space between each two

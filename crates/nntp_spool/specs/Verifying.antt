@@ -1,8 +1,8 @@
 -- What `verify` answers.
 use Rattle.std.specs.Prelude.{ℕ, List}
-use Rattle.nntp_article.specs.Spool.{Spool}
-use Rattle.nntp_article.specs.declared.profile.Profile.{Profile}
-use Rattle.nntp_article.specs.Explains.{Explains}
+use Rattle.nntp_article.specs.Session.Spool.{Spool}
+use Rattle.nntp_article.specs.declared.session.profile.Profile.{Profile}
+use Rattle.nntp_article.specs.Session.Explains.{Explains}
 use Rattle.nntp_spool.specs.declared.verification.verified.Verified.{Verified}
 use Rattle.nntp_spool.specs.declared.verification.verified.Verified.TheVariants.{Permits, Refuses}
 use Rattle.nntp_spool.specs.Sessions.{RefusesAt}

@@ -1,4 +1,5 @@
-//! The spool of a news server: built, written as text, read back.
+//! The spool of a news server: its groups, their article numbers and its articles. A spool is built
+//! call by call, written as text, read back, and put to the streams of a session.
 #![tactic(auto)]
 
 pub mod laws;

@@ -1,4 +1,4 @@
-//! Octets handed to a writer.
+//! Octets that are handed to a writer.
 ghost use Rattle.std.specs.Prelude.{◌≡◌, ◌||◌, is_err};
 ghost use Rattle.std.specs.List.{flat_map};
 ghost use Rattle.nntp_spool.specs.Watched.{inner_of, has_failed_of};
@@ -8,12 +8,17 @@ use crate::watched::Watched;
 use std::io::Write;
 use thiserror::Error;
 
-/// The writer answered an error, or took none of some octets.
+/// The error of writing: the writer answered an error, or took none of some octets.
 #[derive(Clone, Copy, Debug, PartialEq, Eq, Error)]
 #[error("write failed")]
 pub struct WriteFault;
 
-/// Hands all of the octets to the writer, and doesn't flush. After a fault it took a front of them.
+/// Hands all of the octets to the writer, in as many calls as it needs. The writer isn't flushed.
+///
+/// # Errors
+///
+/// [`WriteFault`], if the writer answers an error, an interrupted call too, or takes none of the
+/// octets. It took a front of them then.
 pub fn put<W: Write>(w: &mut Watched<W>, octets: &[u8]) -> Result<(), WriteFault>
     ensures text { Writes result (W.contents (inner_of w.old)) (W.contents (inner_of w.new)) octets.now }
     ensures failed { has_failed_of w.new ≡ (has_failed_of w.old || is_err result) }
@@ -29,7 +34,7 @@ pub fn put<W: Write>(w: &mut Watched<W>, octets: &[u8]) -> Result<(), WriteFault
     Ok(())
 }
 
-/// Hands over the pieces, one after the other.
+/// Hands the pieces to the writer, one after the other. After a fault it took a front of them.
 pub(crate) fn put_pieces<W: Write>(w: &mut Watched<W>, pieces: &[&[u8]]) -> Result<(), WriteFault>
     ensures text { Writes result (W.contents (inner_of w.old)) (W.contents (inner_of w.new)) (flat_map (λ piece. piece.now) pieces.now) }
     ensures failed { has_failed_of w.new ≡ (has_failed_of w.old || is_err result) }

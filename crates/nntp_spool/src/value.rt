@@ -5,8 +5,6 @@ pub(crate) mod content;
 pub(crate) mod numbers;
 mod spool;
 mod spool_fault;
-#[cfg(test)]
-mod tests;
 pub(crate) mod well_formed;
 
 pub use article::Article;

@@ -1,6 +1,6 @@
 //! Whether a given spool explains a session.
 ghost use Rattle.std.specs.Prelude.{◌≡◌, IfOk};
-ghost use Rattle.nntp_article.specs.Limit.{profile_of};
+ghost use Rattle.nntp_article.specs.Session.Limit.{profile_of};
 ghost use Rattle.nntp_spool.specs.Verifying.{IsVerified};
 
 mod agreement;
@@ -20,9 +20,17 @@ use session::Session;
 use std::alloc::{AllocError, Allocator};
 pub use verified::Verified;
 
-/// Whether the spool explains both streams of a session, judged by the spool's limit and with marks read so; and if
-/// not, which answer is the first that it doesn't explain together with those before it. `Err` says that memory was
-/// refused.
+/// Tells whether the spool explains both streams of a session: whether it permits each answer that
+/// the server's octets spell, and no octets are left. If it doesn't, the value tells the first
+/// answer that the spool doesn't explain together with those before it.
+///
+/// `client` and `server` are all octets of the two streams. The session is judged by the spool's
+/// limit of article numbers (RFC 3977, section 6), and with the water marks of a 211 read as
+/// `marks` tells (section 6.1.1.2).
+///
+/// # Errors
+///
+/// [`AllocError`], if memory is refused.
 pub fn verify<A: Allocator + Copy>(
     alloc: A,
     marks: Marks,

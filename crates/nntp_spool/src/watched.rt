@@ -6,7 +6,8 @@ ghost use Rattle.std.specs.Io.KnownBytes.{ReadConsumes, WriteAppends, Keeps};
 use std::io;
 use std::io::{Read, Write};
 
-/// Passes each read, write and flush on, and remembers whether one of them failed.
+/// A reader or a writer that passes each read, write and flush on, and remembers whether one of
+/// them failed.
 #[derive(Drop)]
 pub struct Watched<T> {
     inner: T,
@@ -27,7 +28,7 @@ impl<T> Watched<T> {
         }
     }
 
-    /// The reader or writer itself. A writer isn't flushed first.
+    /// Returns the reader or writer itself. A writer isn't flushed first.
     pub fn into_inner(self) -> T
         ensures { result ≡ inner_of self }
     {
@@ -38,14 +39,15 @@ impl<T> Watched<T> {
         inner
     }
 
-    /// Whether since `new` a read, a write or a flush answered an error, or a write of at least one octet took none.
+    /// Tells whether a call failed since `new`: a read, a write or a flush answered an error, or a
+    /// write of at least one octet took none.
     pub fn failed(&self) -> bool
         ensures { result ≡ has_failed_of self.now }
     {
         self.has_failed
     }
 
-    /// Remembers a failure.
+    /// Remembers a call, if it failed.
     fn note(&mut self, is_failure: bool)
         ensures inner { inner_of self.new ≡ inner_of self.old }
         ensures failed { has_failed_of self.new ≡ (has_failed_of self.old || is_failure) }
@@ -61,6 +63,11 @@ impl<R: Read> Read for Watched<R> {
 
     ghost remaining = { λ w. R.remaining (inner_of w) };
 
+    /// Reads into the buffer, as the reader itself does.
+    ///
+    /// # Errors
+    ///
+    /// The error of the reader itself. It is remembered.
     fn read(&mut self, buf: &mut [u8]) -> io::Result<usize>
         ensures bound { ReadsAtMost result buf.new }
         ensures bytes { ReadConsumes (R.remaining (inner_of self.old)) (R.remaining (inner_of self.new)) result buf.new }
@@ -77,6 +84,12 @@ impl<W: Write> Write for Watched<W> {
 
     ghost contents = { λ w. W.contents (inner_of w) };
 
+    /// Writes octets of the buffer, as the writer itself does.
+    ///
+    /// # Errors
+    ///
+    /// The error of the writer itself. It is remembered, and so is a write that took none of some
+    /// octets.
     fn write(&mut self, buf: &[u8]) -> io::Result<usize>
         ensures bound { WritesAtMost result buf.now }
         ensures bytes { WriteAppends (W.contents (inner_of self.old)) (W.contents (inner_of self.new)) result buf.now }
@@ -90,6 +103,11 @@ impl<W: Write> Write for Watched<W> {
         outcome
     }
 
+    /// Flushes the writer itself.
+    ///
+    /// # Errors
+    ///
+    /// The error of the writer itself. It is remembered.
     fn flush(&mut self) -> io::Result<()>
         ensures bytes { Keeps (W.contents (inner_of self.old)) (W.contents (inner_of self.new)) }
         ensures failed { has_failed_of self.new ≡ (has_failed_of self.old || is_err result) }

@@ -16,7 +16,9 @@ use Rattle.nntp_wire.specs.Lines.{HasNoCrlf}
 use Rattle.nntp_wire.specs.Block.{sent, dot_line}
 use Rattle.nntp_wire.specs.declared.water_marks.WaterMarks.{WaterMarks}
 use Rattle.nntp_wire.specs.Argument.{HasArticle, HasGroup}
-use Rattle.nntp_wire.specs.Answer.{Asked, Response, group_is, numbers_are, sends, SaysGroup, SaysNumbers, SaysArticle, SaysByLines, SaysActive, SaysCapabilities, SaysCode, Says, Spells, has_code, status_of, kind_of, is_block_due, block_octets, IsCleanBlock}
+use Rattle.nntp_wire.specs.Answer.{Asked, Response, group_is, numbers_are, sends, SaysGroup, SaysNumbers, SaysArticle}
+use Rattle.nntp_wire.specs.Answer.{SaysByLines, SaysActive, SaysCapabilities, SaysCode, Says, Spells, has_code, status_of}
+use Rattle.nntp_wire.specs.Answer.{kind_of, is_block_due, block_octets, IsCleanBlock}
 use Rattle.nntp_wire.specs.AnswerView.{Answers, Reads, IsBlock, SendsBlock}
 use Rattle.nntp_wire.specs.Frame.{frame_octets, framed, IsBeforeDotLine}
 
@@ -66,7 +68,9 @@ reads-from (Some answer) asked line bytes sent code kind block status is_block b
 -- a frame spells what its line and its block say
 pub reads-spells : (asked : Asked) (line : List ℕ) (sent : Option (List ℕ)) (r : Response) → Reads asked line sent r → Spells asked r (frame_octets line sent)
 reads-spells asked line sent r reads = at sent reads.block reads.is_block.sends reads.is_block.due reads.says where
-  at : (sent : Option (List ℕ)) (block : Option (List (List ℕ))) → SendsBlock sent block → is_some block ≡ is_block_due asked reads.code → Says (kind_of asked reads.code) reads.code (drop 3 line) block r → Spells asked r (frame_octets line sent)
+  at : (sent : Option (List ℕ)) (block : Option (List (List ℕ))) → SendsBlock sent block
+      → is_some block ≡ is_block_due asked reads.code → Says (kind_of asked reads.code) reads.code (drop 3 line) block r
+      → Spells asked r (frame_octets line sent)
   at None None p due says = record { line = line; code = reads.code; block = None; whole = refl; status = reads.status; due = due; clean = tt; says = says }
   at None (Some ls) p due says = absurd p
   at (Some x) None p due says = absurd p
@@ -93,7 +97,9 @@ spells-reads asked line sent r is_line up s =
 
 -- octets and a block say a response in one of six ways
 pub says-ways : (kind : Kind) (code : ℕ) (bytes : List ℕ) (block : Option (List (List ℕ))) (r : Response) → Says kind code bytes block r
-    → SaysGroup bytes r ⊎ (SaysByLines (SaysNumbers bytes) block r ⊎ (SaysArticle code bytes block r ⊎ (SaysByLines SaysActive block r ⊎ (SaysByLines (SaysCapabilities code) block r ⊎ SaysCode code r))))
+    → SaysGroup bytes r ⊎ (SaysByLines (SaysNumbers bytes) block r
+    ⊎ (SaysArticle code bytes block r ⊎ (SaysByLines SaysActive block r
+    ⊎ (SaysByLines (SaysCapabilities code) block r ⊎ SaysCode code r))))
 says-ways Group code bytes block r s = inl s
 says-ways Numbers code bytes block r s = inr (inl s)
 says-ways Sent code bytes block r s = inr (inr (inl s))

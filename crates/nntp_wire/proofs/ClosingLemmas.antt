@@ -95,7 +95,8 @@ says-active code bytes (Some lines) (sends success) none = absurd none
 says-active code bytes (Some lines) (active_are listed) says = refl
 
 -- capabilities are said by their code alone
-capabilities-code : (code : ℕ) (bytes : List ℕ) (block : Option (List (List ℕ))) (response : Response) (test : Bool) → Says (cond test Capabilities Plain) code bytes block response → response ≡ plain code
+capabilities-code : (code : ℕ) (bytes : List ℕ) (block : Option (List (List ℕ))) (response : Response) (test : Bool)
+    → Says (cond test Capabilities Plain) code bytes block response → response ≡ plain code
 capabilities-code code bytes block response false says = plain-code code bytes block response says
 capabilities-code code bytes None response true none = absurd none
 capabilities-code code bytes (Some lines) response true says = plain-code code bytes None response says.1
@@ -108,14 +109,20 @@ said-quiet (to opaque) code bytes block response says = inl (plain-code code byt
 said-quiet (to ill_formed) code bytes block response says = inl (plain-code code bytes block response says)
 said-quiet (to capabilities) code bytes block response says = inl (capabilities-code code bytes block response (code == 101) says)
 said-quiet (to (group name)) code bytes block response says = by-code Group 211 code bytes block response (code == 211) refl (omega arith) (omega arith) (says-group code bytes block response) says
-said-quiet (to (list_group name range)) code bytes block response says = by-code Numbers 211 code bytes block response (code == 211) refl (omega arith) (omega arith) (says-numbers code bytes block response) says
-said-quiet (to (list_active wildmat)) code bytes block response says = by-code Active 215 code bytes block response (code == 215) refl (omega arith) (omega arith) (says-active code bytes block response) says
+said-quiet (to (list_group name range)) code bytes block response says = by-code Numbers 211 code bytes block response
+    (code == 211) refl (omega arith) (omega arith) (says-numbers code bytes block response) says
+said-quiet (to (list_active wildmat)) code bytes block response says = by-code Active 215 code bytes block response
+    (code == 215) refl (omega arith) (omega arith) (says-active code bytes block response) says
 said-quiet (to next) code bytes block response says = by-code Sent 223 code bytes block response (code == 223) refl (omega arith) (omega arith) (says-sent code bytes block response) says
 said-quiet (to last) code bytes block response says = by-code Sent 223 code bytes block response (code == 223) refl (omega arith) (omega arith) (says-sent code bytes block response) says
-said-quiet (to (retrieve Article target)) code bytes block response says = by-code Sent 220 code bytes block response (code == 220) refl (omega arith) (omega arith) (says-sent code bytes block response) says
-said-quiet (to (retrieve Head target)) code bytes block response says = by-code Sent 221 code bytes block response (code == 221) refl (omega arith) (omega arith) (says-sent code bytes block response) says
-said-quiet (to (retrieve Body target)) code bytes block response says = by-code Sent 222 code bytes block response (code == 222) refl (omega arith) (omega arith) (says-sent code bytes block response) says
-said-quiet (to (retrieve Stat target)) code bytes block response says = by-code Sent 223 code bytes block response (code == 223) refl (omega arith) (omega arith) (says-sent code bytes block response) says
+said-quiet (to (retrieve Article target)) code bytes block response says = by-code Sent 220 code bytes block response
+    (code == 220) refl (omega arith) (omega arith) (says-sent code bytes block response) says
+said-quiet (to (retrieve Head target)) code bytes block response says = by-code Sent 221 code bytes block response
+    (code == 221) refl (omega arith) (omega arith) (says-sent code bytes block response) says
+said-quiet (to (retrieve Body target)) code bytes block response says = by-code Sent 222 code bytes block response
+    (code == 222) refl (omega arith) (omega arith) (says-sent code bytes block response) says
+said-quiet (to (retrieve Stat target)) code bytes block response says = by-code Sent 223 code bytes block response
+    (code == 223) refl (omega arith) (omega arith) (says-sent code bytes block response) says
 
 -- so the code closes where the response does
 quiet-closes : (asked : Asked) (code : ℕ) (response : Response) → IsQuiet code response → closes asked (plain code) ≡ closes asked response

@@ -3,7 +3,7 @@ use Rattle.std.proofs.Common.{◌≡◌, ◌↔◌, ℕ, ◌<◌, ◌≤◌, Boo
 use Rattle.std.specs.Prelude.{nat_le, nat_lt}
 use Rattle.std.specs.List.{list_all, list_any, AllByRecursion}
 use Rattle.std.specs.Str.{chars, is_utf8, encode_utf8_all}
-use Rattle.std.proofs.lemmas.Bool.{and_parts, and_from, or_cases, or_left, or_right, cases_Bool, leb-true, le-leb, lt-ltb, ltb-true, eqb-true, true≢false}
+use Rattle.std.proofs.lemmas.Bool.{and_parts, and_from, or_cases, or_left, or_right, cases_Bool, leb-true, le-leb, lt-ltb, ltb-true, eqb-true, true≢false, not-true}
 use Rattle.std.proofs.lemmas.Bool.Decides.{nat_tests}
 use Rattle.std.proofs.lemmas.Str.{IsUtf8-from_is_utf8, is_utf8-from_IsUtf8, chars-encodes, chars-nil}
 use Rattle.std.proofs.lemmas.List.Elements.{recursion_from_All, All-from_recursion}
@@ -64,9 +64,12 @@ message_id-iff id = (sound id, complete id)
         subst (λ id. is_message_id id ≡ true) (sym whole)
         (let size = length-append inside (62 ∷ []) in
         let few : length (60 ∷ (inside ++ 62 ∷ [])) ≤ 250 = subst (λ id. length id ≤ 250) whole short in
-        and_from (nat_le 3 (length (60 ∷ (inside ++ 62 ∷ []))) && nat_le (length (60 ∷ (inside ++ 62 ∷ []))) 250 && list_all is_id_octet (60 ∷ (inside ++ 62 ∷ []))) (begins_id (60 ∷ (inside ++ 62 ∷ [])))
+        and_from (nat_le 3 (length (60 ∷ (inside ++ 62 ∷ []))) && nat_le (length (60 ∷ (inside ++ 62 ∷ []))) 250
+        && list_all is_id_octet (60 ∷ (inside ++ 62 ∷ []))) (begins_id (60 ∷ (inside ++ 62 ∷ [])))
         (and_from (nat_le 3 (length (60 ∷ (inside ++ 62 ∷ []))) && nat_le (length (60 ∷ (inside ++ 62 ∷ []))) 250) (list_all is_id_octet (60 ∷ (inside ++ 62 ∷ [])))
-        (and_from (nat_le 3 (length (60 ∷ (inside ++ 62 ∷ [])))) (nat_le (length (60 ∷ (inside ++ 62 ∷ []))) 250) (le-leb 3 (length (60 ∷ (inside ++ 62 ∷ []))) (omega (arith, some, size))) (le-leb (length (60 ∷ (inside ++ 62 ∷ []))) 250 few))
+        (and_from (nat_le 3 (length (60 ∷ (inside ++ 62 ∷ [])))) (nat_le (length (60 ∷ (inside ++ 62 ∷ []))) 250)
+        (le-leb 3 (length (60 ∷ (inside ++ 62 ∷ []))) (omega (arith, some, size)))
+        (le-leb (length (60 ∷ (inside ++ 62 ∷ []))) 250 few))
         ends.1)
         ends.0)
 
@@ -156,10 +159,6 @@ match_none (p ∷ ps) text h = elim (cases_Bool (matches_pattern p text)) [
   | inr f ↦ ap (λ b. not (b || list_any (λ other. matches_pattern other text) ps)) f ∙ match_none ps text h.1
 ]
 
-not_false : (b : Bool) → not b ≡ true → b ≡ false
-not_false true h = cc
-not_false false h = refl
-
 chosen : (patterns : List (List ℕ)) (text : List ℕ) → is_chosen patterns text ≡ true → IsChosen patterns text
 chosen [] text h = cc
 chosen (p ∷ ps) text h = elim (or_cases (is_chosen ps text) (matches_pattern p text && not (is_negated p) && not (list_any (λ other. matches_pattern other text) ps)) h) [
@@ -169,10 +168,11 @@ chosen (p ∷ ps) text h = elim (or_cases (is_chosen ps text) (matches_pattern p
   | inr here ↦
       let a = and_parts (matches_pattern p text && not (is_negated p)) (not (list_any (λ other. matches_pattern other text) ps)) here in
       let b = and_parts (matches_pattern p text) (not (is_negated p)) a.0 in
-      record { before = []; last = p; after = ps; whole = refl; matches = pattern_matches p text b.0; plain = not_false (is_negated p) b.1; others = none_match ps text a.1 }
+      record { before = []; last = p; after = ps; whole = refl; matches = pattern_matches p text b.0; plain = not-true (is_negated p) b.1; others = none_match ps text a.1 }
 ]
 
-choose : (before : List (List ℕ)) (last : List ℕ) (after : List (List ℕ)) (text : List ℕ) → MatchesPattern last text → is_negated last ≡ false → AllByRecursion (λ pattern. ¬ (MatchesPattern pattern text)) after
+choose : (before : List (List ℕ)) (last : List ℕ) (after : List (List ℕ)) (text : List ℕ) → MatchesPattern last text
+    → is_negated last ≡ false → AllByRecursion (λ pattern. ¬ (MatchesPattern pattern text)) after
     → is_chosen (before ++ last ∷ after) text ≡ true
 choose [] last after text m plain others =
     or_right (is_chosen after text) (matches_pattern last text && not (is_negated last) && not (list_any (λ other. matches_pattern other text) after))

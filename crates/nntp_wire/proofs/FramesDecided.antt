@@ -82,7 +82,8 @@ dec_frame asked stream = by (lines_of_stream stream) refl (stream-split stream).
     rest : List ℕ
     rest = (stream-split stream).0
 
-    by : (lines : List (List ℕ)) → lines_of_stream stream ≡ lines → AllByRecursion HasNoCrlf (lines_of_stream stream) → stream ≡ ended (lines_of_stream stream) ++ rest → Dec (BeginsWithFrame asked stream)
+    by : (lines : List (List ℕ)) → lines_of_stream stream ≡ lines → AllByRecursion HasNoCrlf (lines_of_stream stream)
+        → stream ≡ ended (lines_of_stream stream) ++ rest → Dec (BeginsWithFrame asked stream)
     by [] are each whole = inr (λ h. (let e = sym are ∙ frame-first asked stream h.0 h.2 h.1 h.3 in cc))
     by (line ∷ lines) are each whole = at (cases_Bool (is_due_by asked (code_of line)))
       where
@@ -122,4 +123,14 @@ dec_frame asked stream = by (lines_of_stream stream) refl (stream-split stream).
 
         at : (is_due_by asked (code_of line) ≡ true) ⊎ (is_due_by asked (code_of line) ≡ false) → Dec (BeginsWithFrame asked stream)
         at (inl is) = with_block is (find_dot lines good.1)
-        at (inr not_due) = inl (line, None, ended lines ++ rest, record { whole = parts ∙ ap (λ t. t ++ (ended lines ++ rest)) (sym (append-nil (line ++ crlf))); is_line = good.0; due = sym not_due; before_dot_line = tt })
+        at (inr not_due) = inl (
+          line,
+          None,
+          ended lines ++ rest,
+          record {
+            whole = parts ∙ ap (λ t. t ++ (ended lines ++ rest)) (sym (append-nil (line ++ crlf)));
+            is_line = good.0;
+            due = sym not_due;
+            before_dot_line = tt;
+          },
+        )

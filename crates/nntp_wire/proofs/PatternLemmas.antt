@@ -1,11 +1,10 @@
 -- Items against characters, from one `*` to the next.
 use Rattle.std.proofs.Common.{◌≡◌, ◌≢◌, ◌↔◌, ℕ, ◌<◌, List, [], ◌∷◌, ◌++◌, length, Bor, refl, sym, ◌∙◌, ap, arith, true, false, Bool, ◌⊎◌, inl, inr, ⊎_elim, map, length-append}
 use Rattle.std.specs.Prelude.{◌==◌, if◌then◌else◌}
-use Rattle.std.proofs.lemmas.Bool.{cases_eq}
+use Rattle.std.proofs.lemmas.Bool.{cases_eq, and_parts}
 use Rattle.std.proofs.lemmas.Bool.Decides.{nat_tests}
 use Rattle.std.specs.Char.{IsScalar, encode_utf8}
 use Rattle.std.specs.Str.{encode_utf8_all}
-use Rattle.nntp_wire.proofs.BoolLemmas.{and_parts}
 use Rattle.nntp_wire.specs.Name.{IsUtf8Of}
 use Rattle.nntp_wire.specs.Pattern.{Fits, Takes}
 use Rattle.nntp_wire.specs.declared.pattern.Step.TheVariants.{Star, One, Fails}

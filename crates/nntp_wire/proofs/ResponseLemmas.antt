@@ -3,7 +3,9 @@ use Rattle.std.proofs.Common.{◌≡◌, ℕ, List, [], ◌∷◌, drop, refl, s
 use Rattle.std.proofs.lemmas.Bool.{false≢true}
 use Rattle.std.specs.Prelude.{is_some}
 use Rattle.nntp_wire.specs.Block.{stuffed, unstuffed}
-use Rattle.nntp_wire.specs.Answer.{Asked, Success, Response, group_is, numbers_are, sends, active_are, plain, Spells, Says, SaysGroup, SaysNumbers, SaysArticle, SaysActive, SaysCode, kind_of, status_of, is_block_due, block_octets, IsCleanBlock}
+use Rattle.nntp_wire.specs.Answer.{Asked, Success, Response, group_is, numbers_are, sends, active_are, plain, Spells, Says}
+use Rattle.nntp_wire.specs.Answer.{SaysGroup, SaysNumbers, SaysArticle, SaysActive, SaysCode, kind_of, status_of, is_block_due}
+use Rattle.nntp_wire.specs.Answer.{block_octets, IsCleanBlock}
 use Rattle.nntp_wire.specs.declared.kind.Kind.{Kind}
 use Rattle.nntp_wire.specs.declared.kind.Kind.TheVariants.{Group, Numbers, Sent, Active, Capabilities, Plain}
 use Rattle.nntp_wire.proofs.ArgumentLemmas.{one-article, one-group}
@@ -76,7 +78,9 @@ one-sent (Some ls) (Some ms) same p q e =
 -- octets spell one response
 pub one-response : (asked : Asked) (response other : Response) (bytes : List ℕ) → Spells asked response bytes → Spells asked other bytes → response ≡ other
 one-response asked response other bytes s t =
-    let first = one_line s.line t.line (block_octets s.block) (block_octets t.block) (clean-line s.line (status-clean asked s.line s.code s.status)) (clean-line t.line (status-clean asked t.line t.code t.status)) (sym s.whole ∙ t.whole) in
+    let first = one_line s.line t.line (block_octets s.block) (block_octets t.block)
+    (clean-line s.line (status-clean asked s.line s.code s.status))
+    (clean-line t.line (status-clean asked t.line t.code t.status)) (sym s.whole ∙ t.whole) in
     let codes_are : Some s.code ≡ Some t.code = sym s.status ∙ ap (status_of asked) first.0 ∙ t.status in
     let code : s.code ≡ t.code = cc in
     let block : s.block ≡ t.block = one-sent s.block t.block (s.due ∙ ap (is_block_due asked) code ∙ sym t.due) s.clean t.clean first.1 in

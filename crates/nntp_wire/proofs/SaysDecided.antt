@@ -85,7 +85,21 @@ dec_group bytes = elim (dec_number bytes) [
     | inl (l, third, low) ↦ elim (dec_number third) [
       | inl (h, fourth, high) ↦ elim (dec_argument fourth) [
         | inl (name, comment, begins) ↦ elim (dec_name name) [
-          | inl is ↦ inl (record { estimate = e; low = l; high = h }, name, record { second = second; third = third; fourth = fourth; comment = comment; estimate_first = first; low_second = low; high_third = high; name_fourth = begins; is_name = is })
+          | inl is ↦ inl (
+            record { estimate = e; low = l; high = h },
+            name,
+            record {
+              second = second;
+              third = third;
+              fourth = fourth;
+              comment = comment;
+              estimate_first = first;
+              low_second = low;
+              high_third = high;
+              name_fourth = begins;
+              is_name = is;
+            },
+          )
           | inr other ↦ inr (λ g. no-name bytes e second first l third low h fourth high name comment begins other g.0 g.1 g.2)
         ]
         | inr none ↦ inr (λ g. no-fourth bytes e second first l third low h fourth high (λ w t p. none (w, t, p)) g.0 g.1 g.2)

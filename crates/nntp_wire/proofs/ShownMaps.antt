@@ -8,7 +8,9 @@ use Rattle.std.proofs.lemmas.Bool.{true≢false}
 use Rattle.std.specs.Prelude.{◌&&◌}
 use Rattle.std.specs.List.{AllByRecursion, list_all}
 use Rattle.std.specs.List.Sorted.{IsStrictlySortedBy}
-use Rattle.std.specs.FinMap.{FinMap, get, insert, entries, len, find, put, is_sorted, from_entries, from_sorted, IsAntisymmetric, same_map, get-from_entries, get-from_sorted, entries-from_sorted, len-entries, get-insert}
+use Rattle.std.specs.FinMap.{FinMap, get, insert, entries, len, find, put, is_sorted, from_entries, from_sorted}
+use Rattle.std.specs.FinMap.{IsAntisymmetric, same_map, get-from_entries, get-from_sorted, entries-from_sorted, len-entries}
+use Rattle.std.specs.FinMap.{get-insert}
 use Rattle.std.specs.FinMap.Entries.{find-put, below_all, by_order}
 use Rattle.std.proofs.lemmas.List.{length-map}
 use Rattle.std.specs.Map.{lookup, keys_of, set_value}
@@ -47,7 +49,10 @@ module _ {L V K X : Type 0} (R : K → K → Ordering) (key : L → K) (value : 
   pub shown-insert_entry : (es : List (L × V)) (k : L) (v : V) → map shown_entry (insert_entry (λ a b. R (key a) (key b)) es k v) ≡ put R (key k) (value v) (map shown_entry es)
   shown-insert_entry [] k v = refl
   shown-insert_entry (e ∷ es) k v =
-      elim (R (key k) (key e.0)) as (λ r. map shown_entry (match_ordering r ((k, v) ∷ e ∷ es) ((e.0, v) ∷ es) (e ∷ insert_entry (λ a b. R (key a) (key b)) es k v)) ≡ by_order r ((key k, value v) ∷ shown_entry e ∷ map shown_entry es) ((key e.0, value v) ∷ map shown_entry es) (shown_entry e ∷ put R (key k) (value v) (map shown_entry es))) [
+      elim (R (key k) (key e.0)) as (λ r. map shown_entry
+      (match_ordering r ((k, v) ∷ e ∷ es) ((e.0, v) ∷ es) (e ∷ insert_entry (λ a b. R (key a) (key b)) es k v)) ≡ by_order r
+      ((key k, value v) ∷ shown_entry e ∷ map shown_entry es) ((key e.0, value v) ∷ map shown_entry es)
+      (shown_entry e ∷ put R (key k) (value v) (map shown_entry es))) [
         | Less ↦ refl
         | Equal ↦ refl
         | Greater ↦ ap (λ t. shown_entry e ∷ t) (shown-insert_entry es k v)
@@ -107,8 +112,12 @@ module _ {L V K X : Type 0} (R : K → K → Ordering) (key : L → K) (value : 
   find-set_value k q w [] had = cc
   find-set_value k q w (e ∷ es) had =
       elim (is_eq (R k (key e.0))) as (λ b. is_eq (R k (key e.0)) ≡ b → IsSome (cond b (Some e.1) (lookup (λ l. is_eq (R k (key l))) es))
-      → find R q (map (shown_entry R key value) (cond b ((e.0, w) ∷ es) (e ∷ set_value (λ l. is_eq (R k (key l))) es w))) ≡ cond (eq_by_cmp R q k) (Some (value w)) (cond (eq_by_cmp R q (key e.0)) (Some (value e.1)) (find R q (map (shown_entry R key value) es)))) [
-        | true ↦ λ t had. subst (λ x. cond (eq_by_cmp R q (key e.0)) (Some (value w)) (find R q (map (shown_entry R key value) es)) ≡ cond (eq_by_cmp R q x) (Some (value w)) (cond (eq_by_cmp R q (key e.0)) (Some (value e.1)) (find R q (map (shown_entry R key value) es))))
+      → find R q (map (shown_entry R key value) (cond b ((e.0, w) ∷ es) (e ∷ set_value (λ l. is_eq (R k (key l))) es w))) ≡ cond
+      (eq_by_cmp R q k) (Some (value w)) (cond (eq_by_cmp R q (key e.0)) (Some (value e.1))
+      (find R q (map (shown_entry R key value) es)))) [
+        | true ↦ λ t had. subst (λ x. cond (eq_by_cmp R q (key e.0)) (Some (value w))
+            (find R q (map (shown_entry R key value) es)) ≡ cond (eq_by_cmp R q x) (Some (value w))
+            (cond (eq_by_cmp R q (key e.0)) (Some (value e.1)) (find R q (map (shown_entry R key value) es))))
             (sym (same k (key e.0) (equal_is _ t))) (test_again (eq_by_cmp R q (key e.0)) (Some (value w)) (Some (value e.1)) _)
         | false ↦ λ t had. ap (cond (eq_by_cmp R q (key e.0)) (Some (value e.1))) (find-set_value k q w es had)
             ∙ swap_tests (eq_by_cmp R q (key e.0)) (eq_by_cmp R q k) _ _ _ (λ a b.
@@ -117,12 +126,14 @@ module _ {L V K X : Type 0} (R : K → K → Ordering) (key : L → K) (value : 
             true≢false (sym (tied_itself_true o k (key e.0) (sym at_k ∙ at_key)) ∙ t))
       ] refl had
 
-  pub set-shown : (es fs : List (L × V)) (k : K) (w : V) → fs ≡ set_value (λ l. is_eq (R k (key l))) es w → IsSome (lookup (λ l. is_eq (R k (key l))) es) → shown R key value fs ≡ insert (shown R key value es) k (value w)
+  pub set-shown : (es fs : List (L × V)) (k : K) (w : V) → fs ≡ set_value (λ l. is_eq (R k (key l))) es w
+      → IsSome (lookup (λ l. is_eq (R k (key l))) es) → shown R key value fs ≡ insert (shown R key value es) k (value w)
   set-shown es fs k w e had = same_map o same _ _ (λ q.
       get-from_entries o _ q ∙ ap (λ es. find R q (map (shown_entry R key value) es)) e ∙ find-set_value k q w es had
       ∙ sym (get-insert o _ k (value w) q ∙ ap (cond (eq_by_cmp R q k) (Some (value w))) (get-from_entries o _ q)))
 
-  pub replaced : (es fs : List (L × V)) (m : FinMap R X) (k : K) (old new : V) → shown R key value es ≡ m → Some old ≡ lookup (λ l. is_eq (R k (key l))) es → fs ≡ set_value (λ l. is_eq (R k (key l))) es new
+  pub replaced : (es fs : List (L × V)) (m : FinMap R X) (k : K) (old new : V) → shown R key value es ≡ m
+      → Some old ≡ lookup (λ l. is_eq (R k (key l))) es → fs ≡ set_value (λ l. is_eq (R k (key l))) es new
       → (shown R key value fs ≡ insert m k (value new)) × (get m k ≡ Some (value old))
   replaced es fs m k old new is had e = (
     set-shown es fs k new e (ap is_some (sym had)) ∙ ap (λ m. insert m k (value new)) is,

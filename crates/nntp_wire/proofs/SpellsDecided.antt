@@ -1,5 +1,6 @@
 -- Whether octets begin with a spelling of some response can be decided.
-use Rattle.std.proofs.Common.{◌≡◌, ℕ, zero, suc, ◌+◌, ◌≤◌, ◌≢◌, true, false, cond, not, List, [], ◌∷◌, ◌++◌, length, map, drop, Option, None, Some, ◌⊎◌, inl, inr, refl, sym, ap, subst, ◌∙◌, arith, append_assoc, length-append}
+use Rattle.std.proofs.Common.{◌≡◌, ℕ, zero, suc, ◌+◌, ◌≤◌, ◌≢◌, true, false, cond, not, List, [], ◌∷◌, ◌++◌, length, map, drop}
+use Rattle.std.proofs.Common.{Option, None, Some, ◌⊎◌, inl, inr, refl, sym, ap, subst, ◌∙◌, arith, append_assoc, length-append}
 use Rattle.std.specs.Prelude.{is_some}
 use Rattle.std.proofs.lemmas.List.{append-nil}
 use Rattle.std.proofs.lemmas.Bool.{and_from, and_parts, cases_Bool, cases_eq, true≢false, false≢true, ne_eqb, eq-eqb}
@@ -100,7 +101,9 @@ dec_unstuffed (b ∷ bs) = elim (cases_eq b dot) [
 unstuffed-clean : (l : List ℕ) → is_clean (stuffed l) ≡ true → is_clean l ≡ true
 unstuffed-clean [] h = refl
 unstuffed-clean (b ∷ bs) h = elim (cases_eq b dot) [
-  | inl is ↦ (let e : is_clean (dot ∷ b ∷ bs) ≡ true = ap is_clean (sym (ap (λ t. cond t (dot ∷ b ∷ bs) (b ∷ bs)) (eq-eqb b dot is))) ∙ h in (and_parts (not (is_line_breaking dot)) (is_clean (b ∷ bs)) e).1)
+  | inl is ↦ (let e : is_clean (dot ∷ b ∷ bs) ≡ true = ap is_clean
+      (sym (ap (λ t. cond t (dot ∷ b ∷ bs) (b ∷ bs)) (eq-eqb b dot is)))
+      ∙ h in (and_parts (not (is_line_breaking dot)) (is_clean (b ∷ bs)) e).1)
   | inr other ↦ ap is_clean (sym (ap (λ t. cond t (dot ∷ b ∷ bs) (b ∷ bs)) (ne_eqb b dot other))) ∙ h
 ]
 
@@ -141,14 +144,18 @@ dec_block (suc n) bytes le = by (dec_line bytes) (dec_block n)
         -- a line of this block is the first line
         first : (l : List ℕ) (ls : List (List ℕ)) (left : List ℕ) → BeginsWithBlock bytes (l ∷ ls) left → (stuffed l ≡ line) × (rest ≡ (sent ls ++ dot_line) ++ left)
         first l ls left h =
-            let same = one_line (stuffed l) line ((sent ls ++ dot_line) ++ left) rest (clean-line (stuffed l) (stuffed-clean l h.0.0)) (clean-line line clean) (sym (h.1 ∙ block-cons l ls left) ∙ whole) in
+            let same = one_line (stuffed l) line ((sent ls ++ dot_line) ++ left) rest
+            (clean-line (stuffed l) (stuffed-clean l h.0.0)) (clean-line line clean)
+            (sym (h.1 ∙ block-cons l ls left) ∙ whole) in
             (same.0, sym same.1)
 
         -- where there is none, the first line is a dot
         last_line : (left : List ℕ) → BeginsWithBlock bytes [] left → line ≡ dot ∷ []
         last_line left h = (one_line line (dot ∷ []) rest left (clean-line line clean) (clean-line (dot ∷ []) refl) (sym whole ∙ h.1)).0
 
-        goes_on : (line ≢ dot ∷ []) → (l : List ℕ) → stuffed l ≡ line → Dec ((lines : List (List ℕ)) × (left : List ℕ) × BeginsWithBlock rest lines left) → Dec ((lines : List (List ℕ)) × (left : List ℕ) × BeginsWithBlock bytes lines left)
+        goes_on : (line ≢ dot ∷ []) → (l : List ℕ) → stuffed l ≡ line
+            → Dec ((lines : List (List ℕ)) × (left : List ℕ) × BeginsWithBlock rest lines left)
+            → Dec ((lines : List (List ℕ)) × (left : List ℕ) × BeginsWithBlock bytes lines left)
         goes_on other l is (inl (ls, left, (cleans, e))) =
             inl (
               l ∷ ls,
@@ -235,7 +242,8 @@ module _ (asked : Asked) (octets line rest : List ℕ) (clean : is_clean line �
             none (r, subst (λ block. Says (kind_of asked code) code (drop 3 line) block r) gone (the_saying b more r s e))
 
     -- the block of a spelling, where one is due
-    the_block : is_block_due asked code ≡ true → (b more : List ℕ) (r : Response) (s : Spells asked r b) → octets ≡ b ++ more → (lines : List (List ℕ)) × (s.block ≡ Some lines) × BeginsWithBlock rest lines more
+    the_block : is_block_due asked code ≡ true → (b more : List ℕ) (r : Response) (s : Spells asked r b) → octets ≡ b ++ more
+        → (lines : List (List ℕ)) × (s.block ≡ Some lines) × BeginsWithBlock rest lines more
     the_block is_due b more r s e = at s.block refl s.clean (s.due ∙ ap (is_block_due asked) (the_code b more r s e) ∙ is_due)
       where
         at : (block : Option (List (List ℕ))) → s.block ≡ block → IsCleanBlock block → is_some block ≡ true → (lines : List (List ℕ)) × (s.block ≡ Some lines) × BeginsWithBlock rest lines more

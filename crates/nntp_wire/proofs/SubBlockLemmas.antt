@@ -81,7 +81,9 @@ clean-take (suc k) [] h = tt
 clean-take (suc k) (x ∷ xs) h = (h.0, clean-take k xs h.1)
 
 -- the octets in front of that place
-pub front_sends : (count : ℕ) (bytes rest front : List ℕ) → AreClean (received bytes) → bytes ≡ sent (take count (received bytes)) ++ rest → front ≡ take (length bytes - length rest) bytes → Sends front (take count (received bytes))
+pub front_sends : (count : ℕ) (bytes rest front : List ℕ) → AreClean (received bytes)
+    → bytes ≡ sent (take count (received bytes)) ++ rest → front ≡ take (length bytes - length rest) bytes
+    → Sends front (take count (received bytes))
 front_sends count bytes rest front clean whole is =
     let lines = take count (received bytes) in
     let n = length bytes - length rest in
@@ -89,7 +91,9 @@ front_sends count bytes rest front clean whole is =
     record { clean = clean-take count (received bytes) clean; whole = is ∙ at }
 
 -- the octets behind it
-pub back_sends : (count : ℕ) (bytes rest back : List ℕ) → bytes ≡ sent (take count (received bytes)) ++ rest → Sends rest (drop count (received bytes)) → back ≡ drop (length bytes - length rest) bytes → Sends back (drop count (received bytes))
+pub back_sends : (count : ℕ) (bytes rest back : List ℕ) → bytes ≡ sent (take count (received bytes)) ++ rest
+    → Sends rest (drop count (received bytes)) → back ≡ drop (length bytes - length rest) bytes
+    → Sends back (drop count (received bytes))
 back_sends count bytes rest back whole sends is =
     let lines = take count (received bytes) in
     let n = length bytes - length rest in

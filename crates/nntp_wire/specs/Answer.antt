@@ -35,7 +35,7 @@ pub data Response : Type 0 where
   active_are : (lines : List (List ℕ)) → Response
   plain : (code : ℕ) → Response
 
--- three digits, the first of them 1 to 5, and then nothing or a space
+-- the line begins with three digits, the first of them 1 to 5, and then ends or goes on with a space (section 3.2)
 abbrev pub has_code : List ℕ → Bool
 has_code line = nat_le 3 (length line) && list_all is_ascii_digit (take 3 line)
     && is_in_range 49 53 (slice_index line 0) && is_comment (drop 3 line)
@@ -57,7 +57,7 @@ status_of asked line = if is_clean line && is_fitting asked (length line) then c
 abbrev pub block_codes : List ℕ
 block_codes = 100 ∷ 101 ∷ 215 ∷ 220 ∷ 221 ∷ 222 ∷ 224 ∷ 225 ∷ 230 ∷ 231 ∷ []
 
--- the same under a prompt: after LISTGROUP also 211
+-- a block is due after the code under this prompt: after LISTGROUP also after 211 (sections 3.2 and 9.4.3)
 abbrev pub is_block_due : Asked → ℕ → Bool
 is_block_due (to (list_group name range)) code = code == 211 || list_any (λ c. code == c) block_codes
 is_block_due asked code = list_any (λ c. code == c) block_codes
@@ -80,36 +80,36 @@ kind_of (to (list_active wildmat)) code = if code == 215 then Active else Plain
 kind_of (to capabilities) code = if code == 101 then Capabilities else Plain
 kind_of asked code = Plain
 
--- the octets behind the code name a group
+-- the octets behind the code name a group (section 6.1.1)
 abbrev pub SaysGroup : List ℕ → Response → Type 0
 SaysGroup bytes (group_is m name) = HasGroup bytes m name
 SaysGroup bytes response = ⊥
 
--- they name a group, and the lines list numbers
+-- the octets behind the code name a group, and the lines list numbers (section 6.1.2)
 abbrev pub SaysNumbers : List ℕ → List (List ℕ) → Response → Type 0
 SaysNumbers bytes lines (numbers_are m name listed) = HasGroup bytes m name × IsTrue (are_listed_numbers lines) × (listed ≡ lines)
 SaysNumbers bytes lines response = ⊥
 
--- they name an article, of which the block is sent
+-- the octets behind the code name an article, of which the block is sent (section 6.2)
 abbrev pub SaysArticle : ℕ → List ℕ → Option (List (List ℕ)) → Response → Type 0
 SaysArticle code bytes block (sends s) = (s.code ≡ code) × HasArticle bytes s.number s.id × (s.block ≡ block)
 SaysArticle code bytes block response = ⊥
 
--- the lines list groups
+-- the lines list groups (section 7.6.3)
 abbrev pub SaysActive : List (List ℕ) → Response → Type 0
 SaysActive lines (active_are listed) = IsTrue (are_active_lines lines) × (listed ≡ lines)
 SaysActive lines response = ⊥
 
--- no more than the code
+-- the response says no more than the code
 abbrev pub SaysCode : ℕ → Response → Type 0
 SaysCode code (plain c) = c ≡ code
 SaysCode code response = ⊥
 
--- the lines list capabilities
+-- the lines list capabilities (section 5.2)
 abbrev pub SaysCapabilities : ℕ → List (List ℕ) → Response → Type 0
 SaysCapabilities code lines response = IsTrue (begins_with_versions lines) × SaysCode code response
 
--- the lines of a block, which is there, say it
+-- there is a block, and its lines say the response
 abbrev pub SaysByLines : (List (List ℕ) → Response → Type 0) → Option (List (List ℕ)) → Response → Type 0
 SaysByLines P None response = ⊥
 SaysByLines P (Some lines) response = P lines response

@@ -24,7 +24,7 @@ SendsBlock None None = ⊤
 SendsBlock (Some bytes) (Some lines) = Sends bytes lines
 SendsBlock bytes lines = ⊥
 
--- the same, and there are lines exactly if they are due
+-- the octets send these lines, if there are any, and there are lines exactly if they are due
 pub record IsBlock (sent : Option (List ℕ)) (is_due : Bool) (lines : Option (List (List ℕ))) : Type 0 where
   pub sends : SendsBlock sent lines
   pub due : is_some lines ≡ is_due

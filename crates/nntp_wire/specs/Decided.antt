@@ -5,17 +5,17 @@ use Rattle.std.specs.Str.{chars, is_utf8}
 use Rattle.nntp_wire.specs.Name.{is_name_char}
 use Rattle.nntp_wire.specs.Wildmat.{Item, star, question, character, item_of, patterns_of, is_negated, without_negation}
 
--- visible ASCII
+-- the octet is visible ASCII
 abbrev pub is_id_octet : ℕ → Bool
 is_id_octet c = nat_le 33 c && nat_le c 126
 
--- octets other than `>`, and then one `>`
+-- the octets are some that are no `>`, and then one `>`
 abbrev pub ends_id : List ℕ → Bool
 ends_id [] = false
 ends_id (c ∷ []) = c == 62
 ends_id (c ∷ d ∷ cs) = not (c == 62) && ends_id (d ∷ cs)
 
--- `<` first
+-- the octets are `<`, some that are no `>`, and then one `>`
 abbrev pub begins_id : List ℕ → Bool
 begins_id [] = false
 begins_id (c ∷ cs) = c == 60 && ends_id cs

@@ -3,7 +3,7 @@ use Rattle.std.specs.Prelude.{ℕ}
 use Rattle.nntp_wire.specs.declared.limit.Limit.{Limit}
 use Rattle.nntp_wire.specs.declared.limit.Limit.TheVariants.{Narrow, Wide}
 
--- of 31 bits, or of 16 digits
+-- the greatest article number within the limit: of 31 bits (section 6), or of 16 digits (section 9.8)
 abbrev pub greatest : Limit → ℕ
 greatest Narrow = 2147483647
 greatest Wide = 9999999999999999

@@ -8,7 +8,7 @@ use Rattle.nntp_wire.specs.Octets.{line_feed, carriage_return, crlf}
 abbrev pub HasNoCrlf : List ℕ → Type 0
 HasNoCrlf bytes = (k : ℕ) → ¬ (OccursAt bytes crlf k)
 
--- these lines, each followed by CRLF
+-- the octets of these lines, each followed by CRLF
 abbrev pub ended : List (List ℕ) → List ℕ
 ended lines = flat_map (λ line. line ++ crlf) lines
 

@@ -5,7 +5,7 @@ use Rattle.nntp_wire.specs.Wildmat.{Matches, item_of}
 use Rattle.nntp_wire.specs.declared.pattern.Step.{Step}
 use Rattle.nntp_wire.specs.declared.pattern.Step.TheVariants.{Ends, Star, One, Fails}
 
--- `?` or the character itself takes one character
+-- the item, `?` or the character itself, takes this character
 abbrev pub Fits : ℕ → ℕ → Type 0
 Fits item c = (item ≢ 42) × ((item ≡ 63) ⊎ (item ≡ c))
 

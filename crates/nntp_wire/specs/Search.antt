@@ -22,7 +22,7 @@ abbrev pub IsSearched : List ℕ → List ℕ → Search → Type 0
 IsSearched needle stream (Passed n) = IsPassed needle stream n
 IsSearched needle stream (Found n) = IsPassed needle stream n × OccursAt stream needle n
 
--- it has gone through the whole stream
+-- the search for the needle has gone through the whole stream
 abbrev pub IsThrough : List ℕ → List ℕ → Search → Type 0
 IsThrough needle stream (Passed n) = (k : ℕ) → ¬ (OccursAt stream needle k)
 IsThrough needle stream (Found n) = ⊤
@@ -31,7 +31,7 @@ IsThrough needle stream (Found n) = ⊤
 abbrev pub IsLineSearched : List ℕ → LineSearch → Type 0
 IsLineSearched stream search = IsSearched crlf stream search.end
 
--- it has gone through the whole stream
+-- the search for the first line's end has gone through the whole stream
 abbrev pub IsLineThrough : List ℕ → LineSearch → Type 0
 IsLineThrough stream search = IsThrough crlf stream search.end
 
@@ -40,7 +40,7 @@ pub record IsFrameSearched (stream : List ℕ) (search : FrameSearch) : Type 0 w
   pub line : IsLineSearched stream search.line
   pub block : IsSearched end_of_block stream search.block_end
 
--- they have gone through the whole stream: for the block's end where a block is due
+-- both searches have gone through the whole stream, the one for the block's end where a block is due
 pub record IsFrameThrough (stream : List ℕ) (search : FrameSearch) : Type 0 where
   pub line : IsLineThrough stream search.line
   pub block : (asked : Asked) (line rest : List ℕ) → prompt_kind asked ≡ search.kind → HasNoCrlf line → stream ≡ (line ++ crlf) ++ rest

@@ -8,7 +8,7 @@ use Rattle.nntp_wire.specs.Answer.{Asked, greeting, to, Response, plain, Spells}
 abbrev pub prompts_of : List ℕ → List Asked
 prompts_of client = greeting ∷ map (λ line. to (request_of line)) (lines_of_stream client)
 
--- after this answer the server closes the connection
+-- the server closes the connection after this answer (sections 3.2.1, 5.1, 5.3 and 5.4)
 abbrev pub closes : Asked → Response → Bool
 closes greeting (plain code) = code == 400 || code == 502
 closes (to mode_reader) (plain code) = code == 400 || code == 502

@@ -10,21 +10,23 @@ use crate::laws::group_names_are_decided;
 use crate::line::{number, words};
 use std::marker::Model;
 
-/// A line of LIST ACTIVE (RFC 3977, section 7.6.3).
+/// A line of the response to LIST ACTIVE, which reports one group (RFC 3977, section 7.6.3).
 #[derive(Drop)]
 pub struct ActiveLine<'a> {
-    /// The group.
+    /// The name of the group.
     pub name: GroupName<'a>,
-    /// The reported high water mark.
+    /// The reported high water mark, which is the second word of the line.
     pub high: u64,
-    /// The reported low water mark.
+    /// The reported low water mark, which is the third word of the line.
     pub low: u64,
-    /// Whether posting is allowed: any word.
+    /// The octets of the fourth word, which tells whether posting is allowed. It may be any word.
     pub status: &'a [u8],
 }
 
-/// The group of a line of LIST ACTIVE (RFC 3977, section 7.6.3). None: the line is not a name, two
-/// numbers and one word more.
+/// Reads a line of the response to LIST ACTIVE, given without its CRLF (RFC 3977, section 7.6.3).
+///
+/// Returns `None` unless the line has exactly four words: a group name, the high and the low water
+/// mark as numbers of 1 to 16 digits, and the status.
 pub fn active_line(line: &[u8]) -> Option<ActiveLine<'_>>
     ensures { option_map active_value result ≡ active_of line.now }
 {
@@ -45,21 +47,22 @@ pub fn active_line(line: &[u8]) -> Option<ActiveLine<'_>>
     })
 }
 
-/// Whether the line is one of LIST ACTIVE.
+/// Tells whether the line is one of LIST ACTIVE.
 fn is_active_line(line: &[u8]) -> bool
     ensures { result ≡ is_some (active_of line.now) }
 {
     active_line(line).is_some()
 }
 
-/// Whether each line is one of LIST ACTIVE.
+/// Tells whether each line of the block is one of LIST ACTIVE.
 pub(crate) fn are_active_lines(block: &Block<'_>) -> bool
     ensures { result ≡ are_active_lines block.now }
 {
     block.lines().all(|line| is_active_line(line))
 }
 
-/// The groups of the lines that list one, first to last.
+/// An iterator over the groups that the lines of a block report, first to last (RFC 3977,
+/// section 7.6.3). It yields nothing for a line that reports no group.
 #[derive(Drop)]
 pub struct ActiveLines<'a> {
     lines: Lines<'a>,
@@ -75,8 +78,10 @@ impl<'a> Model for ActiveLines<'a> {
 }
 
 impl<'a> Block<'a> {
-    /// The groups that the lines list, first to last. Lines that list none are passed over; the block
-    /// of [`Answer::Active`](crate::Answer::Active) has none of these.
+    /// Returns the groups that the lines report, first to last (RFC 3977, section 7.6.3).
+    ///
+    /// A line that [`active_line`] refuses is passed over. The block of
+    /// [`Answer::Active`](crate::Answer::Active) has no such line.
     pub fn groups(&self) -> ActiveLines<'a>
         ensures listed { result ≡ active_groups self.now }
         ensures short { length result < 2 ^ 64 }

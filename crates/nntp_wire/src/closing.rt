@@ -14,8 +14,10 @@ use crate::response::Frame;
 use crate::status::code;
 
 impl<'a> Answer<'a> {
-    /// Whether the server closes the connection after this answer: after 400, after 205 to QUIT,
-    /// and after 502 as the greeting or to MODE READER.
+    /// Tells whether the server closes the connection after this answer (RFC 3977, sections 3.2.1,
+    /// 5.1, 5.3 and 5.4).
+    ///
+    /// It does after 400, after 205 to QUIT, and after 502 as the greeting or to MODE READER.
     pub fn closes(&self, prompt: &Prompt<'_>) -> bool
         ensures { result ≡ closes (asked prompt.now) (response self.now) }
     {
@@ -27,7 +29,9 @@ impl<'a> Answer<'a> {
 }
 
 impl<'a> Frame<'a> {
-    /// The same of the answer that it spells. It looks at the code alone.
+    /// Tells whether the server closes the connection after the answer that this frame spells,
+    /// where `kind` is the kind of the frame's prompt (RFC 3977, sections 3.2.1, 5.1, 5.3 and 5.4).
+    /// Nothing but the code is looked at.
     pub fn closes(&self, kind: PromptKind) -> bool
         ensures { (asked : Asked) (response : Response) → prompt_kind asked ≡ kind → Spells asked response (frame_octets self.now.initial self.now.block) → result ≡ closes asked response }
     {
@@ -38,7 +42,7 @@ impl<'a> Frame<'a> {
     }
 }
 
-/// The same of an answer that is no more than its code.
+/// Tells whether the server closes the connection after an answer that is no more than its code.
 fn closes_by(kind: PromptKind, code: u64) -> bool
     ensures { (asked : Asked) → prompt_kind asked ≡ kind → result ≡ closes asked (plain code) }
 {

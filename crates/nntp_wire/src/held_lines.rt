@@ -1,4 +1,4 @@
-//! Lines that are held as values of their own, and those of a block.
+//! Lines that are held as values of their own, beside those of a block.
 ghost use Rattle.std.specs.Prelude.{◌≡◌, ◌↔◌, ◌∷◌, IsTrue, IfOk, List, ℕ};
 ghost use Rattle.nntp_wire.specs.Held.{held};
 
@@ -6,7 +6,8 @@ use crate::block::{Block, Lines};
 use std::alloc::{AllocError, Allocator};
 
 impl<'a> Block<'a> {
-    /// Whether the block's lines are these.
+    /// Tells whether the block has exactly these lines, in this order. They are compared octet by
+    /// octet.
     pub fn is_same<A: Allocator>(&self, lines: &[Vec<u8, A>]) -> bool
         ensures { IsTrue result ↔ (self.now ≡ held lines.now) }
     {
@@ -19,7 +20,11 @@ impl<'a> Block<'a> {
         rest.next().is_none()
     }
 
-    /// The lines as values of their own. The memory is taken from `alloc`.
+    /// Copies the lines, first to last, into memory that is taken from `alloc`.
+    ///
+    /// # Errors
+    ///
+    /// [`AllocError`], if memory is refused. What was copied so far is given back.
     pub fn to_vec<A: Allocator + Copy>(&self, alloc: A) -> Result<Vec<Vec<u8, A>, A>, AllocError>
         ensures { IfOk result (λ lines. held lines.items ≡ self.now) }
     {
@@ -32,7 +37,7 @@ impl<'a> Block<'a> {
     }
 }
 
-/// Whether this line is the next one. One line is taken.
+/// Takes one line, and tells whether it is this one.
 fn is_next(lines: &mut Lines<'_>, line: &[u8]) -> bool
     ensures { (rest : List (List ℕ)) → (lines.old ≡ line.now ∷ rest) ↔ (IsTrue result × (rest ≡ lines.new)) }
 {

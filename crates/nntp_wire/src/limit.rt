@@ -1,19 +1,19 @@
-//! The greatest article number.
+//! The limit of article numbers.
 ghost use Rattle.std.specs.Prelude.{◌≡◌};
 ghost use Rattle.nntp_wire.specs.Limit.{greatest};
 
-/// How large article numbers may be.
+/// The limit of article numbers, which says how large they may be (RFC 3977, section 6).
 #[derive(Clone, Copy, Debug, PartialEq, Eq)]
 pub enum Limit {
-    /// They have 31 bits (RFC 3977, section 6): up to 2,147,483,647.
+    /// Article numbers have 31 bits at most, up to 2,147,483,647, as RFC 3977 asks (section 6).
     Narrow,
-    /// They have 16 digits, as many as a number word may have (RFC 3977, section 9.8): up to
-    /// 9,999,999,999,999,999.
+    /// Article numbers have 16 digits at most, up to 9,999,999,999,999,999: as many as a number on
+    /// the wire may have (RFC 3977, section 9.8).
     Wide,
 }
 
 impl Limit {
-    /// The greatest article number.
+    /// Returns the greatest article number within the limit.
     pub fn value(self) -> u64
         ensures { result ≡ greatest self }
     {

@@ -7,8 +7,9 @@ use crate::block::{Block, Lines};
 use crate::line::{number, words};
 use std::marker::Model;
 
-/// The number of a line of LISTGROUP (RFC 3977, section 6.1.2). None: the line is not one word, a
-/// number.
+/// Reads a line of the response to LISTGROUP, given without its CRLF (RFC 3977, section 6.1.2).
+///
+/// Returns `None` unless the line has exactly one word, a number of 1 to 16 digits.
 pub fn listed_number(line: &[u8]) -> Option<u64>
     ensures { result ≡ listed_number_of line.now }
 {
@@ -19,14 +20,15 @@ pub fn listed_number(line: &[u8]) -> Option<u64>
     }
 }
 
-/// Whether each line is a number.
+/// Tells whether each line of the block is a number.
 pub(crate) fn are_listed_numbers(block: &Block<'_>) -> bool
     ensures { result ≡ are_listed_numbers block.now }
 {
     block.lines().all(|line| listed_number(line).is_some())
 }
 
-/// The numbers of the lines that are numbers, first to last.
+/// An iterator over the numbers that the lines of a block list, first to last (RFC 3977,
+/// section 6.1.2). It yields nothing for a line that is no number.
 #[derive(Drop)]
 pub struct ListedNumbers<'a> {
     lines: Lines<'a>,
@@ -42,8 +44,10 @@ impl<'a> Model for ListedNumbers<'a> {
 }
 
 impl<'a> Block<'a> {
-    /// The numbers that the lines list, first to last. Lines that are no number are passed over; the
-    /// block of [`Answer::Numbers`](crate::Answer::Numbers) has none of these.
+    /// Returns the numbers that the lines list, first to last (RFC 3977, section 6.1.2).
+    ///
+    /// A line that [`listed_number`] refuses is passed over. The block of
+    /// [`Answer::Numbers`](crate::Answer::Numbers) has no such line.
     pub fn numbers(&self) -> ListedNumbers<'a>
         ensures listed { result ≡ listed_numbers self.now }
         ensures short { length result < 2 ^ 64 }

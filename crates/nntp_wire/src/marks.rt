@@ -1,10 +1,10 @@
-//! How the water marks of a 211 are read.
+//! The two ways to read the water marks of a 211.
 
-/// How the low and the high water mark of a 211 are read (RFC 3977, section 6.1.1.2).
+/// The way in which the low and the high water mark of a 211 are read (RFC 3977, section 6.1.1.2).
 #[derive(Clone, Copy, Debug, PartialEq, Eq)]
 pub enum Marks {
-    /// They bound the numbers of the group, and needn't be numbers of it.
+    /// The marks bound the numbers of the group, and needn't be numbers of it.
     Lenient,
-    /// Where the group has numbers, they are the least and the greatest of them.
+    /// The marks are the least and the greatest number of the group, if it has any number.
     Strict,
 }

@@ -1,11 +1,11 @@
-//! Message ids (RFC 3977, section 3.6).
+//! Message-ids (RFC 3977, section 3.6).
 ghost use Rattle.std.specs.Prelude.{◌≡◌, ◌↔◌, IsTrue, All};
 ghost use Rattle.std.specs.Option.{SomeIff};
 ghost use Rattle.nntp_wire.specs.Name.{IsMessageId, IsIdOctet};
 
 use std::marker::Model;
 
-/// A message id, with its angle brackets (RFC 3977, section 3.6).
+/// A message-id, which names an article (RFC 3977, section 3.6). Its angle brackets are part of it.
 #[derive(Drop)]
 pub struct MessageId<'a> {
     bytes: &'a [u8],
@@ -23,7 +23,10 @@ impl<'a> Model for MessageId<'a> {
 }
 
 impl<'a> MessageId<'a> {
-    /// The message id that the octets are: 3 to 250 of them, with the brackets. None: they are none.
+    /// Takes the octets as a message-id (RFC 3977, section 3.6).
+    ///
+    /// Returns `None` unless there are 3 to 250 octets of visible ASCII, which begin with `<`, end
+    /// with `>` and have no other `>`.
     pub fn parse(bytes: &'a [u8]) -> Option<MessageId<'a>>
         ensures { SomeIff result (IsMessageId bytes.now) bytes.now }
     {
@@ -41,7 +44,7 @@ impl<'a> MessageId<'a> {
         Some(MessageId { bytes })
     }
 
-    /// Its octets, with the angle brackets.
+    /// Returns the octets of the message-id, with the angle brackets.
     pub fn as_slice(&self) -> &'a [u8]
         ensures value { result.now ≡ self.now }
         ensures is_id { IsMessageId self.now }
@@ -50,7 +53,7 @@ impl<'a> MessageId<'a> {
     }
 }
 
-/// Whether the octets may stand inside a message id.
+/// Tells whether the octets may stand inside a message-id.
 fn are_id_octets(inside: &[u8]) -> bool
     ensures { IsTrue result ↔ All IsIdOctet inside.now }
 {

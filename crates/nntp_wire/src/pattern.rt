@@ -6,19 +6,19 @@ ghost use Rattle.nntp_wire.specs.Pattern.{Takes, IsShorter};
 
 use crate::group_name::first_char;
 
-/// What the first item makes of a text.
+/// The step that the first item makes in a text.
 enum Step<'a> {
-    /// There is no item and no text.
+    /// There is no item and no text left.
     Ends,
-    /// The item is `*`: the items behind it.
+    /// The item is `*`; these are the items behind it.
     Star(&'a [u8]),
-    /// The item takes one character: the items and the text behind it.
+    /// The item takes one character; these are the items and the text behind it.
     One(&'a [u8], &'a [u8]),
     /// The items don't match the text.
     Fails,
 }
 
-/// Whether the items match the whole text.
+/// Tells whether the items match the whole text.
 ///
 /// Where they don't fit, the items behind the last `*` are tried one character further on, and
 /// never those behind an earlier one: what `*` takes may always be longer. So the steps are in the
@@ -55,7 +55,7 @@ pub(crate) fn matches_items(pattern: &[u8], text: &[u8]) -> bool
     }
 }
 
-/// What the first item makes of the text.
+/// Returns the step that the first item makes in the text.
 fn first_step<'a>(items: &'a [u8], text: &'a [u8]) -> Step<'a>
     ensures takes { (ps ts : List ℕ) → IsUtf8Of ps items.now → IsUtf8Of ts text.now → Takes result ps ts }
     ensures shorter { IsShorter result items.now text.now }

@@ -1,27 +1,28 @@
-//! What of a prompt decides how far its response reaches, and whether the server closes the connection.
+//! The kinds of prompts, by which the reach of a response and the end of the connection are told.
 ghost use Rattle.std.specs.Prelude.{◌≡◌};
 ghost use Rattle.nntp_wire.specs.Prompts.{prompt_kind};
 ghost use Rattle.nntp_wire.specs.View.{asked};
 
 use crate::command::{Command, Prompt};
 
-/// What of a prompt decides whether a block is due after a code, and whether the server closes the connection.
+/// The kind of a prompt, which decides together with a code whether a block is due and whether the
+/// server closes the connection.
 #[derive(Clone, Copy, Debug, PartialEq, Eq)]
 pub enum PromptKind {
-    /// The greeting (RFC 3977, section 5.1).
+    /// The server speaks first, with its greeting (RFC 3977, section 5.1).
     Greeting,
-    /// LISTGROUP (section 6.1.2).
+    /// LISTGROUP was asked (RFC 3977, section 6.1.2).
     ListGroup,
-    /// MODE READER (section 5.3).
+    /// MODE READER was asked (RFC 3977, section 5.3).
     ModeReader,
-    /// QUIT (section 5.4).
+    /// QUIT was asked (RFC 3977, section 5.4).
     Quit,
-    /// All others.
+    /// Any other command was asked.
     Other,
 }
 
 impl<'a> Prompt<'a> {
-    /// Its kind.
+    /// Returns the kind of the prompt.
     pub fn kind(&self) -> PromptKind
         ensures { result ≡ prompt_kind (asked self.now) }
     {

@@ -4,25 +4,25 @@ ghost use Rattle.nntp_wire.specs.Search.{IsSearched, IsThrough};
 
 use memchr::memmem;
 
-/// How far the search for some octets, its needle, has come in a stream that grows. No octet that can't begin or end
+/// A search for some octets, its needle, in a stream that grows. No octet that can't begin or end
 /// the needle any more is looked at again.
 #[derive(Clone, Copy, Debug, PartialEq, Eq)]
 pub(crate) enum Search {
-    /// It begins at none of so many octets at the front of the stream, whatever follows.
+    /// The needle begins at none of so many octets at the front of the stream, whatever follows.
     Passed(usize),
-    /// It begins behind so many octets, and nowhere before.
+    /// The needle begins behind so many octets, and nowhere before.
     Found(usize),
 }
 
 impl Search {
-    /// A search that begins.
+    /// Begins a search.
     pub(crate) fn new() -> Search
         ensures { (needle stream : List ℕ) → IsSearched needle stream result }
     {
         Search::Passed(0)
     }
 
-    /// Goes on to the end of the stream, of which it has seen this or a front.
+    /// Goes on with the search, up to the end of the stream, of which it has seen all or a front.
     pub(crate) fn go_on(&mut self, needle: &[u8], stream: &[u8])
         requires some { 0 < length needle.now }
         requires searched { IsSearched needle.now stream.now self.old }

@@ -6,8 +6,8 @@ use crate::block::Block;
 use crate::stream::split_first_line;
 
 impl<'a> Block<'a> {
-    /// The block of the first `count` lines, or of all where there are fewer, and the block of
-    /// the lines behind them.
+    /// Splits the block into one of its first `count` lines and one of the lines behind them. The
+    /// first has all lines where there are fewer.
     pub fn split_at_line(&self, count: usize) -> (Block<'a>, Block<'a>)
         ensures front { result.0 ≡ take count self.now }
         ensures back { result.1 ≡ drop count self.now }
@@ -18,7 +18,7 @@ impl<'a> Block<'a> {
         (Block { sent: front }, Block { sent: back })
     }
 
-    /// The same block once more.
+    /// Returns the same block once more. It borrows the same octets, and copies none.
     pub fn copy(&self) -> Block<'a>
         ensures { result ≡ self.now }
     {
@@ -26,7 +26,7 @@ impl<'a> Block<'a> {
     }
 }
 
-/// The octets behind the first lines, or behind all where there are fewer.
+/// Returns the octets behind the first `count` lines, or behind all where there are fewer.
 fn skip_lines(bytes: &[u8], count: usize) -> &[u8]
     requires { IsSent bytes.now }
     ensures front { bytes.now ≡ sent (take count (received bytes.now)) ++ result.now }

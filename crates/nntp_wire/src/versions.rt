@@ -3,10 +3,10 @@ ghost use Rattle.std.specs.Prelude.{◌≡◌};
 ghost use Rattle.nntp_wire.specs.Listing.{begins_with_versions, gives_versions, are_versions, is_version};
 
 use crate::block::Block;
-use crate::line::{are_digits, is_same, words};
+use crate::line::{are_digits, is_same_word, words};
 use crate::word::Words;
 
-/// Whether the first line of a capability list gives versions.
+/// Tells whether the first line of a capability list gives versions.
 pub(crate) fn begins_with_versions(block: &Block<'_>) -> bool
     ensures { result ≡ begins_with_versions block.now }
 {
@@ -16,17 +16,17 @@ pub(crate) fn begins_with_versions(block: &Block<'_>) -> bool
     }
 }
 
-/// Whether the words are VERSION and then versions.
+/// Tells whether the words are VERSION and then versions.
 fn gives_versions(mut words: Words<'_>) -> bool
     ensures { result ≡ gives_versions words.entry }
 {
     match words.next() {
-        Some(keyword) => is_same(keyword, b"VERSION") && are_versions(words),
+        Some(keyword) => is_same_word(keyword, b"VERSION") && are_versions(words),
         None => false,
     }
 }
 
-/// Whether the words are one or more versions.
+/// Tells whether the words are one or more versions.
 fn are_versions(mut words: Words<'_>) -> bool
     ensures { result ≡ are_versions words.entry }
 {
@@ -36,7 +36,7 @@ fn are_versions(mut words: Words<'_>) -> bool
     }
 }
 
-/// Whether the word is digits, the first not 0.
+/// Tells whether the word is digits, the first of them not 0.
 fn is_version(word: &[u8]) -> bool
     ensures { result ≡ is_version word.now }
 {

@@ -7,7 +7,8 @@ ghost use Rattle.nntp_wire.specs.Words.{words_of};
 use memchr::memchr2;
 use std::marker::Model;
 
-/// The words of a line, first to last.
+/// An iterator over the words of a line, first to last (RFC 3977, section 3.1). It yields the
+/// octets of each word.
 #[derive(Drop)]
 pub struct Words<'a> {
     rest: &'a [u8],
@@ -20,6 +21,7 @@ impl<'a> Model for Words<'a> {
 }
 
 impl<'a> Words<'a> {
+    /// Begins with the first word of the line.
     pub(crate) fn new(line: &'a [u8]) -> Words<'a>
         ensures { result ≡ words_of line.now }
     {
@@ -44,7 +46,7 @@ impl<'a> Iterator for Words<'a> {
     }
 }
 
-/// The first word, and the octets behind it.
+/// Returns the first word, and the octets behind it.
 fn split_word(line: &[u8]) -> Option<(&[u8], &[u8])>
     ensures { MatchOption result (words_of line.now ≡ []) (λ p. words_of line.now ≡ p.0.now ∷ words_of p.1.now) }
 {
@@ -56,7 +58,7 @@ fn split_word(line: &[u8]) -> Option<(&[u8], &[u8])>
     Some(rest.split_at(end))
 }
 
-/// The octets from the first on that is no SP and no TAB.
+/// Returns the octets from the first on that is no SP and no TAB.
 fn skip_blanks(line: &[u8]) -> &[u8]
     ensures words { words_of result.now ≡ words_of line.now }
     ensures first { 0 < length result.now → is_blank (slice_index result.now 0) ≡ false }

@@ -1,12 +1,12 @@
 -- The spool that is aimed at: the facts of a session that stand have a witness.
 use Rattle.std.proofs.Common.{List, sym, subst}
-use Rattle.nntp_article.specs.declared.profile.Profile.{Profile}
-use Rattle.nntp_article.specs.Spool.{Spool}
+use Rattle.nntp_article.specs.declared.session.profile.Profile.{Profile}
+use Rattle.nntp_article.specs.Session.Spool.{Spool}
 use Rattle.nntp_pair.specs.Pairing.{Paired, asked_of, responses_of}
 use Rattle.nntp_facts.specs.Noted.{FactsKept, HasNoted, profile_kept}
-use Rattle.nntp_facts.proofs.Exists.{given_exists, made_for}
-use Rattle.nntp_facts.proofs.GivenPermits.{stands, given_permits}
-use Rattle.nntp_facts.proofs.Size.{pairs_size}
+use Rattle.nntp_facts.proofs.Given.GivenSpoolExists.{given_exists, made_for}
+use Rattle.nntp_facts.proofs.Given.GivenPermits.{stands, given_permits}
+use Rattle.nntp_facts.proofs.Ids.SizeOfASession.{pairs_size}
 use Rattle.nntp_witness.specs.Witness.{IsWitness}
 
 -- the facts that stand have a witness

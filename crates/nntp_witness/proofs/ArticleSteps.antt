@@ -11,20 +11,20 @@ use Rattle.std.proofs.lemmas.Bool.{true≢false, false≢true, or_cases}
 use Rattle.nntp_wire.proofs.OptionLemmas.{none_of, some_is}
 use Rattle.nntp_wire.specs.declared.limit.Limit.{Limit}
 use Rattle.nntp_wire.specs.declared.marks.Marks.{Marks}
-use Rattle.nntp_article.specs.Article.{Id}
-use Rattle.nntp_article.specs.Limit.{profile_of}
-use Rattle.nntp_article.specs.Machine.{is_same}
-use Rattle.nntp_article.specs.Spool.{Spool, Text}
+use Rattle.nntp_article.specs.Article.Parts.{Id}
+use Rattle.nntp_article.specs.Session.Limit.{profile_of}
+use Rattle.nntp_article.specs.Session.Machine.{is_same}
+use Rattle.nntp_article.specs.Session.Spool.{Spool, Text}
 use Rattle.nntp_pair.specs.Pairing.{Paired, asked_of, responses_of}
 use Rattle.nntp_facts.specs.Facts.{Fact, IdAt, TextIs, Holds}
 use Rattle.nntp_facts.specs.Given.{IsGiven, mentions, is_mentioned, gives_article, plain_head}
 use Rattle.nntp_facts.specs.Noted.{said_by}
 use Rattle.nntp_facts.specs.Readers.{ShownArticle, IsShownArticle, AreShownArticles}
 use Rattle.nntp_facts.specs.Together.{shows_article}
-use Rattle.nntp_facts.proofs.GivenPermits.{said}
-use Rattle.nntp_facts.proofs.Made.{names_apart}
+use Rattle.nntp_facts.proofs.Given.GivenPermits.{said}
+use Rattle.nntp_facts.proofs.Given.ConstructedSpool.{names_apart}
 use Rattle.nntp_facts.proofs.Members.{In, all_at, all_from, any_in, found_in}
-use Rattle.nntp_facts.proofs.Stand.{same_itself}
+use Rattle.nntp_facts.proofs.Together.FactsOfASpoolStand.{same_itself}
 use Rattle.nntp_spool.specs.Building.{Building, Builds, article_fault}
 use Rattle.nntp_spool.specs.Content.{with_article}
 use Rattle.nntp_spool.specs.declared.value.spool_fault.SpoolFault.{SpoolFault}
@@ -59,7 +59,8 @@ shown_has_article facts G given holds id t = let f = found_in (shows_article id)
 -- ---- before the first
 
 -- the articles that are made so far are of no id that is shown
-none_is_made : (limit : Limit) (facts : List Fact) (G : Spool) (b : Building) (next : ℕ) → IsBegun limit facts G b next → (id : Id) → IsTrue (list_any (shows_article id) facts) → get b.spool.articles id ≡ None
+none_is_made : (limit : Limit) (facts : List Fact) (G : Spool) (b : Building) (next : ℕ) → IsBegun limit facts G b next
+    → (id : Id) → IsTrue (list_any (shows_article id) facts) → get b.spool.articles id ≡ None
 none_is_made limit facts G b next begun id t = none_of (get b.spool.articles id) (λ i. true≢false (sym (shown_is_mentioned id facts t) ∙ (begun.invented_before id i).3))
 
 -- where no groups are left, those that are made are the given ones
@@ -67,7 +68,9 @@ groups_are : (limit : Limit) (facts : List Fact) (G : Spool) (b : Building) (nex
 groups_are limit facts G b next left = same_map nat_list_cmp_total names_apart b.spool.groups G.groups (λ name. elim (left.others name) [ inl none ↦ absurd (false≢true none) | inr same ↦ same ])
 
 -- all articles that are shown are left where no groups are
-pub articles_start : (limit : Limit) (marks : Marks) (past : List Paired) (G : Spool) (articles : List ShownArticle) (b : Building) (next : ℕ) → IsWitness (profile_of limit marks) past G → AreShownArticles (said_by marks past) articles → GroupsLeft limit (said_by marks past) G [] b next
+pub articles_start : (limit : Limit) (marks : Marks) (past : List Paired) (G : Spool) (articles : List ShownArticle)
+    (b : Building) (next : ℕ) → IsWitness (profile_of limit marks) past G → AreShownArticles (said_by marks past) articles
+    → GroupsLeft limit (said_by marks past) G [] b next
     → ArticlesLeft limit (said_by marks past) G articles b
 articles_start limit marks past G articles b next witness shown left = record {
   limit_is = left.begun.limit_is;
@@ -98,7 +101,9 @@ text_is_given facts G a given shown there =
     found.1 ∙ (λ i. Some (record { head = head i; body = body i }))
 
 -- an article that is shown is added without a fault
-pub article_has_no_fault : (limit : Limit) (marks : Marks) (past : List Paired) (G : Spool) (a : ShownArticle) (left : List ShownArticle) (b : Building) → IsWitness (profile_of limit marks) past G → ArticlesLeft limit (said_by marks past) G (a ∷ left) b
+pub article_has_no_fault : (limit : Limit) (marks : Marks) (past : List Paired) (G : Spool) (a : ShownArticle)
+    (left : List ShownArticle) (b : Building) → IsWitness (profile_of limit marks) past G
+    → ArticlesLeft limit (said_by marks past) G (a ∷ left) b
     → article_fault b.spool a.id (given_text a) ≡ None
 article_has_no_fault limit marks past G a left b witness l =
     article_fits limit G b.spool witness.is_spool a.id (given_text a) (text_is_given (said_by marks past) G a witness.given l.shown.0 l.of_spool.0) l.not_made.0
@@ -132,7 +137,9 @@ abbrev pub one_article_more : Building → ShownArticle → Building
 one_article_more b a = record { limit = b.limit; spool = with_article b.spool a.id (given_text a); failed = false }
 
 -- one article less is left
-pub one_article_less : (limit : Limit) (marks : Marks) (past : List Paired) (G : Spool) (a : ShownArticle) (left : List ShownArticle) (b : Building) → IsWitness (profile_of limit marks) past G → ArticlesLeft limit (said_by marks past) G (a ∷ left) b
+pub one_article_less : (limit : Limit) (marks : Marks) (past : List Paired) (G : Spool) (a : ShownArticle)
+    (left : List ShownArticle) (b : Building) → IsWitness (profile_of limit marks) past G
+    → ArticlesLeft limit (said_by marks past) G (a ∷ left) b
     → ArticlesLeft limit (said_by marks past) G left (one_article_more b a)
 unfolding IsStrictlySortedBy
 one_article_less limit marks past G a left b witness l = record {
@@ -146,7 +153,8 @@ one_article_less limit marks past G a left b witness l = record {
   not_made = absent_behind b.spool.articles a.id (given_text a) left l.ascending.0 l.not_made.1;
   others = λ id t. elim (l.others id t) [
     | inl among ↦ elim (or_cases (is_same a.id id) (list_any (λ a. is_same a.id id) left) among) [
-      | inl here ↦ inr (ap (λ q. is_some (get (insert b.spool.articles a.id (given_text a)) q)) (sym (same_text a.id id (sym here))) ∙ ap is_some (got_here nat_list_cmp_total b.spool.articles a.id (given_text a)))
+      | inl here ↦ inr (ap (λ q. is_some (get (insert b.spool.articles a.id (given_text a)) q))
+          (sym (same_text a.id id (sym here))) ∙ ap is_some (got_here nat_list_cmp_total b.spool.articles a.id (given_text a)))
       | inr behind ↦ inl behind
     ]
     | inr made ↦ inr (got_still nat_list_cmp_total names_apart b.spool.articles a.id (given_text a) id made)
@@ -154,7 +162,9 @@ one_article_less limit marks past G a left b witness l = record {
 }
 
 -- the call that adds an article does so, or memory is refused
-pub article_added : (limit : Limit) (marks : Marks) (past : List Paired) (G : Spool) (a : ShownArticle) (left : List ShownArticle) (b new : Building) (id : Id) (t : Text) (r : Result (Unit {0}) SpoolFault) → IsWitness (profile_of limit marks) past G → ArticlesLeft limit (said_by marks past) G (a ∷ left) b
+pub article_added : (limit : Limit) (marks : Marks) (past : List Paired) (G : Spool) (a : ShownArticle)
+    (left : List ShownArticle) (b new : Building) (id : Id) (t : Text) (r : Result (Unit {0}) SpoolFault)
+    → IsWitness (profile_of limit marks) past G → ArticlesLeft limit (said_by marks past) G (a ∷ left) b
     → id ≡ a.id → t ≡ given_text a → Builds (article_fault b.spool id t) (with_article b.spool id t) r b new → Makes r (λ _. ArticlesLeft limit (said_by marks past) G left new)
 article_added limit marks past G a left b new id t r witness l is text call =
     called (ArticlesLeft limit (said_by marks past) G left) (article_fault b.spool a.id (given_text a)) (with_article b.spool a.id (given_text a)) r b new l.is_whole

@@ -1,7 +1,7 @@
 -- Calls of a builder that hasn't failed, where there is no fault.
 use Rattle.std.proofs.Common.{◌≡◌, ◌∙◌, Bool, true, false, Option, None, Some, Result, Ok, Err, sym, subst}
 use Rattle.std.proofs.lemmas.Bool.{true≢false}
-use Rattle.nntp_article.specs.Spool.{Spool}
+use Rattle.nntp_article.specs.Session.Spool.{Spool}
 use Rattle.nntp_spool.specs.Building.{Building, Builds, BuildsBy}
 use Rattle.nntp_spool.specs.declared.value.spool_fault.SpoolFault.{SpoolFault}
 use Rattle.nntp_spool.specs.declared.value.spool_fault.SpoolFault.TheVariants.{Memory}
@@ -23,7 +23,8 @@ called P fault made r old new whole none done h = by old.failed fault r whole no
     by false None (Err x) e none h = h.0
 
 -- where it is done, the content is the new one
-pub call_done : (fault : Option SpoolFault) (made : Spool) (x : Unit {0}) (old new : Building) → old.failed ≡ false → fault ≡ None → Builds fault made (Ok x) old new → new ≡ record { limit = old.limit; spool = made; failed = false }
+pub call_done : (fault : Option SpoolFault) (made : Spool) (x : Unit {0}) (old new : Building) → old.failed ≡ false
+    → fault ≡ None → Builds fault made (Ok x) old new → new ≡ record { limit = old.limit; spool = made; failed = false }
 call_done fault made x old new whole none h = by old.failed fault whole none h
   where
     by : (failed : Bool) (fault : Option SpoolFault) → failed ≡ false → fault ≡ None → BuildsBy failed fault made (Ok x) old new → new ≡ record { limit = old.limit; spool = made; failed = false }

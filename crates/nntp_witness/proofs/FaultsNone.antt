@@ -11,16 +11,16 @@ use Rattle.nntp_wire.specs.Decided.{is_group_name, is_message_id}
 use Rattle.nntp_wire.specs.Limit.{greatest}
 use Rattle.nntp_wire.specs.declared.limit.Limit.{Limit}
 use Rattle.nntp_wire.proofs.OptionLemmas.{some_is}
-use Rattle.nntp_article.specs.Article.{Id, Line}
-use Rattle.nntp_article.specs.Machine.{is_article_number}
-use Rattle.nntp_article.specs.Spool.{Spool, Name, Numbers, Text, IsGroup, IsSpool, numbers, is_line}
+use Rattle.nntp_article.specs.Article.Parts.{Id, Line}
+use Rattle.nntp_article.specs.Session.Machine.{is_article_number}
+use Rattle.nntp_article.specs.Session.Spool.{Spool, Name, Numbers, Text, IsGroup, IsSpool, numbers, is_line}
 use Rattle.nntp_facts.specs.Facts.{Fact, TextIs}
 use Rattle.nntp_facts.specs.Given.{mentions, is_mentioned, first_given, head_in, body_in, plain_head, IsGiven}
 use Rattle.nntp_facts.specs.Articles.{head_sent, body_sent}
-use Rattle.nntp_facts.proofs.GivenHolds.{group_of_number}
+use Rattle.nntp_facts.proofs.Given.GivenHolds.{group_of_number}
 use Rattle.nntp_facts.proofs.Maps.{in_get}
 use Rattle.nntp_facts.proofs.Members.{found_in}
-use Rattle.nntp_facts.proofs.SaidOfArticles.{head_of_text, body_of_text}
+use Rattle.nntp_facts.proofs.Keeping.SaidOfArticles.{head_of_text, body_of_text}
 use Rattle.nntp_spool.specs.Building.{group_fault, number_fault, article_fault}
 use Rattle.nntp_spool.specs.Content.{is_head_of}
 use Rattle.nntp_spool.specs.Numbers.{has_id}
@@ -42,7 +42,8 @@ no_group_fault S name is absent =
     (passed (is_some (get S.groups name)) faults.DuplicateGroup None (ap is_some absent) refl)
 
 -- a number and an id that may be, and aren't there
-no_number_fault : (limit : ℕ) (S : Spool) (name : Name) (n : ℕ) (id : Id) → IsGroup S name → is_article_number limit n ≡ true → is_message_id id ≡ true → get (numbers S name) n ≡ None → has_id (numbers S name) id ≡ false
+no_number_fault : (limit : ℕ) (S : Spool) (name : Name) (n : ℕ) (id : Id) → IsGroup S name → is_article_number limit n ≡ true
+    → is_message_id id ≡ true → get (numbers S name) n ≡ None → has_id (numbers S name) id ≡ false
     → number_fault limit S name n id ≡ None
 no_number_fault limit S name n id there num is_id absent fresh =
     passed (is_none (get S.groups name)) faults.UnknownGroup _ (ap not there)

@@ -10,15 +10,15 @@ use Rattle.std.specs.Cmp.{IsTotalOrder, nat_cmp_total}
 use Rattle.std.specs.FinMap.{FinMap, get, keys, entries, entries_sorted, IsAntisymmetric, nat_cmp-IsAntisymmetric}
 use Rattle.std.proofs.lemmas.Bool.{true≢false, eq-eqb, eqb-true, lt-ltb, cases_lt}
 use Rattle.std.proofs.lemmas.Cmp.{tied_itself}
-use Rattle.nntp_article.specs.Article.{Id}
-use Rattle.nntp_article.specs.Spool.{Spool, IsGroup, numbers}
+use Rattle.nntp_article.specs.Article.Parts.{Id}
+use Rattle.nntp_article.specs.Session.Spool.{Spool, IsGroup, numbers}
 use Rattle.nntp_facts.specs.Asks.{Ask}
 use Rattle.nntp_facts.specs.Facts.{Fact}
 use Rattle.nntp_facts.specs.Given.{asks_of, is_shown, IsGivenNumber, id_shown, IsGiven}
 use Rattle.nntp_facts.specs.Readers.{ShownGroup, HasShownNumbers, IsLeastGiven, IsGreatestGiven}
 use Rattle.nntp_facts.proofs.Maps.{sorted_keys, key_of, of_key}
 use Rattle.nntp_facts.proofs.Members.{In, all_at, all_from, all_both, any_in, found_in, in_map, from_map, in_front, in_back, in_cases}
-use Rattle.nntp_facts.proofs.OnePlace.{shown_with_id}
+use Rattle.nntp_facts.proofs.Ids.OnePlaceOfAnId.{shown_with_id}
 use Rattle.nntp_witness.specs.Making.{unseen_number, given_numbers}
 
 -- ---- lists in order as the keys of a map
@@ -57,7 +57,8 @@ module _ {K : Type 0} {R : K → K → Ordering} (o : IsTotalOrder R) where
       λ i. first i ∷ others i
 
   -- a list in order that has the keys of a map, and no others, is the list of its keys
-  pub keys_listed : {X : Type 0} → IsAntisymmetric R → (ks : List K) (m : FinMap R X) → IsStrictlySortedBy R ks → ((q : K) → In q ks → IsSome (get m q)) → ((q : K) → IsSome (get m q) → In q ks) → ks ≡ keys m
+  pub keys_listed : {X : Type 0} → IsAntisymmetric R → (ks : List K) (m : FinMap R X) → IsStrictlySortedBy R ks
+      → ((q : K) → In q ks → IsSome (get m q)) → ((q : K) → IsSome (get m q) → In q ks) → ks ≡ keys m
   keys_listed same ks m sorted there back =
       same_in_order ks (keys m) sorted (sorted_keys R (entries m) (entries_sorted m)) (λ q i. key_of o same m q (there q i)) (λ q i. back q (of_key o same m q i))
 
@@ -68,7 +69,8 @@ before : (a b : ℕ) → a < b → nat_cmp a b ≡ Less
 before a b l = ap (λ t. cond t Less (cond (a == b) Equal Greater)) (lt-ltb a b l)
 
 -- where the numbers of one are below those of the other, both ascend
-joined_ascend : (xs ys : List (ℕ × Option Id)) → IsStrictlySortedBy nat_cmp (map (λ e. e.0) xs) → IsStrictlySortedBy nat_cmp (map (λ e. e.0) ys) → ((x y : ℕ × Option Id) → In x xs → In y ys → x.0 < y.0)
+joined_ascend : (xs ys : List (ℕ × Option Id)) → IsStrictlySortedBy nat_cmp (map (λ e. e.0) xs)
+    → IsStrictlySortedBy nat_cmp (map (λ e. e.0) ys) → ((x y : ℕ × Option Id) → In x xs → In y ys → x.0 < y.0)
     → IsStrictlySortedBy nat_cmp (map (λ e. e.0) (xs ++ ys))
 unfolding IsStrictlySortedBy
 joined_ascend [] ys h g below = g

@@ -12,12 +12,12 @@ use Rattle.std.proofs.lemmas.Bool.{true≢false, or_cases, eq-eqb}
 use Rattle.std.proofs.lemmas.Cmp.{tied_itself}
 use Rattle.std.proofs.lemmas.List.{append-nil}
 use Rattle.nntp_wire.proofs.OptionLemmas.{none_of}
-use Rattle.nntp_article.proofs.Decide.{dec_texts}
+use Rattle.nntp_article.proofs.SessionLemmas.FiniteMapsDecided.{dec_texts}
 use Rattle.nntp_wire.specs.Limit.{greatest}
 use Rattle.nntp_wire.specs.declared.limit.Limit.{Limit}
-use Rattle.nntp_article.specs.Article.{Id}
-use Rattle.nntp_article.specs.Machine.{is_same}
-use Rattle.nntp_article.specs.Spool.{Spool, Name, Numbers, IsNumber, IsSpool, numbers}
+use Rattle.nntp_article.specs.Article.Parts.{Id}
+use Rattle.nntp_article.specs.Session.Machine.{is_same}
+use Rattle.nntp_article.specs.Session.Spool.{Spool, Name, Numbers, IsNumber, IsSpool, numbers}
 use Rattle.nntp_facts.specs.Facts.{Fact}
 use Rattle.nntp_facts.specs.Given.{id_shown, IsGiven}
 use Rattle.nntp_facts.specs.Readers.{ShownGroup}
@@ -47,7 +47,8 @@ some_value : (o : Option Numbers) → IsSome o → o ≡ Some (unwrap_or o empty
 some_value None i = cc
 some_value (Some N) i = refl
 
-module _ (limit : Limit) (facts : List Fact) (G : Spool) (given : IsGiven facts G) (is_spool : IsSpool (greatest limit) G) (g : ShownGroup) (left : List ShownGroup) (b : Building) (next : ℕ) (l : GroupsLeft limit facts G (g ∷ left) b next) where
+module _ (limit : Limit) (facts : List Fact) (G : Spool) (given : IsGiven facts G) (is_spool : IsSpool (greatest limit) G)
+    (g : ShownGroup) (left : List ShownGroup) (b : Building) (next : ℕ) (l : GroupsLeft limit facts G (g ∷ left) b next) where
   -- ---- the group without its numbers
 
   -- it is added without a fault
@@ -151,18 +152,25 @@ module _ (limit : Limit) (facts : List Fact) (G : Spool) (given : IsGiven facts 
 
   -- a refusal of the group is want of memory
   pub group_refused : (name : Name) (x : SpoolFault) (new : Building) → name ≡ g.name → Builds (group_fault b.spool name) (with_group b.spool name empty) (Err x) b new → x ≡ Memory
-  group_refused name x new is h = call_refused (group_fault b.spool g.name) bare x b new l.begun.is_whole group_added (subst (λ q. Builds (group_fault b.spool q) (with_group b.spool q empty) (Err x) b new) is h)
+  group_refused name x new is h = call_refused (group_fault b.spool g.name) bare x b new l.begun.is_whole group_added
+      (subst (λ q. Builds (group_fault b.spool q) (with_group b.spool q empty) (Err x) b new) is h)
 
   -- where it is added, its numbers are left
   pub numbers_next : (name : Name) (low high : Option ℕ) (ns : List (ℕ × Option Id)) (x : Unit {0}) (new : Building) → name ≡ g.name → low ≡ g.unseen → ns ≡ g.numbers → high ≡ g.unseen_high
-      → Builds (group_fault b.spool name) (with_group b.spool name empty) (Ok x) b new → NumbersLeft limit facts G b.spool name (unshown_of G left) (unseen_number low ++ (ns ++ (unseen_number high ++ []))) new next
+      → Builds (group_fault b.spool name) (with_group b.spool name empty) (Ok x) b new
+      → NumbersLeft limit facts G b.spool name (unshown_of G left)
+      (unseen_number low ++ (ns ++ (unseen_number high ++ []))) new next
   numbers_next name low high ns x new is low_is numbers_are high_is h =
-      let built : new ≡ record { limit = b.limit; spool = bare; failed = false } = call_done (group_fault b.spool g.name) bare x b new l.begun.is_whole group_added (subst (λ q. Builds (group_fault b.spool q) (with_group b.spool q empty) (Ok x) b new) is h) in
+      let built : new ≡ record { limit = b.limit; spool = bare; failed = false } = call_done
+      (group_fault b.spool g.name) bare x b new l.begun.is_whole group_added
+      (subst (λ q. Builds (group_fault b.spool q) (with_group b.spool q empty) (Ok x) b new) is h) in
       let given : given_numbers g ≡ unseen_number low ++ (ns ++ (unseen_number high ++ [])) =
       (λ i. unseen_number (sym low_is i) ++ (sym numbers_are i ++ unseen_number (sym high_is i))) ∙ ap (λ xs. unseen_number low ++ (ns ++ xs)) (sym (append-nil (unseen_number high))) in
       subst (λ (t : Type 0). t) (λ i. NumbersLeft limit facts G b.spool (sym is i) (unshown_of G left) (given i) (sym built i) next) all_left
 
   -- and once they are made, one group less is left
-  pub group_makes : (other : Name) (r : Result (Unit {0}) SpoolFault) (c : Building) (after : ℕ) → other ≡ g.name → Makes r (λ _. NumbersLeft limit facts G b.spool other (unshown_of G left) [] c after) → Makes r (λ _. GroupsLeft limit facts G left c after)
+  pub group_makes : (other : Name) (r : Result (Unit {0}) SpoolFault) (c : Building) (after : ℕ) → other ≡ g.name
+      → Makes r (λ _. NumbersLeft limit facts G b.spool other (unshown_of G left) [] c after)
+      → Makes r (λ _. GroupsLeft limit facts G left c after)
   group_makes other (Ok x) c after is done = group_made c after (subst (λ q. NumbersLeft limit facts G b.spool q (unshown_of G left) [] c after) is done)
   group_makes other (Err x) c after is refused = refused

@@ -7,16 +7,16 @@ use Rattle.std.specs.Cmp.{nat_cmp_total}
 use Rattle.std.specs.Cmp.Lexicographic.{slice_cmp, same_text, nat_list_cmp_total}
 use Rattle.std.specs.FinMap.{get, entries, empty, get-empty, nat_cmp-IsAntisymmetric}
 use Rattle.nntp_wire.specs.declared.limit.Limit.{Limit}
-use Rattle.nntp_article.specs.Article.{Id}
-use Rattle.nntp_article.specs.Machine.{is_same}
-use Rattle.nntp_article.specs.Spool.{Spool, Name, Numbers, IsGroup, numbers}
+use Rattle.nntp_article.specs.Article.Parts.{Id}
+use Rattle.nntp_article.specs.Session.Machine.{is_same}
+use Rattle.nntp_article.specs.Session.Spool.{Spool, Name, Numbers, IsGroup, numbers}
 use Rattle.nntp_facts.specs.Facts.{Fact}
 use Rattle.nntp_facts.specs.Given.{id_shown, unshown_in, unshown_ids, AreInvented, IsGiven}
 use Rattle.nntp_facts.specs.Readers.{ShownGroup, HasShownNumbers, AreShownGroups}
-use Rattle.nntp_facts.proofs.Made.{names_apart}
+use Rattle.nntp_facts.proofs.Given.ConstructedSpool.{names_apart}
 use Rattle.nntp_facts.proofs.Maps.{in_get}
 use Rattle.nntp_facts.proofs.Members.{In, all_from, any_in, found_in, in_map, from_map}
-use Rattle.nntp_facts.proofs.OneGroup.{same_self}
+use Rattle.nntp_facts.proofs.Keeping.FactsOfOneGroup.{same_self}
 use Rattle.nntp_spool.specs.Content.{no_spool}
 use Rattle.nntp_witness.specs.Making.{given_numbers, unshown_at, unshown_of, IsPart, GroupsLeft}
 use Rattle.nntp_witness.proofs.GroupNumbers.{keys_listed, given_keys, given_ids}
@@ -24,7 +24,8 @@ use Rattle.nntp_witness.proofs.GroupNumbers.{keys_listed, given_keys, given_ids}
 -- ---- the ids of one group
 
 -- the entries of a group, and its numbers with the ids that are shown, leave the same ids
-unshown_alike : (facts : List Fact) (name : Name) (N : Numbers) (es : List (ℕ × Id)) (fs : List (ℕ × Option Id)) → map (λ f. f.0) fs ≡ map (λ e. e.0) es → ((n : ℕ) (id : Id) → In (n, id) es → get N n ≡ Some id)
+unshown_alike : (facts : List Fact) (name : Name) (N : Numbers) (es : List (ℕ × Id)) (fs : List (ℕ × Option Id))
+    → map (λ f. f.0) fs ≡ map (λ e. e.0) es → ((n : ℕ) (id : Id) → In (n, id) es → get N n ≡ Some id)
     → AllByRecursion (λ f. f.1 ≡ id_shown facts name f.0) fs → unshown_in facts name es ≡ unshown_at N fs
 unshown_alike facts name N [] [] ks there ids = refl
 unshown_alike facts name N [] (f ∷ fs) ks there ids = cc
@@ -41,19 +42,22 @@ module _ (facts : List Fact) (G : Spool) (given : IsGiven facts G) where
   -- the ids of a shown group that aren't shown
   group_alike : (g : ShownGroup) → IsGroup G g.name → HasShownNumbers facts g → unshown_in facts g.name (entries (numbers G g.name)) ≡ unshown_at (numbers G g.name) (given_numbers g)
   group_alike g i h =
-      unshown_alike facts g.name (numbers G g.name) (entries (numbers G g.name)) (given_numbers g) (given_keys facts g h G given i) (in_get nat_cmp_total nat_cmp-IsAntisymmetric (numbers G g.name)) (given_ids facts g h)
+      unshown_alike facts g.name (numbers G g.name) (entries (numbers G g.name)) (given_numbers g)
+      (given_keys facts g h G given i) (in_get nat_cmp_total nat_cmp-IsAntisymmetric (numbers G g.name)) (given_ids facts g h)
 
   -- ---- all groups
 
   -- a group of the spool that has the name of a shown one
-  entry_alike : (name : Name) (N : Numbers) (g : ShownGroup) → g.name ≡ name → get G.groups name ≡ Some N → HasShownNumbers facts g → unshown_in facts name (entries N) ≡ unshown_at (numbers G g.name) (given_numbers g)
+  entry_alike : (name : Name) (N : Numbers) (g : ShownGroup) → g.name ≡ name → get G.groups name ≡ Some N
+      → HasShownNumbers facts g → unshown_in facts name (entries N) ≡ unshown_at (numbers G g.name) (given_numbers g)
   entry_alike name N g same there h =
       let have : numbers G g.name ≡ N = ap (λ name. unwrap_or (get G.groups name) empty) same ∙ ap (λ o. unwrap_or o empty) there in
       let is_group : IsGroup G g.name = ap (λ name. is_some (get G.groups name)) same ∙ ap is_some there in
       (λ i. unshown_in facts (sym same i) (entries (sym have i))) ∙ group_alike g is_group h
 
   -- groups of the same names in the same order
-  groups_alike : (es : List (Name × Numbers)) (gs : List ShownGroup) → map (λ g. g.name) gs ≡ map (λ e. e.0) es → ((name : Name) (N : Numbers) → In (name, N) es → get G.groups name ≡ Some N) → AllByRecursion (HasShownNumbers facts) gs
+  groups_alike : (es : List (Name × Numbers)) (gs : List ShownGroup) → map (λ g. g.name) gs ≡ map (λ e. e.0) es
+      → ((name : Name) (N : Numbers) → In (name, N) es → get G.groups name ≡ Some N) → AllByRecursion (HasShownNumbers facts) gs
       → flat_map (λ e. unshown_in facts e.0 (entries e.1)) es ≡ unshown_of G gs
   groups_alike [] [] ks there hs = refl
   groups_alike [] (g ∷ gs) ks there hs = cc
@@ -118,7 +122,8 @@ none_is_part facts G = record {
 }
 
 -- at the start all groups are left
-pub all_left : (limit : Limit) (facts : List Fact) (G : Spool) (groups : List ShownGroup) → IsGiven facts G → AreShownGroups facts groups → GroupsLeft limit facts G groups (record { limit = limit; spool = no_spool; failed = false }) 0
+pub all_left : (limit : Limit) (facts : List Fact) (G : Spool) (groups : List ShownGroup) → IsGiven facts G
+    → AreShownGroups facts groups → GroupsLeft limit facts G groups (record { limit = limit; spool = no_spool; failed = false }) 0
 all_left limit facts G groups given shown = record {
   begun = record {
     limit_is = refl;

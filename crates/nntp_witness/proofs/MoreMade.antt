@@ -6,9 +6,9 @@ use Rattle.std.specs.Ordering.{nat_cmp, eq_by_cmp}
 use Rattle.std.specs.Cmp.{IsTotalOrder, nat_cmp_total, Equal-is}
 use Rattle.std.specs.Cmp.Lexicographic.{slice_cmp, nat_list_cmp_total}
 use Rattle.std.specs.FinMap.{FinMap, get, insert, empty, get-insert, get-empty, IsAntisymmetric, nat_cmp-IsAntisymmetric}
-use Rattle.nntp_article.proofs.Decide.{dec_texts}
-use Rattle.nntp_article.specs.Article.{Id}
-use Rattle.nntp_article.specs.Spool.{Spool, Name, Numbers, Text, IsGroup, numbers}
+use Rattle.nntp_article.proofs.SessionLemmas.FiniteMapsDecided.{dec_texts}
+use Rattle.nntp_article.specs.Article.Parts.{Id}
+use Rattle.nntp_article.specs.Session.Spool.{Spool, Name, Numbers, Text, IsGroup, numbers}
 use Rattle.nntp_facts.specs.Facts.{Fact}
 use Rattle.nntp_facts.specs.Given.{id_shown}
 use Rattle.nntp_spool.specs.Content.{with_group}
@@ -107,7 +107,8 @@ part_with_group facts G S name part there = record {
         by (inr apart) = ap (λ N. get N m) (sym (numbers_other S name empty other apart)) ∙ e
 
 -- a number of the spool makes more of a part of it, if its id has an article there where none is shown
-pub part_with_number : (facts : List Fact) (G S : Spool) (articles : FinMap (slice_cmp nat_cmp) Text) (name : Name) (n : ℕ) (id : Id) → IsPart facts G S → IsGroup S name → get (numbers G name) n ≡ Some id
+pub part_with_number : (facts : List Fact) (G S : Spool) (articles : FinMap (slice_cmp nat_cmp) Text) (name : Name) (n : ℕ)
+    (id : Id) → IsPart facts G S → IsGroup S name → get (numbers G name) n ≡ Some id
     → ((q : Id) → IsSome (get S.articles q) → IsSome (get articles q)) → ((q : Id) (t : Text) → get articles q ≡ Some t → get G.articles q ≡ Some t)
     → (id_shown facts name n ≡ None → IsSome (get articles id))
     → IsPart facts G (record { groups = insert S.groups name (insert (numbers S name) n id); articles = articles })

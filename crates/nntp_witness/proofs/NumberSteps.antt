@@ -1,5 +1,6 @@
 -- One number more of the group that is made.
-use Rattle.std.proofs.Common.{◌≡◌, ◌≢◌, ◌⊎◌, ℕ, ◌+◌, ◌-◌, ◌<◌, ◌≤◌, ◌^◌, false, ◌==◌, List, [], ◌∷◌, ◌++◌, map, Option, None, Some, is_some, IsSome, IsTrue, Result, Ok, Err, inl, inr, refl, sym, ap, subst, ◌∙◌, arith}
+use Rattle.std.proofs.Common.{◌≡◌, ◌≢◌, ◌⊎◌, ℕ, ◌+◌, ◌-◌, ◌<◌, ◌≤◌, ◌^◌, false, ◌==◌, List, [], ◌∷◌, ◌++◌, map, Option, None}
+use Rattle.std.proofs.Common.{Some, is_some, IsSome, IsTrue, Result, Ok, Err, inl, inr, refl, sym, ap, subst, ◌∙◌, arith}
 use Rattle.std.specs.Prelude.{unwrap_or, IsFalse}
 use Rattle.std.specs.List.{AllByRecursion, list_any}
 use Rattle.std.specs.List.Sorted.{IsStrictlySortedBy}
@@ -12,12 +13,12 @@ use Rattle.std.specs.FinMap.{FinMap, get, insert, nat_cmp-IsAntisymmetric}
 use Rattle.std.proofs.lemmas.Bool.{or_cases, eqb-true}
 use Rattle.nntp_wire.specs.Limit.{greatest}
 use Rattle.nntp_wire.specs.declared.limit.Limit.{Limit}
-use Rattle.nntp_article.specs.Article.{Id}
-use Rattle.nntp_article.specs.Spool.{Spool, Name, Numbers, Text, IsNumber, IsSpool, numbers}
+use Rattle.nntp_article.specs.Article.Parts.{Id}
+use Rattle.nntp_article.specs.Session.Spool.{Spool, Name, Numbers, Text, IsNumber, IsSpool, numbers}
 use Rattle.nntp_facts.specs.Facts.{Fact}
 use Rattle.nntp_facts.specs.Given.{is_mentioned, invented, plain_head, AreInvented, IsFirstFree, IsGiven}
-use Rattle.nntp_facts.proofs.FirstFree.{first_free_once}
-use Rattle.nntp_facts.proofs.Invented.{invented_number, number-invented}
+use Rattle.nntp_facts.proofs.GivenNumbers.FirstFreeNumber.{first_free_once}
+use Rattle.nntp_facts.proofs.Ids.InventedIds.{invented_number, number-invented}
 use Rattle.nntp_wire.proofs.OptionLemmas.{none_of, some_is}
 use Rattle.nntp_spool.specs.Building.{Building, Builds, number_fault, article_fault}
 use Rattle.nntp_spool.specs.declared.value.spool_fault.SpoolFault.{SpoolFault}
@@ -50,7 +51,8 @@ abbrev with_both : Spool → FinMap (slice_cmp nat_cmp) Text → Name → ℕ �
 with_both S articles name n id = record { groups = insert S.groups name (insert (numbers S name) n id); articles = articles }
 
 -- one number less is left, once it is there
-one_less : (limit : Limit) (facts : List Fact) (G before : Spool) (name : Name) (behind : List Id) (n : ℕ) (o : Option Id) (left : List (ℕ × Option Id)) (b : Building) (next after : ℕ) (id : Id) (articles : FinMap (slice_cmp nat_cmp) Text)
+one_less : (limit : Limit) (facts : List Fact) (G before : Spool) (name : Name) (behind : List Id) (n : ℕ) (o : Option Id)
+    (left : List (ℕ × Option Id)) (b : Building) (next after : ℕ) (id : Id) (articles : FinMap (slice_cmp nat_cmp) Text)
     → NumbersLeft limit facts G before name behind ((n, o) ∷ left) b next → IsBegun limit facts G (record { limit = b.limit; spool = with_both b.spool articles name n id; failed = false }) after
     → AreInvented facts after (unshown_at (numbers G name) left ++ behind)
     → NumbersLeft limit facts G before name behind left (record { limit = b.limit; spool = with_both b.spool articles name n id; failed = false }) after
@@ -70,7 +72,8 @@ one_less limit facts G before name behind n o left b next after id articles l be
     made : (m : ℕ) → IsNumber (insert (numbers b.spool name) n id) m → IsNumber (numbers (with_both b.spool articles name n id) name) m
     made m i = subst (λ N. IsNumber N m) (sym (numbers_here b.spool name (insert (numbers b.spool name) n id))) i
 
-    by : (m : ℕ) → IsTrue (list_any (λ e. e.0 == m) ((n, o) ∷ left)) ⊎ IsNumber (numbers b.spool name) m → IsTrue (list_any (λ e. e.0 == m) left) ⊎ IsNumber (numbers (with_both b.spool articles name n id) name) m
+    by : (m : ℕ) → IsTrue (list_any (λ e. e.0 == m) ((n, o) ∷ left)) ⊎ IsNumber (numbers b.spool name) m
+        → IsTrue (list_any (λ e. e.0 == m) left) ⊎ IsNumber (numbers (with_both b.spool articles name n id) name) m
     by m (inl t) = elim (or_cases (n == m) (list_any (λ e. e.0 == m) left) t) [
       | inl same ↦ inr (made m (subst (λ k. IsNumber (insert (numbers b.spool name) n id) k) (eqb-true n m same) (ap is_some (got_here nat_cmp_total (numbers b.spool name) n id))))
       | inr more ↦ inl more
@@ -79,7 +82,8 @@ one_less limit facts G before name behind n o left b next after id articles l be
 
 -- ---- a number whose id is shown
 
-module _ (limit : Limit) (facts : List Fact) (G before : Spool) (given : IsGiven facts G) (is_spool : IsSpool (greatest limit) G) (name : Name) (behind : List Id) (n : ℕ) (left : List (ℕ × Option Id)) (b : Building) (next : ℕ) where
+module _ (limit : Limit) (facts : List Fact) (G before : Spool) (given : IsGiven facts G) (is_spool : IsSpool (greatest limit) G)
+    (name : Name) (behind : List Id) (n : ℕ) (left : List (ℕ × Option Id)) (b : Building) (next : ℕ) where
   -- the spool is one within the builder's limit
   own_limit : b.limit ≡ limit → IsSpool (greatest b.limit) G
   own_limit is = subst (λ l. IsSpool (greatest l) G) (sym is) is_spool
@@ -97,22 +101,29 @@ module _ (limit : Limit) (facts : List Fact) (G before : Spool) (given : IsGiven
   shown_fits id l = number_fits b.limit facts G b.spool (own_limit l.begun.limit_is) l.begun.part name n id l.is_group (shown_there id l) l.not_made.0
 
   -- the others are left
-  shown_made : (id : Id) → NumbersLeft limit facts G before name behind ((n, Some id) ∷ left) b next → NumbersLeft limit facts G before name behind left (record { limit = b.limit; spool = with_both b.spool b.spool.articles name n id; failed = false }) next
+  shown_made : (id : Id) → NumbersLeft limit facts G before name behind ((n, Some id) ∷ left) b next
+      → NumbersLeft limit facts G before name behind left
+      (record { limit = b.limit; spool = with_both b.spool b.spool.articles name n id; failed = false }) next
   shown_made id l =
       one_less limit facts G before name behind n (Some id) left b next next id b.spool.articles l (record {
         limit_is = l.begun.limit_is;
         is_whole = refl;
-        part = part_with_number facts G b.spool b.spool.articles name n id l.begun.part l.is_group (shown_there id l) (λ q i. i) l.begun.part.articles (λ none. absurd (some_none id (l.of_group.0.1 ∙ none)));
+        part = part_with_number facts G b.spool b.spool.articles name n id l.begun.part l.is_group (shown_there id l)
+            (λ q i. i) l.begun.part.articles (λ none. absurd (some_none id (l.of_group.0.1 ∙ none)));
         invented_before = l.begun.invented_before;
         small = l.begun.small;
       }) l.to_invent
 
   -- so the call makes it
   pub shown_makes : (o : Option Id) (id : Id) (r : Result (Unit {0}) SpoolFault) (new : Building) → o ≡ Some id → NumbersLeft limit facts G before name behind ((n, o) ∷ left) b next
-      → Builds (number_fault (greatest b.limit) b.spool name n id) (with_group b.spool name (insert (numbers b.spool name) n id)) r b new → Makes r (λ _. NumbersLeft limit facts G before name behind left new next)
+      → Builds (number_fault (greatest b.limit) b.spool name n id)
+      (with_group b.spool name (insert (numbers b.spool name) n id)) r b new
+      → Makes r (λ _. NumbersLeft limit facts G before name behind left new next)
   shown_makes o id r new is was h =
       let l = subst (λ o. NumbersLeft limit facts G before name behind ((n, o) ∷ left) b next) is was in
-      called (λ c. NumbersLeft limit facts G before name behind left c next) (number_fault (greatest b.limit) b.spool name n id) (with_group b.spool name (insert (numbers b.spool name) n id)) r b new l.begun.is_whole (shown_fits id l) (shown_made id l) h
+      called (λ c. NumbersLeft limit facts G before name behind left c next) (number_fault (greatest b.limit) b.spool name n id)
+      (with_group b.spool name (insert (numbers b.spool name) n id)) r b new l.begun.is_whole (shown_fits id l)
+      (shown_made id l) h
 
   -- ---- a number for which none is shown
 
@@ -182,7 +193,8 @@ module _ (limit : Limit) (facts : List Fact) (G before : Spool) (given : IsGiven
         one_less limit facts G before name behind n None left b next (j + 1) (invented j) more l (record {
           limit_is = l.begun.limit_is;
           is_whole = refl;
-          part = part_with_number facts G b.spool more name n (invented j) l.begun.part l.is_group invented_there (λ q i. got_still nat_list_cmp_total octet_keys b.spool.articles (invented j) plain q i) more_there
+          part = part_with_number facts G b.spool more name n (invented j) l.begun.part l.is_group invented_there
+              (λ q i. got_still nat_list_cmp_total octet_keys b.spool.articles (invented j) plain q i) more_there
               (λ _. ap is_some (got_here nat_list_cmp_total b.spool.articles (invented j) plain));
           invented_before = more_before;
           small = omega arith;
@@ -197,19 +209,26 @@ module _ (limit : Limit) (facts : List Fact) (G before : Spool) (given : IsGiven
       → id ≡ invented j → IsFirstFree (λ k. is_mentioned facts (invented k)) next j → j < 2 ^ 64 - 1 → Numbered id (Err x) new → x ≡ Memory
   unshown_refused o id j x new none was is first small h =
       let l = subst (λ o. NumbersLeft limit facts G before name behind ((n, o) ∷ left) b next) none was in
-      call_refused (number_fault (greatest b.limit) b.spool name n (invented j)) (with_group b.spool name (insert (numbers b.spool name) n (invented j))) x b new l.begun.is_whole (invented_fits l j first small)
+      call_refused (number_fault (greatest b.limit) b.spool name n (invented j))
+      (with_group b.spool name (insert (numbers b.spool name) n (invented j))) x b new l.begun.is_whole
+      (invented_fits l j first small)
       (subst (λ id. Numbered id (Err x) new) is h)
 
   -- the two calls make the number and the article
-  pub unshown_makes : (o : Option Id) (id other : Id) (t : Text) (j : ℕ) (x : Unit {0}) (r : Result (Unit {0}) SpoolFault) (mid new : Building) → o ≡ None → NumbersLeft limit facts G before name behind ((n, o) ∷ left) b next
+  pub unshown_makes : (o : Option Id) (id other : Id) (t : Text) (j : ℕ) (x : Unit {0}) (r : Result (Unit {0}) SpoolFault)
+      (mid new : Building) → o ≡ None → NumbersLeft limit facts G before name behind ((n, o) ∷ left) b next
       → id ≡ invented j → other ≡ invented j → t ≡ record { head = plain_head other; body = [] } → IsFirstFree (λ k. is_mentioned facts (invented k)) next j → j < 2 ^ 64 - 1
       → Numbered id (Ok x) mid → Builds (article_fault mid.spool other t) (with_article mid.spool other t) r mid new → Makes r (λ _. NumbersLeft limit facts G before name behind left new (j + 1))
   unshown_makes o id other t j x r mid new none was is also text first small h g =
       let l = subst (λ o. NumbersLeft limit facts G before name behind ((n, o) ∷ left) b next) none was in
       let S : Spool = with_group b.spool name (insert (numbers b.spool name) n (invented j)) in
-      let middle : mid ≡ record { limit = b.limit; spool = S; failed = false } = call_done (number_fault (greatest b.limit) b.spool name n (invented j)) S x b mid l.begun.is_whole (invented_fits l j first small) (subst (λ id. Numbered id (Ok x) mid) is h) in
+      let middle : mid ≡ record { limit = b.limit; spool = S; failed = false } = call_done
+      (number_fault (greatest b.limit) b.spool name n (invented j)) S x b mid l.begun.is_whole
+      (invented_fits l j first small) (subst (λ id. Numbered id (Ok x) mid) is h) in
       let plain_is : t ≡ plain l j first small = text ∙ (λ i. record { head = plain_head (also i); body = [] }) in
-      called (λ c. NumbersLeft limit facts G before name behind left c (j + 1)) (article_fault S (invented j) (plain l j first small)) (with_article S (invented j) (plain l j first small)) r (record { limit = b.limit; spool = S; failed = false }) new
+      called (λ c. NumbersLeft limit facts G before name behind left c (j + 1))
+      (article_fault S (invented j) (plain l j first small)) (with_article S (invented j) (plain l j first small)) r
+      (record { limit = b.limit; spool = S; failed = false }) new
       refl (plain_fits l j first small) (invented_made l j first small)
       (subst (λ m. Builds (article_fault m.spool (invented j) (plain l j first small)) (with_article m.spool (invented j) (plain l j first small)) r m new) middle
       (subst (λ u. Builds (article_fault mid.spool (invented j) u) (with_article mid.spool (invented j) u) r mid new) plain_is

@@ -8,18 +8,18 @@ use Rattle.std.proofs.lemmas.Bool.{true≢false, false≢true}
 use Rattle.nntp_wire.specs.Limit.{greatest}
 use Rattle.nntp_wire.specs.declared.limit.Limit.{Limit}
 use Rattle.nntp_wire.specs.declared.marks.Marks.{Marks}
-use Rattle.nntp_article.specs.Article.{Id}
-use Rattle.nntp_article.specs.Limit.{profile_of}
-use Rattle.nntp_article.specs.Machine.{is_same}
-use Rattle.nntp_article.specs.Spool.{Spool, Name, Text, numbers}
+use Rattle.nntp_article.specs.Article.Parts.{Id}
+use Rattle.nntp_article.specs.Session.Limit.{profile_of}
+use Rattle.nntp_article.specs.Session.Machine.{is_same}
+use Rattle.nntp_article.specs.Session.Spool.{Spool, Name, Text, numbers}
 use Rattle.nntp_pair.specs.Pairing.{Paired}
 use Rattle.nntp_facts.specs.Facts.{Fact, IdAt, TextIs}
 use Rattle.nntp_facts.specs.Given.{IsGiven, id_in, id_shown, is_sent, gives_article}
 use Rattle.nntp_facts.specs.Noted.{said_by}
 use Rattle.nntp_facts.specs.Together.{shows_article}
-use Rattle.nntp_facts.proofs.Made.{names_apart}
+use Rattle.nntp_facts.proofs.Given.ConstructedSpool.{names_apart}
 use Rattle.nntp_facts.proofs.Members.{any_in, found_in, first_found}
-use Rattle.nntp_facts.proofs.Stand.{same_itself}
+use Rattle.nntp_facts.proofs.Together.FactsOfASpoolStand.{same_itself}
 use Rattle.nntp_spool.specs.Building.{Building, finished}
 use Rattle.nntp_spool.specs.Content.{ids_have_articles}
 use Rattle.nntp_spool.specs.Limited.{LimitedSpool}
@@ -101,6 +101,8 @@ finished_is limit b G is whole same knows = (λ i. handed (is i) (whole i) (same
     handed limit failed S = cond failed (Err faults.Failed) (cond (not (ids_have_articles S)) (Err faults.UnknownId) (Ok (record { limit = limit; spool = S })))
 
 -- where no article is left the builder hands out the given spool
-pub finished_is_given : (limit : Limit) (marks : Marks) (past : List Paired) (G : Spool) (b : Building) → IsWitness (profile_of limit marks) past G → ArticlesLeft limit (said_by marks past) G [] b → finished b ≡ Ok (record { limit = limit; spool = G })
+pub finished_is_given : (limit : Limit) (marks : Marks) (past : List Paired) (G : Spool) (b : Building)
+    → IsWitness (profile_of limit marks) past G → ArticlesLeft limit (said_by marks past) G [] b
+    → finished b ≡ Ok (record { limit = limit; spool = G })
 finished_is_given limit marks past G b witness left =
     finished_is limit b G left.limit_is left.is_whole (made_is_given limit (said_by marks past) G b witness.given left) (spool_knows (greatest limit) G witness.is_spool)

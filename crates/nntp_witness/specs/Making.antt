@@ -6,9 +6,9 @@ use Rattle.std.specs.Ordering.{nat_cmp}
 use Rattle.std.specs.Cmp.Lexicographic.{slice_cmp}
 use Rattle.std.specs.FinMap.{get}
 use Rattle.nntp_wire.specs.declared.limit.Limit.{Limit}
-use Rattle.nntp_article.specs.Article.{Id}
-use Rattle.nntp_article.specs.Machine.{is_same}
-use Rattle.nntp_article.specs.Spool.{Spool, Name, Numbers, Text, IsGroup, IsNumber, numbers}
+use Rattle.nntp_article.specs.Article.Parts.{Id}
+use Rattle.nntp_article.specs.Session.Machine.{is_same}
+use Rattle.nntp_article.specs.Session.Spool.{Spool, Name, Numbers, Text, IsGroup, IsNumber, numbers}
 use Rattle.nntp_facts.specs.Facts.{Fact}
 use Rattle.nntp_facts.specs.Given.{id_shown, is_mentioned, plain_head, invented, AreInvented}
 use Rattle.nntp_facts.specs.Readers.{ShownGroup, ShownArticle, HasShownNumbers, IsShownArticle}
@@ -38,7 +38,7 @@ abbrev pub unshown_at : Numbers → List (ℕ × Option Id) → List Id
 unshown_at N [] = []
 unshown_at N (e ∷ es) = (if is_some e.1 then [] else unwrap_or (get N e.0) [] ∷ []) ++ unshown_at N es
 
--- the same of groups
+-- the ids of those numbers of groups for which none is shown
 abbrev pub unshown_of : Spool → List ShownGroup → List Id
 unshown_of G groups = flat_map (λ g. unshown_at (numbers G g.name) (given_numbers g)) groups
 

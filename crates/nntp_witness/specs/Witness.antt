@@ -1,9 +1,9 @@
 -- What a witness of a session is.
 use Rattle.std.specs.Prelude.{◌≡◌, List}
 use Rattle.nntp_wire.specs.declared.limit.Limit.{Limit}
-use Rattle.nntp_article.specs.declared.profile.Profile.{Profile}
-use Rattle.nntp_article.specs.Machine.{Run, start}
-use Rattle.nntp_article.specs.Spool.{Spool, IsSpool}
+use Rattle.nntp_article.specs.declared.session.profile.Profile.{Profile}
+use Rattle.nntp_article.specs.Session.Machine.{Run, start}
+use Rattle.nntp_article.specs.Session.Spool.{Spool, IsSpool}
 use Rattle.nntp_pair.specs.Pairing.{Paired, asked_of, responses_of}
 use Rattle.nntp_facts.specs.Given.{IsGiven}
 use Rattle.nntp_facts.specs.Noted.{FactsKept, HasNoted, profile_kept, said_by}
@@ -19,6 +19,6 @@ pub record IsWitness (profile : Profile) (past : List Paired) (S : Spool) : Type
   pub is_spool : IsSpool profile.limit S
   pub permits : Run profile S start (asked_of past) (responses_of past)
 
--- the same of a spool that has a limit: it has this one
+-- the spool is the one that is given for what the exchanges say, permits them, and has this limit
 abbrev pub IsWitnessWithin : Limit → Profile → List Paired → LimitedSpool → Type 0
 IsWitnessWithin limit profile past L = IsWitness profile past L.spool × (L.limit ≡ limit)

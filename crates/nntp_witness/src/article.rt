@@ -1,4 +1,4 @@
-//! Articles of which less is shown than they have.
+//! The articles of the given spool, of which less may be shown than they have.
 ghost use Rattle.std.specs.Prelude.{◌≡◌, [], IfOk, unwrap_or, option_map};
 ghost use Rattle.nntp_wire.specs.Held.{held};
 ghost use Rattle.nntp_facts.specs.Given.{plain_head};
@@ -9,8 +9,8 @@ use nntp_facts::ShownArticle;
 use nntp_spool::Article;
 use std::alloc::{AllocError, Allocator};
 
-/// The article as it was sent. A head that wasn't sent says the message-id, and a body that wasn't has
-/// no lines.
+/// Makes the article as it was sent. A head that wasn't sent says the message-id, and a body that
+/// wasn't sent has no lines.
 pub(crate) fn given_article<A: Allocator + Copy>(
     alloc: A,
     shown: &ShownArticle<'_, A>,
@@ -28,7 +28,7 @@ pub(crate) fn given_article<A: Allocator + Copy>(
     Ok(Article { head, body })
 }
 
-/// An article of which nothing was sent.
+/// Makes an article of which nothing was sent.
 pub(crate) fn plain_article<A: Allocator + Copy>(
     alloc: A,
     id: &[u8],
@@ -41,7 +41,7 @@ pub(crate) fn plain_article<A: Allocator + Copy>(
     })
 }
 
-/// A head that says the id and nothing else.
+/// Makes a head that says the id and nothing else.
 fn plain_head<A: Allocator + Copy>(alloc: A, id: &[u8]) -> Result<Vec<Vec<u8, A>, A>, AllocError>
     ensures { IfOk result (λ head. held head.items ≡ plain_head id.now) }
 {
@@ -52,7 +52,7 @@ fn plain_head<A: Allocator + Copy>(alloc: A, id: &[u8]) -> Result<Vec<Vec<u8, A>
     Ok(head)
 }
 
-/// The lines, copied.
+/// Copies the lines.
 fn copied<A: Allocator + Copy>(
     alloc: A,
     lines: &[Vec<u8, A>],

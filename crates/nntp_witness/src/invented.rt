@@ -1,7 +1,7 @@
-//! Message-ids that are invented.
+//! The message-ids that are invented.
 ghost use Rattle.std.specs.Prelude.{◌≡◌, ◌-◌, ◌<◌, ◌^◌, ℕ, List, IfOk};
 ghost use Rattle.nntp_pair.specs.Pairing.{Paired};
-ghost use Rattle.nntp_article.specs.declared.profile.Profile.{Profile};
+ghost use Rattle.nntp_article.specs.declared.session.profile.Profile.{Profile};
 ghost use Rattle.nntp_facts.specs.Given.{invented, is_mentioned, IsFirstFree};
 ghost use Rattle.nntp_facts.specs.Noted.{HasNoted, said_by};
 
@@ -9,16 +9,17 @@ use itoa::Buffer;
 use nntp_facts::Facts;
 use std::alloc::{AllocError, Allocator};
 
-/// A message-id that is invented.
+/// A message-id that is invented, and its number.
 #[derive(Drop)]
 pub(crate) struct Invented<A: Allocator> {
-    /// The number that it has in it.
+    /// The number that the id has in it.
     pub(crate) number: u64,
+    /// The octets of the id, with the angle brackets.
     pub(crate) id: Vec<u8, A>,
 }
 
-/// The first id, of those that are invented with numbers from `from` on, that no answer mentions. Ids
-/// with all numbers of 64 bits find no room in memory.
+/// Makes the first id that no answer mentions, of those that are invented with numbers from `from`
+/// on. Ids with all numbers of 64 bits find no room in memory.
 pub(crate) fn invent<A: Allocator + Copy>(
     alloc: A,
     facts: &Facts<A>,
@@ -26,7 +27,8 @@ pub(crate) fn invent<A: Allocator + Copy>(
 ) -> Result<Invented<A>, AllocError>
     ensures is { IfOk result (λ i. i.id.items ≡ invented i.number) }
     ensures small { IfOk result (λ i. i.number < 2 ^ 64 - 1) }
-    ensures first { IfOk result (λ i. (profile : Profile) (past : List Paired) → HasNoted profile facts.now past → IsFirstFree (λ k. is_mentioned (said_by profile.marks past) (invented k)) from i.number) }
+    ensures first { IfOk result (λ i. (profile : Profile) (past : List Paired) → HasNoted profile facts.now past
+        → IsFirstFree (λ k. is_mentioned (said_by profile.marks past) (invented k)) from i.number) }
 {
     for number in from..u64::MAX {
         let id = made_id(alloc, number)?;
@@ -37,7 +39,7 @@ pub(crate) fn invent<A: Allocator + Copy>(
     Err(AllocError)
 }
 
-/// The id that is invented with the number.
+/// Makes the id that is invented with the number.
 fn made_id<A: Allocator + Copy>(alloc: A, number: u64) -> Result<Vec<u8, A>, AllocError>
     ensures { IfOk result (λ id. id.items ≡ invented number) }
 {

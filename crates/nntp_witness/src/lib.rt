@@ -1,4 +1,4 @@
-//! The spool that is given for what a session says.
+//! The given spool of a session, which is made of what its answers say and permits them.
 #![tactic(auto)]
 
 mod article;

@@ -1,11 +1,11 @@
-//! The given spool as far as it is made.
+//! The maker of the given spool.
 ghost use Rattle.std.specs.Prelude.{◌≡◌, ℕ, List, [], ◌∷◌, ◌++◌, Option, IfOk};
 ghost use Rattle.std.specs.Option.{option_copied};
 ghost use Rattle.nntp_wire.specs.declared.limit.Limit.{Limit};
 ghost use Rattle.nntp_wire.specs.declared.marks.Marks.{Marks};
-ghost use Rattle.nntp_article.specs.Article.{Id};
-ghost use Rattle.nntp_article.specs.Limit.{profile_of};
-ghost use Rattle.nntp_article.specs.Spool.{Spool as SpoolValue};
+ghost use Rattle.nntp_article.specs.Article.Parts.{Id};
+ghost use Rattle.nntp_article.specs.Session.Limit.{profile_of};
+ghost use Rattle.nntp_article.specs.Session.Spool.{Spool as SpoolValue};
 ghost use Rattle.nntp_pair.specs.Pairing.{Paired};
 ghost use Rattle.nntp_facts.specs.Noted.{HasNoted, profile_kept, said_by};
 ghost use Rattle.nntp_facts.specs.Readers.{ShownGroup as GroupValue, ShownArticle as ArticleValue};
@@ -19,7 +19,7 @@ use nntp_facts::{Facts, ShownArticle, ShownGroup, ShownNumbers};
 use nntp_spool::{Spool, SpoolBuilder, SpoolFault};
 use std::alloc::Allocator;
 
-/// The given spool as far as it is made.
+/// A maker of the given spool, which holds as much of it as is made.
 #[derive(Drop)]
 pub(crate) struct SpoolMaker<A: Allocator> {
     alloc: A,
@@ -29,9 +29,12 @@ pub(crate) struct SpoolMaker<A: Allocator> {
 }
 
 impl<A: Allocator + Copy> SpoolMaker<A> {
-    /// With the groups that are shown, and articles of ids that are invented.
+    /// Makes the groups that are shown, with their numbers, and articles of the ids that are
+    /// invented for them.
     pub(crate) fn of_groups(alloc: A, facts: &Facts<A>) -> Result<SpoolMaker<A>, SpoolFault>
-        ensures { (past : List Paired) (G : SpoolValue) → HasNoted (profile_kept facts.now) facts.now past → IsWitness (profile_kept facts.now) past G → Makes result (λ maker. GroupsLeft facts.now.limit (said_by facts.now.marks past) G [] maker.builder maker.next) }
+        ensures { (past : List Paired) (G : SpoolValue) → HasNoted (profile_kept facts.now) facts.now past
+            → IsWitness (profile_kept facts.now) past G
+            → Makes result (λ maker. GroupsLeft facts.now.limit (said_by facts.now.marks past) G [] maker.builder maker.next) }
     {
         let mut maker = SpoolMaker {
             alloc,
@@ -47,7 +50,9 @@ impl<A: Allocator + Copy> SpoolMaker<A> {
 
     /// Adds a group with its numbers.
     fn add_group(&mut self, facts: &Facts<A>, group: &ShownGroup<'_, A>) -> Result<(), SpoolFault>
-        ensures { (past : List Paired) (G : SpoolValue) (left : List GroupValue) → HasNoted (profile_kept facts.now) facts.now past → IsWitness (profile_kept facts.now) past G → GroupsLeft facts.now.limit (said_by facts.now.marks past) G (group.now ∷ left) self.old.builder self.old.next
+        ensures { (past : List Paired) (G : SpoolValue) (left : List GroupValue)
+            → HasNoted (profile_kept facts.now) facts.now past → IsWitness (profile_kept facts.now) past G
+            → GroupsLeft facts.now.limit (said_by facts.now.marks past) G (group.now ∷ left) self.old.builder self.old.next
             → Makes result (λ _. GroupsLeft facts.now.limit (said_by facts.now.marks past) G left self.new.builder self.new.next) }
     {
         let name = group.name();
@@ -64,7 +69,8 @@ impl<A: Allocator + Copy> SpoolMaker<A> {
         name: &[u8],
         unseen: Option<u64>,
     ) -> Result<(), SpoolFault>
-        ensures { (past : List Paired) (G before : SpoolValue) (behind : List Id) (left : List (ℕ × Option Id)) → HasNoted (profile_kept facts.now) facts.now past → IsWitness (profile_kept facts.now) past G
+        ensures { (past : List Paired) (G before : SpoolValue) (behind : List Id) (left : List (ℕ × Option Id))
+            → HasNoted (profile_kept facts.now) facts.now past → IsWitness (profile_kept facts.now) past G
             → NumbersLeft facts.now.limit (said_by facts.now.marks past) G before name.now behind (unseen_number unseen ++ left) self.old.builder self.old.next
             → Makes result (λ _. NumbersLeft facts.now.limit (said_by facts.now.marks past) G before name.now behind left self.new.builder self.new.next) }
     {
@@ -81,7 +87,8 @@ impl<A: Allocator + Copy> SpoolMaker<A> {
         name: &[u8],
         mut numbers: ShownNumbers<'_, A>,
     ) -> Result<(), SpoolFault>
-        ensures { (past : List Paired) (G before : SpoolValue) (behind : List Id) (left : List (ℕ × Option Id)) → HasNoted (profile_kept facts.now) facts.now past → IsWitness (profile_kept facts.now) past G
+        ensures { (past : List Paired) (G before : SpoolValue) (behind : List Id) (left : List (ℕ × Option Id))
+            → HasNoted (profile_kept facts.now) facts.now past → IsWitness (profile_kept facts.now) past G
             → NumbersLeft facts.now.limit (said_by facts.now.marks past) G before name.now behind (numbers.entry ++ left) self.old.builder self.old.next
             → Makes result (λ _. NumbersLeft facts.now.limit (said_by facts.now.marks past) G before name.now behind left self.new.builder self.new.next) }
     {
@@ -91,7 +98,8 @@ impl<A: Allocator + Copy> SpoolMaker<A> {
         Ok(())
     }
 
-    /// Adds a number with its id; where none is shown, with one that is invented, and the article of that.
+    /// Adds a number with its id. Where none is shown, it has one that is invented, whose article
+    /// is added too.
     fn add_number(
         &mut self,
         facts: &Facts<A>,
@@ -99,7 +107,8 @@ impl<A: Allocator + Copy> SpoolMaker<A> {
         number: u64,
         id: Option<&[u8]>,
     ) -> Result<(), SpoolFault>
-        ensures { (past : List Paired) (G before : SpoolValue) (behind : List Id) (left : List (ℕ × Option Id)) → HasNoted (profile_kept facts.now) facts.now past → IsWitness (profile_kept facts.now) past G
+        ensures { (past : List Paired) (G before : SpoolValue) (behind : List Id) (left : List (ℕ × Option Id))
+            → HasNoted (profile_kept facts.now) facts.now past → IsWitness (profile_kept facts.now) past G
             → NumbersLeft facts.now.limit (said_by facts.now.marks past) G before name.now behind ((number, option_copied id.entry) ∷ left) self.old.builder self.old.next
             → Makes result (λ _. NumbersLeft facts.now.limit (said_by facts.now.marks past) G before name.now behind left self.new.builder self.new.next) }
     {
@@ -119,7 +128,9 @@ impl<A: Allocator + Copy> SpoolMaker<A> {
 
     /// Adds the articles that are shown.
     pub(crate) fn add_articles(&mut self, facts: &Facts<A>) -> Result<(), SpoolFault>
-        ensures { (past : List Paired) (G : SpoolValue) → HasNoted (profile_kept facts.now) facts.now past → IsWitness (profile_kept facts.now) past G → GroupsLeft facts.now.limit (said_by facts.now.marks past) G [] self.old.builder self.old.next
+        ensures { (past : List Paired) (G : SpoolValue) → HasNoted (profile_kept facts.now) facts.now past
+            → IsWitness (profile_kept facts.now) past G
+            → GroupsLeft facts.now.limit (said_by facts.now.marks past) G [] self.old.builder self.old.next
             → Makes result (λ _. ArticlesLeft facts.now.limit (said_by facts.now.marks past) G [] self.new.builder) }
     {
         let mut articles = facts.articles();
@@ -131,7 +142,9 @@ impl<A: Allocator + Copy> SpoolMaker<A> {
 
     /// Adds an article that is shown.
     fn add_article(&mut self, shown: &ShownArticle<'_, A>) -> Result<(), SpoolFault>
-        ensures { (limit : Limit) (marks : Marks) (past : List Paired) (G : SpoolValue) (left : List ArticleValue) → IsWitness (profile_of limit marks) past G → ArticlesLeft limit (said_by marks past) G (shown.now ∷ left) self.old.builder
+        ensures { (limit : Limit) (marks : Marks) (past : List Paired) (G : SpoolValue) (left : List ArticleValue)
+            → IsWitness (profile_of limit marks) past G
+            → ArticlesLeft limit (said_by marks past) G (shown.now ∷ left) self.old.builder
             → Makes result (λ _. ArticlesLeft limit (said_by marks past) G left self.new.builder) }
     {
         let Ok(article) = given_article(self.alloc, shown) else {
@@ -140,7 +153,7 @@ impl<A: Allocator + Copy> SpoolMaker<A> {
         self.builder.article(shown.id(), article)
     }
 
-    /// The spool that is made.
+    /// Returns the spool that is made.
     pub(crate) fn finish(self) -> Result<Spool<A>, SpoolFault>
         ensures given { (limit : Limit) (marks : Marks) (past : List Paired) (G : SpoolValue) → IsWitness (profile_of limit marks) past G → ArticlesLeft limit (said_by marks past) G [] self.builder
             → Makes result (λ spool. spool ≡ record { limit = limit; spool = G }) }

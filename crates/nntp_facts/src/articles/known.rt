@@ -1,8 +1,8 @@
 //! What is known of one message-id.
 ghost use Rattle.std.specs.Prelude.{◌≡◌, ◌↔◌, false, IsTrue, IfOk, OnOk, option_map};
 ghost use Rattle.std.specs.Option.{option_or};
-ghost use Rattle.nntp_article.specs.Article.{Id};
-ghost use Rattle.nntp_article.specs.Machine.{head_fits};
+ghost use Rattle.nntp_article.specs.Article.Parts.{Id};
+ghost use Rattle.nntp_article.specs.Session.Machine.{head_fits};
 ghost use Rattle.nntp_facts.specs.Articles.{head_sent, body_sent, AreSame, MayBeSent, unsent, with_sent};
 ghost use Rattle.nntp_facts.specs.Kept.{IsAddedIf};
 ghost use Rattle.nntp_facts.specs.ArticleView.{lines_held, known_article, known_value};
@@ -11,27 +11,27 @@ use nntp_article::Parts;
 use nntp_wire::{Block, What};
 use std::alloc::{AllocError, Allocator};
 
-/// What is known of a message-id that is mentioned.
+/// What is known of a message-id that an answer mentions.
 #[derive(Drop)]
 pub(crate) enum Known<A: Allocator> {
-    /// It has no article.
+    /// The id has no article.
     Denied,
-    /// It has one.
+    /// The id has an article, of which this is known.
     There(KnownArticle<A>),
 }
 
 /// What is known of an article.
 #[derive(Drop)]
 pub(crate) struct KnownArticle<A: Allocator> {
-    /// Whether a success named it.
+    /// Whether a success of ARTICLE, HEAD, BODY or STAT named the article.
     pub(crate) is_sent: bool,
-    /// The lines of its head, where they were sent.
+    /// The lines of the article's head, if they were sent.
     pub(crate) head: Option<Vec<Vec<u8, A>, A>>,
-    /// The lines of its body, where they were sent.
+    /// The lines of the article's body, if they were sent.
     pub(crate) body: Option<Vec<Vec<u8, A>, A>>,
 }
 
-/// What a success sends of an article.
+/// The parts of an article that a success sends.
 #[derive(Drop)]
 pub(crate) struct Sent<'a> {
     head: Option<Block<'a>>,
@@ -39,6 +39,7 @@ pub(crate) struct Sent<'a> {
 }
 
 impl<'a> Sent<'a> {
+    /// Returns the parts that a success sends in its block.
     pub(crate) fn of(what: What, block: &Option<Block<'a>>) -> Sent<'a>
         ensures head { (id : Id) → IsTrue (head_fits what id block.now) → result.head ≡ head_sent what block.now }
         ensures body { (id : Id) → IsTrue (head_fits what id block.now) → result.body ≡ body_sent what block.now }
@@ -60,6 +61,7 @@ impl<'a> Sent<'a> {
         }
     }
 
+    /// Returns the head and the body of a whole article.
     fn parts(parts: Option<Parts<'a>>) -> Sent<'a>
         ensures head { result.head ≡ option_map (λ p. p.head) parts.entry }
         ensures body { result.body ≡ option_map (λ p. p.body) parts.entry }
@@ -77,7 +79,7 @@ impl<'a> Sent<'a> {
     }
 }
 
-/// Whether lines that are sent are those that are held, where both are there.
+/// Tells whether lines that are sent are those that are held, where there are both.
 fn are_same<A: Allocator>(sent: &Option<Block<'_>>, lines: &Option<Vec<Vec<u8, A>, A>>) -> bool
     ensures { IsTrue result ↔ AreSame sent.now (lines_held lines.now) }
 {
@@ -102,7 +104,7 @@ fn hold<A: Allocator + Copy>(
 }
 
 impl<A: Allocator + Copy> KnownArticle<A> {
-    /// Holds what a success sends.
+    /// Holds the parts that a success sends.
     fn send(&mut self, alloc: A, sent: &Sent<'_>) -> Result<(), AllocError>
         ensures { OnOk result (known_article self.new ≡ with_sent (known_article self.old) sent.now.head sent.now.body) }
     {
@@ -114,7 +116,7 @@ impl<A: Allocator + Copy> KnownArticle<A> {
 }
 
 impl<A: Allocator> KnownArticle<A> {
-    /// Of an article that no success named.
+    /// Returns what is known of an article that no success named.
     pub(crate) fn unsent() -> KnownArticle<A>
         ensures { known_article result ≡ unsent }
     {
@@ -127,7 +129,7 @@ impl<A: Allocator> KnownArticle<A> {
 }
 
 impl<A: Allocator> Known<A> {
-    /// Whether it has no article.
+    /// Tells whether the id has no article.
     pub(crate) fn is_denied(&self) -> bool
         ensures { result ≡ (known_value self.now).is_denied }
     {
@@ -137,7 +139,7 @@ impl<A: Allocator> Known<A> {
         }
     }
 
-    /// Whether this may be sent of its article.
+    /// Tells whether these parts may be sent of the id's article.
     fn may_send(&self, sent: &Sent<'_>) -> bool
         ensures { IsTrue result ↔ MayBeSent (known_value self.now) sent.now.head sent.now.body }
     {
@@ -151,7 +153,7 @@ impl<A: Allocator> Known<A> {
 }
 
 impl<A: Allocator + Copy> Known<A> {
-    /// Of an article of which a success sends this first.
+    /// Returns what is known of an article once these parts of it were sent first.
     pub(crate) fn of_sent(alloc: A, sent: &Sent<'_>) -> Result<Known<A>, AllocError>
         ensures { IfOk result (λ known. known_value known ≡ with_sent unsent sent.now.head sent.now.body) }
     {
@@ -160,7 +162,7 @@ impl<A: Allocator + Copy> Known<A> {
         Ok(Known::There(article))
     }
 
-    /// Holds what a success sends, if it may be sent, and tells whether it may.
+    /// Holds the parts that a success sends, if they may be sent, and tells whether they may.
     pub(crate) fn note(&mut self, alloc: A, sent: &Sent<'_>) -> Result<bool, AllocError>
         ensures { IfOk result (λ may. IsAddedIf (MayBeSent (known_value self.old) sent.now.head sent.now.body)
             (λ known. known ≡ with_sent (known_value self.old) sent.now.head sent.now.body) (known_value self.old) (known_value self.new) may) }
@@ -172,7 +174,7 @@ impl<A: Allocator + Copy> Known<A> {
         Ok(true)
     }
 
-    /// Holds what a success sends, where there is an article.
+    /// Holds the parts that a success sends, where the id has an article.
     fn send(&mut self, alloc: A, sent: &Sent<'_>) -> Result<(), AllocError>
         ensures { OnOk result ((known_value self.old).is_denied ≡ false → known_value self.new ≡ with_sent (known_value self.old) sent.now.head sent.now.body) }
     {

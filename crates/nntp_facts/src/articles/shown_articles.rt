@@ -1,4 +1,4 @@
-//! Articles, one after the other.
+//! The articles that answers show, one after the other.
 ghost use Rattle.std.specs.Prelude.{◌≡◌, ◌∷◌, [], MatchOption, option_map};
 ghost use Rattle.std.specs.Iterator.{YieldsFirst, item_count};
 ghost use Rattle.nntp_wire.specs.Held.{held};
@@ -10,7 +10,7 @@ use std::alloc::{Allocator, Global};
 use std::collections::btree_map;
 use std::marker::Model;
 
-/// An article that each spool has.
+/// An article that answers show, and so every spool has that permits them.
 #[derive(Drop)]
 pub struct ShownArticle<'a, A: Allocator = Global> {
     id: &'a [u8],
@@ -33,7 +33,7 @@ impl<'a, A: Allocator> Model for ShownArticle<'a, A> {
 }
 
 impl<'a, A: Allocator> ShownArticle<'a, A> {
-    /// What is known of the article with this id.
+    /// Puts the id together with what is known of its article.
     fn new(id: &'a [u8], article: &'a KnownArticle<A>) -> ShownArticle<'a, A>
         ensures { result ≡ shown_article id.now (known_article article.now) }
     {
@@ -45,28 +45,31 @@ impl<'a, A: Allocator> ShownArticle<'a, A> {
         }
     }
 
-    /// Its message-id.
+    /// Returns the octets of the article's message-id, with the angle brackets (RFC 3977,
+    /// section 3.6).
     pub fn id(&self) -> &'a [u8]
         ensures { result.now ≡ self.now.id }
     {
         self.id
     }
 
-    /// Whether a success named it.
+    /// Tells whether a success of ARTICLE, HEAD, BODY or STAT named the article (RFC 3977,
+    /// section 6.2).
     pub fn is_sent(&self) -> bool
         ensures { result ≡ self.now.is_sent }
     {
         self.is_sent
     }
 
-    /// The lines of its head, where they were sent.
+    /// Returns the lines of the article's head, without CRLF, or `None` if no answer sent them.
     pub fn head(&self) -> Option<&'a [Vec<u8, A>]>
         ensures { option_map (λ lines. held lines.now) result ≡ self.now.head }
     {
         self.head
     }
 
-    /// The lines of its body, where they were sent.
+    /// Returns the lines of the article's body, without CRLF and without the dots that are put in
+    /// front to send them, or `None` if no answer sent them.
     pub fn body(&self) -> Option<&'a [Vec<u8, A>]>
         ensures { option_map (λ lines. held lines.now) result ≡ self.now.body }
     {
@@ -74,7 +77,7 @@ impl<'a, A: Allocator> ShownArticle<'a, A> {
     }
 }
 
-/// The lines, borrowed.
+/// Borrows the lines, if there are any.
 fn slice<A: Allocator>(lines: &Option<Vec<Vec<u8, A>, A>>) -> Option<&[Vec<u8, A>]>
     ensures { option_map (λ lines. held lines.now) result ≡ lines_held lines.now }
 {
@@ -84,8 +87,7 @@ fn slice<A: Allocator>(lines: &Option<Vec<Vec<u8, A>, A>>) -> Option<&[Vec<u8, A
     }
 }
 
-/// The articles that each spool has, in byte order of their message-ids, seen as the list of those
-/// that are left.
+/// An iterator over the articles that answers show, in byte order of their message-ids.
 #[derive(Drop)]
 pub struct ShownArticles<'a, A: Allocator = Global> {
     rest: btree_map::Iter<'a, Vec<u8, A>, Known<A>>,
@@ -106,6 +108,7 @@ impl<'a, A: Allocator> Model for ShownArticles<'a, A> {
 }
 
 impl<'a, A: Allocator> ShownArticles<'a, A> {
+    /// Begins with the first of these ids.
     pub(crate) fn new(rest: btree_map::Iter<'a, Vec<u8, A>, Known<A>>) -> ShownArticles<'a, A>
         ensures { result ≡ articles_shown_in (entries_value rest.entry) }
     {
@@ -125,7 +128,7 @@ impl<'a, A: Allocator> Iterator for ShownArticles<'a, A> {
     }
 }
 
-/// The next article.
+/// Returns the next article, and passes over the ids that have none.
 fn next_article<'a, A: Allocator>(
     rest: &mut btree_map::Iter<'a, Vec<u8, A>, Known<A>>,
 ) -> Option<ShownArticle<'a, A>>

@@ -3,8 +3,8 @@ ghost use Rattle.std.specs.Prelude.{◌≡◌, ℕ, ◌↔◌, ◌++◌, ◌∷�
 ghost use Rattle.std.specs.List.{list_any};
 ghost use Rattle.std.specs.BTreeMap.{keys};
 ghost use Rattle.nntp_wire.specs.Listing.{active_groups};
-ghost use Rattle.nntp_article.specs.Spool.{Name};
-ghost use Rattle.nntp_article.specs.Machine.{is_same};
+ghost use Rattle.nntp_article.specs.Session.Spool.{Name};
+ghost use Rattle.nntp_article.specs.Session.Machine.{is_same};
 ghost use Rattle.nntp_facts.specs.Facts.{Fact, GroupsAre};
 ghost use Rattle.nntp_facts.specs.Together.{Together};
 ghost use Rattle.nntp_facts.specs.Kept.{AreKeptGroups};
@@ -19,8 +19,8 @@ use std::alloc::{AllocError, Allocator};
 use std::collections::{BTreeMap, BTreeSet};
 
 impl<A: Allocator + Copy> Groups<A> {
-    /// Whether each group that is shown and matches is listed, in the steps of the lines and the shown
-    /// groups times the logarithm of the lines.
+    /// Tells whether each group that is shown and matches is listed, in the steps of the lines and
+    /// the shown groups times the logarithm of the lines.
     pub(crate) fn are_listed(
         &self,
         wildmat: &Option<Wildmat<'_>>,
@@ -44,7 +44,7 @@ impl<A: Allocator + Copy> Groups<A> {
     }
 }
 
-/// The names of the groups that the lines list.
+/// Collects the names of the groups that the lines list.
 fn names_of<'a, A: Allocator + Copy>(
     alloc: A,
     block: &Block<'a>,
@@ -58,7 +58,7 @@ fn names_of<'a, A: Allocator + Copy>(
     Ok(names)
 }
 
-/// Whether one of the groups matches, and isn't listed.
+/// Tells whether one of the groups matches, and isn't listed.
 fn some_is_missing<A: Allocator>(
     groups: &BTreeMap<Vec<u8, A>, Group<A>, A>,
     listed: &BTreeSet<&[u8], A>,
@@ -75,7 +75,7 @@ fn some_is_missing<A: Allocator>(
     false
 }
 
-/// Whether the name is that of a group that matches, and isn't listed.
+/// Tells whether the name is that of a group that matches, and isn't listed.
 fn is_missing<A: Allocator>(
     listed: &BTreeSet<&[u8], A>,
     wildmat: &Option<Wildmat<'_>>,
@@ -90,7 +90,7 @@ fn is_missing<A: Allocator>(
     }
 }
 
-/// Whether the name is one of these.
+/// Tells whether the name is one of these names.
 fn is_one_of<A: Allocator>(names: &BTreeSet<&[u8], A>, name: &[u8]) -> bool
     ensures { result ≡ list_any (λ k. is_same k.now name.now) names.now.keys }
 {

@@ -1,4 +1,4 @@
-//! What an answer to LIST ACTIVE says, beside all before (RFC 3977, section 7.6.3).
+//! What an answer to LIST ACTIVE says beside all that was said before (RFC 3977, section 7.6.3).
 ghost use Rattle.std.specs.Prelude.{◌≡◌, ◌↔◌, ◌++◌, ◌∷◌, [], List, length, IsTrue, IfOk, OnOk};
 ghost use Rattle.std.specs.List.{AllByRecursion};
 ghost use Rattle.nntp_wire.specs.Listing.{active_groups};
@@ -31,7 +31,8 @@ impl<A: Allocator + Copy> Kept<A> {
         Ok(true)
     }
 
-    /// Whether the groups that an answer lists, all that match, stand together with all before.
+    /// Tells whether the groups that an answer lists as all that match stand together with all that
+    /// was said before.
     fn may_list_groups(
         &self,
         wildmat: &Option<Wildmat<'_>>,
@@ -46,15 +47,16 @@ impl<A: Allocator + Copy> Kept<A> {
         self.none_is_missing(wildmat, block)
     }
 
-    /// Whether each group that is shown and matches is listed, where each listed group may be there. Groups
-    /// that are listed again for a wildmat are among those that were listed for it before, and so all of
-    /// these if they are as many.
+    /// Tells whether each group that is shown and matches is listed, where each listed group may be
+    /// there. Groups that are listed again for a wildmat are among those that were listed for it
+    /// before, and so all of these if they are as many.
     fn none_is_missing(
         &self,
         wildmat: &Option<Wildmat<'_>>,
         block: &Block<'_>,
     ) -> Result<bool, AllocError>
-        ensures { IfOk result (λ none. (facts : List Fact) → IsKept facts self.now → Together facts → MayList wildmat.now (active_groups block.now) → AllByRecursion (LineJoins facts) (active_groups block.now)
+        ensures { IfOk result (λ none. (facts : List Fact) → IsKept facts self.now → Together facts
+            → MayList wildmat.now (active_groups block.now) → AllByRecursion (LineJoins facts) (active_groups block.now)
             → IsTrue none ↔ NoneIsMissing facts wildmat.now (active_groups block.now)) }
     {
         match self.names.listed(wildmat) {
@@ -63,7 +65,8 @@ impl<A: Allocator + Copy> Kept<A> {
         }
     }
 
-    /// Adds that the groups that match are those. After an error the value says nothing of use.
+    /// Adds that the groups that match are the listed ones. After an error the value says nothing
+    /// of use.
     fn list_groups(
         &mut self,
         wildmat: &Option<Wildmat<'_>>,
@@ -79,7 +82,7 @@ impl<A: Allocator + Copy> Kept<A> {
 }
 
 impl<A: Allocator + Copy> Kept<A> {
-    /// Whether each listed group may be there, with its numbers between the marks.
+    /// Tells whether each listed group may be there, with its numbers between the marks.
     fn may_bound_all(&self, block: &Block<'_>) -> bool
         ensures { (facts : List Fact) → IsKept facts self.now → Together facts → IsTrue result ↔ AllByRecursion (LineJoins facts) (active_groups block.now) }
     {
@@ -91,7 +94,7 @@ impl<A: Allocator + Copy> Kept<A> {
         true
     }
 
-    /// Whether one may.
+    /// Tells whether a listed group may be there, with its numbers between the marks.
     fn may_bound(&self, line: &ActiveLine<'_>) -> bool
         ensures { (facts : List Fact) → IsKept facts self.now → Together facts → IsTrue result ↔ LineJoins facts (active_value line.now) }
     {
@@ -99,7 +102,7 @@ impl<A: Allocator + Copy> Kept<A> {
     }
 }
 
-/// How many groups the lines list.
+/// Returns how many groups the lines list.
 fn count_of(block: &Block<'_>) -> usize
     ensures { result ≡ length (active_groups block.now) }
 {

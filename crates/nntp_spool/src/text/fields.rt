@@ -2,7 +2,7 @@
 ghost use Rattle.std.specs.Prelude.{◌≡◌, ◌≤◌, ◌^◌, ◌∷◌, [], Some, None, true, option_map, option_copied, position, ◌==◌, MatchOption, if◌then◌else◌};
 ghost use Rattle.nntp_spool.specs.Reading.{Gives, line_at};
 ghost use Rattle.nntp_spool.specs.Fields.{fields_of, are_digits, is_decimal, is_count, value_of, opening_of, number_and_id, unbarred};
-ghost use Rattle.nntp_article.specs.Machine.{is_article_number};
+ghost use Rattle.nntp_article.specs.Session.Machine.{is_article_number};
 ghost use Rattle.nntp_spool.specs.ReadingView.{place_shown, opening_shown, number_line_shown, words_from};
 
 use crate::text::place::{NumberLine, Opening, Place};
@@ -10,19 +10,21 @@ use crate::text::read_fault::{Kind, ReadError, ReadFault};
 use crate::value::well_formed::is_line;
 use nntp_article::is_article_number;
 
+/// Makes a fault of this kind, told of this line.
 pub(crate) fn fault(line: u64, kind: Kind) -> ReadError
     ensures { result ≡ ReadError.Fault (record { line = line; kind = kind }) }
 {
     ReadError::Fault(ReadFault { line, kind })
 }
 
+/// Returns where the octet stands first.
 fn first_place(octets: &[u8], octet: u8) -> Option<usize>
     ensures { result ≡ position (λ c. c == octet) octets.now }
 {
     octets.iter().position(|c| *c == octet)
 }
 
-/// The next line, and the place behind it.
+/// Returns the next line, without its LF, and the place behind it.
 pub(crate) fn next_line(place: Place<'_>) -> Result<(&[u8], Place<'_>), ReadError>
     ensures { Gives (λ x. (x.0.now, place_shown x.1)) result (line_at (place_shown place.entry)) }
 {
@@ -42,7 +44,7 @@ pub(crate) fn next_line(place: Place<'_>) -> Result<(&[u8], Place<'_>), ReadErro
     }
 }
 
-/// The first field of a line, and what stands behind the space after it.
+/// Returns the first field of a line, and what stands behind the space after it.
 fn cut(line: &[u8]) -> (&[u8], Option<&[u8]>)
     ensures { fields_of line.now ≡ result.0.now ∷ words_from result.1 }
 {
@@ -56,13 +58,14 @@ fn cut(line: &[u8]) -> (&[u8], Option<&[u8]>)
     }
 }
 
+/// Tells whether each octet is a digit.
 fn is_digits(word: &[u8]) -> bool
     ensures { result ≡ are_digits word.now }
 {
     word.iter().all(|c| c.is_ascii_digit())
 }
 
-/// Whether the field is a number without leading zeros.
+/// Tells whether the field is a number without leading zeros.
 fn is_decimal_word(word: &[u8]) -> bool
     ensures { result ≡ is_decimal word.now }
 {
@@ -72,7 +75,7 @@ fn is_decimal_word(word: &[u8]) -> bool
     }
 }
 
-/// The value of digits, if 64 bits hold it.
+/// Returns the number that digits write, if 64 bits hold it.
 fn value(digits: &[u8]) -> Option<u64>
     requires { are_digits digits.now ≡ true }
     ensures { MatchOption result (2 ^ 64 ≤ value_of digits.now) (λ v. v ≡ value_of digits.now) }
@@ -90,6 +93,7 @@ fn value(digits: &[u8]) -> Option<u64>
     Some(value)
 }
 
+/// Reads a field as a count: a number of 64 bits without leading zeros.
 fn count_of(word: &[u8]) -> Option<u64>
     ensures { result ≡ (if is_count word.now then Some (value_of word.now) else None) }
 {
@@ -100,6 +104,7 @@ fn count_of(word: &[u8]) -> Option<u64>
     }
 }
 
+/// Reads three fields as the line that begins a group.
 fn group_opening<'a>(word: &[u8], name: &'a [u8], count: &[u8]) -> Option<Opening<'a>>
     ensures { option_map opening_shown result ≡ opening_of (word.now ∷ name.now ∷ count.now ∷ []) }
 {
@@ -112,6 +117,7 @@ fn group_opening<'a>(word: &[u8], name: &'a [u8], count: &[u8]) -> Option<Openin
     }
 }
 
+/// Reads four fields as the line that begins an article.
 fn article_opening<'a>(
     word: &[u8],
     id: &'a [u8],
@@ -129,7 +135,7 @@ fn article_opening<'a>(
     }
 }
 
-/// The item that a line begins.
+/// Returns the item that a line begins.
 pub(crate) fn opening_of(line: &[u8]) -> Option<Opening<'_>>
     ensures { option_map opening_shown result ≡ opening_of (fields_of line.now) }
 {
@@ -156,6 +162,7 @@ pub(crate) fn opening_of(line: &[u8]) -> Option<Opening<'_>>
     }
 }
 
+/// Reads two fields as the line of a number.
 fn number_line<'a>(digits: &'a [u8], id: &'a [u8]) -> Option<NumberLine<'a>>
     ensures { option_map number_line_shown result ≡ number_and_id (digits.now ∷ id.now ∷ []) }
 {
@@ -166,7 +173,7 @@ fn number_line<'a>(digits: &'a [u8], id: &'a [u8]) -> Option<NumberLine<'a>>
     }
 }
 
-/// The number and the id of a line.
+/// Reads a line as that of a number and its id.
 pub(crate) fn number_and_id(line: &[u8]) -> Option<NumberLine<'_>>
     ensures { option_map number_line_shown result ≡ number_and_id (fields_of line.now) }
 {
@@ -181,7 +188,7 @@ pub(crate) fn number_and_id(line: &[u8]) -> Option<NumberLine<'_>>
     }
 }
 
-/// The number of a line, if it is an article number.
+/// Returns the number of a line, if it is an article number.
 pub(crate) fn article_number(limit: u64, line: NumberLine<'_>) -> Option<u64>
     ensures { result ≡ (if is_article_number limit (value_of line.entry.digits.now) then Some (value_of line.entry.digits.now) else None) }
 {
@@ -197,7 +204,7 @@ pub(crate) fn article_number(limit: u64, line: NumberLine<'_>) -> Option<u64>
     }
 }
 
-/// A line of an article, without the `|` in front.
+/// Returns a line of an article without the `|` in front.
 pub(crate) fn unbarred(line: &[u8]) -> Option<&[u8]>
     ensures { option_copied result ≡ unbarred line.now }
 {

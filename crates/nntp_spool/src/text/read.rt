@@ -1,6 +1,7 @@
 //! The parts of a spool's text, read line by line.
 ghost use Rattle.std.specs.Prelude.{◌≡◌, false, IfOk, IfErr};
-ghost use Rattle.nntp_spool.specs.Reading.{Gives, barred_line_at, barred_lines_at, number_in, number_at, numbers_at, group_at, article_at, item_at, items_at, end_at, content_at, wide_at, limit_at, spool_at};
+ghost use Rattle.nntp_spool.specs.Reading.{Gives, barred_line_at, barred_lines_at, number_in, number_at, numbers_at, group_at};
+ghost use Rattle.nntp_spool.specs.Reading.{article_at, item_at, items_at, end_at, content_at, wide_at, limit_at, spool_at};
 ghost use Rattle.nntp_spool.specs.ReadingView.{place_shown, turn_shown};
 ghost use Rattle.nntp_wire.specs.Held.{held};
 ghost use Rattle.nntp_spool.specs.Limited.{LimitedSpool, IsWithinLimit};
@@ -18,7 +19,7 @@ use crate::value::well_formed::{is_head_of, is_id, is_name};
 use nntp_wire::Limit;
 use std::alloc::Allocator;
 
-/// One more line of an article.
+/// Reads one more line of an article.
 #[tactic(auto, unfolding(crate::specs::Reading::barred_line_at))]
 fn barred_line_at<'a, A: Allocator + Copy>(
     alloc: A,
@@ -35,7 +36,7 @@ fn barred_line_at<'a, A: Allocator + Copy>(
     Ok(next)
 }
 
-/// So many lines of an article.
+/// Reads so many lines of an article.
 fn barred_lines_at<A: Allocator + Copy>(
     alloc: A,
     count: u64,
@@ -51,7 +52,7 @@ fn barred_lines_at<A: Allocator + Copy>(
     Ok((lines, rest))
 }
 
-/// The number and the id of a line.
+/// Reads the number and the id of a line.
 #[tactic(auto, unfolding(crate::specs::Reading::number_in))]
 fn number_in(limit: u64, at: u64, line: &[u8]) -> Result<(u64, &[u8]), ReadError>
     ensures { Gives (λ x. (x.0, x.1.now)) result (number_in limit at line.now) }
@@ -68,7 +69,7 @@ fn number_in(limit: u64, at: u64, line: &[u8]) -> Result<(u64, &[u8]), ReadError
     Ok((number, line.id))
 }
 
-/// One more number of a group.
+/// Reads one more number of a group.
 #[tactic(auto, using(crate::proofs::NumberIds::id_in_the_way), unfolding(crate::specs::Reading::number_at))]
 fn number_at<'a, A: Allocator + Copy>(
     alloc: A,
@@ -89,7 +90,7 @@ fn number_at<'a, A: Allocator + Copy>(
     Ok(next)
 }
 
-/// The numbers of a group.
+/// Reads the numbers of a group.
 fn numbers_at<A: Allocator + Copy>(
     alloc: A,
     limit: u64,
@@ -106,7 +107,7 @@ fn numbers_at<A: Allocator + Copy>(
     Ok((numbers, rest))
 }
 
-/// A group, behind its first line.
+/// Reads a group, behind its first line.
 #[tactic(auto, unfolding(crate::specs::Reading::group_at))]
 fn group_at<'a, A: Allocator + Copy>(
     alloc: A,
@@ -130,7 +131,7 @@ fn group_at<'a, A: Allocator + Copy>(
     Ok(next)
 }
 
-/// An article, behind its first line.
+/// Reads an article, behind its first line.
 #[tactic(auto, unfolding(crate::specs::Reading::article_at))]
 fn article_at<'a, A: Allocator + Copy>(
     alloc: A,
@@ -158,7 +159,7 @@ fn article_at<'a, A: Allocator + Copy>(
     Ok(next)
 }
 
-/// The end, behind its line.
+/// Reads the end, behind its line.
 fn ends_at<'a, A: Allocator>(
     line: u64,
     content: &Content<A>,
@@ -173,7 +174,7 @@ fn ends_at<'a, A: Allocator>(
     }
 }
 
-/// A group, an article or the end.
+/// Reads a group, an article or the end.
 #[tactic(auto, unfolding(crate::specs::Reading::item_at))]
 fn item_at<'a, A: Allocator + Copy>(
     alloc: A,
@@ -210,7 +211,7 @@ fn item_at<'a, A: Allocator + Copy>(
     }
 }
 
-/// All groups and articles, up to the end.
+/// Reads all groups and articles, up to the end.
 fn items_at<'a, A: Allocator + Copy>(
     alloc: A,
     limit: u64,
@@ -237,7 +238,7 @@ fn items_at<'a, A: Allocator + Copy>(
     Err(fault(rest.line, Kind::Shape))
 }
 
-/// All groups and articles, behind the lines of the limit.
+/// Reads all groups and articles, behind the lines of the limit.
 #[tactic(auto, using(crate::proofs::SplitLines::ended), unfolding(crate::specs::Reading::content_at))]
 fn content_at<A: Allocator + Copy>(
     alloc: A,
@@ -255,7 +256,7 @@ fn content_at<A: Allocator + Copy>(
     Ok(content)
 }
 
-/// The second line of a text whose limit is the wide one.
+/// Reads the second line of a text whose limit is the wide one.
 #[tactic(auto, unfolding(crate::specs::Reading::wide_at))]
 fn wide_at(place: Place<'_>) -> Result<(Limit, Place<'_>), ReadError>
     ensures { Gives (λ x. (x.0, place_shown x.1)) result (wide_at (place_shown place.entry)) }
@@ -268,7 +269,7 @@ fn wide_at(place: Place<'_>) -> Result<(Limit, Place<'_>), ReadError>
     }
 }
 
-/// The limit, and the place behind its lines.
+/// Reads the limit, and returns it with the place behind its lines.
 #[tactic(auto, unfolding(crate::specs::Reading::limit_at))]
 fn limit_at(place: Place<'_>) -> Result<(Limit, Place<'_>), ReadError>
     ensures { Gives (λ x. (x.0, place_shown x.1)) result (limit_at (place_shown place.entry)) }
@@ -283,7 +284,7 @@ fn limit_at(place: Place<'_>) -> Result<(Limit, Place<'_>), ReadError>
     }
 }
 
-/// A whole text: the limit, and all groups and articles.
+/// Reads a whole text: the limit, and all groups and articles.
 #[tactic(auto, unfolding(crate::specs::Reading::spool_at))]
 fn parts_of_text<A: Allocator + Copy>(
     alloc: A,
@@ -301,8 +302,12 @@ fn parts_of_text<A: Allocator + Copy>(
 }
 
 impl<A: Allocator + Copy> Spool<A> {
-    /// The spool whose text the octets are, or the first fault of the octets. No memory is taken on
-    /// the word of a count alone.
+    /// Reads the spool whose text the octets are. No memory is taken on the word of a count alone.
+    ///
+    /// # Errors
+    ///
+    /// A [`ReadFault`], if the octets are the text of no spool: it is their first fault, told of a
+    /// line that counts from 1. If memory is refused, it is [`Kind::Memory`], told of line 0.
     pub fn read(alloc: A, octets: &[u8]) -> Result<Spool<A>, ReadFault>
         ensures spool { IfOk result (λ spool. octets.now ≡ spool_text spool) }
         ensures same { (L : LimitedSpool) → IsWithinLimit L → octets.now ≡ spool_text L → IfOk result (λ spool. spool ≡ L) }

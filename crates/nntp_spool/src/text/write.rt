@@ -19,7 +19,7 @@ use nntp_wire::Limit;
 use std::alloc::Allocator;
 use std::io::Write;
 
-/// The line of a number.
+/// Writes the line of a number.
 fn put_number_line<W: Write>(w: &mut Watched<W>, number: u64, id: &[u8]) -> Result<(), WriteFault>
     ensures text { Writes result (W.contents (inner_of w.old)) (W.contents (inner_of w.new)) (with_line_ends (number_line number id.now ∷ [])) }
     ensures failed { has_failed_of w.new ≡ (has_failed_of w.old || is_err result) }
@@ -28,7 +28,7 @@ fn put_number_line<W: Write>(w: &mut Watched<W>, number: u64, id: &[u8]) -> Resu
     put_pieces(w, &[buffer.format(number).as_bytes(), b" ", id, b"\n"])
 }
 
-/// The first line of a group.
+/// Writes the first line of a group.
 fn put_group_line<W: Write>(w: &mut Watched<W>, name: &[u8], count: u64) -> Result<(), WriteFault>
     ensures text { Writes result (W.contents (inner_of w.old)) (W.contents (inner_of w.new)) (with_line_ends (group_line name.now count ∷ [])) }
     ensures failed { has_failed_of w.new ≡ (has_failed_of w.old || is_err result) }
@@ -38,7 +38,7 @@ fn put_group_line<W: Write>(w: &mut Watched<W>, name: &[u8], count: u64) -> Resu
     put_pieces(w, &[b"group ", name, b" ", count, b"\n"])
 }
 
-/// The first line of an article.
+/// Writes the first line of an article.
 fn put_article_line<W: Write>(
     w: &mut Watched<W>,
     id: &[u8],
@@ -55,7 +55,7 @@ fn put_article_line<W: Write>(
     put_pieces(w, &[b"article ", id, b" ", heads, b" ", bodies, b"\n"])
 }
 
-/// The lines of a head or a body.
+/// Writes the lines of a head or a body.
 fn put_barred_lines<W: Write, A: Allocator>(
     w: &mut Watched<W>,
     lines: &[Vec<u8, A>],
@@ -83,7 +83,7 @@ impl<A: Allocator> Numbers<A> {
     }
 }
 
-/// All lines of a group.
+/// Writes all lines of a group.
 fn put_group<W: Write, A: Allocator>(
     w: &mut Watched<W>,
     name: &[u8],
@@ -96,7 +96,7 @@ fn put_group<W: Write, A: Allocator>(
     numbers.write(w)
 }
 
-/// All lines of an article.
+/// Writes all lines of an article.
 fn put_article<W: Write, A: Allocator>(
     w: &mut Watched<W>,
     id: &[u8],
@@ -110,7 +110,7 @@ fn put_article<W: Write, A: Allocator>(
     put_barred_lines(w, &article.body)
 }
 
-/// The lines that say the limit.
+/// Writes the lines that say the limit.
 fn put_limit<W: Write>(w: &mut Watched<W>, limit: Limit) -> Result<(), WriteFault>
     ensures text { Writes result (W.contents (inner_of w.old)) (W.contents (inner_of w.new)) (with_line_ends (limit_lines limit)) }
     ensures failed { has_failed_of w.new ≡ (has_failed_of w.old || is_err result) }
@@ -158,7 +158,12 @@ impl<A: Allocator> Content<A> {
 }
 
 impl<A: Allocator> Spool<A> {
-    /// Writes the spool's text, and doesn't flush. After a fault the writer took a front of it.
+    /// Writes the text of the spool. The writer isn't flushed.
+    ///
+    /// # Errors
+    ///
+    /// [`WriteFault`], if the writer answers an error or takes none of some octets. It took a front
+    /// of the text then.
     pub fn write<W: Write>(&self, w: &mut Watched<W>) -> Result<(), WriteFault>
         ensures text { Writes result (W.contents (inner_of w.old)) (W.contents (inner_of w.new)) (spool_text self.now) }
         ensures failed { has_failed_of w.new ≡ (has_failed_of w.old || is_err result) }

@@ -1,7 +1,7 @@
-//! A spool, built call by call.
+//! The builder of a spool.
 ghost use Rattle.std.specs.Prelude.{◌≡◌, false, IfOk};
 ghost use Rattle.std.specs.FinMap as map;
-ghost use Rattle.nntp_article.specs.Spool.{numbers as numbers_of};
+ghost use Rattle.nntp_article.specs.Session.Spool.{numbers as numbers_of};
 ghost use Rattle.nntp_wire.specs.Limit.{greatest};
 ghost use Rattle.nntp_spool.specs.Building.{Builds, group_fault, number_fault, article_fault, finished};
 ghost use Rattle.nntp_spool.specs.Content.{with_group, with_article, no_spool};
@@ -19,7 +19,10 @@ use nntp_wire::Limit;
 use std::alloc::{AllocError, Allocator, Global};
 use std::marker::Model;
 
-/// A spool, built call by call. A refused call leaves it as it was; once memory was refused it fails.
+/// A builder of a spool, which takes groups, article numbers and articles call by call.
+///
+/// A call that is refused leaves the builder as it was. Once memory was refused, the builder has
+/// failed, and so does each call from then on.
 #[derive(Drop)]
 pub struct SpoolBuilder<A: Allocator = Global> {
     alloc: A,
@@ -42,7 +45,7 @@ impl<A: Allocator> Model for SpoolBuilder<A> {
     ghost invariant = { λ b. IsContent (greatest b.limit) b.content };
 }
 
-/// Why a group can't be added.
+/// Returns why a group can't be added, if it can't.
 fn group_fault<A: Allocator>(content: &Content<A>, name: &[u8]) -> Option<SpoolFault>
     ensures { result ≡ group_fault content.now name.now }
 {
@@ -55,7 +58,7 @@ fn group_fault<A: Allocator>(content: &Content<A>, name: &[u8]) -> Option<SpoolF
     None
 }
 
-/// Why a number can't be added.
+/// Returns why a number can't be added, if it can't.
 fn number_fault<A: Allocator>(
     limit: u64,
     content: &Content<A>,
@@ -83,7 +86,7 @@ fn number_fault<A: Allocator>(
     None
 }
 
-/// Why an article can't be added.
+/// Returns why an article can't be added, if it can't.
 fn article_fault<A: Allocator>(
     content: &Content<A>,
     id: &[u8],
@@ -107,8 +110,8 @@ fn article_fault<A: Allocator>(
 }
 
 impl<A: Allocator + Copy> SpoolBuilder<A> {
-    /// A builder of a spool with nothing in it, which takes article numbers within the limit. It takes no
-    /// memory yet.
+    /// Creates a builder of a spool with nothing in it, whose article numbers have to be within the
+    /// limit (RFC 3977, section 6). No memory is taken yet.
     pub fn new(alloc: A, limit: Limit) -> SpoolBuilder<A>
         ensures { result ≡ record { limit = limit; spool = no_spool; failed = false } }
     {
@@ -120,7 +123,16 @@ impl<A: Allocator + Copy> SpoolBuilder<A> {
         }
     }
 
-    /// Adds a group without numbers.
+    /// Adds a group without numbers. `name` is the octets of its name (RFC 3977, section 4.1).
+    ///
+    /// # Errors
+    ///
+    /// - [`SpoolFault::Failed`], if the builder has failed.
+    /// - [`SpoolFault::BadName`], if the octets are no group name.
+    /// - [`SpoolFault::DuplicateGroup`], if a group of this name was added before.
+    /// - [`SpoolFault::Memory`], if memory is refused. The builder has failed then.
+    ///
+    /// The builder stays as it was after every error but `Memory`.
     pub fn group(&mut self, name: &[u8]) -> Result<(), SpoolFault>
         ensures { Builds (group_fault self.old.spool name.now) (with_group self.old.spool name.now map.empty) result self.old self.new }
     {
@@ -141,9 +153,24 @@ impl<A: Allocator + Copy> SpoolBuilder<A> {
         Ok(())
     }
 
-    /// Adds a number, with its id, to a group that is there.
+    /// Adds an article number, with the message-id that it has, to a group that was added before.
+    ///
+    /// # Errors
+    ///
+    /// - [`SpoolFault::Failed`], if the builder has failed.
+    /// - [`SpoolFault::UnknownGroup`], if no group of this name was added.
+    /// - [`SpoolFault::BadNumber`], if the number is 0 or above the limit (RFC 3977, section 6).
+    /// - [`SpoolFault::BadId`], if the octets are no message-id (section 3.6).
+    /// - [`SpoolFault::DuplicateNumber`], if the group has the number already.
+    /// - [`SpoolFault::DuplicateId`], if another number of the group has the id.
+    /// - [`SpoolFault::Memory`], if memory is refused. The builder has failed then.
+    ///
+    /// The first of these that holds is returned. The builder stays as it was after every error but
+    /// `Memory`.
     pub fn number(&mut self, name: &[u8], number: u64, id: &[u8]) -> Result<(), SpoolFault>
-        ensures { Builds (number_fault (greatest self.old.limit) self.old.spool name.now number id.now) (with_group self.old.spool name.now (map.insert (numbers_of self.old.spool name.now) number id.now)) result self.old self.new }
+        ensures { Builds (number_fault (greatest self.old.limit) self.old.spool name.now number id.now)
+            (with_group self.old.spool name.now (map.insert (numbers_of self.old.spool name.now) number id.now)) result self.old
+            self.new }
     {
         if self.failed {
             return Err(SpoolFault::Failed);
@@ -158,7 +185,20 @@ impl<A: Allocator + Copy> SpoolBuilder<A> {
         Ok(())
     }
 
-    /// Adds an article. On a fault the article is dropped.
+    /// Adds the article that a message-id names. It need not be in any group.
+    ///
+    /// # Errors
+    ///
+    /// - [`SpoolFault::Failed`], if the builder has failed.
+    /// - [`SpoolFault::BadId`], if the octets are no message-id (RFC 3977, section 3.6).
+    /// - [`SpoolFault::BadHead`], if the head lines are no head (section 3.6), or say another id
+    ///   (RFC 1036, section 2.1.5).
+    /// - [`SpoolFault::BadBody`], if a line of the body has a NUL, a CR or an LF.
+    /// - [`SpoolFault::DuplicateId`], if the id has an article already.
+    /// - [`SpoolFault::Memory`], if memory is refused. The builder has failed then.
+    ///
+    /// The first of these that holds is returned. The builder stays as it was after every error but
+    /// `Memory`, and the article is dropped after each.
     pub fn article(&mut self, id: &[u8], article: Article<A>) -> Result<(), SpoolFault>
         ensures { Builds (article_fault self.old.spool id.now (text_of_article article)) (with_article self.old.spool id.now (text_of_article article)) result self.old self.new }
     {
@@ -179,7 +219,12 @@ impl<A: Allocator + Copy> SpoolBuilder<A> {
         Ok(())
     }
 
-    /// The spool that was built, where each id of a number has an article.
+    /// Returns the spool that was built.
+    ///
+    /// # Errors
+    ///
+    /// [`SpoolFault::Failed`], if the builder has failed, and [`SpoolFault::UnknownId`], if the id
+    /// of a number has no article. What was built is dropped.
     pub fn finish(self) -> Result<Spool<A>, SpoolFault>
         ensures value { result ≡ finished self }
         ensures is_written { IfOk result IsWritten }

@@ -1,7 +1,7 @@
 //! Groups and articles, as they are taken in before all of a spool is there.
 ghost use Rattle.std.specs.Prelude.{◌≡◌, None, false, OnOk, OnErr, option_map, option_copied, is_some};
 ghost use Rattle.std.specs.FinMap as map;
-ghost use Rattle.nntp_article.specs.Spool.{IsGroup, numbers as numbers_of};
+ghost use Rattle.nntp_article.specs.Session.Spool.{IsGroup, numbers as numbers_of};
 ghost use Rattle.nntp_spool.specs.Counts.{numbers_in};
 ghost use Rattle.nntp_spool.specs.Ascending.{is_last};
 ghost use Rattle.nntp_spool.specs.Content.{with_group, with_article, all_known, ids_have_articles, no_spool};
@@ -15,17 +15,19 @@ use std::alloc::{AllocError, Allocator, Global};
 use std::collections::BTreeMap;
 use std::marker::Model;
 
-/// Groups by their names, and articles by their ids.
+/// The groups of a spool by their names, and its articles by their ids.
 #[derive(Drop)]
 pub struct Content<A: Allocator = Global> {
+    /// The numbers of each group, by the octets of its name.
     pub(crate) groups: BTreeMap<Vec<u8, A>, Numbers<A>, A>,
+    /// The articles, each by the octets of its message-id.
     pub(crate) articles: BTreeMap<Vec<u8, A>, Article<A>, A>,
 }
 
 impl<A: Allocator> Model for Content<A> {
     ghost use Rattle.std.specs.Prelude.{map};
     ghost use Rattle.std.specs.FinMap.{from_entries};
-    ghost use Rattle.nntp_article.specs.Spool.{Spool as SpoolValue};
+    ghost use Rattle.nntp_article.specs.Session.Spool.{Spool as SpoolValue};
     ghost use Rattle.nntp_spool.specs.Codes.{coded_spool};
 
     ghost Value = { SpoolValue };
@@ -38,6 +40,7 @@ impl<A: Allocator> Model for Content<A> {
 }
 
 impl<A: Allocator + Copy> Content<A> {
+    /// Creates content with no group and no article.
     pub(crate) fn new(alloc: A) -> Content<A>
         ensures { result ≡ no_spool }
     {
@@ -93,35 +96,35 @@ impl<A: Allocator + Copy> Content<A> {
 }
 
 impl<A: Allocator> Content<A> {
-    /// The numbers of a group.
+    /// Returns the numbers of a group.
     pub(crate) fn group(&self, name: &[u8]) -> Option<&Numbers<A>>
         ensures { option_copied result ≡ map.get self.now.groups name.now }
     {
         self.groups.get(name)
     }
 
-    /// The article of an id.
+    /// Returns the article of an id.
     pub(crate) fn article(&self, id: &[u8]) -> Option<&Article<A>>
         ensures { option_map (λ a. text_of_article a.now) result ≡ map.get self.now.articles id.now }
     {
         self.articles.get(id)
     }
 
-    /// Whether the id has an article.
+    /// Tells whether the id has an article.
     pub(crate) fn has_article(&self, id: &[u8]) -> bool
         ensures { result ≡ is_some (map.get self.now.articles id.now) }
     {
         self.articles.contains_key(id)
     }
 
-    /// How many groups there are.
+    /// Returns how many groups there are.
     pub(crate) fn count_groups(&self) -> u64
         ensures { result ≡ map.len self.now.groups }
     {
         self.groups.len() as u64
     }
 
-    /// How many numbers there are in all groups.
+    /// Returns how many numbers there are in all groups.
     pub(crate) fn count_numbers(&self) -> u128
         ensures { result ≡ numbers_in self.now }
     {
@@ -133,7 +136,7 @@ impl<A: Allocator> Content<A> {
         total
     }
 
-    /// How many articles there are.
+    /// Returns how many articles there are.
     pub(crate) fn count_articles(&self) -> u64
         ensures len { result ≡ map.len self.now.articles }
         ensures line_counts { HasLineCounts self.now }
@@ -141,7 +144,7 @@ impl<A: Allocator> Content<A> {
         self.articles.len() as u64
     }
 
-    /// Whether the name is greater than each group's.
+    /// Tells whether the name is greater than each group's.
     pub(crate) fn is_after_groups(&self, name: &[u8]) -> bool
         ensures { result ≡ is_last self.now.groups name.now }
     {
@@ -151,7 +154,7 @@ impl<A: Allocator> Content<A> {
         }
     }
 
-    /// Whether the id is greater than each article's.
+    /// Tells whether the id is greater than each article's.
     pub(crate) fn is_after_articles(&self, id: &[u8]) -> bool
         ensures { result ≡ is_last self.now.articles id.now }
     {
@@ -161,7 +164,7 @@ impl<A: Allocator> Content<A> {
         }
     }
 
-    /// Whether each id of the numbers has an article.
+    /// Tells whether each id of these numbers has an article.
     fn knows_all(&self, numbers: &Numbers<A>) -> bool
         ensures { result ≡ all_known self.now numbers.now }
     {
@@ -171,7 +174,7 @@ impl<A: Allocator> Content<A> {
             .all(|(_, id)| self.has_article(id.as_slice()))
     }
 
-    /// Whether each id of a number has an article.
+    /// Tells whether each id of a number has an article.
     pub(crate) fn has_articles(&self) -> bool
         ensures value { result ≡ ids_have_articles self.now }
         ensures line_counts { HasLineCounts self.now }

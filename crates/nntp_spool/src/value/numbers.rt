@@ -1,7 +1,7 @@
 //! The numbers of one group, with the id at each.
 ghost use Rattle.std.specs.Prelude.{◌≡◌, ℕ, None, false, OnOk, OnErr, IfOk, option_map, MatchOption, ◌≤◌};
 ghost use Rattle.std.specs.FinMap as map;
-ghost use Rattle.nntp_article.specs.Spool.{IsFirst, IsNextAbove, IsNextBelow, NoneAbove, NoneBelow, IsNumber};
+ghost use Rattle.nntp_article.specs.Session.Spool.{IsFirst, IsNextAbove, IsNextBelow, NoneAbove, NoneBelow, IsNumber};
 ghost use Rattle.nntp_spool.specs.Ascending.{is_last};
 ghost use Rattle.nntp_spool.specs.Numbers.{has_id};
 ghost use Rattle.nntp_spool.specs.Numbers.{is_free, with_number};
@@ -11,11 +11,12 @@ use std::collections::{BTreeMap, BTreeSet};
 use std::marker::Model;
 use std::ops::Bound;
 
-/// The numbers of a group, ascending, and the id at each.
+/// The numbers of a group, ascending, and the message-id at each.
 #[derive(Drop)]
 pub struct Numbers<A: Allocator = Global> {
+    /// The octets of the message-id at each number.
     pub(crate) ids: BTreeMap<u64, Vec<u8, A>, A>,
-    /// Copies of the ids, by which one is looked up.
+    /// The ids once more, to look one up by its octets.
     known: BTreeSet<Vec<u8, A>, A>,
 }
 
@@ -37,6 +38,7 @@ impl<A: Allocator> Model for Numbers<A> {
 }
 
 impl<A: Allocator + Copy> Numbers<A> {
+    /// Creates the numbers of a group without numbers.
     pub(crate) fn new(alloc: A) -> Numbers<A>
         ensures { result ≡ map.empty }
     {
@@ -79,21 +81,21 @@ impl<A: Allocator + Copy> Numbers<A> {
 }
 
 impl<A: Allocator> Numbers<A> {
-    /// How many numbers there are.
+    /// Returns how many numbers there are.
     pub(crate) fn len(&self) -> usize
         ensures { result ≡ map.len self.now }
     {
         self.ids.len()
     }
 
-    /// The id at a number.
+    /// Returns the id at a number.
     pub(crate) fn id(&self, number: u64) -> Option<&Vec<u8, A>>
         ensures { option_map (λ id. id.now.items) result ≡ map.get self.now number }
     {
         self.ids.get(&number)
     }
 
-    /// The least number.
+    /// Returns the least number.
     pub(crate) fn least(&self) -> Option<u64>
         ensures { IsFirst self.now result }
     {
@@ -103,7 +105,7 @@ impl<A: Allocator> Numbers<A> {
         }
     }
 
-    /// The greatest number.
+    /// Returns the greatest number.
     pub(crate) fn greatest(&self) -> Option<u64>
         ensures { MatchOption result ((m : ℕ) → map.get self.now m ≡ None) (λ n. IsNumber self.now n × ((m : ℕ) → IsNumber self.now m → m ≤ n)) }
     {
@@ -113,7 +115,7 @@ impl<A: Allocator> Numbers<A> {
         }
     }
 
-    /// The least number above this one.
+    /// Returns the least number above this one.
     pub(crate) fn next_above(&self, number: u64) -> Option<u64>
         ensures { MatchOption result (NoneAbove self.now number) (IsNextAbove self.now number) }
     {
@@ -127,7 +129,7 @@ impl<A: Allocator> Numbers<A> {
         }
     }
 
-    /// The greatest number below this one.
+    /// Returns the greatest number below this one.
     pub(crate) fn next_below(&self, number: u64) -> Option<u64>
         ensures { MatchOption result (NoneBelow self.now number) (IsNextBelow self.now number) }
     {
@@ -141,7 +143,7 @@ impl<A: Allocator> Numbers<A> {
         }
     }
 
-    /// Whether the number is greater than each one here.
+    /// Tells whether the number is greater than each one here.
     pub(crate) fn is_after(&self, number: u64) -> bool
         ensures { result ≡ is_last self.now number }
     {
@@ -151,7 +153,7 @@ impl<A: Allocator> Numbers<A> {
         }
     }
 
-    /// Whether some number has the id.
+    /// Tells whether some number has the id.
     pub(crate) fn has_some_id(&self, id: &[u8]) -> bool
         ensures { result ≡ has_id self.now id.now }
     {

@@ -3,7 +3,7 @@ ghost use Rattle.std.specs.Prelude.{◌≡◌};
 ghost use Rattle.std.specs.FinMap.{len};
 ghost use Rattle.nntp_wire.specs.Limit.{greatest};
 ghost use Rattle.nntp_wire.specs.declared.limit.Limit.TheVariants.{Wide};
-ghost use Rattle.nntp_article.specs.Spool.{IsSpool};
+ghost use Rattle.nntp_article.specs.Session.Spool.{IsSpool};
 ghost use Rattle.nntp_spool.specs.Counts.{numbers_in};
 ghost use Rattle.nntp_spool.specs.Limited.{IsWithinLimit};
 ghost use Rattle.nntp_spool.specs.Text.{IsWritten};
@@ -13,19 +13,20 @@ use nntp_wire::Limit;
 use std::alloc::{Allocator, Global};
 use std::marker::Model;
 
-/// How much a spool holds.
+/// The counts of what a spool holds.
 #[derive(Clone, Copy, Debug, PartialEq, Eq)]
 pub struct Counts {
-    /// Groups, those without numbers among them.
+    /// The number of groups, those without article numbers among them.
     pub groups: u64,
-    /// Numbers over all groups.
+    /// The number of article numbers over all groups. An article counts once for each group that it
+    /// is in.
     pub numbers: u128,
-    /// Articles, those in no group among them.
+    /// The number of articles, those in no group among them.
     pub articles: u64,
 }
 
-/// A fixed collection of groups and articles, and the limit that the article numbers are within. Each id at a number
-/// has an article.
+/// A fixed collection of groups and articles, and the limit that the article numbers are within
+/// (RFC 3977, sections 3.6 and 6). Each message-id at a number has an article.
 #[derive(Drop)]
 pub struct Spool<A: Allocator = Global> {
     limit: Limit,
@@ -34,7 +35,7 @@ pub struct Spool<A: Allocator = Global> {
 
 impl<A: Allocator> Model for Spool<A> {
     ghost use Rattle.nntp_wire.specs.Limit.{greatest};
-    ghost use Rattle.nntp_article.specs.Spool.{IsSpool};
+    ghost use Rattle.nntp_article.specs.Session.Spool.{IsSpool};
     ghost use Rattle.nntp_spool.specs.Limited.{LimitedSpool, coded_limited};
 
     ghost Value = { LimitedSpool };
@@ -47,7 +48,8 @@ impl<A: Allocator> Model for Spool<A> {
 }
 
 impl<A: Allocator> Spool<A> {
-    /// The spool of groups and articles where each id has its article, and the numbers are within the limit.
+    /// Puts a limit, groups and articles together, where each id at a number has its article, and
+    /// the numbers are within the limit.
     pub(crate) fn new(limit: Limit, content: Content<A>) -> Spool<A>
         requires { IsSpool (greatest limit) content }
         ensures { result ≡ record { limit = limit; spool = content } }
@@ -55,14 +57,14 @@ impl<A: Allocator> Spool<A> {
         Spool { limit, content }
     }
 
-    /// The limit that its article numbers are within.
+    /// Returns the limit of the article numbers (RFC 3977, section 6).
     pub fn limit(&self) -> Limit
         ensures { result ≡ self.now.limit }
     {
         self.limit
     }
 
-    /// The same groups and articles, with the greater limit.
+    /// Returns the same groups and articles with the greater limit, [`Limit::Wide`].
     pub fn widened(self) -> Spool<A>
         ensures { result ≡ record { limit = Wide; spool = self.spool } }
     {
@@ -72,7 +74,7 @@ impl<A: Allocator> Spool<A> {
         }
     }
 
-    /// Its groups and articles.
+    /// Returns the groups and articles.
     pub(crate) fn content(&self) -> &Content<A>
         ensures value { result.now ≡ self.now.spool }
         ensures is_spool { IsWithinLimit self.now }
@@ -80,7 +82,8 @@ impl<A: Allocator> Spool<A> {
         &self.content
     }
 
-    /// How many groups, numbers and articles there are.
+    /// Counts the groups, the article numbers and the articles. It takes time in the order of the
+    /// groups.
     pub fn counts(&self) -> Counts
         ensures groups { result.groups ≡ len self.now.spool.groups }
         ensures numbers { result.numbers ≡ numbers_in self.now.spool }

@@ -1,8 +1,8 @@
-//! What names, ids and lines have to be.
+//! The forms that names, ids and lines have to have.
 ghost use Rattle.std.specs.Prelude.{◌≡◌};
 ghost use Rattle.std.specs.List.{list_all};
 ghost use Rattle.nntp_wire.specs.Decided.{is_group_name, is_message_id};
-ghost use Rattle.nntp_article.specs.Spool.{is_line};
+ghost use Rattle.nntp_article.specs.Session.Spool.{is_line};
 ghost use Rattle.nntp_spool.specs.Content.{is_head_of};
 ghost use Rattle.nntp_wire.specs.Held.{held};
 
@@ -11,7 +11,7 @@ use nntp_wire::laws::{group_names_are_decided, message_ids_are_decided};
 use nntp_wire::{GroupName, MessageId};
 use std::alloc::Allocator;
 
-/// Whether the octets are a group name.
+/// Tells whether the octets are a group name.
 pub(crate) fn is_name(name: &[u8]) -> bool
     ensures { result ≡ is_group_name name.now }
 {
@@ -19,7 +19,7 @@ pub(crate) fn is_name(name: &[u8]) -> bool
     GroupName::parse(name).is_some()
 }
 
-/// Whether the octets are a message id.
+/// Tells whether the octets are a message-id.
 pub(crate) fn is_id(id: &[u8]) -> bool
     ensures { result ≡ is_message_id id.now }
 {
@@ -27,7 +27,7 @@ pub(crate) fn is_id(id: &[u8]) -> bool
     MessageId::parse(id).is_some()
 }
 
-/// Whether the octets have no NUL, CR or LF.
+/// Tells whether the octets have no NUL, CR or LF.
 pub(crate) fn is_line(line: &[u8]) -> bool
     ensures { result ≡ is_line line.now }
 {
@@ -35,14 +35,14 @@ pub(crate) fn is_line(line: &[u8]) -> bool
         .all(|c| !(*c == 0 || *c == b'\r' || *c == b'\n'))
 }
 
-/// Whether the lines have no NUL, CR or LF.
+/// Tells whether the lines have no NUL, CR or LF.
 pub(crate) fn are_lines<A: Allocator>(lines: &[Vec<u8, A>]) -> bool
     ensures { result ≡ list_all is_line (held lines.now) }
 {
     lines.iter().all(|line| is_line(line.as_slice()))
 }
 
-/// Whether the lines are a head that says this id or none.
+/// Tells whether the lines are a head that says this id or none.
 pub(crate) fn is_head_of<A: Allocator>(id: &[u8], lines: &[Vec<u8, A>]) -> bool
     ensures { result ≡ is_head_of id.now (held lines.now) }
 {

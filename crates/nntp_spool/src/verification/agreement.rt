@@ -1,4 +1,4 @@
-//! Whether an answer agrees with a spool, a row of the machine's table at a time.
+//! The comparison of an answer with a spool, a row of the machine's table at a time.
 ghost use Rattle.std.specs.Prelude.{◌≡◌, ℕ, ◌↔◌, true, IsTrue, IfOk, List, Option};
 ghost use Rattle.nntp_wire.specs.View.{asked, request, target};
 ghost use Rattle.nntp_wire.specs.AnswerView.{response};
@@ -6,8 +6,8 @@ ghost use Rattle.nntp_wire.specs.Answer.{plain, sends, group_is, numbers_are, ac
 ghost use Rattle.nntp_wire.specs.Listing.{listed_numbers, active_groups};
 ghost use Rattle.nntp_wire.specs.Name.{IsGroupName};
 ghost use Rattle.nntp_wire.specs.declared.marks.Marks.{Marks};
-ghost use Rattle.nntp_article.specs.Machine.{is_ascending, names_differ, Agrees, Bound, CodeAgrees, NumberAgrees};
-ghost use Rattle.nntp_article.specs.Spool.{Name, IsGroup, HasText, Lists, numbers as numbers_of};
+ghost use Rattle.nntp_article.specs.Session.Machine.{is_ascending, names_differ, Agrees, Bound, CodeAgrees, NumberAgrees};
+ghost use Rattle.nntp_article.specs.Session.Spool.{Name, IsGroup, HasText, Lists, numbers as numbers_of};
 ghost use Rattle.nntp_spool.specs.AskedCounts.{AreCounted};
 ghost use Rattle.nntp_spool.specs.Sessions.{is_in_order};
 
@@ -16,12 +16,12 @@ use crate::verification::asked_counts::AskedCounts;
 use crate::verification::listed_groups::lists_groups;
 use crate::verification::sent_lines::has_text;
 use crate::verification::session::Session;
-use nntp_article::{is_generic_failure, is_success};
+use nntp_article::is_generic_failure;
 use nntp_wire::{Answer, Block, Command, Marks, Prompt, Range, WaterMarks, What, Which};
 use std::alloc::{AllocError, Allocator};
 
 impl<A: Allocator + Copy> Session<A> {
-    /// Whether an answer that fits agrees with the spool, where marks are read so.
+    /// Tells whether an answer that fits agrees with the spool, where marks are read so.
     pub(crate) fn agrees(
         &self,
         how: Marks,
@@ -54,19 +54,20 @@ impl<A: Allocator + Copy> Session<A> {
         })
     }
 
-    /// A code alone.
+    /// Tells whether a code alone agrees.
     fn agrees_plain(&self, spool: &Content<A>, prompt: &Prompt<'_>, code: u64) -> bool
         ensures { (how : Marks) → IsTrue result ↔ Agrees how spool.now self.now (asked prompt.now) (plain code) }
     {
         match prompt {
-            Prompt::Greeting => matches!(code, 200 | 201 | 400 | 502),
+            Prompt::Greeting => true,
             Prompt::To(command) => {
                 is_generic_failure(code) || self.agrees_code(spool, command, code)
             }
         }
     }
 
-    /// What a code alone says of the spool, by the command.
+    /// Tells whether what a code alone says of the spool, other than a generic failure, is so: by the
+    /// command, and by the code where several fit.
     fn agrees_code(&self, spool: &Content<A>, command: &Command<'_>, code: u64) -> bool
         ensures { IsTrue result ↔ CodeAgrees spool.now self.now (request command.now) code }
     {
@@ -74,40 +75,33 @@ impl<A: Allocator + Copy> Session<A> {
         let numbers = self.selected_numbers(spool, &none);
         let current = self.current();
         match command {
-            Command::Capabilities => code == 101,
-            Command::ModeReader => code == 200 || code == 201,
-            Command::Quit => code == 205,
-            Command::Group(word) => code == 411 && spool.group(*word).is_none(),
+            Command::Group(word) => spool.group(*word).is_none(),
             Command::ListGroup { group, .. } => match group {
-                Some(word) => code == 411 && spool.group(*word).is_none(),
-                None => code == 412,
+                Some(word) => spool.group(*word).is_none(),
+                None => true,
             },
             Command::Next => match code {
                 412 => true,
                 420 => current.is_none(),
-                421 => numbers.is_at_top(current),
-                _ => false,
+                _ => numbers.is_at_top(current),
             },
             Command::Last => match code {
                 412 => true,
                 420 => current.is_none(),
-                422 => numbers.is_at_bottom(current),
-                _ => false,
+                _ => numbers.is_at_bottom(current),
             },
             Command::Retrieve { which, .. } => match which {
-                Which::Number(Some(number)) => {
-                    code == 412 || (code == 423 && numbers.id(*number).is_none())
-                }
-                Which::Number(None) => code == 412 || code == 423,
-                Which::Id(word) => code == 430 && !spool.has_article(*word),
-                Which::Current => code == 412 || (code == 420 && current.is_none()),
+                Which::Id(word) => !spool.has_article(*word),
+                Which::Number(Some(number)) => code == 412 || numbers.id(*number).is_none(),
+                Which::Number(None) => true,
+                Which::Current => code == 412 || current.is_none(),
             },
-            Command::Opaque => code == 381 || code < 300 || code >= 400,
+            Command::Capabilities | Command::ModeReader | Command::Quit | Command::Opaque => true,
             _ => false,
         }
     }
 
-    /// 211 to GROUP.
+    /// Tells whether a 211 to GROUP agrees.
     fn agrees_group(
         &self,
         how: Marks,
@@ -124,7 +118,7 @@ impl<A: Allocator + Copy> Session<A> {
         }
     }
 
-    /// 211 to LISTGROUP.
+    /// Tells whether a 211 to LISTGROUP agrees.
     fn agrees_numbers(
         &self,
         how: Marks,
@@ -145,7 +139,7 @@ impl<A: Allocator + Copy> Session<A> {
         }
     }
 
-    /// A success with a number and an id.
+    /// Tells whether a success with a number and an id agrees.
     fn agrees_sent(
         &self,
         spool: &Content<A>,
@@ -160,22 +154,16 @@ impl<A: Allocator + Copy> Session<A> {
         let none = self.no_numbers();
         let numbers = self.selected_numbers(spool, &none);
         match prompt {
-            Prompt::To(Command::Next) => {
-                code == 223 && numbers.steps_up(self.current(), number, id)
-            }
-            Prompt::To(Command::Last) => {
-                code == 223 && numbers.steps_down(self.current(), number, id)
-            }
+            Prompt::To(Command::Next) => numbers.steps_up(self.current(), number, id),
+            Prompt::To(Command::Last) => numbers.steps_down(self.current(), number, id),
             Prompt::To(Command::Retrieve { what, which }) => {
-                is_success(*what, code)
-                    && agrees_text(spool, *what, id, block)
-                    && self.agrees_number(spool, which, number, id)
+                agrees_text(spool, *what, id, block) && self.agrees_number(spool, which, number, id)
             }
             _ => false,
         }
     }
 
-    /// Whether the number of a success agrees, by what was asked for.
+    /// Tells whether the number of a success agrees, by what was asked for.
     fn agrees_number(&self, spool: &Content<A>, which: &Which<'_>, number: u64, id: &[u8]) -> bool
         ensures { (code : ℕ) (block : Option (List (List ℕ)))
             → IsTrue result ↔ NumberAgrees spool.now self.now (target which.now) (record { code = code; number = number; id = id.now; block = block }) }
@@ -189,7 +177,7 @@ impl<A: Allocator + Copy> Session<A> {
         }
     }
 
-    /// 215 to LIST ACTIVE.
+    /// Tells whether a 215 to LIST ACTIVE agrees.
     fn agrees_active(
         &self,
         spool: &Content<A>,
@@ -213,7 +201,7 @@ impl<A: Allocator + Copy> Session<A> {
     }
 }
 
-/// Whether the name is a group, and its numbers agree with the estimate and the marks.
+/// Tells whether the name is a group, and its numbers agree with the estimate and the marks.
 fn agrees_marks<A: Allocator>(
     how: Marks,
     spool: &Content<A>,
@@ -228,8 +216,8 @@ fn agrees_marks<A: Allocator>(
     }
 }
 
-/// Whether the name is a group, its numbers agree with the estimate and the marks, and those within
-/// the range are the listed ones.
+/// Tells whether the name is a group, its numbers agree with the estimate and the marks, and those
+/// within the range are the listed ones.
 fn agrees_listed<A: Allocator>(
     how: Marks,
     spool: &Content<A>,
@@ -247,7 +235,7 @@ fn agrees_listed<A: Allocator>(
     }
 }
 
-/// Whether the id has an article, and this is what is sent of it.
+/// Tells whether the id has an article, and this is what is sent of it.
 fn agrees_text<A: Allocator>(
     spool: &Content<A>,
     what: What,

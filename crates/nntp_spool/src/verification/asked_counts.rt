@@ -1,6 +1,6 @@
 //! How many groups of a spool match the wildmats of LIST ACTIVE, each counted once (RFC 3977, section 7.6.3).
 ghost use Rattle.std.specs.Prelude.{◌≡◌, IfOk, OnOk};
-ghost use Rattle.nntp_article.specs.Spool.{Spool as SpoolValue};
+ghost use Rattle.nntp_article.specs.Session.Spool.{Spool as SpoolValue};
 ghost use Rattle.nntp_spool.specs.AskedCounts.{AreCounted, asked_count, remembered, with_count};
 
 use crate::value::content::Content;
@@ -9,12 +9,13 @@ use std::alloc::{AllocError, Allocator};
 use std::collections::BTreeMap;
 use std::marker::Model;
 
-/// How many groups match each wildmat that was asked for.
+/// The counts of the groups that match each wildmat that was asked for.
 #[derive(Drop)]
 pub(crate) struct AskedCounts<A: Allocator> {
     alloc: A,
-    /// How many groups there are, once no wildmat was given.
+    /// The number of all groups, once LIST ACTIVE was asked without a wildmat.
     all: Option<usize>,
+    /// The number of groups that match, by the octets of the wildmat.
     by_wildmat: BTreeMap<Vec<u8, A>, usize, A>,
 }
 
@@ -32,7 +33,7 @@ impl<A: Allocator> Model for AskedCounts<A> {
 }
 
 impl<A: Allocator + Copy> AskedCounts<A> {
-    /// Nothing was counted yet.
+    /// Creates the counts of which none is remembered yet.
     pub(crate) fn new(alloc: A) -> AskedCounts<A>
         ensures { (S : SpoolValue) → AreCounted S result }
     {
@@ -43,7 +44,8 @@ impl<A: Allocator + Copy> AskedCounts<A> {
         }
     }
 
-    /// How many groups match. The spool's groups are gone through at the first time alone that this is asked for.
+    /// Returns how many groups match. The spool's groups are gone through at the first time alone
+    /// that this is asked for.
     pub(crate) fn count(
         &mut self,
         spool: &Content<A>,
@@ -77,7 +79,7 @@ impl<A: Allocator + Copy> AskedCounts<A> {
 }
 
 impl<A: Allocator> AskedCounts<A> {
-    /// The count that is remembered.
+    /// Returns the count that is remembered.
     fn remembered(&self, wildmat: &Option<Wildmat<'_>>) -> Option<usize>
         ensures { result ≡ remembered self.now wildmat.now }
     {

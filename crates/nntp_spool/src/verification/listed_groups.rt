@@ -1,11 +1,12 @@
-//! Whether the groups that LIST ACTIVE lists are those of a spool (RFC 3977, section 7.6.3).
+//! The comparison of the groups that LIST ACTIVE lists with those of a spool (RFC 3977,
+//! section 7.6.3).
 ghost use Rattle.std.specs.Prelude.{◌≡◌, ℕ, ◌≤◌, ◌↔◌, true, length, IsTrue, IfOk};
 ghost use Rattle.std.specs.List.{AllByRecursion};
 ghost use Rattle.nntp_wire.specs.Name.{IsGroupName};
 ghost use Rattle.nntp_wire.specs.Listing.{active_groups};
 ghost use Rattle.nntp_wire.specs.View.{active_value};
-ghost use Rattle.nntp_article.specs.Spool.{Name, IsGroup, IsNumber, numbers as numbers_of};
-ghost use Rattle.nntp_article.specs.Machine.{names_differ, ActivesAgree};
+ghost use Rattle.nntp_article.specs.Session.Spool.{Name, IsGroup, IsNumber, numbers as numbers_of};
+ghost use Rattle.nntp_article.specs.Session.Machine.{names_differ, ActivesAgree};
 ghost use Rattle.nntp_spool.specs.AskedCounts.{AreCounted, asked_count};
 ghost use Rattle.nntp_spool.specs.ListedGroups.{LineAgrees, is_asked};
 
@@ -15,7 +16,8 @@ use nntp_wire::laws::{group_names_are_decided, matching_is_decided};
 use nntp_wire::{ActiveLine, Block, GroupName, Wildmat, matches_if_given};
 use std::alloc::{AllocError, Allocator};
 
-/// Whether a listed group is one of the spool, matches, and has its numbers between the marks.
+/// Tells whether a listed group is one of the spool, matches, and has its numbers between the
+/// marks.
 fn agrees_line<A: Allocator>(
     spool: &Content<A>,
     wildmat: &Option<Wildmat<'_>>,
@@ -27,7 +29,7 @@ fn agrees_line<A: Allocator>(
         && agrees_bounds(spool, group.name.as_slice(), group.low, group.high)
 }
 
-/// Whether the name is a group whose numbers are between the marks.
+/// Tells whether the name is a group whose numbers are between the marks.
 fn agrees_bounds<A: Allocator>(spool: &Content<A>, name: &[u8], low: u64, high: u64) -> bool
     ensures { IsTrue result ↔ (IsGroup spool.now name.now × ((n : ℕ) → IsNumber (numbers_of spool.now name.now) n → (low ≤ n) × (n ≤ high))) }
 {
@@ -37,7 +39,8 @@ fn agrees_bounds<A: Allocator>(spool: &Content<A>, name: &[u8], low: u64, high: 
     }
 }
 
-/// Whether each listed group is so.
+/// Tells whether each listed group is one of the spool, matches, and has its numbers between the
+/// marks.
 fn agree_lines<A: Allocator>(
     spool: &Content<A>,
     wildmat: &Option<Wildmat<'_>>,
@@ -53,7 +56,7 @@ fn agree_lines<A: Allocator>(
     true
 }
 
-/// Whether the name is that of a group that matches.
+/// Tells whether the name is that of a group that matches.
 fn is_asked(wildmat: &Option<Wildmat<'_>>, name: &[u8]) -> bool
     ensures { result ≡ is_asked wildmat.now name.now }
 {
@@ -65,7 +68,7 @@ fn is_asked(wildmat: &Option<Wildmat<'_>>, name: &[u8]) -> bool
 }
 
 impl<A: Allocator> Content<A> {
-    /// How many groups match.
+    /// Returns how many groups match.
     pub(crate) fn count_asked(&self, wildmat: &Option<Wildmat<'_>>) -> usize
         ensures { result ≡ asked_count self.now wildmat.now }
     {
@@ -76,15 +79,15 @@ impl<A: Allocator> Content<A> {
     }
 }
 
-/// How many groups are listed.
+/// Returns how many groups are listed.
 fn count_listed(block: &Block<'_>) -> usize
     ensures { result ≡ length (active_groups block.now) }
 {
     block.groups().count()
 }
 
-/// Whether exactly the matching groups are listed, and the marks bound their numbers. No group is
-/// listed twice, so none is missing where as many are listed as match.
+/// Tells whether exactly the matching groups are listed, and the marks bound their numbers. No
+/// group is listed twice, so none is missing where as many are listed as match.
 pub(crate) fn lists_groups<A: Allocator + Copy>(
     spool: &Content<A>,
     counts: &mut AskedCounts<A>,

@@ -1,8 +1,8 @@
-//! What the machine looks up in the numbers of a group.
+//! The lookups in the numbers of a group by which the machine judges an answer.
 ghost use Rattle.std.specs.Prelude.{◌≡◌, ℕ, ◌≤◌, ◌↔◌, [], true, IsTrue, MatchOption, IfSome, Some};
 ghost use Rattle.std.specs.FinMap as map;
-ghost use Rattle.nntp_article.specs.Spool.{IsNumber, IsNextAbove, IsNextBelow, NoneAbove, NoneBelow, Lists};
-ghost use Rattle.nntp_article.specs.Machine.{AreEnds, Bound, is_ascending};
+ghost use Rattle.nntp_article.specs.Session.Spool.{IsNumber, IsNextAbove, IsNextBelow, NoneAbove, NoneBelow, Lists};
+ghost use Rattle.nntp_article.specs.Session.Machine.{AreEnds, Bound, is_ascending};
 ghost use Rattle.nntp_wire.specs.Listing.{listed_numbers};
 ghost use Rattle.nntp_spool.specs.ListedNumbers.{IsNextFrom, IsAbove, ListsFrom};
 
@@ -11,7 +11,7 @@ use nntp_wire::{Block, Marks, Range, WaterMarks};
 use std::alloc::Allocator;
 
 impl<A: Allocator> Numbers<A> {
-    /// Whether a number has this id.
+    /// Tells whether the number has this id.
     pub(crate) fn has_id(&self, number: u64, id: &[u8]) -> bool
         ensures { IsTrue result ↔ (map.get self.now number ≡ Some id.now) }
     {
@@ -21,7 +21,7 @@ impl<A: Allocator> Numbers<A> {
         }
     }
 
-    /// Whether a step up from the current article leads to this number with this id.
+    /// Tells whether a step up from the current article leads to this number with this id.
     pub(crate) fn steps_up(&self, current: Option<u64>, number: u64, id: &[u8]) -> bool
         ensures { IsTrue result ↔ (MatchOption current ⊥ (λ c. IsNextAbove self.now c number) × (map.get self.now number ≡ Some id.now)) }
     {
@@ -31,7 +31,7 @@ impl<A: Allocator> Numbers<A> {
         }
     }
 
-    /// Whether a step down from the current article leads to this number with this id.
+    /// Tells whether a step down from the current article leads to this number with this id.
     pub(crate) fn steps_down(&self, current: Option<u64>, number: u64, id: &[u8]) -> bool
         ensures { IsTrue result ↔ (MatchOption current ⊥ (λ c. IsNextBelow self.now c number) × (map.get self.now number ≡ Some id.now)) }
     {
@@ -41,7 +41,7 @@ impl<A: Allocator> Numbers<A> {
         }
     }
 
-    /// Whether the current article is a number that has none above it.
+    /// Tells whether the current article is a number that has none above it.
     pub(crate) fn is_at_top(&self, current: Option<u64>) -> bool
         ensures { IsTrue result ↔ MatchOption current ⊥ (NoneAbove self.now) }
     {
@@ -51,7 +51,7 @@ impl<A: Allocator> Numbers<A> {
         }
     }
 
-    /// Whether the current article is a number that has none below it.
+    /// Tells whether the current article is a number that has none below it.
     pub(crate) fn is_at_bottom(&self, current: Option<u64>) -> bool
         ensures { IsTrue result ↔ MatchOption current ⊥ (NoneBelow self.now) }
     {
@@ -61,15 +61,15 @@ impl<A: Allocator> Numbers<A> {
         }
     }
 
-    /// Whether there is such a number.
+    /// Tells whether there is such a number.
     fn has(&self, number: u64) -> bool
         ensures { IsTrue result ↔ IsNumber self.now number }
     {
         self.id(number).is_some()
     }
 
-    /// Whether there are at most as many numbers as estimated, all between the marks, and both marks
-    /// are numbers where they have to be.
+    /// Tells whether there are at most as many numbers as estimated, all between the marks, and
+    /// both marks are numbers where they have to be.
     pub(crate) fn is_bound(&self, how: Marks, marks: WaterMarks) -> bool
         ensures { IsTrue result ↔ Bound how self.now marks }
     {
@@ -78,7 +78,7 @@ impl<A: Allocator> Numbers<A> {
             && self.has_ends(how, marks)
     }
 
-    /// Whether both marks are numbers, where they are read strictly and there is a number.
+    /// Tells whether both marks are numbers, where they are read strictly and there is a number.
     fn has_ends(&self, how: Marks, marks: WaterMarks) -> bool
         ensures { IsTrue result ↔ AreEnds how self.now marks }
     {
@@ -91,7 +91,7 @@ impl<A: Allocator> Numbers<A> {
         }
     }
 
-    /// Whether each number is between the marks.
+    /// Tells whether each number is between the marks.
     pub(crate) fn is_between(&self, low: u64, high: u64) -> bool
         ensures { IsTrue result ↔ ((n : ℕ) → IsNumber self.now n → (low ≤ n) × (n ≤ high)) }
     {
@@ -101,7 +101,7 @@ impl<A: Allocator> Numbers<A> {
         }
     }
 
-    /// The least number above this one, or the least of all.
+    /// Returns the least number above this one, or the least of all where none is given.
     fn next_from(&self, before: Option<u64>) -> Option<u64>
         ensures { IsNextFrom self.now before result }
     {
@@ -111,7 +111,7 @@ impl<A: Allocator> Numbers<A> {
         }
     }
 
-    /// Whether the numbers within the range are the listed ones.
+    /// Tells whether the numbers within the range are the listed ones.
     pub(crate) fn lists(&self, range: Range, block: &Block<'_>) -> bool
         requires { is_ascending (listed_numbers block.now) ≡ true }
         ensures { IsTrue result ↔ Lists self.now range (listed_numbers block.now) }
@@ -127,14 +127,14 @@ impl<A: Allocator> Numbers<A> {
         self.has_none_within(range, before)
     }
 
-    /// Whether the number is the next one, and not above the range.
+    /// Tells whether the number is the next one, and not above the range.
     fn is_next_within(&self, range: Range, before: Option<u64>, number: u64) -> bool
         ensures { IsTrue result ↔ (IsNextFrom self.now before (Some number) × IfSome range.last (λ last. number ≤ last)) }
     {
         self.next_from(before) == Some(number) && is_up_to(range.last, number)
     }
 
-    /// Whether the next number, if there is one, is above the range.
+    /// Tells whether the next number, if there is one, is above the range.
     fn has_none_within(&self, range: Range, before: Option<u64>) -> bool
         ensures { IsTrue result ↔ ListsFrom self.now range before [] }
     {
@@ -145,6 +145,7 @@ impl<A: Allocator> Numbers<A> {
     }
 }
 
+/// Tells whether the number is at most the last one, if there is a last one.
 fn is_up_to(last: Option<u64>, number: u64) -> bool
     ensures { IsTrue result ↔ IfSome last (λ last. number ≤ last) }
 {
@@ -154,13 +155,14 @@ fn is_up_to(last: Option<u64>, number: u64) -> bool
     }
 }
 
+/// Tells whether the number is above the last one.
 fn is_beyond(last: Option<u64>, number: u64) -> bool
     ensures { IsTrue result ↔ (IfSome last (λ last. number ≤ last) → ⊥) }
 {
     !is_up_to(last, number)
 }
 
-/// The number before this one: none before 0.
+/// Returns the number before this one. There is none before 0.
 fn before(number: u64) -> Option<u64>
     ensures { (n : ℕ) → IsAbove result n ↔ (number ≤ n) }
 {

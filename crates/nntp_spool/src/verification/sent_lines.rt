@@ -1,14 +1,14 @@
-//! Whether what is sent of an article is the article's text.
+//! The comparison of what is sent of an article with the article's text.
 ghost use Rattle.std.specs.Prelude.{◌≡◌, ◌↔◌, ◌++◌, ◌∷◌, [], IsTrue, drop};
 ghost use Rattle.nntp_wire.specs.Held.{held};
-ghost use Rattle.nntp_article.specs.Spool.{text_of};
+ghost use Rattle.nntp_article.specs.Session.Spool.{text_of};
 ghost use Rattle.nntp_spool.specs.ArticleLines.{text_of_article};
 
 use crate::value::article::Article;
 use nntp_wire::{Block, What};
 use std::alloc::Allocator;
 
-/// Whether there is a first line, and it is empty.
+/// Tells whether there is a first line, and it is empty.
 fn begins_empty(lines: &Block<'_>) -> bool
     ensures { IsTrue result ↔ (lines.now ≡ [] ∷ drop 1 lines.now) }
 {
@@ -18,7 +18,7 @@ fn begins_empty(lines: &Block<'_>) -> bool
     }
 }
 
-/// Whether the lines are a head, an empty line and a body.
+/// Tells whether the lines are the head, an empty line and the body.
 fn is_whole<A: Allocator>(sent: &Block<'_>, article: &Article<A>) -> bool
     ensures { IsTrue result ↔ (sent.now ≡ held article.now.head.items ++ [] ∷ held article.now.body.items) }
 {
@@ -27,7 +27,7 @@ fn is_whole<A: Allocator>(sent: &Block<'_>, article: &Article<A>) -> bool
     head.is_same(&article.head) && begins_empty(&rest) && body.is_same(&article.body)
 }
 
-/// Whether this is what is sent of the article.
+/// Tells whether the block is what is sent of the article.
 pub(crate) fn has_text<A: Allocator>(
     article: &Article<A>,
     what: What,

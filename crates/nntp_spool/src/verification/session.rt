@@ -3,15 +3,15 @@ ghost use Rattle.std.specs.Prelude.{◌≡◌, ◌↔◌, IsTrue, IfOk, OnOk};
 ghost use Rattle.nntp_wire.specs.View.{asked};
 ghost use Rattle.nntp_wire.specs.AnswerView.{response};
 ghost use Rattle.nntp_pair.specs.Pairing.{asked_at};
-ghost use Rattle.nntp_article.specs.Machine.{start, MayAnswer, after, current_after, selected_numbers};
-ghost use Rattle.nntp_article.specs.Spool.{IsSpool, least, numbers as numbers_of};
+ghost use Rattle.nntp_article.specs.Session.Machine.{start, MayAnswer, after, current_after, selected_numbers};
+ghost use Rattle.nntp_article.specs.Session.Spool.{IsSpool, least, numbers as numbers_of};
 ghost use Rattle.nntp_spool.specs.AskedCounts.{AreCounted};
 ghost use Rattle.std.specs.FinMap as map;
 
 use crate::value::content::Content;
 use crate::value::numbers::Numbers;
 use crate::verification::asked_counts::AskedCounts;
-use nntp_article::laws::first_is_least;
+use nntp_article::session::laws::first_is_least;
 use nntp_article::{Profile, Visible};
 use nntp_pair::Exchange;
 use nntp_wire::{Answer, Command, Prompt, Which};
@@ -27,7 +27,7 @@ pub(crate) struct Session<A: Allocator> {
 }
 
 impl<A: Allocator> Model for Session<A> {
-    ghost use Rattle.nntp_article.specs.Machine.{State};
+    ghost use Rattle.nntp_article.specs.Session.Machine.{State};
     ghost use Rattle.nntp_spool.specs.Codes.{coded_state};
 
     ghost Value = { State };
@@ -38,7 +38,7 @@ impl<A: Allocator> Model for Session<A> {
 }
 
 impl<A: Allocator + Copy> Session<A> {
-    /// The state before the greeting.
+    /// Creates the state before the greeting.
     pub(crate) fn new(alloc: A) -> Session<A>
         ensures { result ≡ start }
     {
@@ -49,7 +49,7 @@ impl<A: Allocator + Copy> Session<A> {
         }
     }
 
-    /// Whether the exchange is permitted.
+    /// Tells whether the spool permits the exchange in this state.
     pub(crate) fn may_answer(
         &self,
         profile: Profile,
@@ -86,7 +86,7 @@ impl<A: Allocator + Copy> Session<A> {
         Ok(())
     }
 
-    /// The numbers of the selected group, or those of no group, which are `none`.
+    /// Returns the numbers of the selected group, or those of no group, which are `none`.
     pub(crate) fn selected_numbers<'n>(
         &self,
         spool: &'n Content<A>,
@@ -101,7 +101,7 @@ impl<A: Allocator + Copy> Session<A> {
         }
     }
 
-    /// The numbers of no group.
+    /// Returns the numbers of no group, which are none.
     pub(crate) fn no_numbers(&self) -> Numbers<A>
         ensures { result ≡ map.empty }
     {
@@ -110,15 +110,15 @@ impl<A: Allocator + Copy> Session<A> {
 }
 
 impl<A: Allocator> Session<A> {
-    /// The current article.
+    /// Returns the number of the current article.
     pub(crate) fn current(&self) -> Option<u64>
         ensures { result ≡ self.now.current }
     {
         self.current
     }
 
-    /// The current article after the answer: the first of a group that was selected, or the one that a
-    /// step or a number named.
+    /// Returns the number of the current article after the answer: the first of a group that was
+    /// selected, or the one that a step or a number named.
     fn current_after(
         &self,
         spool: &Content<A>,
@@ -143,7 +143,7 @@ impl<A: Allocator> Session<A> {
     }
 }
 
-/// The least number of a group.
+/// Returns the least number of a group.
 fn first_of<A: Allocator>(spool: &Content<A>, name: &[u8]) -> Option<u64>
     ensures { result ≡ least (numbers_of spool.now name.now) }
 {

@@ -1,10 +1,11 @@
-//! What `verify` answers.
+//! The answers of `verify`.
 
-/// Whether a given spool explains a session.
+/// The outcome of [`verify`](crate::verify): whether a given spool explains a session.
 #[derive(Clone, Copy, Debug, PartialEq, Eq)]
 pub enum Verified {
-    /// It does, with so many answers, the greeting among them.
+    /// The spool explains both streams, with so many answers, the greeting among them.
     Permits { answers: u64 },
-    /// It doesn't: this answer is the first that it doesn't explain together with those before it.
+    /// The spool doesn't explain the answer at this index together with those before it, and it is
+    /// the first such answer. The greeting has index 0.
     Refuses { index: u64 },
 }

@@ -21,5 +21,12 @@ returns-then-not-is_ascii_digit c line h =
     no-digit line c.args.source c.args.many c.args.value c.args.octet h.0 (λ is. absurd (c.if-octet-eq10.false is)) full
 
 pub returns : goal.returns
-returns c line h =
-    ([], (digit-more line c.args.source c.args.many c.args.value c.args.octet c.from.result h.0 c.if-many-ge-MOST_DIGITS.false (sym c.is_ascii_digit.ensures.value ∙ c.if-not-is_ascii_digit.false) c.from.ensures, refl), refl)
+returns c line h = (
+  [],
+  (
+    digit-more line c.args.source c.args.many c.args.value c.args.octet c.from.result h.0 c.if-many-ge-MOST_DIGITS.false
+        (sym c.is_ascii_digit.ensures.value ∙ c.if-not-is_ascii_digit.false) c.from.ensures,
+    refl,
+  ),
+  refl,
+)

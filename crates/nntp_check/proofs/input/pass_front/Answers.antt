@@ -30,11 +30,14 @@ returns-clause-ok g c =
       λ by. elim c.match-taken.branch [
         | in-Some+in_ok-take w ↦
             subst (Passes by) (sym w.sink-is)
-            (passed-source before after (g.S.Sink.stands by c.args.sink.now) (g.S.Sink.stands by w.take-in-Some.new.self) w.in-Some.source taken.source c.args.octets.now taken.octets.now taken.rest.now
+            (passed-source before after (g.S.Sink.stands by c.args.sink.now)
+            (g.S.Sink.stands by w.take-in-Some.new.self) w.in-Some.source taken.source c.args.octets.now taken.octets.now
+            taken.rest.now
             w.in-Some.is c.in_ok-taken.ensures.cut.0 c.in_ok-taken.ensures.read (w.in_ok-take.ensures by))
         | in_default w ↦
             subst (Passes by) (sym w.sink-is)
-            (passed-line before after (g.S.Sink.stands by c.args.sink.now) taken.source c.args.octets.now taken.octets.now taken.rest.now w.in_default.is c.in_ok-taken.ensures.cut.0 c.in_ok-taken.ensures.read)
+            (passed-line before after (g.S.Sink.stands by c.args.sink.now) taken.source c.args.octets.now taken.octets.now
+            taken.rest.now w.in_default.is c.in_ok-taken.ensures.cut.0 c.in_ok-taken.ensures.read)
       ],
       c.in_ok-taken.ensures.cut.1,
     )

@@ -5,8 +5,12 @@ use Rattle.nntp_check.proofs.input.pass_on.Goals as goal
 pub pass_front-requires-clause-room : goal.pass_front-requires-clause-room
 pass_front-requires-clause-room g c =
     let by = c.requires.room.0 in
-    let room = c.requires.room.1 in
-    (by, left-room c.args.reader.now c.loop-rest.reader (g.S.Sink.stands by c.args.sink.now) (g.S.Sink.stands by c.loop-rest.sink) c.args.octets.now c.loop-rest.rest.now room.0 (c.loop-rest.invariant by) room.1 room.2)
+    let room = c.requires.room.1 in (
+      by,
+      left-room c.args.reader.now c.loop-rest.reader (g.S.Sink.stands by c.args.sink.now)
+          (g.S.Sink.stands by c.loop-rest.sink) c.args.octets.now c.loop-rest.rest.now room.0
+          (c.loop-rest.invariant by) room.1 room.2,
+    )
 
 pub returns-in_err-rest-clause-err : goal.returns-in_err-rest-clause-err
 returns-in_err-rest-clause-err g c =

@@ -13,8 +13,10 @@ returns-in_err-finish-clause-err g c =
     let before = c.loop-count.invariant in
     let both = before.1.stands c.requires.0 c.requires.1 in
     rw (exit.1, exit.2)
-    (ends-bad (g.R.Read.remaining c.args.input.now.inner) (g.R.Read.remaining c.loop-count.input.inner) (g.R.Read.remaining c.read.new.self.inner) c.args.most _ before.0 (take c.in-Ok.count c.read.new.buf)
-    before.1.read c.in-Ok.ensures.bytes.0 (omega (arith, length-take c.in-Ok.count c.read.new.buf, c.if-count-eq0.true)) (c.in-Ok.ensures.bytes.1 c.if-count-eq0.true (omega (arith, c.read.auto.buf))) before.1.few
+    (ends-bad (g.R.Read.remaining c.args.input.now.inner) (g.R.Read.remaining c.loop-count.input.inner)
+    (g.R.Read.remaining c.read.new.self.inner) c.args.most _ before.0 (take c.in-Ok.count c.read.new.buf)
+    before.1.read c.in-Ok.ensures.bytes.0 (omega (arith, length-take c.in-Ok.count c.read.new.buf, c.if-count-eq0.true))
+    (c.in-Ok.ensures.bytes.1 c.if-count-eq0.true (omega (arith, c.read.auto.buf))) before.1.few
     (c.in_err-finish.ensures.bad before.0 both.0 both.1 both.2 both.3))
 
 pub returns-in_err-pass_on-clause-err : goal.returns-in_err-pass_on-clause-err
@@ -24,9 +26,11 @@ returns-in_err-pass_on-clause-err g c =
     let got = take c.in-Ok.count c.read.new.buf in
     let fitting = take c.min-fitting.result c.read.new.buf in
     rw (exit.1, exit.2)
-    (stops-bad (g.R.Read.remaining c.args.input.now.inner) (g.R.Read.remaining c.loop-count.input.inner) (g.R.Read.remaining c.read.new.self.inner) c.args.most before.0 got fitting (drop c.min-fitting.result got) _
+    (stops-bad (g.R.Read.remaining c.args.input.now.inner) (g.R.Read.remaining c.loop-count.input.inner)
+    (g.R.Read.remaining c.read.new.self.inner) c.args.most before.0 got fitting (drop c.min-fitting.result got) _
     before.1.read c.in-Ok.ensures.bytes.0 (take-split c.min-fitting.result c.in-Ok.count c.read.new.buf (omega (arith, c.min-fitting.ensures)))
-    (omega (arith, c.min-fitting.ensures, before.1.many, before.1.few, length-take c.min-fitting.result c.read.new.buf)) (c.in_err-pass_on.ensures.err c.requires.0 before.0 (before.1.stands c.requires.0 c.requires.1)))
+    (omega (arith, c.min-fitting.ensures, before.1.many, before.1.few, length-take c.min-fitting.result c.read.new.buf))
+    (c.in_err-pass_on.ensures.err c.requires.0 before.0 (before.1.stands c.requires.0 c.requires.1)))
 
 pub returns-in_err-pass_on-clause-failed : goal.returns-in_err-pass_on-clause-failed
 returns-in_err-pass_on-clause-failed g c =
@@ -35,7 +39,9 @@ returns-in_err-pass_on-clause-failed g c =
     let fitting = take c.min-fitting.result c.read.new.buf in
     rw (exit.1, exit.2)
     (λ fresh. (
-      λ bad. (let is : c.in_err-pass_on.field-0.0 ≡ Read = cc in absurd (stops-unread before.0 fitting _ (c.in_err-pass_on.ensures.err c.requires.0 before.0 (before.1.stands c.requires.0 c.requires.1)) is)),
+      λ bad. (let is : c.in_err-pass_on.field-0.0 ≡ Read = cc in absurd
+          (stops-unread before.0 fitting _ (c.in_err-pass_on.ensures.err c.requires.0 before.0
+          (before.1.stands c.requires.0 c.requires.1)) is)),
       λ failed. absurd (still-fresh _ _ _ c.in-Ok.ensures.failed before.1.same fresh failed),
     ))
 
@@ -45,8 +51,11 @@ returns-then-fitting-count-clause-err g c =
     let got = take c.in-Ok.count c.read.new.buf in
     let fitting = take c.min-fitting.result c.read.new.buf in
     let by = c.requires.0 in
-    let both = all-passed c.loop-count.reader c.pass_on.new.reader (g.S.Sink.stands by c.loop-count.sink) (g.S.Sink.stands by c.pass_on.new.sink) before.0 fitting (c.in_ok-pass_on.ensures.ok by) (before.1.stands by c.requires.1) in
-    reads-more (g.R.Read.remaining c.args.input.now.inner) (g.R.Read.remaining c.loop-count.input.inner) (g.R.Read.remaining c.read.new.self.inner) c.args.most before.0 got fitting (drop c.min-fitting.result got)
+    let both = all-passed c.loop-count.reader c.pass_on.new.reader (g.S.Sink.stands by c.loop-count.sink)
+    (g.S.Sink.stands by c.pass_on.new.sink) before.0 fitting (c.in_ok-pass_on.ensures.ok by)
+    (before.1.stands by c.requires.1) in
+    reads-more (g.R.Read.remaining c.args.input.now.inner) (g.R.Read.remaining c.loop-count.input.inner)
+    (g.R.Read.remaining c.read.new.self.inner) c.args.most before.0 got fitting (drop c.min-fitting.result got)
     before.1.read c.in-Ok.ensures.bytes.0 (take-split c.min-fitting.result c.in-Ok.count c.read.new.buf (omega (arith, c.min-fitting.ensures)))
     (omega (arith, c.min-fitting.ensures, c.if-fitting-count.true, c.in-Ok.ensures.bound, before.1.many, before.1.few, length-take c.min-fitting.result c.read.new.buf))
     (omega (arith, c.if-fitting-count.true, c.in-Ok.ensures.bound, length-drop c.min-fitting.result got, length-take c.in-Ok.count c.read.new.buf))
@@ -75,7 +84,8 @@ loop-count-preserved g c =
             (Consumes-trans _ _ _ _ _ before.1.read c.in-Ok.ensures.bytes.0);
         many = omega (arith, before.1.many, length-append before.0 fitting, length-take c.min-fitting.result c.read.new.buf, c.in-Ok.ensures.bound);
         few = omega (arith, before.1.many, before.1.few, length-append before.0 fitting, length-take c.min-fitting.result c.read.new.buf, c.min-fitting.ensures);
-        stands = λ by start. all-passed c.loop-count.reader c.pass_on.new.reader (g.S.Sink.stands by c.loop-count.sink) (g.S.Sink.stands by c.pass_on.new.sink) before.0 fitting (c.in_ok-pass_on.ensures.ok by) (before.1.stands by start);
+        stands = λ by start. all-passed c.loop-count.reader c.pass_on.new.reader (g.S.Sink.stands by c.loop-count.sink)
+            (g.S.Sink.stands by c.pass_on.new.sink) before.0 fitting (c.in_ok-pass_on.ensures.ok by) (before.1.stands by start);
         same = stays-same _ _ _ c.in-Ok.ensures.failed before.1.same;
       },
     )

@@ -1,4 +1,4 @@
-use Rattle.nntp_article.specs.Limit.{profile_of}
+use Rattle.nntp_article.specs.Session.Limit.{profile_of}
 use Rattle.std.proofs.Common.{◌∙◌, [], ap, sym, subst}
 use Rattle.nntp_pair.specs.Pairing.{Unpaired, line_ahead}
 use Rattle.nntp_check.specs.Judging.{IsFirstLine}
@@ -9,17 +9,21 @@ pub loop-exchange-init : goal.loop-exchange-init
 loop-exchange-init g c = record { pairs = []; before = sym c.new-pairs.ensures; count = c.new-judge.ensures.answers; stands = c.new-judge.ensures.facts }
 
 pub note-requires : goal.note-requires
-note-requires g c = is-due (profile_of c.args.limit c.args.marks) c.args.client.now c.args.server.now c.loop-exchange.judge.facts c.loop-exchange.pairs c.next.new.self c.loop-exchange.judge.answers c.in-Exchange.exchange c.loop-exchange.invariant c.in-Exchange.ensures.step
+note-requires g c = is-due (profile_of c.args.limit c.args.marks) c.args.client.now c.args.server.now c.loop-exchange.judge.facts
+    c.loop-exchange.pairs c.next.new.self c.loop-exchange.judge.answers c.in-Exchange.exchange c.loop-exchange.invariant
+    c.in-Exchange.ensures.step
 
 pub returns-in-Some : goal.returns-in-Some
 returns-in-Some g c =
     refuses _ c.in-Some.verdict _ _ c.in-Some.is
-    (c.in_ok-verdict-in-Exchange.ensures.judged c.args.limit c.args.marks c.args.client.now c.args.server.now c.loop-exchange.pairs c.next.new.self c.loop-exchange.invariant c.in-Exchange.ensures.step)
+    (c.in_ok-verdict-in-Exchange.ensures.judged c.args.limit c.args.marks c.args.client.now c.args.server.now
+    c.loop-exchange.pairs c.next.new.self c.loop-exchange.invariant c.in-Exchange.ensures.step)
 
 pub loop-exchange-preserved : goal.loop-exchange-preserved
 loop-exchange-preserved g c =
     (passes _ _ _ c.in_default.is
-    (c.in_ok-verdict-in-Exchange.ensures.judged c.args.limit c.args.marks c.args.client.now c.args.server.now c.loop-exchange.pairs c.next.new.self c.loop-exchange.invariant c.in-Exchange.ensures.step)).0
+    (c.in_ok-verdict-in-Exchange.ensures.judged c.args.limit c.args.marks c.args.client.now c.args.server.now
+    c.loop-exchange.pairs c.next.new.self c.loop-exchange.invariant c.in-Exchange.ensures.step)).0
 
 pub returns-in-Bad : goal.returns-in-Bad
 returns-in-Bad g c =

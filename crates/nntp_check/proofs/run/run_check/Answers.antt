@@ -45,5 +45,7 @@ returns-clause-ok g c =
         text_is = c.in_ok-text.ensures;
         answer_is = c.is_consistent.ensures;
       };
-      whole = wrote-all (g.W.Write.contents c.args.output.now.inner) (g.W.Write.contents c.print.new.output.inner) c.in_ok-text.text.items c.deref.result.now c.deref.ensures.value c.in_ok-print.ensures.text;
+      whole = wrote-all (g.W.Write.contents c.args.output.now.inner)
+          (g.W.Write.contents c.print.new.output.inner) c.in_ok-text.text.items c.deref.result.now c.deref.ensures.value
+          c.in_ok-print.ensures.text;
     }

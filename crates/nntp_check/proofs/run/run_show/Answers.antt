@@ -4,12 +4,12 @@ use Rattle.nntp_check.proofs.RunLemmas.{wrote-all, cut-short}
 use Rattle.nntp_check.proofs.run.run_show.Goals as goal
 
 pub finish-requires : goal.finish-requires
-finish-requires g c = let read = c.in_ok-read_capture.ensures.ok tt c.new-shower.ensures in (read.0, read.1, read.4)
+finish-requires g c = let read = c.in_ok-read_capture.ensures.ok tt c.new-printer.ensures in (read.0, read.1, read.4)
 
 pub returns-in_err-print-clause-err : goal.returns-in_err-print-clause-err
 returns-in_err-print-clause-err g c =
     let exit = err_from_is_err_and c.from_residual-in_err-print.result c.from_residual-in_err-print.ensures.1 in
-    let read = c.in_ok-read_capture.ensures.ok tt c.new-shower.ensures in
+    let read = c.in_ok-read_capture.ensures.ok tt c.new-printer.ensures in
     let shown = c.in_ok-shown.shown in
     rw (exit.1, exit.2)
     (cut-short ShowReports (read_by g.R.Read.remaining c.args.input.now c.read_capture.new.input c.args.most)
@@ -19,7 +19,7 @@ returns-in_err-print-clause-err g c =
 
 pub returns-clause-ok : goal.returns-clause-ok
 returns-clause-ok g c =
-    let read = c.in_ok-read_capture.ensures.ok tt c.new-shower.ensures in
+    let read = c.in_ok-read_capture.ensures.ok tt c.new-printer.ensures in
     let shown = c.in_ok-shown.shown in
     record {
       client = read.0;

@@ -40,5 +40,7 @@ returns-clause-ok g c =
       reports = verify-reports c.args.marks c.in_ok-spool.spool (subst IsWithinLimit c.spool.view_is c.spool.invariant) read.0 read.1 read.2
           c.deref-2.result.now c.deref-3.result.now c.deref.result.now (c.deref-2.ensures.value ∙ read.4.0) (c.deref-3.ensures.value ∙ read.4.1) (c.deref.ensures.value ∙ read.4.2)
           c.in_ok-spool.ensures.spool c.in_ok-verified.verified c.in_ok-verified.ensures c.in_ok-text.text.items c.in_ok-text.ensures c.is_permitted.result c.is_permitted.ensures;
-      whole = wrote-all (g.W.Write.contents c.args.output.now.inner) (g.W.Write.contents c.print.new.output.inner) c.in_ok-text.text.items c.deref-4.result.now c.deref-4.ensures.value c.in_ok-print.ensures.text;
+      whole = wrote-all (g.W.Write.contents c.args.output.now.inner)
+          (g.W.Write.contents c.print.new.output.inner) c.in_ok-text.text.items c.deref-4.result.now c.deref-4.ensures.value
+          c.in_ok-print.ensures.text;
     }

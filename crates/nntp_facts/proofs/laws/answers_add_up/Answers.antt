@@ -1,4 +1,4 @@
-use Rattle.nntp_facts.proofs.Grow.{facts_grow, fitting_grows, visible_grows, position_grows}
+use Rattle.nntp_facts.proofs.Session.OneMoreAnswer.{facts_grow, fitting_grows, visible_grows, position_grows}
 use Rattle.nntp_facts.proofs.laws.answers_add_up.Goals as goal
 
 pub returns : goal.returns

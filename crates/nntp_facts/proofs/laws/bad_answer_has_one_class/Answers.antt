@@ -1,4 +1,4 @@
-use Rattle.nntp_facts.proofs.ClassLemmas.{one_class}
+use Rattle.nntp_facts.proofs.Streams.OneClass.{one_class}
 use Rattle.nntp_facts.proofs.laws.bad_answer_has_one_class.Goals as goal
 
 pub returns : goal.returns

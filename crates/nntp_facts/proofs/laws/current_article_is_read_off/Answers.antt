@@ -1,6 +1,6 @@
-use Rattle.nntp_article.specs.Machine.{start}
+use Rattle.nntp_article.specs.Session.Machine.{start}
 use Rattle.nntp_facts.specs.declared.position.Position.TheVariants.{Nowhere}
-use Rattle.nntp_facts.proofs.ReadOff.{read_off, run_from}
+use Rattle.nntp_facts.proofs.Session.CurrentArticle.{read_off, run_from}
 use Rattle.nntp_facts.proofs.laws.current_article_is_read_off.Goals as goal
 
 pub returns : goal.returns

@@ -1,4 +1,4 @@
-use Rattle.nntp_facts.proofs.ExplainedPairs.{by_all_pairs}
+use Rattle.nntp_facts.proofs.Streams.ExplainedPairs.{by_all_pairs}
 use Rattle.nntp_facts.proofs.laws.explanation_is_by_all_pairs.Goals as goal
 
 pub returns : goal.returns

@@ -1,5 +1,5 @@
-use Rattle.nntp_facts.proofs.Exists.{made_for, given_exists}
-use Rattle.nntp_facts.proofs.GivenPermits.{stands}
+use Rattle.nntp_facts.proofs.Given.GivenSpoolExists.{made_for, given_exists}
+use Rattle.nntp_facts.proofs.Given.GivenPermits.{stands}
 use Rattle.nntp_facts.proofs.laws.given_spool_exists.Goals as goal
 
 pub returns : goal.returns

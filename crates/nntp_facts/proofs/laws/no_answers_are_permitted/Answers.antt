@@ -1,5 +1,5 @@
 use Rattle.std.proofs.Common.{[]}
-use Rattle.nntp_facts.proofs.FirstBad.{none_permitted}
+use Rattle.nntp_facts.proofs.Given.FirstBadAnswer.{none_permitted}
 use Rattle.nntp_facts.proofs.laws.no_answers_are_permitted.Goals as goal
 
 pub returns : goal.returns

@@ -1,4 +1,4 @@
-use Rattle.nntp_facts.proofs.PairedLemmas.{end_has_class, settled_lasts}
+use Rattle.nntp_facts.proofs.Streams.ClassAtTheEnd.{end_has_class, settled_lasts}
 use Rattle.nntp_facts.proofs.laws.pairing_ends_in_class.Goals as goal
 
 pub returns : goal.returns

@@ -1,4 +1,4 @@
-use Rattle.nntp_facts.proofs.PairedBad.{bad_end}
+use Rattle.nntp_facts.proofs.Streams.PairedStreams.{bad_end}
 use Rattle.nntp_facts.proofs.laws.pairing_to_octets_is_bad.Goals as goal
 
 pub returns : goal.returns

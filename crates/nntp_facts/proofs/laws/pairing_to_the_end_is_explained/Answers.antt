@@ -1,4 +1,4 @@
-use Rattle.nntp_facts.proofs.PairedBad.{explained_end}
+use Rattle.nntp_facts.proofs.Streams.PairedStreams.{explained_end}
 use Rattle.nntp_facts.proofs.laws.pairing_to_the_end_is_explained.Goals as goal
 
 pub returns : goal.returns

@@ -1,6 +1,6 @@
-use Rattle.nntp_article.specs.Machine.{start}
+use Rattle.nntp_article.specs.Session.Machine.{start}
 use Rattle.nntp_facts.specs.declared.position.Position.TheVariants.{Nowhere}
-use Rattle.nntp_facts.proofs.FactsHold.{permits_by_facts}
+use Rattle.nntp_facts.proofs.Session.FactsHold.{permits_by_facts}
 use Rattle.nntp_facts.proofs.laws.permitted_by_facts.Goals as goal
 
 pub returns : goal.returns

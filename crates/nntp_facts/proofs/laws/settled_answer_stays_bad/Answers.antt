@@ -1,4 +1,4 @@
-use Rattle.nntp_facts.proofs.ClassLemmas.{bad_stays, class_stays}
+use Rattle.nntp_facts.proofs.Streams.OneClass.{bad_stays, class_stays}
 use Rattle.nntp_facts.proofs.laws.settled_answer_stays_bad.Goals as goal
 
 pub returns : goal.returns

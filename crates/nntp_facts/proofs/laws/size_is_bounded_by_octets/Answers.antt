@@ -1,4 +1,4 @@
-use Rattle.nntp_facts.proofs.Grow.{size_by_octets, size_by_pairs}
+use Rattle.nntp_facts.proofs.Session.OneMoreAnswer.{size_by_octets, size_by_pairs}
 use Rattle.nntp_facts.proofs.laws.size_is_bounded_by_octets.Goals as goal
 
 pub returns : goal.returns

@@ -1,5 +1,5 @@
 use Rattle.std.proofs.Common.{inl, inr}
-use Rattle.nntp_facts.proofs.Exists.{some_or_none}
+use Rattle.nntp_facts.proofs.Given.GivenSpoolExists.{some_or_none}
 use Rattle.nntp_facts.proofs.laws.some_spool_permits_or_none.Goals as goal
 
 pub returns : goal.returns

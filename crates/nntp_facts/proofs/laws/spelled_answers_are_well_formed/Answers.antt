@@ -1,4 +1,4 @@
-use Rattle.nntp_facts.proofs.WellFormed.{spelled_formed}
+use Rattle.nntp_facts.proofs.Together.WellFormed.{spelled_formed}
 use Rattle.nntp_facts.proofs.laws.spelled_answers_are_well_formed.Goals as goal
 
 pub returns : goal.returns

@@ -1,5 +1,5 @@
 use Rattle.std.proofs.Common.{refl}
-use Rattle.nntp_facts.proofs.PairedBad.{bad_answer, answer_has_class, unfitting}
+use Rattle.nntp_facts.proofs.Streams.PairedStreams.{bad_answer, answer_has_class, unfitting}
 use Rattle.nntp_facts.proofs.laws.unpermitted_response_is_bad.Goals as goal
 
 pub returns : goal.returns

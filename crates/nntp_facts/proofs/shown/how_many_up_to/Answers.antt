@@ -1,7 +1,7 @@
 use Rattle.std.specs.Prelude.{not}
 use Rattle.std.specs.Ordering.{nat_cmp}
 use Rattle.std.specs.BTreeMap.Range.{is_past_end}
-use Rattle.nntp_facts.proofs.FoundNumbers.{found_one, found_two}
+use Rattle.nntp_facts.proofs.Keeping.PassingNumbers.{found_one, found_two}
 use Rattle.nntp_facts.proofs.shown.how_many_up_to.Goals as goal
 
 pub returns-in-Some-Some : goal.returns-in-Some-Some

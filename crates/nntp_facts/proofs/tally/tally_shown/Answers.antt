@@ -1,7 +1,7 @@
 use Rattle.std.proofs.Common.{false, ◌||◌, ◌∙◌, sym, subst, arith, take}
 use Rattle.nntp_facts.specs.Part.{is_one_of}
 use Rattle.nntp_facts.specs.Summary.{has, IsTally}
-use Rattle.nntp_facts.proofs.Tallies.{tally_start, tally_step, tally_end, there_if}
+use Rattle.nntp_facts.proofs.Keeping.Tallies.{tally_start, tally_step, tally_end, there_if}
 use Rattle.nntp_facts.proofs.tally.tally_shown.Goals as goal
 
 pub loop-n-init : goal.loop-n-init
@@ -16,7 +16,9 @@ loop-n-preserved g c =
     let i = c.loop-n.n-index in
     let numbers = c.args.numbers.now in (
       λ up. tally_step c.args.shown.now.keys c.args.demand numbers i _ _ c.loop-n-test.true
-          (c.with-tally.ensures.tally (λ m. has c.args.shown.now.keys m || is_one_of (take i numbers) m) (c.is_shown.ensures ∙ there_if (has c.args.shown.now.keys) numbers i up c.loop-n-test.true) (c.loop-n.invariant.0 up)),
+          (c.with-tally.ensures.tally (λ m. has c.args.shown.now.keys m || is_one_of (take i numbers) m)
+          (c.is_shown.ensures ∙ there_if (has c.args.shown.now.keys) numbers i up c.loop-n-test.true)
+          (c.loop-n.invariant.0 up)),
       omega (arith, c.loop-n.invariant.1, c.with-tally.ensures.count),
     )
 

@@ -13,7 +13,8 @@ loop-rest-init c = record {
 
 pub loop-rest-preserved-in-Star : goal.loop-rest-preserved-in-Star
 loop-rest-preserved-in-Star c = record {
-  search = λ ps ts p q. search-star (Matches (map item_of ps) ts) c.loop-rest.items.now c.loop-rest.left.now c.loop-rest.after.now c.loop-rest.from.now c.in-Star.rest c.in-Star.ensures.takes (c.loop-rest.invariant.search ps ts p q);
+  search = λ ps ts p q. search-star (Matches (map item_of ps) ts) c.loop-rest.items.now c.loop-rest.left.now
+      c.loop-rest.after.now c.loop-rest.from.now c.in-Star.rest c.in-Star.ensures.takes (c.loop-rest.invariant.search ps ts p q);
   items = omega arith;
   left = c.loop-rest.invariant.left;
   tried = c.loop-rest.invariant.left;
@@ -21,7 +22,8 @@ loop-rest-preserved-in-Star c = record {
 
 pub loop-rest-preserved-in-One : goal.loop-rest-preserved-in-One
 loop-rest-preserved-in-One c = record {
-  search = λ ps ts p q. search-one (Matches (map item_of ps) ts) c.loop-rest.items.now c.loop-rest.left.now c.loop-rest.after.now c.loop-rest.from.now c.in-One.rest c.in-One.others c.in-One.ensures.takes (c.loop-rest.invariant.search ps ts p q);
+  search = λ ps ts p q. search-one (Matches (map item_of ps) ts) c.loop-rest.items.now c.loop-rest.left.now c.loop-rest.after.now
+      c.loop-rest.from.now c.in-One.rest c.in-One.others c.in-One.ensures.takes (c.loop-rest.invariant.search ps ts p q);
   items = omega (arith, c.in-One.ensures.shorter.0, c.loop-rest.invariant.items);
   left = omega (arith, c.in-One.ensures.shorter.1, c.loop-rest.invariant.left);
   tried = c.loop-rest.invariant.tried;
@@ -30,7 +32,9 @@ loop-rest-preserved-in-One c = record {
 pub loop-rest-preserved : goal.loop-rest-preserved
 loop-rest-preserved c =
     let found = c.in-Some.ensures.found in record {
-      search = λ ps ts p q. search-fails (Matches (map item_of ps) ts) c.loop-rest.items.now c.loop-rest.left.now c.loop-rest.after.now c.loop-rest.from.now c.in-Some.others.now c.in-Some.field-0-0 found.0 found.1 c.in-Fails.ensures.takes (c.loop-rest.invariant.search ps ts p q);
+      search = λ ps ts p q. search-fails (Matches (map item_of ps) ts) c.loop-rest.items.now c.loop-rest.left.now
+          c.loop-rest.after.now c.loop-rest.from.now c.in-Some.others.now c.in-Some.field-0-0 found.0 found.1
+          c.in-Fails.ensures.takes (c.loop-rest.invariant.search ps ts p q);
       items = omega arith;
       left = omega (arith, c.in-Some.ensures.shorter, c.loop-rest.invariant.tried);
       tried = omega (arith, c.in-Some.ensures.shorter, c.loop-rest.invariant.tried);

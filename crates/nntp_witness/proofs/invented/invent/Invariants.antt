@@ -1,6 +1,6 @@
 use Rattle.std.proofs.Common.{ℕ, ◌≤◌, ◌<◌, IsTrue, List}
 use Rattle.nntp_pair.specs.Pairing.{Paired}
-use Rattle.nntp_article.specs.declared.profile.Profile.{Profile}
+use Rattle.nntp_article.specs.declared.session.profile.Profile.{Profile}
 use Rattle.nntp_facts.specs.Given.{invented, is_mentioned}
 use Rattle.nntp_facts.specs.Noted.{HasNoted, said_by}
 use Rattle.nntp_witness.proofs.invented.invent.Given as goal

@@ -10,7 +10,18 @@ go_to-requires c =
     let front = c.split_at.result.0.now in
     let many : (c.args.left - c.min-count.result) + length front ≡ c.args.left = omega (arith, c.min-count.ensures, c.split_at.ensures.front_len) in
     let come = subst (λ (place : Place). HasCome c.args.self.now.piece place room.0 room.1 room.2 room.3) c.requires.place room.4.0 in
-    record { room = (_, _, _, _, octets-come _ c.args.left c.args.source _ _ _ _ front (c.args.left - c.min-count.result) come many, omega (arith, room.5, length-append room.0 front, c.min-count.ensures, c.split_at.ensures.front_len)) }
+    record {
+      room = (
+        _,
+        _,
+        _,
+        _,
+        octets-come _ c.args.left c.args.source _ _ _ _ front
+            (c.args.left - c.min-count.result) come many,
+        omega
+            (arith, room.5, length-append room.0 front, c.min-count.ensures, c.split_at.ensures.front_len),
+      );
+    }
 
 pub returns-clause-read : goal.returns-clause-read
 returns-clause-read c came client server spool h =

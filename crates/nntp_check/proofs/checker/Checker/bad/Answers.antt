@@ -1,5 +1,5 @@
 use Rattle.std.proofs.Common.{sym, subst}
-use Rattle.nntp_article.specs.Limit.{profile_of}
+use Rattle.nntp_article.specs.Session.Limit.{profile_of}
 use Rattle.nntp_check.specs.Checking.{StandsFor, IsToldBad}
 use Rattle.nntp_check.specs.CheckerView.{of_state}
 use Rattle.nntp_check.specs.Verdict.{verdict_shown}
@@ -11,4 +11,6 @@ pub returns-in-Decided-clause-told : goal.returns-in-Decided-clause-told
 returns-in-Decided-clause-told g c = λ limit marks client server stands.
     let here = subst (λ s. StandsFor limit marks (of_state s) client server) c.in-Decided.is stands in
     subst (IsToldBad (profile_of limit marks) client server) (sym c.bad_answer.ensures)
-    (decided-told limit marks client server (verdict_shown c.in-Decided.verdict) here.0.for_good (decided-verdict limit marks (verdict_shown c.in-Decided.verdict) c.in-Decided.client_count c.in-Decided.server_count client server here))
+    (decided-told limit marks client server (verdict_shown c.in-Decided.verdict) here.0.for_good
+    (decided-verdict limit marks (verdict_shown c.in-Decided.verdict) c.in-Decided.client_count c.in-Decided.server_count
+    client server here))

@@ -1,7 +1,7 @@
 use Rattle.std.proofs.Common.{◌∙◌, inl, inr, sym, subst}
 use Rattle.std.proofs.lemmas.Bool.{false≢true}
 use Rattle.nntp_pair.specs.Feeding.{IsEnding, left_of}
-use Rattle.nntp_article.specs.Limit.{profile_of}
+use Rattle.nntp_article.specs.Session.Limit.{profile_of}
 use Rattle.nntp_check.specs.Checking.{Held, HasPassed}
 use Rattle.nntp_check.specs.Judging.{IsFirstLine}
 use Rattle.nntp_check.proofs.JudgeLemmas.{told_of}
@@ -13,7 +13,10 @@ returns-in-End g c = told_of c.ended.result _ _ c.ended.ensures (λ v h limit ma
     let judge = c.self.inside.judge in
     let fed = c.self.inside.feed in
     let here = subst (λ (h : Held). HasPassed (profile_of limit marks) h.facts h.fed client server) (sym c.self.view_is) passed in
-    h limit marks client server (left_of fed) c.in-End.unanswered (passed-now (profile_of limit marks) judge.facts fed judge.answers client server (kept (profile_of limit marks) judge.facts fed judge.answers client server here c.self.invariant.is_whole c.self.invariant.count))
+    h limit marks client server (left_of fed) c.in-End.unanswered
+    (passed-now (profile_of limit marks) judge.facts fed judge.answers client server
+    (kept (profile_of limit marks) judge.facts fed judge.answers client server here c.self.invariant.is_whole
+    c.self.invariant.count))
     c.in-End.ensures.1)
 
 pub returns-in-Bad : goal.returns-in-Bad
@@ -21,7 +24,10 @@ returns-in-Bad g c = told_of c.stopped.result _ _ c.stopped.ensures.verdict (λ 
     let judge = c.self.inside.judge in
     let fed = c.self.inside.feed in
     let here = subst (λ (h : Held). HasPassed (profile_of limit marks) h.facts h.fed client server) (sym c.self.view_is) passed in
-    h limit marks client server (left_of fed) (passed-now (profile_of limit marks) judge.facts fed judge.answers client server (kept (profile_of limit marks) judge.facts fed judge.answers client server here c.self.invariant.is_whole c.self.invariant.count))
+    h limit marks client server (left_of fed)
+    (passed-now (profile_of limit marks) judge.facts fed judge.answers client server
+    (kept (profile_of limit marks) judge.facts fed judge.answers client server here c.self.invariant.is_whole
+    c.self.invariant.count))
     (record {
       ends = c.in-Bad.ensures.2;
       index_is = c.in-Bad.ensures.1;

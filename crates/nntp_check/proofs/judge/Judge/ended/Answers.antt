@@ -1,4 +1,4 @@
-use Rattle.nntp_article.specs.Limit.{profile_of}
+use Rattle.nntp_article.specs.Session.Limit.{profile_of}
 use Rattle.nntp_check.proofs.JudgeLemmas.{at-end}
 use Rattle.nntp_check.proofs.judge.Judge.ended.Goals as goal
 

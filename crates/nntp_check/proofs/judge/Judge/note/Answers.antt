@@ -1,6 +1,6 @@
 use Rattle.std.proofs.Common.{sym, subst}
 use Rattle.std.specs.Option.{option_copied}
-use Rattle.nntp_article.specs.Limit.{profile_of}
+use Rattle.nntp_article.specs.Session.Limit.{profile_of}
 use Rattle.nntp_check.specs.Judging.{IsVerdict}
 use Rattle.nntp_check.proofs.JudgeLemmas.{one-more, refused}
 use Rattle.nntp_check.proofs.judge.Judge.note.Goals as goal

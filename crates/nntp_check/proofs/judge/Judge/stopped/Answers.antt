@@ -2,7 +2,7 @@ use Rattle.std.proofs.Common.{ℕ, List}
 use Rattle.std.specs.Option.{option_copied}
 use Rattle.nntp_wire.specs.declared.limit.Limit.{Limit}
 use Rattle.nntp_wire.specs.declared.marks.Marks.{Marks}
-use Rattle.nntp_article.specs.Limit.{profile_of}
+use Rattle.nntp_article.specs.Session.Limit.{profile_of}
 use Rattle.nntp_pair.specs.Pairing.{Unpaired}
 use Rattle.nntp_check.specs.Judging.{IsVerdict, Passed, StopsHere}
 use Rattle.nntp_check.specs.Verdict.{Judgement}
@@ -14,6 +14,8 @@ returns-clause-verdict g c =
     told c.bad.result
     (λ (j : Judgement). (limit : Limit) (marks : Marks) (client server : List ℕ) (left : Unpaired) → Passed (profile_of limit marks) client server c.args.self.now.facts left c.args.self.now.answers
     → StopsHere left c.args.index c.args.class (option_copied c.args.ahead.line) c.args.ahead.rest.now → IsVerdict limit marks client server j)
-    _ (λ limit marks client server left p stop. stopped limit marks client server c.args.self.now.facts left c.args.self.now.answers c.args.index c.args.class (option_copied c.args.ahead.line) c.args.ahead.rest.now c.first_line-reply.result.now
+    _ (λ limit marks client server left p stop. stopped limit marks client server c.args.self.now.facts left
+    c.args.self.now.answers c.args.index c.args.class
+    (option_copied c.args.ahead.line) c.args.ahead.rest.now c.first_line-reply.result.now
     p stop c.from.result c.from.ensures c.first_line-reply.ensures)
     c.bad.ensures

@@ -1,6 +1,6 @@
 use Rattle.std.proofs.Common.{option_map, sym, ap, ◌∙◌}
 use Rattle.nntp_facts.specs.ArticleView.{known_value}
-use Rattle.nntp_facts.proofs.NotedArticles.{lack_known, lack_unknown}
+use Rattle.nntp_facts.proofs.Keeping.NotedArticles.{lack_known, lack_unknown}
 use Rattle.nntp_facts.proofs.articles.Articles.note_lack.Goals as goal
 
 pub returns-in-Some : goal.returns-in-Some

@@ -5,7 +5,7 @@ use Rattle.std.specs.FinMap as map
 use Rattle.nntp_wire.proofs.ShownMaps.{get-shown, insert-shown, shown}
 use Rattle.nntp_facts.specs.ArticleView.{known_value, known_of, known_article}
 use Rattle.nntp_facts.specs.declared.articles.known.Known.TheVariants.{There}
-use Rattle.nntp_facts.proofs.NotedArticles.{there_either}
+use Rattle.nntp_facts.proofs.Keeping.NotedArticles.{there_either}
 use Rattle.nntp_facts.proofs.OkResults.{if_ok}
 use Rattle.nntp_facts.proofs.articles.Articles.note_there.Goals as goal
 
@@ -21,6 +21,8 @@ returns g c =
     if_ok c.put_new.result (λ may put facts name n kept.
     there_either facts c.args.self.now _ name n id (known_of key.items old) may kept was put
     (λ e. insert-shown order (λ k. k.items) known_value nat_list_cmp_total same_key old _ key (There c.unsent.result) e
-    ∙ ap (λ m. map.insert m key.items (known_article c.unsent.result)) c.self.view_is ∙ ap (λ k. map.insert c.args.self.now k (known_article c.unsent.result)) items ∙ ap (map.insert c.args.self.now id) c.unsent.ensures)
+    ∙ ap (λ m. map.insert m key.items (known_article c.unsent.result)) c.self.view_is
+    ∙ ap (λ k. map.insert c.args.self.now k (known_article c.unsent.result)) items
+    ∙ ap (map.insert c.args.self.now id) c.unsent.ensures)
     (λ e. ap (shown order (λ k. k.items) known_value) e ∙ c.self.view_is))
     c.put_new.ensures

@@ -1,8 +1,8 @@
 use Rattle.std.proofs.Common.{sym, subst, ◌∙◌, ap}
 use Rattle.nntp_facts.specs.Noted.{said_by}
 use Rattle.nntp_facts.specs.Readers.{AreShownGroups, shown_groups}
-use Rattle.nntp_facts.proofs.GroupReaders.{groups_shown}
-use Rattle.nntp_facts.proofs.Noting.{stands_together}
+use Rattle.nntp_facts.proofs.Keeping.GroupReaders.{groups_shown}
+use Rattle.nntp_facts.proofs.Keeping.NotedExchange.{stands_together}
 use Rattle.nntp_facts.proofs.facts.Facts.groups.Goals as goal
 
 pub returns : goal.returns

@@ -8,8 +8,12 @@ use Rattle.nntp_facts.proofs.group.Group.identify.Goals as goal
 
 pub returns-clause-ids : goal.returns-clause-ids
 returns-clause-ids g c =
-    let ids = insert-shown nat_cmp (λ k. k) (λ v. v.items) nat_cmp_total map.nat_cmp-IsAntisymmetric c.self.inside.ids.entries _ c.args.at.number c.in_ok-from_slice.field-0 c.in_ok-insert.ensures.entries in
-    let places = insert-shown (slice_cmp nat_cmp) (λ k. k.items) (λ v. v) nat_list_cmp_total (map.slice_cmp-IsAntisymmetric map.nat_cmp-IsAntisymmetric) c.self.inside.places.entries _ c.in_ok-from_slice-2.field-0 c.args.at.number c.in_ok-insert-2.ensures.entries in (
+    let ids = insert-shown nat_cmp (λ k. k)
+    (λ v. v.items) nat_cmp_total map.nat_cmp-IsAntisymmetric c.self.inside.ids.entries _ c.args.at.number
+    c.in_ok-from_slice.field-0 c.in_ok-insert.ensures.entries in
+    let places = insert-shown (slice_cmp nat_cmp) (λ k. k.items) (λ v. v) nat_list_cmp_total
+    (map.slice_cmp-IsAntisymmetric map.nat_cmp-IsAntisymmetric) c.self.inside.places.entries _ c.in_ok-from_slice-2.field-0
+    c.args.at.number c.in_ok-insert-2.ensures.entries in (
       ids ∙ (λ i. map.insert (c.self.view_is i).ids c.args.at.number (c.in_ok-from_slice.ensures.items i)),
       places ∙ (λ i. map.insert (c.self.view_is i).places (c.in_ok-from_slice-2.ensures.items i) c.args.at.number),
     )

@@ -7,7 +7,7 @@ use Rattle.std.specs.FinMap as map
 use Rattle.nntp_wire.proofs.ShownMaps.{replaced, missing}
 use Rattle.nntp_facts.specs.SayingView.{id_at}
 use Rattle.nntp_facts.specs.Kept.{AreKept, MayHave, ids_with, places_with}
-use Rattle.nntp_facts.proofs.KeptGroups.{kept_of, part_kept, new_kept, may_have_told, empty_may_have, empty_agree, agree_kept}
+use Rattle.nntp_facts.proofs.Keeping.KeptGroups.{kept_of, part_kept, new_kept, may_have_told, empty_may_have, empty_agree, agree_kept}
 use Rattle.nntp_facts.proofs.OkResults.{on_ok, on_both}
 use Rattle.nntp_facts.proofs.groups.Groups.add.Goals as goal
 
@@ -19,11 +19,14 @@ returns-in-Some g c =
     let id = id_at c.args.part.now.id in
     let old = c.in-Some.group.now in
     let new = c.add.new.self in
-    let r = replaced (slice_cmp nat_cmp) (λ k. k.items) (λ v. v) nat_list_cmp_total same c.self.inside.groups.entries _ M name old new c.self.view_is c.in-Some.ensures.value (c.get_mut.follows.holds new).0 in
+    let r = replaced (slice_cmp nat_cmp) (λ k. k.items)
+    (λ v. v) nat_list_cmp_total same c.self.inside.groups.entries _ M name old new c.self.view_is c.in-Some.ensures.value
+    (c.get_mut.follows.holds new).0 in
     on_both c.add.result (λ numbers ids before asks kept says bounded each free after changes.
     let was = kept_of before M name (Some old) r.1 kept in
     let grown = ids (agree_kept (before name) old id was each) ((may_have_told (before name) old id was.ids was.places).1 free) in
-    subst (AreKept after) (sym r.0) (part_kept before after M name old new asks id kept r.1 free changes (numbers (before name).asks asks was.numbers says) grown.0 grown.1)) c.add.ensures.numbers c.add.ensures.ids
+    subst (AreKept after) (sym r.0) (part_kept before after M name old new asks id kept r.1 free changes
+    (numbers (before name).asks asks was.numbers says) grown.0 grown.1)) c.add.ensures.numbers c.add.ensures.ids
 
 pub returns : goal.returns
 returns g c =
@@ -32,11 +35,17 @@ returns g c =
     let name = c.args.part.now.name.now in
     let id = id_at c.args.part.now.id in
     let group = c.add-2.new.self in
-    let none = missing (slice_cmp nat_cmp) (λ k. k.items) (λ v. v) nat_list_cmp_total same c.self.inside.groups.entries M name c.self.view_is (ap option_copied_mut (sym c.in_default.is) ∙ c.get_mut.ensures.value) in
+    let none = missing (slice_cmp nat_cmp) (λ k. k.items)
+    (λ v. v) nat_list_cmp_total same c.self.inside.groups.entries M name c.self.view_is
+    (ap option_copied_mut (sym c.in_default.is) ∙ c.get_mut.ensures.value) in
     let begun = c.new-group.ensures.ids in
     on_ok c.put.result (λ is before asks kept says bounded each free after changes.
     let was = kept_of before M name _ none kept in
-    let grown = c.in_ok-add.ensures.ids (empty_agree c.new-group.result id begun.0) (subst (λ ids. MayHave ids c.new-group.result.places id) (sym begun.0) (subst (λ places. MayHave map.empty places id) (sym begun.1) (empty_may_have id))) in
-    let whole : c.put.new.self ≡ map.insert M name group = is ∙ (λ i. map.insert (map.from_entries (list_map (λ e. (e.0.items, e.1)) (c.get_mut.follows.holds-at-none i).entries)) name group) ∙ ap (λ m. map.insert m name group) c.self.view_is in
+    let grown = c.in_ok-add.ensures.ids (empty_agree c.new-group.result id begun.0)
+    (subst (λ ids. MayHave ids c.new-group.result.places id) (sym begun.0)
+    (subst (λ places. MayHave map.empty places id) (sym begun.1) (empty_may_have id))) in
+    let whole : c.put.new.self ≡ map.insert M name group = is
+    ∙ (λ i. map.insert (map.from_entries (list_map (λ e. (e.0.items, e.1)) (c.get_mut.follows.holds-at-none i).entries)) name
+    group) ∙ ap (λ m. map.insert m name group) c.self.view_is in
     subst (AreKept after) (sym whole) (new_kept before after M name group asks id kept none (bounded was.not_shown) free changes (c.in_ok-add.ensures.numbers _ asks c.new-group.ensures.numbers says)
     (grown.0 ∙ ap (λ ids. ids_with ids id) begun.0) (grown.1 ∙ ap (λ places. places_with places id) begun.1))) c.put.ensures

@@ -1,5 +1,5 @@
 use Rattle.nntp_wire.specs.Listing.{active_groups}
-use Rattle.nntp_facts.proofs.ListedNames.{none_missing}
+use Rattle.nntp_facts.proofs.Keeping.ListedNames.{none_missing}
 use Rattle.nntp_facts.proofs.groups.Groups.are_listed.Goals as goal
 
 pub returns : goal.returns

@@ -3,7 +3,7 @@ use Rattle.nntp_wire.specs.Listing.{ActiveValue}
 use Rattle.nntp_wire.specs.View.{active_value}
 use Rattle.nntp_facts.specs.Asks.{Bounds}
 use Rattle.nntp_facts.specs.Kept.{told, with_part, Changes, Agree, MayShow}
-use Rattle.nntp_facts.proofs.BoundGroups.{none_bound, one_more_bound, listing}
+use Rattle.nntp_facts.proofs.Keeping.BoundGroups.{none_bound, one_more_bound, listing}
 use Rattle.nntp_facts.proofs.groups.Groups.bound_all.Goals as goal
 
 pub loop-group-init : goal.loop-group-init

@@ -1,6 +1,6 @@
 use Rattle.std.proofs.Common.{ap, sym, is_some, ◌∙◌}
 use Rattle.nntp_wire.proofs.ShownMaps.{is_some-option_map}
-use Rattle.nntp_facts.proofs.KeptGroups.{shown_kept}
+use Rattle.nntp_facts.proofs.Keeping.KeptGroups.{shown_kept}
 use Rattle.nntp_facts.proofs.groups.Groups.is_shown.Goals as goal
 
 pub returns : goal.returns

@@ -3,20 +3,22 @@ use Rattle.nntp_facts.specs.SayingView.{id_at, of_group}
 use Rattle.nntp_facts.specs.Together.{AsksStand}
 use Rattle.nntp_facts.specs.Kept.{MayHave}
 use Rattle.std.specs.FinMap as map
-use Rattle.nntp_facts.proofs.KeptGroups.{kept_of, bounded_more, may_have_told, empty_may_have, untold_may_show, agree_kept, empty_agree}
-use Rattle.nntp_facts.proofs.Added.{none_stand}
-use Rattle.nntp_facts.proofs.SaidAgain.{joins_again, kept_again}
+use Rattle.nntp_facts.proofs.Keeping.KeptGroups.{kept_of, bounded_more, may_have_told, empty_may_have, untold_may_show, agree_kept, empty_agree}
+use Rattle.nntp_facts.proofs.Keeping.MoreAsks.{none_stand}
+use Rattle.nntp_facts.proofs.Keeping.SaidAgain.{joins_again, kept_again}
 use Rattle.nntp_facts.proofs.groups.Groups.joins.Goals as goal
 
 pub returns-in-Some-clause-at_all : goal.returns-in-Some-clause-at_all
 returns-in-Some-clause-at_all g c tells asks kept stand says bounded agree shown = (
-  λ t. joins_again tells c.args.self.now c.args.part.now.name.now c.in-Some.group.now asks kept (sym c.in-Some.ensures) (of_group c.args.part.now) says agree shown (c.has_said.ensures.0 c.if-has_said.true) stand,
+  λ t. joins_again tells c.args.self.now c.args.part.now.name.now c.in-Some.group.now asks kept (sym c.in-Some.ensures)
+      (of_group c.args.part.now) says agree shown (c.has_said.ensures.0 c.if-has_said.true) stand,
   λ h. refl,
 )
 
 pub returns-in-Some-clause-again : goal.returns-in-Some-clause-again
 returns-in-Some-clause-again g c is tells asks kept says agree shown =
-    kept_again tells c.args.self.now c.args.part.now.name.now c.in-Some.group.now asks kept (sym c.in-Some.ensures) (of_group c.args.part.now) says agree shown (c.has_said.ensures.0 c.if-has_said.true)
+    kept_again tells c.args.self.now c.args.part.now.name.now c.in-Some.group.now asks kept (sym c.in-Some.ensures)
+    (of_group c.args.part.now) says agree shown (c.has_said.ensures.0 c.if-has_said.true)
 
 pub returns-in-Some-2-clause-at_all : goal.returns-in-Some-2-clause-at_all
 returns-in-Some-2-clause-at_all g c tells asks kept stand says bounded agree shown =

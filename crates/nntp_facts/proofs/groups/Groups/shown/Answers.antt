@@ -9,5 +9,6 @@ use Rattle.nntp_facts.proofs.groups.Groups.shown.Goals as goal
 
 pub returns : goal.returns
 returns g c =
-    let shown = entries-shown (slice_cmp nat_cmp) (λ k. k.items) (λ v. v) nat_list_cmp_total (map.slice_cmp-IsAntisymmetric map.nat_cmp-IsAntisymmetric) c.self.inside.groups.entries c.iter.ensures.ordered in
+    let shown = entries-shown (slice_cmp nat_cmp) (λ k. k.items) (λ v. v) nat_list_cmp_total
+    (map.slice_cmp-IsAntisymmetric map.nat_cmp-IsAntisymmetric) c.self.inside.groups.entries c.iter.ensures.ordered in
     c.new.ensures ∙ ap (λ es. shown_in (named es)) c.iter.ensures.rest ∙ ap shown_in (sym shown) ∙ ap shown_groups c.self.view_is

@@ -1,5 +1,5 @@
 use Rattle.nntp_wire.specs.View.{active_value}
-use Rattle.nntp_facts.proofs.ListedNames.{name_moved}
+use Rattle.nntp_facts.proofs.Keeping.ListedNames.{name_moved}
 use Rattle.nntp_facts.proofs.groups.listed.names_of.Goals as goal
 
 pub loop-group-preserved : goal.loop-group-preserved

@@ -1,7 +1,7 @@
 use Rattle.std.proofs.Common.{◌≡◌}
 use Rattle.std.specs.BTreeMap.{keys}
 use Rattle.std.specs.List.{list_any}
-use Rattle.nntp_article.specs.Machine.{is_same}
+use Rattle.nntp_article.specs.Session.Machine.{is_same}
 use Rattle.nntp_facts.specs.ListedGroups.{is_missing}
 use Rattle.nntp_facts.proofs.groups.listed.some_is_missing.Given as goal
 

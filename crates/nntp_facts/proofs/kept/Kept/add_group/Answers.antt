@@ -3,7 +3,7 @@ use Rattle.std.specs.Prelude.{option_map}
 use Rattle.nntp_facts.specs.SayingView.{of_group}
 use Rattle.nntp_facts.specs.Kept.{AreKeptGroups}
 use Rattle.nntp_facts.proofs.OkResults.{on_ok}
-use Rattle.nntp_facts.proofs.PartsJoin.{group_added, groups_alike}
+use Rattle.nntp_facts.proofs.Keeping.PartsJoin.{group_added, groups_alike}
 use Rattle.nntp_facts.proofs.kept.Kept.add_group.Goals as goal
 
 pub returns-in-Some-clause-groups : goal.returns-in-Some-clause-groups

@@ -2,12 +2,12 @@ use Rattle.std.proofs.Common.{◌≡◌, ℕ, false, List, Option, Bor, sym, sub
 use Rattle.std.specs.Prelude.{option_map}
 use Rattle.std.specs.Option.{option_map_or}
 use Rattle.std.specs.List.{list_any}
-use Rattle.nntp_article.specs.Spool.{Name}
-use Rattle.nntp_article.specs.Machine.{is_same}
+use Rattle.nntp_article.specs.Session.Spool.{Name}
+use Rattle.nntp_article.specs.Session.Machine.{is_same}
 use Rattle.nntp_facts.specs.Facts.{Fact}
 use Rattle.nntp_facts.specs.Together.{denies_group}
 use Rattle.nntp_facts.specs.Kept.{AreKeptNames}
-use Rattle.nntp_facts.proofs.KeptAdds.{names_kept}
+use Rattle.nntp_facts.proofs.Keeping.KeptNamesAndGroups.{names_kept}
 use Rattle.nntp_facts.proofs.OkResults.{on_ok}
 use Rattle.nntp_facts.proofs.kept.Kept.deny.Goals as goal
 

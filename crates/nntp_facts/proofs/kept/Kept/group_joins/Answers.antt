@@ -4,7 +4,7 @@ use Rattle.nntp_facts.specs.SayingView.{of_group}
 use Rattle.nntp_facts.specs.Saying.{asked_id, facts_in}
 use Rattle.nntp_facts.specs.Kept.{joins_at_all, IsKept, AreKeptGroups, told}
 use Rattle.nntp_facts.specs.KeptSaying.{GroupJoins}
-use Rattle.nntp_facts.proofs.PartsJoin.{agree_told, shown_told, says_then, bounded_then, group_changes, groups_alike}
+use Rattle.nntp_facts.proofs.Keeping.PartsJoin.{agree_told, shown_told, says_then, bounded_then, group_changes, groups_alike}
 use Rattle.nntp_facts.proofs.kept.Kept.group_joins.Goals as goal
 
 pub returns-in-Some-clause-at_all : goal.returns-in-Some-clause-at_all
@@ -22,7 +22,8 @@ returns-in-Some-clause-again g c again facts s asks is no_list kept together may
     let part = of_group c.in-Some.group in
     let same : s.group ≡ Some part = is ∙ ap (option_map of_group) c.in-Some.is in
     subst (λ k. AreKeptGroups (facts ++ facts_in s asks) k.groups) c.self.view_is
-    (c.joins.ensures.again again (told facts) (asks ++ asked_id part.id) k.groups (says_then facts s asks may part same) (agree_told facts together part.name part.id) (shown_told facts part.name part.id)
+    (c.joins.ensures.again again (told facts) (asks ++ asked_id part.id) k.groups (says_then facts s asks may part same)
+    (agree_told facts together part.name part.id) (shown_told facts part.name part.id)
     (told (facts ++ facts_in s asks)) (group_changes facts s asks no_list may part same))
 
 pub returns-in-None-clause-at_all : goal.returns-in-None-clause-at_all

@@ -2,7 +2,7 @@ use Rattle.std.proofs.Common.{ℕ, List, Option, Bor, sym, subst}
 use Rattle.std.specs.Prelude.{◌↔◌, IfSome, IsTrue, IsFalse, not, option_map}
 use Rattle.nntp_facts.specs.Given.{is_shown_group}
 use Rattle.nntp_facts.specs.Kept.{IsKept, told}
-use Rattle.nntp_facts.proofs.Tests.{unless}
+use Rattle.nntp_facts.proofs.Keeping.AddedIfTested.{unless}
 use Rattle.nntp_facts.proofs.kept.Kept.may_be_missing.Goals as goal
 
 pub returns-in-Some : goal.returns-in-Some

@@ -1,7 +1,7 @@
 use Rattle.std.proofs.Common.{refl, sym}
 use Rattle.std.proofs.lemmas.Bool.{true≢false}
 use Rattle.nntp_wire.specs.Listing.{active_groups}
-use Rattle.nntp_facts.proofs.ListedGroups.{listing_joins}
+use Rattle.nntp_facts.proofs.Keeping.ListedGroups.{listing_joins}
 use Rattle.nntp_facts.proofs.OkResults.{if_ok}
 use Rattle.nntp_facts.proofs.kept.Kept.may_list_groups.Goals as goal
 

@@ -3,7 +3,7 @@ use Rattle.std.specs.Prelude.{◌↔◌, IfSome}
 use Rattle.nntp_wire.specs.Listing.{active_groups}
 use Rattle.nntp_facts.specs.Kept.{IsKept}
 use Rattle.nntp_facts.specs.ListedGroups.{WereListed, NoneIsMissing}
-use Rattle.nntp_facts.proofs.ListedAgain.{listed_again}
+use Rattle.nntp_facts.proofs.Keeping.ListedAgain.{listed_again}
 use Rattle.nntp_facts.proofs.OkResults.{if_ok}
 use Rattle.nntp_facts.proofs.kept.Kept.none_is_missing.Goals as goal
 

@@ -11,6 +11,10 @@ pub returns-in-Some-clause-added : goal.returns-in-Some-clause-added
 returns-in-Some-clause-added g c =
     if_ok c.note.result (λ does added facts name n kept may.
     let said = subst (λ o. IfSome (option_map article_said o) MayBeSaid) c.in-Some.is may in
-    subst (λ o. IsAddedIf (JoinArticles facts (article_facts name n (option_map article_said o))) (AreKeptArticles (facts ++ article_facts name n (option_map article_said o))) c.args.self.now.articles c.note.new.self does) (sym c.in-Some.is)
-    (subst (λ k. IsAddedIf (JoinArticles facts (article_facts name n (Some (article_said c.in-Some.article)))) (AreKeptArticles (facts ++ article_facts name n (Some (article_said c.in-Some.article)))) k.articles c.note.new.self does) c.self.view_is
+    subst (λ o. IsAddedIf (JoinArticles facts (article_facts name n (option_map article_said o)))
+    (AreKeptArticles (facts ++ article_facts name n (option_map article_said o))) c.args.self.now.articles c.note.new.self
+    does) (sym c.in-Some.is)
+    (subst (λ k. IsAddedIf (JoinArticles facts (article_facts name n (Some (article_said c.in-Some.article))))
+    (AreKeptArticles (facts ++ article_facts name n (Some (article_said c.in-Some.article)))) k.articles c.note.new.self
+    does) c.self.view_is
     (added facts name n (subst (λ k. AreKeptArticles facts k.articles) (sym c.self.view_is) kept) said))) c.note.ensures

@@ -1,6 +1,6 @@
 use Rattle.std.proofs.Common.{◌||◌, sym, subst, ◌∙◌}
 use Rattle.nntp_facts.specs.Kept.{AreKeptNames}
-use Rattle.nntp_facts.proofs.NamesKept.{some_matches, key_text}
+use Rattle.nntp_facts.proofs.Keeping.KeptNames.{some_matches, key_text}
 use Rattle.nntp_facts.proofs.names.Names.denies.Goals as goal
 
 pub returns : goal.returns

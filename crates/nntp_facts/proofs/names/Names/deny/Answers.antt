@@ -1,10 +1,10 @@
 use Rattle.std.proofs.Common.{◌≡◌, sym, refl, subst}
 use Rattle.std.specs.List.{list_any}
-use Rattle.nntp_article.specs.Spool.{Name}
-use Rattle.nntp_article.specs.Machine.{is_same}
+use Rattle.nntp_article.specs.Session.Spool.{Name}
+use Rattle.nntp_article.specs.Session.Machine.{is_same}
 use Rattle.nntp_facts.specs.Together.{denies_group}
 use Rattle.nntp_facts.specs.Kept.{AreKeptNames}
-use Rattle.nntp_facts.proofs.NamesKept.{name_denied}
+use Rattle.nntp_facts.proofs.Keeping.KeptNames.{name_denied}
 use Rattle.nntp_facts.proofs.names.Names.deny.Goals as goal
 
 pub returns : goal.returns

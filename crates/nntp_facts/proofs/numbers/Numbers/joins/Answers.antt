@@ -4,9 +4,9 @@ use Rattle.nntp_facts.specs.Given.{join}
 use Rattle.nntp_facts.specs.Part.{is_end_of}
 use Rattle.nntp_facts.specs.PartView.{said}
 use Rattle.nntp_facts.specs.Summary.{Summary, shown_after, ends_after, denied_after, AreOpen, IsTally}
-use Rattle.nntp_facts.proofs.Added.{joins_then, joins_else}
-use Rattle.nntp_facts.proofs.PartGaps.{agrees_open}
-use Rattle.nntp_facts.proofs.Unseen.{free_below}
+use Rattle.nntp_facts.proofs.Keeping.MoreAsks.{joins_then, joins_else}
+use Rattle.nntp_facts.proofs.Keeping.GapsOfAPart.{agrees_open}
+use Rattle.nntp_facts.proofs.Keeping.UnseenNumbers.{free_below}
 use Rattle.nntp_facts.proofs.numbers.Numbers.joins.Goals as goal
 use Rattle.nntp_facts.proofs.numbers.Numbers.joins.Goals.{then-agrees, else-agrees}
 
@@ -14,7 +14,9 @@ pub returns-then-leaves : goal.returns-then-leaves
 returns-then-leaves g c = λ asks more sum stand bounded says.
     let p = said c.args.part.now in
     let v : Summary = record { shown = c.self.inside.shown.keys; denied = c.self.inside.denied; estimate = c.self.inside.estimate; ends = c.self.inside.ends; demand = c.self.inside.demand } in
-    let ends : c.ends_after-ends.result ≡ ends_after v p = c.ends_after-ends.ensures (c.join-demand.ensures ∙ ap (λ s. join s.demand p.demand) c.self.view_is) ∙ ap (λ s. ends_after s p) (sym c.self.view_is) in
+    let ends : c.ends_after-ends.result ≡ ends_after v p = c.ends_after-ends.ensures
+    (c.join-demand.ensures ∙ ap (λ s. join s.demand p.demand) c.self.view_is)
+    ∙ ap (λ s. ends_after s p) (sym c.self.view_is) in
     elim c.if-agrees.branch [
       | then-agrees w ↦
           let agree = (c.agrees.ensures says.regular).0 w.if-agrees.true in
@@ -23,7 +25,9 @@ returns-then-leaves g c = λ asks more sum stand bounded says.
           (subst (AreOpen v.denied p) ends (w.leaves.ensures.0 (sym w.value-is ∙ c.if-leaves.true)))
           (record {
             demanded = c.join-demand.ensures;
-            tally = subst (λ o. IsTally (λ n. shown_after v.shown p.numbers n || is_end_of o n) c.join-demand.result c.of.result.found c.of.result.count) ends (c.of.ensures.tally says.regular.ascends);
+            tally = subst (λ o. IsTally (λ n. shown_after v.shown p.numbers n
+                || is_end_of o n) c.join-demand.result c.of.result.found c.of.result.count) ends
+                (c.of.ensures.tally says.regular.ascends);
             free = free.1;
             estimate = c.least.ensures;
           })
@@ -35,7 +39,9 @@ pub returns-else-leaves : goal.returns-else-leaves
 returns-else-leaves g c = λ asks more sum stand bounded says.
     let p = said c.args.part.now in
     let v : Summary = record { shown = c.self.inside.shown.keys; denied = c.self.inside.denied; estimate = c.self.inside.estimate; ends = c.self.inside.ends; demand = c.self.inside.demand } in
-    let ends : c.ends_after-ends.result ≡ ends_after v p = c.ends_after-ends.ensures (c.join-demand.ensures ∙ ap (λ s. join s.demand p.demand) c.self.view_is) ∙ ap (λ s. ends_after s p) (sym c.self.view_is) in
+    let ends : c.ends_after-ends.result ≡ ends_after v p = c.ends_after-ends.ensures
+    (c.join-demand.ensures ∙ ap (λ s. join s.demand p.demand) c.self.view_is)
+    ∙ ap (λ s. ends_after s p) (sym c.self.view_is) in
     joins_else c.args.self.now v p c.if-agrees.value c.self.view_is c.if-leaves.false
     (λ agree opened. elim c.if-agrees.branch [
       | then-agrees w ↦ true≢false (sym (w.leaves.ensures.1 (subst (AreOpen v.denied p) (sym ends) opened)) ∙ sym w.value-is ∙ c.if-leaves.false)

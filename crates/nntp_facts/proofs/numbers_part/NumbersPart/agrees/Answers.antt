@@ -1,7 +1,7 @@
 use Rattle.std.proofs.Common.{sym, ◌∙◌}
 use Rattle.std.proofs.lemmas.Bool.{true≢false}
 use Rattle.nntp_facts.specs.PartView.{said}
-use Rattle.nntp_facts.proofs.PartGaps.{part_agrees, agrees_open}
+use Rattle.nntp_facts.proofs.Keeping.GapsOfAPart.{part_agrees, agrees_open}
 use Rattle.nntp_facts.proofs.numbers_part.NumbersPart.agrees.Goals as goal
 use Rattle.nntp_facts.proofs.numbers_part.NumbersPart.agrees.Goals.{then-self, else-self}
 

@@ -3,7 +3,7 @@ use Rattle.nntp_wire.specs.View.{target}
 use Rattle.nntp_wire.specs.Command.{retrieve}
 use Rattle.nntp_facts.specs.Asks.{Lacks, StandsNowhere}
 use Rattle.nntp_facts.specs.Facts.{Asks, here, facts_of_code}
-use Rattle.nntp_facts.proofs.SayingRows.{tells_lack, tells_numbers, tells_nothing}
+use Rattle.nntp_facts.proofs.Keeping.SayingRows.{tells_lack, tells_numbers, tells_nothing}
 use Rattle.nntp_facts.proofs.saying.Saying.by_failure.Goals as goal
 
 pub returns-in-Id-eq430 : goal.returns-in-Id-eq430

@@ -2,7 +2,7 @@ use Rattle.std.proofs.Common.{rules}
 use Rattle.nntp_wire.specs.View.{asked}
 use Rattle.nntp_wire.specs.AnswerView.{response}
 use Rattle.nntp_facts.specs.Facts.{facts_of}
-use Rattle.nntp_facts.proofs.SayingRows.{tells_nothing}
+use Rattle.nntp_facts.proofs.Keeping.SayingRows.{tells_nothing}
 use Rattle.nntp_facts.proofs.saying.Saying.of.Goals as goal
 
 pub returns-in-Greeting : goal.returns-in-Greeting

@@ -6,21 +6,22 @@ use Rattle.nntp_wire.specs.Command.{next, last, retrieve}
 use Rattle.nntp_wire.specs.Listing.{active_groups}
 use Rattle.nntp_wire.specs.View.{request, target}
 use Rattle.nntp_wire.specs.AnswerView.{response}
-use Rattle.nntp_article.specs.Machine.{fits}
+use Rattle.nntp_article.specs.Session.Machine.{fits}
 use Rattle.nntp_facts.specs.Asks.{Estimates, ListsIn, StepsDown, StepsUp}
 use Rattle.nntp_facts.specs.Facts.{Asks, GroupsAre, IdAt, ThereIs, here, facts_of}
 use Rattle.nntp_facts.specs.Part.{AreListable}
 use Rattle.nntp_facts.specs.Saying.{Tells}
 use Rattle.nntp_facts.specs.SayingView.{saying_of}
-use Rattle.nntp_facts.proofs.Fitted.{groups_may_list, numbers_listable, step_placed}
-use Rattle.nntp_facts.proofs.SayingRows.{tells_groups, tells_list, tells_marks, tells_step}
+use Rattle.nntp_facts.proofs.Session.FittingAnswers.{groups_may_list, numbers_listable, step_placed}
+use Rattle.nntp_facts.proofs.Keeping.SayingRows.{tells_groups, tells_list, tells_marks, tells_step}
 use Rattle.nntp_facts.proofs.saying.Saying.to.Goals as goal
 
 pub returns-in_default-Plain : goal.returns-in_default-Plain
 returns-in_default-Plain c profile v facts may shown is numbers =
     let says = ap response c.in_default-Plain.is-1 in
     let asked : Asked = to (request c.args.command.now) in
-    subst (λ r. Tells facts (saying_of c.by_code.result) (facts_of c.args.how v c.args.at asked r)) (sym says) (c.by_code.ensures profile v facts (subst (λ r. IsTrue (fits profile v asked r)) says may) shown is)
+    subst (λ r. Tells facts (saying_of c.by_code.result) (facts_of c.args.how v c.args.at asked r)) (sym says)
+    (c.by_code.ensures profile v facts (subst (λ r. IsTrue (fits profile v asked r)) says may) shown is)
 
 pub returns-in-Group-Group : goal.returns-in-Group-Group
 returns-in-Group-Group c profile v facts may shown is numbers =
@@ -77,4 +78,6 @@ returns-in-ListActive-Active c profile v facts may shown is numbers =
     let more = facts_of c.args.how v c.args.at (to (request c.args.command.now)) (response c.args.answer.now) in
     let same : (GroupsAre w.wildmat (active_groups w.block) ∷ []) ≡ more = search rules in
     let fits_both : IsTrue (fits profile v (to (request c.args.command.now)) (active_are w.block)) = subst (λ a. IsTrue (fits profile v (to (request c.args.command.now)) (response a))) w.is-1 may in
-    tells_groups facts w.wildmat (active_groups w.block) more (groups_may_list profile v w.wildmat w.block (subst (λ r. IsTrue (fits profile v (to (request r)) (active_are w.block))) w.is-0 fits_both)) same
+    tells_groups facts w.wildmat (active_groups w.block) more
+    (groups_may_list profile v w.wildmat w.block
+    (subst (λ r. IsTrue (fits profile v (to (request r)) (active_are w.block))) w.is-0 fits_both)) same

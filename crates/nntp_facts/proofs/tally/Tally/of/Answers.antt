@@ -1,7 +1,7 @@
 use Rattle.std.proofs.Common.{◌≡◌, sym, subst, ◌||◌, ◌==◌, ◌∙◌}
 use Rattle.nntp_facts.specs.Part.{is_end_of}
 use Rattle.nntp_facts.specs.Summary.{shown_after, IsTally}
-use Rattle.nntp_facts.proofs.Tallies.{tally_no_ends, tally_ends, low_there, high_there}
+use Rattle.nntp_facts.proofs.Keeping.Tallies.{tally_no_ends, tally_ends, low_there, high_there}
 use Rattle.nntp_facts.proofs.tally.Tally.of.Goals as goal
 use Rattle.nntp_facts.proofs.tally.Tally.of.Goals.{then-ends, else-ends}
 

@@ -1,6 +1,6 @@
 use Rattle.std.proofs.Common.{◌+◌, ◌==◌, ◌||◌, ◌∙◌, sym, subst}
 use Rattle.nntp_facts.specs.Summary.{IsTally}
-use Rattle.nntp_facts.proofs.Tallies.{tally_there, tally_wanted, tally_unwanted}
+use Rattle.nntp_facts.proofs.Keeping.Tallies.{tally_there, tally_wanted, tally_unwanted}
 use Rattle.nntp_facts.proofs.tally.Tally.with.Goals as goal
 use Rattle.nntp_facts.proofs.tally.Tally.with.Goals.{then-wants, else-wants}
 

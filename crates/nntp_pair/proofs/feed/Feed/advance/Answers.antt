@@ -22,7 +22,9 @@ invariant_of-self g c =
     let frame = c.in-Some-frame-2.frame in
     let left = left_from i.index i.is_closed i.client i.server in
     let came = rw c.as_slice-client.ensures at c.in-Some.ensures in
-    let begins = subst (BeginsWithPlace (nat_lt 0 i.index) i.client place) (sym (c.pass.ensures ∙ behind-place (nat_lt 0 i.index) i.client c.as_slice-client.result.now place c.in-Some.rest.now c.as_slice-client.ensures came)) came in
+    let begins = subst (BeginsWithPlace (nat_lt 0 i.index) i.client place)
+    (sym (c.pass.ensures ∙ behind-place (nat_lt 0 i.index) i.client c.as_slice-client.result.now place c.in-Some.rest.now
+    c.as_slice-client.ensures came)) came in
     let is = subst (λ f. MatchOption f ⊤ (IsForNext left)) c.in-Some-frame.is c.self.invariant.searched.frame in
     let next = subst (λ fed. HasNext (left_of fed)) (sym c.self.view_is) c.requires in
     let has = next-frame i.index i.is_closed i.client i.server c.as_slice-server.result.now c.pass.new.self c.pass-2.new.self place c.in-Some-frame.search frame.initial frame.block frame.len
@@ -40,14 +42,17 @@ returns-clause-next g c =
     let frame = c.in-Some-frame-2.frame in
     let left = left_from i.index i.is_closed i.client i.server in
     let came = rw c.as_slice-client.ensures at c.in-Some.ensures in
-    let begins = subst (BeginsWithPlace (nat_lt 0 i.index) i.client place) (sym (c.pass.ensures ∙ behind-place (nat_lt 0 i.index) i.client c.as_slice-client.result.now place c.in-Some.rest.now c.as_slice-client.ensures came)) came in
+    let begins = subst (BeginsWithPlace (nat_lt 0 i.index) i.client place)
+    (sym (c.pass.ensures ∙ behind-place (nat_lt 0 i.index) i.client c.as_slice-client.result.now place c.in-Some.rest.now
+    c.as_slice-client.ensures came)) came in
     let is = subst (λ f. MatchOption f ⊤ (IsForNext left)) c.in-Some-frame.is c.self.invariant.searched.frame in
     let next = subst (λ fed. HasNext (left_of fed)) (sym c.self.view_is) c.requires in
     let has = next-frame i.index i.is_closed i.client i.server c.as_slice-server.result.now c.pass.new.self c.pass-2.new.self place c.in-Some-frame.search frame.initial frame.block frame.len
     next.2.is_open begins is c.as_slice-server.ensures (c.pass-2.ensures ∙ ap (λ n. drop n i.server) c.len-frame_len.ensures.value) c.in-Some-frame-2.ensures.found in
     let closing = λ (response : Response) (spells : Spells (asked_at place) response (frame_octets frame.initial frame.block)).
     c.closes-self-inside.ensures (asked_at place) response (has.0 ∙ sym c.kind.ensures) spells in
-    let more = next-behind i.index i.is_closed c.closes-self-inside.result i.client i.server c.pass.new.self c.pass-2.new.self frame.initial frame.block place next.0 next.1 next.2 begins has.1 closing in
+    let more = next-behind i.index i.is_closed c.closes-self-inside.result i.client i.server c.pass.new.self c.pass-2.new.self
+    frame.initial frame.block place next.0 next.1 next.2 begins has.1 closing in
     let here = next-here i.index i.is_closed c.closes-self-inside.result i.client i.server c.pass.new.self c.pass-2.new.self next.0 more in
     (next.0, subst (λ fed. IsNext (left_of fed) next.0 (left_from (i.index + 1) c.closes-self-inside.result c.pass.new.self c.pass-2.new.self)) c.self.view_is here)
 
@@ -58,7 +63,9 @@ returns-clause-fed g c = λ client server pairs pair behind fed after.
     let frame = c.in-Some-frame-2.frame in
     let left = left_from i.index i.is_closed i.client i.server in
     let came = rw c.as_slice-client.ensures at c.in-Some.ensures in
-    let begins = subst (BeginsWithPlace (nat_lt 0 i.index) i.client place) (sym (c.pass.ensures ∙ behind-place (nat_lt 0 i.index) i.client c.as_slice-client.result.now place c.in-Some.rest.now c.as_slice-client.ensures came)) came in
+    let begins = subst (BeginsWithPlace (nat_lt 0 i.index) i.client place)
+    (sym (c.pass.ensures ∙ behind-place (nat_lt 0 i.index) i.client c.as_slice-client.result.now place c.in-Some.rest.now
+    c.as_slice-client.ensures came)) came in
     let is = subst (λ f. MatchOption f ⊤ (IsForNext left)) c.in-Some-frame.is c.self.invariant.searched.frame in
     let next = subst (λ fed. HasNext (left_of fed)) (sym c.self.view_is) c.requires in
     let has = next-frame i.index i.is_closed i.client i.server c.as_slice-server.result.now c.pass.new.self c.pass-2.new.self place c.in-Some-frame.search frame.initial frame.block frame.len
@@ -67,5 +74,6 @@ returns-clause-fed g c = λ client server pairs pair behind fed after.
     c.closes-self-inside.ensures (asked_at place) response (has.0 ∙ sym c.kind.ensures) spells in
     let came_before = subst (λ f. IsFed f client server pairs) (sym c.self.view_is) fed in
     let follows = subst (λ f. IsNext (left_of f) pair behind) (sym c.self.view_is) after in
-    let more = next-behind i.index i.is_closed c.closes-self-inside.result i.client i.server c.pass.new.self c.pass-2.new.self frame.initial frame.block place pair behind follows begins has.1 closing in
+    let more = next-behind i.index i.is_closed c.closes-self-inside.result i.client i.server c.pass.new.self c.pass-2.new.self
+    frame.initial frame.block place pair behind follows begins has.1 closing in
     fed-push _ _ client server pairs pair came_before more refl refl

@@ -5,7 +5,8 @@ use Rattle.nntp_pair.proofs.FeedLemmas.{searched-client, in-step, held-client}
 use Rattle.nntp_pair.proofs.feed.Feed.feed_client.Goals as goal
 
 pub invariant_of-self : goal.invariant_of-self
-invariant_of-self g c = subst (λ t. IsInStep c.self.inside.index c.self.inside.is_closed t c.self.inside.server c.self.inside.server_count c.self.inside.searches) (sym c.in_default-extend.ensures.err) c.self.invariant
+invariant_of-self g c = subst (λ t. IsInStep c.self.inside.index c.self.inside.is_closed t c.self.inside.server
+    c.self.inside.server_count c.self.inside.searches) (sym c.in_default-extend.ensures.err) c.self.invariant
 
 pub go_on-requires : goal.go_on-requires
 go_on-requires g c =

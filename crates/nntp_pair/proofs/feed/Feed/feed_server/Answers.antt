@@ -5,7 +5,8 @@ use Rattle.nntp_pair.proofs.FeedLemmas.{searched-server, in-step, held-server}
 use Rattle.nntp_pair.proofs.feed.Feed.feed_server.Goals as goal
 
 pub invariant_of-self : goal.invariant_of-self
-invariant_of-self g c = subst (λ t. IsInStep c.self.inside.index c.self.inside.is_closed c.self.inside.client t c.self.inside.server_count c.self.inside.searches) (sym c.in_default-extend.ensures.err) c.self.invariant
+invariant_of-self g c = subst (λ t. IsInStep c.self.inside.index c.self.inside.is_closed c.self.inside.client t
+    c.self.inside.server_count c.self.inside.searches) (sym c.in_default-extend.ensures.err) c.self.invariant
 
 pub go_on-requires : goal.go_on-requires
 go_on-requires g c =

@@ -4,4 +4,10 @@ use Rattle.nntp_pair.proofs.feed.Feed.refuse.Goals as goal
 pub invariant_of-self : goal.invariant_of-self
 invariant_of-self g c =
     let counted = c.self.invariant.counted in
-    rw (c.clear.ensures, c.clear-2.ensures) (record { counted = omega arith; small = c.self.invariant.small; searched = c.new-self-inside.ensures.searched; through = c.new-self-inside.ensures.through })
+    rw (c.clear.ensures, c.clear-2.ensures)
+    (record {
+      counted = omega arith;
+      small = c.self.invariant.small;
+      searched = c.new-self-inside.ensures.searched;
+      through = c.new-self-inside.ensures.through;
+    })

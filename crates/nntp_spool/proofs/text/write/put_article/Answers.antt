@@ -25,7 +25,12 @@ returns-in_err-put_barred_lines-clause-text g c =
     let bodies = c.len-2.ensures ∙ a.body.ok.0 ∙ sym (length-map a.body.items (λ line. line.items)) in
     let w = c.in_err-put_barred_lines.ensures.text in
     let first = Article-first _ _ c.args.id.now c.len.result _ c.len-2.result _ _ [] heads bodies c.in_ok-put_article_line.ensures.text in
-    rw p.1 (_, Lines-next _ _ _ _ (barred (held a.head.items)) _ w.0 first (subst (λ ls. Wrote (g.W.Write.contents c.put_article_line.new.w.inner) (g.W.Write.contents c.put_barred_lines.new.w.inner) (with_line_ends (barred (held ls))) w.0) c.deref.ensures.value w.1))
+    rw p.1 (
+      _,
+      Lines-next _ _ _ _ (barred (held a.head.items)) _ w.0 first
+          (subst (λ ls. Wrote (g.W.Write.contents c.put_article_line.new.w.inner)
+          (g.W.Write.contents c.put_barred_lines.new.w.inner) (with_line_ends (barred (held ls))) w.0) c.deref.ensures.value w.1),
+    )
 
 pub returns-clause-text : goal.returns-clause-text
 returns-clause-text g c =
@@ -33,5 +38,11 @@ returns-clause-text g c =
     let heads = c.len.ensures ∙ a.head.ok.0 ∙ sym (length-map a.head.items (λ line. line.items)) in
     let bodies = c.len-2.ensures ∙ a.body.ok.0 ∙ sym (length-map a.body.items (λ line. line.items)) in
     let first = Article-first _ _ c.args.id.now c.len.result _ c.len-2.result _ _ [] heads bodies c.in_ok-put_article_line.ensures.text in
-    let second = Lines-next _ _ _ _ (barred (held a.head.items)) (barred (held a.body.items)) [] first (subst (λ ls. Wrote (g.W.Write.contents c.put_article_line.new.w.inner) (g.W.Write.contents c.put_barred_lines.new.w.inner) (with_line_ends (barred (held ls))) []) c.deref.ensures.value c.in_ok-put_barred_lines.ensures.text) in
-    Writes-last c.put_barred_lines-2.result _ _ _ _ _ second (subst (λ ls. Writes c.put_barred_lines-2.result (g.W.Write.contents c.put_barred_lines.new.w.inner) (g.W.Write.contents c.put_barred_lines-2.new.w.inner) (with_line_ends (barred (held ls)))) c.deref-2.ensures.value c.put_barred_lines-2.ensures.text)
+    let second = Lines-next _ _ _ _ (barred (held a.head.items)) (barred (held a.body.items)) [] first
+    (subst (λ ls. Wrote (g.W.Write.contents c.put_article_line.new.w.inner)
+    (g.W.Write.contents c.put_barred_lines.new.w.inner) (with_line_ends (barred (held ls))) []) c.deref.ensures.value
+    c.in_ok-put_barred_lines.ensures.text) in
+    Writes-last c.put_barred_lines-2.result _ _ _ _ _ second
+    (subst (λ ls. Writes c.put_barred_lines-2.result (g.W.Write.contents c.put_barred_lines.new.w.inner)
+    (g.W.Write.contents c.put_barred_lines-2.new.w.inner) (with_line_ends (barred (held ls)))) c.deref-2.ensures.value
+    c.put_barred_lines-2.ensures.text)

@@ -3,7 +3,7 @@ use Rattle.std.proofs.lemmas.Iterator.{YieldsList-from_slice}
 use Rattle.std.proofs.lemmas.Iterator.Search.{all_from_yields_List}
 use borrow.Author.Tests.{tests}
 use Rattle.nntp_wire.proofs.ShownMaps.{list_all-map}
-use Rattle.nntp_article.specs.Spool.{is_line}
+use Rattle.nntp_article.specs.Session.Spool.{is_line}
 use Rattle.nntp_spool.proofs.value.well_formed.are_lines.Goals as goal
 
 pub returns : goal.returns

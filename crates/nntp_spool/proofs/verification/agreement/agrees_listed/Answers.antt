@@ -2,8 +2,8 @@ use Rattle.std.proofs.Common.{◌≡◌, Some, is_some, sym, ap, subst, ◌∙�
 use Rattle.std.specs.Prelude.{unwrap_or, option_copied}
 use Rattle.std.specs.FinMap.{get, empty}
 use Rattle.nntp_wire.specs.Listing.{listed_numbers}
-use Rattle.nntp_article.specs.Spool.{Numbers, Lists, numbers}
-use Rattle.nntp_article.specs.Machine.{Bound}
+use Rattle.nntp_article.specs.Session.Spool.{Numbers, Lists, numbers}
+use Rattle.nntp_article.specs.Session.Machine.{Bound}
 use Rattle.nntp_spool.proofs.verification.agreement.agrees_listed.Goals as goal
 
 pub returns-then-is_bound : goal.returns-then-is_bound

@@ -7,5 +7,9 @@ use Rattle.nntp_spool.proofs.verification.listed_groups.agree_lines.Goals as goa
 
 pub loop-group-init : goal.loop-group-init
 loop-group-init g c =
-    let all = λ (ls : List ActiveValue). AllByRecursion (LineAgrees c.args.spool.now c.args.wildmat.now) ls in
-    (tt, tt, subst (λ (ls : List ActiveValue). all ls ↔ all (active_groups c.args.block.now)) (sym (c.into_iter-group-iterator.ensures.into_iter_gives ∙ c.groups-group-items.ensures.listed)) (λ h. h, λ h. h))
+    let all = λ (ls : List ActiveValue). AllByRecursion (LineAgrees c.args.spool.now c.args.wildmat.now) ls in (
+      tt,
+      tt,
+      subst (λ (ls : List ActiveValue). all ls ↔ all (active_groups c.args.block.now))
+          (sym (c.into_iter-group-iterator.ensures.into_iter_gives ∙ c.groups-group-items.ensures.listed)) (λ h. h, λ h. h),
+    )

@@ -1,6 +1,6 @@
 use Rattle.std.proofs.Common.{◌≤◌, ℕ, sym, subst, ◌∙◌}
 use Rattle.std.proofs.lemmas.Bool.{true≢false}
-use Rattle.nntp_article.specs.Spool.{Name, IsGroup, IsNumber, numbers}
+use Rattle.nntp_article.specs.Session.Spool.{Name, IsGroup, IsNumber, numbers}
 use Rattle.nntp_spool.proofs.verification.listed_groups.agrees_line.Goals as goal
 
 pub returns-then-matches_if_given : goal.returns-then-matches_if_given

@@ -9,7 +9,9 @@ pub returns-then-not-agree_lines-clause-lists : goal.returns-then-not-agree_line
 returns-then-not-agree_lines-clause-lists g c =
     let decided = decided_by c.matching_is_decided.ensures c.args.wildmat.now in (
       λ t. absurd (true≢false (sym t)),
-      λ h. absurd (true≢false (sym (c.agree_lines.ensures.1 (agree-lines c.args.spool.now c.requires.names c.args.wildmat.now decided (active_groups c.args.block.now) h)) ∙ c.if-not-agree_lines.true)),
+      λ h. absurd (true≢false (sym (c.agree_lines.ensures.1
+          (agree-lines c.args.spool.now c.requires.names c.args.wildmat.now decided (active_groups c.args.block.now) h))
+          ∙ c.if-not-agree_lines.true)),
     )
 
 pub returns-clause-lists : goal.returns-clause-lists

@@ -3,7 +3,7 @@ use Rattle.std.specs.Prelude.{unwrap_or}
 use Rattle.std.specs.Ordering.{nat_cmp}
 use Rattle.std.specs.Option.{option_copied}
 use Rattle.std.specs.FinMap.{empty, get-empty}
-use Rattle.nntp_article.specs.Spool.{least}
+use Rattle.nntp_article.specs.Session.Spool.{least}
 use Rattle.nntp_spool.proofs.Firsts.{first_unique}
 use Rattle.nntp_spool.proofs.verification.session.first_of.Goals as goal
 

@@ -1,5 +1,5 @@
 use Rattle.std.proofs.Common.{length}
-use Rattle.nntp_article.specs.Limit.{profile_of}
+use Rattle.nntp_article.specs.Session.Limit.{profile_of}
 use Rattle.nntp_check.specs.Judging.{Passed}
 use Rattle.nntp_suite.proofs.memory.facts.note_all.Given as goal
 

@@ -5,7 +5,8 @@ use Rattle.nntp_wire.proofs.block.Block.is_same.Given.{Over}
 use Rattle.nntp_wire.proofs.block.Block.is_same.Goals as goal
 
 -- what is left of the lines that are held, from this one on
-split : (g : Over) (lines : List (Vec ℕ g.row.A.Denot)) (i : ℕ) (line : Vec ℕ g.row.A.Denot) (octets : List ℕ) → i < length lines → line ≡ get_or lines i line → octets ≡ line.items → held (drop i lines) ≡ octets ∷ held (drop (i + 1) lines)
+split : (g : Over) (lines : List (Vec ℕ g.row.A.Denot)) (i : ℕ) (line : Vec ℕ g.row.A.Denot) (octets : List ℕ) → i < length lines
+    → line ≡ get_or lines i line → octets ≡ line.items → held (drop i lines) ≡ octets ∷ held (drop (i + 1) lines)
 split g lines i line octets lt is e =
     let first : drop i lines ≡ get_or lines i line ∷ drop (i + 1) lines = rw add-one (drop-cons lines i line lt) in
     ap held first ∙ ap (λ (v : Vec ℕ g.row.A.Denot). v.items ∷ held (drop (i + 1) lines)) (sym is) ∙ ap (λ (t : List ℕ). t ∷ held (drop (i + 1) lines)) (sym e)

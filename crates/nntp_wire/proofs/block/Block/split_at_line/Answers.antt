@@ -10,7 +10,8 @@ invariant_of-result c =
 
 pub invariant_of-result-2 : goal.invariant_of-result-2
 invariant_of-result-2 c =
-    let s = back_sends c.args.count c.self.inside.sent.now c.skip_lines-rest.result.now c.split_at.result.1.now c.skip_lines-rest.ensures.front c.skip_lines-rest.ensures.back c.split_at.ensures.back in
+    let s = back_sends c.args.count c.self.inside.sent.now c.skip_lines-rest.result.now c.split_at.result.1.now
+    c.skip_lines-rest.ensures.front c.skip_lines-rest.ensures.back c.split_at.ensures.back in
     subst (Sends c.split_at.result.1.now) (sym (received-of _ _ s)) s
 
 pub returns-clause-front : goal.returns-clause-front
@@ -20,5 +21,6 @@ returns-clause-front c =
 
 pub returns-clause-back : goal.returns-clause-back
 returns-clause-back c =
-    let s = back_sends c.args.count c.self.inside.sent.now c.skip_lines-rest.result.now c.split_at.result.1.now c.skip_lines-rest.ensures.front c.skip_lines-rest.ensures.back c.split_at.ensures.back in
+    let s = back_sends c.args.count c.self.inside.sent.now c.skip_lines-rest.result.now c.split_at.result.1.now
+    c.skip_lines-rest.ensures.front c.skip_lines-rest.ensures.back c.split_at.ensures.back in
     received-of _ _ s ∙ ap (drop c.args.count) c.self.view_is

@@ -17,4 +17,6 @@ returns-clause-parts c =
 pub returns-clause-lines : goal.returns-clause-lines
 returns-clause-lines c =
     let parts = line_found c.args.stream.now c.in-Found.end (subst (IsSearched crlf c.args.stream.now) c.in-Found.is c.requires.searched) in
-    rw (c.split_at-2.ensures.back, c.split_at.ensures.back, c.split_at.ensures.front) (ap lines_of_stream parts.1 ∙ lines-first (take c.in-Found.end c.args.stream.now) (drop 2 (drop c.in-Found.end c.args.stream.now)) parts.0)
+    rw (c.split_at-2.ensures.back, c.split_at.ensures.back, c.split_at.ensures.front)
+    (ap lines_of_stream parts.1 ∙ lines-first (take c.in-Found.end c.args.stream.now)
+    (drop 2 (drop c.in-Found.end c.args.stream.now)) parts.0)

@@ -10,4 +10,6 @@ pub invariant_of-self-in-Ok-put_article : goal.invariant_of-self-in-Ok-put_artic
 invariant_of-self-in-Ok-put_article g c =
     let S = c.self.inside.content in
     let is = c.in-Ok-put_article.ensures.ok ∙ ap (λ k. with_article S k (text_of_article c.args.article)) c.in-Ok.ensures.items in
-    subst (IsContent (greatest c.self.inside.limit)) (sym is) (article_added (greatest c.self.inside.limit) S c.self.invariant c.args.id.now (text_of_article c.args.article) (sym c.article_fault.ensures ∙ c.in_default.is))
+    subst (IsContent (greatest c.self.inside.limit)) (sym is)
+    (article_added (greatest c.self.inside.limit) S c.self.invariant c.args.id.now (text_of_article c.args.article)
+    (sym c.article_fault.ensures ∙ c.in_default.is))

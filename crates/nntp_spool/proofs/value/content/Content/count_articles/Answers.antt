@@ -9,7 +9,9 @@ use Rattle.nntp_spool.proofs.value.content.Content.count_articles.Goals as goal
 
 pub returns-clause-len : goal.returns-clause-len
 returns-clause-len g c =
-    c.len.ensures.len ∙ sym (len-shown (slice_cmp nat_cmp) (λ k. k.items) text_of_article nat_list_cmp_total (map.slice_cmp-IsAntisymmetric map.nat_cmp-IsAntisymmetric) _ c.len.ensures.ordered) ∙ ap (λ s. map.len s.articles) c.self.view_is
+    c.len.ensures.len ∙ sym (len-shown (slice_cmp nat_cmp) (λ k. k.items) text_of_article nat_list_cmp_total
+    (map.slice_cmp-IsAntisymmetric map.nat_cmp-IsAntisymmetric) _ c.len.ensures.ordered)
+    ∙ ap (λ s. map.len s.articles) c.self.view_is
 
 pub returns-clause-line_counts : goal.returns-clause-line_counts
 returns-clause-line_counts g c = line_counts c.self.inside.articles.entries c.args.self.now (ap (λ s. s.articles) c.self.view_is)

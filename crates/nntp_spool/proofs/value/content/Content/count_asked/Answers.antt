@@ -4,7 +4,7 @@ use Rattle.std.proofs.lemmas.Iterator.Consumers.{YieldsList-at, YieldsList-from_
 use Rattle.std.proofs.lemmas.List.Folds.{fold-map}
 use Rattle.std.proofs.lemmas.List.Sums.{length-filter}
 use borrow.Author.Tests.{tests}
-use Rattle.nntp_article.specs.Spool.{Name, Numbers}
+use Rattle.nntp_article.specs.Session.Spool.{Name, Numbers}
 use Rattle.nntp_spool.specs.ListedGroups.{is_asked}
 use Rattle.nntp_spool.proofs.ShownMaps.{group_entries}
 use Rattle.nntp_spool.proofs.value.content.Content.count_asked.Goals as goal
@@ -13,6 +13,9 @@ pub returns : goal.returns
 returns g c =
     let es = c.self.inside.groups.entries in
     let asked = λ (e : Name × Numbers). is_asked c.args.wildmat.now e.0 in
-    let counted = count_from_yields_List c.filter.result c.count.result c.count.ensures.ran (YieldsList-from_filter _ (λ e. asked (e.0.items, e.1)) (YieldsList-at c.filter.ensures.source (YieldsList-from_rest es c.iter.ensures.rest)) c.filter.ensures.closure (λ x b q k. search (rules, tests))) in
+    let counted = count_from_yields_List c.filter.result c.count.result c.count.ensures.ran
+    (YieldsList-from_filter _ (λ e. asked (e.0.items, e.1))
+    (YieldsList-at c.filter.ensures.source (YieldsList-from_rest es c.iter.ensures.rest)) c.filter.ensures.closure
+    (λ x b q k. search (rules, tests))) in
     counted ∙ length-filter (λ e. asked (e.0.items, e.1)) es ∙ sym (fold-map (λ n e. n + cond (asked e) 1 0) (λ e. (e.0.items, e.1)) 0 es)
     ∙ ap (count_by asked) (group_entries es c.args.self.now.groups (ap (λ s. s.groups) c.self.view_is) c.iter.ensures.ordered)

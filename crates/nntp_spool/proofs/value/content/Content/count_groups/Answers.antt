@@ -7,4 +7,6 @@ use Rattle.nntp_spool.proofs.value.content.Content.count_groups.Goals as goal
 
 pub returns : goal.returns
 returns g c =
-    c.len.ensures.len ∙ sym (len-shown (slice_cmp nat_cmp) (λ k. k.items) (λ v. v) nat_list_cmp_total (map.slice_cmp-IsAntisymmetric map.nat_cmp-IsAntisymmetric) _ c.len.ensures.ordered) ∙ ap (λ s. map.len s.groups) c.self.view_is
+    c.len.ensures.len ∙ sym (len-shown (slice_cmp nat_cmp) (λ k. k.items) (λ v. v) nat_list_cmp_total
+    (map.slice_cmp-IsAntisymmetric map.nat_cmp-IsAntisymmetric) _ c.len.ensures.ordered)
+    ∙ ap (λ s. map.len s.groups) c.self.view_is

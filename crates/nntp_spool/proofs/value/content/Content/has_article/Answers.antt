@@ -9,4 +9,6 @@ use Rattle.nntp_spool.proofs.value.content.Content.has_article.Goals as goal
 pub returns : goal.returns
 returns g c =
     c.contains_key.ensures ∙ sym (is_some-option_map text_of_article _)
-    ∙ sym (ap is_some (get-shown (slice_cmp nat_cmp) (λ k. k.items) text_of_article nat_list_cmp_total c.self.inside.articles.entries c.args.id.now)) ∙ ap (λ s. is_some (map.get s.articles c.args.id.now)) c.self.view_is
+    ∙ sym (ap is_some (get-shown (slice_cmp nat_cmp)
+    (λ k. k.items) text_of_article nat_list_cmp_total c.self.inside.articles.entries c.args.id.now))
+    ∙ ap (λ s. is_some (map.get s.articles c.args.id.now)) c.self.view_is

@@ -3,7 +3,7 @@ use Rattle.std.specs.List.{list_all}
 use Rattle.std.proofs.lemmas.Iterator.Search.{all_from_yields_List}
 use Rattle.std.proofs.lemmas.Iterator.Consumers.{YieldsList-from_rest}
 use borrow.Author.Tests.{tests}
-use Rattle.nntp_article.specs.Spool.{Name, Numbers}
+use Rattle.nntp_article.specs.Session.Spool.{Name, Numbers}
 use Rattle.nntp_spool.specs.Content.{all_known}
 use Rattle.nntp_wire.proofs.ShownMaps.{list_all-map}
 use Rattle.nntp_spool.proofs.ShownMaps.{group_entries, line_counts}

@@ -9,5 +9,8 @@ use Rattle.nntp_spool.proofs.value.content.Content.put_article.Goals as goal
 
 pub returns-clause-ok : goal.returns-clause-ok
 returns-clause-ok g c =
-    let is = insert-shown (slice_cmp nat_cmp) (λ k. k.items) text_of_article nat_list_cmp_total (map.slice_cmp-IsAntisymmetric map.nat_cmp-IsAntisymmetric) c.self.inside.articles.entries _ c.args.id c.args.article c.in_ok-insert.ensures.entries ∙ ap (λ s. map.insert s.articles c.args.id.items (text_of_article c.args.article)) c.self.view_is in
+    let is = insert-shown (slice_cmp nat_cmp) (λ k. k.items) text_of_article nat_list_cmp_total
+    (map.slice_cmp-IsAntisymmetric map.nat_cmp-IsAntisymmetric) c.self.inside.articles.entries _ c.args.id c.args.article
+    c.in_ok-insert.ensures.entries ∙ ap (λ s. map.insert s.articles c.args.id.items
+    (text_of_article c.args.article)) c.self.view_is in
     spool_is _ _ (ap (λ s. s.groups) c.self.view_is) is

@@ -34,7 +34,12 @@ returns-clause-ok g c =
       | in-Some+in_ok-put w ↦
           let r = replaced (slice_cmp nat_cmp) (λ k. k.items) (λ v. v) nat_list_cmp_total same c.self.inside.groups.entries _ c.args.self.now.groups c.args.name.now w.in-Some.group.now w.put.new.self
           (ap (λ s. s.groups) c.self.view_is) w.in-Some.ensures.value (c.get_mut.follows.holds w.put.new.self).0 in
-          rw w.self-inside-is (spool_is _ _ (r.0 ∙ ap (map.insert c.args.self.now.groups c.args.name.now) (w.in_ok-put.ensures.ok ∙ ap (λ o. map.insert (unwrap_or o map.empty) c.args.number c.args.id.now) (sym r.1))) (ap (λ s. s.articles) c.self.view_is))
+          rw w.self-inside-is (spool_is _ _ (r.0 ∙ ap (map.insert c.args.self.now.groups c.args.name.now)
+          (w.in_ok-put.ensures.ok ∙ ap (λ o. map.insert (unwrap_or o map.empty) c.args.number c.args.id.now) (sym r.1)))
+          (ap (λ s. s.articles) c.self.view_is))
       | in_default w ↦
-          absurd (true≢false (sym c.requires.0 ∙ ap is_some (missing (slice_cmp nat_cmp) (λ k. k.items) (λ v. v) nat_list_cmp_total same c.self.inside.groups.entries c.args.self.now.groups c.args.name.now (ap (λ s. s.groups) c.self.view_is) (ap option_copied_mut (sym w.in_default.is) ∙ c.get_mut.ensures.value))))
+          absurd (true≢false (sym c.requires.0 ∙ ap is_some
+          (missing (slice_cmp nat_cmp) (λ k. k.items)
+          (λ v. v) nat_list_cmp_total same c.self.inside.groups.entries c.args.self.now.groups c.args.name.now
+          (ap (λ s. s.groups) c.self.view_is) (ap option_copied_mut (sym w.in_default.is) ∙ c.get_mut.ensures.value))))
     ]

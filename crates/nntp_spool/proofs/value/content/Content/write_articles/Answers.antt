@@ -14,12 +14,20 @@ returns-in_err-put_article-clause-text g c =
     let w = c.in_err-put_article.ensures.text in
     rw p.1 (
       _,
-      Wrote-head (λ es. with_line_ends (flat_map article_lines (list_map (λ e. (e.0.items, text_of_article e.1)) es))) (λ x. with_line_ends (article_lines (x.0.items, text_of_article x.1))) (λ x xs. with_line_ends-append (article_lines (x.0.items, text_of_article x.1)) _) _ _ _ _ _ _ _ _ w.0 c.in-Some.ensures.steps (ap (λ s. with_line_ends (article_lines (s, (text_of_article c.in-Some.article.now)))) c.as_slice.ensures.value) c.loop-id.invariant.wrote w.1,
+      Wrote-head (λ es. with_line_ends (flat_map article_lines (list_map (λ e. (e.0.items, text_of_article e.1)) es)))
+          (λ x. with_line_ends (article_lines (x.0.items, text_of_article x.1)))
+          (λ x xs. with_line_ends-append (article_lines (x.0.items, text_of_article x.1)) _) _ _ _ _ _ _ _ _ w.0
+          c.in-Some.ensures.steps (ap (λ s. with_line_ends (article_lines (s, (text_of_article c.in-Some.article.now))))
+          c.as_slice.ensures.value) c.loop-id.invariant.wrote w.1,
     )
 
 pub loop-id-preserved : goal.loop-id-preserved
 loop-id-preserved g c = record {
-  wrote = Wrote-head (λ es. with_line_ends (flat_map article_lines (list_map (λ e. (e.0.items, text_of_article e.1)) es))) (λ x. with_line_ends (article_lines (x.0.items, text_of_article x.1))) (λ x xs. with_line_ends-append (article_lines (x.0.items, text_of_article x.1)) _) _ _ _ _ _ _ _ _ [] c.in-Some.ensures.steps (ap (λ s. with_line_ends (article_lines (s, (text_of_article c.in-Some.article.now)))) c.as_slice.ensures.value) c.loop-id.invariant.wrote c.in_ok-put_article.ensures.text;
+  wrote = Wrote-head (λ es. with_line_ends (flat_map article_lines (list_map (λ e. (e.0.items, text_of_article e.1)) es)))
+      (λ x. with_line_ends (article_lines (x.0.items, text_of_article x.1)))
+      (λ x xs. with_line_ends-append (article_lines (x.0.items, text_of_article x.1)) _) _ _ _ _ _ _ _ _ []
+      c.in-Some.ensures.steps (ap (λ s. with_line_ends (article_lines (s, (text_of_article c.in-Some.article.now))))
+      c.as_slice.ensures.value) c.loop-id.invariant.wrote c.in_ok-put_article.ensures.text;
   same = grind (arith, c.in_ok-put_article.ensures.failed);
 }
 

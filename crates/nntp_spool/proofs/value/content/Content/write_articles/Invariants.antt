@@ -8,6 +8,8 @@ use Rattle.nntp_spool.proofs.value.content.Content.write_articles.Given as goal
 
 abbrev pub invariant-loop-id : goal.invariant-loop-id
 invariant-loop-id g l = record {
-  wrote : Wrote (g.W.Write.contents l.fn.w.inner) (g.W.Write.contents l.w.inner) (with_line_ends (flat_map article_lines (entries l.self.articles))) (with_line_ends (flat_map article_lines (list_map (λ e. (e.0.items, text_of_article e.1)) l.entries)));
+  wrote : Wrote (g.W.Write.contents l.fn.w.inner) (g.W.Write.contents l.w.inner)
+      (with_line_ends (flat_map article_lines (entries l.self.articles)))
+      (with_line_ends (flat_map article_lines (list_map (λ e. (e.0.items, text_of_article e.1)) l.entries)));
   same : l.w.has_failed ≡ l.fn.w.has_failed;
 }

@@ -13,12 +13,20 @@ returns-in_err-put_group-clause-text g c =
     let w = c.in_err-put_group.ensures.text in
     rw p.1 (
       _,
-      Wrote-head (λ es. with_line_ends (flat_map group_lines (list_map (λ e. (e.0.items, e.1)) es))) (λ x. with_line_ends (group_lines (x.0.items, x.1))) (λ x xs. with_line_ends-append (group_lines (x.0.items, x.1)) _) _ _ _ _ _ _ _ _ w.0 c.in-Some.ensures.steps (ap (λ s. with_line_ends (group_lines (s, c.in-Some.numbers.now))) c.as_slice.ensures.value) c.loop-name.invariant.wrote w.1,
+      Wrote-head (λ es. with_line_ends (flat_map group_lines (list_map (λ e. (e.0.items, e.1)) es)))
+          (λ x. with_line_ends (group_lines (x.0.items, x.1)))
+          (λ x xs. with_line_ends-append (group_lines (x.0.items, x.1)) _) _ _ _ _ _ _ _ _ w.0 c.in-Some.ensures.steps
+          (ap (λ s. with_line_ends (group_lines (s, c.in-Some.numbers.now))) c.as_slice.ensures.value)
+          c.loop-name.invariant.wrote w.1,
     )
 
 pub loop-name-preserved : goal.loop-name-preserved
 loop-name-preserved g c = record {
-  wrote = Wrote-head (λ es. with_line_ends (flat_map group_lines (list_map (λ e. (e.0.items, e.1)) es))) (λ x. with_line_ends (group_lines (x.0.items, x.1))) (λ x xs. with_line_ends-append (group_lines (x.0.items, x.1)) _) _ _ _ _ _ _ _ _ [] c.in-Some.ensures.steps (ap (λ s. with_line_ends (group_lines (s, c.in-Some.numbers.now))) c.as_slice.ensures.value) c.loop-name.invariant.wrote c.in_ok-put_group.ensures.text;
+  wrote = Wrote-head (λ es. with_line_ends (flat_map group_lines (list_map (λ e. (e.0.items, e.1)) es)))
+      (λ x. with_line_ends (group_lines (x.0.items, x.1)))
+      (λ x xs. with_line_ends-append (group_lines (x.0.items, x.1)) _) _ _ _ _ _ _ _ _ [] c.in-Some.ensures.steps
+      (ap (λ s. with_line_ends (group_lines (s, c.in-Some.numbers.now))) c.as_slice.ensures.value) c.loop-name.invariant.wrote
+      c.in_ok-put_group.ensures.text;
   same = grind (arith, c.in_ok-put_group.ensures.failed);
 }
 

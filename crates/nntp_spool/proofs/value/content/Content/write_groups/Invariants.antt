@@ -7,6 +7,8 @@ use Rattle.nntp_spool.proofs.value.content.Content.write_groups.Given as goal
 
 abbrev pub invariant-loop-name : goal.invariant-loop-name
 invariant-loop-name g l = record {
-  wrote : Wrote (g.W.Write.contents l.fn.w.inner) (g.W.Write.contents l.w.inner) (with_line_ends (flat_map group_lines (entries l.self.groups))) (with_line_ends (flat_map group_lines (list_map (λ e. (e.0.items, e.1)) l.entries)));
+  wrote : Wrote (g.W.Write.contents l.fn.w.inner) (g.W.Write.contents l.w.inner)
+      (with_line_ends (flat_map group_lines (entries l.self.groups)))
+      (with_line_ends (flat_map group_lines (list_map (λ e. (e.0.items, e.1)) l.entries)));
   same : l.w.has_failed ≡ l.fn.w.has_failed;
 }

@@ -1,5 +1,5 @@
 use Rattle.std.proofs.Common.{◌<◌, length, subst, sym, Some, None, arith}
-use Rattle.nntp_article.specs.Spool.{IsFirst}
+use Rattle.nntp_article.specs.Session.Spool.{IsFirst}
 use Rattle.std.proofs.lemmas.List.{nil_from_length}
 use Rattle.std.proofs.lemmas.Bool.{true≢false}
 use Rattle.nntp_spool.proofs.ShownNumbers.{first_from_bound, first_from_none}

@@ -2,9 +2,9 @@ use Rattle.std.proofs.Common.{◌≡◌, true, List, ℕ, sym, subst, ◌∙◌}
 use Rattle.std.specs.Prelude.{◌↔◌, nat_lt}
 use Rattle.std.specs.List.{list_all}
 use Rattle.std.proofs.lemmas.Bool.{true≢false, and_parts}
-use Rattle.nntp_article.specs.Spool.{Lists}
+use Rattle.nntp_article.specs.Session.Spool.{Lists}
 use Rattle.nntp_wire.specs.Listing.{listed_numbers}
-use Rattle.nntp_article.specs.Machine.{is_ascending}
+use Rattle.nntp_article.specs.Session.Machine.{is_ascending}
 use Rattle.nntp_spool.specs.ListedNumbers.{ListsFrom}
 use Rattle.nntp_spool.proofs.ListedNumbers.{taken, is_next, lists_from_range}
 use Rattle.nntp_spool.proofs.value.numbers.Numbers.lists.Goals as goal
@@ -30,7 +30,9 @@ returns-then-not-is_next_within g c =
     let ascends = subst (λ (ms : List ℕ). is_ascending ms ≡ true) c.in-Some.ensures.steps i.ascends in
     let above = (and_parts (list_all (λ k. nat_lt n k) ns) (is_ascending ns) ascends).0 in (
       λ t. absurd (true≢false (sym t)),
-      λ h. absurd (true≢false (sym (c.is_next_within.ensures.1 (is_next N r c.loop-number.before n ns above (subst (ListsFrom N r c.loop-number.before) c.in-Some.ensures.steps (i.same.1 h)))) ∙ c.if-not-is_next_within.true)),
+      λ h. absurd (true≢false (sym (c.is_next_within.ensures.1
+          (is_next N r c.loop-number.before n ns above
+          (subst (ListsFrom N r c.loop-number.before) c.in-Some.ensures.steps (i.same.1 h)))) ∙ c.if-not-is_next_within.true)),
     )
 
 pub loop-number-preserved : goal.loop-number-preserved

@@ -1,8 +1,8 @@
 use Rattle.std.proofs.Common.{◌≡◌, true}
 use Rattle.std.specs.Prelude.{◌↔◌}
-use Rattle.nntp_article.specs.Spool.{Lists}
+use Rattle.nntp_article.specs.Session.Spool.{Lists}
 use Rattle.nntp_wire.specs.Listing.{listed_numbers}
-use Rattle.nntp_article.specs.Machine.{is_ascending}
+use Rattle.nntp_article.specs.Session.Machine.{is_ascending}
 use Rattle.nntp_spool.specs.ListedNumbers.{ListsFrom}
 use Rattle.nntp_spool.proofs.value.numbers.Numbers.lists.Given as goal
 

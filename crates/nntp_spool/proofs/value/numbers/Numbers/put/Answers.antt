@@ -11,8 +11,11 @@ pub invariant_of-self-in-Ok : goal.invariant_of-self-in-Ok
 invariant_of-self-in-Ok g c =
     let N = c.args.self.now in
     let are = subst (AreIdsOf c.self.inside.known.keys) c.self.view_is c.self.invariant in
-    let more = one_id_more c.self.inside.known.keys c.insert.new.self.keys N c.args.number c.args.id.now c.in_ok-from_slice.field-0 are c.requires.0 c.in_ok-from_slice.ensures.items c.in_ok-insert.ensures.keys in
-    let is = insert-shown nat_cmp (λ k. k) (λ v. v.items) nat_cmp_total map.nat_cmp-IsAntisymmetric _ _ c.args.number c.in_ok-held.held c.in-Ok.ensures.entries ∙ ap (λ m. map.insert m c.args.number c.in_ok-held.held.items) c.self.view_is ∙ ap (map.insert N c.args.number) c.in_ok-held.ensures.items in
+    let more = one_id_more c.self.inside.known.keys c.insert.new.self.keys N c.args.number c.args.id.now
+    c.in_ok-from_slice.field-0 are c.requires.0 c.in_ok-from_slice.ensures.items c.in_ok-insert.ensures.keys in
+    let is = insert-shown nat_cmp (λ k. k) (λ v. v.items) nat_cmp_total map.nat_cmp-IsAntisymmetric _ _ c.args.number
+    c.in_ok-held.held c.in-Ok.ensures.entries ∙ ap (λ m. map.insert m c.args.number c.in_ok-held.held.items) c.self.view_is
+    ∙ ap (map.insert N c.args.number) c.in_ok-held.ensures.items in
     subst (AreIdsOf c.insert.new.self.keys) (sym is) more
 
 pub returns-in-Ok-clause-ok : goal.returns-in-Ok-clause-ok
@@ -24,4 +27,6 @@ pub invariant_of-self-in-Err : goal.invariant_of-self-in-Err
 invariant_of-self-in-Err g c =
     let are = subst (AreIdsOf c.self.inside.known.keys) c.self.view_is c.self.invariant in
     let same = ap (shown nat_cmp (λ k. k) (λ v. v.items)) c.in-Err.ensures.err ∙ c.self.view_is in
-    id_taken_back c.self.inside.known.keys c.insert.new.self.keys c.remove.new.self.keys c.args.self.now _ c.args.id.now c.in_ok-from_slice.field-0 are c.requires.1 c.in_ok-from_slice.ensures.items c.in_ok-insert.ensures.keys c.remove.ensures.keys same
+    id_taken_back c.self.inside.known.keys c.insert.new.self.keys c.remove.new.self.keys c.args.self.now _ c.args.id.now
+    c.in_ok-from_slice.field-0 are c.requires.1 c.in_ok-from_slice.ensures.items c.in_ok-insert.ensures.keys
+    c.remove.ensures.keys same

@@ -13,12 +13,20 @@ returns-in_err-put_number_line-clause-text g c =
     let w = c.in_err-put_number_line.ensures.text in
     rw p.1 (
       _,
-      Wrote-head (λ es. with_line_ends (list_map (λ e. number_line e.0 e.1.items) es)) (λ e. with_line_ends (number_line e.0 e.1.items ∷ [])) (λ x xs. with_line_ends-cons (number_line x.0 x.1.items) (list_map (λ e. number_line e.0 e.1.items) xs)) _ _ _ _ _ _ _ _ w.0 c.in-Some.ensures.steps (ap (λ s. with_line_ends (number_line c.in-Some.number.now s ∷ [])) c.as_slice.ensures.value) c.loop-number.invariant.wrote w.1,
+      Wrote-head (λ es. with_line_ends (list_map (λ e. number_line e.0 e.1.items) es))
+          (λ e. with_line_ends (number_line e.0 e.1.items ∷ []))
+          (λ x xs. with_line_ends-cons (number_line x.0 x.1.items) (list_map (λ e. number_line e.0 e.1.items) xs)) _ _ _ _ _ _ _
+          _ w.0 c.in-Some.ensures.steps (ap (λ s. with_line_ends
+          (number_line c.in-Some.number.now s ∷ [])) c.as_slice.ensures.value) c.loop-number.invariant.wrote w.1,
     )
 
 pub loop-number-preserved : goal.loop-number-preserved
 loop-number-preserved g c = record {
-  wrote = Wrote-head (λ es. with_line_ends (list_map (λ e. number_line e.0 e.1.items) es)) (λ e. with_line_ends (number_line e.0 e.1.items ∷ [])) (λ x xs. with_line_ends-cons (number_line x.0 x.1.items) (list_map (λ e. number_line e.0 e.1.items) xs)) _ _ _ _ _ _ _ _ [] c.in-Some.ensures.steps (ap (λ s. with_line_ends (number_line c.in-Some.number.now s ∷ [])) c.as_slice.ensures.value) c.loop-number.invariant.wrote c.in_ok-put_number_line.ensures.text;
+  wrote = Wrote-head (λ es. with_line_ends (list_map (λ e. number_line e.0 e.1.items) es))
+      (λ e. with_line_ends (number_line e.0 e.1.items ∷ []))
+      (λ x xs. with_line_ends-cons (number_line x.0 x.1.items) (list_map (λ e. number_line e.0 e.1.items) xs)) _ _ _ _ _ _ _ _ []
+      c.in-Some.ensures.steps (ap (λ s. with_line_ends (number_line c.in-Some.number.now s ∷ [])) c.as_slice.ensures.value)
+      c.loop-number.invariant.wrote c.in_ok-put_number_line.ensures.text;
   same = grind (arith, c.in_ok-put_number_line.ensures.failed);
 }
 
@@ -26,5 +34,7 @@ pub loop-number-init : goal.loop-number-init
 loop-number-init g c =
     let es = c.self.inside.ids.entries in
     let shown = number_entries es c.args.self.now c.self.view_is c.iter-entries.ensures.ordered in
-    let lines = sym (ap (list_map (λ e. number_line e.0 e.1)) shown) ∙ map-map (λ e. number_line e.0 e.1) (λ e. (e.0, e.1.items)) es ∙ ap (list_map (λ e. number_line e.0 e.1.items)) (sym c.iter-entries.ensures.rest) in
+    let lines = sym (ap (list_map (λ e. number_line e.0 e.1)) shown)
+    ∙ map-map (λ e. number_line e.0 e.1) (λ e. (e.0, e.1.items)) es
+    ∙ ap (list_map (λ e. number_line e.0 e.1.items)) (sym c.iter-entries.ensures.rest) in
     record { wrote = Wrote-all _ _ _ (ap with_line_ends lines); same = refl }

@@ -6,6 +6,8 @@ use Rattle.nntp_spool.proofs.value.numbers.Numbers.write.Given as goal
 
 abbrev pub invariant-loop-number : goal.invariant-loop-number
 invariant-loop-number g l = record {
-  wrote : Wrote (g.W.Write.contents l.fn.w.inner) (g.W.Write.contents l.w.inner) (with_line_ends (list_map (λ e. number_line e.0 e.1) (entries l.self))) (with_line_ends (list_map (λ e. number_line e.0 e.1.items) l.entries));
+  wrote : Wrote (g.W.Write.contents l.fn.w.inner) (g.W.Write.contents l.w.inner)
+      (with_line_ends (list_map (λ e. number_line e.0 e.1) (entries l.self)))
+      (with_line_ends (list_map (λ e. number_line e.0 e.1.items) l.entries));
   same : l.w.has_failed ≡ l.fn.w.has_failed;
 }

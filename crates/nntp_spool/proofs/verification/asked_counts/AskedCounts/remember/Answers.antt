@@ -12,5 +12,7 @@ returns-in_ok-insert-in-Some g c =
     let octets = c.in_ok-octets-in-Some.octets in
     let named : Some c.as_slice.result.now ≡ c.args.wildmat.now = cc (c.in-Some.is, c.as_slice.ensures.value) in
     let whole : Some octets.items ≡ c.args.wildmat.now = ap Some c.in_ok-octets-in-Some.ensures.items ∙ named in
-    let is = insert-shown (slice_cmp nat_cmp) (λ k. k.items) (λ v. v) nat_list_cmp_total octet_keys c.self.inside.by_wildmat.entries c.insert.new.self.entries octets c.args.count c.in_ok-insert-in-Some.ensures.entries in
+    let is = insert-shown (slice_cmp nat_cmp) (λ k. k.items)
+    (λ v. v) nat_list_cmp_total octet_keys c.self.inside.by_wildmat.entries c.insert.new.self.entries octets c.args.count
+    c.in_ok-insert-in-Some.ensures.entries in
     counts_are _ _ refl is ∙ ap (with_count (Some octets.items) c.args.count) c.self.view_is ∙ ap (λ p. with_count p c.args.count c.args.self.now) whole

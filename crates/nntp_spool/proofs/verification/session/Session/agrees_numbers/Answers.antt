@@ -4,7 +4,7 @@ use Rattle.nntp_wire.specs.View.{asked, request}
 use Rattle.nntp_wire.specs.Answer.{to, numbers_are}
 use Rattle.nntp_wire.specs.declared.command.Prompt.{Prompt}
 use Rattle.nntp_wire.specs.declared.command.Command.{Command}
-use Rattle.nntp_article.specs.Machine.{Agrees}
+use Rattle.nntp_article.specs.Session.Machine.{Agrees}
 use Rattle.nntp_spool.proofs.verification.session.Session.agrees_numbers.Goals as goal
 
 pub returns-in-To-ListGroup : goal.returns-in-To-ListGroup

@@ -1,0 +1,11 @@
+pub mod LineLemmas
+pub mod HeadLemmas
+pub mod WordLemmas
+pub mod IdLemmas
+pub mod SaidLemmas
+pub mod ValuesByTests
+pub mod PartLemmas
+pub mod ContentLemmas
+pub mod MissingLemmas
+pub mod HeadHasNoEmptyLine
+pub mod OneReading

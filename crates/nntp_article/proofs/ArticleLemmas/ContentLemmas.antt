@@ -1,0 +1,55 @@
+-- A content, piece by piece.
+use Rattle.std.proofs.Common.{◌≡◌, ℕ, Bool, true, false, List, [], ◌∷◌, ◌++◌, length, take, refl, sym, ◌∙◌, ap, append_assoc, append-nil}
+use Rattle.std.proofs.lemmas.List.{take_at}
+use Rattle.std.specs.Prelude.{if◌then◌else◌}
+use Rattle.std.specs.List.{concat, after_first}
+use Rattle.nntp_wire.specs.Octets.{is_blank}
+use Rattle.nntp_article.specs.Article.Parts.{Line, Header, is_empty, is_colon, skip_blanks, skip_last_blanks, content_of}
+use Rattle.nntp_article.proofs.ArticleLemmas.WordLemmas.{skip-blank, skip-other, ends_blank}
+
+-- octets so far, with more behind them
+abbrev pub joined : List ℕ → List ℕ → List ℕ
+joined octets more = if is_empty octets then skip_blanks more else octets ++ more
+
+skip-append : (octets more : List ℕ) → skip_blanks (octets ++ more) ≡ joined (skip_blanks octets) more
+skip-append [] more = refl
+skip-append (b ∷ bs) more = at (is_blank b) refl (skip-append bs more) where
+  at : (v : Bool) → is_blank b ≡ v → skip_blanks (bs ++ more) ≡ joined (skip_blanks bs) more → skip_blanks ((b ∷ bs) ++ more) ≡ joined (skip_blanks (b ∷ bs)) more
+  at true e rest = skip-blank b (bs ++ more) e ∙ rest ∙ ap (λ t. joined t more) (sym (skip-blank b bs e))
+  at false e rest = skip-other b (bs ++ more) e ∙ ap (λ t. joined t more) (sym (skip-other b bs e))
+
+-- two pieces are one
+pub joined-joined : (octets piece more : List ℕ) → joined (joined octets piece) more ≡ joined octets (piece ++ more)
+joined-joined [] piece more = sym (skip-append piece more)
+joined-joined (b ∷ bs) piece more = append_assoc (b ∷ bs) piece more
+
+joined-nil : (octets : List ℕ) → joined octets [] ≡ octets
+joined-nil [] = refl
+joined-nil (b ∷ bs) = append-nil (b ∷ bs)
+
+-- the octets so far with those of the lines that are left give the content
+pub record Leads (octets : List ℕ) (left : List Line) (header : Header) : Type 0 where
+  pub content : skip_last_blanks (joined octets (concat left)) ≡ content_of header
+
+pub leads-start : (octets value : List ℕ) (header : Header) (first : Line) (left : List Line) (start : List ℕ)
+    → header ≡ first ∷ left → value ≡ after_first is_colon first → start ≡ [] → octets ≡ joined start value → Leads octets left header
+leads-start octets value header first left start e is none o = record {
+  content = ap (λ t. skip_last_blanks (joined t (concat left))) (o ∙ ap (λ t. joined t value) none) ∙ ap skip_last_blanks (joined-joined [] value (concat left))
+      ∙ ap (λ t. skip_last_blanks (skip_blanks (t ++ concat left))) is ∙ ap content_of (sym e);
+}
+
+pub leads-more : (octets new : List ℕ) (before left : List Line) (line : Line) (header : Header) → Leads octets before header → before ≡ line ∷ left → new ≡ joined octets line → Leads new left header
+leads-more octets new before left line header l e o = record {
+  content = ap (λ t. skip_last_blanks (joined t (concat left))) o ∙ ap skip_last_blanks (joined-joined octets line (concat left))
+      ∙ ap (λ t. skip_last_blanks (joined octets (concat t))) (sym e) ∙ l.content;
+}
+
+-- cut to the length of what is not blank at the end
+pub leads-end : (octets new trimmed : List ℕ) (left : List Line) (header : Header) → Leads octets left header → left ≡ []
+    → trimmed ≡ skip_last_blanks octets → new ≡ take (length trimmed) octets → new ≡ content_of header
+leads-end octets new trimmed left header l e is cut =
+    let end = ends_blank octets in
+    let whole : take (length trimmed) octets ≡ skip_last_blanks octets = ap (λ t. take (length t) octets) is
+    ∙ ap (take (length (skip_last_blanks octets))) end.whole
+    ∙ take_at (skip_last_blanks octets) end.tail (length (skip_last_blanks octets)) refl in
+    cut ∙ whole ∙ ap skip_last_blanks (sym (joined-nil octets)) ∙ ap (λ t. skip_last_blanks (joined octets (concat t))) (sym e) ∙ l.content

@@ -1,0 +1,107 @@
+-- The headers and the parts of lines are determined.
+use Rattle.std.proofs.Common.{◌≡◌, ◌↔◌, ℕ, Bool, true, false, List, [], ◌∷◌, ◌++◌, refl, sym, ◌∙◌, ap, subst, arith, IsTrue}
+use Rattle.std.proofs.lemmas.Bool.{false≢true, and_parts, and_from, not-true}
+use Rattle.std.proofs.lemmas.Bool.Decides.{nat_tests}
+use Rattle.std.specs.Prelude.{not}
+use Rattle.std.specs.List.{list_any, list_all, flat_map, prefix_len, before_first}
+use Rattle.nntp_wire.specs.Octets.{is_blank}
+use Rattle.nntp_article.specs.Article.Parts.{Line, Header, is_empty, is_colon, is_continuation, is_name_octet, begins_header}
+use Rattle.nntp_article.specs.Article.Parts.{is_header, continues_first, with_line, headers, is_head, head_part, body_part}
+use Rattle.nntp_article.specs.Article.Parts.{AreHeaders, AreParts}
+use Rattle.nntp_article.proofs.ArticleLemmas.HeadLemmas.{one-more, more, after, more-yes, more-no, after-yes, after-no, headers-cons}
+use Rattle.nntp_article.proofs.ArticleLemmas.PartLemmas.{parts-split}
+
+abbrev flat : List Header → List Line
+flat hs = flat_map (λ header. header) hs
+
+flat-with : (line : Line) (hs : List Header) → flat (with_line line hs) ≡ line ∷ flat hs
+flat-with line [] = refl
+flat-with line (h ∷ hs) = at (continues_first h) refl where
+  at : (v : Bool) → continues_first h ≡ v → flat (with_line line (h ∷ hs)) ≡ line ∷ flat (h ∷ hs)
+  at true e = rw e refl
+  at false e = rw e refl
+
+-- the headers are all the lines
+flat-headers : (lines : List Line) → flat (headers lines) ≡ lines
+flat-headers [] = refl
+flat-headers (line ∷ lines) = flat-with line (headers lines) ∙ ap (λ t. line ∷ t) (flat-headers lines)
+
+pub head-iff : (lines : List Line) → IsTrue (is_head lines) ↔ AreHeaders lines (headers lines)
+head-iff lines = (to, from) where
+  to : IsTrue (is_head lines) → AreHeaders lines (headers lines)
+  to h = let both = and_parts _ _ h in record { some = not-true _ both.0; each = both.1; whole = sym (flat-headers lines) }
+
+  from : AreHeaders lines (headers lines) → IsTrue (is_head lines)
+  from are = and_from _ _ (ap not are.some) are.each
+
+-- a line that begins a header continues none
+begins-no : (line : Line) → begins_header line ≡ true → is_continuation line ≡ false
+begins-no [] h = refl
+begins-no (b ∷ bs) h = at (is_colon b) refl where
+  visible : (b : ℕ) → is_name_octet b ≡ true → is_blank b ≡ false
+  visible b h = grind (arith, nat_tests)
+
+  colon : (b : ℕ) → is_colon b ≡ true → is_blank b ≡ false
+  colon b h = grind (arith, nat_tests)
+
+  at : (v : Bool) → is_colon b ≡ v → is_blank b ≡ false
+  at true e = colon b e
+  at false e =
+      let name : before_first is_colon (b ∷ bs) ≡ b ∷ before_first is_colon bs = rw (e, one-more (prefix_len (λ c. not (is_colon c)) bs)) refl in
+      let octets : list_all is_name_octet (b ∷ before_first is_colon bs) ≡ true = subst (λ t. list_all is_name_octet t ≡ true) name (and_parts _ _ h).1 in
+      visible b (and_parts _ _ octets).0
+
+-- lines that continue, in front of lines that begin with a header
+more-append : (lines rest : List Line) → list_all is_continuation lines ≡ true → more rest ≡ [] → more (lines ++ rest) ≡ lines
+more-append [] rest all none = none
+more-append (line ∷ lines) rest all none =
+    let both = and_parts (is_continuation line) _ all in
+    more-yes line (lines ++ rest) both.0 ∙ ap (λ t. line ∷ t) (more-append lines rest both.1 none)
+
+after-append : (lines rest : List Line) → list_all is_continuation lines ≡ true → after rest ≡ rest → after (lines ++ rest) ≡ rest
+after-append [] rest all same = same
+after-append (line ∷ lines) rest all same =
+    let both = and_parts (is_continuation line) _ all in
+    after-yes line (lines ++ rest) both.0 ∙ after-append lines rest both.1 same
+
+-- headers begin with no continuation line
+begin : (hs : List Header) → list_all is_header hs ≡ true → (more (flat hs) ≡ []) × (after (flat hs) ≡ flat hs)
+begin [] all = (refl, refl)
+begin ([] ∷ hs) all = absurd (false≢true all)
+begin ((first ∷ others) ∷ hs) all =
+    let is = (and_parts _ _ (and_parts (is_header (first ∷ others)) _ all).0).0 in
+    let plain = begins-no first is in
+    (more-no first (others ++ flat hs) plain, after-no first (others ++ flat hs) plain)
+
+-- headers one after the other are those of their lines
+pub headers-flat : (hs : List Header) → list_all is_header hs ≡ true → headers (flat hs) ≡ hs
+headers-flat [] all = refl
+headers-flat ([] ∷ hs) all = absurd (false≢true all)
+headers-flat ((first ∷ others) ∷ hs) all =
+    let both = and_parts (is_header (first ∷ others)) _ all in
+    let continued = (and_parts (begins_header first) _ both.0).1 in
+    let rest = begin hs both.1 in
+    headers-cons first (others ++ flat hs)
+    ∙ ap (λ t. (first ∷ t) ∷ headers (after (others ++ flat hs))) (more-append others (flat hs) continued rest.0)
+    ∙ ap (λ t. (first ∷ others) ∷ headers t) (after-append others (flat hs) continued rest.1)
+    ∙ ap (λ t. (first ∷ others) ∷ t) (headers-flat hs both.1)
+
+pub one-way : (lines : List Line) (hs : List Header) → AreHeaders lines hs → hs ≡ headers lines
+one-way lines hs are = sym (ap headers are.whole ∙ headers-flat hs are.each)
+
+-- ---- parts
+
+round_empty : (lines : List Line) → list_any is_empty lines ≡ true → AreParts lines (head_part lines) (body_part lines)
+round_empty [] h = absurd (false≢true h)
+round_empty ([] ∷ lines) h = record { whole = refl; none = refl }
+round_empty ((c ∷ cs) ∷ lines) h = let rest = round_empty lines h in record { whole = ap (λ t. (c ∷ cs) ∷ t) rest.whole; none = rest.none }
+
+pub parts-iff : (lines head body : List Line) → AreParts lines head body ↔ (IsTrue (list_any is_empty lines) × (head ≡ head_part lines) × (body ≡ body_part lines))
+parts-iff lines head body = (to, from) where
+  to : AreParts lines head body → IsTrue (list_any is_empty lines) × (head ≡ head_part lines) × (body ≡ body_part lines)
+  to are =
+      let p = parts-split head body are.none in
+      (ap (list_any is_empty) are.whole ∙ p.2, sym (ap head_part are.whole ∙ p.0), sym (ap body_part are.whole ∙ p.1))
+
+  from : IsTrue (list_any is_empty lines) × (head ≡ head_part lines) × (body ≡ body_part lines) → AreParts lines head body
+  from h = let are = round_empty lines h.0 in rw (h.1, h.2) are

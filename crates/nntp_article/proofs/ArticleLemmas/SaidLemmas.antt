@@ -1,0 +1,134 @@
+-- What the lines so far leave to say of the id, line by line.
+use Rattle.std.proofs.Common.{Bor, ◌≡◌, ◌≢◌, ℕ, Bool, true, false, List, [], ◌∷◌, ◌++◌, Option, None, Some, refl, sym, ◌∙◌, ap, inl, inr, ◌⊎◌}
+use Rattle.std.proofs.lemmas.Bool.{false≢true, true≢false, or_cases, eqb-true}
+use Rattle.std.specs.Prelude.{◌==◌, not, if◌then◌else◌, codes}
+use Rattle.std.specs.Option.{SomeIff}
+use Rattle.std.specs.List.{filter, flat_map, concat, prefix_len, before_first, after_first}
+use Rattle.nntp_wire.specs.Octets.{is_blank}
+use Rattle.nntp_wire.specs.Words.{words_of, is_same_word}
+use Rattle.nntp_wire.specs.Name.{IsMessageId}
+use Rattle.nntp_wire.specs.Decided.{is_message_id}
+use Rattle.nntp_wire.proofs.DecidedLemmas.{message_id-iff}
+use Rattle.nntp_article.specs.Article.Parts.{Line, Id, Header, is_continuation, is_colon, headers, is_named, only_id, said_id}
+use Rattle.nntp_article.specs.Article.SaidId.{id_of_words, id_alone, id_with, ids_behind}
+use Rattle.nntp_article.specs.declared.article.said_id.Found.{Found}
+use Rattle.nntp_article.specs.declared.article.said_id.Found.TheVariants.{NoHeader, NoWord, Word, NoId}
+use Rattle.nntp_article.proofs.ArticleLemmas.HeadLemmas.{one-more, more, after, more-yes, more-no, more-all, after-yes, after-no, headers-cons}
+use Rattle.nntp_article.proofs.ArticleLemmas.WordLemmas.{words-lines}
+use Rattle.nntp_article.proofs.ArticleLemmas.IdLemmas.{content-id}
+
+abbrev is_id_header : Header → Bool
+is_id_header header = is_named (codes "Message-ID") header
+
+-- the words that follow in an open header
+abbrev pub words_behind : Bool → List Line → List (List ℕ)
+words_behind is_open lines = if is_open then flat_map words_of (more lines) else []
+
+-- no name begins with a blank
+blank_name : (b : ℕ) (bs : List ℕ) → is_blank b ≡ true → is_same_word (before_first is_colon (b ∷ bs)) (codes "Message-ID") ≡ false
+blank_name b bs h = at (or_cases (b == 32) (b == 9) h) where
+  at : (((b == 32) ≡ true) ⊎ ((b == 9) ≡ true)) → is_same_word (before_first is_colon (b ∷ bs)) (codes "Message-ID") ≡ false
+  at (inl is) = let e : b ≡ 32 = eqb-true b 32 is in rw (e, one-more (prefix_len (λ c. not (is_colon c)) bs)) refl
+  at (inr is) = let e : b ≡ 9 = eqb-true b 9 is in rw (e, one-more (prefix_len (λ c. not (is_colon c)) bs)) refl
+
+continuation_name : (line : Line) (lines : List Line) → is_continuation line ≡ true → is_id_header (line ∷ lines) ≡ false
+continuation_name [] lines h = absurd (false≢true h)
+continuation_name (b ∷ bs) lines h = blank_name b bs h
+
+-- ---- the Message-ID headers behind a line
+
+behind-yes : (line : Line) (lines : List Line) → is_continuation line ≡ true → ids_behind (line ∷ lines) ≡ ids_behind lines
+behind-yes line lines h = ap (λ t. filter is_id_header (headers t)) (after-yes line lines h)
+
+behind-no : (line : Line) (lines : List Line) → is_continuation line ≡ false → ids_behind (line ∷ lines) ≡ filter is_id_header ((line ∷ more lines) ∷ headers (after lines))
+behind-no line lines h = ap (λ t. filter is_id_header (headers t)) (after-no line lines h) ∙ ap (filter is_id_header) (headers-cons line lines)
+
+behind-named : (line : Line) (lines : List Line) → is_continuation line ≡ false → is_id_header (line ∷ more lines) ≡ true → ids_behind (line ∷ lines) ≡ (line ∷ more lines) ∷ ids_behind lines
+behind-named line lines h named = behind-no line lines h ∙ (rw named refl)
+
+behind-other : (line : Line) (lines : List Line) → is_continuation line ≡ false → is_id_header (line ∷ more lines) ≡ false → ids_behind (line ∷ lines) ≡ ids_behind lines
+behind-other line lines h named = behind-no line lines h ∙ (rw named refl)
+
+-- ---- no line
+
+pub said-none : (lines : List Line) → only_id (ids_behind lines) ≡ said_id lines
+said-none [] = refl
+said-none (line ∷ lines) = at (is_continuation line) refl where
+  at : (v : Bool) → is_continuation line ≡ v → only_id (ids_behind (line ∷ lines)) ≡ said_id (line ∷ lines)
+  at true h =
+      let first = continuation_name line (more lines) h in
+      ap only_id (behind-yes line lines h) ∙ sym (ap (λ t. only_id (filter is_id_header t)) (headers-cons line lines) ∙ (rw first refl))
+  at false h = ap (λ t. only_id (filter is_id_header (headers t))) (after-no line lines h)
+
+-- ---- a continuation line
+
+pub continued-closed : (found : Found) (is_open : Bool) (line : Line) (lines : List Line) → is_continuation line ≡ true → is_open ≡ false
+    → id_with found (words_behind is_open lines) (ids_behind lines) ≡ id_with found (words_behind is_open (line ∷ lines)) (ids_behind (line ∷ lines))
+continued-closed found true line lines h closed = absurd (true≢false closed)
+continued-closed found false line lines h closed = ap (id_with found []) (sym (behind-yes line lines h))
+
+pub continued-open : (found new : Found) (is_open : Bool) (line : Line) (lines : List Line) → is_continuation line ≡ true → is_open ≡ true
+    → ((words : List (List ℕ)) (ids : List Header) → id_with new words ids ≡ id_with found (words_of line ++ words) ids)
+    → id_with new (flat_map words_of (more lines)) (ids_behind lines) ≡ id_with found (words_behind is_open (line ∷ lines)) (ids_behind (line ∷ lines))
+continued-open found new false line lines h opened by = absurd (false≢true opened)
+continued-open found new true line lines h opened by =
+    by (flat_map words_of (more lines)) (ids_behind lines)
+    ∙ ap (id_with found (words_of line ++ flat_map words_of (more lines))) (sym (behind-yes line lines h))
+    ∙ ap (λ t. id_with found (flat_map words_of t) (ids_behind (line ∷ lines))) (sym (more-yes line lines h))
+
+-- ---- a first line
+
+-- no word of an open header follows
+closed_words : (is_open : Bool) (line : Line) (lines : List Line) → is_continuation line ≡ false → words_behind is_open (line ∷ lines) ≡ []
+closed_words false line lines h = refl
+closed_words true line lines h = ap (flat_map words_of) (more-no line lines h)
+
+pub begun-other : (found : Found) (is_open : Bool) (line : Line) (lines : List Line) → is_continuation line ≡ false → is_same_word (before_first is_colon line) (codes "Message-ID") ≡ false
+    → id_with found [] (ids_behind lines) ≡ id_with found (words_behind is_open (line ∷ lines)) (ids_behind (line ∷ lines))
+begun-other found is_open line lines h other =
+    ap (id_with found []) (sym (behind-other line lines h other)) ∙ ap (λ t. id_with found t (ids_behind (line ∷ lines))) (sym (closed_words is_open line lines h))
+
+-- the id of the only header, by its words
+only-words : (line : Line) (lines : List Line) (ids : List Header) → only_id ((line ∷ more lines) ∷ ids) ≡ id_alone (words_of (after_first is_colon line) ++ flat_map words_of (more lines)) ids
+only-words line lines [] =
+    content-id (after_first is_colon line ++ concat (more lines)) ∙ ap id_of_words (words-lines (after_first is_colon line) (more lines) (more-all lines))
+only-words line lines (id ∷ ids) = refl
+
+pub begun-first : (found new : Found) (is_open : Bool) (line value : Line) (lines : List Line) → is_continuation line ≡ false → is_same_word (before_first is_colon line) (codes "Message-ID") ≡ true
+    → found ≡ NoHeader → value ≡ after_first is_colon line
+    → ((words : List (List ℕ)) (ids : List Header) → id_with new words ids ≡ id_with NoWord (words_of value ++ words) ids)
+    → id_with new (flat_map words_of (more lines)) (ids_behind lines) ≡ id_with found (words_behind is_open (line ∷ lines)) (ids_behind (line ∷ lines))
+begun-first found new is_open line value lines h named none is by =
+    by (flat_map words_of (more lines)) (ids_behind lines)
+    ∙ ap (λ t. id_alone (words_of t ++ flat_map words_of (more lines)) (ids_behind lines)) is
+    ∙ sym (only-words line lines (ids_behind lines))
+    ∙ ap only_id (sym (behind-named line lines h named))
+    ∙ ap (λ f. id_with f (words_behind is_open (line ∷ lines)) (ids_behind (line ∷ lines))) (sym none)
+
+pub begun-again : (found : Found) (is_open : Bool) (line : Line) (lines : List Line) → is_continuation line ≡ false → is_same_word (before_first is_colon line) (codes "Message-ID") ≡ true
+    → found ≢ NoHeader
+    → None ≡ id_with found (words_behind is_open (line ∷ lines)) (ids_behind (line ∷ lines))
+begun-again found is_open line lines h named some =
+    at found some ∙ ap (id_with found (words_behind is_open (line ∷ lines))) (sym (behind-named line lines h named))
+  where
+    at : (found : Found) → found ≢ NoHeader → None ≡ id_with found (words_behind is_open (line ∷ lines)) ((line ∷ more lines) ∷ ids_behind lines)
+    at NoHeader some = absurd (some refl)
+    at NoWord some = refl
+    at (Word word) some = refl
+    at NoId some = refl
+
+-- ---- the end
+
+-- a word that was tested for an id
+pub tested-id : (word : List ℕ) (r : Option Id) → SomeIff r (IsMessageId word) word → r ≡ (if is_message_id word then Some word else None)
+tested-id word r is = at (is_message_id word) refl r is where
+  at : (v : Bool) → is_message_id word ≡ v → (r : Option Id) → SomeIff r (IsMessageId word) word → r ≡ (if is_message_id word then Some word else None)
+  at true e None none = absurd (none ((message_id-iff word).0 e))
+  at true e (Some x) is = rw e (ap Some is.1)
+  at false e None none = rw e refl
+  at false e (Some x) is = absurd (false≢true (sym e ∙ (message_id-iff word).1 is.0))
+
+pub ended-word : (found : Found) (is_open : Bool) (word : Bor Line) → found ≡ Word word
+    → (if is_message_id word.now then Some word.now else None) ≡ id_with found (words_behind is_open []) (ids_behind [])
+ended-word found true word is = ap (λ f. id_with f [] []) (sym is)
+ended-word found false word is = ap (λ f. id_with f [] []) (sym is)

@@ -1,0 +1,100 @@
+-- The words of a content, and of the lines that it stands on.
+use Rattle.std.proofs.Common.{◌≡◌, ℕ, ◌<◌, Bool, true, false, List, [], ◌∷◌, ◌++◌, length, refl, sym, ◌∙◌, ap, arith, append-nil}
+use Rattle.std.proofs.lemmas.Bool.{false≢true}
+use Rattle.std.proofs.lemmas.Bool.Decides.{nat_tests}
+use Rattle.std.proofs.lemmas.List.Splits.{slice_split-cons_yes, length-slice_split}
+use Rattle.std.specs.Prelude.{◌&&◌}
+use Rattle.std.specs.List.{list_all, flat_map, filter, concat, slice_split, onto_first}
+use Rattle.nntp_wire.specs.Octets.{is_blank}
+use Rattle.nntp_wire.specs.Words.{words_of, is_some_octets}
+use Rattle.nntp_wire.proofs.WordLemmas.{words_of-blank}
+use Rattle.nntp_article.specs.Article.Parts.{Line, is_continuation, skip_blanks, skip_last_blanks}
+
+-- parts before a place that is split at, and behind it
+split-append : (octets : List ℕ) (b : ℕ) (rest : List ℕ) → is_blank b ≡ true → slice_split is_blank (octets ++ b ∷ rest) ≡ slice_split is_blank octets ++ slice_split is_blank rest
+split-append [] b rest h = slice_split-cons_yes is_blank b rest h
+split-append (x ∷ xs) b rest h = at (is_blank x) refl (split-append xs b rest h) where
+  onto : (parts more : List (List ℕ)) → 0 < length parts → onto_first x (parts ++ more) ≡ onto_first x parts ++ more
+  onto [] more some = absurd (omega arith)
+  onto (part ∷ parts) more some = refl
+
+  at : (v : Bool) → is_blank x ≡ v → slice_split is_blank (xs ++ b ∷ rest) ≡ slice_split is_blank xs ++ slice_split is_blank rest
+      → slice_split is_blank ((x ∷ xs) ++ b ∷ rest) ≡ slice_split is_blank (x ∷ xs) ++ slice_split is_blank rest
+  at true e others = rw e (ap (λ t. [] ∷ t) others)
+  at false e others =
+      let some : 0 < length (slice_split is_blank xs) = omega (arith, length-slice_split is_blank xs) in
+      rw e (ap (onto_first x) others ∙ onto (slice_split is_blank xs) (slice_split is_blank rest) some)
+
+filter-append : (test : List ℕ → Bool) (xs ys : List (List ℕ)) → filter test (xs ++ ys) ≡ filter test xs ++ filter test ys
+filter-append test [] ys = refl
+filter-append test (x ∷ xs) ys = at (test x) refl (filter-append test xs ys) where
+  at : (v : Bool) → test x ≡ v → filter test (xs ++ ys) ≡ filter test xs ++ filter test ys → filter test ((x ∷ xs) ++ ys) ≡ filter test (x ∷ xs) ++ filter test ys
+  at true e others = rw e (ap (λ t. x ∷ t) others)
+  at false e others = rw e others
+
+-- no word goes over a blank
+pub words-append : (octets : List ℕ) (b : ℕ) (rest : List ℕ) → is_blank b ≡ true → words_of (octets ++ b ∷ rest) ≡ words_of octets ++ words_of (b ∷ rest)
+words-append octets b rest h =
+    ap (filter is_some_octets) (split-append octets b rest h)
+    ∙ filter-append is_some_octets (slice_split is_blank octets) (slice_split is_blank rest)
+    ∙ ap (λ t. words_of octets ++ t) (sym (words_of-blank b rest h))
+
+-- no word goes over the end of a line that is continued
+pub words-lines : (octets : List ℕ) (lines : List Line) → list_all is_continuation lines ≡ true → words_of (octets ++ concat lines) ≡ words_of octets ++ flat_map words_of lines
+words-lines octets [] h = ap words_of (append-nil octets) ∙ sym (append-nil (words_of octets))
+words-lines octets ([] ∷ lines) h = absurd (false≢true h)
+words-lines octets ((b ∷ bs) ∷ lines) h =
+    let both = parts (is_blank b) _ h in
+    words-append octets b (bs ++ concat lines) both.0 ∙ ap (λ t. words_of octets ++ t) (words-lines (b ∷ bs) lines both.1)
+  where
+    parts : (a c : Bool) → (a && c) ≡ true → (a ≡ true) × (c ≡ true)
+    parts a c e = grind (arith, nat_tests)
+
+-- blanks have no word
+pub words-blank : (octets : List ℕ) → list_all is_blank octets ≡ true → words_of octets ≡ []
+words-blank [] h = refl
+words-blank (b ∷ bs) h = at (is_blank b) refl (words-blank bs) h where
+  at : (v : Bool) → is_blank b ≡ v → (list_all is_blank bs ≡ true → words_of bs ≡ []) → list_all is_blank (b ∷ bs) ≡ true → words_of (b ∷ bs) ≡ []
+  at true e others all = let rest : list_all is_blank bs ≡ true = rw e at all in words_of-blank b bs e ∙ others rest
+  at false e others all = let none : false ≡ true = rw e at all in absurd (false≢true none)
+
+-- blanks behind have none either
+pub words-then_blank : (octets tail : List ℕ) → list_all is_blank tail ≡ true → words_of (octets ++ tail) ≡ words_of octets
+words-then_blank octets [] h = ap words_of (append-nil octets)
+words-then_blank octets (b ∷ bs) h =
+    let first = parts (is_blank b) _ h in
+    words-append octets b bs first ∙ ap (λ t. words_of octets ++ t) (words-blank (b ∷ bs) h) ∙ append-nil (words_of octets)
+  where
+    parts : (a c : Bool) → (a && c) ≡ true → a ≡ true
+    parts a c e = grind (arith, nat_tests)
+
+pub skip-blank : (b : ℕ) (bs : List ℕ) → is_blank b ≡ true → skip_blanks (b ∷ bs) ≡ skip_blanks bs
+skip-blank b bs e = rw e refl
+
+pub skip-other : (b : ℕ) (bs : List ℕ) → is_blank b ≡ false → skip_blanks (b ∷ bs) ≡ b ∷ bs
+skip-other b bs e = rw e refl
+
+pub words-skip : (octets : List ℕ) → words_of (skip_blanks octets) ≡ words_of octets
+words-skip [] = refl
+words-skip (b ∷ bs) = at (is_blank b) refl (words-skip bs) where
+  at : (v : Bool) → is_blank b ≡ v → words_of (skip_blanks bs) ≡ words_of bs → words_of (skip_blanks (b ∷ bs)) ≡ words_of (b ∷ bs)
+  at true e others = ap words_of (skip-blank b bs e) ∙ others ∙ sym (words_of-blank b bs e)
+  at false e others = ap words_of (skip-other b bs e)
+
+-- what is cut off at the end is blank
+pub record EndsBlank (octets : List ℕ) : Type 0 where
+  pub tail : List ℕ
+  pub blank : list_all is_blank tail ≡ true
+  pub whole : octets ≡ skip_last_blanks octets ++ tail
+
+pub ends_blank : (octets : List ℕ) → EndsBlank octets
+ends_blank [] = record { tail = []; blank = refl; whole = refl }
+ends_blank (b ∷ bs) = at (list_all is_blank (b ∷ bs)) refl (ends_blank bs) where
+  at : (v : Bool) → list_all is_blank (b ∷ bs) ≡ v → EndsBlank bs → EndsBlank (b ∷ bs)
+  at true e rest = record { tail = b ∷ bs; blank = e; whole = rw e refl }
+  at false e rest = record { tail = rest.tail; blank = rest.blank; whole = rw e (ap (λ t. b ∷ t) rest.whole) }
+
+pub words-skip_last : (octets : List ℕ) → words_of (skip_last_blanks octets) ≡ words_of octets
+words-skip_last octets =
+    let end = ends_blank octets in
+    sym (words-then_blank (skip_last_blanks octets) end.tail end.blank) ∙ ap words_of (sym end.whole)

@@ -1,0 +1,24 @@
+-- The first key of a map from numbers is its least.
+use Rattle.std.proofs.Common.{◌≡◌, ℕ, ◌<◌, ◌≤◌, T, None, MatchOption, IsSome, List, [], ◌∷◌, map, refl, arith}
+use Rattle.std.specs.Prelude.{slice_get}
+use Rattle.std.specs.Ordering.{nat_cmp}
+use Rattle.std.specs.Cmp.{unsigned_tied}
+use Rattle.std.specs.FinMap.{FinMap, get, find, is_sorted, entries, entries_sorted, get-entries, keys}
+use Rattle.std.specs.FinMap.Entries.{below_all}
+use Rattle.std.proofs.lemmas.Bool.Decides.{nat_tests}
+
+-- a number below all keys is below each that is found
+below_found : {X : Type 0} (x : ℕ) (es : List (ℕ × X)) (m : ℕ) → T (below_all nat_cmp x es) → IsSome (find nat_cmp m es) → x < m
+below_found x [] m h s = grind (arith, nat_tests)
+below_found x (e ∷ es) m h s =
+    let rest = below_found x es m in
+    grind (arith, nat_tests, rest, unsigned_tied m e.0)
+
+pub first_of : {X : Type 0} (es : List (ℕ × X)) → T (is_sorted nat_cmp es)
+    → MatchOption (slice_get (map (λ e. e.0) es) 0) ((m : ℕ) → find nat_cmp m es ≡ None)
+    (λ n. IsSome (find nat_cmp n es) × ((m : ℕ) → IsSome (find nat_cmp m es) → n ≤ m))
+first_of [] h = λ m. refl
+first_of (e ∷ es) h = (grind (arith, nat_tests, unsigned_tied e.0 e.0), λ m s. grind (arith, nat_tests, below_found e.0 es m, unsigned_tied m e.0))
+
+pub first_of_map : {X : Type 0} (N : FinMap nat_cmp X) → MatchOption (slice_get (keys N) 0) ((m : ℕ) → get N m ≡ None) (λ n. IsSome (get N n) × ((m : ℕ) → IsSome (get N m) → n ≤ m))
+first_of_map N = simp get-entries (first_of (entries N) (entries_sorted N))

@@ -1,0 +1,12 @@
+use Rattle.std.proofs.Common.{◌≡◌, length}
+use Rattle.std.specs.List.{list_all}
+use Rattle.nntp_article.specs.Article.Parts.{is_head_line}
+use Rattle.nntp_wire.specs.Held.{held}
+use Rattle.nntp_article.proofs.article.said_id.are_head_lines.Given as goal
+
+-- the lines that are left decide
+abbrev pub invariant-loop-line : goal.invariant-loop-line
+invariant-loop-line g l = list_all is_head_line (held l.rest) ≡ list_all is_head_line (held l.lines)
+
+abbrev pub decreases-loop-line : goal.decreases-loop-line
+decreases-loop-line g l = length l.rest

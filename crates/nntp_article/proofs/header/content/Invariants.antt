@@ -1,6 +1,0 @@
-use Rattle.nntp_article.proofs.ContentLemmas.{Leads}
-use Rattle.nntp_article.proofs.header.content.Given as goal
-
--- the octets so far lead to the content
-abbrev pub invariant-loop-line : goal.invariant-loop-line
-invariant-loop-line g l = Leads l.octets.items l.lines l.header

@@ -1,0 +1,6 @@
+pub mod Machine
+pub mod Spool
+pub mod Explains
+pub mod Coded
+pub mod Ascending
+pub mod Limit

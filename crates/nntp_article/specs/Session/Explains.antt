@@ -1,0 +1,31 @@
+-- A spool explains what client and server sent (RFC 3977, sections 3.1 and 3.5).
+use Rattle.std.specs.Prelude.{◌≡◌, ◌≢◌, ℕ, ◌+◌, List, [], ◌++◌, length}
+use Rattle.nntp_wire.specs.Answer.{Response}
+use Rattle.nntp_wire.specs.Session.{prompts_of, Spelled}
+use Rattle.nntp_article.specs.Session.Spool.{Spool, IsSpool}
+use Rattle.nntp_article.specs.declared.session.profile.Profile.{Profile}
+use Rattle.nntp_article.specs.Session.Machine.{Run, start}
+
+-- the spool permits the first n answers, and the server's octets go on with the rest
+pub record ExplainsUpTo (profile : Profile) (S : Spool) (client server : List ℕ) (n : ℕ) (rest : List ℕ) : Type 0 where
+  pub is_spool : IsSpool profile.limit S
+  pub answers : List Response
+  pub octets : List ℕ
+  pub count : length answers ≡ n
+  pub run : Run profile S start (prompts_of client) answers
+  pub spelled : Spelled (prompts_of client) answers octets
+  pub whole : server ≡ octets ++ rest
+
+-- the spool explains both streams, with n answers
+abbrev pub Explains : Profile → Spool → List ℕ → List ℕ → ℕ → Type 0
+Explains profile S client server n = ExplainsUpTo profile S client server n []
+
+-- the spool explains the answers 0 to k
+abbrev pub ExplainsFirst : Profile → Spool → List ℕ → List ℕ → ℕ → Type 0
+ExplainsFirst profile S client server k = (rest : List ℕ) × ExplainsUpTo profile S client server (k + 1) rest
+
+-- some spool explains the answers before k, octets are left, and no spool explains the answers 0 to k
+abbrev pub Bad : Profile → List ℕ → List ℕ → ℕ → Type 0
+Bad profile client server k =
+    ((S : Spool) × (rest : List ℕ) × ExplainsUpTo profile S client server k rest × (rest ≢ []))
+    × ((S : Spool) → ExplainsFirst profile S client server k → ⊥)

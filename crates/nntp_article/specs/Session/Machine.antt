@@ -1,0 +1,249 @@
+-- The machine over one spool: states, what may be answered in a state, and runs (RFC 3977, sections 3.2.1, 5, 6 and 7.6).
+use Rattle.std.specs.Prelude.{◌≡◌, ℕ, ◌+◌, ◌-◌, ◌≤◌, ◌↔◌, Bool, true, false, not, ◌&&◌, ◌||◌, ◌==◌, nat_lt, nat_le}
+use Rattle.std.specs.Prelude.{if◌then◌else◌, cond, IsTrue, IsFalse, List, [], ◌∷◌, Option, None, Some, is_some, is_none}
+use Rattle.std.specs.Prelude.{MatchOption, IfSome, unwrap_or, Contains, All, map, ⊤}
+use Rattle.std.specs.List.{list_any, list_all}
+use Rattle.std.specs.Option.{option_map_or, option_or}
+use Rattle.std.specs.Cmp.Lexicographic.{slice_cmp, pointwise}
+use Rattle.std.specs.Ordering.{nat_cmp}
+use Rattle.std.specs.FinMap.{FinMap, get, insert, len, empty}
+use Rattle.nntp_wire.specs.Command.{Target, by_id, by_number, current, Request, capabilities, mode_reader, next, last, quit, opaque, ill_formed, group, list_group, retrieve, list_active}
+use Rattle.nntp_wire.specs.Answer.{Asked, greeting, to, Success, Response, group_is, numbers_are, sends, active_are, plain, success_code}
+use Rattle.nntp_wire.specs.declared.water_marks.WaterMarks.{WaterMarks}
+use Rattle.nntp_wire.specs.declared.marks.Marks.{Marks}
+use Rattle.nntp_wire.specs.declared.marks.Marks.TheVariants.{Lenient, Strict}
+use Rattle.nntp_wire.specs.Listing.{ActiveValue, listed_numbers, active_groups}
+use Rattle.nntp_wire.specs.Session.{closes}
+use Rattle.nntp_wire.specs.Wildmat.{MatchesName}
+use Rattle.nntp_wire.specs.declared.range.Range.{Range}
+use Rattle.nntp_wire.specs.declared.command.What.{What}
+use Rattle.nntp_wire.specs.declared.command.What.TheVariants.{Article, Head, Body, Stat}
+use Rattle.nntp_wire.specs.Decided.{matches_name}
+use Rattle.nntp_article.specs.Article.Parts.{Line, Id, is_empty, is_head, said_id, head_part}
+use Rattle.nntp_article.specs.Session.Spool.{Name, Spool, Numbers, IsGroup, IsNumber, numbers, least, IsNextAbove, IsNextBelow, NoneAbove, NoneBelow, Lists, HasText}
+use Rattle.nntp_article.specs.declared.session.profile.Profile.{Profile}
+
+-- what a session shows of its state, whatever the spool
+pub record Visible : Type 0 where
+  pub closed : Bool  -- the server closed the connection
+  pub selected : Option Name  -- the selected group
+  pub lows : FinMap (slice_cmp nat_cmp) ℕ  -- the greatest low mark of each name so far
+
+-- the state of a session: the current article is a number of the selected group, or none
+pub record State : Type 0 where
+  pub visible : Visible
+  pub current : Option ℕ
+
+-- before the greeting
+abbrev pub start : State
+start = record { visible = record { closed = false; selected = None; lows = empty }; current = None }
+
+-- ---- the visible condition
+
+-- the same octets
+abbrev pub is_same : List ℕ → List ℕ → Bool
+is_same xs ys = pointwise (λ a b. a == b) xs ys
+
+-- the code is one of these
+abbrev pub is_one_of : List ℕ → ℕ → Bool
+is_one_of codes code = list_any (λ c. c == code) codes
+
+-- the generic failures, which any command may be answered with
+abbrev pub is_generic : ℕ → Bool
+is_generic code = is_one_of (400 ∷ 401 ∷ 403 ∷ 480 ∷ 483 ∷ 500 ∷ 501 ∷ 502 ∷ 503 ∷ 504 ∷ []) code
+
+-- the codes of a greeting
+abbrev pub is_greeting : ℕ → Bool
+is_greeting code = is_one_of (200 ∷ 201 ∷ 400 ∷ 502 ∷ []) code
+
+-- the codes by which a command that isn't understood may be answered
+abbrev pub is_opaque : ℕ → Bool
+is_opaque code = code == 381 || nat_lt code 300 || nat_le 400 code
+
+-- an article number, where this is the greatest (RFC 3977, section 6)
+abbrev pub is_article_number : ℕ → ℕ → Bool
+is_article_number limit n = nat_le 1 n && nat_le n limit
+
+-- the marks of an empty group that say nothing more
+abbrev pub are_zeros : WaterMarks → Bool
+are_zeros m = m.estimate == 0 && (m.low == 0 && m.high == 0)
+
+-- marks of a 211: all zero; or from 1 to the limit, with room for the estimate, and the low one not below an earlier low mark of the name
+abbrev pub marks_fit : Profile → Visible → Name → WaterMarks → Bool
+marks_fit profile v name m =
+    are_zeros m
+    || (nat_le 1 m.low && nat_le m.high profile.limit && nat_le m.low (m.high + 1) && nat_le m.estimate (m.high + 1 - m.low)
+    && nat_le (unwrap_or (get v.lows name) 0) m.low)
+
+-- the range has the number
+abbrev pub is_in_range : Range → ℕ → Bool
+is_in_range r n = nat_le r.first n && option_map_or (λ greatest. nat_le n greatest) r.last true
+
+-- each number is greater than all before it
+abbrev pub is_ascending : List ℕ → Bool
+is_ascending [] = true
+is_ascending (n ∷ ns) = list_all (λ m. nat_lt n m) ns && is_ascending ns
+
+-- the head says this id, or none
+abbrev pub says_own_id : Id → List Line → Bool
+says_own_id id head = option_map_or (λ said. is_same said id) (said_id head) true
+
+-- what is sent has the parts that were asked for, and its head says the answered id, or none
+abbrev pub head_fits : What → Id → Option (List Line) → Bool
+head_fits Article id (Some lines) = list_any is_empty lines && is_head (head_part lines) && says_own_id id (head_part lines)
+head_fits Head id (Some lines) = is_head lines && says_own_id id lines
+head_fits Body id (Some lines) = true
+head_fits Stat id None = true
+head_fits what id lines = false
+
+-- marks of a listed group: both zero, or from 1 to the limit; and its name matches the wildmat, if one was given
+abbrev pub active_fits : Profile → Option (List ℕ) → ActiveValue → Bool
+active_fits profile p line =
+    ((line.low == 0 && line.high == 0) || (nat_le 1 line.low && nat_le line.low (line.high + 1) && nat_le line.high profile.limit))
+    && option_map_or (λ w. matches_name w line.name) p true
+
+-- no group is listed twice
+abbrev pub names_differ : List ActiveValue → Bool
+names_differ [] = true
+names_differ (line ∷ lines) = list_all (λ other. not (is_same line.name other.name)) lines && names_differ lines
+
+-- the number and the id of a success, by what was asked
+abbrev pub number_fits : Profile → Visible → Target → ℕ → Id → Bool
+number_fits profile v (by_id word) number id = is_same id word && (number == 0 || (is_some v.selected && is_article_number profile.limit number))
+number_fits profile v (by_number None) number id = false
+number_fits profile v (by_number (Some n)) number id = is_some v.selected && number == n && is_article_number profile.limit n
+number_fits profile v current number id = is_some v.selected && is_article_number profile.limit number
+
+-- an answer of a code alone, other than a generic failure
+abbrev pub code_fits : Visible → Request → ℕ → Bool
+code_fits v capabilities code = code == 101
+code_fits v mode_reader code = is_one_of (200 ∷ 201 ∷ []) code
+code_fits v quit code = code == 205
+code_fits v (group word) code = code == 411
+code_fits v (list_group None range) code = code == 412 && is_none v.selected
+code_fits v (list_group (Some word) range) code = code == 411
+code_fits v next code = (code == 412 && is_none v.selected) || (is_one_of (420 ∷ 421 ∷ []) code && is_some v.selected)
+code_fits v last code = (code == 412 && is_none v.selected) || (is_one_of (420 ∷ 422 ∷ []) code && is_some v.selected)
+code_fits v (retrieve what (by_id word)) code = code == 430
+code_fits v (retrieve what (by_number n)) code = (code == 412 && is_none v.selected) || (code == 423 && is_some v.selected)
+code_fits v (retrieve what current) code = (code == 412 && is_none v.selected) || (code == 420 && is_some v.selected)
+code_fits v (list_active p) code = false
+code_fits v opaque code = is_opaque code
+code_fits v ill_formed code = false
+
+-- the visible condition over an open state
+abbrev pub fits : Profile → Visible → Asked → Response → Bool
+fits profile v greeting (plain code) = is_greeting code
+fits profile v (to command) (plain code) = is_generic code || code_fits v command code
+fits profile v (to (group word)) (group_is m name) = is_same name word && marks_fit profile v name m
+fits profile v (to (list_group word range)) (numbers_are m name lines) =
+    option_map_or (is_same name) (option_or word v.selected) false && marks_fit profile v name m
+    && is_ascending (listed_numbers lines) && list_all (λ n. is_article_number profile.limit n && is_in_range range n) (listed_numbers lines)
+fits profile v (to next) (sends sent) = sent.code == 223 && is_some v.selected && is_article_number profile.limit sent.number
+fits profile v (to last) (sends sent) = sent.code == 223 && is_some v.selected && is_article_number profile.limit sent.number
+fits profile v (to (retrieve what which)) (sends sent) =
+    sent.code == success_code what && number_fits profile v which sent.number sent.id && head_fits what sent.id sent.block
+fits profile v (to (list_active p)) (active_are lines) = list_all (active_fits profile p) (active_groups lines) && names_differ (active_groups lines)
+fits profile v asked response = false
+
+-- ---- the condition over the spool
+
+-- the numbers of the selected group. Where none is selected this reads the empty name, which names no group
+abbrev pub selected_numbers : Spool → Visible → Numbers
+selected_numbers S v = numbers S (unwrap_or v.selected [])
+
+-- where marks are strict, and there is a number, both marks are numbers
+abbrev pub AreEnds : Marks → Numbers → WaterMarks → Type 0
+AreEnds Lenient N m = ⊤
+AreEnds Strict N m = (n : ℕ) → IsNumber N n → IsNumber N m.low × IsNumber N m.high
+
+-- there are at most as many numbers as estimated, all between the marks; so strict marks are the least and the greatest
+abbrev pub Bound : Marks → Numbers → WaterMarks → Type 0
+Bound marks N m = (len N ≤ m.estimate) × ((n : ℕ) → IsNumber N n → (m.low ≤ n) × (n ≤ m.high)) × AreEnds marks N m
+
+-- what a code alone says of the spool, other than a generic failure: by the command, and by the code where several fit
+abbrev pub CodeAgrees : Spool → State → Request → ℕ → Type 0
+CodeAgrees S s capabilities code = ⊤
+CodeAgrees S s mode_reader code = ⊤
+CodeAgrees S s quit code = ⊤
+CodeAgrees S s (group word) code = get S.groups word ≡ None
+CodeAgrees S s (list_group word range) code = IfSome word (λ name. get S.groups name ≡ None)
+CodeAgrees S s next code =
+    cond (code == 412) ⊤ (cond (code == 420) (s.current ≡ None) (MatchOption s.current ⊥ (NoneAbove (selected_numbers S s.visible))))
+CodeAgrees S s last code =
+    cond (code == 412) ⊤ (cond (code == 420) (s.current ≡ None) (MatchOption s.current ⊥ (NoneBelow (selected_numbers S s.visible))))
+CodeAgrees S s (retrieve what (by_id word)) code = get S.articles word ≡ None
+CodeAgrees S s (retrieve what (by_number n)) code = cond (code == 412) ⊤ (IfSome n (λ n. get (selected_numbers S s.visible) n ≡ None))
+CodeAgrees S s (retrieve what current) code = cond (code == 412) ⊤ (s.current ≡ None)
+CodeAgrees S s opaque code = ⊤
+CodeAgrees S s command code = ⊥
+
+-- the number of a success is one of the selected group, with the id
+abbrev pub NumberAgrees : Spool → State → Target → Success → Type 0
+NumberAgrees S s (by_id word) sent = IsFalse (sent.number == 0) → get (selected_numbers S s.visible) sent.number ≡ Some sent.id
+NumberAgrees S s (by_number n) sent = get (selected_numbers S s.visible) sent.number ≡ Some sent.id
+NumberAgrees S s current sent = (s.current ≡ Some sent.number) × (get (selected_numbers S s.visible) sent.number ≡ Some sent.id)
+
+-- exactly the matching groups are listed, and the marks bound their numbers
+abbrev pub ActivesAgree : Spool → Option (List ℕ) → List ActiveValue → Type 0
+ActivesAgree S p lines =
+    ((name : Name) → Contains (map (λ line. line.name) lines) name ↔ (IsGroup S name × IfSome p (λ w. MatchesName w name)))
+    × All (λ line. (n : ℕ) → IsNumber (numbers S line.name) n → (line.low ≤ n) × (n ≤ line.high)) lines
+
+-- the condition over the spool of an answer that fits, a row each: what no row names agrees with no spool
+abbrev pub Agrees : Marks → Spool → State → Asked → Response → Type 0
+Agrees marks S s greeting (plain code) = ⊤
+Agrees marks S s (to command) (plain code) = cond (is_generic code) ⊤ (CodeAgrees S s command code)
+Agrees marks S s (to (group word)) (group_is m name) = IsGroup S name × Bound marks (numbers S name) m
+Agrees marks S s (to (list_group word range)) (numbers_are m name lines) = IsGroup S name × Bound marks (numbers S name) m × Lists (numbers S name) range (listed_numbers lines)
+Agrees marks S s (to next) (sends sent) =
+    MatchOption s.current ⊥ (λ c. IsNextAbove (selected_numbers S s.visible) c sent.number) × (get (selected_numbers S s.visible) sent.number ≡ Some sent.id)
+Agrees marks S s (to last) (sends sent) =
+    MatchOption s.current ⊥ (λ c. IsNextBelow (selected_numbers S s.visible) c sent.number) × (get (selected_numbers S s.visible) sent.number ≡ Some sent.id)
+Agrees marks S s (to (retrieve what which)) (sends sent) = HasText S what sent.id sent.block × NumberAgrees S s which sent
+Agrees marks S s (to (list_active p)) (active_are lines) = ActivesAgree S p (active_groups lines)
+Agrees marks S s asked response = ⊥
+
+-- ---- the new state
+
+-- the group is selected, and its low mark kept, unless all three numbers are zero
+abbrev pub selects : Visible → WaterMarks → Name → Visible
+selects v m name = record v { selected = Some name; lows = if are_zeros m then v.lows else insert v.lows name m.low }
+
+-- what the answer leaves of the visible state
+abbrev pub visible_after : Visible → Asked → Response → Visible
+visible_after v asked (group_is m name) = selects v m name
+visible_after v asked (numbers_are m name lines) = selects v m name
+visible_after v asked response = record v { closed = v.closed || closes asked response }
+
+-- the current article: the first of a group that was selected, the one that a step or a number named, else as before
+abbrev pub current_after : Spool → State → Asked → Response → Option ℕ
+current_after S s asked (group_is m name) = least (numbers S name)
+current_after S s asked (numbers_are m name lines) = least (numbers S name)
+current_after S s (to next) (sends sent) = Some sent.number
+current_after S s (to last) (sends sent) = Some sent.number
+current_after S s (to (retrieve what (by_number n))) (sends sent) = Some sent.number
+current_after S s asked response = s.current
+
+-- the state that the answer leaves
+abbrev pub after : Spool → State → Asked → Response → State
+after S s asked response = record { visible = visible_after s.visible asked response; current = current_after S s asked response }
+
+-- ---- steps and runs
+
+-- the answer is permitted in the state
+pub record MayAnswer (profile : Profile) (S : Spool) (s : State) (asked : Asked) (response : Response) : Type 0 where
+  pub is_open : s.visible.closed ≡ false
+  pub fits_visible : IsTrue (fits profile s.visible asked response)
+  pub agrees : Agrees profile.marks S s asked response
+
+-- the answer is permitted, and leads to the new state
+pub record Permits (profile : Profile) (S : Spool) (s : State) (asked : Asked) (response : Response) (new : State) : Type 0 where
+  pub may : MayAnswer profile S s asked response
+  pub leads : new ≡ after S s asked response
+
+-- each answer is permitted for the prompt at its place, in the state that the one before left
+abbrev pub Run : Profile → Spool → State → List Asked → List Response → Type 0
+Run profile S s ps [] = ⊤
+Run profile S s [] (response ∷ more) = ⊥
+Run profile S s (asked ∷ ps) (response ∷ more) = (new : State) × Permits profile S s asked response new × Run profile S new ps more

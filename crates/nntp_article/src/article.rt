@@ -1,0 +1,20 @@
+//! Articles (RFC 3977, section 3.6; RFC 1036): their parts, heads, headers and control messages.
+mod control_headers;
+mod control_message;
+mod head;
+mod head_line;
+mod header;
+pub mod laws;
+mod missing_headers;
+mod parts;
+mod required_headers;
+mod said_id;
+
+pub use control_headers::control;
+pub use control_message::Control;
+pub use head::Head;
+pub use header::{Header, Headers, content};
+pub use missing_headers::Missing;
+pub use parts::Parts;
+pub use required_headers::missing;
+pub use said_id::lines_say;

@@ -1,0 +1,65 @@
+//! Answers of a code alone.
+ghost use Rattle.std.specs.Prelude.{◌≡◌};
+ghost use Rattle.nntp_wire.specs.Answer.{plain};
+ghost use Rattle.nntp_wire.specs.View.{asked, request};
+ghost use Rattle.nntp_article.specs.Session.Machine.{code_fits, fits, is_generic};
+
+use crate::session::profile::Profile;
+use crate::session::visible::Visible;
+use nntp_wire::{Command, Prompt, Which};
+use std::alloc::Allocator;
+
+/// Whether the code is a generic failure, which any command may be answered with (RFC 3977, section
+/// 3.2.1).
+pub fn is_generic_failure(code: u64) -> bool
+    ensures { result ≡ is_generic code }
+{
+    matches!(
+        code,
+        400 | 401 | 403 | 480 | 483 | 500 | 501 | 502 | 503 | 504
+    )
+}
+
+impl<A: Allocator> Visible<A> {
+    /// Whether an answer of this code alone fits.
+    pub(crate) fn fits_plain(&self, prompt: &Prompt<'_>, code: u64) -> bool
+        ensures { (profile : Profile) → result ≡ fits profile self.now (asked prompt.now) (plain code) }
+    {
+        match prompt {
+            Prompt::Greeting => matches!(code, 200 | 201 | 400 | 502),
+            Prompt::To(command) => is_generic_failure(code) || self.fits_code(command, code),
+        }
+    }
+
+    /// Whether the code, where it is no generic failure, fits the command.
+    fn fits_code(&self, command: &Command<'_>, code: u64) -> bool
+        ensures { result ≡ code_fits self.now (request command.now) code }
+    {
+        let is_selected = self.is_selected();
+        match command {
+            Command::Capabilities => code == 101,
+            Command::ModeReader => code == 200 || code == 201,
+            Command::Quit => code == 205,
+            Command::Group(_) => code == 411,
+            Command::ListGroup { group: None, .. } => code == 412 && !is_selected,
+            Command::ListGroup { group: Some(_), .. } => code == 411,
+            Command::Next => match code {
+                412 => !is_selected,
+                420 | 421 => is_selected,
+                _ => false,
+            },
+            Command::Last => match code {
+                412 => !is_selected,
+                420 | 422 => is_selected,
+                _ => false,
+            },
+            Command::Retrieve { which, .. } => match which {
+                Which::Id(_) => code == 430,
+                Which::Number(_) => (code == 412 && !is_selected) || (code == 423 && is_selected),
+                Which::Current => (code == 412 && !is_selected) || (code == 420 && is_selected),
+            },
+            Command::Opaque => code == 381 || code < 300 || code >= 400,
+            _ => false,
+        }
+    }
+}

@@ -1,0 +1,59 @@
+-- What stands together is given a spool, and whether some spool permits a session is decided.
+use Rattle.std.proofs.Common.{◌<◌, ◌^◌, ◌⊎◌, ◌↔◌, List, length, inl, inr}
+use Rattle.nntp_article.proofs.SessionLemmas.FiniteMapsDecided.{Dec, dec_both}
+use Rattle.nntp_article.proofs.SessionLemmas.AgreementDecided.{dec_run}
+use Rattle.nntp_article.specs.Session.Spool.{Spool, IsSpool}
+use Rattle.nntp_article.specs.declared.session.profile.Profile.{Profile}
+use Rattle.nntp_article.specs.Session.Machine.{Run, start}
+use Rattle.nntp_facts.specs.Facts.{FitsAll}
+use Rattle.nntp_facts.specs.Given.{IsGiven, facts_of_session, unshown_ids, size}
+use Rattle.nntp_facts.specs.Together.{Together}
+use Rattle.nntp_facts.specs.Permits.{SomePermits}
+use Rattle.nntp_facts.proofs.Given.GivenPermits.{stands, given_permits}
+use Rattle.nntp_facts.proofs.Session.NumbersOfShownGroups.{session_placed}
+use Rattle.nntp_facts.proofs.Session.FittingFacts.{session_fitting}
+use Rattle.nntp_facts.proofs.Session.NumbersWithinLimit.{free_in_limit}
+use Rattle.nntp_facts.proofs.Ids.SmallGivenSpool.{few_enough, unshown_ids_few}
+use Rattle.nntp_facts.proofs.Ids.InventedIds.{number-invented}
+use Rattle.nntp_facts.proofs.Given.ConstructedSpool.{made, made_group, made_given, made_is_given}
+use Rattle.nntp_facts.proofs.Given.SpoolsDecided.{dec_spool}
+use Rattle.nntp_wire.specs.Answer.{Asked, Response}
+
+-- the spool that is made for a session
+pub made_for : Profile → List Asked → List Response → Spool
+made_for profile ps answers = made profile.limit (10 ^ 64) (facts_of_session profile.marks ps answers)
+
+-- it is the given one, if the session fits
+pub given_exists : (profile : Profile) (ps : List Asked) (answers : List Response) → FitsAll profile start.visible ps answers
+    → size (facts_of_session profile.marks ps answers) < 2 ^ 210 → IsGiven (facts_of_session profile.marks ps answers)
+    (made_for profile ps answers)
+unfolding made_for
+given_exists profile ps answers fits small =
+    let facts = facts_of_session profile.marks ps answers in
+    let G = made profile.limit (10 ^ 64) facts in
+    let within = free_in_limit profile facts profile.marks (session_fitting profile ps answers fits) (session_placed profile ps answers fits) in
+    let group = made_group profile.limit (10 ^ 64) facts in
+    made_is_given profile.limit (10 ^ 64) facts number-invented (λ name shown e x. within name shown e x.first.1)
+    (few_enough facts (length (unshown_ids facts G)) small
+    (unshown_ids_few facts G (λ name. (group name).0) (λ name i. made_given profile.limit (10 ^ 64) facts name (λ e x. within name ((group name).0 i) e x.first.1) i)))
+
+-- some spool permits a session exactly if it fits and stands together
+pub permitted_together : (profile : Profile) (ps : List Asked) (answers : List Response)
+    → size (facts_of_session profile.marks ps answers) < 2 ^ 210 → SomePermits profile ps answers
+    ↔ (FitsAll profile start.visible ps answers × Together (facts_of_session profile.marks ps answers))
+permitted_together profile ps answers small = (
+  λ h. stands profile h.0 ps answers h.1 h.2,
+  λ h. (let p = given_permits profile (made_for profile ps answers) ps answers h.0 h.1 small (given_exists profile ps answers h.0 small) in (made_for profile ps answers, p.0, p.1)),
+)
+
+-- some spool permits a session, or none does
+pub some_or_none : (profile : Profile) (ps : List Asked) (answers : List Response) → size (facts_of_session profile.marks ps answers) < 2 ^ 210
+    → ((S : Spool) × IsSpool profile.limit S × Run profile S start ps answers) ⊎ ((S : Spool) → IsSpool profile.limit S → Run profile S start ps answers → ⊥)
+some_or_none profile ps answers small = by (dec_both (dec_spool profile.limit (made_for profile ps answers)) (dec_run profile (made_for profile ps answers) start ps answers))
+  where
+    by : Dec (IsSpool profile.limit (made_for profile ps answers) × Run profile (made_for profile ps answers) start ps answers)
+        → ((S : Spool) × IsSpool profile.limit S × Run profile S start ps answers) ⊎ ((S : Spool) → IsSpool profile.limit S → Run profile S start ps answers → ⊥)
+    by (inl h) = inl (made_for profile ps answers, h.0, h.1)
+    by (inr h) = inr (λ S spool run. let s = stands profile S ps answers spool run in h
+        (given_permits profile (made_for profile ps answers) ps answers s.0 s.1 small
+        (given_exists profile ps answers s.0 small)))

@@ -1,0 +1,30 @@
+-- The first number, by cases.
+use Rattle.std.proofs.Common.{◌≡◌, ℕ, ◌≤◌, Option, None, Some, is_some, refl, sym, ap, ◌∙◌, arith}
+use Rattle.std.specs.FinMap.{get}
+use Rattle.std.proofs.lemmas.Bool.{true≢false}
+use Rattle.nntp_article.specs.Session.Spool.{Numbers, IsNumber, IsFirst, least}
+use Rattle.nntp_article.proofs.SessionLemmas.LeastNumber.{first_of_map}
+
+-- there is no number, or there is a first one
+pub data Firsts (N : Numbers) : Type 0 where
+  Empty : least N ≡ None → ((m : ℕ) → IsNumber N m → ⊥) → Firsts N
+  Begins : (c : ℕ) → least N ≡ Some c → IsNumber N c → ((m : ℕ) → IsNumber N m → c ≤ m) → Firsts N
+
+pub not_number : (N : Numbers) (m : ℕ) → get N m ≡ None → IsNumber N m → ⊥
+not_number N m e h = true≢false (sym h ∙ ap is_some e)
+
+firsts_of : (N : Numbers) (o : Option ℕ) → least N ≡ o → IsFirst N o → Firsts N
+firsts_of N None e h = Empty e (λ m. not_number N m (h m))
+firsts_of N (Some c) e h = Begins c e h.0 h.1
+
+pub firsts : (N : Numbers) → Firsts N
+firsts N = firsts_of N (least N) refl (first_of_map N)
+
+pub least_is : (N : Numbers) (c : ℕ) → IsNumber N c → ((m : ℕ) → IsNumber N m → c ≤ m) → least N ≡ Some c
+least_is N c here all = elim (firsts N) [
+  | Empty e none ↦ absurd (none c here)
+  | Begins d e there all' ↦ e ∙ ap Some (let p = all d there in let q = all' c here in omega arith)
+]
+
+pub least_none : (N : Numbers) → ((m : ℕ) → IsNumber N m → ⊥) → least N ≡ None
+least_none N none = elim (firsts N) [ Empty e n ↦ e | Begins d e there all ↦ absurd (none d there) ]

@@ -1,0 +1,78 @@
+-- What is shown of the groups that are kept.
+use Rattle.std.proofs.Common.{◌≡◌, Bool, ◌==◌, ◌||◌, List, [], ◌∷◌, map, Some, refl, sym, ap, subst, ◌∙◌}
+use Rattle.std.specs.List.{list_any, AllByRecursion}
+use Rattle.std.specs.List.Sorted.{IsStrictlySortedBy}
+use Rattle.std.specs.BTreeMap.{is_at}
+use Rattle.std.specs.Ordering.{nat_cmp, eq_by_cmp}
+use Rattle.std.specs.Cmp.Lexicographic.{slice_cmp, nat_list_cmp_total}
+use Rattle.std.specs.FinMap.{FinMap, get, entries, entries_sorted, contains_key-keys, IsAntisymmetric, slice_cmp-IsAntisymmetric, nat_cmp-IsAntisymmetric}
+use Rattle.nntp_article.specs.Session.Spool.{Name}
+use Rattle.nntp_article.specs.Session.Machine.{is_same}
+use Rattle.nntp_facts.specs.Facts.{Fact}
+use Rattle.nntp_facts.specs.Given.{asks_of}
+use Rattle.nntp_facts.specs.Together.{AsksStand}
+use Rattle.nntp_facts.specs.Kept.{KeptGroup, IsKeptGroup, told, AreKeptGroups}
+use Rattle.nntp_facts.specs.Readers.{AreShownNumbers, HasShownNumbers, AreShownGroups, ShownGroup, with_ids, shown_group, shown_groups}
+use Rattle.nntp_facts.proofs.Keeping.KeptGroups.{kept_of, shown_kept}
+use Rattle.nntp_facts.proofs.Maps.{sorted_keys, in_get}
+use Rattle.nntp_facts.proofs.Members.{In, all_from, from_map}
+use Rattle.nntp_facts.proofs.Keeping.FactsOfOneGroup.{flip_number, flip_text}
+use Rattle.nntp_facts.proofs.Keeping.UnseenNumbers.{are_unseen}
+
+-- ---- lists that are made of another
+
+-- what is read off the made ones can be read off the others
+pub read_off : {A B C : Type 0} (f : C → A) (k : A → B) (h : C → B) (xs : List C) → ((x : C) → k (f x) ≡ h x) → map k (map f xs) ≡ map h xs
+read_off f k h [] same = refl
+read_off f k h (x ∷ xs) same = λ i. same x i ∷ read_off f k h xs same i
+
+-- a test of the made ones is one of the others
+pub any_along : {A B C : Type 0} (f : C → A) (h : C → B) (p : A → Bool) (q : B → Bool) (xs : List C) → ((x : C) → p (f x) ≡ q (h x)) → list_any p (map f xs) ≡ list_any q (map h xs)
+any_along f h p q [] same = refl
+any_along f h p q (x ∷ xs) same = λ i. same x i || any_along f h p q xs same i
+
+-- what holds of each of them
+pub all_along : {A C : Type 0} (P : A → Type 0) (f : C → A) (xs : List C) → ((x : C) → In x xs → P (f x)) → AllByRecursion P (map f xs)
+all_along P f xs each = all_from P (map f xs) (λ y i. let g = from_map f y xs i in subst P g.2 (each g.0 g.1))
+
+-- a list as it is
+map_same : {A : Type 0} (xs : List A) → map (λ x. x) xs ≡ xs
+map_same [] = refl
+map_same (x ∷ xs) = ap (λ ys. x ∷ ys) (map_same xs)
+
+-- ---- one group
+
+module _ (facts : List Fact) (name : Name) (g : KeptGroup) (stand : AsksStand (asks_of name facts)) (kept : IsKeptGroup (told facts name) g) where
+  -- its numbers, each with its id
+  shown_numbers : AreShownNumbers facts name (with_ids g g.numbers.shown)
+  shown_numbers = record {
+    ascending = subst (IsStrictlySortedBy nat_cmp) (sym (read_off (λ n. (n, get g.ids n)) (λ e. e.0) (λ n. n) g.numbers.shown (λ n. refl) ∙ map_same g.numbers.shown)) kept.numbers.ascends;
+    all = λ n. any_along (λ m. (m, get g.ids m)) (λ m. m) (λ e. e.0 == n) (is_at (nat_cmp n)) g.numbers.shown (λ m. sym (flip_number n m))
+        ∙ ap (list_any (is_at (nat_cmp n))) (map_same g.numbers.shown) ∙ kept.numbers.shown n;
+    ids = all_along (λ e. e.1 ≡ (told facts name).ids e.0) (λ n. (n, get g.ids n)) g.numbers.shown (λ n i. kept.ids n);
+  }
+
+  -- and those that are given beside them
+  has_shown : HasShownNumbers facts (shown_group name g)
+  has_shown = record { numbers = shown_numbers; unseen = are_unseen g.numbers (asks_of name facts) kept.numbers kept.bounded stand }
+
+-- ---- all groups
+
+-- what is shown of the groups that are kept is what the facts say
+pub groups_shown : (facts : List Fact) (groups : FinMap (slice_cmp nat_cmp) KeptGroup)
+    → ((name : Name) → AsksStand (asks_of name facts)) → AreKeptGroups facts groups → AreShownGroups facts (shown_groups groups)
+groups_shown facts groups stand kept = record {
+  ascending = subst (IsStrictlySortedBy (slice_cmp nat_cmp))
+      (sym (read_off one (λ g. g.name) (λ e. e.0) (entries groups) (λ e. refl)))
+      (sorted_keys (slice_cmp nat_cmp) (entries groups) (entries_sorted groups));
+  all = λ name. any_along one (λ e. e.0) (λ g. is_same g.name name) (eq_by_cmp (slice_cmp nat_cmp) name) (entries groups) (λ e. sym (flip_text name e.0))
+      ∙ sym (contains_key-keys groups name) ∙ shown_kept (told facts) groups name kept;
+  each = all_along (HasShownNumbers facts) one (entries groups) (λ e i.
+      has_shown facts e.0 e.1 (stand e.0) (kept_of (told facts) groups e.0 (Some e.1) (in_get nat_list_cmp_total same groups e.0 e.1 i) kept));
+}
+  where
+    one : Name × KeptGroup → ShownGroup
+    one e = shown_group e.0 e.1
+
+    same : IsAntisymmetric (slice_cmp nat_cmp)
+    same = slice_cmp-IsAntisymmetric nat_cmp-IsAntisymmetric

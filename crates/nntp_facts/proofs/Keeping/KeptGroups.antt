@@ -1,0 +1,134 @@
+-- What is kept of groups, once more is told of one.
+use Rattle.std.proofs.Common.{◌≡◌, ℕ, Bool, true, false, ◌==◌, cond, List, ◌++◌, Option, None, Some, is_some, MatchOption, refl, sym, ap, subst, ◌∙◌}
+use Rattle.std.specs.Option.{option_or}
+use Rattle.std.specs.FinMap.{FinMap, get, insert, empty, get-insert, get-empty, slice_cmp-IsAntisymmetric, nat_cmp-IsAntisymmetric}
+use Rattle.std.specs.Ordering.{nat_cmp, eq_by_cmp}
+use Rattle.std.specs.Cmp.{nat_cmp_total, IsTotalOrder}
+use Rattle.std.specs.declared.cmp.Ordering.{Ordering}
+use Rattle.std.specs.Cmp.Lexicographic.{slice_cmp, same_text, nat_list_cmp_total}
+use Rattle.std.specs.Prelude.{◌↔◌, IfSome}
+use Rattle.std.specs.List.{list_any}
+use Rattle.std.proofs.lemmas.Bool.{true≢false, eqb-true, or_left}
+use Rattle.std.proofs.lemmas.List.Folds.{list_any-append}
+use Rattle.nntp_wire.proofs.ShownMaps.{insert-same}
+use Rattle.nntp_article.specs.Article.Parts.{Id}
+use Rattle.nntp_article.specs.Session.Spool.{Name}
+use Rattle.nntp_article.specs.Session.Machine.{is_same}
+use Rattle.nntp_facts.specs.Asks.{Ask}
+use Rattle.nntp_facts.specs.Summary.{IsSummary, AreBounded}
+use Rattle.nntp_facts.specs.Given.{denies}
+use Rattle.nntp_facts.specs.Kept.{KeptGroup, Told, IsKeptGroup, IsUntold, AreKept, with_part, Changes, Agree, MayHave, MayShow, ids_with, places_with, id_of, place_of}
+use Rattle.nntp_facts.proofs.Together.TwoListsOfFacts.{or_none}
+use Rattle.nntp_facts.proofs.Keeping.FactsOfOneGroup.{IsOr, flip_number, flip_text}
+use Rattle.nntp_facts.proofs.Keeping.SilentFacts.{kept_at}
+
+abbrev pub Groups : Type 0
+Groups = FinMap (slice_cmp nat_cmp) KeptGroup
+
+-- what is kept of a group, or nothing
+pub kept_of : (tells : Name → Told) (groups : Groups) (name : Name) (o : Option KeptGroup) → get groups name ≡ o
+    → AreKept tells groups → MatchOption o (IsUntold (tells name)) (IsKeptGroup (tells name))
+kept_of tells groups name o is kept = subst (λ o. MatchOption o (IsUntold (tells name)) (IsKeptGroup (tells name))) is (kept name)
+
+-- a group that is shown is kept
+pub shown_kept : (tells : Name → Told) (groups : Groups) (name : Name) → AreKept tells groups → is_some (get groups name) ≡ (tells name).is_shown
+shown_kept tells groups name kept = by (get groups name) (kept name)
+  where
+    by : (o : Option KeptGroup) → MatchOption o (IsUntold (tells name)) (IsKeptGroup (tells name)) → is_some o ≡ (tells name).is_shown
+    by None h = sym h.not_shown
+    by (Some g) h = sym h.shown
+
+-- no number from 2^64 on is left open by more
+pub bounded_more : (asks more : List Ask) → AreBounded asks → AreBounded (asks ++ more)
+bounded_more asks more bounded n large = list_any-append (λ ask. denies ask n) asks more ∙ or_left (list_any (λ ask. denies ask n) asks) _ (bounded n large)
+
+-- one thing more is kept in a map
+grown : {K X : Type 0} {R : K → K → Ordering} (o : IsTotalOrder R) (m : FinMap R X) (p : Option X) (q k : K) (x : X) (b : Bool)
+    → eq_by_cmp R k q ≡ b → get m k ≡ p → (b ≡ true → IsOr p x) → get (insert m q x) k ≡ option_or p (cond b (Some x) None)
+grown {K} {X} {R} o m p q k x b same had agrees = get-insert o m q x k ∙ ap (λ b. cond b (Some x) (get m k)) same ∙ by b p had agrees
+  where
+    by : (b : Bool) (p : Option X) → get m k ≡ p → (b ≡ true → IsOr p x) → cond b (Some x) (get m k) ≡ option_or p (cond b (Some x) None)
+    by true None had agrees = refl
+    by true (Some y) had agrees = ap Some (agrees refl)
+    by false None had agrees = had
+    by false (Some y) had agrees = had
+
+-- the ids at numbers then, and the numbers of ids
+ids_grown : (t : Told) (ids : FinMap nat_cmp Id) (places : FinMap (slice_cmp nat_cmp) ℕ) (id : Option (ℕ × Id))
+    → ((n : ℕ) → get ids n ≡ t.ids n) → ((i : Id) → get places i ≡ t.places i) → MayShow t id
+    → ((n : ℕ) → get (ids_with ids id) n ≡ option_or (t.ids n) (id_of id n)) × ((i : Id) → get (places_with places id) i ≡ option_or (t.places i) (place_of id i))
+ids_grown t ids places None had was free = (λ n. had n ∙ sym (or_none (t.ids n)), λ i. was i ∙ sym (or_none (t.places i)))
+ids_grown t ids places (Some e) had was free = (
+  λ m. grown nat_cmp_total ids (t.ids m) e.0 m e.1 (e.0 == m) (flip_number m e.0) (had m) (λ s. subst (λ m. IsOr (t.ids m) e.1) (eqb-true e.0 m s) free.0),
+  λ i. grown nat_list_cmp_total places (t.places i) e.1 i e.0 (is_same e.1 i) (flip_text i e.1) (was i) (λ s. subst (λ i. IsOr (t.places i) e.0) (same_text e.1 i (sym s)) free.1),
+)
+
+-- more is said of a group that is kept
+pub part_kept : (before after : Name → Told) (groups : Groups) (name : Name) (g h : KeptGroup) (asks : List Ask) (id : Option (ℕ × Id)) → AreKept before groups → get groups name ≡ Some g
+    → MayShow (before name) id → Changes before after name (with_part (before name) asks id)
+    → IsSummary h.numbers ((before name).asks ++ asks) → h.ids ≡ ids_with g.ids id → h.places ≡ places_with g.places id
+    → AreKept after (insert groups name h)
+part_kept before after groups name g h asks id kept is free changes sum ids places =
+    let was = kept_of before groups name (Some g) is kept in
+    let grows = ids_grown (before name) g.ids g.places id was.ids was.places free in
+    kept_at before after groups name h kept changes.elsewhere (subst (λ t. IsKeptGroup t h) (sym changes.here) (record {
+      shown = refl;
+      bounded = bounded_more (before name).asks asks was.bounded;
+      numbers = sum;
+      ids = λ n. ap (λ m. get m n) ids ∙ grows.0 n;
+      places = λ i. ap (λ m. get m i) places ∙ grows.1 i;
+    }))
+
+-- a group is kept that wasn't
+pub new_kept : (before after : Name → Told) (groups : Groups) (name : Name) (h : KeptGroup) (asks : List Ask) (id : Option (ℕ × Id)) → AreKept before groups → get groups name ≡ None
+    → AreBounded asks → MayShow (before name) id → Changes before after name (with_part (before name) asks id) → IsSummary h.numbers asks → h.ids ≡ ids_with empty id → h.places ≡ places_with empty id
+    → AreKept after (insert groups name h)
+new_kept before after groups name h asks id kept none bounded free changes sum ids places =
+    let was = kept_of before groups name None none kept in
+    let grows = ids_grown (before name) empty empty id (λ n. get-empty nat_cmp n ∙ sym (was.no_ids n)) (λ i. get-empty (slice_cmp nat_cmp) i ∙ sym (was.no_places i)) free in
+    kept_at before after groups name h kept changes.elsewhere (subst (λ t. IsKeptGroup t h) (sym changes.here) (record {
+      shown = refl;
+      bounded = subst (λ asked. AreBounded (asked ++ asks)) (sym was.no_asks) bounded;
+      numbers = subst (λ asked. IsSummary h.numbers (asked ++ asks)) (sym was.no_asks) sum;
+      ids = λ n. ap (λ m. get m n) ids ∙ grows.0 n;
+      places = λ i. ap (λ m. get m i) places ∙ grows.1 i;
+    }))
+
+-- nothing has an id that may not have this one
+pub empty_may_have : (id : Option (ℕ × Id)) → MayHave empty empty id
+empty_may_have None = tt
+empty_may_have (Some e) = (subst (λ o. IfSome o (λ other. e.1 ≡ other)) (sym (get-empty nat_cmp e.0)) tt, subst (λ o. IfSome o (λ other. e.0 ≡ other)) (sym (get-empty (slice_cmp nat_cmp) e.1)) tt)
+
+-- where nothing is, nothing disagrees
+pub empty_agree : (g : KeptGroup) (id : Option (ℕ × Id)) → g.ids ≡ empty → Agree (get g.ids) (get g.places) id
+empty_agree g None no_ids = tt
+empty_agree g (Some e) no_ids = λ is. absurd (let none : None ≡ Some e.1 = sym (ap (λ m. get m e.0) no_ids ∙ get-empty nat_cmp e.0) ∙ is in cc)
+
+-- an id that is at its number already is put there again
+pub same_id : (g : KeptGroup) (n : ℕ) (id : Id) (there : Bool) → is_some (get g.ids n) ≡ there → there ≡ true → IsOr (get g.ids n) id → (get g.ids n ≡ Some id → get g.places id ≡ Some n)
+    → (g.ids ≡ insert g.ids n id) × (g.places ≡ insert g.places id n)
+same_id g n id there is known free each = by (get g.ids n) refl free
+  where
+    by : (o : Option Id) → get g.ids n ≡ o → IsOr o id → (g.ids ≡ insert g.ids n id) × (g.places ≡ insert g.places id n)
+    by None e f = absurd (true≢false (sym known ∙ sym is ∙ ap is_some e))
+    by (Some other) e f =
+        let here : get g.ids n ≡ Some id = e ∙ ap Some (sym f) in
+        (sym (insert-same nat_cmp_total nat_cmp-IsAntisymmetric g.ids n id here), sym (insert-same nat_list_cmp_total (slice_cmp-IsAntisymmetric nat_cmp-IsAntisymmetric) g.places id n (each here)))
+
+-- what is kept agrees where what is told does
+pub agree_kept : (t : Told) (g : KeptGroup) (id : Option (ℕ × Id)) → IsKeptGroup t g → Agree t.ids t.places id → Agree (get g.ids) (get g.places) id
+agree_kept t g None was each = tt
+agree_kept t g (Some e) was each = λ is. was.places e.1 ∙ each (sym (was.ids e.0) ∙ is)
+
+-- what is kept may have the id exactly if what is told may
+pub may_have_told : (t : Told) (g : KeptGroup) (id : Option (ℕ × Id)) → ((n : ℕ) → get g.ids n ≡ t.ids n) → ((i : Id) → get g.places i ≡ t.places i) → MayHave g.ids g.places id ↔ MayShow t id
+may_have_told t g None ids places = (λ h. tt, λ h. tt)
+may_have_told t g (Some e) ids places = (
+  λ h. (subst (λ o. IfSome o (λ other. e.1 ≡ other)) (ids e.0) h.0, subst (λ o. IfSome o (λ other. e.0 ≡ other)) (places e.1) h.1),
+  λ h. (subst (λ o. IfSome o (λ other. e.1 ≡ other)) (sym (ids e.0)) h.0, subst (λ o. IfSome o (λ other. e.0 ≡ other)) (sym (places e.1)) h.1),
+)
+
+-- of a group of which nothing is told, any id may be shown
+pub untold_may_show : (t : Told) (id : Option (ℕ × Id)) → IsUntold t → MayShow t id
+untold_may_show t None was = tt
+untold_may_show t (Some e) was = (subst (λ o. IfSome o (λ other. e.1 ≡ other)) (sym (was.no_ids e.0)) tt, subst (λ o. IfSome o (λ other. e.0 ≡ other)) (sym (was.no_places e.1)) tt)

@@ -1,0 +1,31 @@
+-- What is kept of names and groups once more facts are added.
+use Rattle.std.proofs.Common.{◌≡◌, false, List, ◌++◌, MatchOption, sym, subst, ◌∙◌}
+use Rattle.std.specs.List.{list_any}
+use Rattle.std.specs.Ordering.{nat_cmp}
+use Rattle.std.specs.Cmp.Lexicographic.{slice_cmp}
+use Rattle.std.specs.FinMap.{FinMap, get}
+use Rattle.nntp_article.specs.Session.Spool.{Name}
+use Rattle.nntp_facts.specs.Facts.{Fact}
+use Rattle.nntp_facts.specs.Together.{denies_group}
+use Rattle.nntp_facts.specs.Kept.{told, IsUntold, IsKeptGroup, KeptGroup, AreKept, KeptNames, AreKeptNames}
+use Rattle.nntp_facts.proofs.Together.TwoListsOfFacts.{any_silent}
+use Rattle.nntp_facts.proofs.Keeping.KeptNames.{not_before, counted_still, all_still}
+use Rattle.nntp_facts.proofs.Keeping.SilentFacts.{told_same}
+
+-- ---- names
+
+-- more facts that deny no name leave what is kept of names
+pub names_kept : (facts more : List Fact) (k : KeptNames) → ((name : Name) → list_any (denies_group name) more ≡ false) → AreKeptNames facts k → AreKeptNames (facts ++ more) k
+names_kept facts more k none kept = record {
+  wildmats = counted_still facts more k kept;
+  all_listed = all_still facts more k kept;
+  denied = λ name not_shown. any_silent (denies_group name) facts more (none name) ∙ kept.denied name (not_before facts more name not_shown);
+}
+
+-- ---- groups
+
+-- nothing is told of groups
+pub groups_kept : (facts more : List Fact) (groups : FinMap (slice_cmp nat_cmp) KeptGroup)
+    → ((name : Name) → IsUntold (told more name)) → AreKept (told facts) groups → AreKept (told (facts ++ more)) groups
+groups_kept facts more groups silent kept name =
+    subst (λ t. MatchOption (get groups name) (IsUntold t) (IsKeptGroup t)) (sym (told_same facts more name (silent name))) (kept name)

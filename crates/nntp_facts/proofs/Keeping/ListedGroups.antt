@@ -1,0 +1,99 @@
+-- What a list of groups has to join.
+use Rattle.std.proofs.Common.{◌≡◌, ℕ, Bool, true, false, ◌||◌, cond, not, List, [], ◌∷◌, ◌++◌, Option, inl, inr, refl, sym, ap, subst, ◌∙◌, append-nil}
+use Rattle.std.specs.Prelude.{◌↔◌, IsFalse}
+use Rattle.std.specs.List.{AllByRecursion, list_any, list_all, flat_map}
+use Rattle.std.specs.Option.{option_map_or}
+use Rattle.std.proofs.lemmas.Bool.{true≢false, and_parts, and_from, or_left, false_from_ne_true, not-true, true_from_ne_false}
+use Rattle.std.specs.Cmp.Lexicographic.{same_text}
+use Rattle.nntp_wire.specs.Listing.{ActiveValue}
+use Rattle.nntp_wire.specs.Decided.{matches_name}
+use Rattle.nntp_article.specs.Session.Spool.{Name}
+use Rattle.nntp_article.specs.Session.Machine.{is_same, names_differ}
+use Rattle.nntp_facts.specs.Asks.{Ask, Bounds}
+use Rattle.nntp_facts.specs.Facts.{Fact, GroupsAre}
+use Rattle.nntp_facts.specs.Given.{asks_of, is_shown_group}
+use Rattle.nntp_facts.specs.Together.{IsWellFormed, AsksStand, denies_group, Together, Join}
+use Rattle.nntp_facts.specs.ListedGroups.{is_listed, LineJoins, NoneIsMissing}
+use Rattle.nntp_facts.proofs.Members.{In, all_at, all_from, any_in, found_in}
+use Rattle.nntp_facts.proofs.Keeping.SilentFacts.{ids_join, articles_join}
+use Rattle.nntp_facts.proofs.Keeping.FactsOfOneGroup.{same_self}
+use Rattle.std.proofs.Math.Bool.{or-false}
+
+-- the bounds that the lines report for a group
+abbrev pub bounds_in : Name → List ActiveValue → List Ask
+bounds_in name lines = flat_map (λ line. cond (is_same line.name name) (Bounds line.low line.high ∷ []) []) lines
+
+-- where the group isn't listed, no bounds are reported for it
+pub no_bounds : (name : Name) (lines : List ActiveValue) → is_listed lines name ≡ false → bounds_in name lines ≡ []
+no_bounds name [] e = refl
+no_bounds name (line ∷ lines) e = by (is_same line.name name) e (no_bounds name lines)
+  where
+    by : (b : Bool) → (b || is_listed lines name) ≡ false → (is_listed lines name ≡ false → bounds_in name lines ≡ []) → cond b (Bounds line.low line.high ∷ []) [] ++ bounds_in name lines ≡ []
+    by true e rest = absurd (true≢false e)
+    by false e rest = rest e
+
+-- a name that differs from all of the lines' isn't listed among them
+differs : (name other : Name) (lines : List ActiveValue) → is_same name other ≡ true → list_all (λ line. not (is_same name line.name)) lines ≡ true → is_listed lines other ≡ false
+differs name other [] s e = refl
+differs name other (line ∷ lines) s e =
+    let p = and_parts (not (is_same name line.name)) (list_all (λ line. not (is_same name line.name)) lines) e in
+    let apart : is_same line.name other ≡ false = false_from_ne_true (is_same line.name other) (λ t.
+    let here : is_same name line.name ≡ true = subst (λ n. is_same name n ≡ true) (same_text name other (sym s) ∙ sym (same_text line.name other (sym t))) (same_self name) in
+    true≢false (sym here ∙ not-true (is_same name line.name) p.0)) in
+    (λ i. apart i || differs name other lines s p.1 i)
+
+-- where no group is listed twice, the bounds of a listed one are those of its line
+pub bounds_at : (line : ActiveValue) (lines : List ActiveValue) → names_differ lines ≡ true → In line lines → bounds_in line.name lines ≡ Bounds line.low line.high ∷ []
+bounds_at line [] d i = absurd i
+bounds_at line (x ∷ xs) d (inl e) =
+    let p = and_parts (list_all (λ other. not (is_same x.name other.name)) xs) (names_differ xs) d in
+    subst (λ line. bounds_in line.name (x ∷ xs) ≡ Bounds line.low line.high ∷ []) e
+    (λ i. cond (same_self x.name i) (Bounds x.low x.high ∷ []) [] ++ no_bounds x.name xs (differs x.name x.name xs (same_self x.name) p.0) i)
+bounds_at line (x ∷ xs) d (inr i) =
+    let p = and_parts (list_all (λ other. not (is_same x.name other.name)) xs) (names_differ xs) d in
+    let there = any_in (λ other. is_same other.name line.name) line xs i (same_self line.name) in
+    let apart : is_same x.name line.name ≡ false = false_from_ne_true (is_same x.name line.name) (λ s. true≢false (sym there ∙ differs x.name line.name xs s p.0)) in
+    ap (λ b. cond b (Bounds x.low x.high ∷ []) [] ++ bounds_in line.name xs) apart ∙ bounds_at line xs p.1 i
+
+module _ (facts : List Fact) (p : Option (List ℕ)) (lines : List ActiveValue) where
+  pub listing_asks : (name : Name) → asks_of name (GroupsAre p lines ∷ []) ≡ bounds_in name lines
+  listing_asks name = append-nil (bounds_in name lines)
+
+  numbers_from : Together facts → names_differ lines ≡ true → (name : Name) (b : Bool) → is_listed lines name ≡ b
+      → AllByRecursion (LineJoins facts) lines → AsksStand (asks_of name facts ++ asks_of name (GroupsAre p lines ∷ []))
+  numbers_from t differ name true e all =
+      let f = found_in (λ line. is_same line.name name) lines e in
+      subst (λ name. AsksStand (asks_of name facts ++ asks_of name (GroupsAre p lines ∷ []))) (same_text f.0.name name (sym f.2))
+      (subst (λ asks. AsksStand (asks_of f.0.name facts ++ asks)) (sym (listing_asks f.0.name ∙ bounds_at f.0 lines differ f.1)) (all_at (LineJoins facts) f.0 lines all f.1).bounds)
+  numbers_from t differ name false e all =
+      subst AsksStand (sym (ap (λ asks. asks_of name facts ++ asks) (listing_asks name ∙ no_bounds name lines e) ∙ append-nil (asks_of name facts))) (t.numbers name)
+
+  pub listing_joins : Together facts → AllByRecursion IsWellFormed (GroupsAre p lines ∷ []) → names_differ lines ≡ true
+      → Join facts (GroupsAre p lines ∷ []) ↔ (AllByRecursion (LineJoins facts) lines × NoneIsMissing facts p lines)
+  listing_joins t wf differ = (
+    λ j. (
+      all_from (LineJoins facts) lines (λ line i.
+          let there = any_in (λ other. is_same other.name line.name) line lines i (same_self line.name) in
+          record {
+            free = j.names.groups line.name (or_left (is_listed lines line.name) false there);
+            bounds = subst (λ asks. AsksStand (asks_of line.name facts ++ asks)) (listing_asks line.name ∙ bounds_at line lines differ i) (j.numbers line.name);
+          }),
+      λ name shown matches. true_from_ne_false (is_listed lines name) (λ e.
+          let denied : denies_group name (GroupsAre p lines) ≡ true = and_from (option_map_or (λ w. matches_name w name) p true) (not (is_listed lines name)) matches (ap not e) in
+          true≢false (sym shown ∙ j.names.no_groups name (or_left (denies_group name (GroupsAre p lines)) false denied))),
+    ),
+    λ h. record {
+      well_formed = wf;
+      names = record {
+        groups = λ name s. let f = found_in (λ line. is_same line.name name) lines (sym (or-false (is_listed lines name)) ∙ s) in subst
+            (λ name. IsFalse (list_any (denies_group name) facts)) (same_text f.0.name name (sym f.2))
+            (all_at (LineJoins facts) f.0 lines h.0 f.1).free;
+        no_groups = λ name d. false_from_ne_true (is_shown_group facts name) (λ shown.
+            let q = and_parts (option_map_or (λ w. matches_name w name) p true) (not (is_listed lines name)) (sym (or-false (denies_group name (GroupsAre p lines))) ∙ d) in
+            true≢false (sym (h.1 name shown q.0) ∙ not-true (is_listed lines name) q.1));
+      };
+      numbers = λ name. numbers_from t differ name (is_listed lines name) refl h.0;
+      ids = ids_join facts (GroupsAre p lines ∷ []) (record { ids = λ name n. refl; places = λ name id. refl });
+      articles = articles_join facts (GroupsAre p lines ∷ []) (record { shown = λ id. refl; denied = λ id. refl; mentioned = λ id. refl; sent = λ id. refl; heads = λ id. refl; bodies = λ id. refl });
+    },
+  )

@@ -1,0 +1,55 @@
+-- What is kept in all, where the parts of an answer are noted.
+use Rattle.std.proofs.Common.{◌≡◌, Bool, true, false, IsTrue, List, [], ◌++◌, Option, None, Some, sym, subst, ◌∙◌}
+use Rattle.std.specs.Prelude.{◌↔◌, IfSome}
+use Rattle.std.specs.List.{AllByRecursion}
+use Rattle.std.proofs.lemmas.Bool.{true≢false}
+use Rattle.nntp_article.specs.Article.Parts.{Id}
+use Rattle.nntp_facts.specs.Facts.{Fact}
+use Rattle.nntp_facts.specs.Together.{IsWellFormed, Together, JoinArticles, Join}
+use Rattle.nntp_facts.specs.Saying.{OfGroup, OfArticle, Lacks, Exists, Sends, Saying, facts_in, MayBeOf, Tells}
+use Rattle.nntp_facts.specs.Kept.{Kept, IsKept, AreKeptNames, AreKeptGroups, AreKeptArticles, IsAddedIf}
+use Rattle.nntp_facts.specs.KeptSaying.{JoinGroups, MayBeSaid, article_facts}
+use Rattle.nntp_facts.proofs.Keeping.PartsJoin.{parts_join, same_articles}
+use Rattle.nntp_facts.proofs.Keeping.SameOfArticles.{kept_alike}
+
+-- what has the same parts is the same
+pub kept_is : (a b : Kept) → a.groups ≡ b.groups → a.names ≡ b.names → a.articles ≡ b.articles → a ≡ b
+kept_is a b groups names articles = λ i. record { groups = groups i; names = names i; articles = articles i }
+
+-- what may be said of an id, with the group or without
+pub may_be_said : (group : Option OfGroup) (a : Option (Id × OfArticle)) → IfSome a (MayBeOf group) → IfSome a MayBeSaid
+may_be_said group None may = tt
+may_be_said group (Some (id, Lacks)) may = tt
+may_be_said group (Some (id, Exists)) may = tt
+may_be_said group (Some (id, Sends what lines)) may = may
+
+module _ (facts more : List Fact) (s : Saying) (no_list : s.groups ≡ None) (t : Tells facts s more) (together : Together facts) (formed : AllByRecursion IsWellFormed more) where
+  -- all joins exactly if the groups do and the article does
+  joins : Join facts more ↔ (JoinGroups facts s t.asks × JoinArticles facts (article_facts [] 0 s.article))
+  joins = subst (λ more. Join facts more ↔ (JoinGroups facts s t.asks × JoinArticles facts (article_facts [] 0 s.article))) t.same
+      (parts_join facts s t.asks no_list t.may together (subst (AllByRecursion IsWellFormed) (sym t.same) formed))
+
+  -- so not where the groups don't
+  pub no_groups_join : (test : Bool) → test ≡ false → IsTrue test ↔ JoinGroups facts s t.asks → Join facts more → ⊥
+  no_groups_join test fails is j = true≢false (sym (is.1 (joins.0 j).0) ∙ fails)
+
+  -- nor where the article doesn't
+  pub no_article_joins : (does : Bool) (K : Type 0) (Has : K → Type 0) (old new : K) → does ≡ false
+      → IsAddedIf (JoinArticles facts (article_facts [] 0 s.article)) Has old new does → (Join facts more → ⊥) × (new ≡ old)
+  no_article_joins does K Has old new fails added = let refused = subst
+      (IsAddedIf (JoinArticles facts (article_facts [] 0 s.article)) Has old new) fails added in
+      (λ j. refused.0 (joins.0 j).1, refused.1)
+
+  -- else all is kept
+  pub parts_kept : (does test : Bool) (k : Kept) → does ≡ true → test ≡ true → IsTrue test ↔ JoinGroups facts s t.asks
+      → (old : Kept) → IsAddedIf (JoinArticles facts (article_facts [] 0 s.article)) (AreKeptArticles (facts ++ article_facts [] 0 s.article)) old.articles k.articles does
+      → AreKeptNames (facts ++ facts_in s t.asks) k.names → AreKeptGroups (facts ++ facts_in s t.asks) k.groups → Join facts more × IsKept (facts ++ more) k
+  parts_kept does test k done passed is old article names groups =
+      let added = subst (IsAddedIf (JoinArticles facts (article_facts [] 0 s.article)) (AreKeptArticles (facts ++ article_facts [] 0 s.article)) old.articles k.articles) done article in (
+        joins.1 (is.0 passed, added.0),
+        subst (λ more. IsKept (facts ++ more) k) t.same (record {
+          groups = groups;
+          names = names;
+          articles = kept_alike facts (article_facts [] 0 s.article) (facts_in s t.asks) k.articles (same_articles facts s t.asks no_list t.may) added.1;
+        }),
+      )

@@ -1,0 +1,9 @@
+pub mod CurrentArticle
+pub mod FactsHold
+pub mod NumbersOfShownGroups
+pub mod FittingFacts
+pub mod NumbersWithinLimit
+pub mod LaterPrompts
+pub mod OneMoreAnswer
+pub mod FittingAnswers
+pub mod SelectedGroupIsShown

@@ -1,0 +1,178 @@
+-- A spool permits a session exactly if each answer fits and all that the answers say holds of it.
+use Rattle.nntp_wire.specs.declared.marks.Marks.{Marks}
+use Rattle.std.proofs.Common.{◌≡◌, ℕ, Bool, true, false, cond, ◌==◌, ◌&&◌, ◌||◌, ◌↔◌, ◌⊎◌, inl, inr, IsTrue, List, [], ◌∷◌, ◌++◌, None, Some, is_some, refl, sym, subst, ◌∙◌, arith}
+use Rattle.std.specs.Prelude.{IsFalse, is_none, ⊤}
+use Rattle.std.specs.List.{AllByRecursion}
+use Rattle.std.proofs.lemmas.Bool.{and_parts, or_cases, eqb-true, true≢false, false≢true}
+use Rattle.std.proofs.lemmas.Bool.Decides.{nat_tests}
+use Rattle.nntp_article.specs.Session.Spool.{Spool}
+use Rattle.nntp_article.specs.declared.session.profile.Profile.{Profile}
+use Rattle.nntp_article.specs.Session.Machine.{Visible, State, Agrees, visible_after, CodeAgrees, is_generic, is_one_of, code_fits, fits}
+use Rattle.nntp_facts.specs.Asks.{state_at, position_after, RunsAt}
+use Rattle.nntp_facts.specs.declared.position.Position.{Position}
+use Rattle.nntp_facts.specs.Facts.{Fact, Holds, facts_of, facts_of_code, facts_from, on, FitsAll}
+use Rattle.nntp_wire.specs.Answer.{Asked, Response, greeting, to, group_is, numbers_are, sends, active_are, plain}
+use Rattle.nntp_wire.specs.Command.{Request, by_id, by_number, current, capabilities, mode_reader, quit, opaque, ill_formed, group, list_group, next, last, retrieve, list_active}
+
+both : (S : Spool) (xs ys : List Fact) → AllByRecursion (Holds S) xs → AllByRecursion (Holds S) ys → AllByRecursion (Holds S) (xs ++ ys)
+both S [] ys h g = g
+both S (x ∷ xs) ys h g = (h.0, both S xs ys h.1 g)
+
+front : (S : Spool) (xs ys : List Fact) → AllByRecursion (Holds S) (xs ++ ys) → AllByRecursion (Holds S) xs
+front S [] ys h = tt
+front S (x ∷ xs) ys h = (h.0, front S xs ys h.1)
+
+back : (S : Spool) (xs ys : List Fact) → AllByRecursion (Holds S) (xs ++ ys) → AllByRecursion (Holds S) ys
+back S [] ys h = h
+back S (x ∷ xs) ys h = back S xs ys h.1
+
+on_from : (S : Spool) (b : Bool) (fact : Fact) → (IsTrue b → Holds S fact) → AllByRecursion (Holds S) (cond b (fact ∷ []) [])
+on_from S true fact h = (h refl, tt)
+on_from S false fact h = tt
+
+on_to : (S : Spool) (b : Bool) (fact : Fact) → AllByRecursion (Holds S) (cond b (fact ∷ []) []) → IsTrue b → Holds S fact
+on_to S true fact h t = h.0
+on_to S false fact h t = cc
+
+off_from : (S : Spool) (b : Bool) (fact : Fact) → (IsFalse b → Holds S fact) → AllByRecursion (Holds S) (cond b [] (fact ∷ []))
+off_from S true fact h = tt
+off_from S false fact h = (h refl, tt)
+
+off_to : (S : Spool) (b : Bool) (fact : Fact) → AllByRecursion (Holds S) (cond b [] (fact ∷ [])) → IsFalse b → Holds S fact
+off_to S true fact h t = cc
+off_to S false fact h t = h.0
+
+-- ---- codes, a row each
+
+-- one of two codes
+same_code : (a b : ℕ) → IsTrue (a == b) → IsTrue (b == a)
+same_code a b t = grind (arith, nat_tests)
+
+one_of_two : (a b code : ℕ) → IsTrue (is_one_of (a ∷ b ∷ []) code) → IsTrue (code == a) ⊎ IsTrue (code == b)
+one_of_two a b code t = elim (or_cases (a == code) ((b == code) || false) t) [
+  | inl e ↦ inl (same_code a code e)
+  | inr r ↦ elim (or_cases (b == code) false r) [ inl e ↦ inr (same_code b code e) | inr f ↦ absurd (false≢true f) ]
+]
+
+-- what an answer of the expected code agrees with
+at_code : (how : Marks) (S : Spool) (s : State) (command : Request) (code expected : ℕ) → Agrees how S s (to command) (plain code)
+    → IsTrue (code == expected) → Agrees how S s (to command) (plain expected)
+at_code how S s command code expected h t = subst (λ c. Agrees how S s (to command) (plain c)) (eqb-true code expected t) h
+
+code_holds : (how : Marks) (S : Spool) (v : Visible) (at : Position) (command : Request) (code : ℕ)
+    → Agrees how S (state_at S v at) (to command) (plain code) → AllByRecursion (Holds S) (facts_of_code v at command code)
+code_holds how S v at (group word) code h = on_from S (code == 411) _ (at_code how S (state_at S v at) (group word) code 411 h)
+code_holds how S v at (list_group (Some word) range) code h = on_from S (code == 411) _ (at_code how S (state_at S v at) (list_group (Some word) range) code 411 h)
+code_holds how S v at next code h =
+    both S (on code 420 _) (on code 421 _) (on_from S (code == 420) _ (at_code how S (state_at S v at) next code 420 h))
+    (on_from S (code == 421) _ (at_code how S (state_at S v at) next code 421 h))
+code_holds how S v at last code h =
+    both S (on code 420 _) (on code 422 _) (on_from S (code == 420) _ (at_code how S (state_at S v at) last code 420 h))
+    (on_from S (code == 422) _ (at_code how S (state_at S v at) last code 422 h))
+code_holds how S v at (retrieve what (by_id word)) code h = on_from S (code == 430) _ (at_code how S (state_at S v at) (retrieve what (by_id word)) code 430 h)
+code_holds how S v at (retrieve what (by_number (Some n))) code h = on_from S (code == 423) _ (at_code how S (state_at S v at) (retrieve what (by_number (Some n))) code 423 h)
+code_holds how S v at (retrieve what current) code h = on_from S (code == 420) _ (at_code how S (state_at S v at) (retrieve what current) code 420 h)
+code_holds how S v at command code h = tt
+
+-- the condition of a code that is no generic failure
+but_generic : (g c : Bool) {P : Type 0} → IsTrue (g || c) → (IsTrue c → P) → cond g ⊤ P
+but_generic true c f p = tt
+but_generic false c f p = p f
+
+-- the condition of a code that asks for a selected group, where another one asks for none
+in_group : (v : Visible) (b c : Bool) {P : Type 0} → IsTrue ((b && is_none v.selected) || (c && is_some v.selected)) → (IsTrue c → P) → cond b ⊤ P
+in_group v true c f p = tt
+in_group v false c f p = p (and_parts c (is_some v.selected) f).0
+
+-- the condition of the first code or of the second
+by_code : (a b code : ℕ) {P Q : Type 0} → (IsTrue (code == a) → P) → (IsTrue (code == b) → Q) → IsTrue (is_one_of (a ∷ b ∷ []) code) → cond (code == a) P Q
+by_code a b code {P} {Q} p q f = by (code == a) refl
+  where
+    by : (t : Bool) → (code == a) ≡ t → cond t P Q
+    by true e = p e
+    by false e = elim (one_of_two a b code f) [ inl t ↦ absurd (true≢false (sym t ∙ e)) | inr t ↦ q t ]
+
+-- the condition of a code that fits
+row_from : (S : Spool) (v : Visible) (at : Position) (command : Request) (code : ℕ) → IsTrue (code_fits v command code)
+    → AllByRecursion (Holds S) (facts_of_code v at command code) → CodeAgrees S (state_at S v at) command code
+row_from S v at capabilities code f h = tt
+row_from S v at mode_reader code f h = tt
+row_from S v at quit code f h = tt
+row_from S v at (group word) code f h = on_to S (code == 411) _ h f
+row_from S v at (list_group None range) code f h = tt
+row_from S v at (list_group (Some word) range) code f h = on_to S (code == 411) _ h f
+row_from S v at next code f h =
+    in_group v (code == 412) (is_one_of (420 ∷ 421 ∷ []) code) f
+    (by_code 420 421 code (on_to S (code == 420) _ (front S (on code 420 _) _ h)) (on_to S (code == 421) _ (back S (on code 420 _) _ h)))
+row_from S v at last code f h =
+    in_group v (code == 412) (is_one_of (420 ∷ 422 ∷ []) code) f
+    (by_code 420 422 code (on_to S (code == 420) _ (front S (on code 420 _) _ h)) (on_to S (code == 422) _ (back S (on code 420 _) _ h)))
+row_from S v at (retrieve what (by_id word)) code f h = on_to S (code == 430) _ h f
+row_from S v at (retrieve what (by_number None)) code f h = in_group v (code == 412) (code == 423) f (λ _. tt)
+row_from S v at (retrieve what (by_number (Some n))) code f h = in_group v (code == 412) (code == 423) f (on_to S (code == 423) _ h)
+row_from S v at (retrieve what current) code f h = in_group v (code == 412) (code == 420) f (on_to S (code == 420) _ h)
+row_from S v at opaque code f h = tt
+row_from S v at (list_active p) code f h = absurd (false≢true f)
+row_from S v at ill_formed code f h = absurd (false≢true f)
+
+-- ---- what an answer says
+
+-- from that it agrees
+facts_hold : (how : Marks) (S : Spool) (v : Visible) (at : Position) (p : Asked) (a : Response) → Agrees how S (state_at S v at) p a → AllByRecursion (Holds S) (facts_of how v at p a)
+facts_hold how S v at (to (group word)) (group_is m name) h = (h.0, (h.1, tt))
+facts_hold how S v at (to (list_group word range)) (numbers_are m name lines) h = (h.0, (h.1, (h.2, tt)))
+facts_hold how S v at (to next) (sends sent) h = (h.0, (h.1, tt))
+facts_hold how S v at (to last) (sends sent) h = (h.0, (h.1, tt))
+facts_hold how S v at (to (retrieve what (by_id word))) (sends sent) h = (h.0, off_from S (sent.number == 0) _ h.1)
+facts_hold how S v at (to (retrieve what (by_number n))) (sends sent) h = (h.0, (h.1, tt))
+facts_hold how S v at (to (retrieve what current)) (sends sent) h = (h.0, (h.1.0, (h.1.1, tt)))
+facts_hold how S v at (to (list_active p)) (active_are lines) h = (h, tt)
+facts_hold how S v at (to command) (plain code) h = code_holds how S v at command code h
+facts_hold how S v at p a h = tt
+
+-- and back, where it fits
+agrees_from : (profile : Profile) (S : Spool) (v : Visible) (at : Position) (p : Asked) (a : Response)
+    → IsTrue (fits profile v p a) → AllByRecursion (Holds S) (facts_of profile.marks v at p a)
+    → Agrees profile.marks S (state_at S v at) p a
+agrees_from profile S v at greeting (plain code) f h = tt
+agrees_from profile S v at (to command) (plain code) f h = but_generic (is_generic code) (code_fits v command code) f (λ c. row_from S v at command code c h)
+agrees_from profile S v at (to (group word)) (group_is m name) f h = (h.0, h.1.0)
+agrees_from profile S v at (to (list_group word range)) (numbers_are m name lines) f h = (h.0, h.1.0, h.1.1.0)
+agrees_from profile S v at (to next) (sends sent) f h = (h.0, h.1.0)
+agrees_from profile S v at (to last) (sends sent) f h = (h.0, h.1.0)
+agrees_from profile S v at (to (retrieve what (by_id word))) (sends sent) f h = (h.0, off_to S (sent.number == 0) _ h.1)
+agrees_from profile S v at (to (retrieve what (by_number n))) (sends sent) f h = (h.0, h.1.0)
+agrees_from profile S v at (to (retrieve what current)) (sends sent) f h = (h.0, (h.1.0, h.1.1.0))
+agrees_from profile S v at (to (list_active p)) (active_are lines) f h = h.0
+agrees_from profile S v at p (group_is m name) f h = absurd (false≢true f)
+agrees_from profile S v at p (numbers_are m name lines) f h = absurd (false≢true f)
+agrees_from profile S v at p (sends sent) f h = absurd (false≢true f)
+agrees_from profile S v at p (active_are lines) f h = absurd (false≢true f)
+
+pub run_of_facts : (profile : Profile) (S : Spool) (v : Visible) (at : Position) (ps : List Asked) (answers : List Response)
+    → FitsAll profile v ps answers → AllByRecursion (Holds S) (facts_from profile.marks v at ps answers)
+    → RunsAt profile S v at ps answers
+run_of_facts profile S v at ps [] f h = tt
+run_of_facts profile S v at [] (a ∷ more) f h = f
+run_of_facts profile S v at (p ∷ ps) (a ∷ more) f h = (
+  record { is_open = f.0; fits_visible = f.1; agrees = agrees_from profile S v at p a f.1 (front S (facts_of profile.marks v at p a) _ h) },
+  run_of_facts profile S (visible_after v p a) (position_after at p a) ps more f.2
+      (back S (facts_of profile.marks v at p a)
+      (facts_from profile.marks (visible_after v p a) (position_after at p a) ps more) h),
+)
+
+pub facts_of_run : (profile : Profile) (S : Spool) (v : Visible) (at : Position) (ps : List Asked) (answers : List Response)
+    → RunsAt profile S v at ps answers → FitsAll profile v ps answers × AllByRecursion (Holds S)
+    (facts_from profile.marks v at ps answers)
+facts_of_run profile S v at [] [] r = (tt, tt)
+facts_of_run profile S v at (p ∷ ps) [] r = (tt, tt)
+facts_of_run profile S v at [] (a ∷ more) r = absurd r
+facts_of_run profile S v at (p ∷ ps) (a ∷ more) r =
+    let rest = facts_of_run profile S (visible_after v p a) (position_after at p a) ps more r.1 in
+    ((r.0.is_open, r.0.fits_visible, rest.0), both S (facts_of profile.marks v at p a) _ (facts_hold profile.marks S v at p a r.0.agrees) rest.1)
+
+-- a spool permits a session exactly if each answer fits and all that the answers say holds of it
+pub permits_by_facts : (profile : Profile) (S : Spool) (v : Visible) (at : Position) (ps : List Asked) (answers : List Response)
+    → RunsAt profile S v at ps answers ↔ (FitsAll profile v ps answers × AllByRecursion (Holds S)
+    (facts_from profile.marks v at ps answers))
+permits_by_facts profile S v at ps answers = (facts_of_run profile S v at ps answers, λ h. run_of_facts profile S v at ps answers h.0 h.1)

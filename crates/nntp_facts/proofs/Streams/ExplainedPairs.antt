@@ -1,0 +1,29 @@
+-- An explanation of two streams, and their pairing.
+use Rattle.std.proofs.Common.{◌≡◌, ℕ, List, []}
+use Rattle.nntp_wire.specs.Session.{prompts_of, AreSpelled, StaysOpen}
+use Rattle.nntp_pair.specs.Pairing.{Paired, Ending, end, IsPairing, HasPairs, responses_of, streams}
+use Rattle.nntp_pair.proofs.SpelledLemmas.{spelled-pairs, spelled-whole}
+use Rattle.nntp_article.specs.Session.Spool.{Spool}
+use Rattle.nntp_article.specs.declared.session.profile.Profile.{Profile}
+use Rattle.nntp_article.specs.Session.Machine.{start}
+use Rattle.nntp_article.specs.Session.Explains.{ExplainsUpTo, Explains}
+use Rattle.nntp_article.proofs.SessionLemmas.ClosingAnswers.{run-stays-open}
+
+answers_spelled : (profile : Profile) (S : Spool) (client server : List ℕ) (n : ℕ) (rest : List ℕ) (explained : ExplainsUpTo profile S client server n rest)
+    → AreSpelled (prompts_of client) explained.answers server rest × StaysOpen (prompts_of client) explained.answers
+answers_spelled profile S client server n rest explained =
+    ((explained.octets, explained.spelled, explained.whole), run-stays-open profile S start (prompts_of client) explained.answers explained.run)
+
+-- an explanation of the first answers is by the first pairs
+pub by_pairs : (profile : Profile) (S : Spool) (client server : List ℕ) (n : ℕ) (rest : List ℕ) (explained : ExplainsUpTo profile S client server n rest)
+    → HasPairs (streams client server) explained.answers rest
+by_pairs profile S client server n rest explained =
+    let both = answers_spelled profile S client server n rest explained in
+    spelled-pairs client server explained.answers rest both.0 both.1
+
+-- and one of both streams by all pairs
+pub by_all_pairs : (profile : Profile) (S : Spool) (client server : List ℕ) (n : ℕ) (pairs : List Paired) (ending : Ending) → IsPairing client server pairs ending
+    → (explained : Explains profile S client server n) → (responses_of pairs ≡ explained.answers) × (unanswered : ℕ) × (ending ≡ end unanswered)
+by_all_pairs profile S client server n pairs ending pairing explained =
+    let both = answers_spelled profile S client server n [] explained in
+    spelled-whole client server pairs ending explained.answers pairing both.0 both.1

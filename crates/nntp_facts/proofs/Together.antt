@@ -1,0 +1,5 @@
+pub mod FactsOfASpoolStand
+pub mod TwoListsOfFacts
+pub mod FactsJoin
+pub mod WellFormed
+pub mod FrontsStand

@@ -1,0 +1,150 @@
+-- What octets spell is well formed.
+use Rattle.nntp_wire.specs.declared.marks.Marks.{Marks}
+use Rattle.std.proofs.Common.{◌≡◌, ℕ, Bool, true, false, cond, ◌==◌, IsTrue, List, [], ◌∷◌, ◌++◌, ◌⊎◌, inl, inr, Option, None, Some, refl, sym, ap, subst, ◌∙◌}
+use Rattle.std.specs.Prelude.{IfSome, ⊤}
+use Rattle.std.specs.List.{AllByRecursion}
+use Rattle.std.proofs.lemmas.Bool.{and_from}
+use Rattle.nntp_wire.specs.Octets.{crlf, dot, is_clean, are_octets}
+use Rattle.nntp_wire.specs.Name.{IsGroupName, IsMessageId}
+use Rattle.nntp_wire.specs.Block.{stuffed, sent, dot_line, AreClean}
+use Rattle.nntp_wire.specs.Listing.{active_groups}
+use Rattle.nntp_wire.specs.Answer.{Asked, Response, to, group_is, numbers_are, sends, active_are, plain, Spells, SaysByLines}
+use Rattle.nntp_wire.specs.Answer.{SaysGroup, SaysNumbers, SaysArticle, SaysActive, SaysCapabilities, SaysCode, block_octets}
+use Rattle.nntp_wire.specs.Answer.{IsCleanBlock, kind_of}
+use Rattle.nntp_wire.specs.Command.{Request, by_id, by_number, current, group, list_group, next, last, retrieve, list_active}
+use Rattle.nntp_wire.proofs.AnswerLemmas.{says-ways}
+use Rattle.nntp_wire.proofs.OctetLemmas.{octets-parts}
+use Rattle.nntp_article.specs.Session.Spool.{is_line}
+use Rattle.nntp_article.specs.Session.Machine.{Visible}
+use Rattle.nntp_wire.proofs.ListingLemmas.{active_groups-named}
+use Rattle.nntp_facts.specs.declared.position.Position.{Position}
+use Rattle.nntp_facts.specs.Facts.{Fact, on, facts_of_code, facts_of}
+use Rattle.nntp_facts.specs.Together.{IsWellFormed}
+use Rattle.nntp_facts.proofs.Members.{all_both}
+
+-- a line without the dot in front
+unstuffed_octets : (line : List ℕ) → are_octets (stuffed line) ≡ true → are_octets line ≡ true
+unstuffed_octets [] h = refl
+unstuffed_octets (b ∷ bs) h = by (b == dot) h
+  where
+    by : (c : Bool) → are_octets (cond c (dot ∷ b ∷ bs) (b ∷ bs)) ≡ true → are_octets (b ∷ bs) ≡ true
+    by true h = h
+    by false h = h
+
+-- the lines of octets that send them are lines
+sent_lines : (lines : List (List ℕ)) → AreClean lines → are_octets (sent lines) ≡ true → AllByRecursion (λ line. IsTrue (is_line line)) lines
+sent_lines [] clean h = tt
+sent_lines (line ∷ lines) clean h =
+    let p = octets-parts (stuffed line ++ crlf) (sent lines) h in
+    (and_from (is_clean line) (are_octets line) clean.0 (unstuffed_octets line (octets-parts (stuffed line) crlf p.0).0), sent_lines lines clean.1 p.1)
+
+-- and so those of a block
+block_lines : (block : Option (List (List ℕ))) → IsCleanBlock block → are_octets (block_octets block) ≡ true → IfSome block (λ lines. AllByRecursion (λ line. IsTrue (is_line line)) lines)
+block_lines None clean h = tt
+block_lines (Some lines) clean h = sent_lines lines clean (octets-parts (sent lines) dot_line h).0
+
+-- names, ids and lines of the response are such
+IsProper : Response → Type 0
+IsProper (group_is m name) = IsGroupName name
+IsProper (numbers_are m name lines) = IsGroupName name
+IsProper (sends s) = IsMessageId s.id × IfSome s.block (λ lines. AllByRecursion (λ line. IsTrue (is_line line)) lines)
+IsProper (active_are lines) = AllByRecursion (λ line. IsGroupName line.name) (active_groups lines)
+IsProper (plain code) = ⊤
+
+-- so are those of one that names a group
+group_proper : (bytes : List ℕ) (response : Response) → SaysGroup bytes response → IsProper response
+unfolding IsProper
+group_proper bytes (group_is m name) h = h.is_name
+group_proper bytes response h = absurd h
+
+-- or lists numbers
+numbers_proper : (bytes : List ℕ) (block : Option (List (List ℕ))) (response : Response) → SaysByLines (SaysNumbers bytes) block response → IsProper response
+unfolding IsProper
+numbers_proper bytes None response h = absurd h
+numbers_proper bytes (Some lines) (numbers_are m name listed) h = h.0.is_name
+numbers_proper bytes (Some lines) response h = absurd h
+
+-- or sends an article
+article_proper : (code : ℕ) (bytes : List ℕ) (block : Option (List (List ℕ))) (response : Response)
+    → IfSome block (λ lines. AllByRecursion (λ line. IsTrue (is_line line)) lines) → SaysArticle code bytes block response
+    → IsProper response
+unfolding IsProper
+article_proper code bytes block (sends s) lines h = (h.1.is_id, subst (λ o. IfSome o (λ lines. AllByRecursion (λ line. IsTrue (is_line line)) lines)) (sym h.2) lines)
+article_proper code bytes block response lines h = absurd h
+
+-- or lists groups
+active_proper : (block : Option (List (List ℕ))) (response : Response) → SaysByLines SaysActive block response → IsProper response
+unfolding IsProper
+active_proper None response h = absurd h
+active_proper (Some lines) (active_are listed) h = subst (λ ls. AllByRecursion (λ line. IsGroupName line.name) (active_groups ls)) (sym h.1) (active_groups-named lines)
+active_proper (Some lines) response h = absurd h
+
+-- or is a code
+code_proper : (code : ℕ) (response : Response) → SaysCode code response → IsProper response
+unfolding IsProper
+code_proper code (plain c) h = tt
+code_proper code response h = absurd h
+
+capabilities_proper : (code : ℕ) (block : Option (List (List ℕ))) (response : Response) → SaysByLines (SaysCapabilities code) block response → IsProper response
+capabilities_proper code None response h = absurd h
+capabilities_proper code (Some lines) response h = code_proper code response h.1
+
+-- and so are those of one that octets and a block say, in whatever way
+said_proper : (code : ℕ) (bytes : List ℕ) (block : Option (List (List ℕ))) (response : Response) → IfSome block (λ lines. AllByRecursion (λ line. IsTrue (is_line line)) lines)
+    → SaysGroup bytes response ⊎ (SaysByLines (SaysNumbers bytes) block response
+    ⊎ (SaysArticle code bytes block response
+    ⊎ (SaysByLines SaysActive block response
+    ⊎ (SaysByLines (SaysCapabilities code) block response ⊎ SaysCode code response))))
+    → IsProper response
+said_proper code bytes block response lines (inl s) = group_proper bytes response s
+said_proper code bytes block response lines (inr (inl s)) = numbers_proper bytes block response s
+said_proper code bytes block response lines (inr (inr (inl s))) = article_proper code bytes block response lines s
+said_proper code bytes block response lines (inr (inr (inr (inl s)))) = active_proper block response s
+said_proper code bytes block response lines (inr (inr (inr (inr (inl s))))) = capabilities_proper code block response s
+said_proper code bytes block response lines (inr (inr (inr (inr (inr s))))) = code_proper code response s
+
+-- and of one that they spell
+spelled_proper : (asked : Asked) (response : Response) (bytes : List ℕ) → Spells asked response bytes → are_octets bytes ≡ true → IsProper response
+spelled_proper asked response bytes s h =
+    said_proper s.code _ s.block response (block_lines s.block s.clean
+    (octets-parts (s.line ++ crlf) (block_octets s.block) (sym (ap are_octets s.whole) ∙ h)).1)
+    (says-ways (kind_of asked s.code) s.code _ s.block response s.says)
+
+-- a fact under a test
+on_formed : (b : Bool) (fact : Fact) → IsWellFormed fact → AllByRecursion IsWellFormed (cond b (fact ∷ []) [])
+on_formed true fact h = (h, tt)
+on_formed false fact h = tt
+
+unless_formed : (b : Bool) (fact : Fact) → IsWellFormed fact → AllByRecursion IsWellFormed (cond b [] (fact ∷ []))
+unless_formed true fact h = tt
+unless_formed false fact h = (h, tt)
+
+-- what a code alone says
+code_formed : (v : Visible) (at : Position) (command : Request) (code : ℕ) → AllByRecursion IsWellFormed (facts_of_code v at command code)
+code_formed v at (group word) code = on_formed (code == 411) _ tt
+code_formed v at (list_group (Some word) range) code = on_formed (code == 411) _ tt
+code_formed v at next code = all_both IsWellFormed (on code 420 _) (on code 421 _) (on_formed (code == 420) _ tt) (on_formed (code == 421) _ tt)
+code_formed v at last code = all_both IsWellFormed (on code 420 _) (on code 422 _) (on_formed (code == 420) _ tt) (on_formed (code == 422) _ tt)
+code_formed v at (retrieve what (by_id word)) code = on_formed (code == 430) _ tt
+code_formed v at (retrieve what (by_number (Some n))) code = on_formed (code == 423) _ tt
+code_formed v at (retrieve what current) code = on_formed (code == 420) _ tt
+code_formed v at command code = tt
+
+-- what a response says
+proper_formed : (how : Marks) (v : Visible) (at : Position) (asked : Asked) (response : Response) → IsProper response → AllByRecursion IsWellFormed (facts_of how v at asked response)
+unfolding IsProper
+proper_formed how v at (to (group word)) (group_is m name) h = (h, (tt, tt))
+proper_formed how v at (to (list_group word range)) (numbers_are m name lines) h = (h, (tt, (tt, tt)))
+proper_formed how v at (to next) (sends sent) h = (tt, (h.0, tt))
+proper_formed how v at (to last) (sends sent) h = (tt, (h.0, tt))
+proper_formed how v at (to (retrieve what (by_id word))) (sends sent) h = (h, unless_formed (sent.number == 0) _ h.0)
+proper_formed how v at (to (retrieve what (by_number n))) (sends sent) h = (h, (h.0, tt))
+proper_formed how v at (to (retrieve what current)) (sends sent) h = (h, (tt, (h.0, tt)))
+proper_formed how v at (to (list_active p)) (active_are lines) h = (h, tt)
+proper_formed how v at (to command) (plain code) h = code_formed v at command code
+proper_formed how v at asked response h = tt
+
+-- what octets spell says well-formed facts
+pub spelled_formed : (how : Marks) (v : Visible) (at : Position) (asked : Asked) (response : Response) (bytes : List ℕ)
+    → Spells asked response bytes → IsTrue (are_octets bytes) → AllByRecursion IsWellFormed (facts_of how v at asked response)
+spelled_formed how v at asked response bytes s h = proper_formed how v at asked response (spelled_proper asked response bytes s h)

@@ -1,5 +1,0 @@
-use Rattle.nntp_facts.proofs.Headlines.{some_headline, one_headline, yes_explained}
-use Rattle.nntp_facts.proofs.laws.streams_have_one_headline.Goals as goal
-
-pub returns : goal.returns
-returns c = record { some = some_headline; one = one_headline; yes = yes_explained }

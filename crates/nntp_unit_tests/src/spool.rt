@@ -1,0 +1,3 @@
+//! A spool that is built, and the text of one.
+mod text;
+mod value;
