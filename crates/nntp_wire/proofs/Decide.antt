@@ -26,11 +26,6 @@ dec_three (inl p) (inl q) (inr r) = inr (λ h. r h.2)
 dec_three (inl p) (inr q) r = inr (λ h. q h.1)
 dec_three (inr p) q r = inr (λ h. p h.0)
 
-pub dec_or : {P Q : Type 0} → Dec P → Dec Q → Dec (P ⊎ Q)
-dec_or (inl p) q = inl (inl p)
-dec_or (inr p) (inl q) = inl (inr q)
-dec_or (inr p) (inr q) = inr (λ h. elim h [ inl x ↦ p x | inr y ↦ q y ])
-
 pub dec_unless : (b : Bool) {P : Type 0} → Dec P → Dec (IsFalse b → P)
 dec_unless false (inl p) = inl (λ _. p)
 dec_unless false (inr p) = inr (λ h. p (h refl))
