@@ -23,7 +23,7 @@ use Rattle.nntp_facts.specs.Outcome.{No, IsOutcome}
 use Rattle.nntp_facts.specs.Noted.{FactsKept}
 use Rattle.nntp_facts.proofs.Streams.OneClass.{bad_stays as answer_stays, class_stays, settled_stays}
 use Rattle.nntp_facts.proofs.Session.OneMoreAnswer.{pairs_permitted}
-use Rattle.nntp_facts.proofs.Streams.OneOutcome.{one_headline}
+use Rattle.nntp_facts.proofs.Streams.OneOutcome.{one_outcome}
 use Rattle.nntp_facts.proofs.Streams.ExplainedOrBad.{explained_not_bad}
 use Rattle.nntp_facts.proofs.Streams.PairedStreams.{explained_end}
 use Rattle.nntp_facts.proofs.Streams.ClassAtTheEnd.{settled_lasts}
@@ -81,27 +81,27 @@ ends-here index (place ∷ places) (b ∷ server) false none = elim (dec_spellin
   ]
 ]
 
-module _ (profile : Profile) (client server : List ℕ) (facts : FactsKept) (left : Unpaired) (answers : ℕ) (p : Passed profile client server facts left answers) where
+module _ (profile : Profile) (client server : List ℕ) (facts : FactsKept) (left : Unpaired) (p : Passed profile client server facts left) where
   -- an end that stays is bad for good
   pub told : (class : PairClass) → EndsForGood class left → (index : ℕ) → index ≡ left.index → (of : Class) → of ≡ class_of class → IsBadForGood profile client server index of
   told class ends index at of is = (
-    octets-right profile client server facts left answers class p ends.0 index at of is,
+    octets-right profile client server facts left class p ends.0 index at of is,
     subst (λ (x : ℕ × Class). IsSettled client server x.0 x.1) (λ i. (sym (at ∙ index-counts client server p.pairs left p.before) i, sym is i))
         ((settled_lasts client server p.pairs left class p.before).1 ends.1),
   )
 
   -- where all answers are explained none is bad
   no-bad-explained : (unanswered : ℕ) → Ends left (end unanswered) → (answer : ℕ) (class : Class) → IsOutcome profile client server (No answer class) → ⊥
-  no-bad-explained unanswered ends answer class headline =
+  no-bad-explained unanswered ends answer class outcome =
       let some = (pairs_permitted profile client server p.pairs left p.before).1 p.stands.permitted in
       explained_not_bad profile some.0 client server (length p.pairs) answer
-      (explained_end profile some.0 client server p.pairs unanswered (record { left = left; paired = p.before; ends = ends }) some.1 some.2) headline.0
+      (explained_end profile some.0 client server p.pairs unanswered (record { left = left; paired = p.before; ends = ends }) some.1 some.2) outcome.0
 
   -- and what is bad for good is at an end that stays
   stays : (class : PairClass) → Ends left (pair_end class) → (answer : ℕ) (of : Class) → IsBadForGood profile client server answer of → EndsForGood class left
-  stays class ends answer of (headline, settled) =
-      let e = one_headline profile client server (No answer of) (No left.index (class_of class)) headline
-      (octets-right profile client server facts left answers class p ends left.index refl (class_of class) refl) in
+  stays class ends answer of (outcome, settled) =
+      let e = one_outcome profile client server (No answer of) (No left.index (class_of class)) outcome
+      (octets-right profile client server facts left class p ends left.index refl (class_of class) refl) in
       let place : answer ≡ length p.pairs = (let at : answer ≡ left.index = cc in at) ∙ index-counts client server p.pairs left p.before in
       let same : of ≡ class_of class = cc in
       (ends, (settled_lasts client server p.pairs left class p.before).0 (subst (λ (x : ℕ × Class). IsSettled client server x.0 x.1) (λ i. (place i, same i)) settled))
@@ -126,17 +126,17 @@ settled-whole client server answer class.Contradiction command reply whole = tt
 pub decided-told : (limit : Limit) (marks : Marks) (client server : List ℕ) (j : Judgement) → IsNoForGood j
     → IsVerdict limit marks client server j → IsToldBad (profile_of limit marks) client server (told_bad j)
 decided-told limit marks client server (consistent L answers) whole verdict = absurd whole
-decided-told limit marks client server (bad answer class command reply) whole verdict = (verdict.headline, settled-whole client server answer class command reply whole)
+decided-told limit marks client server (bad answer class command reply) whole verdict = (verdict.outcome, settled-whole client server answer class command reply whole)
 
 -- ---- laws
 
 -- what is bad for good stays so
 pub bad-stays : (profile : Profile) (client server client_more server_more : List ℕ) (answer : ℕ) (c : Class)
     → IsBadForGood profile client server answer c → IsBadForGood profile (client ++ client_more) (server ++ server_more) answer c
-bad-stays profile client server client_more server_more answer c (headline, settled) = (
+bad-stays profile client server client_more server_more answer c (outcome, settled) = (
   (
-    answer_stays profile client server client_more server_more answer c headline.1 settled headline.0,
-    class_stays profile client server client_more server_more answer c headline.1 settled,
+    answer_stays profile client server client_more server_more answer c outcome.1 settled outcome.0,
+    class_stays profile client server client_more server_more answer c outcome.1 settled,
   ),
   settled_stays client server client_more server_more answer c settled,
 )
@@ -144,7 +144,7 @@ bad-stays profile client server client_more server_more answer c (headline, sett
 -- one answer is
 one-bad : (profile : Profile) (client server : List ℕ) (x y : ℕ × Class) → IsBadForGood profile client server x.0 x.1 → IsBadForGood profile client server y.0 y.1 → x ≡ y
 one-bad profile client server (k, c) (j, d) p q =
-    let e = one_headline profile client server (No k c) (No j d) p.0 q.0 in
+    let e = one_outcome profile client server (No k c) (No j d) p.0 q.0 in
     let place : k ≡ j = cc in
     let same : c ≡ d = cc in
     λ i. (place i, same i)

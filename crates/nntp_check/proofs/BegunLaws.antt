@@ -7,8 +7,8 @@ use Rattle.std.proofs.lemmas.List.{take-append-drop}
 use Rattle.std.specs.List.{list_all}
 use Rattle.std.specs.Char.{is_ascii_digit}
 use Rattle.nntp_check.specs.Capture.{Part, word_of, spelled, count_of, BeginsNoPiece, Begins, BeginsCapture, IsBadPieceForGood}
-use Rattle.nntp_check.specs.declared.capture.Source.{Source}
-use Rattle.nntp_check.specs.declared.capture.Source.TheVariants.{Client, Server, Spool}
+use Rattle.nntp_check.specs.declared.source.Source.{Source}
+use Rattle.nntp_check.specs.declared.source.Source.TheVariants.{Client, Server, Spool}
 use Rattle.nntp_check.proofs.CaptureLemmas.{one_word, spelled-append, counted}
 use Rattle.nntp_check.proofs.CaptureLaws.{HasEnd, has-end}
 use Rattle.nntp_check.proofs.ReadingLemmas.{front-nil, counted-few, digits-then}

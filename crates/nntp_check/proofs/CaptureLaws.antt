@@ -2,7 +2,7 @@
 use Rattle.std.proofs.Common.{◌≡◌, ◌≢◌, ◌⊎◌, ℕ, zero, suc, ◌+◌, ◌≤◌, List, [], ◌∷◌, ◌++◌, length, flat_map, inl, inr, refl, sym, ap, subst, ◌∙◌, append_assoc, arith, length-append}
 use Rattle.std.specs.List.{AllByRecursion}
 use Rattle.nntp_check.specs.Capture.{Part, spelled, IsPiece, BeginsNoPiece, octets_from, Begins, AreStreams, IsCapture, IsBadPiece, BeginsCapture, IsBadPieceForGood}
-use Rattle.nntp_check.specs.declared.capture.Source.TheVariants.{Client, Server, Spool}
+use Rattle.nntp_check.specs.declared.source.Source.TheVariants.{Client, Server, Spool}
 use Rattle.nntp_check.proofs.CaptureLemmas.{spelled-length}
 use Rattle.nntp_check.proofs.FirstPiece.{one-piece, dec_piece}
 

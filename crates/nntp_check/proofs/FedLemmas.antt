@@ -1,20 +1,16 @@
 -- What a feed holds stays when more octets follow.
 use Rattle.std.proofs.Common.{◌≡◌, ◌∙◌, sym, ap, subst, ℕ, Bool, true, false, nat_lt, List, [], ◌∷◌, ◌++◌, map, Option, None, Some, inl, inr, append_assoc}
-use Rattle.std.proofs.lemmas.List.{map-append, append-nil}
+use Rattle.std.proofs.lemmas.List.{map-append}
 use Rattle.nntp_wire.specs.Octets.{crlf}
 use Rattle.nntp_wire.specs.Frame.{framed}
 use Rattle.nntp_wire.specs.Lines.{lines_of_stream, HasNoCrlf}
 use Rattle.nntp_wire.proofs.StreamLemmas.{lines-joined}
 use Rattle.nntp_pair.specs.declared.class.PairClass.TheVariants.{Malformed}
-use Rattle.nntp_pair.specs.Pairing.{Paired, Unpaired, IsNext, AreNext, line_ahead, places_from, streams, with_more}
-use Rattle.nntp_pair.specs.Feeding.{Fed, IsFed, EndsForGood, left_of, with_client, with_server}
+use Rattle.nntp_pair.specs.Pairing.{Paired, Unpaired, IsNext, line_ahead, places_from, with_more}
+use Rattle.nntp_pair.specs.Feeding.{Fed, EndsForGood, left_of, with_octets}
 use Rattle.nntp_pair.proofs.PairingLemmas.{next-more, bad-stays, some-stay}
 use Rattle.nntp_check.specs.Judging.{IsFirstLine, StopsHere}
 use Rattle.nntp_check.proofs.VerdictLaws.{no-line}
-
--- with more octets of both streams
-abbrev pub longer : List ℕ → List ℕ → Fed → Fed
-longer client server fed = with_server server (with_client client fed)
 
 -- the lines and the places of a longer stream
 lines-longer : (client more : List ℕ) → map Some (lines_of_stream (client ++ more)) ≡ map Some (lines_of_stream client) ++ map Some (lines-joined client more).0
@@ -25,24 +21,13 @@ places-longer false client more = ap (λ places. None ∷ places) (lines-longer 
 places-longer true client more = lines-longer client more
 
 -- what is left then
-left-longer : (fed : Fed) (client server : List ℕ) → left_of (longer client server fed) ≡ with_more (map Some (lines-joined fed.client client).0) server (left_of fed)
-left-longer fed client server = ap (λ places. record {
-  index = fed.index;
-  places = places;
-  server = fed.server ++ server;
-  is_closed = fed.is_closed;
-}) (places-longer (nat_lt 0 fed.index) fed.client client)
-
-left-none : (fed : Fed) → left_of (longer [] [] fed) ≡ left_of fed
-left-none fed i = record { index = fed.index; places = places_from (nat_lt 0 fed.index) (append-nil fed.client i); server = append-nil fed.server i; is_closed = fed.is_closed }
-
--- the pairs of the octets that came
-pub fed-pairs : (fed : Fed) (client server : List ℕ) (pairs : List Paired) → IsFed fed client server pairs → AreNext (streams client server) pairs (left_of fed)
-fed-pairs fed client server pairs is =
-    subst (λ (x : List ℕ × List ℕ × Unpaired). AreNext (streams x.0 x.1) pairs x.2) (λ i. (append-nil client i, append-nil server i, left-none fed i)) (is.paired [] [])
+left-longer : (fed : Fed) (client server : List ℕ) → left_of (with_octets client server fed) ≡ with_more (map Some (lines-joined fed.client client).0) server (left_of fed)
+left-longer fed client server =
+    let places = places-longer (nat_lt 0 fed.index) fed.client client in
+    ap (λ places. record { index = fed.index; places = places; server = fed.server ++ server; is_closed = fed.is_closed }) places
 
 -- the next exchange stays
-pub next-longer : (fed : Fed) (client server : List ℕ) (x : Paired) (behind : Unpaired) → IsNext (left_of fed) x behind → (later : Unpaired) × IsNext (left_of (longer client server fed)) x later
+pub next-longer : (fed : Fed) (client server : List ℕ) (x : Paired) (behind : Unpaired) → IsNext (left_of fed) x behind → (later : Unpaired) × IsNext (left_of (with_octets client server fed)) x later
 next-longer fed client server x behind next =
     let places = map Some (lines-joined fed.client client).0 in
     (with_more places server behind, subst (λ left. IsNext left x (with_more places server behind)) (sym (left-longer fed client server)) (next-more places server (left_of fed) behind x next))
@@ -60,7 +45,7 @@ line-longer places more place rest e = ap (λ p. line_ahead (p ++ more)) e ∙ s
 -- and octets that spell nothing stay where they are
 pub malformed-longer : (fed : Fed) (client server : List ℕ) (index : ℕ) (line : Option (List ℕ)) (octets : List ℕ)
     → EndsForGood Malformed (left_of fed) → index ≡ fed.index → line ≡ line_ahead (left_of fed).places → octets ≡ fed.server
-    → StopsHere (left_of (longer client server fed)) index Malformed line octets
+    → StopsHere (left_of (with_octets client server fed)) index Malformed line octets
 malformed-longer fed client server index line octets ((some, (place, awaits, why)), lasting) at line-is octets-are =
     let places = map Some (lines-joined fed.client client).0 in
     subst (λ left. StopsHere left index Malformed line octets) (sym (left-longer fed client server)) (record {

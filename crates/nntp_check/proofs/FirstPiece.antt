@@ -7,8 +7,8 @@ use Rattle.std.specs.List.{list_all}
 use Rattle.std.specs.Char.{is_ascii_digit}
 use Rattle.nntp_wire.proofs.Decide.{Dec, dec_by}
 use Rattle.nntp_check.specs.Capture.{Part, word_of, spelled, IsPiece, BeginsNoPiece, count_of}
-use Rattle.nntp_check.specs.declared.capture.Source.{Source}
-use Rattle.nntp_check.specs.declared.capture.Source.TheVariants.{Client, Server, Spool}
+use Rattle.nntp_check.specs.declared.source.Source.{Source}
+use Rattle.nntp_check.specs.declared.source.Source.TheVariants.{Client, Server, Spool}
 use Rattle.nntp_check.proofs.CaptureLemmas.{one_word, spelled-append, counted, piece_line}
 
 -- ---- one piece

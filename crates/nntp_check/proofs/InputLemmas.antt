@@ -20,9 +20,9 @@ pub take-split : (n m : ℕ) (xs : List ℕ) → n ≤ m → take m xs ≡ take 
 take-split n m xs le = sym (take-append-drop n (take m xs)) ∙ ap (λ t. t ++ drop n (take m xs)) (take-take n m xs le)
 
 -- where all octets are passed on, both stand for them
-pub all-passed : (before after : CaptureReader) (Stood HasNoted : List ℕ → List ℕ → List ℕ → Type 0) (came octets : List ℕ)
-    → PassesOn before after Stood HasNoted octets [] → BothStand before Stood came → BothStand after HasNoted (came ++ octets)
-all-passed before after Stood HasNoted came octets p both = subst (λ (front : List ℕ). BothStand after HasNoted (came ++ front)) (sym (p.cut ∙ append-nil p.front)) (p.stands came both)
+pub all-passed : (before after : CaptureReader) (Stood Stands : List ℕ → List ℕ → List ℕ → Type 0) (came octets : List ℕ)
+    → PassesOn before after Stood Stands octets [] → BothStand before Stood came → BothStand after Stands (came ++ octets)
+all-passed before after Stood Stands came octets p both = subst (λ (front : List ℕ). BothStand after Stands (came ++ front)) (sym (p.cut ∙ append-nil p.front)) (p.stands came both)
 
 -- at the input's end a piece is bad
 pub ends-bad : (before old after : Option (List ℕ)) (most piece : ℕ) (octets got : List ℕ) → Consumes before old octets

@@ -1,7 +1,7 @@
 -- How a judgement goes through the exchanges of two streams.
 use Rattle.std.proofs.Common.{◌≡◌, ◌≢◌, ◌∙◌, sym, subst, refl, ℕ, ◌+◌, List, [], ◌∷◌, ◌++◌, Option, None, Some, MatchOption, Result, Ok, Err, IfOk, length, ap, inr, arith}
 use Rattle.std.specs.Option.{option_map}
-use Rattle.std.proofs.lemmas.List.{length_push, append_assoc}
+use Rattle.std.proofs.lemmas.List.{append_assoc}
 use Rattle.nntp_wire.specs.Limit.{greatest}
 use Rattle.nntp_wire.specs.Octets.{crlf}
 use Rattle.nntp_wire.specs.declared.limit.Limit.{Limit}
@@ -52,26 +52,24 @@ closed-by v before left (pair ∷ pairs) same (between, first, more) =
     closed-by (visible_after v (asked_at pair.line) pair.response) between left pairs (first.closing ∙ sym (after-closes v (asked_at pair.line) pair.response (sym same ∙ first.is_open))) more
 
 -- the next exchange is due
-pub is-due : (profile : Profile) (client server : List ℕ) (facts : FactsKept) (left behind : Unpaired) (answers : ℕ) (x : Paired)
-    → Passed profile client server facts left answers → IsNext left x behind → IsDue facts x
-is-due profile client server facts left behind answers x p next = record {
-  index = next.index ∙ index-counts client server p.pairs left p.before ∙ sym p.stands.count;
+pub is-due : (profile : Profile) (client server : List ℕ) (facts : FactsKept) (left behind : Unpaired) (x : Paired) → Passed profile client server facts left → IsNext left x behind → IsDue facts x
+is-due profile client server facts left behind x p next = record {
+  index = omega (arith, next.index, index-counts client server p.pairs left p.before, p.stands.count);
   is_open = ap (λ (v : Visible). v.closed) p.stands.visible ∙ sym (closed-by start.visible (streams client server) left p.pairs refl p.before) ∙ next.is_open;
 }
 
 -- and then it has passed
-pub one-more : (profile : Profile) (client server : List ℕ) (old new : FactsKept) (left behind : Unpaired) (answers : ℕ)
-    (x : Paired) (noted : Noted) → (p : Passed profile client server old left answers) → IsNext left x behind
-    → ((past : List Paired) → HasNoted profile old past → IsNoted profile past x old new noted) → class_noted noted ≡ None → (k : ℕ) → k ≡ x.index
-    → (now : Passed profile client server new behind (k + 1)) × (now.pairs ≡ p.pairs ++ (x ∷ []))
-one-more profile client server old new left behind answers x noted p next notes good k at = by noted good (notes p.pairs p.stands)
+pub one-more : (profile : Profile) (client server : List ℕ) (old new : FactsKept) (left behind : Unpaired) (x : Paired)
+    (noted : Noted) → (p : Passed profile client server old left) → IsNext left x behind
+    → ((past : List Paired) → HasNoted profile old past → IsNoted profile past x old new noted) → class_noted noted ≡ None
+    → (now : Passed profile client server new behind) × (now.pairs ≡ p.pairs ++ (x ∷ []))
+one-more profile client server old new left behind x noted p next notes good = by noted good (notes p.pairs p.stands)
   where
-    by : (noted : Noted) → class_noted noted ≡ None → IsNoted profile p.pairs x old new noted → (now : Passed profile client server new behind (k + 1)) × (now.pairs ≡ p.pairs ++ (x ∷ []))
+    by : (noted : Noted) → class_noted noted ≡ None → IsNoted profile p.pairs x old new noted → (now : Passed profile client server new behind) × (now.pairs ≡ p.pairs ++ (x ∷ []))
     by kinds.Consistent none h = (
       record {
         pairs = p.pairs ++ (x ∷ []);
         before = AreNext-push p.pairs (streams client server) left behind x p.before next;
-        count = ap (λ n. n + 1) (at ∙ next.index ∙ index-counts client server p.pairs left p.before) ∙ sym (length_push p.pairs x);
         stands = h.1;
       },
       refl,
@@ -93,12 +91,12 @@ of-exchange kinds.OutOfPlace class is = let same : class ≡ OutOfPlace = cc in 
 of-exchange kinds.Contradiction class is = let same : class ≡ Contradiction = cc in ap pair_class_of same
 
 -- a bad exchange
-pub at-exchange : (profile : Profile) (client server : List ℕ) (facts : FactsKept) (left behind : Unpaired) (answers : ℕ)
-    (x : Paired) (noted : Noted) (class : Class) → Passed profile client server facts left answers → IsNext left x behind
+pub at-exchange : (profile : Profile) (client server : List ℕ) (facts : FactsKept) (left behind : Unpaired) (x : Paired)
+    (noted : Noted) (class : Class) → Passed profile client server facts left → IsNext left x behind
     → Some class ≡ class_noted noted
     → (k : ℕ) → k ≡ x.index → (line : Option (List ℕ)) → line ≡ x.line → (initial : List ℕ) → initial ≡ x.initial
     → StopsAt client server k class (option_map shown line) (shown initial)
-at-exchange profile client server facts left behind answers x noted class p next judged k at line line-is initial initial-is =
+at-exchange profile client server facts left behind x noted class p next judged k at line line-is initial initial-is =
     let frame = next.answered.frame in
     let first = frame-first left.server x.initial behind.server next.answered.block frame.whole in
     record {
@@ -120,10 +118,10 @@ of-pair pair.Cut left is = is
 of-pair pair.Malformed left is = is
 
 -- octets that answer nothing
-pub at-octets : (profile : Profile) (client server : List ℕ) (facts : FactsKept) (left : Unpaired) (answers index : ℕ) (class : PairClass) (line : Option (List ℕ)) (octets first : List ℕ)
-    → Passed profile client server facts left answers → StopsHere left index class line octets → (of : Class) → of ≡ class_of class → IsFirstLine octets first
+pub at-octets : (profile : Profile) (client server : List ℕ) (facts : FactsKept) (left : Unpaired) (index : ℕ) (class : PairClass) (line : Option (List ℕ)) (octets first : List ℕ)
+    → Passed profile client server facts left → StopsHere left index class line octets → (of : Class) → of ≡ class_of class → IsFirstLine octets first
     → StopsAt client server index of (option_map shown line) (shown first)
-at-octets profile client server facts left answers index class line octets first p stop of of-is is-first = record {
+at-octets profile client server facts left index class line octets first p stop of of-is is-first = record {
   pairs = p.pairs;
   left = left;
   before = p.before;
@@ -145,10 +143,10 @@ only-permits profile S client server n x (Permits m) y = ap Permits (sym y.count
 only-permits profile S client server n x (Refuses k) r = absurd (explained-unrefused profile S x.is_spool client server n k x r)
 
 -- an exchange that isn't accepted is bad, of its class
-pub exchange-right : (profile : Profile) (client server : List ℕ) (old new : FactsKept) (left behind : Unpaired) (answers : ℕ)
-    (x : Paired) (noted : Noted) (class : Class) → Passed profile client server old left answers → IsNext left x behind
+pub exchange-right : (profile : Profile) (client server : List ℕ) (old new : FactsKept) (left behind : Unpaired) (x : Paired)
+    (noted : Noted) (class : Class) → Passed profile client server old left → IsNext left x behind
     → ((past : List Paired) → HasNoted profile old past → IsNoted profile past x old new noted) → Some class ≡ class_noted noted → (k : ℕ) → k ≡ x.index → IsOutcome profile client server (No k class)
-exchange-right profile client server old new left behind answers x noted class p next notes judged k at =
+exchange-right profile client server old new left behind x noted class p next notes judged k at =
     subst (λ n. IsOutcome profile client server (No n class)) (sym place) (by noted judged (notes p.pairs p.stands))
   where
     place : k ≡ length p.pairs
@@ -169,10 +167,9 @@ exchange-right profile client server old new left behind answers x noted class p
         (outcome_at_response profile client server p.pairs x left behind p.before next p.stands.permitted h.1)
 
 -- octets that answer nothing are bad, of their class
-pub octets-right : (profile : Profile) (client server : List ℕ) (facts : FactsKept) (left : Unpaired) (answers : ℕ)
-    (class : PairClass) → Passed profile client server facts left answers → Ends left (pair_end class)
+pub octets-right : (profile : Profile) (client server : List ℕ) (facts : FactsKept) (left : Unpaired) (class : PairClass) → Passed profile client server facts left → Ends left (pair_end class)
     → (k : ℕ) → k ≡ left.index → (of : Class) → of ≡ class_of class → IsOutcome profile client server (No k of)
-octets-right profile client server facts left answers class p ends k at of is =
+octets-right profile client server facts left class p ends k at of is =
     let place : length p.pairs ≡ k = sym (at ∙ index-counts client server p.pairs left p.before) in
     subst (λ (x : ℕ × Class). IsOutcome profile client server (No x.0 x.1)) (λ i. (place i, sym is i))
     (outcome_at_octets profile client server p.pairs class (record { left = left; paired = p.before; ends = ends }) p.stands.permitted)
@@ -190,21 +187,22 @@ limit-kept limit marks facts past noted = same-limit facts.limit limit (ap (λ (
 
 -- where no octet is left, and the spool is a witness of the exchanges that passed, it is a yes
 pub at-end : (limit : Limit) (marks : Marks) (client server : List ℕ) (facts : FactsKept) (left : Unpaired)
-    (answers unanswered : ℕ) (L : LimitedSpool) → (p : Passed (profile_of limit marks) client server facts left answers)
-    → Ends left (end unanswered)
+    (answers unanswered : ℕ) (L : LimitedSpool) → (p : Passed (profile_of limit marks) client server facts left)
+    → answers ≡ left.index → Ends left (end unanswered)
     → IsWitnessWithin facts.limit (profile_of limit marks) p.pairs L → IsWritten L → IsYes limit marks client server L answers
-at-end limit marks client server facts left answers unanswered L p ends witness written =
+at-end limit marks client server facts left answers unanswered L p at ends witness written =
     let profile = profile_of limit marks in
+    let count : answers ≡ length p.pairs = at ∙ index-counts client server p.pairs left p.before in
     let pairing : IsPairing client server p.pairs (end unanswered) = record { left = left; paired = p.before; ends = ends } in
-    let headline = subst (λ n. IsOutcome profile client server (Yes L.spool n)) (sym p.count)
+    let outcome = subst (λ n. IsOutcome profile client server (Yes L.spool n)) (sym count)
     (outcome_at_end profile client server p.pairs unanswered L.spool
     (pairs_size marks p.pairs p.stands.lines p.stands.few) pairing p.stands.permitted witness.0.given) in
     record {
       limit_is = witness.1 ∙ limit-kept limit marks facts p.pairs p.stands;
-      headline = headline;
-      throughout = record { pairs = p.pairs; unanswered = unanswered; pairing = pairing; count = p.count };
+      outcome = outcome;
+      throughout = record { pairs = p.pairs; unanswered = unanswered; pairing = pairing; count = count };
       read_back = written_is_read L written;
-      permits = only-permits profile L.spool client server answers headline.explains;
+      permits = only-permits profile L.spool client server answers outcome.explains;
     }
 
 -- what is so of a judgement is so of a verdict that shows it
@@ -214,23 +212,22 @@ told (Err e) P j p ok = ok
 
 -- an exchange that isn't accepted, with what is shown of it, is a verdict
 pub refused : (limit : Limit) (marks : Marks) (client server : List ℕ) (old new : FactsKept) (left behind : Unpaired)
-    (answers : ℕ) (x : Paired) (noted : Noted) (class : Class) → Passed (profile_of limit marks) client server old left answers
-    → IsNext left x behind
+    (x : Paired) (noted : Noted) (class : Class) → Passed (profile_of limit marks) client server old left → IsNext left x behind
     → ((past : List Paired) → HasNoted (profile_of limit marks) old past → IsNoted (profile_of limit marks) past x old new noted) → Some class ≡ class_noted noted → (k : ℕ) → k ≡ x.index
     → (line : Option (List ℕ)) → line ≡ x.line → (initial : List ℕ) → initial ≡ x.initial → IsVerdict limit marks client server (bad k class (option_map shown line) (shown initial))
-refused limit marks client server old new left behind answers x noted class p next notes judged k at line line-is initial initial-is = record {
-  headline = exchange-right (profile_of limit marks) client server old new left behind answers x noted class p next notes judged k at;
-  place = at-exchange (profile_of limit marks) client server old left behind answers x noted class p next judged k at line line-is initial initial-is;
+refused limit marks client server old new left behind x noted class p next notes judged k at line line-is initial initial-is = record {
+  outcome = exchange-right (profile_of limit marks) client server old new left behind x noted class p next notes judged k at;
+  place = at-exchange (profile_of limit marks) client server old left behind x noted class p next judged k at line line-is initial initial-is;
 }
 
 -- and so are octets that answer nothing
-pub stopped : (limit : Limit) (marks : Marks) (client server : List ℕ) (facts : FactsKept) (left : Unpaired) (answers index : ℕ) (class : PairClass) (line : Option (List ℕ)) (octets first : List ℕ)
-    → Passed (profile_of limit marks) client server facts left answers → StopsHere left index class line octets → (of : Class)
+pub stopped : (limit : Limit) (marks : Marks) (client server : List ℕ) (facts : FactsKept) (left : Unpaired) (index : ℕ) (class : PairClass) (line : Option (List ℕ)) (octets first : List ℕ)
+    → Passed (profile_of limit marks) client server facts left → StopsHere left index class line octets → (of : Class)
     → of ≡ class_of class → IsFirstLine octets first
     → IsVerdict limit marks client server (bad index of (option_map shown line) (shown first))
-stopped limit marks client server facts left answers index class line octets first p stop of of-is is-first = record {
-  headline = octets-right (profile_of limit marks) client server facts left answers class p stop.ends index stop.index_is of of-is;
-  place = at-octets (profile_of limit marks) client server facts left answers index class line octets first p stop of of-is is-first;
+stopped limit marks client server facts left index class line octets first p stop of of-is is-first = record {
+  outcome = octets-right (profile_of limit marks) client server facts left class p stop.ends index stop.index_is of of-is;
+  place = at-octets (profile_of limit marks) client server facts left index class line octets first p stop of of-is is-first;
 }
 
 -- what follows of each value from what is so of it

@@ -4,8 +4,8 @@ use Rattle.std.proofs.lemmas.List.{append-nil}
 use Rattle.nntp_check.specs.Capture.{Part, spelled, word_of, octets_from, IsBadPiece}
 use Rattle.nntp_check.specs.CaptureReading.{IsAt, HasRead, HasBadFront, Reads}
 use Rattle.nntp_check.specs.Sinks.{HasRoom, Takes, BothStand, PassesOn, StopsWithin}
-use Rattle.nntp_check.specs.declared.capture.Source.{Source}
-use Rattle.nntp_check.specs.declared.capture.Source.TheVariants.{Client, Server, Spool}
+use Rattle.nntp_check.specs.declared.source.Source.{Source}
+use Rattle.nntp_check.specs.declared.source.Source.TheVariants.{Client, Server, Spool}
 use Rattle.nntp_check.specs.declared.capture_reader.CaptureReader.{CaptureReader}
 use Rattle.nntp_check.specs.declared.capture_reader.Place.{Place}
 use Rattle.nntp_check.specs.declared.capture_reader.Place.TheVariants as places

@@ -15,8 +15,8 @@ use Rattle.nntp_wire.specs.Number.{number_value}
 use Rattle.nntp_wire.proofs.NumberLemmas.{one_digit_more, digit_range}
 use Rattle.nntp_check.specs.Capture.{Part, word_of, spelled, count_of, is_same_source, given, octets_from, AreStreams, BeginsNoPiece, IsBadPiece}
 use Rattle.nntp_check.specs.CaptureReading.{IsAt, IsInWord, IsInDigits, IsInOctets, IsInLine, IsOpen, HasCome, HasBadFront, CantGoOn, GoesOn}
-use Rattle.nntp_check.specs.declared.capture.Source.{Source}
-use Rattle.nntp_check.specs.declared.capture.Source.TheVariants.{Client, Server, Spool}
+use Rattle.nntp_check.specs.declared.source.Source.{Source}
+use Rattle.nntp_check.specs.declared.source.Source.TheVariants.{Client, Server, Spool}
 use Rattle.nntp_check.specs.declared.capture_reader.Place.{Place}
 use Rattle.nntp_check.specs.declared.capture_reader.Place.TheVariants as places
 use Rattle.nntp_check.proofs.CaptureLemmas.{one_word, spelled-append, counted, flat_map-snoc}

@@ -1,15 +1,17 @@
 -- How a report goes on, exchange by exchange.
-use Rattle.std.proofs.Common.{◌≡◌, ◌≢◌, ◌∙◌, sym, ap, subst, refl, ℕ, ◌+◌, false, nat_lt, List, [], ◌∷◌, ◌++◌, length, Result, Ok, Err, OnOk, arith, length-append}
+use Rattle.std.proofs.Common.{◌≡◌, ◌∙◌, sym, ap, refl, ℕ, ◌+◌, ◌^◌, ◌<◌, ◌≤◌, false, List, [], ◌∷◌, ◌++◌, length, arith}
 use Rattle.std.specs.List.{flat_map}
 use Rattle.std.proofs.lemmas.Bool.{true≢false}
-use Rattle.std.proofs.lemmas.List.{append-nil, flat_map_more}
-use Rattle.nntp_pair.specs.Pairing.{Paired, Unpaired, IsNext, AreNext, Ends, Ending, bad, places_from, streams}
-use Rattle.nntp_pair.specs.Feeding.{Fed, IsFed, HasNext, IsPeek, left_of}
+use Rattle.std.proofs.lemmas.List.{flat_map_more}
+use Rattle.nntp_pair.specs.Pairing.{Paired, Unpaired, IsNext, Ends, Ending, bad}
+use Rattle.nntp_pair.specs.Feeding.{Fed, IsFed, IsTaken, IsUntaken, left_of}
+use Rattle.nntp_pair.specs.Sides.{given}
 use Rattle.nntp_pair.specs.declared.class.PairClass.{PairClass}
-use Rattle.nntp_pair.specs.declared.peek.Peek.{Peek}
-use Rattle.nntp_pair.specs.declared.peek.Peek.TheVariants as peek
-use Rattle.nntp_pair.proofs.NextLemmas.{next-no-end}
-use Rattle.nntp_pair.proofs.PairingLemmas.{index-counts}
+use Rattle.nntp_pair.specs.declared.pair_error.PairError.{PairError}
+use Rattle.nntp_pair.specs.declared.pair_error.PairError.TheVariants as errors
+use Rattle.nntp_pair.specs.declared.side.Side.{Side}
+use Rattle.nntp_pair.specs.declared.side.Side.TheVariants.{Client, Server}
+use Rattle.nntp_pair.proofs.FedLaws.{fed-paired}
 use Rattle.nntp_facts.specs.Classes.{class_of}
 use Rattle.nntp_facts.specs.declared.class.Class.{Class}
 use Rattle.nntp_check.specs.Report.{bad_line}
@@ -17,60 +19,54 @@ use Rattle.nntp_check.specs.Run.{ShowReports}
 use Rattle.nntp_check.specs.Show.{exchange_text, ending_line, is_end}
 use Rattle.nntp_check.specs.Showing.{IsShown}
 
--- the pairs of what was fed come first, and then what the feed holds
-pub fed-paired : (fed : Fed) (client server : List ℕ) (pairs : List Paired) → IsFed fed client server pairs → AreNext (streams client server) pairs (left_of fed)
-fed-paired fed client server pairs h =
-    let left : (c s : List ℕ) → Unpaired = λ c s. record { index = fed.index; places = places_from (nat_lt 0 fed.index) c; server = s; is_closed = fed.is_closed } in
-    subst (λ (s : List ℕ). AreNext (streams client server) pairs (left fed.client s)) (append-nil fed.server)
-    (subst (λ (c : List ℕ). AreNext (streams client server) pairs (left c (fed.server ++ []))) (append-nil fed.client)
-    (subst (λ (s : List ℕ). AreNext (streams client s) pairs (left (fed.client ++ []) (fed.server ++ []))) (append-nil server)
-    (subst (λ (c : List ℕ). AreNext (streams c (server ++ [])) pairs (left (fed.client ++ []) (fed.server ++ []))) (append-nil client)
-    (h.paired [] []))))
-
--- the feed's index counts them
-fed-counts : (fed : Fed) (client server : List ℕ) (pairs : List Paired) → IsFed fed client server pairs → fed.index ≡ length pairs
-fed-counts fed client server pairs h = index-counts client server pairs (left_of fed) (fed-paired fed client server pairs h)
-
--- where no exchange is lent, none comes next
-pub no-next : (fed : Fed) (told : Peek) → IsPeek fed told → fed.has_failed ≡ false → ((pair : Paired) → told ≢ peek.Whole pair) → ¬ (HasNext (left_of fed))
-no-next fed (peek.Whole pair) is works none = absurd (none pair refl)
-no-next fed peek.Nothing is works none = is.1
-no-next fed (peek.Bad index class) is works none = λ next. next-no-end (bad class) (left_of fed) next.1 next.0 next.2 is.2.0
-no-next fed peek.Failed is works none = absurd (true≢false (sym is ∙ works))
-
 -- one exchange more is shown
-pub one-more : (fed new : Fed) (answers : ℕ) (text shown : List ℕ) (x : Paired) (behind : Unpaired) (client server : List ℕ) → IsShown fed answers text client server → IsNext (left_of fed) x behind
+pub one-more : (fed new : Fed) (text shown : List ℕ) (x : Paired) (behind : Unpaired) (client server : List ℕ) → IsShown fed text client server → IsNext (left_of fed) x behind
     → ((pairs : List Paired) → IsFed fed client server pairs → IsFed new client server (pairs ++ x ∷ []))
-    → new.has_failed ≡ fed.has_failed → shown ≡ text ++ exchange_text x → (k : ℕ) → k ≡ x.index
-    → IsShown new (k + 1) shown client server
-one-more fed new answers text shown x behind client server p next feeds works more k at = record {
+    → new.has_failed ≡ fed.has_failed → shown ≡ text ++ exchange_text x → IsShown new shown client server
+one-more fed new text shown x behind client server p next feeds works more = record {
   pairs = p.pairs ++ x ∷ [];
   fed_is = feeds p.pairs p.fed_is;
   works = works ∙ p.works;
-  count = omega (arith, length-append p.pairs (x ∷ []), at, next.index, fed-counts fed client server p.pairs p.fed_is);
   text_is = more ∙ ap (λ octets. octets ++ exchange_text x) p.text_is ∙ flat_map_more exchange_text [] p.pairs x;
 }
 
 -- behind the last one the ending is shown
-pub at-ending : (fed : Fed) (answers : ℕ) (text shown client server : List ℕ) (ending : Ending)
-    → IsShown fed answers text client server → Ends (left_of fed) ending → shown ≡ text ++ ending_line answers ending
+pub at-ending : (fed : Fed) (text shown client server : List ℕ) (ending : Ending) → IsShown fed text client server → Ends (left_of fed) ending → shown ≡ text ++ ending_line fed.index ending
     → (spool : List ℕ) → ShowReports client server spool shown (is_end ending)
-at-ending fed answers text shown client server ending p ends more spool = record {
+at-ending fed text shown client server ending p ends more spool = record {
   pairs = p.pairs;
   ending = ending;
-  pairing = record { left = left_of fed; paired = fed-paired fed client server p.pairs p.fed_is; ends = ends };
-  text_is = more ∙ ap (λ octets. octets ++ ending_line answers ending) p.text_is ∙ ap (λ n. flat_map exchange_text p.pairs ++ ending_line n ending) p.count;
+  pairing = record { left = left_of fed; paired = (fed-paired fed client server p.pairs p.fed_is).0; ends = ends };
+  text_is = more ∙ ap (λ octets. octets ++ ending_line fed.index ending) p.text_is ∙ ap (λ n. flat_map exchange_text p.pairs ++ ending_line n ending) (fed-paired fed client server p.pairs p.fed_is).1;
   answer_is = refl;
 }
 
 -- the same at octets that answer nothing
-pub at-octets : (fed : Fed) (answers : ℕ) (text shown client server : List ℕ) (class : PairClass) → IsShown fed answers text client server → Ends (left_of fed) (bad class)
+pub at-octets : (fed : Fed) (text shown client server : List ℕ) (class : PairClass) → IsShown fed text client server → Ends (left_of fed) (bad class)
     → (index : ℕ) → index ≡ fed.index → (of : Class) → of ≡ class_of class → shown ≡ text ++ bad_line index of → (spool : List ℕ) → ShowReports client server spool shown false
-at-octets fed answers text shown client server class p ends index at of is more =
-    let place : index ≡ answers = at ∙ fed-counts fed client server p.pairs p.fed_is ∙ sym p.count in
-    at-ending fed answers text shown client server (bad class) p ends (more ∙ ap (λ c. text ++ bad_line index c) is ∙ ap (λ n. text ++ bad_line n (class_of class)) place)
+at-octets fed text shown client server class p ends index at of is more =
+    at-ending fed text shown client server (bad class) p ends (more ∙ ap (λ c. text ++ bad_line index c) is ∙ ap (λ n. text ++ bad_line n (class_of class)) at)
 
--- what follows from what is so on Ok
-pub on-ok : {T E P Q : Type 0} (r : Result T E) → (P → Q) → OnOk r P → OnOk r Q
-on-ok (Ok x) f p = f p
-on-ok (Err e) f p = p
+-- where there is room for octets, none but want of memory keeps a feed from taking them
+pub untaken-memory : (error : PairError) (side : Side) (octets : List ℕ) (before after : Fed) (text client server : List ℕ) → IsShown before text client server
+    → length client + length server + length octets < 2 ^ 64 → IsUntaken error side octets before after → error ≡ errors.Memory
+untaken-memory errors.Memory side octets before after text client server p room is = refl
+untaken-memory errors.Failed side octets before after text client server p room is = absurd (true≢false (sym is.0 ∙ p.works))
+untaken-memory errors.TooLong Client octets before after text client server p room is =
+    let count : before.counts.client ≡ length client = p.fed_is.client_came in
+    let many : 2 ^ 64 ≤ before.counts.client + length octets = is.1 in
+    absurd (omega arith)
+untaken-memory errors.TooLong Server octets before after text client server p room is =
+    let count : before.counts.server ≡ length server = p.fed_is.server_came in
+    let many : 2 ^ 64 ≤ before.counts.server + length octets = is.1 in
+    absurd (omega arith)
+
+-- octets that are taken are behind those that came
+pub shown-more : (before after : Fed) (side : Side) (octets text client server : List ℕ) → IsTaken side octets before after → IsShown before text client server
+    → IsShown after text (client ++ given Client side octets) (server ++ given Server side octets)
+shown-more before after side octets text client server taken p = record {
+  pairs = p.pairs;
+  fed_is = taken.fed client server p.pairs p.fed_is;
+  works = ap (λ (f : Fed). f.has_failed) taken.value ∙ p.works;
+  text_is = p.text_is;
+}

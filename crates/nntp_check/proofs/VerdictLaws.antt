@@ -14,7 +14,7 @@ use Rattle.nntp_pair.specs.Pairing.{Paired, Unpaired, AreNext, line_ahead, strea
 use Rattle.nntp_pair.proofs.NextLemmas.{one-next}
 use Rattle.nntp_facts.specs.declared.class.Class.{Class}
 use Rattle.nntp_facts.specs.Outcome.{Outcome, Yes, No}
-use Rattle.nntp_facts.proofs.Streams.OneOutcome.{one_headline, yes_explained}
+use Rattle.nntp_facts.proofs.Streams.OneOutcome.{one_outcome, yes_explained}
 use Rattle.nntp_spool.specs.Limited.{LimitedSpool}
 use Rattle.nntp_check.specs.Judging.{IsFirstLine, StopsAt, IsVerdict, shown}
 use Rattle.nntp_check.specs.Verdict.{Judgement, consistent, bad, is_consistent}
@@ -49,7 +49,7 @@ one-place client server k class other command also reply again x y =
     let line = one-first y.left.server x.line y.line (subst (λ (u : Unpaired). IsFirstLine u.server x.line) left x.first) y.first in
     (x.command_is ∙ ap (λ (u : Unpaired). option_map shown (line_ahead u.places)) left ∙ sym y.command_is, x.reply_is ∙ ap shown line ∙ sym y.reply_is)
 
--- a verdict is one by its limit, its headline, and by what is shown at its place
+-- a verdict is one by its limit, its outcome, and by what is shown at its place
 abbrev with-place : Limit → Outcome → Option (List ℕ) → List ℕ → Judgement
 with-place limit (Yes S n) command reply = consistent (record { limit = limit; spool = S }) n
 with-place limit (No k class) command reply = bad k class command reply
@@ -62,14 +62,14 @@ own-limit limit L n is = ap (λ l. consistent (record { limit = l; spool = L.spo
 pub one-verdict : (limit : Limit) (marks : Marks) (client server : List ℕ) (j l : Judgement) → IsVerdict limit marks client server j → IsVerdict limit marks client server l → j ≡ l
 one-verdict limit marks client server (consistent K n) (consistent L m) x y =
     own-limit limit K n x.limit_is ∙ ap (λ h. with-place limit h None [])
-    (one_headline (profile_of limit marks) client server (Yes K.spool n) (Yes L.spool m) x.headline y.headline)
+    (one_outcome (profile_of limit marks) client server (Yes K.spool n) (Yes L.spool m) x.outcome y.outcome)
     ∙ sym (own-limit limit L m y.limit_is)
-one-verdict limit marks client server (consistent L n) (bad k class command reply) x y = let e = one_headline
-    (profile_of limit marks) client server (Yes L.spool n) (No k class) x.headline y.headline in cc
-one-verdict limit marks client server (bad k class command reply) (consistent L n) x y = let e = one_headline
-    (profile_of limit marks) client server (No k class) (Yes L.spool n) x.headline y.headline in cc
+one-verdict limit marks client server (consistent L n) (bad k class command reply) x y = let e = one_outcome
+    (profile_of limit marks) client server (Yes L.spool n) (No k class) x.outcome y.outcome in cc
+one-verdict limit marks client server (bad k class command reply) (consistent L n) x y = let e = one_outcome
+    (profile_of limit marks) client server (No k class) (Yes L.spool n) x.outcome y.outcome in cc
 one-verdict limit marks client server (bad k c command reply) (bad j d also again) x y =
-    let e = one_headline (profile_of limit marks) client server (No k c) (No j d) x.headline y.headline in
+    let e = one_outcome (profile_of limit marks) client server (No k c) (No j d) x.outcome y.outcome in
     let place : k ≡ j = cc in
     let shown = one-place client server j c d command also reply again (subst (λ k. StopsAt client server k c command reply) place x.place) y.place in
     λ i. with-place limit (e i) (shown.0 i) (shown.1 i)
@@ -78,5 +78,5 @@ one-verdict limit marks client server (bad k c command reply) (bad j d also agai
 pub yes-if-explained : (limit : Limit) (marks : Marks) (client server : List ℕ) (j : Judgement)
     → IsVerdict limit marks client server j → IsTrue (is_consistent j)
     ↔ ((S : Spool) × (n : ℕ) × Explains (profile_of limit marks) S client server n)
-yes-if-explained limit marks client server (consistent L n) x = yes_explained (profile_of limit marks) client server (Yes L.spool n) x.headline
-yes-if-explained limit marks client server (bad k class command reply) x = yes_explained (profile_of limit marks) client server (No k class) x.headline
+yes-if-explained limit marks client server (consistent L n) x = yes_explained (profile_of limit marks) client server (Yes L.spool n) x.outcome
+yes-if-explained limit marks client server (bad k class command reply) x = yes_explained (profile_of limit marks) client server (No k class) x.outcome

@@ -4,8 +4,8 @@ use Rattle.std.specs.List.{AllByRecursion, list_all}
 use Rattle.std.specs.Char.{is_ascii_digit}
 use Rattle.nntp_wire.specs.Number.{number_value}
 use Rattle.nntp_check.specs.Capture.{Part, word_of, spelled, IsPiece, count_of, given, octets_from, BeginsNoPiece, IsBadPieceForGood}
-use Rattle.nntp_check.specs.declared.capture.Source.{Source}
-use Rattle.nntp_check.specs.declared.capture.Source.TheVariants.{Client, Server, Spool}
+use Rattle.nntp_check.specs.declared.source.Source.{Source}
+use Rattle.nntp_check.specs.declared.source.Source.TheVariants.{Client, Server, Spool}
 use Rattle.nntp_check.specs.declared.capture_reader.Place.{Place}
 use Rattle.nntp_check.specs.declared.capture_reader.Place.TheVariants as places
 use Rattle.nntp_check.specs.declared.capture_reader.CaptureReader.{CaptureReader}

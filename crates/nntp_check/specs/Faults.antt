@@ -1,14 +1,22 @@
 -- The fault of a run that a fault of its parts is.
+use Rattle.nntp_pair.specs.declared.pair_error.PairError.{PairError}
+use Rattle.nntp_pair.specs.declared.pair_error.PairError.TheVariants as errors
 use Rattle.nntp_spool.specs.declared.text.read_fault.Kind.{Kind}
 use Rattle.nntp_spool.specs.declared.text.read_fault.Kind.TheVariants as kinds
 use Rattle.nntp_spool.specs.declared.text.read_fault.ReadFault.{ReadFault}
 use Rattle.nntp_check.specs.declared.capture_reader.BadPiece.{BadPiece}
 use Rattle.nntp_check.specs.declared.run_fault.RunFault.{RunFault}
-use Rattle.nntp_check.specs.declared.run_fault.RunFault.TheVariants.{Capture, Spool, Memory}
+use Rattle.nntp_check.specs.declared.run_fault.RunFault.TheVariants.{Capture, Spool, Memory, TooLong}
 
 -- a bad piece of the capture
 abbrev pub of_capture : BadPiece → RunFault
 of_capture bad = Capture bad.piece
+
+-- why the octets of a stream aren't taken
+abbrev pub of_error : PairError → RunFault
+of_error errors.Memory = Memory
+of_error errors.Failed = Memory
+of_error errors.TooLong = TooLong
 
 -- want of memory while a text is read is told as such
 abbrev pub of_kind : ReadFault → Kind → RunFault

@@ -75,14 +75,14 @@ pub record IsAnsweredThroughout (client server : List ℕ) (answers : ℕ) : Typ
 -- pairing ends; it is read back from its text; and `verify` answers nothing of it but that it permits them
 pub record IsYes (limit : Limit) (marks : Marks) (client server : List ℕ) (L : LimitedSpool) (answers : ℕ) : Type 0 where
   pub limit_is : L.limit ≡ limit
-  pub headline : IsOutcome (profile_of limit marks) client server (Yes L.spool answers)
+  pub outcome : IsOutcome (profile_of limit marks) client server (Yes L.spool answers)
   pub throughout : IsAnsweredThroughout client server answers
   pub read_back : spool_at (spool_text L) ≡ Ok L
   pub permits : (verified : Verified) → IsVerified (profile_of limit marks) L.spool client server verified → verified ≡ Permits answers
 
 -- a no: the answer is the bad one, of its class, and the command and the reply are those at its place
 pub record IsNo (profile : Profile) (client server : List ℕ) (answer : ℕ) (class : Class) (command : Option (List ℕ)) (reply : List ℕ) : Type 0 where
-  pub headline : IsOutcome profile client server (No answer class)
+  pub outcome : IsOutcome profile client server (No answer class)
   pub place : StopsAt client server answer class command reply
 
 -- what a verdict says of both streams is so, where article numbers are within the limit, and marks are read so
@@ -90,11 +90,10 @@ abbrev pub IsVerdict : Limit → Marks → List ℕ → List ℕ → Judgement �
 IsVerdict limit marks client server (consistent L answers) = IsYes limit marks client server L answers
 IsVerdict limit marks client server (bad answer class command reply) = IsNo (profile_of limit marks) client server answer class command reply
 
--- so many exchanges have passed, of which the facts are kept, and then this is left
-pub record Passed (profile : Profile) (client server : List ℕ) (facts : FactsKept) (left : Unpaired) (answers : ℕ) : Type 0 where
+-- exchanges have passed, of which the facts are kept, and then this is left
+pub record Passed (profile : Profile) (client server : List ℕ) (facts : FactsKept) (left : Unpaired) : Type 0 where
   pub pairs : List Paired
   pub before : AreNext (streams client server) pairs left
-  pub count : answers ≡ length pairs
   pub stands : HasNoted profile facts pairs
 
 -- the pairing ends here at octets of this class, and these are their index, their line, and octets with their first line

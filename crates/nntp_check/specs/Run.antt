@@ -19,6 +19,8 @@ use Rattle.nntp_check.specs.Judging.{IsVerdict}
 use Rattle.nntp_check.specs.Report.{report_of, verified_report, is_permitted}
 use Rattle.nntp_check.specs.Show.{shown_report, is_end}
 use Rattle.nntp_check.specs.Verdict.{Judgement, is_consistent}
+use Rattle.nntp_check.specs.declared.command_line.Task.{Task}
+use Rattle.nntp_check.specs.declared.command_line.Task.TheVariants as tasks
 use Rattle.nntp_check.specs.declared.run_fault.RunFault.{RunFault}
 use Rattle.nntp_check.specs.declared.run_fault.RunFault.TheVariants as faults
 
@@ -149,3 +151,15 @@ IsShowFault = IsFaultOf ShowReports
 abbrev pub IsVerifyFault : Marks → Input → Output → RunFault → Type 0
 IsVerifyFault marks input output (faults.Spool fault) = ReadsNoSpool input fault
 IsVerifyFault marks input output fault = IsFaultOf (VerifyReports marks) input output fault
+
+-- the report of a task, and its answer
+abbrev pub TaskReports : Task → List ℕ → List ℕ → List ℕ → List ℕ → Bool → Type 0
+TaskReports (tasks.Check limit marks) = CheckReports limit marks
+TaskReports (tasks.Verify marks) = VerifyReports marks
+TaskReports tasks.Show = ShowReports
+
+-- why a task gives no answer
+abbrev pub IsTaskFault : Task → Input → Output → RunFault → Type 0
+IsTaskFault (tasks.Check limit marks) = IsCheckFault limit marks
+IsTaskFault (tasks.Verify marks) = IsVerifyFault marks
+IsTaskFault tasks.Show = IsShowFault

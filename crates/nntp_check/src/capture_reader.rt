@@ -4,7 +4,7 @@ ghost use Rattle.nntp_check.specs.Capture.{Part, AreStreams, IsBadPiece};
 ghost use Rattle.nntp_check.specs.CaptureReading.{IsAt, IsInLine, HasCome, HasRead, HasRoomAt, HasRoomFor, CantGoOn, GoesOn, Reads, IsBadBehind};
 ghost use Rattle.nntp_check.specs.declared.capture_reader.Place.TheVariants.{Start, LetterS, Word, Digits, Octets};
 
-use crate::capture::Source;
+use crate::source::Source;
 
 /// How many digits a first line may have.
 const MOST_DIGITS: u64 = 10;

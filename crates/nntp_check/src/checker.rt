@@ -1,24 +1,24 @@
 //! The verdict on two streams as they come, in pieces.
-ghost use Rattle.std.specs.Prelude.{◌≡◌, ◌≢◌, ◌↔◌, ◌≤◌, ◌<◌, ◌^◌, ◌+◌, ◌++◌, [], ℕ, List, false, true, None, length, nat_le, IfOk, OnOk, IsErrOf, MatchResult};
+ghost use Rattle.std.specs.Prelude.{◌≡◌, [], ℕ, List, true, None, IfOk, MatchResult};
 ghost use Rattle.nntp_article.specs.Session.Limit.{profile_of};
 ghost use Rattle.nntp_article.specs.declared.session.profile.Profile.{Profile};
-ghost use Rattle.nntp_check.specs.Checking.{Keeps, HasPassed, StandsFor, IsToldBad, decided, told_bad, has_failed, client_count, server_count};
-ghost use Rattle.nntp_check.specs.CheckerView.{checked, of_state};
+ghost use Rattle.nntp_pair.specs.declared.side.Side.TheVariants.{Client, Server};
+ghost use Rattle.nntp_check.specs.Checking.{Keeps, HasPassed, StandsFor, IsTaken, IsToldBad, IsFinished, IsUnfinished, decided, told_bad, has_failed};
+ghost use Rattle.nntp_check.specs.CheckerView.{IsUntaken, checked, of_state};
 ghost use Rattle.nntp_check.specs.Judging.{IsVerdict};
 ghost use Rattle.nntp_check.specs.Verdict.{verdict_shown};
 
-use crate::check_error::CheckError;
 use crate::judge::Judge;
 use crate::verdict::Verdict;
 use nntp_facts::Class;
-use nntp_pair::{Ending, Feed, PairClass, PairError, Peek};
+use nntp_pair::{Ending, Feed, OctetCounts, PairClass, PairError, Peek, Side};
 use nntp_wire::{Limit, Marks};
 use std::alloc::{AllocError, Allocator, Global};
 use std::marker::Model;
 use std::mem;
 
-/// Judges both streams as they come, in pieces of any size and in any order between the streams, and holds
-/// what the exchanges say that passed, and the octets behind them.
+/// Judges both streams of a session as they come, in pieces of any size and in any order between the streams. It holds
+/// what the exchanges say that have passed, and the octets behind them.
 #[derive(Drop)]
 pub struct Checker<A: Allocator = Global> {
     state: State<A>,
@@ -32,8 +32,7 @@ enum State<A: Allocator> {
     /// An answer is bad, whatever follows. So many octets came of each stream.
     Decided {
         verdict: Verdict<A>,
-        client_count: u64,
-        server_count: u64,
+        counts: OctetCounts,
     },
     /// Memory was refused.
     Failed,
@@ -56,12 +55,12 @@ impl<A: Allocator> Model for Ongoing<A> {
 
     ghost view = { λ o. record { facts = o.judge.facts; fed = o.feed } };
 
-    ghost invariant = { λ o. IsHeld o.judge.facts o.feed o.judge.answers };
+    ghost invariant = { λ o. IsHeld o.judge.facts o.feed };
 }
 
 impl<A: Allocator + Copy> Checker<A> {
-    /// A checker to which nothing has come. It judges as [`check`](crate::check) does by the limit and the
-    /// marks.
+    /// A checker to which no octet has come. It judges by the limit and the marks as [`check`](crate::check) does, and
+    /// takes no memory yet.
     pub fn new(alloc: A, limit: Limit, marks: Marks) -> Checker<A>
         ensures { StandsFor limit marks (checked result) [] [] }
     {
@@ -71,70 +70,77 @@ impl<A: Allocator + Copy> Checker<A> {
     }
 
     /// Takes the next octets of the client's stream, and judges the answers that are whole then.
-    pub fn feed_client(&mut self, piece: &[u8]) -> Result<(), CheckError>
-        ensures fed { OnOk result ((limit : Limit) (marks : Marks) (client server : List ℕ)
-            → StandsFor limit marks (checked self.old) client server
-            → StandsFor limit marks (checked self.new) (client ++ piece.now) server) }
-        ensures failed { IsErrOf result CheckError.Failed ↔ (has_failed (checked self.old) ≡ true) }
-        ensures too_long { IsErrOf result CheckError.TooLong ↔ ((has_failed (checked self.old) ≡ false) × (2 ^ 64 ≤ client_count (checked self.old) + length piece.now)) }
-        ensures memory { IsErrOf result CheckError.Memory → has_failed (checked self.new) ≡ true }
-        ensures unchanged { IsErrOf result CheckError.Failed → self.new ≡ self.old }
-        ensures as_before { IsErrOf result CheckError.TooLong → self.new ≡ self.old }
+    ///
+    /// # Errors
+    ///
+    /// `Failed` where memory was refused to an earlier call; else `TooLong` where the stream would have more than
+    /// 2^64 - 1 octets; both leave the checker as it was. `Memory` where memory is refused: then each later call answers
+    /// `Failed`, and [`bad`](Checker::bad) tells of no answer.
+    pub fn feed_client(&mut self, piece: &[u8]) -> Result<(), PairError>
+        ensures { MatchResult result (λ _. IsTaken Client piece.now (checked self.old) (checked self.new)) (λ error. IsUntaken error Client piece.now self.old self.new) }
     {
-        let (client_count, _) = self.state.counts()?;
-        if has_no_room(client_count, piece) {
-            return Err(CheckError::TooLong);
-        }
-        let before = mem::replace(&mut self.state, State::Failed);
-        let Ok(state) = before.with_client(piece) else {
-            return Err(CheckError::Memory);
-        };
-        self.state = state;
-        Ok(())
+        self.take(Side::Client, piece)
     }
 
     /// Takes the next octets of the server's stream, and judges the answers that are whole then.
-    pub fn feed_server(&mut self, piece: &[u8]) -> Result<(), CheckError>
-        ensures fed { OnOk result ((limit : Limit) (marks : Marks) (client server : List ℕ)
-            → StandsFor limit marks (checked self.old) client server
-            → StandsFor limit marks (checked self.new) client (server ++ piece.now)) }
-        ensures failed { IsErrOf result CheckError.Failed ↔ (has_failed (checked self.old) ≡ true) }
-        ensures too_long { IsErrOf result CheckError.TooLong ↔ ((has_failed (checked self.old) ≡ false) × (2 ^ 64 ≤ server_count (checked self.old) + length piece.now)) }
-        ensures memory { IsErrOf result CheckError.Memory → has_failed (checked self.new) ≡ true }
-        ensures unchanged { IsErrOf result CheckError.Failed → self.new ≡ self.old }
-        ensures as_before { IsErrOf result CheckError.TooLong → self.new ≡ self.old }
+    ///
+    /// # Errors
+    ///
+    /// Those of [`feed_client`](Checker::feed_client).
+    pub fn feed_server(&mut self, piece: &[u8]) -> Result<(), PairError>
+        ensures { MatchResult result (λ _. IsTaken Server piece.now (checked self.old) (checked self.new)) (λ error. IsUntaken error Server piece.now self.old self.new) }
     {
-        let (_, server_count) = self.state.counts()?;
-        if has_no_room(server_count, piece) {
-            return Err(CheckError::TooLong);
+        self.take(Side::Server, piece)
+    }
+
+    /// Takes the next octets of a side's stream, and judges the answers that are whole then.
+    fn take(&mut self, side: Side, piece: &[u8]) -> Result<(), PairError>
+        ensures { MatchResult result (λ _. IsTaken side piece.now (checked self.old) (checked self.new)) (λ error. IsUntaken error side piece.now self.old self.new) }
+    {
+        match mem::replace(&mut self.state, State::Failed) {
+            State::Judging(Ongoing { judge, mut feed }) => match feed.feed(side, piece) {
+                Ok(()) => {
+                    self.state = go_on(judge, feed)?;
+                    Ok(())
+                }
+                Err(PairError::TooLong) => {
+                    self.state = State::Judging(Ongoing { judge, feed });
+                    Err(PairError::TooLong)
+                }
+                Err(error @ (PairError::Memory | PairError::Failed)) => Err(error),
+            },
+            State::Decided { verdict, counts } => match counts.with(side, piece) {
+                Some(counts) => {
+                    self.state = State::Decided { verdict, counts };
+                    Ok(())
+                }
+                None => {
+                    self.state = State::Decided { verdict, counts };
+                    Err(PairError::TooLong)
+                }
+            },
+            State::Failed => Err(PairError::Failed),
         }
-        let before = mem::replace(&mut self.state, State::Failed);
-        let Ok(state) = before.with_server(piece) else {
-            return Err(CheckError::Memory);
-        };
-        self.state = state;
-        Ok(())
     }
 
     /// The verdict on the octets that came, as [`check`](crate::check) gives it of the joined pieces.
-    pub fn finish(self) -> Result<Verdict<A>, CheckError>
-        ensures verdict { IfOk result (λ verdict. (limit : Limit) (marks : Marks) (client server : List ℕ)
-            → StandsFor limit marks (checked self) client server → IsVerdict limit marks client server (verdict_shown verdict)) }
-        ensures failed { IsErrOf result CheckError.Failed ↔ (has_failed (checked self) ≡ true) }
-        ensures not_too_long { ¬ (IsErrOf result CheckError.TooLong) }
+    ///
+    /// # Errors
+    ///
+    /// `Failed` where memory was refused to an earlier call, `Memory` where memory is refused to this one.
+    pub fn finish(self) -> Result<Verdict<A>, PairError>
+        ensures { MatchResult result (λ verdict. IsFinished (checked self) (verdict_shown verdict)) (λ error. IsUnfinished error (checked self)) }
     {
         match self.state {
-            State::Judging(ongoing) => match ongoing.finish() {
-                Ok(verdict) => Ok(verdict),
-                Err(AllocError) => Err(CheckError::Memory),
-            },
+            State::Judging(ongoing) => Ok(ongoing.finish()?),
             State::Decided { verdict, .. } => Ok(verdict),
-            State::Failed => Err(CheckError::Failed),
+            State::Failed => Err(PairError::Failed),
         }
     }
 
-    /// The answer that is bad, and its class, where no octets that follow can change that: it is none of class Cut, and
-    /// none of class Surplus while the connection is open.
+    /// The number of the answer that is bad, and its class, where no octets that follow can change that: an answer of
+    /// class Cut isn't told, nor one of class Surplus while the connection is open. The greeting is answer 0, and answer k
+    /// is for the k-th line of the client, counted from 1. None where memory was refused.
     pub fn bad(&self) -> Option<(u64, Class)>
         ensures told { (limit : Limit) (marks : Marks) (client server : List ℕ) → StandsFor limit marks (checked self.now) client server → IsToldBad (profile_of limit marks) client server result }
         ensures failed { has_failed (checked self.now) ≡ true → result ≡ None }
@@ -147,13 +153,6 @@ impl<A: Allocator + Copy> Checker<A> {
     }
 }
 
-/// Whether so many octets and these are more than can be counted.
-fn has_no_room(count: u64, piece: &[u8]) -> bool
-    ensures { result ≡ nat_le (2 ^ 64) (count + length piece.now) }
-{
-    count.checked_add(piece.len() as u64).is_none()
-}
-
 /// The answer that a verdict calls bad, and its class.
 fn bad_answer<A: Allocator>(verdict: &Verdict<A>) -> Option<(u64, Class)>
     ensures { result ≡ told_bad (verdict_shown verdict.now) }
@@ -161,71 +160,6 @@ fn bad_answer<A: Allocator>(verdict: &Verdict<A>) -> Option<(u64, Class)>
     match verdict {
         Verdict::Consistent { .. } => None,
         Verdict::Bad { answer, class, .. } => Some((*answer, *class)),
-    }
-}
-
-impl<A: Allocator + Copy> State<A> {
-    /// How many octets came of the client's stream, and of the server's.
-    fn counts(&self) -> Result<(u64, u64), CheckError>
-        ensures { MatchResult result
-            (λ counts. (has_failed (of_state self.now) ≡ false) × (counts.0 ≡ client_count (of_state self.now)) × (counts.1 ≡ server_count (of_state self.now)))
-            (λ e. (has_failed (of_state self.now) ≡ true) × (e ≡ CheckError.Failed)) }
-    {
-        match self {
-            State::Judging(ongoing) => Ok(ongoing.counts()),
-            State::Decided {
-                client_count,
-                server_count,
-                ..
-            } => Ok((*client_count, *server_count)),
-            State::Failed => Err(CheckError::Failed),
-        }
-    }
-
-    /// The same with more octets of the client.
-    fn with_client(self, piece: &[u8]) -> Result<State<A>, AllocError>
-        requires whole { has_failed (of_state self) ≡ false }
-        requires room { client_count (of_state self) + length piece.now < 2 ^ 64 }
-        ensures { IfOk result (λ state. (limit : Limit) (marks : Marks) (client server : List ℕ)
-            → StandsFor limit marks (of_state self) client server
-            → StandsFor limit marks (of_state state) (client ++ piece.now) server) }
-    {
-        match self {
-            State::Judging(ongoing) => ongoing.with_client(piece),
-            State::Decided {
-                verdict,
-                client_count,
-                server_count,
-            } => Ok(State::Decided {
-                verdict,
-                client_count: client_count + piece.len() as u64,
-                server_count,
-            }),
-            State::Failed => unreachable!(),
-        }
-    }
-
-    /// The same with more octets of the server.
-    fn with_server(self, piece: &[u8]) -> Result<State<A>, AllocError>
-        requires whole { has_failed (of_state self) ≡ false }
-        requires room { server_count (of_state self) + length piece.now < 2 ^ 64 }
-        ensures { IfOk result (λ state. (limit : Limit) (marks : Marks) (client server : List ℕ)
-            → StandsFor limit marks (of_state self) client server
-            → StandsFor limit marks (of_state state) client (server ++ piece.now)) }
-    {
-        match self {
-            State::Judging(ongoing) => ongoing.with_server(piece),
-            State::Decided {
-                verdict,
-                client_count,
-                server_count,
-            } => Ok(State::Decided {
-                verdict,
-                client_count,
-                server_count: server_count + piece.len() as u64,
-            }),
-            State::Failed => unreachable!(),
-        }
     }
 }
 
@@ -240,44 +174,6 @@ impl<A: Allocator + Copy> Ongoing<A> {
         }
     }
 
-    /// How many octets came of the client's stream, and of the server's.
-    fn counts(&self) -> (u64, u64)
-        ensures client { result.0 ≡ self.now.fed.client_count }
-        ensures server { result.1 ≡ self.now.fed.server_count }
-    {
-        (self.feed.client_count(), self.feed.server_count())
-    }
-
-    /// The judgement with more octets of the client.
-    fn with_client(self, piece: &[u8]) -> Result<State<A>, AllocError>
-        requires { self.fed.client_count + length piece.now < 2 ^ 64 }
-        ensures { IfOk result (λ state. (limit : Limit) (marks : Marks) (client server : List ℕ)
-            → HasPassed (profile_of limit marks) self.facts self.fed client server
-            → StandsFor limit marks (of_state state) (client ++ piece.now) server) }
-    {
-        let Ongoing { judge, mut feed } = self;
-        match feed.feed_client(piece) {
-            Ok(()) => go_on(judge, feed),
-            Err(PairError::Memory) => Err(AllocError),
-            Err(_) => unreachable!(),
-        }
-    }
-
-    /// The judgement with more octets of the server.
-    fn with_server(self, piece: &[u8]) -> Result<State<A>, AllocError>
-        requires { self.fed.server_count + length piece.now < 2 ^ 64 }
-        ensures { IfOk result (λ state. (limit : Limit) (marks : Marks) (client server : List ℕ)
-            → HasPassed (profile_of limit marks) self.facts self.fed client server
-            → StandsFor limit marks (of_state state) client (server ++ piece.now)) }
-    {
-        let Ongoing { judge, mut feed } = self;
-        match feed.feed_server(piece) {
-            Ok(()) => go_on(judge, feed),
-            Err(PairError::Memory) => Err(AllocError),
-            Err(_) => unreachable!(),
-        }
-    }
-
     /// The verdict, if no more octets come.
     fn finish(self) -> Result<Verdict<A>, AllocError>
         ensures { IfOk result (λ verdict. (limit : Limit) (marks : Marks) (client server : List ℕ)
@@ -285,7 +181,7 @@ impl<A: Allocator + Copy> Ongoing<A> {
             → IsVerdict limit marks client server (verdict_shown verdict)) }
     {
         match self.feed.finish() {
-            Ending::End { .. } => self.judge.ended(),
+            Ending::End { .. } => self.judge.ended(self.feed.index()),
             Ending::Bad { index, class } => self.judge.stopped(index, class, self.feed.ahead()),
             Ending::More | Ending::Failed => unreachable!(),
         }
@@ -308,40 +204,32 @@ fn go_on<A: Allocator + Copy>(
     mut judge: Judge<A>,
     mut feed: Feed<A>,
 ) -> Result<State<A>, AllocError>
-    requires { (limit : Limit) × (marks : Marks) × (client : List ℕ) × (server : List ℕ) × Keeps (profile_of limit marks) judge.facts feed judge.answers client server }
-    ensures { IfOk result (λ state. (limit : Limit) (marks : Marks) (client server : List ℕ)
-        → Keeps (profile_of limit marks) judge.facts feed judge.answers client server
-        → StandsFor limit marks (of_state state) client server) }
+    requires { (limit : Limit) × (marks : Marks) × (client : List ℕ) × (server : List ℕ) × Keeps (profile_of limit marks) judge.facts feed client server }
+    ensures { IfOk result (λ state. (limit : Limit) (marks : Marks) (client server : List ℕ) → Keeps (profile_of limit marks) judge.facts feed client server → StandsFor limit marks (of_state state) client server) }
 {
-    loop {
-        match feed.peek() {
-            Peek::Whole(exchange) => {
-                if let Some(verdict) = judge.note(&exchange)? {
-                    return Ok(decided(verdict, &feed));
-                }
-            }
-            Peek::Bad {
-                index,
-                class: PairClass::Malformed,
-            } => {
-                let verdict = judge.stopped(index, PairClass::Malformed, feed.ahead())?;
-                return Ok(decided(verdict, &feed));
-            }
-            Peek::Bad { .. } => return Ok(State::Judging(Ongoing { judge, feed })),
-            Peek::Nothing => return Ok(State::Judging(Ongoing { judge, feed })),
-            Peek::Failed => unreachable!(),
+    while let Peek::Whole(exchange) = feed.peek() {
+        if let Some(verdict) = judge.note(&exchange)? {
+            return Ok(decided(verdict, &feed));
         }
         feed.advance();
     }
+    if let Peek::Bad {
+        index,
+        class: PairClass::Malformed,
+    } = feed.peek()
+    {
+        let verdict = judge.stopped(index, PairClass::Malformed, feed.ahead())?;
+        return Ok(decided(verdict, &feed));
+    }
+    Ok(State::Judging(Ongoing { judge, feed }))
 }
 
 /// An answer is bad, whatever follows these octets.
 fn decided<A: Allocator + Copy>(verdict: Verdict<A>, feed: &Feed<A>) -> State<A>
-    ensures { of_state result ≡ decided (verdict_shown verdict) feed.now.client_count feed.now.server_count }
+    ensures { of_state result ≡ decided (verdict_shown verdict) feed.now.counts }
 {
     State::Decided {
         verdict,
-        client_count: feed.client_count(),
-        server_count: feed.server_count(),
+        counts: feed.counts(),
     }
 }

@@ -12,11 +12,11 @@ use thiserror::Error;
 /// What the words ask for.
 #[derive(Clone, Copy, Debug, PartialEq, Eq)]
 pub enum Task {
-    /// Judge a session, by the limit and the marks.
+    /// Judge a session by the limit and the marks, as `run_check` does.
     Check { limit: Limit, marks: Marks },
-    /// Tell whether a given spool explains a session, where marks are read so.
+    /// Tell whether a given spool explains a session, as `run_verify` does, by the marks.
     Verify { marks: Marks },
-    /// Show a session as a reader sees it.
+    /// Show a session as a reader sees it, as `run_show` does.
     Show,
 }
 
@@ -156,7 +156,11 @@ fn limit_for_check(matches: &ArgMatches<'_>) -> Limit {
     }
 }
 
-/// Reads the words, of which the first is the program's name.
+/// Reads the words of the command line, of which the first is the program's name, as the task that they ask for.
+///
+/// # Errors
+///
+/// An error of `clap` where the words are refused, where they ask for help, and where memory is refused.
 pub fn job(alloc: Global, words: &[String]) -> Result<Task, clap::Error> {
     let command = Command::new(alloc, "nntpcheck")
         .version("0.1.0")

@@ -18,9 +18,14 @@ use std::alloc::{AllocError, Allocator};
 /// The most octets of a line that a verdict shows.
 const SHOWN: usize = 512;
 
-/// Judges the octets that a client and a server sent: whether some spool explains all answers, and
-/// if none does, which answer is the first that no spool explains together with those before it. The spools
-/// are those whose article numbers are within the limit, and the marks of a 211 are read so.
+/// Judges the octets that a client and a server sent (RFC 3977, sections 3 to 7): whether some spool explains all
+/// answers, and if none does, which answer is the first that no spool explains together with those before it. The
+/// spools are those whose article numbers are within the limit, and the water marks of a 211 (RFC 3977, section 6.1.1)
+/// are read as `marks` tells.
+///
+/// # Errors
+///
+/// `AllocError` where memory is refused.
 pub fn check<A: Allocator + Copy>(
     alloc: A,
     limit: Limit,
@@ -40,7 +45,7 @@ pub fn check<A: Allocator + Copy>(
                 }
             }
             Step::Bad { index, class } => return judge.stopped(index, class, pairs.ahead()),
-            Step::End { .. } => return judge.ended(),
+            Step::End { .. } => return judge.ended(pairs.index()),
         }
     }
 }
@@ -50,20 +55,16 @@ pub fn check<A: Allocator + Copy>(
 pub(crate) struct Judge<A: Allocator> {
     alloc: A,
     facts: Facts<A>,
-    /// How many exchanges passed.
-    answers: u64,
 }
 
 impl<A: Allocator + Copy> Judge<A> {
     /// No exchange has passed yet. It takes no memory.
     pub(crate) fn new(alloc: A, limit: Limit, marks: Marks) -> Judge<A>
-        ensures facts { HasNoted (profile_of limit marks) result.facts [] }
-        ensures answers { result.answers ≡ 0 }
+        ensures { HasNoted (profile_of limit marks) result.facts [] }
     {
         Judge {
             alloc,
             facts: Facts::new(alloc, limit, marks),
-            answers: 0,
         }
     }
 
@@ -72,8 +73,8 @@ impl<A: Allocator + Copy> Judge<A> {
     pub(crate) fn note(&mut self, exchange: &Exchange<'_>) -> Result<Option<Verdict<A>>, AllocError>
         requires { IsDue self.old.facts exchange.now }
         ensures judged { IfOk result (λ told. (limit : Limit) (marks : Marks) (client server : List ℕ) (left behind : Unpaired)
-            → (before : Passed (profile_of limit marks) client server self.old.facts left self.old.answers) → IsNext left exchange.now behind
-            → MatchOption told ((now : Passed (profile_of limit marks) client server self.new.facts behind self.new.answers) × (now.pairs ≡ before.pairs ++ exchange.now ∷ []))
+            → (before : Passed (profile_of limit marks) client server self.old.facts left) → IsNext left exchange.now behind
+            → MatchOption told ((now : Passed (profile_of limit marks) client server self.new.facts behind) × (now.pairs ≡ before.pairs ++ exchange.now ∷ []))
             (λ verdict. IsVerdict limit marks client server (verdict_shown verdict))) }
         ensures for_good { IfOk result (λ told. MatchOption told ⊤ (λ verdict. IsNoForGood (verdict_shown verdict))) }
     {
@@ -81,7 +82,6 @@ impl<A: Allocator + Copy> Judge<A> {
             return Err(AllocError);
         };
         let Some(class) = class_noted(noted) else {
-            self.answers = exchange.index() + 1;
             return Ok(None);
         };
         let verdict = bad(
@@ -103,7 +103,7 @@ impl<A: Allocator + Copy> Judge<A> {
         ahead: Ahead<'_>,
     ) -> Result<Verdict<A>, AllocError>
         ensures verdict { IfOk result (λ verdict. (limit : Limit) (marks : Marks) (client server : List ℕ) (left : Unpaired)
-            → Passed (profile_of limit marks) client server self.now.facts left self.now.answers → StopsHere left index class (option_copied ahead.entry.line) ahead.entry.rest.now
+            → Passed (profile_of limit marks) client server self.now.facts left → StopsHere left index class (option_copied ahead.entry.line) ahead.entry.rest.now
             → IsVerdict limit marks client server (verdict_shown verdict)) }
         ensures for_good { IfOk result (λ verdict. OnMalformed class (IsNoForGood (verdict_shown verdict))) }
     {
@@ -111,18 +111,16 @@ impl<A: Allocator + Copy> Judge<A> {
         bad(self.alloc, index, Class::from(class), ahead.line, reply)
     }
 
-    /// The verdict where no octet of the server is left: that the given spool explains both streams.
-    pub(crate) fn ended(&self) -> Result<Verdict<A>, AllocError>
+    /// The verdict where no octet of the server is left behind so many answers: that the given spool explains both
+    /// streams.
+    pub(crate) fn ended(&self, answers: u64) -> Result<Verdict<A>, AllocError>
         requires { HaveNotedSome self.now.facts }
         ensures { IfOk result (λ verdict. (limit : Limit) (marks : Marks) (client server : List ℕ) (left : Unpaired) (unanswered : ℕ)
-            → Passed (profile_of limit marks) client server self.now.facts left self.now.answers → Ends left (end unanswered)
+            → Passed (profile_of limit marks) client server self.now.facts left → answers ≡ left.index → Ends left (end unanswered)
             → IsVerdict limit marks client server (verdict_shown verdict)) }
     {
         let spool = witness(self.alloc, &self.facts)?;
-        Ok(Verdict::Consistent {
-            spool,
-            answers: self.answers,
-        })
+        Ok(Verdict::Consistent { spool, answers })
     }
 }
 

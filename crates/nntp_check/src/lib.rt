@@ -2,13 +2,11 @@
 //!
 //! `check` judges the two streams of a session, and `Checker` judges them as they come. `run_check`
 //! judges those of a capture and writes the report on them; `run_verify` tells whether the spool of a
-//! capture explains its session; `run_show` writes the session as a reader sees it. `job` and `status`
-//! are the program's command line and its exit status.
+//! capture explains its session; `run_show` writes the session as a reader sees it; `run_task` does what a
+//! command line asks for. `job` and `status` are the program's command line and its exit status.
 #![tactic(auto)]
 
-mod capture;
 mod capture_reader;
-mod check_error;
 mod checker;
 mod checker_sink;
 mod command_line;
@@ -22,16 +20,17 @@ mod run_fault;
 mod session_printer;
 mod show;
 mod sink;
+mod source;
 mod streams;
 mod verdict;
 
-pub use check_error::CheckError;
 pub use checker::Checker;
 pub use command_line::{Failure, Task, job, refusal, status};
 pub use judge::check;
 pub use nntp_facts::Class;
+pub use nntp_pair::PairError as CheckError;
 pub use nntp_spool::{Counts, Kind, ReadFault, Spool, Watched, WriteFault};
 pub use nntp_wire::{Limit, Marks};
-pub use run::{run_check, run_show, run_verify};
+pub use run::{run_check, run_show, run_task, run_verify};
 pub use run_fault::RunFault;
 pub use verdict::Verdict;

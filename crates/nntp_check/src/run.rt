@@ -1,25 +1,20 @@
 //! Runs: what one reads is a capture, and what it writes is the report on it.
-ghost use Rattle.std.specs.Prelude.{◌≡◌, ◌≢◌, ◌↔◌, ◌||◌, ℕ, List, false, true, is_err, IfOk, IfErr, IsErrOf};
+ghost use Rattle.std.specs.Prelude.{◌≡◌, ◌≢◌, ◌↔◌, ◌||◌, false, true, is_err, IfOk, IfErr, IsErrOf};
 ghost use Rattle.nntp_spool.specs.Watched.{inner_of, has_failed_of};
 ghost use Rattle.nntp_spool.specs.Writing.{Writes};
-ghost use Rattle.nntp_check.specs.CheckerView.{checked};
-ghost use Rattle.nntp_check.specs.Checking.{StandsFor};
-ghost use Rattle.nntp_check.specs.Judging.{IsVerdict};
 ghost use Rattle.nntp_check.specs.Report.{is_permitted};
-ghost use Rattle.nntp_check.specs.Verdict.{verdict_shown};
-ghost use Rattle.nntp_check.specs.Run.{read_by, written_by, CheckReports, VerifyReports, ShowReports, IsReported, IsCheckFault, IsVerifyFault, IsShowFault};
+ghost use Rattle.nntp_check.specs.Run.{read_by, written_by, CheckReports, VerifyReports, ShowReports, TaskReports, IsReported, IsCheckFault, IsVerifyFault, IsShowFault, IsTaskFault};
 
-use crate::check_error::CheckError;
 use crate::checker::Checker;
+use crate::command_line::Task;
 use crate::input::read_capture;
 use crate::report::{report, verified_report};
 use crate::run_fault::RunFault;
 use crate::session_printer::SessionPrinter;
 use crate::streams::Streams;
-use crate::verdict::Verdict;
 use nntp_spool::{Spool, Verified, Watched, WriteFault, put, verify};
 use nntp_wire::{Limit, Marks};
-use std::alloc::{AllocError, Allocator};
+use std::alloc::Allocator;
 use std::io::{Read, Write};
 
 /// Writes the text, and then flushes once.
@@ -44,23 +39,16 @@ fn is_permitted(verified: Verified) -> bool
     }
 }
 
-/// The verdict on all that came to a checker to which no memory was refused.
-fn verdict<A: Allocator + Copy>(checker: Checker<A>) -> Result<Verdict<A>, AllocError>
-    requires { (limit : Limit) × (marks : Marks) × (client : List ℕ) × (server : List ℕ) × StandsFor limit marks (checked checker) client server }
-    ensures { IfOk result (λ verdict. (limit : Limit) (marks : Marks) (client server : List ℕ)
-        → StandsFor limit marks (checked checker) client server → IsVerdict limit marks client server (verdict_shown verdict)) }
-{
-    match checker.finish() {
-        Ok(verdict) => Ok(verdict),
-        Err(CheckError::Memory) => Err(AllocError),
-        Err(CheckError::Failed | CheckError::TooLong) => unreachable!(),
-    }
-}
-
-/// Judges the session of the capture that the input has, as it comes, by the limit and the marks, and writes
-/// the report on it: the answer is whether the session is consistent. It reads to the input's end, behind a bad answer too, at
-/// most `most` octets, and passes over spool pieces; at the first fault it ends. The whole report is made
-/// before its first octet is written; one flush follows the last.
+/// Judges the session of the capture that the input has, as it comes, by the limit and the marks, and writes the report
+/// on it: the answer is whether the session is consistent. It reads at most `most` octets, up to the input's end, behind
+/// a bad answer too, and passes over spool pieces; at the first fault it ends. The whole report is made before its first
+/// octet is written; one flush follows the last.
+///
+/// # Errors
+///
+/// `Read` where the reader fails, `TooLong` where more than `most` octets come, `Capture` where the input is no capture,
+/// and `Memory` where memory is refused: the first of them that occurs, and then nothing is written. `Write` where the
+/// writer fails: then it took a front of the report. `Spool` isn't answered.
 pub fn run_check<A: Allocator + Copy, R: Read, W: Write>(
     alloc: A,
     limit: Limit,
@@ -81,16 +69,20 @@ pub fn run_check<A: Allocator + Copy, R: Read, W: Write>(
 {
     let mut checker = Checker::new(alloc, limit, marks);
     read_capture(input, &mut checker, most)?;
-    let verdict = verdict(checker)?;
+    let verdict = checker.finish()?;
     let text = report(alloc, &verdict)?;
     print(&text, output)?;
     Ok(verdict.is_consistent())
 }
 
-/// Tells whether the spool of a capture explains its session, and writes the report on it: the answer
-/// is whether the spool permits all answers. The spool is the one whose text the joined spool pieces
-/// are; numbers are judged by its limit, and the marks of a 211 are read as is told. It reads and writes as
-/// `run_check` does.
+/// Tells whether the spool of a capture explains its session, and writes the report on it: the answer is whether the
+/// spool permits all answers. The spool is the one whose text the joined spool pieces are; article numbers are judged by
+/// its limit, and the water marks of a 211 (RFC 3977, section 6.1.1) are read as `marks` tells. It reads and writes as
+/// [`run_check`] does.
+///
+/// # Errors
+///
+/// Those of [`run_check`], and `Spool` where the joined spool pieces are the text of no spool.
 pub fn run_verify<A: Allocator + Copy, R: Read, W: Write>(
     alloc: A,
     marks: Marks,
@@ -117,8 +109,12 @@ pub fn run_verify<A: Allocator + Copy, R: Read, W: Write>(
     Ok(is_permitted(verified))
 }
 
-/// Writes the session of the capture that the input has as a reader sees it: the answer is whether all
-/// octets of the server are answers. It reads and writes as `run_check` does.
+/// Writes the session of the capture that the input has as a reader sees it: the answer is whether all octets of the
+/// server are answers. It reads and writes as [`run_check`] does.
+///
+/// # Errors
+///
+/// Those of [`run_check`].
 pub fn run_show<A: Allocator + Copy, R: Read, W: Write>(
     alloc: A,
     input: &mut Watched<R>,
@@ -140,4 +136,29 @@ pub fn run_show<A: Allocator + Copy, R: Read, W: Write>(
     let shown = printer.finish()?;
     print(&shown.text, output)?;
     Ok(shown.is_answered)
+}
+
+/// Does the task: `run_check`, `run_verify` or `run_show`, by what the task holds.
+pub fn run_task<A: Allocator + Copy, R: Read, W: Write>(
+    alloc: A,
+    task: Task,
+    input: &mut Watched<R>,
+    output: &mut Watched<W>,
+    most: u64,
+) -> Result<bool, RunFault>
+    // What was read is a capture, and what was written is the task's report on it.
+    ensures ok { IfOk result (IsReported (TaskReports task) (read_by R.remaining input.old input.new most) (written_by W.contents output.old output.new)) }
+    // Which fault it is, by what was read and written.
+    ensures err { IfErr result (IsTaskFault task (read_by R.remaining input.old input.new most) (written_by W.contents output.old output.new)) }
+    // Before the report is whole, the writer isn't touched.
+    ensures unwritten { IfErr result (λ e. e ≢ RunFault.Write → output.new ≡ output.old) }
+
+    ensures read_failed { has_failed_of input.old ≡ false → (IsErrOf result RunFault.Read ↔ (has_failed_of input.new ≡ true)) }
+    ensures write_failed { has_failed_of output.old ≡ false → (IsErrOf result RunFault.Write ↔ (has_failed_of output.new ≡ true)) }
+{
+    match task {
+        Task::Check { limit, marks } => run_check(alloc, limit, marks, input, output, most),
+        Task::Verify { marks } => run_verify(alloc, marks, input, output, most),
+        Task::Show => run_show(alloc, input, output, most),
+    }
 }

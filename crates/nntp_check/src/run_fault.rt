@@ -1,20 +1,21 @@
 //! Why a run gives no answer.
 ghost use Rattle.std.specs.Prelude.{◌≡◌};
-ghost use Rattle.nntp_check.specs.Faults.{of_capture, of_text};
+ghost use Rattle.nntp_check.specs.Faults.{of_capture, of_error, of_text};
 ghost use Rattle.nntp_check.specs.declared.run_fault.RunFault.TheVariants.{Memory, Write};
 
 use crate::capture_reader::BadPiece;
+use nntp_pair::PairError;
 use nntp_spool::{Kind, ReadFault, WriteFault};
 use std::alloc::AllocError;
 use thiserror::Error;
 
-/// Why a run gives no answer. Of the first five nothing was written.
+/// Why a run gives no answer. With each but `Write` nothing was written.
 #[derive(Clone, Copy, Debug, PartialEq, Eq, Error)]
 pub enum RunFault {
-    /// The reader answered an error, be it that a call was interrupted.
+    /// The reader answered an error, or was interrupted, which is an error too.
     #[error("read failed")]
     Read,
-    /// More octets came than the run may read.
+    /// More octets came than the run may read, or than a stream may have.
     #[error("input too long")]
     TooLong,
     /// The input is no capture.
@@ -26,9 +27,10 @@ pub enum RunFault {
     /// The joined spool pieces are the text of no spool.
     #[error("{0}")]
     Spool(ReadFault),
+    /// Memory was refused.
     #[error("out of memory")]
     Memory,
-    /// The writer answered an error, or took none of some octets. It took a front of the text.
+    /// The writer answered an error, or took no octet where it was given one or more. It took a front of the report.
     #[error("write failed")]
     Write,
 }
@@ -38,6 +40,17 @@ impl From<AllocError> for RunFault {
 
     fn from(_error: AllocError) -> RunFault {
         RunFault::Memory
+    }
+}
+
+impl From<PairError> for RunFault {
+    ghost from_gives = { λ error fault. fault ≡ of_error error };
+
+    fn from(error: PairError) -> RunFault {
+        match error {
+            PairError::Memory | PairError::Failed => RunFault::Memory,
+            PairError::TooLong => RunFault::TooLong,
+        }
     }
 }
 

@@ -1,15 +1,16 @@
 //! Shows a session as it comes.
-ghost use Rattle.std.specs.Prelude.{◌≡◌, ◌++◌, [], ℕ, List, IfOk, OnOk};
+ghost use Rattle.std.specs.Prelude.{◌≡◌, ◌++◌, [], ℕ, List, IfOk, IfErr, OnOk};
+ghost use Rattle.nntp_pair.specs.declared.pair_error.PairError.TheVariants.{Memory};
 ghost use Rattle.nntp_check.specs.Capture.{given};
 ghost use Rattle.nntp_check.specs.Run.{ShowReports};
 ghost use Rattle.nntp_check.specs.Sinks.{HasRoom};
-ghost use Rattle.nntp_check.specs.declared.capture.Source.TheVariants.{Client, Server};
+ghost use Rattle.nntp_check.specs.declared.source.Source.TheVariants.{Client, Server};
 ghost use Rattle.nntp_check.specs.Showing.{Shows, ShowsWhole};
 
-use crate::capture::Source;
 use crate::report::put_bad_line;
 use crate::show::{put_end, put_exchange};
 use crate::sink::Sink;
+use crate::source::Source;
 use nntp_facts::Class;
 use nntp_pair::{Ending, Feed, PairError, Peek};
 use std::alloc::{AllocError, Allocator};
@@ -19,8 +20,6 @@ use std::alloc::{AllocError, Allocator};
 pub(crate) struct SessionPrinter<A: Allocator> {
     alloc: A,
     feed: Feed<A>,
-    /// How many answers were shown.
-    answers: u64,
     /// The report so far.
     text: Vec<u8, A>,
 }
@@ -42,25 +41,20 @@ impl<A: Allocator + Copy> SessionPrinter<A> {
         SessionPrinter {
             alloc,
             feed: Feed::new(alloc),
-            answers: 0,
             text: Vec::new(alloc),
         }
     }
 
-    /// Feeds the next octets of a source. A run reads fewer than 2^64 octets, and ends at the first error.
-    fn feed(&mut self, source: Source, octets: &[u8]) -> Result<(), AllocError>
+    /// Feeds the next octets of a source; the text of a spool is passed over.
+    fn feed(&mut self, source: Source, octets: &[u8]) -> Result<(), PairError>
         requires { HasRoom (λ client server spool. Shows self.old client server) octets.now }
-        ensures { OnOk result ((client server : List ℕ) → Shows self.old client server → Shows self.new (client ++ given Client source octets.now) (server ++ given Server source octets.now)) }
+        ensures ok { OnOk result ((client server : List ℕ) → Shows self.old client server → Shows self.new (client ++ given Client source octets.now) (server ++ given Server source octets.now)) }
+        ensures err { IfErr result (λ error. error ≡ Memory) }
     {
-        let outcome = match source {
+        match source {
             Source::Client => self.feed.feed_client(octets),
             Source::Server => self.feed.feed_server(octets),
             Source::Spool => Ok(()),
-        };
-        match outcome {
-            Ok(()) => Ok(()),
-            Err(PairError::Memory) => Err(AllocError),
-            Err(PairError::Failed | PairError::TooLong) => unreachable!(),
         }
     }
 
@@ -70,7 +64,6 @@ impl<A: Allocator + Copy> SessionPrinter<A> {
     {
         while let Peek::Whole(exchange) = self.feed.peek() {
             put_exchange(self.alloc, &mut self.text, &exchange)?;
-            self.answers = exchange.index() + 1;
             self.feed.advance();
         }
         Ok(())
@@ -84,7 +77,8 @@ impl<A: Allocator + Copy> SessionPrinter<A> {
     {
         let is_answered = match self.feed.finish() {
             Ending::End { unanswered } => {
-                put_end(&mut self.text, self.answers, unanswered)?;
+                let answers = self.feed.index();
+                put_end(&mut self.text, answers, unanswered)?;
                 true
             }
             Ending::Bad { index, class } => {
@@ -107,8 +101,9 @@ impl<A: Allocator + Copy> Sink for SessionPrinter<A> {
 
     ghost stands = { λ _ printer client server spool. ShowsWhole printer client server };
 
-    fn take(&mut self, source: Source, octets: &[u8]) -> Result<(), AllocError> {
+    fn take(&mut self, source: Source, octets: &[u8]) -> Result<(), PairError> {
         self.feed(source, octets)?;
-        self.show_whole()
+        self.show_whole()?;
+        Ok(())
     }
 }

@@ -1,9 +1,10 @@
 //! What takes the streams of a capture as they come.
-ghost use Rattle.std.specs.Prelude.{ℕ, List, OnOk};
+ghost use Rattle.std.specs.Prelude.{◌≡◌, ℕ, List, OnOk, IfErr};
+ghost use Rattle.nntp_pair.specs.declared.pair_error.PairError.TheVariants.{Memory};
 ghost use Rattle.nntp_check.specs.Sinks.{HasRoom, Takes};
 
-use crate::capture::Source;
-use std::alloc::AllocError;
+use crate::source::Source;
+use nntp_pair::PairError;
 
 /// Takes the streams of a capture as they come, in octets of one source each time.
 pub(crate) trait Sink {
@@ -14,7 +15,12 @@ pub(crate) trait Sink {
     ghost stands: { By → Self → List ℕ → List ℕ → List ℕ → Type 0 };
 
     /// Takes the next octets of a source. After an error it takes no more.
-    fn take(&mut self, source: Source, octets: &[u8]) -> Result<(), AllocError>
+    ///
+    /// # Errors
+    ///
+    /// `Memory` where memory is refused.
+    fn take(&mut self, source: Source, octets: &[u8]) -> Result<(), PairError>
         requires { (by : By) × HasRoom (stands by self.old) octets.now }
-        ensures { OnOk result ((by : By) → Takes (stands by self.old) (stands by self.new) source octets.now) };
+        ensures ok { OnOk result ((by : By) → Takes (stands by self.old) (stands by self.new) source octets.now) }
+        ensures err { IfErr result (λ error. error ≡ Memory) };
 }

@@ -1,9 +1,10 @@
 //! The streams of a capture, collected.
 ghost use Rattle.std.specs.Prelude.{◌≡◌, []};
 
-use crate::capture::Source;
 use crate::sink::Sink;
-use std::alloc::{AllocError, Allocator};
+use crate::source::Source;
+use nntp_pair::PairError;
+use std::alloc::Allocator;
 
 /// The streams of a capture: the joined octets of the pieces from each source.
 #[derive(Drop)]
@@ -36,11 +37,12 @@ impl<A: Allocator + Copy> Sink for Streams<A> {
 
     ghost stands = { λ _ s client server spool. (s.client.items ≡ client) × (s.server.items ≡ server) × (s.spool.items ≡ spool) };
 
-    fn take(&mut self, source: Source, octets: &[u8]) -> Result<(), AllocError> {
+    fn take(&mut self, source: Source, octets: &[u8]) -> Result<(), PairError> {
         match source {
-            Source::Client => self.client.extend_from_slice(octets),
-            Source::Server => self.server.extend_from_slice(octets),
-            Source::Spool => self.spool.extend_from_slice(octets),
+            Source::Client => self.client.extend_from_slice(octets)?,
+            Source::Server => self.server.extend_from_slice(octets)?,
+            Source::Spool => self.spool.extend_from_slice(octets)?,
         }
+        Ok(())
     }
 }

@@ -11,19 +11,22 @@ use std::alloc::{Allocator, Global};
 pub enum Verdict<A: Allocator = Global> {
     /// The spool explains the whole session.
     Consistent {
+        /// The given spool: it has what every spool has that explains the session.
         spool: Spool<A>,
-        /// How many answers there are, the greeting among them.
+        /// How many answers the server gave, the greeting among them.
         answers: u64,
     },
     /// No spool explains the answers up to this one.
     Bad {
-        /// Its number: the greeting is answer 0, and answer k is for the k-th line of the client.
+        /// The number of the answer: the greeting is answer 0, and answer k is for the k-th line of the client, counted
+        /// from 1.
         answer: u64,
+        /// Why the answer is bad.
         class: Class,
-        /// The first 512 octets of the line that it answers, without CRLF; none for the greeting
-        /// and where the client sent no such line.
+        /// The first 512 octets of the line that is answered, without its CRLF; none for the greeting, and where the
+        /// client sent no such line.
         command: Option<Vec<u8, A>>,
-        /// The first 512 octets of the server's stream from this answer on, up to the first CRLF.
+        /// The first 512 octets of the server's stream from this answer on, up to the first CRLF or the stream's end.
         reply: Vec<u8, A>,
     },
 }

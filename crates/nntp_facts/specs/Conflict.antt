@@ -1,5 +1,5 @@
 -- With which earlier answers a bad answer conflicts.
-use Rattle.std.specs.Prelude.{◌≡◌, ℕ, zero, suc, ◌+◌, ◌<◌, ◌≤◌, Bool, ◌||◌, not, List, [], ◌∷◌, ◌++◌, length, is_some, IsTrue, slice_get, ⊤}
+use Rattle.std.specs.Prelude.{◌≡◌, ℕ, zero, suc, ◌+◌, ◌<◌, ◌≤◌, not, List, [], ◌∷◌, ◌++◌, length, IsTrue, slice_get, ⊤}
 use Rattle.std.specs.List.{AllByRecursion, flat_map, list_any}
 use Rattle.std.specs.Option.{option_map_or}
 use Rattle.nntp_wire.specs.Answer.{Asked, Response}
@@ -12,7 +12,7 @@ use Rattle.nntp_facts.specs.Asks.{position_after, Estimates}
 use Rattle.nntp_facts.specs.declared.position.Position.{Position}
 use Rattle.nntp_article.specs.Article.Parts.{Id}
 use Rattle.nntp_facts.specs.Facts.{Fact, Holds, ThereIs, Asks, IdAt, facts_of}
-use Rattle.nntp_facts.specs.Given.{shows, denies, is_shown, is_denied, asks_in, asks_of, shows_group, is_shown_group, id_in, head_in, body_in}
+use Rattle.nntp_facts.specs.Given.{is_shown, is_denied, asks_of, is_shown_group, id_in, head_in, body_in}
 use Rattle.nntp_facts.specs.Together.{is_possible, AsksStand, denies_group, number_in, shows_article, denies_article, GiveOne}
 
 -- an answer where it stands: what the session shows before it, what was asked, and the response
@@ -113,15 +113,3 @@ ConflictAt facts (PlaceOf name id) = GiveOne (number_in name id) facts → ⊥
 ConflictAt facts (Article id) = IsTrue (list_any (shows_article id) facts) × IsTrue (list_any (denies_article id) facts)
 ConflictAt facts (HeadOf id) = GiveOne (head_in id) facts → ⊥
 ConflictAt facts (BodyOf id) = GiveOne (body_in id) facts → ⊥
-
--- the fact bears on the point: it shows or denies what the point is about
-abbrev pub bears_on : Point → Fact → Bool
-bears_on (Step name) fact = list_any (λ ask. not (is_possible ask)) (asks_in name fact)
-bears_on (Group name) fact = shows_group name fact || denies_group name fact
-bears_on (Number name n) fact = list_any (λ ask. shows ask n || denies ask n) (asks_in name fact)
-bears_on (Numbers name) fact = is_some (slice_get (asks_in name fact) 0)
-bears_on (IdOf name n) fact = is_some (id_in name n fact)
-bears_on (PlaceOf name id) fact = is_some (number_in name id fact)
-bears_on (Article id) fact = shows_article id fact || denies_article id fact
-bears_on (HeadOf id) fact = is_some (head_in id fact)
-bears_on (BodyOf id) fact = is_some (body_in id fact)

@@ -1,5 +1,5 @@
 -- What the facts of a session are of the exchanges that were noted.
-use Rattle.std.specs.Prelude.{◌≡◌, ℕ, ◌<◌, ◌^◌, Bool, false, true, IsTrue, IsFalse, List, [], ◌∷◌, ◌++◌, length, Result, Ok, Err}
+use Rattle.std.specs.Prelude.{◌≡◌, ℕ, ◌<◌, ◌≤◌, ◌^◌, Bool, false, true, IsTrue, IsFalse, List, [], ◌∷◌, ◌++◌, length, Result, Ok, Err}
 use Rattle.std.specs.List.{AllByRecursion}
 use Rattle.nntp_article.specs.declared.session.profile.Profile.{Profile}
 use Rattle.nntp_article.specs.Session.Machine.{Visible, start, fits}
@@ -49,9 +49,9 @@ pub record HasNoted (profile : Profile) (facts : FactsKept) (past : List Paired)
   pub lines : AllByRecursion (λ pair. lines_in pair.response < 2 ^ 64) past
   pub few : length past < 2 ^ 64
 
--- the exchange comes next: its index is how many were accepted, and none of them closed the connection
+-- the exchange may be noted: its index isn't below the number of those that were accepted, and none of them closed the connection
 pub record IsDue (facts : FactsKept) (pair : Paired) : Type 0 where
-  pub index : pair.index ≡ facts.count
+  pub index : facts.count ≤ pair.index
   pub is_open : facts.visible.closed ≡ false
 
 -- some spool permits the exchanges

@@ -13,7 +13,7 @@ pub data Outcome : Type 0 where
   Yes : (spool : Spool) → (answers : ℕ) → Outcome
   No : (answer : ℕ) → (class : Class) → Outcome
 
--- the headline is a yes
+-- the outcome is a yes
 abbrev pub is_yes : Outcome → Bool
 is_yes (Yes spool answers) = true
 is_yes (No answer class) = false

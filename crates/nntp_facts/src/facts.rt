@@ -67,10 +67,10 @@ impl<A: Allocator + Copy> Facts<A> {
         }
     }
 
-    /// Accepts the next exchange of the session, if some spool permits it together with those that
+    /// Accepts a further exchange of the session, if some spool permits it together with those that
     /// were accepted before. If none does, the facts stay as they were, and the value tells why.
     ///
-    /// The exchange has to be the next one: its index is the number of exchanges that were
+    /// Exchanges may be passed over before it. Its index is not below the number of those that were
     /// accepted, and none of these closed the connection.
     ///
     /// For an answer that lists k numbers of a group of which n numbers are kept, it takes time in
@@ -107,7 +107,6 @@ impl<A: Allocator + Copy> Facts<A> {
         requires { IsDue self.old exchange.now }
         ensures { IfOk result (λ noted. (profile : Profile) (past : List Paired) → HasNoted profile self.old past → IsNoted profile past exchange.now self.old self.new noted) }
     {
-        let index = exchange.index();
         let prompt = exchange.prompt();
         let answer = exchange.answer();
         let profile = Profile::of(self.limit, self.marks);
@@ -122,7 +121,7 @@ impl<A: Allocator + Copy> Facts<A> {
         }
         self.visible.advance(prompt, answer)?;
         self.position = self.position.after(prompt, answer);
-        self.count = index + 1;
+        self.count += 1;
         Ok(Noted::Consistent)
     }
 }

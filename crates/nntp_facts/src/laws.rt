@@ -26,6 +26,8 @@ ghost use Rattle.nntp_wire.specs.declared.marks.Marks.{Marks};
 ghost use Rattle.nntp_wire.specs.declared.marks.Marks.TheVariants.{Strict};
 ghost use Rattle.nntp_facts.specs.Conflict.{Placed, placed_from, FitsThere, a_group, told, SomeHas, told_with, below, IsCore, IsPartOfCore, Point, ConflictAt};
 
+pub mod reading;
+
 /// A spool permits a session exactly if it permits each answer with the current article read off
 /// the session.
 pub fn current_article_is_read_off()
@@ -287,18 +289,18 @@ pub fn explanation_is_by_all_pairs()
         → (responses_of pairs ≡ explained.answers) × (unanswered : ℕ) × (ending ≡ end unanswered) }
 {}
 
-/// Two streams have exactly one headline. It is a yes if some spool explains them, and else a no.
+/// Two streams have exactly one outcome. It is a yes if some spool explains them, and else a no.
 pub fn streams_have_one_outcome()
     ensures some { (profile : Profile) (client server : List ℕ) → length server < 2 ^ 210
-        → (headline : Outcome) × IsOutcome profile client server headline }
-    ensures one { (profile : Profile) (client server : List ℕ) (headline other : Outcome)
-        → IsOutcome profile client server headline → IsOutcome profile client server other → headline ≡ other }
-    ensures yes { (profile : Profile) (client server : List ℕ) (headline : Outcome) → IsOutcome profile client server headline
-        → IsTrue (is_yes headline) ↔ ((S : Spool) × (n : ℕ) × Explains profile S client server n) }
+        → (outcome : Outcome) × IsOutcome profile client server outcome }
+    ensures one { (profile : Profile) (client server : List ℕ) (outcome other : Outcome)
+        → IsOutcome profile client server outcome → IsOutcome profile client server other → outcome ≡ other }
+    ensures yes { (profile : Profile) (client server : List ℕ) (outcome : Outcome) → IsOutcome profile client server outcome
+        → IsTrue (is_yes outcome) ↔ ((S : Spool) × (n : ℕ) × Explains profile S client server n) }
 {}
 
 /// Where the pairing comes to the end of the server's octets, and some spool permits its responses,
-/// the headline is a yes with the given spool.
+/// the outcome is a yes with the given spool.
 pub fn outcome_at_the_end()
     ensures { (profile : Profile) (client server : List ℕ) (pairs : List Paired) (unanswered : ℕ) (G : Spool)
         → size (facts_of_session profile.marks (asked_of pairs) (responses_of pairs)) < 2 ^ 210
@@ -306,7 +308,7 @@ pub fn outcome_at_the_end()
         → IsGiven (facts_of_session profile.marks (asked_of pairs) (responses_of pairs)) G → IsOutcome profile client server (Yes G (length pairs)) }
 {}
 
-/// Where the pairing ends at octets, and some spool permits its responses, the headline is a no at
+/// Where the pairing ends at octets, and some spool permits its responses, the outcome is a no at
 /// these octets, of the class of that end.
 pub fn outcome_at_octets()
     ensures { (profile : Profile) (client server : List ℕ) (pairs : List Paired) (class : PairClass)
@@ -314,7 +316,7 @@ pub fn outcome_at_octets()
         → IsOutcome profile client server (No (length pairs) (class_of class)) }
 {}
 
-/// At a paired response that no spool permits behind those that some spool permits, the headline is
+/// At a paired response that no spool permits behind those that some spool permits, the outcome is
 /// a no. It is OutOfPlace where the response doesn't fit the visible state, whatever the spools
 /// are.
 pub fn outcome_at_a_response()

@@ -9,7 +9,7 @@ use Rattle.nntp_pair.specs.declared.peek.Peek.{Peek}
 use Rattle.nntp_pair.specs.declared.peek.Peek.TheVariants as peek
 use Rattle.nntp_pair.specs.declared.ending.Ending.TheVariants as ending
 use Rattle.nntp_pair.specs.Pairing.{Paired, Unpaired, IsNext, IsBad, AreNext, IsPairing, Ends, end, bad, IsLasting, streams, with_more}
-use Rattle.nntp_pair.specs.Feeding.{Fed, IsFed, IsPeek, IsEnding, left_of, with_client, with_server}
+use Rattle.nntp_pair.specs.Feeding.{Fed, IsFed, IsPeek, IsEnding, left_of, with_octets}
 use Rattle.nntp_pair.specs.Searching.{left_from}
 use Rattle.nntp_pair.proofs.NextLemmas.{one-next, next-no-end, one-end}
 use Rattle.nntp_pair.proofs.PairingLemmas.{index-counts, next-more, bad-stays, some-stay}
@@ -42,13 +42,12 @@ one-peek fed peek.Failed (peek.Bad n c) has (a, b, ends) = absurd (failed fed a 
 one-peek fed peek.Failed peek.Failed p q = refl
 
 -- what is left with more octets of both streams
-left-more : (fed : Fed) (client_more server_more : List ℕ)
-    → left_of (with_server server_more (with_client client_more fed)) ≡ with_more
+left-more : (fed : Fed) (client_more server_more : List ℕ) → left_of (with_octets client_more server_more fed) ≡ with_more
     (places-more (nat_lt 0 fed.index) fed.client client_more).0 server_more (left_of fed)
 left-more fed client_more server_more =
     ap (λ places. record { index = fed.index; places = places; server = fed.server ++ server_more; is_closed = fed.is_closed }) (places-more (nat_lt 0 fed.index) fed.client client_more).1
 
-pub peek-stays : (fed : Fed) (client_more server_more : List ℕ) (p : Peek) → IsPeek fed p → p ≢ peek.Nothing → IsPeek (with_server server_more (with_client client_more fed)) p
+pub peek-stays : (fed : Fed) (client_more server_more : List ℕ) (p : Peek) → IsPeek fed p → p ≢ peek.Nothing → IsPeek (with_octets client_more server_more fed) p
 peek-stays fed client_more server_more (peek.Whole x) (sound, behind, next) some =
     let later = (places-more (nat_lt 0 fed.index) fed.client client_more).0 in
     let after = next-more later server_more (left_of fed) behind x next in
@@ -65,7 +64,7 @@ peek-stays fed client_more server_more (peek.Bad n c) (sound, same, ends) some =
       ),
     )
   where
-    lasting : (class : PairClass) → IsLasting class (left_of fed) → IsLasting class (left_of (with_server server_more (with_client client_more fed)))
+    lasting : (class : PairClass) → IsLasting class (left_of fed) → IsLasting class (left_of (with_octets client_more server_more fed))
     lasting Surplus closed = closed
     lasting Cut none = absurd none
     lasting Malformed t = tt

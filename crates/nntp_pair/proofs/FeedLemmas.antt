@@ -20,7 +20,11 @@ use Rattle.nntp_pair.specs.declared.class.PairClass.{PairClass}
 use Rattle.nntp_pair.specs.declared.class.PairClass.TheVariants.{Surplus, Cut, Malformed}
 use Rattle.nntp_pair.specs.declared.searches.Searches.{Searches}
 use Rattle.nntp_pair.specs.Pairing.{Paired, Unpaired, IsNext, IsAnswered, Awaits, AreNext, IsBad, IsCut, IsMalformed, streams, asked_at, places_from}
-use Rattle.nntp_pair.specs.Feeding.{Fed, IsFed, HasNext, EndsForGood, left_of, with_client, with_server}
+use Rattle.nntp_pair.specs.Feeding.{Fed, IsFed, HasNext, EndsForGood, left_of, with_octets}
+use Rattle.nntp_pair.specs.Sides.{given, count_of}
+use Rattle.nntp_pair.specs.declared.octet_counts.OctetCounts.{OctetCounts}
+use Rattle.nntp_pair.specs.declared.side.Side.{Side}
+use Rattle.nntp_pair.specs.declared.side.Side.TheVariants.{Client, Server}
 use Rattle.nntp_pair.specs.Searching.{left_from, BeginsWithPlace, IsForNext, AreSearched, AreThrough, IsInStep}
 use Rattle.nntp_pair.proofs.NextLemmas.{one-awaited}
 use Rattle.nntp_pair.proofs.PairingLemmas.{AreNext-push, frame-more}
@@ -47,10 +51,10 @@ places-more is_greeted client more = at is_greeted where
   at true = (map Some later, lines)
   at false = (map Some later, ap (λ places. None ∷ places) lines)
 
-awaits-client : (index : ℕ) (is_closed : Bool) (client server piece : List ℕ) (place : Option (List ℕ))
-    → Awaits (left_from index is_closed client server) place → Awaits (left_from index is_closed (client ++ piece) server) place
-awaits-client index is_closed client server piece place awaits =
-    let more = places-more (nat_lt 0 index) client piece in
+awaits-more : (index : ℕ) (is_closed : Bool) (client server client_piece server_piece : List ℕ) (place : Option (List ℕ)) → Awaits (left_from index is_closed client server) place
+    → Awaits (left_from index is_closed (client ++ client_piece) (server ++ server_piece)) place
+awaits-more index is_closed client server client_piece server_piece place awaits =
+    let more = places-more (nat_lt 0 index) client client_piece in
     record { is_open = awaits.is_open; places = awaits.places ++ more.0; first = more.1 ∙ ap (λ places. places ++ more.0) awaits.first }
 
 is_greeted : (index : ℕ) → 0 < index → nat_lt 0 index ≡ true
@@ -85,34 +89,29 @@ begins-awaits index is_closed client server place rest is_open begins = record {
 pub for-next : (left : Unpaired) (search : FrameSearch) (place : Option (List ℕ)) → IsForNext left search → Awaits left place → prompt_kind (asked_at place) ≡ search.kind
 for-next left search place is awaits = ap (λ p. prompt_kind (asked_at p)) (one-awaited left place is.place awaits is.awaits) ∙ sym is.kind
 
-client-searched : (index : ℕ) (is_closed : Bool) (client server piece : List ℕ) (frame : Option FrameSearch)
-    → MatchOption frame ⊤ (IsForNext (left_from index is_closed client server)) → MatchOption frame ⊤ (IsForNext (left_from index is_closed (client ++ piece) server))
-client-searched index is_closed client server piece None is = tt
-client-searched index is_closed client server piece (Some search) is =
-    record { place = is.place; awaits = awaits-client index is_closed client server piece is.place is.awaits; kind = is.kind; searched = is.searched }
+frame-searched : (index : ℕ) (is_closed : Bool) (client server client_piece server_piece : List ℕ) (frame : Option FrameSearch)
+    → MatchOption frame ⊤ (IsForNext (left_from index is_closed client server)) → MatchOption frame ⊤ (IsForNext (left_from index is_closed (client ++ client_piece) (server ++ server_piece)))
+frame-searched index is_closed client server client_piece server_piece None is = tt
+frame-searched index is_closed client server client_piece server_piece (Some search) is = record {
+  place = is.place;
+  awaits = awaits-more index is_closed client server client_piece server_piece is.place is.awaits;
+  kind = is.kind;
+  searched = frame_searched-more server server_piece search is.searched;
+}
 
-server-searched : (index : ℕ) (is_closed : Bool) (client server piece : List ℕ) (frame : Option FrameSearch)
-    → MatchOption frame ⊤ (IsForNext (left_from index is_closed client server)) → MatchOption frame ⊤ (IsForNext (left_from index is_closed client (server ++ piece)))
-server-searched index is_closed client server piece None is = tt
-server-searched index is_closed client server piece (Some search) is =
-    record {
-      place = is.place;
-      awaits = record { is_open = is.awaits.is_open; places = is.awaits.places; first = is.awaits.first };
-      kind = is.kind;
-      searched = frame_searched-more server piece search is.searched;
-    }
+-- with more octets of both streams the searches have come as far
+pub searched-more : (index : ℕ) (is_closed : Bool) (client server client_piece server_piece : List ℕ) (searches : Searches) → AreSearched (left_from index is_closed client server) client searches
+    → AreSearched (left_from index is_closed (client ++ client_piece) (server ++ server_piece)) (client ++ client_piece) searches
+searched-more index is_closed client server client_piece server_piece searches are = record {
+  line = line_searched-more client client_piece searches.line are.line;
+  frame = frame-searched index is_closed client server client_piece server_piece searches.frame are.frame;
+}
 
--- with more octets of the client the searches have come as far
-pub searched-client : (index : ℕ) (is_closed : Bool) (client server piece : List ℕ) (searches : Searches) → AreSearched (left_from index is_closed client server) client searches
-    → AreSearched (left_from index is_closed (client ++ piece) server) (client ++ piece) searches
-searched-client index is_closed client server piece searches are =
-    record { line = line_searched-more client piece searches.line are.line; frame = client-searched index is_closed client server piece searches.frame are.frame }
-
--- and with more octets of the server
-pub searched-server : (index : ℕ) (is_closed : Bool) (client server piece : List ℕ) (searches : Searches) → AreSearched (left_from index is_closed client server) client searches
-    → AreSearched (left_from index is_closed client (server ++ piece)) client searches
-searched-server index is_closed client server piece searches are =
-    record { line = are.line; frame = server-searched index is_closed client server piece searches.frame are.frame }
+-- where there is room for octets of a side, the server's stay few enough
+pub counted-small : (side : Side) (counts : OctetCounts) (octets : List ℕ) → counts.server < 2 ^ 64
+    → count_of side counts + length octets < 2 ^ 64 → counts.server + length (given Server side octets) < 2 ^ 64
+counted-small Client counts octets small room = omega arith
+counted-small Server counts octets small room = room
 
 -- searches that have gone through the octets that are held
 pub in-step : (index : ℕ) (is_closed : Bool) (client server held_client held_server : List ℕ) (count : ℕ) (searches : Searches) → client ≡ held_client → server ≡ held_server
@@ -203,42 +202,20 @@ surplus-left left none = at left.is_closed refl left.places refl where
 
 -- ---- what came
 
--- more octets of the client came
-pub fed-client : (fed : Fed) (piece client server : List ℕ) (pairs : List Paired) → IsFed fed client server pairs → IsFed (with_client piece fed) (client ++ piece) server pairs
-fed-client fed piece client server pairs is = record {
+-- more octets of both streams came
+pub fed-more : (fed : Fed) (client_piece server_piece client server : List ℕ) (pairs : List Paired) → IsFed fed client server pairs
+    → IsFed (with_octets client_piece server_piece fed) (client ++ client_piece) (server ++ server_piece) pairs
+fed-more fed client_piece server_piece client server pairs is = record {
   paired = λ client_more server_more.
-      subst (λ t. AreNext (streams t (server ++ server_more)) pairs (left_of (with_server server_more (with_client client_more (with_client piece fed))))) (sym (append_assoc client piece client_more))
-      (subst (λ t. AreNext (streams (client ++ (piece ++ client_more)) (server ++ server_more)) pairs
-      (left_from fed.index fed.is_closed t (fed.server ++ server_more))) (sym (append_assoc fed.client piece client_more))
-      (is.paired (piece ++ client_more) server_more));
-  client_came = ap (λ n. n + length piece) is.client_came ∙ sym (length-append client piece);
-  server_came = is.server_came;
+      subst (λ (x : (List ℕ × List ℕ) × (List ℕ × List ℕ)). AreNext (streams x.0.0 x.0.1) pairs (left_from fed.index fed.is_closed x.1.0 x.1.1))
+      (λ i. (
+        (sym (append_assoc client client_piece client_more) i, sym (append_assoc server server_piece server_more) i),
+        (sym (append_assoc fed.client client_piece client_more) i, sym (append_assoc fed.server server_piece server_more) i),
+      ))
+      (is.paired (client_piece ++ client_more) (server_piece ++ server_more));
+  client_came = ap (λ n. n + length client_piece) is.client_came ∙ sym (length-append client client_piece);
+  server_came = ap (λ n. n + length server_piece) is.server_came ∙ sym (length-append server server_piece);
 }
-
--- more octets of the server came
-pub fed-server : (fed : Fed) (piece client server : List ℕ) (pairs : List Paired) → IsFed fed client server pairs → IsFed (with_server piece fed) client (server ++ piece) pairs
-fed-server fed piece client server pairs is = record {
-  paired = λ client_more server_more.
-      subst (λ t. AreNext (streams (client ++ client_more) t) pairs (left_of (with_server server_more (with_client client_more (with_server piece fed))))) (sym (append_assoc server piece server_more))
-      (subst (λ t. AreNext (streams (client ++ client_more) (server ++ (piece ++ server_more))) pairs
-      (left_from fed.index fed.is_closed (fed.client ++ client_more) t)) (sym (append_assoc fed.server piece server_more))
-      (is.paired client_more (piece ++ server_more)));
-  client_came = is.client_came;
-  server_came = ap (λ n. n + length piece) is.server_came ∙ sym (length-append server piece);
-}
-
--- the same of what is held then
-pub held-client : (fed : Fed) (piece held : List ℕ) (count : ℕ) (client server : List ℕ) (pairs : List Paired) → held ≡ fed.client ++ piece → count ≡ fed.client_count + length piece
-    → IsFed fed client server pairs → IsFed (record fed { client = held; client_count = count }) (client ++ piece) server pairs
-held-client fed piece held count client server pairs same counted is =
-    subst (λ t. IsFed (record fed { client = t; client_count = count }) (client ++ piece) server pairs) (sym same)
-    (subst (λ n. IsFed (record fed { client = fed.client ++ piece; client_count = n }) (client ++ piece) server pairs) (sym counted) (fed-client fed piece client server pairs is))
-
-pub held-server : (fed : Fed) (piece held : List ℕ) (count : ℕ) (client server : List ℕ) (pairs : List Paired) → held ≡ fed.server ++ piece → count ≡ fed.server_count + length piece
-    → IsFed fed client server pairs → IsFed (record fed { server = held; server_count = count }) client (server ++ piece) pairs
-held-server fed piece held count client server pairs same counted is =
-    subst (λ t. IsFed (record fed { server = t; server_count = count }) client (server ++ piece) pairs) (sym same)
-    (subst (λ n. IsFed (record fed { server = fed.server ++ piece; server_count = n }) client (server ++ piece) pairs) (sym counted) (fed-server fed piece client server pairs is))
 
 -- ---- behind an exchange
 
@@ -304,14 +281,12 @@ next-here index is_closed closes_behind client server rest behind_server pair ne
 
 -- one more pair came
 pub fed-push : (fed after : Fed) (client server : List ℕ) (pairs : List Paired) (pair : Paired) → IsFed fed client server pairs
-    → ((client_more server_more : List ℕ) → IsNext (left_of (with_server server_more (with_client client_more fed))) pair (left_of (with_server server_more (with_client client_more after))))
-    → after.client_count ≡ fed.client_count → after.server_count ≡ fed.server_count → IsFed after client server (pairs ++ pair ∷ [])
-fed-push fed after client server pairs pair is next client_count server_count = record {
+    → ((client_more server_more : List ℕ) → IsNext (left_of (with_octets client_more server_more fed)) pair (left_of (with_octets client_more server_more after)))
+    → after.counts ≡ fed.counts → IsFed after client server (pairs ++ pair ∷ [])
+fed-push fed after client server pairs pair is next counts = record {
   paired = λ client_more server_more.
-      AreNext-push pairs (streams (client ++ client_more) (server ++ server_more))
-      (left_of (with_server server_more (with_client client_more fed)))
-      (left_of (with_server server_more (with_client client_more after))) pair
+      AreNext-push pairs (streams (client ++ client_more) (server ++ server_more)) (left_of (with_octets client_more server_more fed)) (left_of (with_octets client_more server_more after)) pair
       (is.paired client_more server_more) (next client_more server_more);
-  client_came = client_count ∙ is.client_came;
-  server_came = server_count ∙ is.server_came;
+  client_came = ap (λ n. n.client) counts ∙ is.client_came;
+  server_came = ap (λ n. n.server) counts ∙ is.server_came;
 }

@@ -19,7 +19,7 @@ same_paired p q index line initial response =
     ∙ ap (λ x. record { index = q.index; line = q.line; initial = x; response = p.response }) initial
     ∙ ap (λ x. record q { response = x }) response
 
-same_unpaired : (a b : Unpaired) → a.index ≡ b.index → a.places ≡ b.places → a.server ≡ b.server → a.is_closed ≡ b.is_closed → a ≡ b
+pub same_unpaired : (a b : Unpaired) → a.index ≡ b.index → a.places ≡ b.places → a.server ≡ b.server → a.is_closed ≡ b.is_closed → a ≡ b
 same_unpaired a b index places server is_closed =
     ap (λ x. record a { index = x }) index
     ∙ ap (λ x. record { index = b.index; places = x; server = a.server; is_closed = a.is_closed }) places

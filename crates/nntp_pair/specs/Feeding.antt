@@ -1,6 +1,12 @@
 -- Both streams as they come, in pieces.
-use Rattle.std.specs.Prelude.{◌≡◌, ℕ, ◌+◌, Bool, true, false, nat_lt, List, [], ◌++◌, length}
+use Rattle.std.specs.Prelude.{◌≡◌, ℕ, ◌+◌, ◌^◌, ◌<◌, ◌≤◌, Bool, true, false, nat_lt, List, [], ◌++◌, length}
 use Rattle.nntp_pair.specs.Pairing.{Paired, Unpaired, IsNext, AreNext, Ends, IsLasting, end, bad, places_from, streams}
+use Rattle.nntp_pair.specs.Sides.{given, count_of, counted}
+use Rattle.nntp_pair.specs.declared.side.Side.{Side}
+use Rattle.nntp_pair.specs.declared.side.Side.TheVariants.{Client, Server}
+use Rattle.nntp_pair.specs.declared.octet_counts.OctetCounts.{OctetCounts}
+use Rattle.nntp_pair.specs.declared.pair_error.PairError.{PairError}
+use Rattle.nntp_pair.specs.declared.pair_error.PairError.TheVariants.{Memory, Failed, TooLong}
 use Rattle.nntp_pair.specs.declared.class.PairClass.{PairClass}
 use Rattle.nntp_pair.specs.declared.peek.Peek.{Peek}
 use Rattle.nntp_pair.specs.declared.peek.Peek.TheVariants as peek
@@ -14,21 +20,16 @@ pub record Fed : Type 0 where
   pub client : List ℕ
   pub server : List ℕ
   pub is_closed : Bool
-  pub client_count : ℕ
-  pub server_count : ℕ
+  pub counts : OctetCounts
   pub has_failed : Bool
 
 -- nothing has come yet
 abbrev pub unfed : Fed
-unfed = record { index = 0; client = []; server = []; is_closed = false; client_count = 0; server_count = 0; has_failed = false }
+unfed = record { index = 0; client = []; server = []; is_closed = false; counts = record { client = 0; server = 0 }; has_failed = false }
 
--- with more octets of the client
-abbrev pub with_client : List ℕ → Fed → Fed
-with_client octets fed = record fed { client = fed.client ++ octets; client_count = fed.client_count + length octets }
-
--- with more octets of the server
-abbrev pub with_server : List ℕ → Fed → Fed
-with_server octets fed = record fed { server = fed.server ++ octets; server_count = fed.server_count + length octets }
+-- with more octets of the client and of the server
+abbrev pub with_octets : List ℕ → List ℕ → Fed → Fed
+with_octets client server fed = record fed { client = fed.client ++ client; server = fed.server ++ server; counts = counted client server fed.counts }
 
 -- memory was refused: no octet is held any more
 abbrev pub refused : Fed → Fed
@@ -41,9 +42,23 @@ left_of fed = record { index = fed.index; places = places_from (nat_lt 0 fed.ind
 -- these octets of both streams came: whatever follows them, these pairs come first, and then what the feed holds
 pub record IsFed (fed : Fed) (client server : List ℕ) (pairs : List Paired) : Type 0 where
   pub paired : (client_more server_more : List ℕ)
-      → AreNext (streams (client ++ client_more) (server ++ server_more)) pairs (left_of (with_server server_more (with_client client_more fed)))
-  pub client_came : fed.client_count ≡ length client
-  pub server_came : fed.server_count ≡ length server
+      → AreNext (streams (client ++ client_more) (server ++ server_more)) pairs (left_of (with_octets client_more server_more fed))
+  pub client_came : fed.counts.client ≡ length client
+  pub server_came : fed.counts.server ≡ length server
+
+-- octets of this side were taken: they came behind those that came before, and the same pairs have passed
+pub record IsTaken (side : Side) (octets : List ℕ) (before after : Fed) : Type 0 where
+  pub worked : before.has_failed ≡ false
+  pub room : count_of side before.counts + length octets < 2 ^ 64
+  pub value : after ≡ with_octets (given Client side octets) (given Server side octets) before
+  pub fed : (client server : List ℕ) (pairs : List Paired) → IsFed before client server pairs
+      → IsFed after (client ++ given Client side octets) (server ++ given Server side octets) pairs
+
+-- no octets of this side were taken, for this reason, and this is left
+abbrev pub IsUntaken : PairError → Side → List ℕ → Fed → Fed → Type 0
+IsUntaken Failed side octets before after = (before.has_failed ≡ true) × (after ≡ before)
+IsUntaken TooLong side octets before after = (before.has_failed ≡ false) × (2 ^ 64 ≤ count_of side before.counts + length octets) × (after ≡ before)
+IsUntaken Memory side octets before after = (before.has_failed ≡ false) × (count_of side before.counts + length octets < 2 ^ 64) × (after ≡ refused before)
 
 -- an exchange comes next
 abbrev pub HasNext : Unpaired → Type 0

@@ -1,6 +1,9 @@
 //! The octets of a stream that came and that no exchange has passed.
 ghost use Rattle.std.specs.Prelude.{◌≡◌, ◌≤◌, ◌++◌, [], length, drop, OnOk, OnErr};
+ghost use Rattle.nntp_pair.specs.Sides.{given};
+ghost use Rattle.nntp_pair.specs.declared.side.Side.TheVariants.{Client, Server};
 
+use crate::side::Side;
 use std::alloc::{AllocError, Allocator};
 use std::marker::Model;
 
@@ -69,5 +72,22 @@ impl<A: Allocator + Copy> Buffer<A> {
     {
         self.octets.clear();
         self.passed = 0;
+    }
+}
+
+/// Takes octets of a side in behind those of its buffer. An Err leaves both buffers as they were.
+pub(crate) fn extend<A: Allocator + Copy>(
+    client: &mut Buffer<A>,
+    server: &mut Buffer<A>,
+    side: Side,
+    piece: &[u8],
+) -> Result<(), AllocError>
+    ensures client { OnOk result (client.new ≡ client.old ++ given Client side piece.now) }
+    ensures server { OnOk result (server.new ≡ server.old ++ given Server side piece.now) }
+    ensures err { OnErr result ((client.new ≡ client.old) × (server.new ≡ server.old)) }
+{
+    match side {
+        Side::Client => client.extend(piece),
+        Side::Server => server.extend(piece),
     }
 }

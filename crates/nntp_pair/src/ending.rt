@@ -6,10 +6,18 @@ use crate::class::PairClass;
 pub enum Ending {
     /// It doesn't end here: a whole exchange waits.
     More,
-    /// No octet of the server is left. So many lines of the client have no answer.
-    End { unanswered: u64 },
-    /// At octets that answer nothing, at the place of this index: 0 is the greeting's, k that of the client's k-th line.
-    Bad { index: u64, class: PairClass },
+    /// No octet of the server is left.
+    End {
+        /// How many lines of the client have no answer.
+        unanswered: u64,
+    },
+    /// It ends at octets that answer nothing.
+    Bad {
+        /// The index of their place: 0 is the greeting's, k that of the client's k-th line, counted from 1.
+        index: u64,
+        /// Why they answer nothing.
+        class: PairClass,
+    },
     /// Memory was refused to an earlier call.
     Failed,
 }

@@ -97,7 +97,8 @@ impl<'a> Exchange<'a> {
         })
     }
 
-    /// Its place in the session: 0 is the greeting's, k that of the client's k-th line. Less than 2^63.
+    /// The index of its place in the session: 0 is the greeting's, k that of the client's k-th line, counted from 1 (RFC
+    /// 3977, section 3.5). It is less than 2^63.
     pub fn index(&self) -> u64
         ensures value { result ≡ self.now.index }
         ensures small { self.now.index < 2 ^ 63 }
@@ -105,7 +106,7 @@ impl<'a> Exchange<'a> {
         self.index
     }
 
-    /// The line of the client that is answered, without its CRLF. The greeting answers none.
+    /// The line of the client that is answered, without its CRLF (RFC 3977, section 3.1). The greeting answers none.
     pub fn line(&self) -> Option<&'a [u8]>
         ensures { option_copied result ≡ self.now.line }
     {
@@ -119,23 +120,24 @@ impl<'a> Exchange<'a> {
         self.initial
     }
 
-    /// What is answered.
+    /// What is answered: the greeting's place, or the command of the line.
     pub fn prompt(&self) -> &Prompt<'a>
         ensures { asked result.now ≡ asked_at self.now.line }
     {
         &self.prompt
     }
 
-    /// What the response says.
+    /// What the response says (RFC 3977, section 3.2).
     pub fn answer(&self) -> &Answer<'a>
         ensures value { response result.now ≡ self.now.response }
         ensures is_spelled { IsSpelled self.now.line self.now.initial self.now.response }
         ensures few_lines { lines_in self.now.response < 2 ^ 64 }
+        ensures low_index { self.now.index < 2 ^ 63 }
     {
         &self.answer
     }
 
-    /// Whether the server closes the connection after it.
+    /// Whether the server closes the connection behind this response (RFC 3977, sections 3.2.1, 5.1 and 5.4).
     pub fn closes(&self) -> bool
         ensures { result ≡ closes (asked_at self.now.line) self.now.response }
     {

@@ -1,18 +1,21 @@
 //! Both streams as they come, in pieces.
-ghost use Rattle.std.specs.Prelude.{◌≡◌, ◌↔◌, ◌≤◌, ◌^◌, ◌+◌, ◌++◌, ◌∷◌, [], ℕ, List, false, true, length, OnOk, IsErrOf};
+ghost use Rattle.std.specs.Prelude.{◌≡◌, ◌++◌, ◌∷◌, [], ℕ, List, MatchResult};
 ghost use Rattle.std.specs.Option.{option_copied};
 ghost use Rattle.nntp_pair.specs.Pairing.{Paired, Unpaired, IsNext, line_ahead};
-ghost use Rattle.nntp_pair.specs.Feeding.{Fed, IsFed, HasNext, IsPeek, IsEnding, left_of, unfed, with_client, with_server, refused};
+ghost use Rattle.nntp_pair.specs.Feeding.{Fed, IsFed, IsTaken, IsUntaken, HasNext, IsPeek, IsEnding, left_of, unfed, refused};
+ghost use Rattle.nntp_pair.specs.declared.side.Side.TheVariants.{Client, Server};
 
-use crate::buffer::Buffer;
+use crate::buffer::{Buffer, extend};
 use crate::class::PairClass;
 use crate::ending::Ending;
 use crate::exchange::{Exchange, prompt_at};
+use crate::octet_counts::OctetCounts;
 use crate::pair_error::PairError;
 use crate::pairs::Ahead;
 use crate::peek::Peek;
 use crate::places::count_lines;
 use crate::searches::Searches;
+use crate::side::Side;
 use nntp_wire::Malformed;
 use std::alloc::{Allocator, Global};
 use std::marker::Model;
@@ -26,9 +29,7 @@ pub struct Feed<A: Allocator = Global> {
     /// Of the next place.
     index: u64,
     is_closed: bool,
-    /// How many octets came of each stream.
-    client_count: u64,
-    server_count: u64,
+    counts: OctetCounts,
     has_failed: bool,
     searches: Searches,
 }
@@ -39,17 +40,9 @@ impl<A: Allocator> Model for Feed<A> {
 
     ghost Value = { Fed };
 
-    ghost view = { λ f. record {
-      index = f.index;
-      client = f.client;
-      server = f.server;
-      is_closed = f.is_closed;
-      client_count = f.client_count;
-      server_count = f.server_count;
-      has_failed = f.has_failed;
-    } };
+    ghost view = { λ f. record { index = f.index; client = f.client; server = f.server; is_closed = f.is_closed; counts = f.counts; has_failed = f.has_failed } };
 
-    ghost invariant = { λ f. IsInStep f.index f.is_closed f.client f.server f.server_count f.searches };
+    ghost invariant = { λ f. IsInStep f.index f.is_closed f.client f.server f.counts.server f.searches };
 }
 
 impl<A: Allocator + Copy> Feed<A> {
@@ -63,65 +56,62 @@ impl<A: Allocator + Copy> Feed<A> {
             server: Buffer::new(alloc),
             index: 0,
             is_closed: false,
-            client_count: 0,
-            server_count: 0,
+            counts: OctetCounts {
+                client: 0,
+                server: 0,
+            },
             has_failed: false,
             searches: Searches::new(0, false, &[], &[]),
         }
     }
 
-    /// Takes the next octets of the client's stream.
-    pub fn feed_client(&mut self, piece: &[u8]) -> Result<(), PairError>
-        ensures value { OnOk result (self.new ≡ with_client piece.now self.old) }
-        ensures fed { OnOk result ((client server : List ℕ) (pairs : List Paired) → IsFed self.old client server pairs → IsFed self.new (client ++ piece.now) server pairs) }
-        ensures failed { IsErrOf result PairError.Failed ↔ (self.old.has_failed ≡ true) }
-        ensures too_long { IsErrOf result PairError.TooLong ↔ ((self.old.has_failed ≡ false) × (2 ^ 64 ≤ self.old.client_count + length piece.now)) }
-        ensures memory { IsErrOf result PairError.Memory → self.new ≡ refused self.old }
-        ensures unchanged { IsErrOf result PairError.Failed → self.new ≡ self.old }
-        ensures as_before { IsErrOf result PairError.TooLong → self.new ≡ self.old }
+    /// Takes the next octets of a side's stream.
+    ///
+    /// # Errors
+    ///
+    /// `Failed` where memory was refused to an earlier call; else `TooLong` where the stream would have more than
+    /// 2^64 - 1 octets; both leave the feed as it was. `Memory` where memory is refused: then the feed holds no octets
+    /// any more, and each later call answers `Failed`.
+    pub fn feed(&mut self, side: Side, piece: &[u8]) -> Result<(), PairError>
+        ensures { MatchResult result (λ _. IsTaken side piece.now self.old self.new) (λ error. IsUntaken error side piece.now self.old self.new) }
     {
         if self.has_failed {
             return Err(PairError::Failed);
         }
-        let Some(count) = self.client_count.checked_add(piece.len() as u64) else {
+        let Some(counts) = self.counts.with(side, piece) else {
             return Err(PairError::TooLong);
         };
-        let Ok(()) = self.client.extend(piece) else {
+        let Ok(()) = extend(&mut self.client, &mut self.server, side, piece) else {
             self.refuse();
             return Err(PairError::Memory);
         };
-        self.client_count = count;
+        self.counts = counts;
         let (client, server) = (self.client.as_slice(), self.server.as_slice());
         self.searches
             .go_on(self.index, self.is_closed, client, server);
         Ok(())
     }
 
-    /// Takes the next octets of the server's stream.
-    pub fn feed_server(&mut self, piece: &[u8]) -> Result<(), PairError>
-        ensures value { OnOk result (self.new ≡ with_server piece.now self.old) }
-        ensures fed { OnOk result ((client server : List ℕ) (pairs : List Paired) → IsFed self.old client server pairs → IsFed self.new client (server ++ piece.now) pairs) }
-        ensures failed { IsErrOf result PairError.Failed ↔ (self.old.has_failed ≡ true) }
-        ensures too_long { IsErrOf result PairError.TooLong ↔ ((self.old.has_failed ≡ false) × (2 ^ 64 ≤ self.old.server_count + length piece.now)) }
-        ensures memory { IsErrOf result PairError.Memory → self.new ≡ refused self.old }
-        ensures unchanged { IsErrOf result PairError.Failed → self.new ≡ self.old }
-        ensures as_before { IsErrOf result PairError.TooLong → self.new ≡ self.old }
+    /// Takes the next octets of the client's stream.
+    ///
+    /// # Errors
+    ///
+    /// Those of [`feed`](Feed::feed).
+    pub fn feed_client(&mut self, piece: &[u8]) -> Result<(), PairError>
+        ensures { MatchResult result (λ _. IsTaken Client piece.now self.old self.new) (λ error. IsUntaken error Client piece.now self.old self.new) }
     {
-        if self.has_failed {
-            return Err(PairError::Failed);
-        }
-        let Some(count) = self.server_count.checked_add(piece.len() as u64) else {
-            return Err(PairError::TooLong);
-        };
-        let Ok(()) = self.server.extend(piece) else {
-            self.refuse();
-            return Err(PairError::Memory);
-        };
-        self.server_count = count;
-        let (client, server) = (self.client.as_slice(), self.server.as_slice());
-        self.searches
-            .go_on(self.index, self.is_closed, client, server);
-        Ok(())
+        self.feed(Side::Client, piece)
+    }
+
+    /// Takes the next octets of the server's stream.
+    ///
+    /// # Errors
+    ///
+    /// Those of [`feed`](Feed::feed).
+    pub fn feed_server(&mut self, piece: &[u8]) -> Result<(), PairError>
+        ensures { MatchResult result (λ _. IsTaken Server piece.now self.old self.new) (λ error. IsUntaken error Server piece.now self.old self.new) }
+    {
+        self.feed(Side::Server, piece)
     }
 
     /// The next exchange, if it is whole, or whether none can come any more.
@@ -158,15 +148,13 @@ impl<A: Allocator + Copy> Feed<A> {
         }
     }
 
-    /// Goes behind the exchange that waits, and gives its octets back.
+    /// Goes behind the exchange that waits, and gives its octets back. The caller has to know that one waits:
+    /// [`peek`](Feed::peek) answers `Whole`.
     pub fn advance(&mut self)
         requires { HasNext (left_of self.old) }
         ensures next { (pair : Paired) × IsNext (left_of self.old) pair (left_of self.new) }
-        ensures fed { (client server : List ℕ) (pairs : List Paired) (pair : Paired) (behind : Unpaired)
-            → IsFed self.old client server pairs → IsNext (left_of self.old) pair behind
-            → IsFed self.new client server (pairs ++ pair ∷ []) }
-        ensures client_count { self.new.client_count ≡ self.old.client_count }
-        ensures server_count { self.new.server_count ≡ self.old.server_count }
+        ensures fed { (client server : List ℕ) (pairs : List Paired) (pair : Paired) (behind : Unpaired) → IsFed self.old client server pairs → IsNext (left_of self.old) pair behind → IsFed self.new client server (pairs ++ pair ∷ []) }
+        ensures counts { self.new.counts ≡ self.old.counts }
         ensures has_failed { self.new.has_failed ≡ self.old.has_failed }
     {
         let (client, server) = (self.client.as_slice(), self.server.as_slice());
@@ -229,7 +217,8 @@ impl<A: Allocator + Copy> Feed<A> {
         self.searches = Searches::new(self.index, self.is_closed, &[], &[]);
     }
 
-    /// The line of the next place, and what has come of the server's stream behind the exchanges that were passed.
+    /// The client's line at the next place, and the octets of the server's stream behind the exchanges that have passed.
+    /// Where memory was refused there is no line and no octet.
     pub fn ahead(&self) -> Ahead<'_>
         ensures line { option_copied result.line ≡ line_ahead (left_of self.now).places }
         ensures rest { result.rest.now ≡ self.now.server }
@@ -245,17 +234,17 @@ impl<A: Allocator + Copy> Feed<A> {
         }
     }
 
-    /// How many octets came of the client's stream.
-    pub fn client_count(&self) -> u64
-        ensures { result ≡ self.now.client_count }
+    /// How many octets came of each stream.
+    pub fn counts(&self) -> OctetCounts
+        ensures { result ≡ self.now.counts }
     {
-        self.client_count
+        self.counts
     }
 
-    /// How many octets came of the server's stream.
-    pub fn server_count(&self) -> u64
-        ensures { result ≡ self.now.server_count }
+    /// The index of the next place, which is how many exchanges have passed.
+    pub fn index(&self) -> u64
+        ensures { result ≡ self.now.index }
     {
-        self.server_count
+        self.index
     }
 }

@@ -1,13 +1,14 @@
 //! Laws of pairings, and of octets that are spellings one after the other.
-ghost use Rattle.std.specs.Prelude.{◌≡◌, ◌≢◌, ℕ, List, [], ◌++◌, Option, length, map, drop};
+ghost use Rattle.std.specs.Prelude.{◌≡◌, ◌≢◌, ◌↔◌, ◌⊎◌, ℕ, List, [], ◌++◌, Option, length, map, drop};
 ghost use Rattle.nntp_wire.specs.Answer.{Response};
 ghost use Rattle.nntp_wire.specs.Session.{prompts_of, AreSpelled, StaysOpen};
 ghost use Rattle.nntp_pair.specs.declared.class.PairClass.{PairClass};
+ghost use Rattle.nntp_pair.specs.declared.class.PairClass.TheVariants.{Malformed};
 ghost use Rattle.nntp_pair.specs.declared.peek.Peek.{Peek};
 ghost use Rattle.nntp_pair.specs.declared.peek.Peek.TheVariants.{Nothing};
 ghost use Rattle.nntp_pair.specs.declared.ending.Ending.TheVariants.{End, Bad};
-ghost use Rattle.nntp_pair.specs.Feeding.{Fed, IsFed, IsPeek, IsEnding, left_of, with_client, with_server};
-ghost use Rattle.nntp_pair.specs.Pairing.{Paired, Unpaired, IsNext, AreNext, Ending, end, bad, Ends, IsPairing, IsLasting, HasPairs, responses_of, asked_at, places_of, streams, with_more};
+ghost use Rattle.nntp_pair.specs.Feeding.{Fed, IsFed, IsPeek, IsEnding, left_of, with_octets};
+ghost use Rattle.nntp_pair.specs.Pairing.{Paired, Unpaired, IsNext, IsPassedOver, AreNext, Ending, end, bad, Ends, IsPairing, IsLasting, HasPairs, responses_of, asked_at, places_of, streams, with_more};
 
 /// One pair comes next, and then one thing is left.
 pub fn one_next_pair()
@@ -19,9 +20,26 @@ pub fn no_pair_at_an_end()
     ensures { (ending : Ending) (before left : Unpaired) (pair : Paired) → IsNext before pair left → ¬ (Ends before ending) }
 {}
 
+/// A pair comes next, or the pairing ends.
+pub fn a_pair_or_an_end()
+    ensures { (before : Unpaired) → ((pair : Paired) × (left : Unpaired) × IsNext before pair left) ⊎ ((ending : Ending) × Ends before ending) }
+{}
+
 /// A pairing ends in one way.
 pub fn one_end()
     ensures { (ending other : Ending) (left : Unpaired) → Ends left ending → Ends left other → ending ≡ other }
+{}
+
+/// One frame that spells nothing is passed over, and then one thing is left.
+pub fn one_passed_over()
+    ensures { (before left other : Unpaired) (line also : Option (List ℕ)) (initial second : List ℕ)
+        → IsPassedOver before line initial left → IsPassedOver before also second other → (line ≡ also) × (initial ≡ second) × (left ≡ other) }
+{}
+
+/// There is one exactly where the pairing ends at a frame that spells nothing. So no pair comes next there.
+pub fn malformed_is_passed_over()
+    ensures { (before : Unpaired) → Ends before (bad Malformed)
+        ↔ ((line : Option (List ℕ)) × (initial : List ℕ) × (left : Unpaired) × IsPassedOver before line initial left) }
 {}
 
 /// Two streams have one pairing.
@@ -102,7 +120,7 @@ pub fn one_peek()
 /// With more octets of both streams it tells the same, unless it told that nothing waits.
 pub fn peek_stays()
     ensures { (fed : Fed) (client_more server_more : List ℕ) (peek : Peek) → IsPeek fed peek → peek ≢ Nothing
-        → IsPeek (with_server server_more (with_client client_more fed)) peek }
+        → IsPeek (with_octets client_more server_more fed) peek }
 {}
 
 /// The pairs that a feed has passed are the first of the pairing of what came, what it holds is left, and its index counts them.

@@ -1,13 +1,15 @@
 //! The pairing of both streams, one exchange at a time.
 ghost use Rattle.std.specs.Prelude.{◌≡◌, ◌<◌, length, MatchResult};
 ghost use Rattle.std.specs.Option.{option_copied};
-ghost use Rattle.nntp_pair.specs.Pairing.{IsNext, IsBad, streams, line_ahead};
+ghost use Rattle.nntp_pair.specs.Pairing.{IsNext, IsBad, IsPassedOver, streams, line_ahead};
 ghost use Rattle.nntp_pair.specs.Step.{IsStep, OnExchange};
+ghost use Rattle.nntp_pair.specs.declared.class.PairClass.TheVariants.{Malformed};
 
 use crate::class::PairClass;
-use crate::exchange::Exchange;
+use crate::exchange::{Exchange, prompt_at};
 use crate::places::Places;
 use crate::step::Step;
+use nntp_wire::{Frame, frame};
 use std::marker::Model;
 
 /// The pairing of both streams: what is left of it. It keeps nothing but slices of the streams, and takes no memory.
@@ -33,9 +35,9 @@ impl<'a> Model for Pairs<'a> {
 /// What comes next in both streams.
 #[derive(Clone, Copy, Debug, PartialEq, Eq)]
 pub struct Ahead<'a> {
-    /// The line of the next place, without its CRLF: none at the greeting's, or where no place is left.
+    /// The client's line at the next place, without its CRLF: none at the greeting's place, or where no place is left.
     pub line: Option<&'a [u8]>,
-    /// What is left of the server's stream.
+    /// The octets that are left of the server's stream.
     pub rest: &'a [u8],
 }
 
@@ -94,6 +96,36 @@ impl<'a> Pairs<'a> {
             is_closed,
         };
         Ok((exchange, behind))
+    }
+
+    /// Goes behind the next frame, where it spells no response ([`PairClass::Malformed`]), and gives it back. It answers
+    /// its place all the same, and the connection stays open (RFC 3977, sections 3.1 and 3.2).
+    pub fn pass_over(&mut self) -> Frame<'a>
+        requires { IsBad Malformed self.old }
+        ensures passed { IsPassedOver self.old (line_ahead self.old.places) result.initial self.new }
+        ensures progress { length self.new.server < length self.old.server }
+    {
+        let Some((line, places)) = self.places.split_first() else {
+            unreachable!();
+        };
+        let Some(frame) = frame(&prompt_at(line), self.server) else {
+            unreachable!();
+        };
+        let (_, server) = self.server.split_at(frame.len());
+        *self = Pairs {
+            index: self.index + 1,
+            places,
+            server,
+            is_closed: false,
+        };
+        frame
+    }
+
+    /// The index of the next place, which is how many places were passed.
+    pub fn index(&self) -> u64
+        ensures { result ≡ self.now.index }
+    {
+        self.index
     }
 
     /// The line of the next place, and what is left of the server's stream.

@@ -10,8 +10,13 @@ pub enum Peek<'a> {
     /// No exchange is whole yet.
     Nothing,
     /// Octets that answer nothing, whatever follows: a frame that spells no response, or octets behind a response that
-    /// closes the connection. The index is that of their place: 0 is the greeting's, k that of the client's k-th line.
-    Bad { index: u64, class: PairClass },
+    /// closes the connection.
+    Bad {
+        /// The index of their place: 0 is the greeting's, k that of the client's k-th line, counted from 1.
+        index: u64,
+        /// Why they answer nothing: Malformed or Surplus.
+        class: PairClass,
+    },
     /// Memory was refused to an earlier call.
     Failed,
 }

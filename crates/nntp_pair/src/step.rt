@@ -7,8 +7,16 @@ use crate::exchange::Exchange;
 pub enum Step<'a> {
     /// The next exchange.
     Exchange(Exchange<'a>),
-    /// Octets that answer nothing, at the place of this index: 0 is the greeting's, k that of the client's k-th line.
-    Bad { index: u64, class: PairClass },
-    /// No octet is left. So many lines of the client have no answer.
-    End { unanswered: u64 },
+    /// The pairing ends at octets that answer nothing.
+    Bad {
+        /// The index of their place: 0 is the greeting's, k that of the client's k-th line, counted from 1.
+        index: u64,
+        /// Why they answer nothing.
+        class: PairClass,
+    },
+    /// The pairing ends with no octet of the server left.
+    End {
+        /// How many lines of the client have no answer.
+        unanswered: u64,
+    },
 }

@@ -1,15 +1,15 @@
 //! Checkers: the worked sessions in pieces, and what is told as bad while octets come.
-use crate::profiles::{NARROW_LENIENT, Profile};
-use crate::random::Random;
-use crate::sessions::{Session, TABLES};
+use crate::choices::checker_by;
+use crate::expectations::expect_octets;
 use crate::verdicts::shown;
 use nntp_check::{CheckError, Checker, Class, Verdict};
-use std::alloc::Global;
+use nntp_sessions::{Choice, NARROW_LENIENT, Random, Session, each_session};
+use std::alloc::{Allocator, Global};
 use std::process::Abort;
 use std::test::Fail;
 
 /// Expects a checker to give the verdict of this report.
-fn expect(
+fn expect_verdict(
     rt: &impl Abort,
     alloc: Global,
     name: &str,
@@ -19,7 +19,7 @@ fn expect(
     let told = checker.bad();
     let verdict = checker.finish()?;
     assert!(rt; is_told(told, &verdict), "{name}, what is told as bad");
-    assert_eq!(rt; shown(alloc, &verdict)?.as_slice(), wanted, "{name}");
+    expect_octets(rt, name, &shown(alloc, &verdict)?, wanted);
     Ok(())
 }
 
@@ -35,9 +35,9 @@ fn is_told(told: Option<(u64, Class)>, verdict: &Verdict) -> bool {
     }
 }
 
-/// Gives both streams in two pieces each, cut at these places.
-fn feed_cut(
-    checker: &mut Checker,
+/// Gives both streams in two pieces each, split at these places.
+pub(crate) fn feed_split<A: Allocator + Copy>(
+    checker: &mut Checker<A>,
     (client, server): (&[u8], &[u8]),
     (at_client, at_server): (usize, usize),
 ) -> Result<(), CheckError> {
@@ -49,52 +49,43 @@ fn feed_cut(
     checker.feed_server(server_rest)
 }
 
-/// Expects the verdict of this report where both streams come in two pieces each, cut at these places.
-pub(crate) fn expect_cut(
+/// Expects the verdict of this report where both streams come in two pieces each, split at these places.
+pub(crate) fn expect_split(
     rt: &impl Abort,
     alloc: Global,
-    profile: Profile,
+    choice: Choice,
     name: &str,
     streams: (&[u8], &[u8]),
     places: (usize, usize),
     wanted: &[u8],
 ) -> Result<(), Fail> {
-    let mut checker = profile.checker(alloc);
-    feed_cut(&mut checker, streams, places)?;
-    expect(rt, alloc, name, checker, wanted)
+    let mut checker = checker_by(choice, alloc);
+    feed_split(&mut checker, streams, places)?;
+    expect_verdict(rt, alloc, name, checker, wanted)
 }
 
-/// Cuts the server's stream at each place, behind the whole stream of the client.
-fn cut_server(rt: &impl Abort, alloc: Global, session: &Session) -> Result<(), Fail> {
-    let wanted = session.report(alloc)?;
-    let Session { name, profile, .. } = *session;
-    let streams = session.streams();
-    for at_server in 0..session.server.len() {
-        let places = (session.client.len(), at_server);
-        expect_cut(rt, alloc, profile, name, streams, places, wanted.as_bytes())?;
+/// Splits the server's stream at each place, behind the whole stream of the client; and the client's at each place,
+/// round the whole stream of the server.
+fn split_everywhere(rt: &impl Abort, alloc: Global, session: &Session) -> Result<(), Fail> {
+    let report = session.report(alloc)?;
+    let wanted = report.as_bytes();
+    let Session { name, choice, .. } = *session;
+    let (client, server) = session.streams();
+    for place in 0..server.len() {
+        let places = (client.len(), place);
+        expect_split(rt, alloc, choice, name, (client, server), places, wanted)?;
     }
-    Ok(())
-}
-
-/// Cuts the client's stream at each place, round the whole stream of the server.
-fn cut_client(rt: &impl Abort, alloc: Global, session: &Session) -> Result<(), Fail> {
-    let wanted = session.report(alloc)?;
-    let Session { name, profile, .. } = *session;
-    let streams = session.streams();
-    for at_client in 0..session.client.len() {
-        let places = (at_client, session.server.len());
-        expect_cut(rt, alloc, profile, name, streams, places, wanted.as_bytes())?;
+    for place in 0..client.len() {
+        let places = (place, server.len());
+        expect_split(rt, alloc, choice, name, (client, server), places, wanted)?;
     }
     Ok(())
 }
 
 #[test]
 fn sessions_in_two_pieces(rt: HostRuntime) -> Result<(), Fail> {
-    for table in TABLES {
-        for session in table {
-            cut_server(&rt, rt.alloc(), session)?;
-            cut_client(&rt, rt.alloc(), session)?;
-        }
+    for session in each_session(rt.alloc())? {
+        split_everywhere(&rt, rt.alloc(), session)?;
     }
     Ok(())
 }
@@ -174,26 +165,24 @@ fn feed_by_octets(
     }
 }
 
-/// Judges a session whose octets come one by one.
-fn judge_by_octets(
+/// Expects the verdict on a session whose octets come one by one.
+fn expect_by_octets(
     rt: &impl Abort,
     alloc: Global,
     session: &Session,
     order: Order,
 ) -> Result<(), Fail> {
     let wanted = session.report(alloc)?;
-    let mut checker = session.profile.checker(alloc);
+    let mut checker = checker_by(session.choice, alloc);
     feed_by_octets(rt, &mut checker, session, order)?;
-    expect(rt, alloc, session.name, checker, wanted.as_bytes())
+    expect_verdict(rt, alloc, session.name, checker, wanted.as_bytes())
 }
 
 #[test]
 fn sessions_by_octets(rt: HostRuntime) -> Result<(), Fail> {
-    for table in TABLES {
-        for session in table {
-            judge_by_octets(&rt, rt.alloc(), session, Order::ClientFirst)?;
-            judge_by_octets(&rt, rt.alloc(), session, Order::ServerFirst)?;
-            judge_by_octets(&rt, rt.alloc(), session, Order::InTurn)?;
+    for session in each_session(rt.alloc())? {
+        for order in [Order::ClientFirst, Order::ServerFirst, Order::InTurn] {
+            expect_by_octets(&rt, rt.alloc(), session, order)?;
         }
     }
     Ok(())
@@ -222,13 +211,11 @@ fn feed_at_random(
 #[test]
 fn sessions_in_pieces_at_random(rt: HostRuntime) -> Result<(), Fail> {
     let mut random = Random::new(16, 0);
-    for table in TABLES {
-        for session in table {
-            let wanted = session.report(rt.alloc())?;
-            let mut checker = session.profile.checker(rt.alloc());
-            feed_at_random(&mut checker, &mut random, session)?;
-            expect(&rt, rt.alloc(), session.name, checker, wanted.as_bytes())?;
-        }
+    for session in each_session(rt.alloc())? {
+        let wanted = session.report(rt.alloc())?;
+        let mut checker = checker_by(session.choice, rt.alloc());
+        feed_at_random(&mut checker, &mut random, session)?;
+        expect_verdict(&rt, rt.alloc(), session.name, checker, wanted.as_bytes())?;
     }
     Ok(())
 }
@@ -247,19 +234,19 @@ fn feed_after_quit(rt: &impl Abort, checker: &mut Checker) -> Result<(), CheckEr
 
 #[test]
 fn octets_on_a_closed_connection(rt: HostRuntime) -> Result<(), Fail> {
-    let mut checker = NARROW_LENIENT.checker(rt.alloc());
+    let mut checker = checker_by(NARROW_LENIENT, rt.alloc());
     feed_after_quit(&rt, &mut checker)?;
     let wanted = b"bad answer 2 Surplus\nno command\nanswer xy\n";
-    expect(&rt, rt.alloc(), "no line follows", checker, wanted)
+    expect_verdict(&rt, rt.alloc(), "no line follows", checker, wanted)
 }
 
 #[test]
 fn a_line_on_a_closed_connection(rt: HostRuntime) -> Result<(), Fail> {
-    let mut checker = NARROW_LENIENT.checker(rt.alloc());
+    let mut checker = checker_by(NARROW_LENIENT, rt.alloc());
     feed_after_quit(&rt, &mut checker)?;
     checker.feed_client(b"GROUP g\r\n")?;
     let wanted = b"bad answer 2 Surplus\ncommand GROUP g\nanswer xy\n";
-    expect(&rt, rt.alloc(), "a line follows", checker, wanted)
+    expect_verdict(&rt, rt.alloc(), "a line follows", checker, wanted)
 }
 
 /// Gives an answer, and then the line that it answers.
@@ -273,10 +260,10 @@ fn feed_answer_first(rt: &impl Abort, checker: &mut Checker) -> Result<(), Check
 
 #[test]
 fn an_answer_that_comes_before_its_line(rt: HostRuntime) -> Result<(), Fail> {
-    let mut checker = NARROW_LENIENT.checker(rt.alloc());
+    let mut checker = checker_by(NARROW_LENIENT, rt.alloc());
     feed_answer_first(&rt, &mut checker)?;
     let wanted = b"consistent answers=2 groups=0 numbers=0 articles=0\nspool 1\nend\n";
-    expect(&rt, rt.alloc(), "an answer first", checker, wanted)
+    expect_verdict(&rt, rt.alloc(), "an answer first", checker, wanted)
 }
 
 /// Gives an answer out of place, and then another answer and another line.
@@ -292,8 +279,8 @@ fn feed_out_of_place(rt: &impl Abort, checker: &mut Checker) -> Result<(), Check
 
 #[test]
 fn a_bad_answer_stays(rt: HostRuntime) -> Result<(), Fail> {
-    let mut checker = NARROW_LENIENT.checker(rt.alloc());
+    let mut checker = checker_by(NARROW_LENIENT, rt.alloc());
     feed_out_of_place(&rt, &mut checker)?;
     let wanted = b"bad answer 1 OutOfPlace\ncommand NEXT\nanswer 223 1 <a@b>\n";
-    expect(&rt, rt.alloc(), "an answer out of place", checker, wanted)
+    expect_verdict(&rt, rt.alloc(), "an answer out of place", checker, wanted)
 }

@@ -1,7 +1,8 @@
 //! The command line, the words on standard error, and the exit status.
-use crate::profiles::{NARROW_LENIENT, NARROW_STRICT, WIDE_LENIENT, WIDE_STRICT};
+use crate::choices::{check_task, verify_task};
 use clap::error::ErrorKind;
 use nntp_check::{Failure, Kind, ReadFault, RunFault, Task, job, refusal, status};
+use nntp_sessions::{NARROW_LENIENT, NARROW_STRICT, WIDE_LENIENT, WIDE_STRICT};
 use std::alloc::{AllocError, Global};
 use std::process::Abort;
 use std::test::Fail;
@@ -17,24 +18,24 @@ fn words(alloc: Global, of: &[&str]) -> Result<Vec<String>, AllocError> {
 #[test]
 fn words_that_ask_for_a_task(rt: HostRuntime) -> Result<(), Fail> {
     let rows: [(&[&str], Task); 8] = [
-        (&["nntpcheck", "check"], NARROW_LENIENT.check_task()),
+        (&["nntpcheck", "check"], check_task(NARROW_LENIENT)),
         (
             &["nntpcheck", "check", "--strict-marks"],
-            NARROW_STRICT.check_task(),
+            check_task(NARROW_STRICT),
         ),
-        (&["nntpcheck", "check", "--wide"], WIDE_LENIENT.check_task()),
+        (&["nntpcheck", "check", "--wide"], check_task(WIDE_LENIENT)),
         (
             &["nntpcheck", "check", "--wide", "--strict-marks"],
-            WIDE_STRICT.check_task(),
+            check_task(WIDE_STRICT),
         ),
         (
             &["nntpcheck", "check", "--strict-marks", "--wide"],
-            WIDE_STRICT.check_task(),
+            check_task(WIDE_STRICT),
         ),
-        (&["nntpcheck", "verify"], NARROW_LENIENT.verify_task()),
+        (&["nntpcheck", "verify"], verify_task(NARROW_LENIENT)),
         (
             &["nntpcheck", "verify", "--strict-marks"],
-            NARROW_STRICT.verify_task(),
+            verify_task(NARROW_STRICT),
         ),
         (&["nntpcheck", "show"], Task::Show),
     ];

@@ -1,24 +1,25 @@
 //! Recordings that end early: each consistent worked session, with one of both streams cut after each octet.
-use crate::checkers::expect_cut;
-use crate::sessions::{Session, TABLES};
-use crate::slow_judge::{Answered, exchanges};
-use crate::slowly_judged::begins;
+use crate::checkers::expect_split;
+use crate::choices::check_by;
+use crate::expectations::{expect_front, expect_octets};
 use crate::verdicts::shown;
+use nntp_sessions::{Session, each_session};
+use nntp_slow_judge::{Answered, exchanges};
 use std::alloc::{AllocError, Global};
 use std::process::Abort;
 use std::test::Fail;
 
-/// The report of `check` on these streams by the profile of the session, on which `Checker` agrees.
+/// The report of `check` on these streams by the choice of the session, on which `Checker` agrees.
 fn report(
     rt: &impl Abort,
     alloc: Global,
     session: &Session,
     (client, server): (&[u8], &[u8]),
 ) -> Result<Vec<u8>, Fail> {
-    let Session { name, profile, .. } = *session;
-    let report = shown(alloc, &profile.check(alloc, (client, server))?)?;
+    let Session { name, choice, .. } = *session;
+    let report = shown(alloc, &check_by(choice, alloc, (client, server))?)?;
     let places = (client.len() / 2, server.len() / 2);
-    expect_cut(rt, alloc, profile, name, (client, server), places, &report)?;
+    expect_split(rt, alloc, choice, name, (client, server), places, &report)?;
     Ok(report)
 }
 
@@ -52,18 +53,16 @@ fn cut_server(rt: &impl Abort, alloc: Global, session: &Session) -> Result<(), F
         let (front, _) = server.split_at(place);
         let report = report(rt, alloc, session, (client, front))?;
         let first = first_line(alloc, &exchanges, place)?;
-        begins(rt, session.name, &report, first.as_str());
+        expect_front(rt, session.name, &report, first.as_str());
     }
     Ok(())
 }
 
 #[test]
 fn streams_of_the_server(rt: HostRuntime) -> Result<(), Fail> {
-    for table in TABLES {
-        for session in table {
-            if session.is_consistent() {
-                cut_server(&rt, rt.alloc(), session)?;
-            }
+    for session in each_session(rt.alloc())? {
+        if session.is_consistent() {
+            cut_server(&rt, rt.alloc(), session)?;
         }
     }
     Ok(())
@@ -79,22 +78,16 @@ fn cut_line(
     answered: &Answered<'_>,
 ) -> Result<(), Fail> {
     let index = answered.exchange.index();
-    let initial = answered.exchange.initial();
-    let mut wanted = Vec::new(alloc);
     let first = format!(in alloc; "bad answer {index} Surplus\nno command\nanswer ")?;
-    wanted.extend_from_slice(first.as_bytes())?;
-    wanted.extend_from_slice(initial)?;
+    let mut wanted = first.into_bytes();
+    wanted.extend_from_slice(answered.exchange.initial())?;
     wanted.push(b'\n')?;
+    let name = format!(in alloc; "{}, answer {index}", session.name)?;
     let length = answered.exchange.line().map_or(0, |line| line.len());
     for missing in 1..=length.saturating_add(2) {
         let (front, _) = lines.split_at(lines.len().saturating_sub(missing));
         let report = report(rt, alloc, session, (front, server))?;
-        let name = session.name;
-        assert_eq!(rt;
-            report.as_slice(),
-            wanted.as_slice(),
-            "{name}, answer {index}, and {missing} octets are missing"
-        );
+        expect_octets(rt, name.as_str(), &report, &wanted);
     }
     Ok(())
 }
@@ -116,11 +109,9 @@ fn cut_client(rt: &impl Abort, alloc: Global, session: &Session) -> Result<(), F
 
 #[test]
 fn streams_of_the_client(rt: HostRuntime) -> Result<(), Fail> {
-    for table in TABLES {
-        for session in table {
-            if session.is_consistent() {
-                cut_client(&rt, rt.alloc(), session)?;
-            }
+    for session in each_session(rt.alloc())? {
+        if session.is_consistent() {
+            cut_client(&rt, rt.alloc(), session)?;
         }
     }
     Ok(())

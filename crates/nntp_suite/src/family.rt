@@ -1,15 +1,17 @@
-//! Every session of at most three exchanges out of twelve, by each profile, and one of a thousand groups: all judges
+//! Every session of at most three exchanges out of twelve, by each choice, and one of a thousand groups: all judges
 //! agree, and each spool that is given is read back and permitted.
-use crate::checkers::expect_cut;
-use crate::fakes::{Full, reader, writer};
-use crate::given_spools;
-use crate::profiles::{
-    NARROW_LENIENT, NARROW_STRICT, PROFILES, Profile, WIDE_LENIENT, WIDE_STRICT,
-};
-use crate::sessions::{capture, verified_report};
+use crate::checkers::expect_split;
+use crate::choices::{check_by, check_task, verify_task};
+use crate::expectations::{expect_verified, expect_written};
+use crate::given_spools::put;
 use crate::slowly_judged::compare_report;
-use crate::verdicts::{self, shown};
-use nntp_check::{Marks, run_show};
+use crate::verdicts::shown;
+use crate::written::written;
+use nntp_check::Task;
+use nntp_sessions::{
+    CHOICES, Choice, NARROW_LENIENT, NARROW_STRICT, WIDE_LENIENT, WIDE_STRICT, capture,
+    verified_report, with_spool,
+};
 use nntp_spool::Verified;
 use std::alloc::{AllocError, Global};
 use std::process::Abort;
@@ -77,98 +79,91 @@ impl Recording {
 
     /// The report of `check`, on which `Checker` and the run agree. The run that shows the session finds as
     /// many answers.
-    fn report(&self, rt: &impl Abort, alloc: Global, profile: Profile) -> Result<String, Fail> {
+    fn report(&self, rt: &impl Abort, alloc: Global, choice: Choice) -> Result<String, Fail> {
         let name = self.client.as_str();
         let (client, server) = self.streams();
-        let report = shown(alloc, &profile.check(alloc, (client, server))?)?;
+        let report = shown(alloc, &check_by(choice, alloc, (client, server))?)?;
         for places in [(client.len() / 2, server.len() / 2), (0, server.len() / 3)] {
-            expect_cut(rt, alloc, profile, name, (client, server), places, &report)?;
+            expect_split(rt, alloc, choice, name, (client, server), places, &report)?;
         }
         let capture = self.capture(alloc)?;
-        let (answer, written) = verdicts::run(alloc, profile, capture.as_str())?;
-        assert_eq!(rt; written.as_slice(), report.as_slice(), "{name}");
-        assert_eq!(rt; answer, report.starts_with(b"consistent "), "{name}");
+        let ended = written(alloc, check_task(choice), capture.as_str())?;
+        let answer = report.starts_with(b"consistent ");
+        expect_written(rt, name, ended, (answer, report.as_slice()));
         self.show(rt, alloc)?;
         Ok(String::from_utf8(report)?)
     }
 
     fn show(&self, rt: &impl Abort, alloc: Global) -> Result<(), Fail> {
         let capture = self.capture(alloc)?;
-        let mut input = reader(capture.as_bytes(), 4096, 0);
-        let mut output = writer(alloc, 100_000, 100_000, Full::Fails);
-        assert!(rt; run_show(alloc, &mut input, &mut output, 1 << 30)?);
+        let (answer, written) = written(alloc, Task::Show, capture.as_str())?;
         let last = format!(in alloc; "\nend answers={} unanswered=0\n", self.answers)?;
-        assert!(rt;
-            output.into_inner().held.ends_with(last.as_bytes()),
-            "{last}"
-        );
+        assert!(rt; answer && written.ends_with(last.as_bytes()), "{last}");
         Ok(())
     }
 
     /// Reads the text of the given spool back, which has to be permitted.
-    fn put(&self, rt: &impl Abort, alloc: Global, marks: Marks, text: &str) -> Result<(), Fail> {
+    fn put_given(
+        &self,
+        rt: &impl Abort,
+        alloc: Global,
+        choice: Choice,
+        text: &str,
+    ) -> Result<(), Fail> {
         let name = self.client.as_str();
         let wanted = Verified::Permits {
             answers: self.answers as u64,
         };
-        let verified = given_spools::put(alloc, marks, text, self.streams())?;
-        assert_eq!(rt; verified, wanted, "{name}");
-        let capture = self.capture(alloc)?;
-        let (answer, written) = given_spools::run(alloc, marks, capture.as_str(), text)?;
+        let verified = put(alloc, choice.marks, text, self.streams())?;
+        expect_verified(rt, name, verified, wanted);
+        let streams = self.capture(alloc)?;
+        let capture = with_spool(alloc, streams.as_str(), text)?;
+        let ended = written(alloc, verify_task(choice), capture.as_str())?;
         let report = verified_report(alloc, wanted)?;
-        assert_eq!(rt; written.as_slice(), report.as_bytes(), "{name}");
-        assert!(rt; answer, "{name}");
+        expect_written(rt, name, ended, (true, report.as_bytes()));
         Ok(())
     }
 
-    /// Has all judges say the same. Returns whether it is consistent.
-    fn judge(&self, rt: &impl Abort, alloc: Global, profile: Profile) -> Result<bool, Fail> {
+    /// Has all judges say the same. Returns 1 where it is consistent, and else 0.
+    fn count(&self, rt: &impl Abort, alloc: Global, choice: Choice) -> Result<u64, Fail> {
         let name = self.client.as_str();
-        let report = self.report(rt, alloc, profile)?;
+        let report = self.report(rt, alloc, choice)?;
         let octets = report.as_bytes();
-        compare_report(
-            rt,
-            alloc,
-            profile,
-            name,
-            self.streams(),
-            self.answers,
-            octets,
-        )?;
+        let streams = self.streams();
+        compare_report(rt, alloc, choice, name, streams, self.answers, octets)?;
         if !report.starts_with("consistent ") {
-            return Ok(false);
+            return Ok(0);
         }
         let Some((_, text)) = report.split_once('\n') else {
             return Err("a report has no line".into());
         };
-        self.put(rt, alloc, profile.marks, text)?;
-        Ok(true)
+        self.put_given(rt, alloc, choice, text)?;
+        Ok(1)
     }
 }
 
-/// Judges the session of these exchanges, and returns 1 where it is consistent.
-fn judge(
+/// Counts the session of these exchanges, if it is consistent.
+fn count(
     rt: &impl Abort,
     alloc: Global,
-    profile: Profile,
+    choice: Choice,
     exchanges: &[Exchange],
 ) -> Result<u64, Fail> {
-    let recording = Recording::of(alloc, exchanges)?;
-    Ok(u64::from(recording.judge(rt, alloc, profile)?))
+    Recording::of(alloc, exchanges)?.count(rt, alloc, choice)
 }
 
-/// Judges each session of these two exchanges and one more, and returns how many are consistent.
-fn judge_third(
+/// Counts the consistent sessions of these two exchanges and one more.
+fn count_third(
     rt: &impl Abort,
     alloc: Global,
-    profile: Profile,
+    choice: Choice,
     first: Exchange,
     second: Exchange,
 ) -> Result<u64, Fail> {
     let mut consistent = 0u64;
     for third in EXCHANGES {
-        let count = judge(rt, alloc, profile, &[first, second, third])?;
-        consistent = consistent.saturating_add(count);
+        let counted = count(rt, alloc, choice, &[first, second, third])?;
+        consistent = consistent.saturating_add(counted);
     }
     Ok(consistent)
 }
@@ -201,73 +196,73 @@ const STRICT: Family = Family {
     from_others: 24 + 24 + 19,
 };
 
-/// Judges each session of at most two exchanges, and returns how many are consistent.
-fn judge_two(rt: &impl Abort, alloc: Global, profile: Profile) -> Result<u64, Fail> {
-    let mut consistent = judge(rt, alloc, profile, &[])?;
+/// Counts the consistent sessions of at most two exchanges.
+fn count_two(rt: &impl Abort, alloc: Global, choice: Choice) -> Result<u64, Fail> {
+    let mut consistent = count(rt, alloc, choice, &[])?;
     for first in EXCHANGES {
-        let count = judge(rt, alloc, profile, &[first])?;
-        consistent = consistent.saturating_add(count);
+        let counted = count(rt, alloc, choice, &[first])?;
+        consistent = consistent.saturating_add(counted);
         for second in EXCHANGES {
-            let count = judge(rt, alloc, profile, &[first, second])?;
-            consistent = consistent.saturating_add(count);
+            let counted = count(rt, alloc, choice, &[first, second])?;
+            consistent = consistent.saturating_add(counted);
         }
     }
     Ok(consistent)
 }
 
-/// Judges each session of three exchanges that begins with one of these, and returns how many are consistent.
-fn judge_three(
+/// Counts the consistent sessions of three exchanges that begin with one of these.
+fn count_three(
     rt: &impl Abort,
     alloc: Global,
-    profile: Profile,
+    choice: Choice,
     first: &[Exchange],
 ) -> Result<u64, Fail> {
     let mut consistent = 0u64;
     for first in first {
         for second in EXCHANGES {
-            let count = judge_third(rt, alloc, profile, *first, second)?;
-            consistent = consistent.saturating_add(count);
+            let counted = count_third(rt, alloc, choice, *first, second)?;
+            consistent = consistent.saturating_add(counted);
         }
     }
     Ok(consistent)
 }
 
-/// Judges the whole family.
-fn judge_family(rt: &impl Abort, alloc: Global, profile: Profile) -> Result<Family, Fail> {
+/// Counts the consistent sessions of the whole family.
+fn count_family(rt: &impl Abort, alloc: Global, choice: Choice) -> Result<Family, Fail> {
     let (groups, rest) = EXCHANGES.split_at(3);
     let (steps, others) = rest.split_at(6);
     Ok(Family {
-        at_most_two: judge_two(rt, alloc, profile)?,
-        from_groups: judge_three(rt, alloc, profile, groups)?,
-        from_steps: judge_three(rt, alloc, profile, steps)?,
-        from_others: judge_three(rt, alloc, profile, others)?,
+        at_most_two: count_two(rt, alloc, choice)?,
+        from_groups: count_three(rt, alloc, choice, groups)?,
+        from_steps: count_three(rt, alloc, choice, steps)?,
+        from_others: count_three(rt, alloc, choice, others)?,
     })
 }
 
 #[test]
 fn at_most_three_exchanges(rt: HostRuntime) -> Result<(), Fail> {
-    let family = judge_family(&rt, rt.alloc(), NARROW_LENIENT)?;
+    let family = count_family(&rt, rt.alloc(), NARROW_LENIENT)?;
     assert_eq!(rt; family, LENIENT);
     Ok(())
 }
 
 #[test]
 fn at_most_three_exchanges_with_strict_marks(rt: HostRuntime) -> Result<(), Fail> {
-    let family = judge_family(&rt, rt.alloc(), NARROW_STRICT)?;
+    let family = count_family(&rt, rt.alloc(), NARROW_STRICT)?;
     assert_eq!(rt; family, STRICT);
     Ok(())
 }
 
 #[test]
 fn at_most_three_exchanges_with_wide_numbers(rt: HostRuntime) -> Result<(), Fail> {
-    let family = judge_family(&rt, rt.alloc(), WIDE_LENIENT)?;
+    let family = count_family(&rt, rt.alloc(), WIDE_LENIENT)?;
     assert_eq!(rt; family, LENIENT);
     Ok(())
 }
 
 #[test]
 fn at_most_three_exchanges_with_wide_numbers_and_strict_marks(rt: HostRuntime) -> Result<(), Fail> {
-    let family = judge_family(&rt, rt.alloc(), WIDE_STRICT)?;
+    let family = count_family(&rt, rt.alloc(), WIDE_STRICT)?;
     assert_eq!(rt; family, STRICT);
     Ok(())
 }
@@ -281,12 +276,12 @@ fn a_thousand_groups(rt: HostRuntime) -> Result<(), Fail> {
         recording.push(command.as_str(), answer.as_str())?;
     }
     let first = "consistent answers=1001 groups=1000 numbers=0 articles=0\n";
-    for profile in PROFILES {
-        let report = recording.report(&rt, rt.alloc(), profile)?;
+    for choice in CHOICES {
+        let report = recording.report(&rt, rt.alloc(), choice)?;
         let Some(text) = report.strip_prefix(first) else {
             return Err("another first line".into());
         };
-        recording.put(&rt, rt.alloc(), profile.marks, text)?;
+        recording.put_given(&rt, rt.alloc(), choice, text)?;
     }
     Ok(())
 }

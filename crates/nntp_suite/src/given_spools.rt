@@ -1,7 +1,10 @@
 //! Spools that are put to worked sessions: their texts, `verify`, and its runs.
-use crate::fakes::{Full, reader, writer};
-use crate::sessions::{TABLES, capture, verified_report, with_spool};
-use nntp_check::{Failure, Kind, Marks, ReadFault, RunFault, Watched, run_verify, status};
+use crate::expectations::{expect_verified, expect_written};
+use crate::runs::{Run, VERIFY};
+use crate::trials::Trial;
+use crate::written::written;
+use nntp_check::{Kind, Marks, ReadFault, RunFault};
+use nntp_sessions::{Session, capture, each_session, spool_text, with_spool};
 use nntp_spool::{Spool, Verified, verify};
 use std::alloc::Global;
 use std::process::Abort;
@@ -15,59 +18,38 @@ pub(crate) fn put(
     (client, server): (&[u8], &[u8]),
 ) -> Result<Verified, Fail> {
     let spool = Spool::read(alloc, text.as_bytes())?;
-    let mut output = Watched::new(Vec::new(alloc));
-    spool.write(&mut output)?;
-    if output.into_inner().as_slice() != text.as_bytes() {
+    if spool_text(alloc, &spool)?.as_slice() != text.as_bytes() {
         return Err("another text is written than was read".into());
     }
     Ok(verify(alloc, marks, &spool, client, server)?)
 }
 
-#[test]
-fn spools_of_worked_sessions(rt: HostRuntime) -> Result<(), Fail> {
-    for table in TABLES {
-        for session in table {
-            let name = session.name;
-            let marks = session.profile.marks;
-            let (text, wanted) = session.given;
-            let verified = put(rt.alloc(), marks, text, session.streams())?;
-            assert_eq!(rt; verified, wanted, "{name}");
-            for (text, wanted) in session.others {
-                let verified = put(rt.alloc(), marks, *text, session.streams())?;
-                assert_eq!(rt; verified, *wanted, "{name}, and {text}");
-            }
-        }
+/// Puts the spools of a worked session to it.
+fn put_all(rt: &impl Abort, alloc: Global, session: &Session) -> Result<(), Fail> {
+    let marks = session.choice.marks;
+    let (text, wanted) = session.given;
+    let verified = put(alloc, marks, text, session.streams())?;
+    expect_verified(rt, session.name, verified, wanted);
+    for (text, wanted) in session.others {
+        let name = format!(in alloc; "{}, and {text}", session.name)?;
+        let verified = put(alloc, marks, *text, session.streams())?;
+        expect_verified(rt, name.as_str(), verified, *wanted);
     }
     Ok(())
 }
 
-/// What a run over a capture and a spool's text in one piece answers and writes.
-pub(crate) fn run(
-    alloc: Global,
-    marks: Marks,
-    capture: &str,
-    text: &str,
-) -> Result<(bool, Vec<u8>), Fail> {
-    let capture = with_spool(alloc, capture, text)?;
-    let mut input = reader(capture.as_bytes(), 4096, 0);
-    let mut output = writer(alloc, 1000, 1000, Full::Fails);
-    let answer = run_verify(alloc, marks, &mut input, &mut output, 1 << 30)?;
-    Ok((answer, output.into_inner().held))
+#[test]
+fn spools_of_worked_sessions(rt: HostRuntime) -> Result<(), Fail> {
+    for session in each_session(rt.alloc())? {
+        put_all(&rt, rt.alloc(), session)?;
+    }
+    Ok(())
 }
 
 #[test]
 fn runs_of_worked_sessions(rt: HostRuntime) -> Result<(), Fail> {
-    for table in TABLES {
-        for session in table {
-            let name = session.name;
-            let marks = session.profile.marks;
-            let capture = session.capture(rt.alloc())?;
-            let (text, verified) = session.given;
-            let (answer, written) = run(rt.alloc(), marks, capture.as_str(), text)?;
-            let wanted = verified_report(rt.alloc(), verified)?;
-            assert_eq!(rt; written.as_slice(), wanted.as_bytes(), "{name}");
-            assert_eq!(rt; answer, session.is_consistent(), "{name}");
-        }
+    for session in each_session(rt.alloc())? {
+        Trial::Pass(4096).verify(&rt, rt.alloc(), session)?;
     }
     Ok(())
 }
@@ -86,9 +68,10 @@ fn the_text_of_a_spool_in_two_pieces(rt: HostRuntime) -> Result<(), Fail> {
     let capture = capture(rt.alloc(), CLIENT, SERVER)?;
     let (front, rest) = SPOOL.split_at(50);
     let first = with_spool(rt.alloc(), capture.as_str(), front)?;
-    let (answer, written) = run(rt.alloc(), Marks::Lenient, first.as_str(), rest)?;
-    assert_eq!(rt; written.as_slice(), b"permits answers=3\n".as_slice());
-    assert!(rt; answer);
+    let both = with_spool(rt.alloc(), first.as_str(), rest)?;
+    let ended = written(rt.alloc(), VERIFY, both.as_str())?;
+    let wanted = (true, b"permits answers=3\n".as_slice());
+    expect_written(&rt, "two pieces", ended, wanted);
     Ok(())
 }
 
@@ -117,16 +100,10 @@ fn texts_of_no_spool(rt: HostRuntime) -> Result<(), Fail> {
     let session = capture(rt.alloc(), CLIENT, SERVER)?;
     for (pieces, line, kind) in rows {
         let capture = format!(in rt.alloc(); "{session}{pieces}")?;
-        let mut input = reader(capture.as_bytes(), 4096, 0);
-        let mut output = writer(rt.alloc(), 1000, 1000, Full::Fails);
-        let outcome = run_verify(rt.alloc(), Marks::Lenient, &mut input, &mut output, 1 << 30);
-        assert_eq!(rt;
-            outcome,
-            Err(RunFault::Spool(ReadFault { line, kind })),
-            "{pieces}"
-        );
-        assert!(rt; output.into_inner().held.is_empty());
-        assert_eq!(rt; status(&outcome.map_err(Failure::Run)), 3);
+        let fault = RunFault::Spool(ReadFault { line, kind });
+        Run::of(pieces, VERIFY, capture.as_bytes(), false, b"")
+            .stopped(fault, b"")
+            .pass(&rt, rt.alloc(), 4096);
     }
     Ok(())
 }

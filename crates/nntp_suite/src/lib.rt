@@ -5,9 +5,13 @@
 #[cfg(test)]
 mod checkers;
 #[cfg(test)]
+mod choices;
+#[cfg(test)]
 mod command_lines;
 #[cfg(test)]
 mod cuts;
+#[cfg(test)]
+mod expectations;
 #[cfg(test)]
 mod fakes;
 #[cfg(test)]
@@ -25,22 +29,18 @@ mod marks;
 #[cfg(test)]
 mod memory;
 #[cfg(test)]
-mod profiles;
-#[cfg(test)]
-mod random;
-#[cfg(test)]
 mod runs;
 #[cfg(test)]
-mod sessions;
-#[cfg(test)]
 mod shows;
-#[cfg(test)]
-mod slow_judge;
 #[cfg(test)]
 mod slowly_judged;
 #[cfg(test)]
 mod slowly_noted;
 #[cfg(test)]
+mod trials;
+#[cfg(test)]
 mod verdicts;
 #[cfg(test)]
 mod widened;
+#[cfg(test)]
+mod written;

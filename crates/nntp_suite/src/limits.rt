@@ -1,38 +1,33 @@
 //! Lines at their greatest length and past it, and lines with octets that none may have.
-use crate::checkers::expect_cut;
-use crate::profiles::NARROW_LENIENT;
-use crate::sessions::capture;
-use crate::verdicts::{run, shown};
+use crate::checkers::expect_split;
+use crate::choices::{check_by, check_task};
+use crate::expectations::{expect_octets, expect_written};
+use crate::verdicts::shown;
+use crate::written::written;
+use nntp_sessions::{NARROW_LENIENT, capture};
 use std::alloc::{AllocError, Global};
 use std::process::Abort;
 use std::test::Fail;
 
 /// Expects a verdict of both streams, and the report that a run writes of it. `told` is the same report with
 /// nothing escaped.
-fn expect(
+fn expect_report(
     rt: &impl Abort,
     alloc: Global,
     (client, server): (&str, &str),
     told: &str,
-    written: &str,
+    report: &str,
 ) -> Result<(), Fail> {
     let streams = (client.as_bytes(), server.as_bytes());
-    let verdict = NARROW_LENIENT.check(alloc, streams)?;
-    assert_eq!(rt; shown(alloc, &verdict)?.as_slice(), told.as_bytes());
+    let verdict = check_by(NARROW_LENIENT, alloc, streams)?;
+    let wanted = told.as_bytes();
+    expect_octets(rt, report, &shown(alloc, &verdict)?, wanted);
     let places = (client.len() / 2, server.len() / 2);
-    expect_cut(
-        rt,
-        alloc,
-        NARROW_LENIENT,
-        written,
-        streams,
-        places,
-        told.as_bytes(),
-    )?;
+    expect_split(rt, alloc, NARROW_LENIENT, report, streams, places, wanted)?;
     let capture = capture(alloc, client, server)?;
-    let (answer, report) = run(alloc, NARROW_LENIENT, capture.as_str())?;
-    assert_eq!(rt; report.as_slice(), written.as_bytes());
-    assert_eq!(rt; answer, written.starts_with("consistent "));
+    let ended = written(alloc, check_task(NARROW_LENIENT), capture.as_str())?;
+    let answer = report.starts_with("consistent ");
+    expect_written(rt, report, ended, (answer, report.as_bytes()));
     Ok(())
 }
 
@@ -113,7 +108,7 @@ fn lines_of_512_octets_and_more(rt: HostRuntime) -> Result<(), Fail> {
         let server = format!(in rt.alloc(); "200 hi\r\n{answer}\r\n")?;
         let report = said.report(rt.alloc(), line.as_str(), answer.as_str())?;
         let streams = (client.as_str(), server.as_str());
-        expect(&rt, rt.alloc(), streams, report.as_str(), report.as_str())?;
+        expect_report(&rt, rt.alloc(), streams, report.as_str(), report.as_str())?;
     }
     Ok(())
 }
@@ -153,7 +148,7 @@ fn octets_that_no_line_has(rt: HostRuntime) -> Result<(), Fail> {
         ),
     ];
     for (client, server, told, written) in rows {
-        expect(&rt, rt.alloc(), (client, server), told, written)?;
+        expect_report(&rt, rt.alloc(), (client, server), told, written)?;
     }
     Ok(())
 }

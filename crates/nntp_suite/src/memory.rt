@@ -9,6 +9,7 @@ mod verdicts;
 
 use linked_list_allocator::LocalHeap;
 use nntp_refusing::{Refusal, Refusing};
+pub(crate) use runs::{give_run, refuse_run};
 use std::alloc::{AllocError, Global};
 use std::process::Abort;
 

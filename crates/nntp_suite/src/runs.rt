@@ -1,19 +1,94 @@
 //! Runs over captures, by readers and writers that give and take a little or fail.
-use crate::fakes::{Full, cut_reader, endless_reader, reader, writer};
-use nntp_check::{
-    Failure, Limit, Marks, RunFault, Task, Watched, run_check, run_show, run_verify, status,
-};
-use std::alloc::{AllocError, Allocator, Global};
-use std::io::{Read, Write};
+use crate::fakes::{FakeWriter, Full, cut_reader, endless_reader, reader, writer};
+use nntp_check::{Failure, Limit, Marks, RunFault, Task, run_task, status};
+use std::alloc::{AllocError, Global};
 use std::process::Abort;
 use std::test::Fail;
 
-/// A run by its task: the capture that it reads and the report that it writes.
+/// A run by name: its task, its input, how many octets that may have, and what it answers and writes.
 #[derive(Clone, Copy)]
-struct Run {
-    task: Task,
-    capture: &'static [u8],
-    report: &'static [u8],
+pub(crate) struct Run<'a> {
+    pub(crate) name: &'a str,
+    pub(crate) task: Task,
+    pub(crate) input: &'a [u8],
+    pub(crate) most: u64,
+    pub(crate) answer: Result<bool, RunFault>,
+    pub(crate) report: &'a [u8],
+}
+
+impl<'a> Run<'a> {
+    /// The run of a task over an input that no limit stops.
+    pub(crate) fn of(
+        name: &'a str,
+        task: Task,
+        input: &'a [u8],
+        answer: bool,
+        report: &'a [u8],
+    ) -> Run<'a> {
+        Run {
+            name,
+            task,
+            input,
+            most: 1 << 30,
+            answer: Ok(answer),
+            report,
+        }
+    }
+
+    /// The run of a task over an input with a fault, which writes nothing.
+    fn of_fault(task: Task, input: &'a [u8], most: u64, fault: RunFault) -> Run<'a> {
+        Run {
+            name: "a fault",
+            task,
+            input,
+            most,
+            answer: Err(fault),
+            report: b"",
+        }
+    }
+
+    /// The same run, where a fault stops it behind this front of the report.
+    pub(crate) fn stopped(&self, fault: RunFault, front: &'a [u8]) -> Run<'a> {
+        Run {
+            answer: Err(fault),
+            report: front,
+            ..*self
+        }
+    }
+
+    /// Expects the run to have ended as it should, with so many flushes. A failure tells this place.
+    pub(crate) fn expect_end(
+        &self,
+        rt: &impl Abort,
+        place: u64,
+        outcome: Result<bool, RunFault>,
+        written: &FakeWriter,
+        flushes: u64,
+    ) {
+        let Run { name, task, .. } = *self;
+        assert_eq!(rt;
+            (outcome, written.held.as_slice(), written.flushes),
+            (self.answer, self.report, flushes),
+            "{name}, {task:?}, at {place}"
+        );
+        let code = match outcome {
+            Ok(true) => 0,
+            Ok(false) => 1,
+            Err(_) => 3,
+        };
+        assert_eq!(rt; status(&outcome.map_err(Failure::Run)), code, "{name}");
+    }
+
+    /// The run ends as it should, with so many octets at a read and at a write.
+    pub(crate) fn pass(&self, rt: &impl Abort, alloc: Global, octets: usize) {
+        let mut input = reader(self.input, octets, 0);
+        let mut output = writer(alloc, self.report.len(), octets, Full::Fails);
+        let outcome = run_task(alloc, self.task, &mut input, &mut output, self.most);
+        let name = self.name;
+        assert!(rt; !input.failed() && !output.failed(), "{name}");
+        let flushes = u64::from(self.answer.is_ok());
+        self.expect_end(rt, octets as u64, outcome, &output.into_inner(), flushes);
+    }
 }
 
 /// A session of two commands, in two pieces.
@@ -41,32 +116,29 @@ const VERIFY_STRICTLY: Task = Task::Verify {
     marks: Marks::Strict,
 };
 
-const RUNS: [Run; 5] = [
-    Run {
-        task: CHECK,
-        capture: CAPTURE,
-        report: REPORT,
-    },
-    Run {
-        task: CHECK_WIDE_AND_STRICT,
-        capture: CAPTURE,
-        report: b"consistent answers=3 groups=1 numbers=0 articles=0\nspool 2\nlimit 9999999999999999\ngroup g 0\nend\n",
-    },
-    Run {
-        task: VERIFY,
-        capture: b"client 15\nGROUP g\r\nQUIT\r\nserver 30\n200 hi\r\n211 0 1 0 g\r\n205 bye\r\nspool 22\nspool 1\ngroup g 0\nend\n",
-        report: b"permits answers=3\n",
-    },
-    Run {
-        task: VERIFY_STRICTLY,
-        capture: b"client 15\nGROUP g\r\nQUIT\r\nserver 30\n200 hi\r\n211 0 1 0 g\r\n205 bye\r\nspool 45\nspool 2\nlimit 9999999999999999\ngroup g 0\nend\n",
-        report: b"permits answers=3\n",
-    },
-    Run {
-        task: Task::Show,
-        capture: CAPTURE,
-        report: b"0 greeting -> 200 hi\n1 GROUP g -> 211 0 1 0 g\n  group g\n2 QUIT -> 205 bye\nend answers=3 unanswered=0\n",
-    },
+/// Tasks, each with a capture of this session and the report on it.
+const REPORTS: [(Task, &[u8], &[u8]); 5] = [
+    (CHECK, CAPTURE, REPORT),
+    (
+        CHECK_WIDE_AND_STRICT,
+        CAPTURE,
+        b"consistent answers=3 groups=1 numbers=0 articles=0\nspool 2\nlimit 9999999999999999\ngroup g 0\nend\n",
+    ),
+    (
+        VERIFY,
+        b"client 15\nGROUP g\r\nQUIT\r\nserver 30\n200 hi\r\n211 0 1 0 g\r\n205 bye\r\nspool 22\nspool 1\ngroup g 0\nend\n",
+        b"permits answers=3\n",
+    ),
+    (
+        VERIFY_STRICTLY,
+        b"client 15\nGROUP g\r\nQUIT\r\nserver 30\n200 hi\r\n211 0 1 0 g\r\n205 bye\r\nspool 45\nspool 2\nlimit 9999999999999999\ngroup g 0\nend\n",
+        b"permits answers=3\n",
+    ),
+    (
+        Task::Show,
+        CAPTURE,
+        b"0 greeting -> 200 hi\n1 GROUP g -> 211 0 1 0 g\n  group g\n2 QUIT -> 205 bye\nend answers=3 unanswered=0\n",
+    ),
 ];
 
 const TASKS: [Task; 5] = [
@@ -77,56 +149,29 @@ const TASKS: [Task; 5] = [
     Task::Show,
 ];
 
-pub(crate) fn perform<A: Allocator + Copy, R: Read, W: Write>(
-    alloc: A,
-    task: Task,
-    input: &mut Watched<R>,
-    output: &mut Watched<W>,
-    most: u64,
-) -> Result<bool, RunFault> {
-    match task {
-        Task::Check { limit, marks } => run_check(alloc, limit, marks, input, output, most),
-        Task::Verify { marks } => run_verify(alloc, marks, input, output, most),
-        Task::Show => run_show(alloc, input, output, most),
-    }
-}
-
 #[test]
-fn report_of_a_capture(rt: HostRuntime) -> Result<(), Fail> {
-    for row in RUNS {
-        let task = row.task;
-        for most in [1, 7, 4096] {
-            let mut input = reader(row.capture, most, 0);
-            let mut output = writer(rt.alloc(), 1000, most, Full::Fails);
-            let length = row.capture.len() as u64;
-            assert!(rt; perform(rt.alloc(), task, &mut input, &mut output, length)?);
-            assert!(rt; !input.failed() && !output.failed());
-            let written = output.into_inner();
-            assert_eq!(rt;
-                written.held.as_slice(),
-                row.report,
-                "{task:?} by {most} octets"
-            );
-            assert_eq!(rt; written.flushes, 1);
+fn report_of_a_capture(rt: HostRuntime) {
+    for (task, capture, report) in REPORTS {
+        let run = Run {
+            most: capture.len() as u64,
+            ..Run::of("a capture", task, capture, true, report)
+        };
+        for octets in [1, 7, 4096] {
+            run.pass(&rt, rt.alloc(), octets);
         }
     }
-    Ok(())
 }
 
 #[test]
-fn pieces_of_one_stream_are_joined(rt: HostRuntime) -> Result<(), Fail> {
+fn pieces_of_one_stream_are_joined(rt: HostRuntime) {
     let captures: [&[u8]; 3] = [
         b"client 9\nGROUP g\r\nserver 30\n200 hi\r\n211 0 1 0 g\r\n205 bye\r\nclient 6\nQUIT\r\n",
         b"client 0\nclient 15\nGROUP g\r\nQUIT\r\nspool 3\nxyzserver 0000000030\n200 hi\r\n211 0 1 0 g\r\n205 bye\r\n",
         b"server 1\n2server 29\n00 hi\r\n211 0 1 0 g\r\n205 bye\r\nclient 15\nGROUP g\r\nQUIT\r\n",
     ];
     for capture in captures {
-        let mut input = reader(capture, 4096, 0);
-        let mut output = writer(rt.alloc(), 1000, 1000, Full::Fails);
-        assert!(rt; perform(rt.alloc(), CHECK, &mut input, &mut output, 1 << 30)?);
-        assert_eq!(rt; output.into_inner().held.as_slice(), REPORT);
+        Run::of("pieces", CHECK, capture, true, REPORT).pass(&rt, rt.alloc(), 4096);
     }
-    Ok(())
 }
 
 #[test]
@@ -162,14 +207,7 @@ fn no_capture_or_too_long(rt: HostRuntime) {
     ];
     for (octets, most, fault) in rows {
         for task in TASKS {
-            let mut input = reader(octets, 4096, 0);
-            let mut output = writer(rt.alloc(), 1000, 1000, Full::Fails);
-            let outcome = perform(rt.alloc(), task, &mut input, &mut output, most);
-            assert_eq!(rt; outcome, Err(fault));
-            let written = output.into_inner();
-            assert!(rt; written.held.is_empty());
-            assert_eq!(rt; written.flushes, 0);
-            assert_eq!(rt; status(&outcome.map_err(Failure::Run)), 3);
+            Run::of_fault(task, octets, most, fault).pass(&rt, rt.alloc(), 4096);
         }
     }
 }
@@ -183,11 +221,11 @@ fn inputs_without_end(rt: HostRuntime) {
     ];
     for (front, octet, fault) in rows {
         for task in TASKS {
+            let run = Run::of_fault(task, front, 1000, fault);
             let mut input = endless_reader(front, octet);
             let mut output = writer(rt.alloc(), 1000, 1000, Full::Fails);
-            let outcome = perform(rt.alloc(), task, &mut input, &mut output, 1000);
-            assert_eq!(rt; outcome, Err(fault));
-            assert!(rt; output.into_inner().held.is_empty());
+            let outcome = run_task(rt.alloc(), task, &mut input, &mut output, run.most);
+            run.expect_end(&rt, 0, outcome, &output.into_inner(), 0);
         }
     }
 }
@@ -207,14 +245,11 @@ fn the_first_fault_is_told(rt: HostRuntime) {
     ];
     for (octets, fails_at, most, fault) in rows {
         for task in TASKS {
+            let run = Run::of_fault(task, octets, most, fault);
             let mut input = reader(octets, 1, fails_at);
             let mut output = writer(rt.alloc(), 1000, 1000, Full::Fails);
-            let outcome = perform(rt.alloc(), task, &mut input, &mut output, most);
-            assert_eq!(rt;
-                outcome,
-                Err(fault),
-                "{task:?}, read {fails_at} of at most {most}"
-            );
+            let outcome = run_task(rt.alloc(), task, &mut input, &mut output, most);
+            run.expect_end(&rt, fails_at, outcome, &output.into_inner(), 0);
         }
     }
 }
@@ -238,26 +273,27 @@ fn long_capture(alloc: Global) -> Result<Vec<u8>, AllocError> {
     Ok(capture)
 }
 
+/// A run over the long capture, cut at each octet, ends as one that reads it at once.
+fn cut_everywhere(rt: &impl Abort, alloc: Global, task: Task, capture: &[u8]) {
+    let mut input = reader(capture, capture.len(), 0);
+    let mut output = writer(alloc, 10000, 10000, Full::Fails);
+    let whole = run_task(alloc, task, &mut input, &mut output, 1 << 30);
+    assert_eq!(rt; whole, Ok(true), "{task:?}");
+    let report = output.into_inner().held;
+    let run = Run::of("the long capture", task, capture, true, &report);
+    for at in 1..capture.len() {
+        let mut input = cut_reader(capture, at);
+        let mut output = writer(alloc, 10000, 10000, Full::Fails);
+        let outcome = run_task(alloc, task, &mut input, &mut output, run.most);
+        run.expect_end(rt, at as u64, outcome, &output.into_inner(), 1);
+    }
+}
+
 #[test]
 fn captures_cut_at_every_octet(rt: HostRuntime) -> Result<(), Fail> {
     let capture = long_capture(rt.alloc())?;
     for task in TASKS {
-        let mut input = reader(&capture, capture.len(), 0);
-        let mut output = writer(rt.alloc(), 10000, 10000, Full::Fails);
-        let whole = perform(rt.alloc(), task, &mut input, &mut output, 1 << 30);
-        assert_eq!(rt; whole, Ok(true), "{task:?}");
-        let report = output.into_inner().held;
-        for at in 1..capture.len() {
-            let mut input = cut_reader(&capture, at);
-            let mut output = writer(rt.alloc(), 10000, 10000, Full::Fails);
-            let outcome = perform(rt.alloc(), task, &mut input, &mut output, 1 << 30);
-            assert_eq!(rt; outcome, whole, "{task:?}, cut at {at}");
-            assert_eq!(rt;
-                output.into_inner().held.as_slice(),
-                report.as_slice(),
-                "{task:?}, cut at {at}"
-            );
-        }
+        cut_everywhere(&rt, rt.alloc(), task, &capture);
     }
     Ok(())
 }

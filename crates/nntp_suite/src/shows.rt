@@ -1,8 +1,6 @@
 //! Sessions, and what `show` prints of them.
-use crate::fakes::{Full, reader, writer};
-use nntp_check::run_show;
+use crate::trials::Trial;
 use std::alloc::{AllocError, Global};
-use std::process::Abort;
 use std::test::Fail;
 
 /// A session by name: what the client and the server sent, the report on it, and whether all octets of
@@ -254,18 +252,5 @@ end answers=3 unanswered=0
 
 #[test]
 fn sessions_as_they_are_shown(rt: HostRuntime) -> Result<(), Fail> {
-    for session in SHOWN {
-        let capture = session.capture(rt.alloc())?;
-        let mut input = reader(&capture, 4096, 0);
-        let mut output = writer(rt.alloc(), 10000, 10000, Full::Fails);
-        let answer = run_show(rt.alloc(), &mut input, &mut output, 1 << 30)?;
-        let name = session.name;
-        assert_eq!(rt; answer, session.is_answered, "{name}");
-        assert_eq!(rt;
-            output.into_inner().held.as_slice(),
-            session.report,
-            "{name}"
-        );
-    }
-    Ok(())
+    Ok(Trial::Pass(4096).shown(&rt, rt.alloc())?)
 }

@@ -1,13 +1,13 @@
 //! Sessions that the slow judge judges too, answer by answer.
-use crate::marks::ROWS;
-use crate::profiles::{
-    NARROW_LENIENT, NARROW_STRICT, PROFILES, Profile, WIDE_LENIENT, WIDE_STRICT,
-};
-use crate::random::{BASES, Random};
-use crate::sessions::{Session, TABLES};
-use crate::slow_judge::{Answered, Judged, exchanges, judge};
+use crate::choices::check_by;
+use crate::expectations::{expect_front, expect_octets, expect_verified};
 use crate::verdicts::shown;
 use nntp_check::Verdict;
+use nntp_sessions::{
+    BASES, CHOICES, Choice, NARROW_LENIENT, NARROW_STRICT, Random, Session, WIDE_LENIENT,
+    WIDE_STRICT, Wandering, each_row, each_session,
+};
+use nntp_slow_judge::{Answered, Judged, exchanges, judge};
 use nntp_spool::{Verified, verify};
 use std::alloc::{AllocError, Global};
 use std::process::Abort;
@@ -26,11 +26,11 @@ impl Slow {
     /// Judges one exchange more. `good` is the number of those before it.
     fn next(
         alloc: Global,
-        profile: Profile,
+        choice: Choice,
         (client, server): (&[u8], &[u8]),
         exchanges: &[Answered<'_>],
     ) -> Result<Slow, AllocError> {
-        let (judged, text) = judge(alloc, profile, client, server, exchanges)?;
+        let (judged, text) = judge(alloc, choice, client, server, exchanges)?;
         let good = match judged {
             Judged::Consistent => exchanges.len(),
             _ => exchanges.len().saturating_sub(1),
@@ -41,15 +41,15 @@ impl Slow {
     /// Judges one exchange after the other.
     fn all(
         alloc: Global,
-        profile: Profile,
+        choice: Choice,
         streams: (&[u8], &[u8]),
         exchanges: &[Answered<'_>],
     ) -> Result<Slow, AllocError> {
-        let mut slow = Slow::next(alloc, profile, streams, &[])?;
+        let mut slow = Slow::next(alloc, choice, streams, &[])?;
         for count in 1..=exchanges.len() {
             if slow.judged == Judged::Consistent {
                 let (front, _) = exchanges.split_at(count);
-                slow = Slow::next(alloc, profile, streams, front)?;
+                slow = Slow::next(alloc, choice, streams, front)?;
             }
         }
         Ok(slow)
@@ -76,7 +76,7 @@ impl Slow {
         report: &[u8],
     ) -> Result<(), Fail> {
         let first = self.first_line(alloc, true)?;
-        begins(rt, name, report, first.as_str());
+        expect_front(rt, name, report, first.as_str());
         assert!(rt; report.ends_with(&self.text), "{name}: {first}, the spool");
         Ok(())
     }
@@ -86,16 +86,16 @@ impl Slow {
         &self,
         rt: &impl Abort,
         alloc: Global,
-        profile: Profile,
+        choice: Choice,
         name: &str,
         (client, server): (&[u8], &[u8]),
     ) -> Result<(), Fail> {
-        let verdict = profile.check(alloc, (client, server))?;
+        let verdict = check_by(choice, alloc, (client, server))?;
         self.compare(rt, alloc, name, &shown(alloc, &verdict)?)?;
         if let Verdict::Consistent { spool, answers } = &verdict {
-            let verified = verify(alloc, profile.marks, spool, client, server)?;
+            let verified = verify(alloc, choice.marks, spool, client, server)?;
             let wanted = Verified::Permits { answers: *answers };
-            assert_eq!(rt; verified, wanted, "{name}");
+            expect_verified(rt, name, verified, wanted);
         }
         Ok(())
     }
@@ -106,7 +106,7 @@ impl Slow {
 pub(crate) fn compare_report(
     rt: &impl Abort,
     alloc: Global,
-    profile: Profile,
+    choice: Choice,
     name: &str,
     streams: (&[u8], &[u8]),
     count: usize,
@@ -114,45 +114,55 @@ pub(crate) fn compare_report(
 ) -> Result<(), Fail> {
     let exchanges = exchanges(alloc, streams.0, streams.1)?;
     assert_eq!(rt; exchanges.len(), count, "{name}, exchanges");
-    let slow = Slow::all(alloc, profile, streams, &exchanges)?;
+    let slow = Slow::all(alloc, choice, streams, &exchanges)?;
     slow.compare(rt, alloc, name, report)
-}
-
-/// A report begins with this line.
-pub(crate) fn begins(rt: &impl Abort, name: &str, report: &[u8], first: &str) {
-    assert!(rt; report.starts_with(first.as_bytes()), "{name}: {first}");
 }
 
 /// What the slow judge says of two streams, and the text of the spool that is given for the answers that
 /// are consistent.
 fn judge_streams(
     alloc: Global,
-    profile: Profile,
+    choice: Choice,
     (client, server): (&[u8], &[u8]),
 ) -> Result<(Slow, Vec<u8>), AllocError> {
     let exchanges = exchanges(alloc, client, server)?;
-    let slow = Slow::all(alloc, profile, (client, server), &exchanges)?;
+    let slow = Slow::all(alloc, choice, (client, server), &exchanges)?;
     let (front, _) = exchanges.split_at(slow.good.min(exchanges.len()));
-    let (_, text) = judge(alloc, profile, client, server, front)?;
+    let (_, text) = judge(alloc, choice, client, server, front)?;
     Ok((slow, text))
 }
 
 /// The verdict on a worked session is that of the slow judge, as is the spool.
 fn judge_worked(rt: &impl Abort, alloc: Global, session: &Session) -> Result<(), Fail> {
     let name = session.name;
-    let (slow, text) = judge_streams(alloc, session.profile, session.streams())?;
+    let (slow, text) = judge_streams(alloc, session.choice, session.streams())?;
     let first = slow.first_line(alloc, session.is_consistent())?;
-    begins(rt, name, session.verdict.as_bytes(), first.as_str());
-    assert_eq!(rt; text.as_slice(), session.given.0.as_bytes(), "{name}");
+    expect_front(rt, name, session.verdict.as_bytes(), first.as_str());
+    expect_octets(rt, name, &text, session.given.0.as_bytes());
     Ok(())
 }
 
 #[test]
 fn worked_sessions(rt: HostRuntime) -> Result<(), Fail> {
-    for table in TABLES {
-        for session in table {
-            judge_worked(&rt, rt.alloc(), session)?;
-        }
+    for session in each_session(rt.alloc())? {
+        judge_worked(&rt, rt.alloc(), session)?;
+    }
+    Ok(())
+}
+
+/// Judges by each choice the front of a session that ends behind the last of these answers.
+fn judge_front(
+    rt: &impl Abort,
+    alloc: Global,
+    name: &str,
+    (client, server): (&[u8], &[u8]),
+    front: &[Answered<'_>],
+) -> Result<(), Fail> {
+    let end = front.last().map_or(0, |answered| answered.end);
+    let (server, _) = server.split_at(end.min(server.len()));
+    for choice in CHOICES {
+        let slow = Slow::all(alloc, choice, (client, server), front)?;
+        slow.compare_check(rt, alloc, choice, name, (client, server))?;
     }
     Ok(())
 }
@@ -161,41 +171,29 @@ fn worked_sessions(rt: HostRuntime) -> Result<(), Fail> {
 fn judge_fronts(
     rt: &impl Abort,
     alloc: Global,
-    profile: Profile,
     name: &str,
-    (client, server): (&[u8], &[u8]),
+    streams: (&[u8], &[u8]),
 ) -> Result<(), Fail> {
-    let exchanges = exchanges(alloc, client, server)?;
+    let exchanges = exchanges(alloc, streams.0, streams.1)?;
     for count in 0..=exchanges.len() {
         let (front, _) = exchanges.split_at(count);
-        let end = front.last().map_or(0, |answered| answered.end);
-        let (server, _) = server.split_at(end.min(server.len()));
-        let slow = Slow::all(alloc, profile, (client, server), front)?;
-        slow.compare_check(rt, alloc, profile, name, (client, server))?;
+        judge_front(rt, alloc, name, streams, front)?;
     }
     Ok(())
 }
 
 #[test]
 fn fronts_of_worked_sessions(rt: HostRuntime) -> Result<(), Fail> {
-    for profile in PROFILES {
-        for table in TABLES {
-            for session in table {
-                judge_fronts(&rt, rt.alloc(), profile, session.name, session.streams())?;
-            }
-        }
+    for session in each_session(rt.alloc())? {
+        judge_fronts(&rt, rt.alloc(), session.name, session.streams())?;
     }
     Ok(())
 }
 
 #[test]
 fn fronts_of_sessions_with_marks(rt: HostRuntime) -> Result<(), Fail> {
-    for profile in PROFILES {
-        for table in ROWS {
-            for row in table {
-                judge_fronts(&rt, rt.alloc(), profile, row.name, row.streams())?;
-            }
-        }
+    for row in each_row(rt.alloc())? {
+        judge_fronts(&rt, rt.alloc(), row.name, row.streams())?;
     }
     Ok(())
 }
@@ -231,15 +229,15 @@ impl Counts {
 fn judge_last(
     rt: &impl Abort,
     alloc: Global,
-    profile: Profile,
+    choice: Choice,
     streams: (&[u8], &[u8]),
     count: usize,
 ) -> Result<Judged, Fail> {
     let exchanges = exchanges(alloc, streams.0, streams.1)?;
     assert_eq!(rt; exchanges.len(), count);
-    let slow = Slow::next(alloc, profile, streams, &exchanges)?;
-    let name = format!(in alloc; "{profile:?}: {}", streams.0.escape_ascii())?;
-    slow.compare_check(rt, alloc, profile, name.as_str(), streams)?;
+    let slow = Slow::next(alloc, choice, streams, &exchanges)?;
+    let name = format!(in alloc; "{choice:?}: {}", streams.0.escape_ascii())?;
+    slow.compare_check(rt, alloc, choice, name.as_str(), streams)?;
     Ok(slow.judged)
 }
 
@@ -247,35 +245,32 @@ fn judge_last(
 fn wander(
     rt: &impl Abort,
     alloc: Global,
-    profile: Profile,
+    choice: Choice,
     random: &mut Random,
     counts: &mut Counts,
 ) -> Result<(), Fail> {
-    let mut client = Vec::new(alloc);
-    let mut server = Vec::from_slice(alloc, b"200 hi\r\n")?;
+    let mut session = Wandering::new(alloc)?;
     let mut count = 2usize;
     for _ in 0..12 {
-        let (asked, answered) = (client.len(), server.len());
-        random.exchange(alloc, &mut client, &mut server)?;
-        let judged = judge_last(rt, alloc, profile, (&client, &server), count)?;
+        session.go_on(alloc, random)?;
+        let judged = judge_last(rt, alloc, choice, session.streams(), count)?;
         counts.add(judged);
         if judged == Judged::Consistent {
             count = count.saturating_add(1);
         } else {
-            client.truncate(asked);
-            server.truncate(answered);
+            session.go_back();
         }
     }
     Ok(())
 }
 
 /// Judges random sessions about 0 and about each limit.
-fn judge_random(rt: &impl Abort, alloc: Global, profile: Profile) -> Result<(), Fail> {
+fn judge_random(rt: &impl Abort, alloc: Global, choice: Choice) -> Result<(), Fail> {
     let mut counts = Counts::new();
     for base in BASES {
         let mut random = Random::new(20_261_122, base);
         for _ in 0..100 {
-            wander(rt, alloc, profile, &mut random, &mut counts)?;
+            wander(rt, alloc, choice, &mut random, &mut counts)?;
         }
     }
     assert!(rt; counts.consistent > 300, "{}", counts.consistent);

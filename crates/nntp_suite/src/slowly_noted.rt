@@ -1,14 +1,13 @@
 //! Sessions that are noted and that the slow judge judges too, answer by answer: what is said of each answer, and what
 //! is then known of the groups.
 use crate::group_lines::group_lines;
-use crate::marks::ROWS;
 use crate::memory::facts::{Stop, note_all};
-use crate::profiles::{NARROW_LENIENT, NARROW_STRICT, PROFILES, Profile};
-use crate::random::Random;
-use crate::sessions::TABLES;
-use crate::slow_judge::{self, Answered, Judged, exchanges, judge};
 use crate::slowly_judged::Counts;
 use nntp_facts::Class;
+use nntp_sessions::{
+    CHOICES, Choice, NARROW_LENIENT, NARROW_STRICT, Random, Wandering, each_row, each_session,
+};
+use nntp_slow_judge::{Answered, Judged, exchanges, judge};
 use std::alloc::Global;
 use std::process::Abort;
 use std::test::Fail;
@@ -18,14 +17,14 @@ use std::test::Fail;
 fn note_last(
     rt: &impl Abort,
     alloc: Global,
-    profile: Profile,
+    choice: Choice,
     (client, server): (&[u8], &[u8]),
     count: usize,
 ) -> Result<(Judged, String), Fail> {
-    let Profile { limit, marks } = profile;
+    let Choice { limit, marks } = choice;
     let (judged, index, lines) = match note_all(alloc, limit, marks, client, server) {
         Ok(whole) => {
-            assert_eq!(rt; whole.class, None, "{profile:?}: {}", client.escape_ascii());
+            assert_eq!(rt; whole.class, None, "{choice:?}: {}", client.escape_ascii());
             let lines = group_lines(alloc, &whole.facts)?;
             (Judged::Consistent, whole.answers, lines)
         }
@@ -42,7 +41,7 @@ fn note_last(
     assert_eq!(rt;
         index,
         count as u64,
-        "{profile:?}: {}",
+        "{choice:?}: {}",
         client.escape_ascii()
     );
     Ok((judged, lines))
@@ -52,22 +51,22 @@ fn note_last(
 fn compare_last(
     rt: &impl Abort,
     alloc: Global,
-    profile: Profile,
+    choice: Choice,
     (client, server): (&[u8], &[u8]),
     exchanges: &[Answered<'_>],
 ) -> Result<Judged, Fail> {
     let end = exchanges.last().map_or(0, |answered| answered.end);
     let (server, _) = server.split_at(end.min(server.len()));
-    let (slow, _) = judge(alloc, profile, client, server, exchanges)?;
-    let (noted, lines) = note_last(rt, alloc, profile, (client, server), exchanges.len())?;
+    let (slow, _) = judge(alloc, choice, client, server, exchanges)?;
+    let (noted, lines) = note_last(rt, alloc, choice, (client, server), exchanges.len())?;
     let name = format!(in alloc;
-        "{profile:?}: {}, {}",
+        "{choice:?}: {}, {}",
         client.escape_ascii(),
         server.escape_ascii()
     )?;
     assert_eq!(rt; noted, slow, "{name}");
     if slow == Judged::Consistent {
-        let wanted = slow_judge::group_lines(alloc, profile.marks, exchanges)?;
+        let wanted = nntp_slow_judge::group_lines(alloc, choice.marks, exchanges)?;
         assert_eq!(rt; lines.as_str(), wanted.as_str(), "{name}");
     }
     Ok(slow)
@@ -77,7 +76,7 @@ fn compare_last(
 fn compare_fronts(
     rt: &impl Abort,
     alloc: Global,
-    profile: Profile,
+    choice: Choice,
     (client, server): (&[u8], &[u8]),
 ) -> Result<(), Fail> {
     let exchanges = exchanges(alloc, client, server)?;
@@ -85,36 +84,32 @@ fn compare_fronts(
     for count in 0..=exchanges.len() {
         if judged == Judged::Consistent {
             let (front, _) = exchanges.split_at(count);
-            judged = compare_last(rt, alloc, profile, (client, server), front)?;
+            judged = compare_last(rt, alloc, choice, (client, server), front)?;
         }
     }
     Ok(())
 }
 
-/// The same by each profile.
+/// The same by each choice.
 fn compare_all(rt: &impl Abort, alloc: Global, streams: (&[u8], &[u8])) -> Result<(), Fail> {
-    for profile in PROFILES {
-        compare_fronts(rt, alloc, profile, streams)?;
+    for choice in CHOICES {
+        compare_fronts(rt, alloc, choice, streams)?;
     }
     Ok(())
 }
 
 #[test]
 fn fronts_of_worked_sessions(rt: HostRuntime) -> Result<(), Fail> {
-    for table in TABLES {
-        for session in table {
-            compare_all(&rt, rt.alloc(), session.streams())?;
-        }
+    for session in each_session(rt.alloc())? {
+        compare_all(&rt, rt.alloc(), session.streams())?;
     }
     Ok(())
 }
 
 #[test]
 fn fronts_of_sessions_with_marks(rt: HostRuntime) -> Result<(), Fail> {
-    for table in ROWS {
-        for row in table {
-            compare_all(&rt, rt.alloc(), row.streams())?;
-        }
+    for row in each_row(rt.alloc())? {
+        compare_all(&rt, rt.alloc(), row.streams())?;
     }
     Ok(())
 }
@@ -123,31 +118,28 @@ fn fronts_of_sessions_with_marks(rt: HostRuntime) -> Result<(), Fail> {
 fn compare_streams(
     rt: &impl Abort,
     alloc: Global,
-    profile: Profile,
+    choice: Choice,
     streams: (&[u8], &[u8]),
 ) -> Result<Judged, Fail> {
     let exchanges = exchanges(alloc, streams.0, streams.1)?;
-    compare_last(rt, alloc, profile, streams, &exchanges)
+    compare_last(rt, alloc, choice, streams, &exchanges)
 }
 
 /// Goes on with a session: each answer that isn't consistent with those before it is taken back.
 fn wander(
     rt: &impl Abort,
     alloc: Global,
-    profile: Profile,
+    choice: Choice,
     random: &mut Random,
     counts: &mut Counts,
 ) -> Result<(), Fail> {
-    let mut client = Vec::new(alloc);
-    let mut server = Vec::from_slice(alloc, b"200 hi\r\n")?;
+    let mut session = Wandering::new(alloc)?;
     for _ in 0..12 {
-        let (asked, answered) = (client.len(), server.len());
-        random.exchange(alloc, &mut client, &mut server)?;
-        let judged = compare_streams(rt, alloc, profile, (&client, &server))?;
+        session.go_on(alloc, random)?;
+        let judged = compare_streams(rt, alloc, choice, session.streams())?;
         counts.add(judged);
         if judged != Judged::Consistent {
-            client.truncate(asked);
-            server.truncate(answered);
+            session.go_back();
         }
     }
     Ok(())
@@ -157,13 +149,13 @@ fn wander(
 fn compare_random(
     rt: &impl Abort,
     alloc: Global,
-    profile: Profile,
+    choice: Choice,
     sessions: u64,
 ) -> Result<(), Fail> {
     let mut random = Random::new(20_261_123, 0);
     let mut counts = Counts::new();
     for _ in 0..sessions {
-        wander(rt, alloc, profile, &mut random, &mut counts)?;
+        wander(rt, alloc, choice, &mut random, &mut counts)?;
     }
     assert!(rt; counts.consistent > sessions, "{}", counts.consistent);
     assert!(rt;

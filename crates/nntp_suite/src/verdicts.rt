@@ -1,8 +1,10 @@
 //! The verdicts of `check`, and the reports of its runs.
-use crate::fakes::{Full, reader, writer};
-use crate::profiles::{NARROW_LENIENT, Profile};
-use crate::sessions::{Session, TABLES, capture};
-use nntp_check::{Verdict, Watched, run_check};
+use crate::choices::{check_by, check_task};
+use crate::expectations::{expect_octets, expect_written};
+use crate::trials::Trial;
+use crate::written::written;
+use nntp_check::Verdict;
+use nntp_sessions::{NARROW_LENIENT, capture, each_session, with_spool_text};
 use std::alloc::{AllocError, Allocator, Global};
 use std::process::Abort;
 use std::test::Fail;
@@ -39,11 +41,7 @@ pub(crate) fn shown<A: Allocator>(
                 "consistent answers={answers} groups={} numbers={} articles={}\n",
                 counts.groups, counts.numbers, counts.articles
             )?;
-            let mut output = Watched::new(first.into_bytes());
-            match spool.write(&mut output) {
-                Ok(()) => Ok(output.into_inner()),
-                Err(_) => Err(AllocError),
-            }
+            with_spool_text(first.into_bytes(), spool)
         }
         Verdict::Bad {
             answer,
@@ -61,41 +59,19 @@ pub(crate) fn shown<A: Allocator>(
 
 #[test]
 fn verdicts_on_worked_sessions(rt: HostRuntime) -> Result<(), Fail> {
-    for table in TABLES {
-        for session in table {
-            let verdict = session.profile.check(rt.alloc(), session.streams())?;
-            let name = session.name;
-            let wanted = session.report(rt.alloc())?;
-            assert_eq!(rt;
-                shown(rt.alloc(), &verdict)?.as_slice(),
-                wanted.as_bytes(),
-                "{name}"
-            );
-        }
+    for session in each_session(rt.alloc())? {
+        let verdict = check_by(session.choice, rt.alloc(), session.streams())?;
+        let octets = shown(rt.alloc(), &verdict)?;
+        let wanted = session.report(rt.alloc())?;
+        expect_octets(&rt, session.name, &octets, wanted.as_bytes());
     }
     Ok(())
 }
 
-/// What a run answers and writes.
-pub(crate) fn run(alloc: Global, profile: Profile, capture: &str) -> Result<(bool, Vec<u8>), Fail> {
-    let mut input = reader(capture.as_bytes(), 4096, 0);
-    let mut output = writer(alloc, 100_000, 100_000, Full::Fails);
-    let Profile { limit, marks } = profile;
-    let answer = run_check(alloc, limit, marks, &mut input, &mut output, 1 << 30)?;
-    Ok((answer, output.into_inner().held))
-}
-
 #[test]
 fn reports_on_worked_sessions(rt: HostRuntime) -> Result<(), Fail> {
-    for table in TABLES {
-        for session in table {
-            let name = session.name;
-            let capture = session.capture(rt.alloc())?;
-            let (answer, written) = run(rt.alloc(), session.profile, capture.as_str())?;
-            let wanted = session.report(rt.alloc())?;
-            assert_eq!(rt; written.as_slice(), wanted.as_bytes(), "{name}");
-            assert_eq!(rt; answer, session.is_consistent(), "{name}");
-        }
+    for session in each_session(rt.alloc())? {
+        Trial::Pass(4096).check(&rt, rt.alloc(), session)?;
     }
     Ok(())
 }
@@ -103,10 +79,9 @@ fn reports_on_worked_sessions(rt: HostRuntime) -> Result<(), Fail> {
 #[test]
 fn octets_that_are_not_printed(rt: HostRuntime) -> Result<(), Fail> {
     let capture = capture(rt.alloc(), "GROUP \\\t\x01\r\n", "200 hi\r\n2\u{e9}\r\n")?;
-    let (answer, written) = run(rt.alloc(), NARROW_LENIENT, capture.as_str())?;
+    let ended = written(rt.alloc(), check_task(NARROW_LENIENT), capture.as_str())?;
     let wanted = b"bad answer 1 Malformed\ncommand GROUP \\\\\\x09\\x01\nanswer 2\\xc3\\xa9\n";
-    assert_eq!(rt; written.as_slice(), wanted.as_slice());
-    assert!(rt; !answer);
+    expect_written(&rt, "escapes", ended, (false, wanted.as_slice()));
     Ok(())
 }
 
@@ -117,7 +92,7 @@ fn verdicts_show_at_most_512_octets(rt: HostRuntime) -> Result<(), Fail> {
     client[601] = b'\n';
     let mut server = [b'y'; 608];
     server[..8].copy_from_slice(b"200 hi\r\n");
-    let verdict = NARROW_LENIENT.check(rt.alloc(), (&client, &server))?;
+    let verdict = check_by(NARROW_LENIENT, rt.alloc(), (&client, &server))?;
     match &verdict {
         Verdict::Bad {
             answer: 1,

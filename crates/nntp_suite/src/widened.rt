@@ -1,6 +1,7 @@
 //! Spools that are widened: they have the same groups and articles, and the greater limit.
-use crate::sessions::{Session, TABLES};
-use nntp_check::{Limit, Watched};
+use crate::expectations::{expect_octets, expect_verified};
+use nntp_check::Limit;
+use nntp_sessions::{Session, each_session, spool_text};
 use nntp_spool::{Spool, Verified, verify};
 use std::alloc::Global;
 use std::process::Abort;
@@ -19,13 +20,6 @@ fn limit_and_content(text: &str) -> Option<(Limit, &str)> {
     }
 }
 
-/// The text of a spool.
-fn text_of(alloc: Global, spool: &Spool) -> Result<Vec<u8>, Fail> {
-    let mut output = Watched::new(Vec::new(alloc));
-    spool.write(&mut output)?;
-    Ok(output.into_inner())
-}
-
 /// Widens the spool of this text, which is then written with the same content.
 fn widen(rt: &impl Abort, alloc: Global, text: &str) -> Result<Spool, Fail> {
     let Some((limit, content)) = limit_and_content(text) else {
@@ -36,8 +30,8 @@ fn widen(rt: &impl Abort, alloc: Global, text: &str) -> Result<Spool, Fail> {
     let widened = spool.widened();
     assert_eq!(rt; widened.limit(), Limit::Wide, "{text}");
     let wanted = format!(in alloc; "{WIDE}{content}")?;
-    let written = text_of(alloc, &widened)?;
-    assert_eq!(rt; written.as_slice(), wanted.as_bytes(), "{text}");
+    let written = spool_text(alloc, &widened)?;
+    expect_octets(rt, text, &written, wanted.as_bytes());
     Ok(Spool::read(alloc, &written)?)
 }
 
@@ -45,7 +39,8 @@ fn widen(rt: &impl Abort, alloc: Global, text: &str) -> Result<Spool, Fail> {
 fn a_group_without_numbers(rt: HostRuntime) -> Result<(), Fail> {
     let wide = widen(&rt, rt.alloc(), "spool 1\ngroup g 0\nend\n")?;
     let wanted = b"spool 2\nlimit 9999999999999999\ngroup g 0\nend\n";
-    assert_eq!(rt; text_of(rt.alloc(), &wide)?.as_slice(), wanted.as_slice());
+    let written = spool_text(rt.alloc(), &wide)?;
+    expect_octets(&rt, "a group", &written, wanted.as_slice());
     Ok(())
 }
 
@@ -55,18 +50,16 @@ fn widen_given(rt: &impl Abort, alloc: Global, session: &Session) -> Result<(), 
     let wide = widen(rt, alloc, text)?;
     if let Verified::Permits { .. } = verified {
         let (client, server) = session.streams();
-        let again = verify(alloc, session.profile.marks, &wide, client, server)?;
-        assert_eq!(rt; again, verified, "{}", session.name);
+        let again = verify(alloc, session.choice.marks, &wide, client, server)?;
+        expect_verified(rt, session.name, again, verified);
     }
     Ok(())
 }
 
 #[test]
 fn given_spools(rt: HostRuntime) -> Result<(), Fail> {
-    for table in TABLES {
-        for session in table {
-            widen_given(&rt, rt.alloc(), session)?;
-        }
+    for session in each_session(rt.alloc())? {
+        widen_given(&rt, rt.alloc(), session)?;
     }
     Ok(())
 }

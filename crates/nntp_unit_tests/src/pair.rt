@@ -273,3 +273,22 @@ fn what_an_exchange_holds(rt: HostRuntime) {
     assert!(rt; matches!(refusal.answer(), Answer::Plain { code: 502 }));
     assert!(rt; refusal.closes());
 }
+
+#[test]
+fn what_is_passed_over(rt: HostRuntime) {
+    let server = b"200 hi\r\n222 0 <a@b>\r\n.x\r\n.\r\n2x3 ok\r\n205 bye\r\n";
+    let mut pairs = Pairs::new(b"BODY <a@b>\r\nHELP\r\nQUIT\r\n", server);
+    assert!(rt; matches!(pairs.next(), Step::Exchange(_)));
+    for initial in [b"222 0 <a@b>".as_slice(), b"2x3 ok".as_slice()] {
+        let Step::Bad {
+            class: PairClass::Malformed,
+            ..
+        } = pairs.next()
+        else {
+            panic!(rt; "no malformed frame");
+        };
+        assert_eq!(rt; pairs.pass_over().initial(), initial);
+    }
+    assert!(rt; matches!(pairs.next(), Step::Exchange(exchange) if exchange.index() == 3));
+    assert!(rt; matches!(pairs.next(), Step::End { unanswered: 0 }));
+}

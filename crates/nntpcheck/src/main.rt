@@ -2,9 +2,7 @@
 #![tactic(auto)]
 
 use clap::error::ErrorKind;
-use nntp_check::{
-    Failure, RunFault, Task, Watched, job, refusal, run_check, run_show, run_verify, status,
-};
+use nntp_check::{Failure, RunFault, Watched, job, refusal, run_task, status};
 use std::process::ExitCode;
 use std::{env, io};
 
@@ -37,14 +35,7 @@ fn run(rt: &HostRuntime) -> Result<bool, Failure> {
     };
     let mut input = Watched::new(rt.stdin());
     let mut output = Watched::new(rt.stdout());
-    let outcome = match task {
-        Task::Check { limit, marks } => {
-            run_check(rt.alloc(), limit, marks, &mut input, &mut output, MOST)
-        }
-        Task::Verify { marks } => run_verify(rt.alloc(), marks, &mut input, &mut output, MOST),
-        Task::Show => run_show(rt.alloc(), &mut input, &mut output, MOST),
-    };
-    outcome.map_err(Failure::Run)
+    run_task(rt.alloc(), task, &mut input, &mut output, MOST).map_err(Failure::Run)
 }
 
 /// Prints help that was asked for on standard output, and why there is no answer on standard error.

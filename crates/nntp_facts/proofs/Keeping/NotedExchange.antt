@@ -66,7 +66,7 @@ facts_next how ps answers asked response e =
     (ap₂ (λ v at. facts_of how v at asked response) (visible_longer start.visible ps (asked ∷ []) answers le) (position_longer Nowhere ps (asked ∷ []) answers le))
 
 -- what is visible then
-visible_next : (ps : List Asked) (answers : List Response) (asked : Asked) (response : Response) → length ps ≡ length answers
+pub visible_next : (ps : List Asked) (answers : List Response) (asked : Asked) (response : Response) → length ps ≡ length answers
     → visible_from start.visible (ps ++ asked ∷ []) (answers ++ response ∷ []) ≡ visible_after (visible_from start.visible ps answers) asked response
 visible_next ps answers asked response e =
     visible_grows start.visible (ps ++ asked ∷ []) answers asked response (next_behind ps [] asked answers e)
@@ -82,11 +82,11 @@ position_next ps answers asked response e =
 -- ---- one exchange more
 
 -- there are as many prompts as answers
-as_many : (past : List Paired) → length (asked_of past) ≡ length (responses_of past)
+pub as_many : (past : List Paired) → length (asked_of past) ≡ length (responses_of past)
 as_many past = length-map past (λ pair. asked_at pair.line) ∙ sym (length-map past (λ pair. pair.response))
 
 -- the prompts and answers of one exchange more
-ends : (past : List Paired) (pair : Paired)
+pub ends : (past : List Paired) (pair : Paired)
     → ◌≡◌ {A = List Asked × List Response} (asked_of (past ++ pair ∷ []), responses_of (past ++ pair ∷ [])) (asked_of past ++ asked_at pair.line ∷ [], responses_of past ++ pair.response ∷ [])
 ends past pair = ap₂ (λ (ps : List Asked) (answers : List Response). (ps, answers)) (map-append (λ pair. asked_at pair.line) past (pair ∷ [])) (map-append (λ pair. pair.response) past (pair ∷ []))
 
@@ -239,7 +239,7 @@ pub record Moves (facts new : FactsKept) (pair : Paired) : Type 0 where
   pub limit : new.limit ≡ facts.limit
   pub marks : new.marks ≡ facts.marks
   pub has_failed : new.has_failed ≡ facts.has_failed
-  pub count : new.count ≡ pair.index + 1
+  pub count : new.count ≡ facts.count + 1
   pub visible : new.visible ≡ visible_after facts.visible (asked_at pair.line) pair.response
   pub position : new.position ≡ position_after facts.position (asked_at pair.line) pair.response
 
@@ -253,7 +253,7 @@ accepted profile facts old new past pair saying w s moves adds =
       record {
         profile_is = ap₂ profile_of moves.limit moves.marks ∙ s.profile_is;
         is_whole = moves.has_failed ∙ s.is_whole;
-        count = omega (arith, moves.count, w.due.index, s.count, length-append past (pair ∷ []));
+        count = omega (arith, moves.count, s.count, length-append past (pair ∷ []));
         visible = moves.visible ∙ ap (λ v. visible_after v (asked_at pair.line) pair.response) s.visible
             ∙ sym (ap (λ q. visible_from start.visible q.0 q.1) (ends past pair)
             ∙ visible_next (asked_of past) (responses_of past) (asked_at pair.line) pair.response (as_many past));

@@ -1,4 +1,4 @@
--- Two streams have one headline; the ways in which a pairing leads to it.
+-- Two streams have one outcome; the ways in which a pairing leads to it.
 use Rattle.std.proofs.Common.{◌≡◌, ℕ, ◌<◌, ◌^◌, ◌↔◌, false, IsTrue, List, [], ◌∷◌, ◌++◌, length, inl, inr, refl, sym, ap, subst, ◌∙◌, arith, length-append}
 use Rattle.std.proofs.lemmas.Bool.{true≢false}
 use Rattle.std.proofs.lemmas.List.{map-append}
@@ -25,7 +25,7 @@ use Rattle.nntp_facts.proofs.Session.LaterPrompts.{visible_longer}
 use Rattle.nntp_facts.proofs.Streams.ExplainedOrBad.{explained_or_bad, explained_not_bad, bad_once}
 use Rattle.nntp_facts.proofs.Streams.PairedStreams.{explained_end, bad_end, bad_answer, answer_has_class, unfitting}
 
--- ---- one headline
+-- ---- one outcome
 
 -- explanations of two streams have the same answers
 pub same_answers : (profile : Profile) (S T : Spool) (client server : List ℕ) (n m : ℕ) (x : Explains profile S client server n) (y : Explains profile T client server m) → x.answers ≡ y.answers
@@ -58,26 +58,26 @@ given_explains profile S G client server n x small given =
           given_is_least profile T G (prompts_of client) x.answers y.is_spool (subst (λ answers. Run profile T start (prompts_of client) answers) same y.run) given;
     }
 
--- two streams have one headline at most
-pub one_headline : (profile : Profile) (client server : List ℕ) (h k : Outcome) → IsOutcome profile client server h → IsOutcome profile client server k → h ≡ k
-one_headline profile client server (Yes S n) (Yes T m) x y =
+-- two streams have one outcome at most
+pub one_outcome : (profile : Profile) (client server : List ℕ) (h k : Outcome) → IsOutcome profile client server h → IsOutcome profile client server k → h ≡ k
+one_outcome profile client server (Yes S n) (Yes T m) x y =
     let answers = same_answers profile S T client server n m x.explains y.explains in
     let count : n ≡ m = sym x.explains.count ∙ ap length answers ∙ y.explains.count in
     let spool : S ≡ T =
     given_once (facts_of_session profile.marks (prompts_of client) y.explains.answers) S T
     (subst (λ answers. IsGiven (facts_of_session profile.marks (prompts_of client) answers) S) answers x.given) y.given in
     λ i. Yes (spool i) (count i)
-one_headline profile client server (Yes S n) (No k class) x y = absurd (explained_not_bad profile S client server n k x.explains y.0)
-one_headline profile client server (No k class) (Yes S n) x y = absurd (explained_not_bad profile S client server n k y.explains x.0)
-one_headline profile client server (No k c) (No j d) x y =
+one_outcome profile client server (Yes S n) (No k class) x y = absurd (explained_not_bad profile S client server n k x.explains y.0)
+one_outcome profile client server (No k class) (Yes S n) x y = absurd (explained_not_bad profile S client server n k y.explains x.0)
+one_outcome profile client server (No k c) (No j d) x y =
     let place = bad_once profile client server k j x.0 y.0 in
     let one = one_class profile client server j y.0 in
     let class : c ≡ d = one.2 c (subst (λ k. HasClass profile client server k c) place x.1) ∙ sym (one.2 d y.1) in
     λ i. No (place i) (class i)
 
 -- and they have one
-pub some_headline : (profile : Profile) (client server : List ℕ) → length server < 2 ^ 210 → (h : Outcome) × IsOutcome profile client server h
-some_headline profile client server small = elim (explained_or_bad profile client server small) [
+pub some_outcome : (profile : Profile) (client server : List ℕ) → length server < 2 ^ 210 → (h : Outcome) × IsOutcome profile client server h
+some_outcome profile client server small = elim (explained_or_bad profile client server small) [
   | inl (S, n, x) ↦
       let G = made_for profile (prompts_of client) x.answers in
       let few = few_facts profile S client server n x small in

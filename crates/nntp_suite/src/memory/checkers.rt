@@ -1,26 +1,12 @@
 //! Want of memory while worked sessions come in pieces.
-use super::{Ended, give_each, refuse_each, right_if};
-use crate::sessions::{Session, TABLES};
-use crate::verdicts::shown;
+use super::verdicts::right_if_shown;
+use super::{Ended, give_each, refuse_each};
+use crate::checkers::feed_split;
+use crate::choices::checker_by;
 use nntp_check::{CheckError, Checker};
+use nntp_sessions::{Session, each_session};
 use std::alloc::{Allocator, Global};
-use std::process::Abort;
 use std::test::Fail;
-
-/// Feeds both streams, each in two pieces.
-fn feed<A: Allocator + Copy>(
-    checker: &mut Checker<A>,
-    session: &Session,
-) -> Result<(), CheckError> {
-    let client = session.client.as_bytes();
-    let server = session.server.as_bytes();
-    let (client_front, client_rest) = client.split_at(client.len() / 2);
-    let (server_front, server_rest) = server.split_at(server.len() / 2);
-    checker.feed_client(client_front)?;
-    checker.feed_server(server_front)?;
-    checker.feed_client(client_rest)?;
-    checker.feed_server(server_rest)
-}
 
 /// How a call ended that wants memory: from then on each one has to answer Failed, and nothing is bad.
 fn after_want<A: Allocator + Copy>(mut checker: Checker<A>) -> Ended {
@@ -35,19 +21,23 @@ fn after_want<A: Allocator + Copy>(mut checker: Checker<A>) -> Ended {
     }
 }
 
-/// By a checker.
-fn judge<A: Allocator + Copy>(alloc: Global, heap: A, session: &Session, wanted: &str) -> Ended {
-    let mut checker = session.profile.checker(heap);
-    match feed(&mut checker, session) {
+/// By a checker, to which each stream comes in two pieces.
+fn judge_in_pieces<A: Allocator + Copy>(
+    alloc: Global,
+    heap: A,
+    session: &Session,
+    wanted: &str,
+) -> Ended {
+    let (client, server) = session.streams();
+    let places = (client.len() / 2, server.len() / 2);
+    let mut checker = checker_by(session.choice, heap);
+    match feed_split(&mut checker, (client, server), places) {
         Ok(()) => {}
         Err(CheckError::Memory) => return after_want(checker),
         Err(_) => return Ended::Wrong,
     }
     match checker.finish() {
-        Ok(verdict) => right_if(match shown(alloc, &verdict) {
-            Ok(octets) => octets.as_slice() == wanted.as_bytes(),
-            Err(_) => false,
-        }),
+        Ok(verdict) => right_if_shown(alloc, &verdict, wanted),
         Err(CheckError::Memory) => Ended::Memory,
         Err(_) => Ended::Wrong,
     }
@@ -55,26 +45,22 @@ fn judge<A: Allocator + Copy>(alloc: Global, heap: A, session: &Session, wanted:
 
 #[test]
 fn sessions_in_pieces(rt: HostRuntime) -> Result<(), Fail> {
-    for table in TABLES {
-        for session in table {
-            let wanted = session.report(rt.alloc())?;
-            refuse_each(&rt, rt.alloc(), session.name, |heap| {
-                judge(rt.alloc(), heap, session, wanted.as_str())
-            });
-        }
+    for session in each_session(rt.alloc())? {
+        let wanted = session.report(rt.alloc())?;
+        refuse_each(&rt, rt.alloc(), session.name, |heap| {
+            judge_in_pieces(rt.alloc(), heap, session, wanted.as_str())
+        });
     }
     Ok(())
 }
 
 #[test]
 fn sessions_in_pieces_with_few_octets(rt: HostRuntime) -> Result<(), Fail> {
-    for table in TABLES {
-        for session in table {
-            let wanted = session.report(rt.alloc())?;
-            give_each(&rt, rt.alloc(), session.name, |heap| {
-                judge(rt.alloc(), heap, session, wanted.as_str())
-            })?;
-        }
+    for session in each_session(rt.alloc())? {
+        let wanted = session.report(rt.alloc())?;
+        give_each(&rt, rt.alloc(), session.name, |heap| {
+            judge_in_pieces(rt.alloc(), heap, session, wanted.as_str())
+        })?;
     }
     Ok(())
 }

@@ -2,14 +2,13 @@
 ghost use Rattle.std.specs.Prelude.{◌≡◌, true, IfOk};
 ghost use Rattle.nntp_witness.specs.Witness.{HaveNotedSome};
 
+use super::spools::right_if_written;
 use super::{Ended, refuse_each, right_if};
-use crate::marks::ROWS;
-use crate::profiles::Profile;
-use crate::sessions::{Session, TABLES};
+use crate::marks::bad_of;
 use nntp_facts::{Class, Facts, FactsError, Noted};
 use nntp_pair::{Exchange, Pairs, Step};
 use nntp_refusing::{Refusal, Refusing};
-use nntp_spool::{Spool, Watched};
+use nntp_sessions::{Choice, Session, each_row, each_session};
 use nntp_wire::{Limit, Marks};
 use nntp_witness::witness;
 use std::alloc::{AllocError, Allocator, Global};
@@ -121,9 +120,9 @@ fn outcome<A: Allocator>(noted: Result<Whole<A>, Stop>) -> Result<(u64, Option<C
 }
 
 /// Notes the exchanges of a session, up to the one that its verdict calls bad.
-fn note<A: Allocator + Copy>(alloc: Global, heap: A, session: &Session) -> Ended {
+fn note_session<A: Allocator + Copy>(alloc: Global, heap: A, session: &Session) -> Ended {
     let (client, server) = session.streams();
-    let Profile { limit, marks } = session.profile;
+    let Choice { limit, marks } = session.choice;
     let (answer, class) = match outcome(note_all(heap, limit, marks, client, server)) {
         Ok(outcome) => outcome,
         Err(ended) => return ended,
@@ -135,17 +134,16 @@ fn note<A: Allocator + Copy>(alloc: Global, heap: A, session: &Session) -> Ended
 }
 
 #[test]
-fn exchanges_of_worked_sessions_are_noted(rt: HostRuntime) {
+fn exchanges_of_worked_sessions_are_noted(rt: HostRuntime) -> Result<(), Fail> {
     let mut most = 0;
-    for table in TABLES {
-        for session in table {
-            let refused = refuse_each(&rt, rt.alloc(), session.name, |heap| {
-                note(rt.alloc(), heap, session)
-            });
-            most = refused.max(most);
-        }
+    for session in each_session(rt.alloc())? {
+        let refused = refuse_each(&rt, rt.alloc(), session.name, |heap| {
+            note_session(rt.alloc(), heap, session)
+        });
+        most = refused.max(most);
     }
     assert!(rt; most > 3, "{most}");
+    Ok(())
 }
 
 /// Notes the exchanges of two streams by strict marks. So many answers are right, and the one behind them is
@@ -163,71 +161,59 @@ fn note_strictly<A: Allocator + Copy>(
 }
 
 #[test]
-fn exchanges_with_strict_marks_are_noted(rt: HostRuntime) {
+fn exchanges_with_strict_marks_are_noted(rt: HostRuntime) -> Result<(), Fail> {
     let mut most = 0;
-    for table in ROWS {
-        for row in table {
-            let refused = refuse_each(&rt, rt.alloc(), row.name, |heap| {
-                note_strictly(heap, Limit::Narrow, row.streams(), row.strict.bad())
-            });
-            most = refused.max(most);
-        }
+    for row in each_row(rt.alloc())? {
+        let refused = refuse_each(&rt, rt.alloc(), row.name, |heap| {
+            note_strictly(heap, Limit::Narrow, row.streams(), bad_of(row.strict))
+        });
+        most = refused.max(most);
     }
     assert!(rt; most > 3, "{most}");
+    Ok(())
 }
 
 #[test]
-fn exchanges_of_worked_sessions_are_noted_by_strict_marks(rt: HostRuntime) {
+fn exchanges_of_worked_sessions_are_noted_by_strict_marks(rt: HostRuntime) -> Result<(), Fail> {
     let ample = Refusing::new(rt.alloc(), Refusal::Never);
-    for table in TABLES {
-        for session in table {
-            let limit = session.profile.limit;
-            let (client, server) = session.streams();
-            let wanted = outcome(note_all(&ample, limit, Marks::Strict, client, server));
-            match wanted {
-                Ok(wanted) => {
-                    refuse_each(&rt, rt.alloc(), session.name, |heap| {
-                        note_strictly(heap, limit, (client, server), wanted)
-                    });
-                }
-                Err(_) => assert!(rt; false, "{}", session.name),
-            }
-        }
+    for session in each_session(rt.alloc())? {
+        let limit = session.choice.limit;
+        let (client, server) = session.streams();
+        let Ok(wanted) = outcome(note_all(&ample, limit, Marks::Strict, client, server)) else {
+            return Err("memory was refused".into());
+        };
+        refuse_each(&rt, rt.alloc(), session.name, |heap| {
+            note_strictly(heap, limit, (client, server), wanted)
+        });
     }
-}
-
-/// Whether the spool has this text.
-fn is_written<A: Allocator>(alloc: Global, spool: &Spool<A>, text: &str) -> bool {
-    let mut output = Watched::new(Vec::new(alloc));
-    spool.write(&mut output).is_ok() && output.into_inner().as_slice() == text.as_bytes()
+    Ok(())
 }
 
 /// Makes the spool that is given for a session, of facts that are kept in `ample` memory.
-fn make<A: Allocator + Copy>(alloc: Global, heap: A, ample: A, session: &Session) -> Ended {
+fn make_spool<A: Allocator + Copy>(alloc: Global, heap: A, ample: A, session: &Session) -> Ended {
     let (client, server) = session.streams();
-    let Profile { limit, marks } = session.profile;
+    let Choice { limit, marks } = session.choice;
     let Ok(whole) = note_all(ample, limit, marks, client, server) else {
         return Ended::Wrong;
     };
     match witness(heap, &whole.facts) {
-        Ok(spool) => right_if(is_written(alloc, &spool, session.given.0)),
+        Ok(spool) => right_if_written(alloc, &spool, session.given.0.as_bytes()),
         Err(AllocError) => Ended::Memory,
     }
 }
 
 #[test]
-fn spools_of_worked_sessions_are_made(rt: HostRuntime) {
+fn spools_of_worked_sessions_are_made(rt: HostRuntime) -> Result<(), Fail> {
     let ample = Refusing::new(rt.alloc(), Refusal::Never);
     let mut most = 0;
-    for table in TABLES {
-        for session in table {
-            if session.is_consistent() {
-                let refused = refuse_each(&rt, rt.alloc(), session.name, |heap| {
-                    make(rt.alloc(), heap, &ample, session)
-                });
-                most = refused.max(most);
-            }
+    for session in each_session(rt.alloc())? {
+        if session.is_consistent() {
+            let refused = refuse_each(&rt, rt.alloc(), session.name, |heap| {
+                make_spool(rt.alloc(), heap, &ample, session)
+            });
+            most = refused.max(most);
         }
     }
     assert!(rt; most > 3, "{most}");
+    Ok(())
 }

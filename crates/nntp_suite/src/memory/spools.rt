@@ -1,12 +1,10 @@
 //! Want of memory while a spool is built, read and put to a session.
 use super::{AMPLE, Ended, give_each, refuse_each, right_if};
-use crate::sessions::{Session, TABLES};
 use linked_list_allocator::LocalHeap;
-use nntp_check::{Limit, Watched};
+use nntp_check::Limit;
 use nntp_refusing::{Refusal, Refusing};
-use nntp_spool::{
-    Article, Counts, Kind, ReadFault, Spool, SpoolBuilder, SpoolFault, Verified, verify,
-};
+use nntp_sessions::{Session, each_session, spool_text};
+use nntp_spool::{Article, Counts, Kind, ReadFault, Spool, SpoolBuilder, SpoolFault, verify};
 use std::alloc::{AllocError, Allocator, Global};
 use std::process::Abort;
 use std::test::Fail;
@@ -234,6 +232,18 @@ fn spools_with_numbers_above_31_bits(rt: HostRuntime) {
     }
 }
 
+/// Right if the spool is written so.
+pub(super) fn right_if_written<A: Allocator>(
+    alloc: Global,
+    spool: &Spool<A>,
+    text: &[u8],
+) -> Ended {
+    match spool_text(alloc, spool) {
+        Ok(octets) => right_if(octets.as_slice() == text),
+        Err(AllocError) => Ended::Wrong,
+    }
+}
+
 /// Reads octets as the text of a spool, and writes the spool again.
 fn read<A: Allocator + Copy>(
     alloc: Global,
@@ -242,11 +252,10 @@ fn read<A: Allocator + Copy>(
     wanted: Option<ReadFault>,
 ) -> Ended {
     match Spool::read(heap, text) {
-        Ok(spool) => {
-            let mut output = Watched::new(Vec::new(alloc));
-            let is_written = spool.write(&mut output).is_ok();
-            right_if(is_written && output.into_inner().as_slice() == text && wanted.is_none())
-        }
+        Ok(spool) => match wanted {
+            None => right_if_written(alloc, &spool, text),
+            Some(_) => Ended::Wrong,
+        },
         Err(
             ReadFault {
                 line: 0,
@@ -258,15 +267,14 @@ fn read<A: Allocator + Copy>(
 }
 
 #[test]
-fn spools_of_worked_sessions_are_read(rt: HostRuntime) {
-    for table in TABLES {
-        for session in table {
-            let (text, _) = session.given;
-            refuse_each(&rt, rt.alloc(), session.name, |heap| {
-                read(rt.alloc(), heap, text.as_bytes(), None)
-            });
-        }
+fn spools_of_worked_sessions_are_read(rt: HostRuntime) -> Result<(), Fail> {
+    for session in each_session(rt.alloc())? {
+        let (text, _) = session.given;
+        refuse_each(&rt, rt.alloc(), session.name, |heap| {
+            read(rt.alloc(), heap, text.as_bytes(), None)
+        });
     }
+    Ok(())
 }
 
 /// Octets by name that are no text of a spool, and the first fault.
@@ -314,47 +322,40 @@ fn texts_of_no_spool_are_read(rt: HostRuntime) {
     }
 }
 
-/// Puts the spool of a text, which is made of `ample` memory, to a session.
-fn put<A: Allocator + Copy>(
-    heap: A,
-    ample: A,
-    session: &Session,
-    (text, wanted): (&str, Verified),
-) -> Ended {
+/// Puts the spool that is given for a session, which is made of `ample` memory, to it.
+fn verify_given<A: Allocator + Copy>(heap: A, ample: A, session: &Session) -> Ended {
+    let (text, wanted) = session.given;
     let Ok(spool) = Spool::read(ample, text.as_bytes()) else {
         return Ended::Wrong;
     };
     let (client, server) = session.streams();
-    match verify(heap, session.profile.marks, &spool, client, server) {
+    match verify(heap, session.choice.marks, &spool, client, server) {
         Ok(verified) => right_if(verified == wanted),
         Err(AllocError) => Ended::Memory,
     }
 }
 
 #[test]
-fn spools_that_are_put_to_worked_sessions(rt: HostRuntime) {
+fn spools_that_are_put_to_worked_sessions(rt: HostRuntime) -> Result<(), Fail> {
     let ample = Refusing::new(rt.alloc(), Refusal::Never);
     let mut most = 0;
-    for table in TABLES {
-        for session in table {
-            let refused = refuse_each(&rt, rt.alloc(), session.name, |heap| {
-                put(heap, &ample, session, session.given)
-            });
-            most = refused.max(most);
-        }
+    for session in each_session(rt.alloc())? {
+        let refused = refuse_each(&rt, rt.alloc(), session.name, |heap| {
+            verify_given(heap, &ample, session)
+        });
+        most = refused.max(most);
     }
     assert!(rt; most > 3, "{most}");
+    Ok(())
 }
 
 #[test]
 fn spools_with_few_octets(rt: HostRuntime) -> Result<(), Fail> {
-    for table in TABLES {
-        for session in table {
-            let (text, _) = session.given;
-            give_each(&rt, rt.alloc(), session.name, |heap| {
-                read(rt.alloc(), heap, text.as_bytes(), None)
-            })?;
-        }
+    for session in each_session(rt.alloc())? {
+        let (text, _) = session.given;
+        give_each(&rt, rt.alloc(), session.name, |heap| {
+            read(rt.alloc(), heap, text.as_bytes(), None)
+        })?;
     }
     Ok(())
 }
@@ -362,12 +363,10 @@ fn spools_with_few_octets(rt: HostRuntime) -> Result<(), Fail> {
 #[test]
 fn spools_that_are_put_with_few_octets(rt: HostRuntime) -> Result<(), Fail> {
     let ample = LocalHeap::new(rt.alloc(), AMPLE)?;
-    for table in TABLES {
-        for session in table {
-            give_each(&rt, rt.alloc(), session.name, |heap| {
-                put(heap, &ample, session, session.given)
-            })?;
-        }
+    for session in each_session(rt.alloc())? {
+        give_each(&rt, rt.alloc(), session.name, |heap| {
+            verify_given(heap, &ample, session)
+        })?;
     }
     Ok(())
 }

@@ -1,44 +1,55 @@
 //! Want of memory while worked sessions are judged.
 use super::{Ended, give_each, refuse_each, right_if};
-use crate::sessions::{Session, TABLES};
+use crate::choices::check_by;
 use crate::verdicts::shown;
+use nntp_check::Verdict;
+use nntp_sessions::{Session, each_session};
 use std::alloc::{Allocator, Global};
-use std::process::Abort;
 use std::test::Fail;
 
+/// Right if the report on the verdict is this one.
+pub(super) fn right_if_shown<A: Allocator>(
+    alloc: Global,
+    verdict: &Verdict<A>,
+    wanted: &str,
+) -> Ended {
+    match shown(alloc, verdict) {
+        Ok(octets) => right_if(octets.as_slice() == wanted.as_bytes()),
+        Err(_) => Ended::Wrong,
+    }
+}
+
 /// By `check`.
-fn judge<A: Allocator + Copy>(alloc: Global, heap: A, session: &Session, wanted: &str) -> Ended {
-    match session.profile.check(heap, session.streams()) {
-        Ok(verdict) => right_if(match shown(alloc, &verdict) {
-            Ok(octets) => octets.as_slice() == wanted.as_bytes(),
-            Err(_) => false,
-        }),
+fn judge_at_once<A: Allocator + Copy>(
+    alloc: Global,
+    heap: A,
+    session: &Session,
+    wanted: &str,
+) -> Ended {
+    match check_by(session.choice, heap, session.streams()) {
+        Ok(verdict) => right_if_shown(alloc, &verdict, wanted),
         Err(_) => Ended::Memory,
     }
 }
 
 #[test]
 fn verdicts_on_worked_sessions(rt: HostRuntime) -> Result<(), Fail> {
-    for table in TABLES {
-        for session in table {
-            let wanted = session.report(rt.alloc())?;
-            refuse_each(&rt, rt.alloc(), session.name, |heap| {
-                judge(rt.alloc(), heap, session, wanted.as_str())
-            });
-        }
+    for session in each_session(rt.alloc())? {
+        let wanted = session.report(rt.alloc())?;
+        refuse_each(&rt, rt.alloc(), session.name, |heap| {
+            judge_at_once(rt.alloc(), heap, session, wanted.as_str())
+        });
     }
     Ok(())
 }
 
 #[test]
 fn verdicts_with_few_octets(rt: HostRuntime) -> Result<(), Fail> {
-    for table in TABLES {
-        for session in table {
-            let wanted = session.report(rt.alloc())?;
-            give_each(&rt, rt.alloc(), session.name, |heap| {
-                judge(rt.alloc(), heap, session, wanted.as_str())
-            })?;
-        }
+    for session in each_session(rt.alloc())? {
+        let wanted = session.report(rt.alloc())?;
+        give_each(&rt, rt.alloc(), session.name, |heap| {
+            judge_at_once(rt.alloc(), heap, session, wanted.as_str())
+        })?;
     }
     Ok(())
 }

@@ -169,8 +169,9 @@ fn an_answer_before_its_command(rt: HostRuntime) {
     would_end(&rt, &feed, Ending::More);
     pass(&rt, &mut feed);
     would_end(&rt, &feed, Ending::End { unanswered: 0 });
-    assert!(rt; feed.client_count() == 9);
-    assert!(rt; feed.server_count() == 16);
+    assert!(rt; feed.counts().client == 9);
+    assert!(rt; feed.counts().server == 16);
+    assert!(rt; feed.index() == 2);
 }
 
 #[test]

@@ -7,8 +7,8 @@ use Rattle.nntp_check.proofs.checker.go_on.Given as goal
 
 abbrev pub invariant-loop-exchange : goal.invariant-loop-exchange
 invariant-loop-exchange g l = (limit : Limit) (marks : Marks) (client server : List ℕ)
-    → Keeps (profile_of limit marks) l.fn.judge.facts l.fn.feed l.fn.judge.answers client server
-    → Keeps (profile_of limit marks) l.judge.facts l.feed l.judge.answers client server
+    → Keeps (profile_of limit marks) l.fn.judge.facts l.fn.feed client server
+    → Keeps (profile_of limit marks) l.judge.facts l.feed client server
 
 abbrev pub decreases-loop-exchange : goal.decreases-loop-exchange
 decreases-loop-exchange g l = length l.feed.server

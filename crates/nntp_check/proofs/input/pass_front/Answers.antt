@@ -33,7 +33,7 @@ returns-clause-ok g c =
             (passed-source before after (g.S.Sink.stands by c.args.sink.now)
             (g.S.Sink.stands by w.take-in-Some.new.self) w.in-Some.source taken.source c.args.octets.now taken.octets.now
             taken.rest.now
-            w.in-Some.is c.in_ok-taken.ensures.cut.0 c.in_ok-taken.ensures.read (w.in_ok-take.ensures by))
+            w.in-Some.is c.in_ok-taken.ensures.cut.0 c.in_ok-taken.ensures.read (w.in_ok-take.ensures.ok by))
         | in_default w ↦
             subst (Passes by) (sym w.sink-is)
             (passed-line before after (g.S.Sink.stands by c.args.sink.now) taken.source c.args.octets.now taken.octets.now

@@ -6,12 +6,11 @@ use Rattle.nntp_check.proofs.JudgeLemmas.{is-due, passes, refuses, told_of}
 use Rattle.nntp_check.proofs.judge.check.Goals as goal
 
 pub loop-exchange-init : goal.loop-exchange-init
-loop-exchange-init g c = record { pairs = []; before = sym c.new-pairs.ensures; count = c.new-judge.ensures.answers; stands = c.new-judge.ensures.facts }
+loop-exchange-init g c = record { pairs = []; before = sym c.new-pairs.ensures; stands = c.new-judge.ensures }
 
 pub note-requires : goal.note-requires
 note-requires g c = is-due (profile_of c.args.limit c.args.marks) c.args.client.now c.args.server.now c.loop-exchange.judge.facts
-    c.loop-exchange.pairs c.next.new.self c.loop-exchange.judge.answers c.in-Exchange.exchange c.loop-exchange.invariant
-    c.in-Exchange.ensures.step
+    c.loop-exchange.pairs c.next.new.self c.in-Exchange.exchange c.loop-exchange.invariant c.in-Exchange.ensures.step
 
 pub returns-in-Some : goal.returns-in-Some
 returns-in-Some g c =
@@ -39,4 +38,6 @@ returns-in-Bad g c =
 pub returns-in-End : goal.returns-in-End
 returns-in-End g c =
     told_of c.ended.result _ _ c.ended.ensures
-    (λ v h. h c.args.limit c.args.marks c.args.client.now c.args.server.now c.loop-exchange.pairs c.in-End.unanswered c.loop-exchange.invariant c.in-End.ensures.step.0)
+    (λ v h. h c.args.limit c.args.marks c.args.client.now c.args.server.now c.loop-exchange.pairs c.in-End.unanswered
+    c.loop-exchange.invariant (c.index.ensures
+    ∙ ap (λ (p : Unpaired). p.index) c.in-End.ensures.step.1) c.in-End.ensures.step.0)

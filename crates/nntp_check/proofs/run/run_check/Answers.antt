@@ -8,9 +8,6 @@ use Rattle.nntp_check.proofs.run.run_check.Goals as goal
 pub read_capture-requires : goal.read_capture-requires
 read_capture-requires g c = ((c.args.limit, c.args.marks), c.new-checker.ensures)
 
-pub verdict-requires : goal.verdict-requires
-verdict-requires g c = let read = c.in_ok-read_capture.ensures.ok (c.args.limit, c.args.marks) c.new-checker.ensures in (c.args.limit, c.args.marks, read.0, read.1, read.4)
-
 pub returns-in_err-print-clause-err : goal.returns-in_err-print-clause-err
 returns-in_err-print-clause-err g c =
     let exit = err_from_is_err_and c.from_residual-in_err-print.result c.from_residual-in_err-print.ensures.1 in
@@ -23,7 +20,7 @@ returns-in_err-print-clause-err g c =
     read.3
     (record {
       judgement = judgement;
-      verdict = c.in_ok-verdict.ensures c.args.limit c.args.marks read.0 read.1 read.4;
+      verdict = c.in_ok-verdict.ensures.verdict c.args.limit c.args.marks read.0 read.1 read.4;
       text_is = c.in_ok-text.ensures;
       answer_is = refl;
     })
@@ -41,7 +38,7 @@ returns-clause-ok g c =
       text = c.in_ok-text.text.items;
       reports = record {
         judgement = judgement;
-        verdict = c.in_ok-verdict.ensures c.args.limit c.args.marks read.0 read.1 read.4;
+        verdict = c.in_ok-verdict.ensures.verdict c.args.limit c.args.marks read.0 read.1 read.4;
         text_is = c.in_ok-text.ensures;
         answer_is = c.is_consistent.ensures;
       };

@@ -12,5 +12,4 @@ returns-in-Decided-clause-told g c = λ limit marks client server stands.
     let here = subst (λ s. StandsFor limit marks (of_state s) client server) c.in-Decided.is stands in
     subst (IsToldBad (profile_of limit marks) client server) (sym c.bad_answer.ensures)
     (decided-told limit marks client server (verdict_shown c.in-Decided.verdict) here.0.for_good
-    (decided-verdict limit marks (verdict_shown c.in-Decided.verdict) c.in-Decided.client_count c.in-Decided.server_count
-    client server here))
+    (decided-verdict limit marks (verdict_shown c.in-Decided.verdict) c.in-Decided.counts client server here))

@@ -10,9 +10,7 @@ returns-in-Bad g c = λ profile client server passed.
     let judge = c.self.inside.judge in
     let fed = c.self.inside.feed in
     let here = subst (λ (h : Held). HasPassed profile h.facts h.fed client server) (sym c.self.view_is) passed in
-    told profile client server judge.facts (left_of fed) judge.answers
-    (passed-now profile judge.facts fed judge.answers client server
-    (kept profile judge.facts fed judge.answers client server here c.self.invariant.is_whole c.self.invariant.count))
+    told profile client server judge.facts (left_of fed) (passed-now profile judge.facts fed client server (kept profile judge.facts fed client server here c.self.invariant.is_whole))
     c.in-Bad.class c.in-Bad.ensures.2 c.in-Bad.index c.in-Bad.ensures.1 c.from.result c.from.ensures
 
 pub returns-in-Nothing : goal.returns-in-Nothing
@@ -20,7 +18,5 @@ returns-in-Nothing g c = λ profile client server passed.
     let judge = c.self.inside.judge in
     let fed = c.self.inside.feed in
     let here = subst (λ (h : Held). HasPassed profile h.facts h.fed client server) (sym c.self.view_is) passed in
-    untold profile client server judge.facts (left_of fed) judge.answers
-    (passed-now profile judge.facts fed judge.answers client server
-    (kept profile judge.facts fed judge.answers client server here c.self.invariant.is_whole c.self.invariant.count))
+    untold profile client server judge.facts (left_of fed) (passed-now profile judge.facts fed client server (kept profile judge.facts fed client server here c.self.invariant.is_whole))
     c.in-Nothing.ensures.1 c.in-Nothing.ensures.2

@@ -14,9 +14,8 @@ returns-in-End g c = told_of c.ended.result _ _ c.ended.ensures (λ v h limit ma
     let fed = c.self.inside.feed in
     let here = subst (λ (h : Held). HasPassed (profile_of limit marks) h.facts h.fed client server) (sym c.self.view_is) passed in
     h limit marks client server (left_of fed) c.in-End.unanswered
-    (passed-now (profile_of limit marks) judge.facts fed judge.answers client server
-    (kept (profile_of limit marks) judge.facts fed judge.answers client server here c.self.invariant.is_whole
-    c.self.invariant.count))
+    (passed-now (profile_of limit marks) judge.facts fed client server
+    (kept (profile_of limit marks) judge.facts fed client server here c.self.invariant.is_whole)) c.index.ensures
     c.in-End.ensures.1)
 
 pub returns-in-Bad : goal.returns-in-Bad
@@ -25,9 +24,8 @@ returns-in-Bad g c = told_of c.stopped.result _ _ c.stopped.ensures.verdict (λ 
     let fed = c.self.inside.feed in
     let here = subst (λ (h : Held). HasPassed (profile_of limit marks) h.facts h.fed client server) (sym c.self.view_is) passed in
     h limit marks client server (left_of fed)
-    (passed-now (profile_of limit marks) judge.facts fed judge.answers client server
-    (kept (profile_of limit marks) judge.facts fed judge.answers client server here c.self.invariant.is_whole
-    c.self.invariant.count))
+    (passed-now (profile_of limit marks) judge.facts fed client server
+    (kept (profile_of limit marks) judge.facts fed client server here c.self.invariant.is_whole))
     (record {
       ends = c.in-Bad.ensures.2;
       index_is = c.in-Bad.ensures.1;

@@ -8,17 +8,14 @@ use Rattle.nntp_check.proofs.checker.Ongoing.new.Goals as goal
 pub invariant_of-result : goal.invariant_of-result
 invariant_of-result g c =
     let profile = profile_of c.args.limit c.args.marks in
-    let k : Keeps profile c.new.result.facts c.new-2.result c.new.result.answers [] [] =
+    let k : Keeps profile c.new.result.facts c.new-2.result [] [] =
     record {
       pairs = [];
       fed_is = c.new-2.ensures.fed;
-      stands = c.new.ensures.facts;
+      stands = c.new.ensures;
       is_whole = ap (λ (f : Fed). f.has_failed) c.new-2.ensures.value;
-      count = c.new.ensures.answers;
     } in
-    held profile c.new.result.facts c.new-2.result c.new.result.answers [] [] k
-    (all-passed profile c.new.result.facts c.new-2.result c.new.result.answers [] [] k
-    (nothing-next c.new-2.result c.new-2.ensures.value))
+    held profile c.new.result.facts c.new-2.result [] [] k (all-passed profile c.new.result.facts c.new-2.result [] [] k (nothing-next c.new-2.result c.new-2.ensures.value))
 
 pub returns : goal.returns
-returns g c = record { pairs = []; fed_is = c.new-2.ensures.fed; stands = c.new.ensures.facts; all = λ next. nothing-next c.new-2.result c.new-2.ensures.value next.0 next.1 next.2 }
+returns g c = record { pairs = []; fed_is = c.new-2.ensures.fed; stands = c.new.ensures; all = nothing-next c.new-2.result c.new-2.ensures.value }

@@ -12,10 +12,9 @@ use Rattle.nntp_check.proofs.judge.Judge.stopped.Goals as goal
 pub returns-clause-verdict : goal.returns-clause-verdict
 returns-clause-verdict g c =
     told c.bad.result
-    (λ (j : Judgement). (limit : Limit) (marks : Marks) (client server : List ℕ) (left : Unpaired) → Passed (profile_of limit marks) client server c.args.self.now.facts left c.args.self.now.answers
+    (λ (j : Judgement). (limit : Limit) (marks : Marks) (client server : List ℕ) (left : Unpaired) → Passed (profile_of limit marks) client server c.args.self.now.facts left
     → StopsHere left c.args.index c.args.class (option_copied c.args.ahead.line) c.args.ahead.rest.now → IsVerdict limit marks client server j)
-    _ (λ limit marks client server left p stop. stopped limit marks client server c.args.self.now.facts left
-    c.args.self.now.answers c.args.index c.args.class
-    (option_copied c.args.ahead.line) c.args.ahead.rest.now c.first_line-reply.result.now
+    _ (λ limit marks client server left p stop. stopped limit marks client server c.args.self.now.facts left c.args.index
+    c.args.class (option_copied c.args.ahead.line) c.args.ahead.rest.now c.first_line-reply.result.now
     p stop c.from.result c.from.ensures c.first_line-reply.ensures)
     c.bad.ensures

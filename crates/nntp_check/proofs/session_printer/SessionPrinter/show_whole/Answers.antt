@@ -1,14 +1,13 @@
-use Rattle.nntp_check.proofs.ShowLemmas.{one-more, no-next}
+use Rattle.nntp_check.proofs.ShowLemmas.{one-more}
+use Rattle.nntp_check.proofs.CheckerLemmas.{no-next}
 use Rattle.nntp_check.proofs.session_printer.SessionPrinter.show_whole.Goals as goal
 
 pub loop-exchange-preserved : goal.loop-exchange-preserved
 loop-exchange-preserved g c client server start =
     let fed = c.loop-exchange.self.feed in
-    one-more fed c.advance.new.self c.loop-exchange.self.answers c.loop-exchange.self.text.items c.put_exchange.new.text.items
-    c.in-Whole.exchange c.in-Whole.ensures.1 client server
-    (c.loop-exchange.invariant client server start) c.in-Whole.ensures.2
-    (λ pairs fed_is. c.advance.ensures.fed client server pairs c.in-Whole.exchange c.in-Whole.ensures.1 fed_is
-    c.in-Whole.ensures.2) c.advance.ensures.has_failed c.in_ok-put_exchange.ensures c.index.result c.index.ensures.value
+    one-more fed c.advance.new.self c.loop-exchange.self.text.items c.put_exchange.new.text.items c.in-Whole.exchange
+    c.in-Whole.ensures.1 client server (c.loop-exchange.invariant client server start) c.in-Whole.ensures.2
+    (λ pairs fed_is. c.advance.ensures.fed client server pairs c.in-Whole.exchange c.in-Whole.ensures.1 fed_is c.in-Whole.ensures.2) c.advance.ensures.has_failed c.in_ok-put_exchange.ensures
 
 pub returns : goal.returns
 returns g c client server start =

@@ -1,5 +1,4 @@
-use Rattle.nntp_check.proofs.ShowLemmas.{on-ok}
 use Rattle.nntp_check.proofs.session_printer.SessionPrinterSink.take.Goals as goal
 
-pub returns : goal.returns
-returns g c = on-ok c.show_whole.result (λ shows by client server spool before. shows _ _ (c.in_ok-feed.ensures client server before.0)) c.show_whole.ensures
+pub returns-clause-ok : goal.returns-clause-ok
+returns-clause-ok g c = λ by client server spool before. c.in_ok-show_whole.ensures _ _ (c.in_ok-feed.ensures.ok client server before.0)

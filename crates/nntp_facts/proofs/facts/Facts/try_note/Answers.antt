@@ -1,4 +1,4 @@
-use Rattle.std.proofs.Common.{refl, sym, ap, subst, ◌+◌, ◌∙◌}
+use Rattle.std.proofs.Common.{refl, sym, subst, ◌∙◌}
 use Rattle.std.proofs.Math.Path.{ap₂}
 use Rattle.nntp_article.specs.Session.Machine.{visible_after}
 use Rattle.nntp_facts.specs.Asks.{position_after}
@@ -19,7 +19,7 @@ returns-then-not-branch-2 g c profile past stands =
     let is = c.self.view_is in
     let before = subst (λ facts. HasNoted profile facts past) (sym is) stands in
     let saying = saying_of c.of-saying.result in
-    let w = weighed profile _ _ _ past pair _ _ saying _ _ _ is before c.requires c.index-index.ensures.small says.few_lines says.is_spelled c.prompt-prompt.ensures says.value
+    let w = weighed profile _ _ _ past pair _ _ saying _ _ _ is before c.requires says.low_index says.few_lines says.is_spelled c.prompt-prompt.ensures says.value
     c.of-profile.ensures c.in_ok-fits.ensures c.if-not-branch.false c.selected_name-here.ensures (c.deref.ensures.value ∙ c.in_ok-numbers.ensures) c.of-saying.ensures in
     refused profile _ _ c.note.new.self past pair saying is w before (subst (Adds c.self.inside.kept c.note.new.self saying) c.if-not-branch-2.true c.in_ok-note.ensures)
 
@@ -30,13 +30,13 @@ returns g c profile past stands =
     let is = c.self.view_is in
     let before = subst (λ facts. HasNoted profile facts past) (sym is) stands in
     let saying = saying_of c.of-saying.result in
-    let w = weighed profile _ _ _ past pair _ _ saying _ _ _ is before c.requires c.index-index.ensures.small says.few_lines says.is_spelled c.prompt-prompt.ensures says.value
+    let w = weighed profile _ _ _ past pair _ _ saying _ _ _ is before c.requires says.low_index says.few_lines says.is_spelled c.prompt-prompt.ensures says.value
     c.of-profile.ensures c.in_ok-fits.ensures c.if-not-branch.false c.selected_name-here.ensures (c.deref.ensures.value ∙ c.in_ok-numbers.ensures) c.of-saying.ensures in
     accepted profile _ c.args.self.now _ past pair saying w before (record {
       limit = refl;
       marks = refl;
       has_failed = refl;
-      count = ap (λ n. n + 1) c.index-index.ensures.value;
+      count = refl;
       visible = c.in_ok-advance.ensures.ok ∙ ap₂ (λ asked response. visible_after c.self.inside.visible asked response) c.prompt-prompt.ensures says.value;
       position = c.after-self-inside.ensures ∙ ap₂ (λ asked response. position_after c.self.inside.position asked response) c.prompt-prompt.ensures says.value;
     }) (subst (Adds c.self.inside.kept c.note.new.self saying) c.if-not-branch-2.false c.in_ok-note.ensures)

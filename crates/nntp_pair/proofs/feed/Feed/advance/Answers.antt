@@ -31,8 +31,8 @@ invariant_of-self g c =
     next.2.is_open begins is c.as_slice-server.ensures (c.pass-2.ensures ∙ ap (λ n. drop n i.server) c.len-frame_len.ensures.value) c.in-Some-frame-2.ensures.found in
     let short = frame-shorter place i.server frame.initial frame.block c.pass-2.new.self has.1 in
     let before = c.self.invariant.counted in
-    let counted : 2 * (i.index + 1) + length c.pass-2.new.self ≤ i.server_count = omega arith in
-    in-step (i.index + 1) c.closes-self-inside.result c.as_slice-client-2.result.now c.as_slice-server-2.result.now c.pass.new.self c.pass-2.new.self i.server_count c.new-self-inside.result
+    let counted : 2 * (i.index + 1) + length c.pass-2.new.self ≤ i.counts.server = omega arith in
+    in-step (i.index + 1) c.closes-self-inside.result c.as_slice-client-2.result.now c.as_slice-server-2.result.now c.pass.new.self c.pass-2.new.self i.counts.server c.new-self-inside.result
     c.as_slice-client-2.ensures c.as_slice-server-2.ensures counted c.self.invariant.small c.new-self-inside.ensures.searched c.new-self-inside.ensures.through
 
 pub returns-clause-next : goal.returns-clause-next
@@ -76,4 +76,4 @@ returns-clause-fed g c = λ client server pairs pair behind fed after.
     let follows = subst (λ f. IsNext (left_of f) pair behind) (sym c.self.view_is) after in
     let more = next-behind i.index i.is_closed c.closes-self-inside.result i.client i.server c.pass.new.self c.pass-2.new.self
     frame.initial frame.block place pair behind follows begins has.1 closing in
-    fed-push _ _ client server pairs pair came_before more refl refl
+    fed-push _ _ client server pairs pair came_before more refl

@@ -1,4 +1,4 @@
-use Rattle.std.proofs.Common.{sym, refl, [], ap}
+use Rattle.std.proofs.Common.{sym, [], ap}
 use Rattle.nntp_article.specs.Session.Limit.{profile_of}
 use Rattle.nntp_witness.proofs.Aims.{noted_as_kept}
 use Rattle.nntp_check.specs.Judging.{class_noted}
@@ -6,7 +6,7 @@ use Rattle.nntp_check.proofs.JudgeLemmas.{is-due, one-more}
 use Rattle.nntp_suite.proofs.memory.facts.note_all.Goals as goal
 
 pub loop-exchange-init : goal.loop-exchange-init
-loop-exchange-init g c = record { pairs = []; before = sym c.new-pairs.ensures; count = refl; stands = c.new-facts.ensures.stands }
+loop-exchange-init g c = record { pairs = []; before = sym c.new-pairs.ensures; stands = c.new-facts.ensures.stands }
 
 pub returns-in-Bad : goal.returns-in-Bad
 returns-in-Bad g c =
@@ -21,7 +21,7 @@ returns-in-End g c =
 pub note-requires : goal.note-requires
 note-requires g c =
     λ whole. is-due (profile_of c.args.limit c.args.marks) c.args.client.now c.args.server.now c.loop-exchange.facts
-    c.loop-exchange.pairs c.next.new.self c.loop-exchange.answers c.in-Exchange.exchange c.loop-exchange.invariant
+    c.loop-exchange.pairs c.next.new.self c.in-Exchange.exchange c.loop-exchange.invariant
     c.in-Exchange.ensures.step
 
 pub loop-exchange-smaller : goal.loop-exchange-smaller
@@ -30,10 +30,10 @@ loop-exchange-smaller g c = c.in-Exchange.ensures.progress
 pub loop-exchange-preserved : goal.loop-exchange-preserved
 loop-exchange-preserved g c =
     (one-more (profile_of c.args.limit c.args.marks) c.args.client.now c.args.server.now c.loop-exchange.facts c.note.new.self
-    c.loop-exchange.pairs c.next.new.self c.loop-exchange.answers c.in-Exchange.exchange c.in-Ok-Consistent.field-0
+    c.loop-exchange.pairs c.next.new.self c.in-Exchange.exchange c.in-Ok-Consistent.field-0
     c.loop-exchange.invariant c.in-Exchange.ensures.step
     (c.in-Ok-Consistent.ensures.noted (profile_of c.args.limit c.args.marks))
-    (ap class_noted c.in-Ok-Consistent.field-0-is) c.index-answer.result c.index-answer.ensures.value).0
+    (ap class_noted c.in-Ok-Consistent.field-0-is)).0
 
 pub after_want-requires : goal.after_want-requires
 after_want-requires g c = (c.in-Err-Memory.ensures.noted (profile_of c.args.limit c.args.marks) c.loop-exchange.invariant.pairs c.loop-exchange.invariant.stands).1

@@ -4,7 +4,7 @@ use Rattle.nntp_check.specs.Judging.{Passed}
 use Rattle.nntp_suite.proofs.memory.facts.note_all.Given as goal
 
 abbrev pub invariant-loop-exchange : goal.invariant-loop-exchange
-invariant-loop-exchange g l = Passed (profile_of l.fn.limit l.fn.marks) l.client l.server l.facts l.pairs l.answers
+invariant-loop-exchange g l = Passed (profile_of l.fn.limit l.fn.marks) l.client l.server l.facts l.pairs
 
 abbrev pub decreases-loop-exchange : goal.decreases-loop-exchange
 decreases-loop-exchange g l = length l.pairs.server

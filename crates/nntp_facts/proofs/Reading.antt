@@ -1,0 +1,5 @@
+pub mod JudgedAnswers
+pub mod JudgedSession
+pub mod NotedAsJudged
+pub mod OneReading
+pub mod FirstBadOfAReading

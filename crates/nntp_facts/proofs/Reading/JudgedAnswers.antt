@@ -1,0 +1,172 @@
+-- Answers that are judged one after the other: what they take, leave and add to those that were accepted.
+use Rattle.nntp_wire.specs.declared.marks.Marks.{Marks}
+use Rattle.std.proofs.Common.{◌≡◌, ◌≢◌, ◌+◌, ◌<◌, ◌≤◌, false, List, [], ◌∷◌, ◌++◌, length, refl, sym, ap, subst, ◌∙◌, arith, append_assoc, append-nil, length-append}
+use Rattle.std.proofs.lemmas.List.{map-append}
+use Rattle.nntp_wire.specs.Answer.{Response}
+use Rattle.nntp_wire.specs.Frame.{frame_octets}
+use Rattle.nntp_article.specs.declared.session.profile.Profile.{Profile}
+use Rattle.nntp_article.specs.Session.Machine.{Visible, start}
+use Rattle.nntp_article.proofs.SessionLemmas.ClosingAnswers.{after-closes}
+use Rattle.nntp_pair.specs.declared.class.PairClass.TheVariants.{Malformed as PairMalformed}
+use Rattle.nntp_pair.specs.Pairing.{Paired, Unpaired, IsNext, Ending, bad, Ends, asked_at, asked_of, responses_of}
+use Rattle.nntp_pair.proofs.PairLemmas.{lines-few}
+use Rattle.nntp_pair.proofs.NextLemmas.{one-next, next-no-end, next-shorter}
+use Rattle.nntp_pair.proofs.PassedLemmas.{one-passed, passed-ends, passed-no-other, passed-shorter}
+use Rattle.nntp_facts.specs.Classes.{visible_from}
+use Rattle.nntp_facts.specs.Given.{facts_of_session, size, weight}
+use Rattle.nntp_facts.specs.Noted.{ArePermitted}
+use Rattle.nntp_facts.specs.Reading.{Judged, Accepted, Refused, Unspelled, accepted_of, accepted_with, IsJudged, AreJudged}
+use Rattle.nntp_facts.proofs.Ids.SizeOfASession.{session_size}
+use Rattle.nntp_facts.proofs.Keeping.NotedExchange.{visible_next, as_many, ends}
+
+-- ---- one answer
+
+-- it takes octets
+pub judged_shorter : (profile : Profile) (past : List Paired) (a b : Unpaired) (answer : Judged) → IsJudged profile past a answer b → length b.server < length a.server
+judged_shorter profile past a b (Accepted pair) (next, h) = next-shorter a b pair next
+judged_shorter profile past a b (Refused pair) (next, h) = next-shorter a b pair next
+judged_shorter profile past a b (Unspelled index line initial) (at, passed) = passed-shorter a b line initial passed
+
+-- behind the same ones it is determined
+pub one_judged : (profile : Profile) (past : List Paired) (a b c : Unpaired) (x y : Judged) → IsJudged profile past a x b → IsJudged profile past a y c → (x ≡ y) × (b ≡ c)
+one_judged profile past a b c (Accepted x) (Accepted y) (n, h) (m, k) = let one = one-next a b c x y n m in (ap Accepted one.0, one.1)
+one_judged profile past a b c (Refused x) (Refused y) (n, h) (m, k) = let one = one-next a b c x y n m in (ap Refused one.0, one.1)
+one_judged profile past a b c (Accepted x) (Refused y) (n, h) (m, none) = absurd (none (subst (λ pair. ArePermitted profile (past ++ pair ∷ [])) (one-next a b c x y n m).0 h))
+one_judged profile past a b c (Refused x) (Accepted y) (n, none) (m, h) = absurd (none (subst (λ pair. ArePermitted profile (past ++ pair ∷ [])) (sym (one-next a b c x y n m).0) h))
+one_judged profile past a b c (Accepted x) (Unspelled i line initial) (n, h) (at, passed) = absurd (next-no-end (bad PairMalformed) a b x n (passed-ends a c line initial passed))
+one_judged profile past a b c (Refused x) (Unspelled i line initial) (n, h) (at, passed) = absurd (next-no-end (bad PairMalformed) a b x n (passed-ends a c line initial passed))
+one_judged profile past a b c (Unspelled i line initial) (Accepted y) (at, passed) (m, k) = absurd (next-no-end (bad PairMalformed) a c y m (passed-ends a b line initial passed))
+one_judged profile past a b c (Unspelled i line initial) (Refused y) (at, passed) (m, k) = absurd (next-no-end (bad PairMalformed) a c y m (passed-ends a b line initial passed))
+one_judged profile past a b c (Unspelled i line initial) (Unspelled j also other) (at, passed) (to, second) =
+    let one = one-passed a b c line also initial other passed second in
+    let index : i ≡ j = at ∙ sym to in
+    ((λ t. Unspelled (index t) (one.0 t) (one.1 t)), one.2)
+
+-- where there is one, no reading ends
+pub judged_no_end : (profile : Profile) (past : List Paired) (a b : Unpaired) (answer : Judged) (ending : Ending) → IsJudged profile past a answer b → Ends a ending → ending ≢ bad PairMalformed → ⊥
+judged_no_end profile past a b (Accepted pair) ending (next, h) ends other = next-no-end ending a b pair next ends
+judged_no_end profile past a b (Refused pair) ending (next, h) ends other = next-no-end ending a b pair next ends
+judged_no_end profile past a b (Unspelled index line initial) ending (at, passed) ends other = other (passed-no-other ending a b line initial passed ends)
+
+-- ---- several answers
+
+-- those that were accepted before, and those of the answers
+abbrev pub all_accepted : List Paired → List Judged → List Paired
+all_accepted past [] = past
+all_accepted past (answer ∷ answers) = all_accepted (accepted_with past answer) answers
+
+pub accepted_behind : (past : List Paired) (answers : List Judged) → all_accepted past answers ≡ past ++ accepted_of answers
+accepted_behind past [] = sym (append-nil past)
+accepted_behind past (Accepted pair ∷ answers) = accepted_behind (past ++ pair ∷ []) answers ∙ append_assoc past (pair ∷ []) (accepted_of answers)
+accepted_behind past (Refused pair ∷ answers) = accepted_behind past answers
+accepted_behind past (Unspelled index line initial ∷ answers) = accepted_behind past answers
+
+-- with one more answer
+pub judged_push : (profile : Profile) (past : List Paired) (a b c : Unpaired) (answers : List Judged) (answer : Judged)
+    → AreJudged profile past a answers b → IsJudged profile (all_accepted past answers) b answer c → AreJudged profile past a (answers ++ answer ∷ []) c
+judged_push profile past a b c [] answer same is = (c, subst (λ u. IsJudged profile past u answer c) (sym same) is, refl)
+judged_push profile past a b c (x ∷ answers) answer (m, first, more) is = (m, first, judged_push profile (accepted_with past x) m b c answers answer more is)
+
+-- these are accepted
+pub accepted_push : (past : List Paired) (answers : List Judged) (answer : Judged) → all_accepted past (answers ++ answer ∷ []) ≡ accepted_with (all_accepted past answers) answer
+accepted_push past [] answer = refl
+accepted_push past (x ∷ answers) answer = accepted_push (accepted_with past x) answers answer
+
+-- the index counts the answers
+pub judged_count : (profile : Profile) (past : List Paired) (a b : Unpaired) (answers : List Judged) → AreJudged profile past a answers b → b.index ≡ a.index + length answers
+judged_count profile past a b [] same = let e = ap (λ (u : Unpaired). u.index) same in omega (arith, e)
+judged_count profile past a b (answer ∷ answers) (m, first, more) =
+    let rest = judged_count profile (accepted_with past answer) m b answers more in
+    let next = by answer first in
+    omega (arith, rest, next)
+  where
+    by : (answer : Judged) → IsJudged profile past a answer m → m.index ≡ a.index + 1
+    by (Accepted pair) (next, h) = next.next_index
+    by (Refused pair) (next, h) = next.next_index
+    by (Unspelled index line initial) (at, passed) = passed.next_index
+
+-- no more are accepted than there are answers
+pub accepted_few : (past : List Paired) (answers : List Judged) → length (all_accepted past answers) ≤ length past + length answers
+accepted_few past [] = omega arith
+accepted_few past (answer ∷ answers) = let rest = accepted_few (accepted_with past answer) answers in let one = by answer in omega (arith, rest, one) where
+  by : (answer : Judged) → length (accepted_with past answer) ≤ length past + 1
+  by (Accepted pair) = omega (arith, length-append past (pair ∷ []))
+  by (Refused pair) = omega arith
+  by (Unspelled index line initial) = omega arith
+
+-- some spool permits those that are accepted
+pub accepted_permitted : (profile : Profile) (past : List Paired) (a b : Unpaired) (answers : List Judged)
+    → ArePermitted profile past → AreJudged profile past a answers b → ArePermitted profile (all_accepted past answers)
+accepted_permitted profile past a b [] permitted same = permitted
+accepted_permitted profile past a b (answer ∷ answers) permitted (m, first, more) =
+    accepted_permitted profile (accepted_with past answer) m b answers (by answer first) more
+  where
+    by : (answer : Judged) → IsJudged profile past a answer m → ArePermitted profile (accepted_with past answer)
+    by (Accepted pair) (next, h) = h
+    by (Refused pair) (next, h) = permitted
+    by (Unspelled index line initial) (at, passed) = permitted
+
+-- ---- what is said is bounded by the octets
+
+weight_append : (xs ys : List Response) → weight (xs ++ ys) ≡ weight xs + weight ys
+weight_append [] ys = omega arith
+weight_append (x ∷ xs) ys = let rest = weight_append xs ys in omega (arith, rest)
+
+-- a pair weighs no more than the octets that it takes
+weight_next : (past : List Paired) (a b : Unpaired) (pair : Paired) → IsNext a pair b → weight (responses_of (past ++ pair ∷ [])) + length b.server ≤ weight (responses_of past) + length a.server
+weight_next past a b pair next =
+    let front = frame_octets pair.initial next.answered.block in
+    let whole = ap length next.answered.frame.whole ∙ length-append front b.server in
+    let few = lines-few (asked_at pair.line) pair.response front next.answered.spells in
+    let both = ap weight (map-append (λ (pair : Paired). pair.response) past (pair ∷ [])) ∙ weight_append (responses_of past) (pair.response ∷ []) in
+    omega (arith, whole, few, both)
+
+-- nor do all that are accepted
+pub accepted_weight : (profile : Profile) (past : List Paired) (a b : Unpaired) (answers : List Judged)
+    → AreJudged profile past a answers b → weight (responses_of (all_accepted past answers)) + length b.server ≤ weight (responses_of past) + length a.server
+accepted_weight profile past a b [] same = let e = ap (λ (u : Unpaired). length u.server) same in omega (arith, e)
+accepted_weight profile past a b (answer ∷ answers) (m, first, more) =
+    let rest = accepted_weight profile (accepted_with past answer) m b answers more in
+    let one = by answer first in
+    omega (arith, rest, one)
+  where
+    by : (answer : Judged) → IsJudged profile past a answer m → weight (responses_of (accepted_with past answer)) + length m.server ≤ weight (responses_of past) + length a.server
+    by (Accepted pair) (next, h) = weight_next past a m pair next
+    by (Refused pair) (next, h) = let less = next-shorter a m pair next in omega (arith, less)
+    by (Unspelled index line initial) (at, passed) = let less = passed-shorter a m line initial passed in omega (arith, less)
+
+-- so what one more pair says is small
+pub next_size : (how : Marks) (past : List Paired) (a b : Unpaired) (pair : Paired) → IsNext a pair b
+    → size (facts_of_session how (asked_of (past ++ pair ∷ [])) (responses_of (past ++ pair ∷ []))) ≤ weight (responses_of past) + length a.server
+next_size how past a b pair next =
+    let all = session_size how (asked_of (past ++ pair ∷ [])) (responses_of (past ++ pair ∷ [])) in
+    let most = weight_next past a b pair next in
+    omega (arith, all, most)
+
+pub accepted_size : (how : Marks) (profile : Profile) (a b : Unpaired) (answers : List Judged) → AreJudged profile [] a answers b
+    → size (facts_of_session how (asked_of (all_accepted [] answers)) (responses_of (all_accepted [] answers))) ≤ length a.server
+accepted_size how profile a b answers judged =
+    let all = session_size how (asked_of (all_accepted [] answers)) (responses_of (all_accepted [] answers)) in
+    let most = accepted_weight profile [] a b answers judged in
+    omega (arith, all, most)
+
+-- ---- the connection
+
+-- the visible state that those that were accepted leave
+abbrev pub visible_behind : List Paired → Visible
+visible_behind past = visible_from start.visible (asked_of past) (responses_of past)
+
+-- where it is open, none of those that were accepted closed it
+pub accepted_open : (profile : Profile) (past : List Paired) (a b : Unpaired) (answers : List Judged)
+    → (a.is_closed ≡ false → (visible_behind past).closed ≡ false) → AreJudged profile past a answers b → b.is_closed ≡ false → (visible_behind (all_accepted past answers)).closed ≡ false
+accepted_open profile past a b [] before same still = before (ap (λ (u : Unpaired). u.is_closed) same ∙ still)
+accepted_open profile past a b (answer ∷ answers) before (m, first, more) still =
+    accepted_open profile (accepted_with past answer) m b answers (by answer first) more still
+  where
+    by : (answer : Judged) → IsJudged profile past a answer m → m.is_closed ≡ false → (visible_behind (accepted_with past answer)).closed ≡ false
+    by (Accepted pair) (next, h) is_open =
+        ap (λ (v : Visible). v.closed)
+        (ap (λ q. visible_from start.visible q.0 q.1) (ends past pair) ∙ visible_next (asked_of past) (responses_of past) (asked_at pair.line) pair.response (as_many past))
+        ∙ after-closes (visible_behind past) (asked_at pair.line) pair.response (before next.is_open) ∙ sym next.closing ∙ is_open
+    by (Refused pair) (next, h) is_open = before next.is_open
+    by (Unspelled index line initial) (at, passed) is_open = before passed.is_open

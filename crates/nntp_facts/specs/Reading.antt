@@ -1,0 +1,54 @@
+-- A session read to its end: an answer that is bad is passed over, and the next one is judged behind those that were accepted.
+use Rattle.std.specs.Prelude.{◌≡◌, ◌≢◌, ℕ, List, [], ◌∷◌, ◌++◌, Option, None, Some}
+use Rattle.nntp_article.specs.declared.session.profile.Profile.{Profile}
+use Rattle.nntp_article.specs.Session.Machine.{start, fits}
+use Rattle.nntp_pair.specs.declared.class.PairClass.TheVariants.{Malformed as PairMalformed}
+use Rattle.nntp_pair.specs.Pairing.{Paired, Unpaired, IsNext, IsPassedOver, Ending, bad, Ends, asked_at, asked_of, responses_of, streams}
+use Rattle.nntp_facts.specs.declared.class.Class.{Class}
+use Rattle.nntp_facts.specs.declared.class.Class.TheVariants.{Malformed}
+use Rattle.nntp_facts.specs.Classes.{class_by, visible_from}
+use Rattle.nntp_facts.specs.Noted.{ArePermitted}
+
+-- an answer as it is judged: accepted, refused, or a frame that spells nothing, with its place, its line and its initial line
+pub data Judged : Type 0 where
+  Accepted : (pair : Paired) → Judged
+  Refused : (pair : Paired) → Judged
+  Unspelled : (index : ℕ) → (line : Option (List ℕ)) → (initial : List ℕ) → Judged
+
+-- those that are accepted
+abbrev pub accepted_of : List Judged → List Paired
+accepted_of [] = []
+accepted_of (Accepted pair ∷ answers) = pair ∷ accepted_of answers
+accepted_of (Refused pair ∷ answers) = accepted_of answers
+accepted_of (Unspelled index line initial ∷ answers) = accepted_of answers
+
+-- these, and the answer if it is accepted
+abbrev pub accepted_with : List Paired → Judged → List Paired
+accepted_with past (Accepted pair) = past ++ pair ∷ []
+accepted_with past (Refused pair) = past
+accepted_with past (Unspelled index line initial) = past
+
+-- the answer comes next, and is judged so behind these that were accepted: a pair is accepted if some spool permits it with them; and then this is left
+abbrev pub IsJudged : Profile → List Paired → Unpaired → Judged → Unpaired → Type 0
+IsJudged profile past before (Accepted pair) after = IsNext before pair after × ArePermitted profile (past ++ pair ∷ [])
+IsJudged profile past before (Refused pair) after = IsNext before pair after × (ArePermitted profile (past ++ pair ∷ []) → ⊥)
+IsJudged profile past before (Unspelled index line initial) after = (index ≡ before.index) × IsPassedOver before line initial after
+
+-- the answers come next, one after the other, and are judged so behind these that were accepted; and then this is left
+abbrev pub AreJudged : Profile → List Paired → Unpaired → List Judged → Unpaired → Type 0
+AreJudged profile past before [] after = before ≡ after
+AreJudged profile past before (answer ∷ answers) after =
+    (between : Unpaired) × IsJudged profile past before answer between × AreJudged profile (accepted_with past answer) between answers after
+
+-- the class of an answer behind these that were accepted, if it is bad
+abbrev pub class_behind : Profile → List Paired → Judged → Option Class
+class_behind profile past (Accepted pair) = None
+class_behind profile past (Refused pair) = Some (class_by (fits profile (visible_from start.visible (asked_of past) (responses_of past)) (asked_at pair.line) pair.response))
+class_behind profile past (Unspelled index line initial) = Some Malformed
+
+-- the reading of both streams: their answers as they are judged, and how the pairing ends behind them, which isn't at a frame that spells nothing
+pub record IsReading (profile : Profile) (client server : List ℕ) (answers : List Judged) (ending : Ending) : Type 0 where
+  pub left : Unpaired
+  pub judged : AreJudged profile [] (streams client server) answers left
+  pub ends : Ends left ending
+  pub passed_over : ending ≢ bad PairMalformed

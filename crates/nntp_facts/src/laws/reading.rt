@@ -1,0 +1,77 @@
+//! Laws of the reading of two streams, which goes on behind bad answers.
+ghost use Rattle.std.specs.Prelude.{◌≡◌, ℕ, ◌↔◌, ◌≤◌, ◌<◌, ◌^◌, List, [], ◌∷◌, ◌++◌, length, map, Some};
+ghost use Rattle.nntp_article.specs.Session.Spool.{Spool};
+ghost use Rattle.nntp_article.specs.declared.session.profile.Profile.{Profile};
+ghost use Rattle.nntp_article.specs.Session.Explains.{Explains};
+ghost use Rattle.nntp_pair.specs.declared.class.PairClass.{PairClass};
+ghost use Rattle.nntp_pair.specs.Pairing.{Paired, Unpaired, IsNext, Ending, end, bad, asked_of, responses_of, streams};
+ghost use Rattle.nntp_facts.specs.Given.{facts_of_session, size};
+ghost use Rattle.nntp_facts.specs.declared.class.Class.{Class};
+ghost use Rattle.nntp_facts.specs.declared.class.Class.TheVariants.{OutOfPlace, Contradiction};
+ghost use Rattle.nntp_facts.specs.declared.noted.Noted.TheVariants.{Consistent, OutOfPlace as NotedOutOfPlace, Contradiction as NotedContradiction};
+ghost use Rattle.nntp_facts.specs.Classes.{class_of};
+ghost use Rattle.nntp_facts.specs.Noted.{FactsKept, HasNoted, IsNoted, IsDue, ArePermitted};
+ghost use Rattle.nntp_facts.specs.Outcome.{No, IsOutcome};
+ghost use Rattle.nntp_facts.specs.Reading.{Judged, Accepted, Refused, accepted_of, accepted_with, IsJudged, AreJudged, class_behind, IsReading};
+
+/// Two streams have exactly one reading.
+pub fn streams_have_one_reading()
+    ensures some { (profile : Profile) (client server : List ℕ) → length server < 2 ^ 210
+        → (answers : List Judged) × (ending : Ending) × IsReading profile client server answers ending }
+    ensures one { (profile : Profile) (client server : List ℕ) (answers others : List Judged) (ending other : Ending)
+        → IsReading profile client server answers ending → IsReading profile client server others other → (answers ≡ others) × (ending ≡ other) }
+{}
+
+/// The first bad answer of a reading is that of the outcome, of its class; where all answers are
+/// accepted, these are the octets at which the reading ends.
+pub fn first_bad_answer_is_the_outcome()
+    ensures answer { (profile : Profile) (client server : List ℕ) (pairs : List Paired) (answer : Judged) (more : List Judged) (ending : Ending) (class : Class)
+        → IsReading profile client server (map Accepted pairs ++ answer ∷ more) ending → class_behind profile pairs answer ≡ Some class
+        → IsOutcome profile client server (No (length pairs) class) }
+    ensures octets { (profile : Profile) (client server : List ℕ) (pairs : List Paired) (class : PairClass)
+        → IsReading profile client server (map Accepted pairs) (bad class) → IsOutcome profile client server (No (length pairs) (class_of class)) }
+{}
+
+/// All answers of a reading are accepted, and no octet is left, exactly if some spool explains both
+/// streams.
+pub fn reading_without_bad_answers_is_explained()
+    ensures { (profile : Profile) (client server : List ℕ) (answers : List Judged) (ending : Ending) → IsReading profile client server answers ending
+        → ((answers ≡ map Accepted (accepted_of answers)) × (unanswered : ℕ) × (ending ≡ end unanswered))
+        ↔ ((S : Spool) × (n : ℕ) × Explains profile S client server n) }
+{}
+
+/// Some spool permits the accepted answers together, and what they say is bounded by the server's
+/// octets.
+pub fn accepted_answers_are_permitted()
+    ensures permitted { (profile : Profile) (client server : List ℕ) (answers : List Judged) (left : Unpaired)
+        → AreJudged profile [] (streams client server) answers left → ArePermitted profile (accepted_of answers) }
+    ensures size { (profile : Profile) (client server : List ℕ) (answers : List Judged) (left : Unpaired)
+        → AreJudged profile [] (streams client server) answers left
+        → size (facts_of_session profile.marks (asked_of (accepted_of answers)) (responses_of (accepted_of answers))) ≤ length server }
+{}
+
+/// Behind answers that are judged the next one is judged by those that were accepted. The index
+/// counts all answers, and where a pair comes next, none of the accepted ones closed the connection.
+pub fn next_answer_is_judged()
+    ensures answers { (profile : Profile) (client server : List ℕ) (answers : List Judged) (answer : Judged) (left after : Unpaired)
+        → AreJudged profile [] (streams client server) answers left → IsJudged profile (accepted_of answers) left answer after
+        → AreJudged profile [] (streams client server) (answers ++ answer ∷ []) after }
+    ensures accepted { (answers : List Judged) (answer : Judged) → accepted_of (answers ++ answer ∷ []) ≡ accepted_with (accepted_of answers) answer }
+    ensures index { (profile : Profile) (client server : List ℕ) (answers : List Judged) (left : Unpaired)
+        → AreJudged profile [] (streams client server) answers left → left.index ≡ length answers }
+    ensures due { (profile : Profile) (client server : List ℕ) (answers : List Judged) (left after : Unpaired) (pair : Paired) (facts : FactsKept)
+        → AreJudged profile [] (streams client server) answers left → HasNoted profile facts (accepted_of answers) → IsNext left pair after → IsDue facts pair }
+{}
+
+/// What is noted of the next exchange says how it is judged, and of which class it is where it is
+/// bad.
+pub fn noted_exchange_is_judged()
+    ensures consistent { (profile : Profile) (past : List Paired) (pair : Paired) (old new : FactsKept) (before after : Unpaired)
+        → IsNoted profile past pair old new Consistent → IsNext before pair after → IsJudged profile past before (Accepted pair) after }
+    ensures out_of_place { (profile : Profile) (past : List Paired) (pair : Paired) (old new : FactsKept) (before after : Unpaired)
+        → HasNoted profile old past → IsNoted profile past pair old new NotedOutOfPlace → IsNext before pair after
+        → IsJudged profile past before (Refused pair) after × (class_behind profile past (Refused pair) ≡ Some OutOfPlace) }
+    ensures contradiction { (profile : Profile) (past : List Paired) (pair : Paired) (old new : FactsKept) (before after : Unpaired)
+        → HasNoted profile old past → IsNoted profile past pair old new NotedContradiction → IsNext before pair after
+        → IsJudged profile past before (Refused pair) after × (class_behind profile past (Refused pair) ≡ Some Contradiction) }
+{}

@@ -1,0 +1,253 @@
+//! The spool that is given for what answers say.
+use crate::ends::{add_marks, are_ends, unseen_marks};
+use crate::lines::{push_name, push_number, push_unseen};
+use crate::numbers::least_free;
+use crate::said::Said;
+use nntp_sessions::Choice;
+use nntp_spool::{Article, Spool, SpoolBuilder, SpoolFault};
+use nntp_wire::Marks;
+use std::alloc::{AllocError, Global};
+
+/// A number and its id, where it is shown.
+type Number<'a> = (u64, Option<&'a [u8]>);
+
+/// The spool that is given, or none where what is said makes no spool.
+pub(crate) fn given_spool(
+    alloc: Global,
+    choice: Choice,
+    said: &Said<'_>,
+) -> Result<Option<Spool>, AllocError> {
+    let mut builder = SpoolBuilder::new(alloc, choice.limit);
+    let mut ids = Vec::new(alloc);
+    let mut next = 0;
+    for name in names(alloc, said)? {
+        let outcome = builder.group(name);
+        if !is_done(outcome)? {
+            return Ok(None);
+        }
+        for (number, shown) in with_ids(alloc, choice.marks, said, name)? {
+            let id = match shown {
+                Some(id) => Vec::from_slice(alloc, id)?,
+                None => invented(alloc, said, &mut next)?,
+            };
+            let outcome = builder.number(name, number, &id);
+            if !is_done(outcome)? {
+                return Ok(None);
+            }
+            add(&mut ids, id)?;
+        }
+    }
+    for sent in &said.sent {
+        add(&mut ids, Vec::from_slice(alloc, sent.id)?)?;
+    }
+    for id in &ids {
+        let outcome = builder.article(id, article(alloc, said, id)?);
+        if !is_done(outcome)? {
+            return Ok(None);
+        }
+    }
+    match builder.finish() {
+        Ok(spool) => Ok(Some(spool)),
+        Err(_) => Ok(None),
+    }
+}
+
+/// Whether a call of the builder was done; want of memory is an error.
+fn is_done(outcome: Result<(), SpoolFault>) -> Result<bool, AllocError> {
+    match outcome {
+        Ok(()) => Ok(true),
+        Err(SpoolFault::Memory) => Err(AllocError),
+        Err(_) => Ok(false),
+    }
+}
+
+/// The groups that are shown, in the order of their octets.
+fn names<'a>(alloc: Global, said: &Said<'a>) -> Result<Vec<&'a [u8]>, AllocError> {
+    let mut names: Vec<&'a [u8]> = Vec::new(alloc);
+    for name in &said.groups {
+        if !names.iter().any(|other| *other == *name) {
+            names.push(*name)?;
+        }
+    }
+    names.sort_unstable();
+    Ok(names)
+}
+
+/// The numbers of a group that are shown.
+fn shown_numbers(alloc: Global, said: &Said<'_>, group: &[u8]) -> Result<Vec<u64>, AllocError> {
+    let mut numbers: Vec<u64> = Vec::new(alloc);
+    for shown in &said.shown {
+        if shown.group == group && !numbers.iter().any(|other| *other == shown.number) {
+            numbers.push(shown.number)?;
+        }
+    }
+    numbers.sort_unstable();
+    Ok(numbers)
+}
+
+/// The numbers of a group, ascending: those that are shown, and beside them one more where one is needed, or
+/// its marks where they are strict and it has a number.
+fn numbers(
+    alloc: Global,
+    marks: Marks,
+    said: &Said<'_>,
+    group: &[u8],
+) -> Result<Vec<u64>, AllocError> {
+    let mut numbers = shown_numbers(alloc, said, group)?;
+    match marks {
+        Marks::Lenient => {
+            if let Some(number) = one_more(said, group, &numbers) {
+                numbers.push(number)?;
+            }
+        }
+        Marks::Strict => add_marks(&mut numbers, said, group)?,
+    }
+    numbers.sort_unstable();
+    Ok(numbers)
+}
+
+/// Whether the strict marks of each group are the least and the greatest of its numbers, where it has some.
+pub(crate) fn have_ends(alloc: Global, said: &Said<'_>) -> Result<bool, AllocError> {
+    let mut have_ends = true;
+    for name in names(alloc, said)? {
+        let numbers = numbers(alloc, Marks::Strict, said, name)?;
+        have_ends = have_ends && are_ends(said, name, &numbers);
+    }
+    Ok(have_ends)
+}
+
+/// A line for each group: its numbers that are shown, and those that are given beside them.
+pub(crate) fn group_lines(
+    alloc: Global,
+    marks: Marks,
+    said: &Said<'_>,
+) -> Result<String, AllocError> {
+    let mut text = String::new(alloc);
+    for name in names(alloc, said)? {
+        push_name(alloc, &mut text, name)?;
+        push_numbers(alloc, &mut text, marks, said, name)?;
+    }
+    Ok(text)
+}
+
+/// The rest of the line of a group.
+fn push_numbers(
+    alloc: Global,
+    text: &mut String,
+    marks: Marks,
+    said: &Said<'_>,
+    group: &[u8],
+) -> Result<(), AllocError> {
+    let shown = shown_numbers(alloc, said, group)?;
+    for number in &shown {
+        push_number(alloc, text, *number, shown_id(said, group, *number))?;
+    }
+    let (low, high) = match marks {
+        Marks::Lenient => (one_more(said, group, &shown), None),
+        Marks::Strict => unseen_marks(said, group, &shown),
+    };
+    push_unseen(alloc, text, low, high)
+}
+
+/// The numbers of a group with their ids.
+fn with_ids<'a>(
+    alloc: Global,
+    marks: Marks,
+    said: &Said<'a>,
+    group: &[u8],
+) -> Result<Vec<Number<'a>>, AllocError> {
+    let mut with_ids = Vec::new(alloc);
+    for number in &numbers(alloc, marks, said, group)? {
+        with_ids.push((*number, shown_id(said, group, *number)))?;
+    }
+    Ok(with_ids)
+}
+
+/// The one number more that is needed, if it is there.
+fn one_more(said: &Said<'_>, group: &[u8], numbers: &[u64]) -> Option<u64> {
+    let least = least_free(&said.denied, group);
+    for unseen in &said.unseen {
+        if unseen.group == group {
+            match unseen.below {
+                None if numbers.is_empty() => return Some(least),
+                Some(below) if least < below && !numbers.iter().any(|number| *number < below) => {
+                    return Some(least);
+                }
+                _ => {}
+            }
+        }
+    }
+    None
+}
+
+/// The id that is shown for a number.
+fn shown_id<'a>(said: &Said<'a>, group: &[u8], number: u64) -> Option<&'a [u8]> {
+    for shown in &said.shown {
+        if shown.group == group && shown.number == number && shown.id.is_some() {
+            return shown.id;
+        }
+    }
+    None
+}
+
+/// The next invented id that nobody mentions.
+fn invented(alloc: Global, said: &Said<'_>, next: &mut u64) -> Result<Vec<u8>, AllocError> {
+    for _ in &said.mentioned {
+        let id = spelled(alloc, *next)?;
+        if !said.mentioned.iter().any(|other| *other == id.as_slice()) {
+            break;
+        }
+        *next = next.saturating_add(1);
+    }
+    let id = spelled(alloc, *next)?;
+    *next = next.saturating_add(1);
+    Ok(id)
+}
+
+fn spelled(alloc: Global, number: u64) -> Result<Vec<u8>, AllocError> {
+    Ok(format!(in alloc; "<w{number}@invented.invalid>")?.into_bytes())
+}
+
+/// Adds an id, if it isn't there.
+fn add(ids: &mut Vec<Vec<u8>>, id: Vec<u8>) -> Result<(), AllocError> {
+    if !ids.iter().any(|other| *other == id) {
+        ids.push(id)?;
+    }
+    Ok(())
+}
+
+/// The article of an id, by what was sent of it.
+fn article(alloc: Global, said: &Said<'_>, id: &[u8]) -> Result<Article, AllocError> {
+    let mut head = None;
+    let mut body = None;
+    for sent in &said.sent {
+        if sent.id == id {
+            if let (None, Some(lines)) = (&head, &sent.head) {
+                head = Some(copied(alloc, lines)?);
+            }
+            if let (None, Some(lines)) = (&body, &sent.body) {
+                body = Some(copied(alloc, lines)?);
+            }
+        }
+    }
+    let head = match head {
+        Some(lines) => lines,
+        None => {
+            let mut line = Vec::from_slice(alloc, b"Message-ID: ")?;
+            line.extend_from_slice(id)?;
+            let mut lines = Vec::new(alloc);
+            lines.push(line)?;
+            lines
+        }
+    };
+    let body = body.unwrap_or(Vec::new(alloc));
+    Ok(Article { head, body })
+}
+
+fn copied(alloc: Global, lines: &[&[u8]]) -> Result<Vec<Vec<u8>>, AllocError> {
+    let mut copies = Vec::new(alloc);
+    for line in lines {
+        copies.push(Vec::from_slice(alloc, *line)?)?;
+    }
+    Ok(copies)
+}

@@ -1,0 +1,119 @@
+//! Trials of the runs over worked sessions, and over those that are shown.
+use crate::choices::{check_task, verify_task};
+use crate::fakes::Full;
+use crate::memory;
+use crate::runs::Run;
+use crate::shows::{SHOWN, Shown};
+use nntp_check::Task;
+use nntp_sessions::{Session, each_session, verified_report, with_spool};
+use std::alloc::{AllocError, Global};
+use std::process::Abort;
+
+/// What is tried with a run.
+#[derive(Clone, Copy)]
+pub(crate) enum Trial {
+    /// It passes, with so many octets at a read and at a write.
+    Pass(usize),
+    /// Each read fails in turn.
+    FailReads,
+    /// The writer is full behind each octet but the last.
+    FailWrites(Full),
+    /// The writer takes all, and then its flush fails.
+    FailFlush,
+    /// Each request for memory is refused in turn.
+    RefuseMemory,
+    /// There are a few octets of memory, then some more, and so on.
+    GiveMemory,
+}
+
+impl Trial {
+    fn make(self, rt: &impl Abort, alloc: Global, run: &Run<'_>) -> Result<(), AllocError> {
+        match self {
+            Trial::Pass(octets) => run.pass(rt, alloc, octets),
+            Trial::FailReads => run.fail_reads(rt, alloc),
+            Trial::FailWrites(full) => run.fail_writes(rt, alloc, full),
+            Trial::FailFlush => run.fail_flush(rt, alloc),
+            Trial::RefuseMemory => {
+                memory::refuse_run(rt, alloc, run);
+            }
+            Trial::GiveMemory => return memory::give_run(rt, alloc, run),
+        }
+        Ok(())
+    }
+
+    /// Tries the run of `check` over a session.
+    pub(crate) fn check(
+        self,
+        rt: &impl Abort,
+        alloc: Global,
+        session: &Session,
+    ) -> Result<(), AllocError> {
+        let capture = session.capture(alloc)?;
+        let report = session.report(alloc)?;
+        let run = Run::of(
+            session.name,
+            check_task(session.choice),
+            capture.as_bytes(),
+            session.is_consistent(),
+            report.as_bytes(),
+        );
+        self.make(rt, alloc, &run)
+    }
+
+    /// Tries the run of `verify` over a session and the spool that is given for it.
+    pub(crate) fn verify(
+        self,
+        rt: &impl Abort,
+        alloc: Global,
+        session: &Session,
+    ) -> Result<(), AllocError> {
+        let (text, verified) = session.given;
+        let streams = session.capture(alloc)?;
+        let capture = with_spool(alloc, streams.as_str(), text)?;
+        let report = verified_report(alloc, verified)?;
+        let run = Run::of(
+            session.name,
+            verify_task(session.choice),
+            capture.as_bytes(),
+            session.is_consistent(),
+            report.as_bytes(),
+        );
+        self.make(rt, alloc, &run)
+    }
+
+    /// Tries the run of `show` over a session.
+    fn show(self, rt: &impl Abort, alloc: Global, session: &Shown) -> Result<(), AllocError> {
+        let capture = session.capture(alloc)?;
+        let run = Run::of(
+            session.name,
+            Task::Show,
+            &capture,
+            session.is_answered,
+            session.report,
+        );
+        self.make(rt, alloc, &run)
+    }
+
+    /// Tries the runs of `check` and of `verify` over each worked session.
+    pub(crate) fn sessions(self, rt: &impl Abort, alloc: Global) -> Result<(), AllocError> {
+        for session in each_session(alloc)? {
+            self.check(rt, alloc, session)?;
+            self.verify(rt, alloc, session)?;
+        }
+        Ok(())
+    }
+
+    /// Tries the runs over each session that is shown.
+    pub(crate) fn shown(self, rt: &impl Abort, alloc: Global) -> Result<(), AllocError> {
+        for session in SHOWN {
+            self.show(rt, alloc, &session)?;
+        }
+        Ok(())
+    }
+
+    /// Tries all of these runs.
+    pub(crate) fn all(self, rt: &impl Abort, alloc: Global) -> Result<(), AllocError> {
+        self.sessions(rt, alloc)?;
+        self.shown(rt, alloc)
+    }
+}
