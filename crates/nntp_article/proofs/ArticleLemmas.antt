@@ -3,7 +3,6 @@ pub mod HeadLemmas
 pub mod WordLemmas
 pub mod IdLemmas
 pub mod SaidLemmas
-pub mod ValuesByTests
 pub mod PartLemmas
 pub mod ContentLemmas
 pub mod MissingLemmas

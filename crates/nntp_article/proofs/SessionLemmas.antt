@@ -6,3 +6,6 @@ pub mod ClosingAnswers
 pub mod AscendingNumbers
 pub mod NamesInASet
 pub mod SetKeys
+pub mod Misfits
+pub mod AllowedCodes
+pub mod ReasonsAreSo

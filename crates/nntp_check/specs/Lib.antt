@@ -6,6 +6,10 @@ pub mod Judging
 pub mod Report
 pub mod Show
 pub mod Showing
+pub mod Standing
+pub mod Reasons
+pub mod Explaining
+pub mod ExplainingView
 pub mod Faults
 pub mod Run
 pub mod CommandLine

@@ -14,6 +14,8 @@ use Rattle.nntp_spool.specs.Writing.{Wrote}
 use Rattle.nntp_spool.specs.declared.text.read_fault.ReadFault.{ReadFault}
 use Rattle.nntp_spool.specs.declared.verification.verified.Verified.{Verified}
 use Rattle.nntp_spool.specs.declared.watched.Watched.{Watched}
+use Rattle.nntp_facts.specs.Reading.{Judged, IsReading}
+use Rattle.nntp_check.specs.Explaining.{AreExplained, IsEnded, is_without_fault}
 use Rattle.nntp_check.specs.Capture.{AreStreams, BeginsCapture, IsBadPieceForGood, IsBadPiece}
 use Rattle.nntp_check.specs.Judging.{IsVerdict}
 use Rattle.nntp_check.specs.Report.{report_of, verified_report, is_permitted}
@@ -104,6 +106,18 @@ pub record ShowReports (client server spool text : List ℕ) (answer : Bool) : T
   pub text_is : text ≡ shown_report pairs ending
   pub answer_is : answer ≡ is_end ending
 
+-- the report of `explain` on them, by the limit and the marks, and its answer: the spool's text makes no difference
+pub record ExplainReports (limit : Limit) (marks : Marks) (client server spool text : List ℕ) (answer : Bool) : Type 0 where
+  pub answers : List Judged
+  pub ending : Ending
+  pub reading : IsReading (profile_of limit marks) client server answers ending
+  pub front : List ℕ
+  pub explained : AreExplained (profile_of limit marks) [] answers front
+  pub last : List ℕ
+  pub ended : IsEnded answers reading.left ending last
+  pub text_is : text ≡ front ++ last
+  pub answer_is : answer ≡ is_without_fault answers ending
+
 -- what was read is a capture, and what was written is the report on it
 pub record IsReported (Reports : List ℕ → List ℕ → List ℕ → List ℕ → Bool → Type 0) (input : Input) (output : Output) (answer : Bool) : Type 0 where
   pub client : List ℕ
@@ -152,14 +166,20 @@ abbrev pub IsVerifyFault : Marks → Input → Output → RunFault → Type 0
 IsVerifyFault marks input output (faults.Spool fault) = ReadsNoSpool input fault
 IsVerifyFault marks input output fault = IsFaultOf (VerifyReports marks) input output fault
 
+-- why `explain` gives no answer
+abbrev pub IsExplainFault : Limit → Marks → Input → Output → RunFault → Type 0
+IsExplainFault limit marks = IsFaultOf (ExplainReports limit marks)
+
 -- the report of a task, and its answer
 abbrev pub TaskReports : Task → List ℕ → List ℕ → List ℕ → List ℕ → Bool → Type 0
 TaskReports (tasks.Check limit marks) = CheckReports limit marks
 TaskReports (tasks.Verify marks) = VerifyReports marks
 TaskReports tasks.Show = ShowReports
+TaskReports (tasks.Explain limit marks) = ExplainReports limit marks
 
 -- why a task gives no answer
 abbrev pub IsTaskFault : Task → Input → Output → RunFault → Type 0
 IsTaskFault (tasks.Check limit marks) = IsCheckFault limit marks
 IsTaskFault (tasks.Verify marks) = IsVerifyFault marks
 IsTaskFault tasks.Show = IsShowFault
+IsTaskFault (tasks.Explain limit marks) = IsExplainFault limit marks

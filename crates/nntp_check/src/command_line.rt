@@ -18,6 +18,8 @@ pub enum Task {
     Verify { marks: Marks },
     /// Show a session as a reader sees it, as `run_show` does.
     Show,
+    /// Tell all that is bad of a session by the limit and the marks, as `run_explain` does.
+    Explain { limit: Limit, marks: Marks },
 }
 
 /// What the help of each task says behind its options.
@@ -43,6 +45,15 @@ required headers are missing. The last line tells how the session ends.
 A capture has all that was sent, passwords too, and this prints them.
 Exit status: 0 if all octets of the server are answers, 1 if some are not, 2 if the command line is
 refused, 3 after a fault, which is told on standard error.";
+
+const EXPLAIN_HELP: &str = "\
+Reads a capture from standard input, to its end, and passes over its spool pieces.
+Writes to standard output each bad answer with its class, the command that it answers, and the reply,
+and where the session stands there: the selected group, the current article, and the answers that made
+them so. A bad answer is passed over, so that what follows is judged too. The last line tells how many
+answers there are, how many of them are bad, and how many commands have none.
+Exit status: 0 if no answer is bad, 1 if some are, 2 if the command line is refused, 3 after a fault,
+which is told on standard error.";
 
 /// What the program's help ends with.
 const PROGRAM_HELP: &str = "\
@@ -84,6 +95,15 @@ fn flag<'a>(alloc: Global, name: &'a str, help: &'a str) -> Arg<'a> {
         .help(help)
 }
 
+/// The option by which article numbers may be wide.
+fn wide<'a>(alloc: Global) -> Arg<'a> {
+    flag(
+        alloc,
+        WIDE,
+        "Let article numbers go up to 9,999,999,999,999,999, not up to 2,147,483,647",
+    )
+}
+
 /// The option by which marks are read strictly.
 fn strict_marks<'a>(alloc: Global) -> Arg<'a> {
     flag(
@@ -101,11 +121,7 @@ fn check<'a>(alloc: Global) -> Result<Command<'a>, AllocError> {
         )
         .override_usage("nntpcheck check [OPTIONS] < CAPTURE")
         .after_help(CHECK_HELP)
-        .arg(flag(
-            alloc,
-            WIDE,
-            "Let article numbers go up to 9,999,999,999,999,999, not up to 2,147,483,647",
-        ))?
+        .arg(wide(alloc))?
         .arg(strict_marks(alloc))
 }
 
@@ -130,6 +146,18 @@ fn show<'a>(alloc: Global) -> Command<'a> {
         .after_help(SHOW_HELP)
 }
 
+/// The command that explains what is bad of a session.
+fn explain<'a>(alloc: Global) -> Result<Command<'a>, AllocError> {
+    Command::new(alloc, "explain")
+        .about(
+            "Tell all bad answers of the session in the capture on standard input, and where the session stands at each",
+        )
+        .override_usage("nntpcheck explain [OPTIONS] < CAPTURE")
+        .after_help(EXPLAIN_HELP)
+        .arg(wide(alloc))?
+        .arg(strict_marks(alloc))
+}
+
 /// Whether the option stands behind the task.
 fn is_given(matches: &ArgMatches<'_>, task: &str, option: &str) -> bool {
     match matches.subcommand_matches(task) {
@@ -147,9 +175,9 @@ fn marks_for(matches: &ArgMatches<'_>, task: &str) -> Marks {
     }
 }
 
-/// How large `check` lets article numbers be.
-fn limit_for_check(matches: &ArgMatches<'_>) -> Limit {
-    if is_given(matches, "check", WIDE) {
+/// How large the task is to let article numbers be.
+fn limit_for(matches: &ArgMatches<'_>, task: &str) -> Limit {
+    if is_given(matches, task, WIDE) {
         Limit::Wide
     } else {
         Limit::Narrow
@@ -171,15 +199,20 @@ pub fn job(alloc: Global, words: &[String]) -> Result<Task, clap::Error> {
         .subcommand_required(true)
         .subcommand(check(alloc)?)?
         .subcommand(verify(alloc)?)?
-        .subcommand(show(alloc))?;
+        .subcommand(show(alloc))?
+        .subcommand(explain(alloc)?)?;
     let matches = command.try_get_matches_from(words)?;
     match matches.subcommand_name() {
         Some("verify") => Ok(Task::Verify {
             marks: marks_for(&matches, "verify"),
         }),
         Some("show") => Ok(Task::Show),
+        Some("explain") => Ok(Task::Explain {
+            limit: limit_for(&matches, "explain"),
+            marks: marks_for(&matches, "explain"),
+        }),
         _ => Ok(Task::Check {
-            limit: limit_for_check(&matches),
+            limit: limit_for(&matches, "check"),
             marks: marks_for(&matches, "check"),
         }),
     }

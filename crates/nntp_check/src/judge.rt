@@ -145,8 +145,8 @@ fn bad<A: Allocator + Copy>(
 ) -> Result<Verdict<A>, AllocError>
     ensures { IfOk result (λ verdict. verdict_shown verdict ≡ bad answer class (option_map shown (option_copied line.entry)) (shown initial.now)) }
 {
-    let command = match line {
-        Some(line) => Some(Vec::from_slice(alloc, shown(line))?),
+    let command = match shown_line(line) {
+        Some(line) => Some(Vec::from_slice(alloc, line)?),
         None => None,
     };
     Ok(Verdict::Bad {
@@ -158,7 +158,7 @@ fn bad<A: Allocator + Copy>(
 }
 
 /// The octets up to the first CRLF, or all of them where there is none.
-fn first_line(octets: &[u8]) -> &[u8]
+pub(crate) fn first_line(octets: &[u8]) -> &[u8]
     ensures { IsFirstLine octets.now result.now }
 {
     match split_first_line(octets) {
@@ -168,9 +168,19 @@ fn first_line(octets: &[u8]) -> &[u8]
 }
 
 /// The first octets of a line, as many as a verdict shows.
-fn shown(line: &[u8]) -> &[u8]
+pub(crate) fn shown(line: &[u8]) -> &[u8]
     ensures { result.now ≡ shown line.now }
 {
     let (front, _) = line.split_at(SHOWN.min(line.len()));
     front
+}
+
+/// The same of a line, if there is one.
+pub(crate) fn shown_line<'a>(line: Option<&'a [u8]>) -> Option<&'a [u8]>
+    ensures { option_copied result ≡ option_map shown (option_copied line.entry) }
+{
+    match line {
+        Some(line) => Some(shown(line)),
+        None => None,
+    }
 }

@@ -2,18 +2,20 @@
 //!
 //! `check` judges the two streams of a session, and `Checker` judges them as they come. `run_check`
 //! judges those of a capture and writes the report on them; `run_verify` tells whether the spool of a
-//! capture explains its session; `run_show` writes the session as a reader sees it; `run_task` does what a
-//! command line asks for. `job` and `status` are the program's command line and its exit status.
+//! capture explains its session; `run_show` writes the session as a reader sees it; `run_explain` writes all
+//! that is bad of it; `run_task` does what a command line asks for. `job` and `status` are the program's command line and its exit status.
 #![tactic(auto)]
 
 mod capture_reader;
 mod checker;
 mod checker_sink;
 mod command_line;
+mod explainer;
 mod input;
 mod judge;
 pub mod laws;
 mod printing;
+mod reasons;
 mod report;
 mod run;
 mod run_fault;
@@ -21,6 +23,7 @@ mod session_printer;
 mod show;
 mod sink;
 mod source;
+mod standing;
 mod streams;
 mod verdict;
 
@@ -31,6 +34,6 @@ pub use nntp_facts::Class;
 pub use nntp_pair::PairError as CheckError;
 pub use nntp_spool::{Counts, Kind, ReadFault, Spool, Watched, WriteFault};
 pub use nntp_wire::{Limit, Marks};
-pub use run::{run_check, run_show, run_task, run_verify};
+pub use run::{run_check, run_explain, run_show, run_task, run_verify};
 pub use run_fault::RunFault;
 pub use verdict::Verdict;

@@ -1,9 +1,9 @@
-//! The reports of `check` and `verify`.
+//! The reports of `check` and `verify`, and the lines that others have too.
 ghost use Rattle.std.specs.Prelude.{◌≡◌, ◌++◌, OnOk, IfOk, codes, decimal};
-ghost use Rattle.std.specs.Option.{option_map};
+ghost use Rattle.std.specs.Option.{option_copied, option_map};
 ghost use Rattle.nntp_spool.specs.Text.{spool_text};
 ghost use Rattle.nntp_check.specs.Report.{report_of, verified_report, bad_line, class_word, command_line};
-ghost use Rattle.nntp_check.specs.Verdict.{verdict_shown};
+ghost use Rattle.nntp_check.specs.Verdict.{bad, verdict_shown};
 
 use crate::printing::{put_escaped_line, put_number};
 use crate::verdict::Verdict;
@@ -30,10 +30,12 @@ pub(crate) fn report<A: Allocator + Copy>(
             command,
             reply,
         } => {
+            let command = match command {
+                Some(line) => Some(line.as_slice()),
+                None => None,
+            };
             let mut text = Vec::new(alloc);
-            put_bad_line(&mut text, *answer, *class)?;
-            put_command(&mut text, command)?;
-            put_escaped_line(&mut text, b"answer ", reply)?;
+            put_bad_answer(&mut text, *answer, *class, command, reply)?;
             Ok(text)
         }
     }
@@ -119,14 +121,29 @@ fn word(class: Class) -> &'static [u8]
 }
 
 /// Adds the line that the bad answer is for.
-fn put_command<A: Allocator + Copy>(
+pub(crate) fn put_command<A: Allocator + Copy>(
     text: &mut Vec<u8, A>,
-    command: &Option<Vec<u8, A>>,
+    command: Option<&[u8]>,
 ) -> Result<(), AllocError>
-    ensures { OnOk result (text.new.items ≡ text.old.items ++ command_line (option_map (λ line. line.items) command.now)) }
+    ensures { OnOk result (text.new.items ≡ text.old.items ++ command_line (option_copied command.entry)) }
 {
     match command {
         Some(line) => put_escaped_line(text, b"command ", line),
         None => text.extend_from_slice(b"no command\n"),
     }
+}
+
+/// Adds the lines of a bad answer: which it is, and why; the line that it is for; and its initial line.
+pub(crate) fn put_bad_answer<A: Allocator + Copy>(
+    text: &mut Vec<u8, A>,
+    answer: u64,
+    class: Class,
+    command: Option<&[u8]>,
+    reply: &[u8],
+) -> Result<(), AllocError>
+    ensures { OnOk result (text.new.items ≡ text.old.items ++ report_of (bad answer class (option_copied command.entry) reply.now)) }
+{
+    put_bad_line(text, answer, class)?;
+    put_command(text, command)?;
+    put_escaped_line(text, b"answer ", reply)
 }

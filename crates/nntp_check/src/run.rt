@@ -3,10 +3,11 @@ ghost use Rattle.std.specs.Prelude.{◌≡◌, ◌≢◌, ◌↔◌, ◌||◌, f
 ghost use Rattle.nntp_spool.specs.Watched.{inner_of, has_failed_of};
 ghost use Rattle.nntp_spool.specs.Writing.{Writes};
 ghost use Rattle.nntp_check.specs.Report.{is_permitted};
-ghost use Rattle.nntp_check.specs.Run.{read_by, written_by, CheckReports, VerifyReports, ShowReports, TaskReports, IsReported, IsCheckFault, IsVerifyFault, IsShowFault, IsTaskFault};
+ghost use Rattle.nntp_check.specs.Run.{read_by, written_by, CheckReports, VerifyReports, ShowReports, ExplainReports, TaskReports, IsReported, IsCheckFault, IsVerifyFault, IsShowFault, IsExplainFault, IsTaskFault};
 
 use crate::checker::Checker;
 use crate::command_line::Task;
+use crate::explainer::explain;
 use crate::input::read_capture;
 use crate::report::{report, verified_report};
 use crate::run_fault::RunFault;
@@ -138,7 +139,44 @@ pub fn run_show<A: Allocator + Copy, R: Read, W: Write>(
     Ok(shown.is_answered)
 }
 
-/// Does the task: `run_check`, `run_verify` or `run_show`, by what the task holds.
+/// Reads the session of the capture that the input has to its end, by the limit and the marks, and writes each bad answer
+/// of it, with where the session stands there: the answer is whether none is bad. A bad answer is passed over, and the
+/// next one is judged behind those that were accepted. It reads and writes as [`run_check`] does, and holds both
+/// streams whole.
+///
+/// # Errors
+///
+/// Those of [`run_check`].
+pub fn run_explain<A: Allocator + Copy, R: Read, W: Write>(
+    alloc: A,
+    limit: Limit,
+    marks: Marks,
+    input: &mut Watched<R>,
+    output: &mut Watched<W>,
+    most: u64,
+) -> Result<bool, RunFault>
+    // What was read is a capture, and what was written is the report on the one reading of its streams.
+    ensures ok { IfOk result (IsReported (ExplainReports limit marks) (read_by R.remaining input.old input.new most) (written_by W.contents output.old output.new)) }
+    // Which fault it is, by what was read and written.
+    ensures err { IfErr result (IsExplainFault limit marks (read_by R.remaining input.old input.new most) (written_by W.contents output.old output.new)) }
+    // Before the report is whole, the writer isn't touched.
+    ensures unwritten { IfErr result (λ e. e ≢ RunFault.Write → output.new ≡ output.old) }
+
+    ensures read_failed { has_failed_of input.old ≡ false → (IsErrOf result RunFault.Read ↔ (has_failed_of input.new ≡ true)) }
+    ensures write_failed { has_failed_of output.old ≡ false → (IsErrOf result RunFault.Write ↔ (has_failed_of output.new ≡ true)) }
+{
+    let mut streams = Streams::new(alloc);
+    read_capture(input, &mut streams, most)?;
+    let told = explain(alloc, limit, marks, &streams.client, &streams.server)?;
+    print(&told.text, output)?;
+    Ok(told.is_without_fault)
+}
+
+/// Does the task: `run_check`, `run_verify`, `run_show` or `run_explain`, by what the task holds.
+///
+/// # Errors
+///
+/// Those of the run that the task is.
 pub fn run_task<A: Allocator + Copy, R: Read, W: Write>(
     alloc: A,
     task: Task,
@@ -160,5 +198,6 @@ pub fn run_task<A: Allocator + Copy, R: Read, W: Write>(
         Task::Check { limit, marks } => run_check(alloc, limit, marks, input, output, most),
         Task::Verify { marks } => run_verify(alloc, marks, input, output, most),
         Task::Show => run_show(alloc, input, output, most),
+        Task::Explain { limit, marks } => run_explain(alloc, limit, marks, input, output, most),
     }
 }

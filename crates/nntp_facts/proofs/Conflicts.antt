@@ -1,5 +1,5 @@
 -- With which earlier answers a bad answer conflicts.
-use Rattle.std.proofs.Common.{map, length-append, ◌≡◌, ℕ, zero, suc, ◌+◌, ◌<◌, ◌≤◌, ◌^◌, ◌⊎◌, ◌↔◌, IsTrue, List, [], ◌∷◌, ◌++◌, length, Some, inl, inr, refl, sym, ap, subst, ◌∙◌, arith}
+use Rattle.std.proofs.Common.{map, length-append, ◌≡◌, ℕ, zero, suc, ◌+◌, ◌<◌, ◌≤◌, ◌^◌, ◌⊎◌, ◌↔◌, IsTrue, List, [], ◌∷◌, ◌++◌, length, Option, None, Some, inl, inr, refl, sym, ap, subst, ◌∙◌, arith}
 use Rattle.std.specs.Prelude.{not}
 use Rattle.std.specs.List.{AllByRecursion, flat_map}
 use Rattle.std.proofs.lemmas.Bool.{cases_lt, cases_eq, true≢false, not-true, or_left}
@@ -17,18 +17,20 @@ use Rattle.nntp_facts.proofs.Session.OneMoreAnswer.{facts_grow}
 use Rattle.nntp_wire.specs.Answer.{Asked, Response}
 use Rattle.nntp_article.specs.Session.Spool.{Spool, IsSpool, IsGroup, IsNumber, numbers, Name}
 use Rattle.nntp_article.specs.declared.session.profile.Profile.{Profile}
+use Rattle.nntp_wire.specs.declared.marks.Marks.{Marks}
 use Rattle.nntp_wire.specs.declared.marks.Marks.TheVariants.{Lenient}
 use Rattle.nntp_article.specs.Session.Machine.{Visible, visible_after, start, fits}
 use Rattle.nntp_facts.specs.Asks.{position_after}
 use Rattle.nntp_facts.specs.declared.position.Position.{Position}
-use Rattle.nntp_facts.specs.Facts.{Fact, Holds, ThereIs, ThereIsNo, Asks, IdAt, TextIs, NoArticle, GroupsAre, facts_of, facts_from, FitsAll}
+use Rattle.nntp_facts.specs.Facts.{Fact, Holds, ThereIs, ThereIsNo, Asks, IdAt, TextIs, NoArticle, GroupsAre, facts_of, facts_from, FitsAll, group_of}
 use Rattle.nntp_facts.specs.Given.{unshown_ids, size, asks_of, is_shown}
 use Rattle.nntp_facts.specs.Together.{Together, is_possible}
-use Rattle.nntp_facts.specs.Conflict.{Placed, placed_from, FitsThere, widest, a_group, with_group, told, SomeHas, told_at}
+use Rattle.nntp_facts.specs.Conflict.{Placed, placed_from, FitsThere, widest, said as said_there, a_group, the_group, with_group, told, SomeHas, told_at}
 use Rattle.nntp_facts.specs.Conflict.{told_with, below, IsCore, AreFound, IsPartOfCore, Point, Step, Group, Number, Numbers}
 use Rattle.nntp_facts.specs.Conflict.{IdOf, PlaceOf, Article, HeadOf, BodyOf, ConflictAt}
-use Rattle.nntp_facts.proofs.Members.{In, all_at, all_from, all_both, all_front, all_back, all_part, all_parts, in_front, in_back, in_cases, in_map, found_in, to_flat, from_flat}
+use Rattle.nntp_facts.proofs.Members.{In, all_at, all_from, all_both, all_front, all_back, in_front, in_back, in_cases, in_map, found_in, to_flat, from_flat}
 use Rattle.nntp_facts.proofs.Session.NumbersOfShownGroups.{Placed as IsPlaced, Among, selectable, session_placed}
+use Rattle.nntp_facts.proofs.Session.GroupOfAnAnswer.{IsOf, one_group, same_selected}
 use Rattle.nntp_facts.proofs.Session.FittingFacts.{IsFitting, answer_fitting}
 use Rattle.nntp_facts.proofs.Session.NumbersWithinLimit.{free_in_limit}
 use Rattle.nntp_facts.proofs.Ids.SmallGivenSpool.{few_enough, unshown_ids_few}
@@ -65,52 +67,51 @@ some_has profile facts fitting placed small together =
 
 -- ---- what answers say, where each fits
 
--- what a fact says by itself fits
-with_fitting : (profile : Profile) (fact : Fact) → IsFitting profile fact → AllByRecursion (IsFitting profile) (with_group profile fact)
-with_fitting profile (ThereIs name) h = (tt, ((omega arith, λ e. absurd (omega arith)), tt))
-with_fitting profile (Asks name ask) h = (tt, ((omega arith, λ e. absurd (omega arith)), (h, tt)))
-with_fitting profile (IdAt name n id) h = (tt, ((omega arith, λ e. absurd (omega arith)), (h, tt)))
-with_fitting profile (ThereIsNo name) h = (h, tt)
-with_fitting profile (TextIs what id lines) h = (h, tt)
-with_fitting profile (NoArticle id) h = (h, tt)
-with_fitting profile (GroupsAre p lines) h = (h, tt)
+-- that there is such a group fits
+group_fitting : (profile : Profile) (group : Option Name) → AllByRecursion (IsFitting profile) (the_group profile group)
+group_fitting profile None = tt
+group_fitting profile (Some name) = (tt, ((omega arith, λ e. absurd (omega arith)), tt))
 
--- and is placed among all facts that it is among
-with_placed : (profile : Profile) (all : List Fact) (fact : Fact) → AllByRecursion (Among all) (with_group profile fact) → AllByRecursion (IsPlaced Lenient all) (with_group profile fact)
-with_placed profile all (ThereIs name) h = let s = selectable Lenient all name (widest profile) h in (s, (s, tt))
-with_placed profile all (Asks name ask) h = let s = selectable Lenient all name (widest profile) (h.0, (h.1.0, tt)) in (s, (s, (s, tt)))
-with_placed profile all (IdAt name n id) h = let s = selectable Lenient all name (widest profile) (h.0, (h.1.0, tt)) in (s, (s, (s, tt)))
-with_placed profile all (ThereIsNo name) h = (tt, tt)
-with_placed profile all (TextIs what id lines) h = (tt, tt)
-with_placed profile all (NoArticle id) h = (tt, tt)
-with_placed profile all (GroupsAre p lines) h = (tt, tt)
+-- the group is placed, where it is among all facts
+group_placed : (profile : Profile) (all : List Fact) (group : Option Name) → AllByRecursion (Among all) (the_group profile group) → AllByRecursion (IsPlaced Lenient all) (the_group profile group)
+group_placed profile all None h = tt
+group_placed profile all (Some name) h = let s = selectable Lenient all name (widest profile) h in (s, (s, tt))
 
--- where it holds, the fact does
-own_holds : (profile : Profile) (S : Spool) (fact : Fact) → AllByRecursion (Holds S) (with_group profile fact) → Holds S fact
-own_holds profile S (ThereIs name) h = h.0
-own_holds profile S (Asks name ask) h = h.1.1.0
-own_holds profile S (IdAt name n id) h = h.1.1.0
-own_holds profile S (ThereIsNo name) h = h.0
-own_holds profile S (TextIs what id lines) h = h.0
-own_holds profile S (NoArticle id) h = h.0
-own_holds profile S (GroupsAre p lines) h = h.0
+-- and what speaks of it is too
+of_placed : (profile : Profile) (all : List Fact) (group : Option Name) → AllByRecursion (Among all) (the_group profile group) → (fact : Fact) → IsOf group fact → IsPlaced Lenient all fact
+of_placed profile all group h (ThereIs name) e = selectable Lenient all name (widest profile) (subst (λ g. AllByRecursion (Among all) (the_group profile g)) e h)
+of_placed profile all group h (Asks name ask) e = selectable Lenient all name (widest profile) (subst (λ g. AllByRecursion (Among all) (the_group profile g)) e h)
+of_placed profile all group h (IdAt name n id) e = selectable Lenient all name (widest profile) (subst (λ g. AllByRecursion (Among all) (the_group profile g)) e h)
+of_placed profile all group h (ThereIsNo name) e = tt
+of_placed profile all group h (TextIs what id lines) e = tt
+of_placed profile all group h (NoArticle id) e = tt
+of_placed profile all group h (GroupsAre p lines) e = tt
+
+-- it says the same in each visible state in which that group is selected
+pub there_said : (how : Marks) (a : Placed) (v : Visible) → v.selected ≡ a.selected → facts_of how v a.position a.asked a.response ≡ said_there how a
+there_said how a v e = same_selected how v (record start.visible { selected = a.selected }) e a.position a.asked a.response
 
 -- what an answer says fits
 pub told_fitting : (profile : Profile) (a : Placed) → FitsThere profile a → AllByRecursion (IsFitting profile) (told profile a)
 told_fitting profile a f =
-    let own = facts_of profile.marks a.visible a.position a.asked a.response in
-    let fit = answer_fitting profile a.visible a.position a.asked a.response f in
-    all_parts (IsFitting profile) (with_group profile) own (λ fact i. with_fitting profile fact (all_at (IsFitting profile) fact own fit i))
+    let own = said_there profile.marks a in
+    all_both (IsFitting profile) (the_group profile (group_of own)) own
+    (group_fitting profile (group_of own))
+    (subst (AllByRecursion (IsFitting profile)) (there_said profile.marks a f.0 f.1) (answer_fitting profile f.0 a.position a.asked a.response f.2))
 
 -- and is placed among all facts that it is among
 pub told_placed : (profile : Profile) (all : List Fact) (a : Placed) → AllByRecursion (Among all) (told profile a) → AllByRecursion (IsPlaced Lenient all) (told profile a)
 told_placed profile all a h =
-    let own = facts_of profile.marks a.visible a.position a.asked a.response in
-    all_parts (IsPlaced Lenient all) (with_group profile) own (λ fact i. with_placed profile all fact (all_part (Among all) (with_group profile) fact own i h))
+    let own = said_there profile.marks a in
+    let group = all_front (Among all) (the_group profile (group_of own)) own h in
+    let one = one_group profile.marks (record start.visible { selected = a.selected }) a.position a.asked a.response in
+    all_both (IsPlaced Lenient all) (the_group profile (group_of own)) own
+    (group_placed profile all (group_of own) group)
+    (all_from (IsPlaced Lenient all) own (λ fact i. of_placed profile all (group_of own) group fact (all_at (IsOf (group_of own)) fact own one i)))
 
 -- where it holds, the facts of the answer do
-pub told_own : (profile : Profile) (S : Spool) (facts : List Fact) → AllByRecursion (Holds S) (flat_map (with_group profile) facts) → AllByRecursion (Holds S) facts
-told_own profile S facts h = all_from (Holds S) facts (λ fact i. own_holds profile S fact (all_part (Holds S) (with_group profile) fact facts i h))
+pub told_own : (profile : Profile) (S : Spool) (facts : List Fact) → AllByRecursion (Holds S) (with_group profile facts) → AllByRecursion (Holds S) facts
+told_own profile S facts h = all_back (Holds S) (the_group profile (group_of facts)) facts h
 
 -- facts that come from answers that fit
 pub record AreTold (profile : Profile) (facts : List Fact) : Type 0 where
@@ -173,7 +174,7 @@ pub session_fits : (profile : Profile) (v : Visible) (at : Position) (ps : List 
     → FitsAll profile v ps answers → AllByRecursion (FitsThere profile) (placed_from v at ps answers)
 session_fits profile v at [] answers f = tt
 session_fits profile v at (p ∷ ps) [] f = tt
-session_fits profile v at (p ∷ ps) (a ∷ more) f = (f.1, session_fits profile (visible_after v p a) (position_after at p a) ps more f.2)
+session_fits profile v at (p ∷ ps) (a ∷ more) f = ((v, refl, f.1), session_fits profile (visible_after v p a) (position_after at p a) ps more f.2)
 
 -- and what is told of them has what they say
 pub session_told : (profile : Profile) (S : Spool) (v : Visible) (at : Position) (ps : List Asked) (answers : List Response)
@@ -182,10 +183,11 @@ session_told profile S v at [] answers h = tt
 session_told profile S v at (p ∷ ps) [] h = tt
 session_told profile S v at (p ∷ ps) (a ∷ more) h =
     let rest = flat_map (told profile) (placed_from (visible_after v p a) (position_after at p a) ps more) in
-    let own = facts_of profile.marks v at p a in
-    all_both (Holds S) own (facts_from profile.marks (visible_after v p a) (position_after at p a) ps more)
-    (told_own profile S own (all_front (Holds S) (flat_map (with_group profile) own) rest h))
-    (session_told profile S (visible_after v p a) (position_after at p a) ps more (all_back (Holds S) (flat_map (with_group profile) own) rest h))
+    let here : Placed = record { selected = v.selected; position = at; asked = p; response = a } in
+    let own = said_there profile.marks here in
+    all_both (Holds S) (facts_of profile.marks v at p a) (facts_from profile.marks (visible_after v p a) (position_after at p a) ps more)
+    (subst (AllByRecursion (Holds S)) (sym (there_said profile.marks here v refl)) (told_own profile S own (all_front (Holds S) (with_group profile own) rest h)))
+    (session_told profile S (visible_after v p a) (position_after at p a) ps more (all_back (Holds S) (with_group profile own) rest h))
 
 -- ---- fewer facts
 
@@ -196,7 +198,7 @@ fewer profile facts more sub h = (h.0, h.1, all_from (Holds h.0) facts (λ fact 
 
 module _ (profile : Profile) (bad : Placed) (answers : List Placed) where
   -- fewer places
-  fewer_places : (xs ys : List ℕ) → ((k : ℕ) → In k xs → In k ys) → SomeHas profile (told_with profile bad answers ys) → SomeHas profile (told_with profile bad answers xs)
+  pub fewer_places : (xs ys : List ℕ) → ((k : ℕ) → In k xs → In k ys) → SomeHas profile (told_with profile bad answers ys) → SomeHas profile (told_with profile bad answers xs)
   fewer_places xs ys sub h = fewer profile (told_with profile bad answers xs) (told_with profile bad answers ys) with_more h
     where
       with_more : (fact : Fact) → In fact (told_with profile bad answers xs) → In fact (told_with profile bad answers ys)
@@ -219,7 +221,7 @@ in_below k (suc bound) l = elim (cases_lt k bound) [
 ]
 
 -- and back
-from_below : (k bound : ℕ) → In k (below bound) → k < bound
+pub from_below : (k bound : ℕ) → In k (below bound) → k < bound
 from_below k zero i = absurd i
 from_below k (suc bound) i = elim (in_cases k (below bound) (bound ∷ []) i) [
   | inl j ↦ (let l = from_below k bound j in omega arith)
@@ -302,18 +304,17 @@ group_holds profile S name spool group =
     let count : len (numbers S name) ≤ profile.limit = omega (arith, few, len-entries (numbers S name), length-below profile.limit) in
     (group, ((count, in_limit, tt), tt))
 
--- a fact of a group that a spool has says no more by itself
+-- that there is the group of which facts speak says no more of a spool that has them
 with_holds : (profile : Profile) (S : Spool) (all : List Fact) → IsSpool profile.limit S → AllByRecursion (Holds S) all
-    → (fact : Fact) → Holds S fact → IsPlaced profile.marks all fact → AllByRecursion (Holds S) (with_group profile fact)
-with_holds profile S all spool holds (ThereIs name) h p = group_holds profile S name spool h
-with_holds profile S all spool holds (Asks name ask) h p = all_both (Holds S) (a_group profile name) (Asks name ask ∷ [])
-    (group_holds profile S name spool (all_at (Holds S) (ThereIs name) all holds p.there)) (h, tt)
-with_holds profile S all spool holds (IdAt name n id) h p = all_both (Holds S) (a_group profile name) (IdAt name n id ∷ [])
-    (group_holds profile S name spool (all_at (Holds S) (ThereIs name) all holds p.there)) (h, tt)
-with_holds profile S all spool holds (ThereIsNo name) h p = (h, tt)
-with_holds profile S all spool holds (TextIs what id lines) h p = (h, tt)
-with_holds profile S all spool holds (NoArticle id) h p = (h, tt)
-with_holds profile S all spool holds (GroupsAre w lines) h p = (h, tt)
+    → (facts : List Fact) → AllByRecursion (IsPlaced profile.marks all) facts → AllByRecursion (Holds S) (the_group profile (group_of facts))
+with_holds profile S all spool holds [] p = tt
+with_holds profile S all spool holds (ThereIs name ∷ facts) p = group_holds profile S name spool (all_at (Holds S) (ThereIs name) all holds p.0.there)
+with_holds profile S all spool holds (Asks name ask ∷ facts) p = group_holds profile S name spool (all_at (Holds S) (ThereIs name) all holds p.0.there)
+with_holds profile S all spool holds (IdAt name n id ∷ facts) p = group_holds profile S name spool (all_at (Holds S) (ThereIs name) all holds p.0.there)
+with_holds profile S all spool holds (ThereIsNo name ∷ facts) p = with_holds profile S all spool holds facts p.1
+with_holds profile S all spool holds (TextIs what id lines ∷ facts) p = with_holds profile S all spool holds facts p.1
+with_holds profile S all spool holds (NoArticle id ∷ facts) p = with_holds profile S all spool holds facts p.1
+with_holds profile S all spool holds (GroupsAre w lines ∷ facts) p = with_holds profile S all spool holds facts p.1
 
 -- what is told of a session holds where all that it says does
 told_holds : (profile : Profile) (S : Spool) (all : List Fact) → IsSpool profile.limit S → AllByRecursion (Holds S) all
@@ -324,15 +325,15 @@ told_holds : (profile : Profile) (S : Spool) (all : List Fact) → IsSpool profi
 told_holds profile S all spool holds v at [] answers h p = tt
 told_holds profile S all spool holds v at (q ∷ ps) [] h p = tt
 told_holds profile S all spool holds v at (q ∷ ps) (a ∷ more) h p =
-    let own = facts_of profile.marks v at q a in
+    let here : Placed = record { selected = v.selected; position = at; asked = q; response = a } in
+    let own = said_there profile.marks here in
+    let same = there_said profile.marks here v refl in
     let rest = facts_from profile.marks (visible_after v q a) (position_after at q a) ps more in
-    let own_hold = all_front (Holds S) own rest h in
-    let own_placed = all_front (IsPlaced profile.marks all) own rest p in
-    all_both (Holds S) (flat_map (with_group profile) own) (flat_map (told profile) (placed_from (visible_after v q a) (position_after at q a) ps more))
-    (all_parts (Holds S) (with_group profile) own
-    (λ fact i. with_holds profile S all spool holds fact (all_at (Holds S) fact own own_hold i)
-    (all_at (IsPlaced profile.marks all) fact own own_placed i)))
-    (told_holds profile S all spool holds (visible_after v q a) (position_after at q a) ps more (all_back (Holds S) own rest h) (all_back (IsPlaced profile.marks all) own rest p))
+    let own_hold = subst (AllByRecursion (Holds S)) same (all_front (Holds S) (facts_of profile.marks v at q a) rest h) in
+    let own_placed = subst (AllByRecursion (IsPlaced profile.marks all)) same (all_front (IsPlaced profile.marks all) (facts_of profile.marks v at q a) rest p) in
+    all_both (Holds S) (with_group profile own) (flat_map (told profile) (placed_from (visible_after v q a) (position_after at q a) ps more))
+    (all_both (Holds S) (the_group profile (group_of own)) own (with_holds profile S all spool holds own own_placed) own_hold)
+    (told_holds profile S all spool holds (visible_after v q a) (position_after at q a) ps more (all_back (Holds S) (facts_of profile.marks v at q a) rest h) (all_back (IsPlaced profile.marks all) (facts_of profile.marks v at q a) rest p))
 
 -- a session that fits is permitted exactly if some spool has what is told of it
 pub session_had : (profile : Profile) (ps : List Asked) (answers : List Response) → FitsAll profile start.visible ps answers
@@ -370,7 +371,7 @@ pub contradicts : (profile : Profile) (ps : List Asked) (answers : List Response
     → FitsAll profile start.visible ps (answers ++ response ∷ [])
     → (SomePermits profile ps (answers ++ response ∷ []) → ⊥)
     → SomeHas profile (told_with profile (record {
-      visible = visible_from start.visible ps answers;
+      selected = (visible_from start.visible ps answers).selected;
       position = position_from Nowhere ps answers;
       asked = asked;
       response = response;
@@ -379,10 +380,10 @@ pub contradicts : (profile : Profile) (ps : List Asked) (answers : List Response
 contradicts profile ps answers asked response comes fits none (S, spool, holds) =
     let v = visible_from start.visible ps answers in
     let at = position_from Nowhere ps answers in
-    let bad : Placed = record { visible = v; position = at; asked = asked; response = response } in
+    let bad : Placed = record { selected = v.selected; position = at; asked = asked; response = response } in
     let placed = placed_from start.visible Nowhere ps answers in
     let others = flat_map (told_at profile placed) (below (length placed)) in
-    let own = told_own profile S (facts_of profile.marks v at asked response) (all_front (Holds S) (told profile bad) others holds) in
+    let own = subst (AllByRecursion (Holds S)) (sym (there_said profile.marks bad v refl)) (told_own profile S (said_there profile.marks bad) (all_front (Holds S) (told profile bad) others holds)) in
     let before = session_told profile S start.visible Nowhere ps answers (all_places profile S placed (all_back (Holds S) (told profile bad) others holds)) in
     let all = subst (AllByRecursion (Holds S))
     (sym (facts_grow profile.marks start.visible Nowhere ps answers asked response comes))

@@ -6,3 +6,4 @@ pub mod AskedOfAGroup
 pub mod JoinedDemands
 pub mod CountOfGivenNumbers
 pub mod StrictMarks
+pub mod AsksDecided

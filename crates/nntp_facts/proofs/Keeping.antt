@@ -31,3 +31,5 @@ pub mod BoundGroups
 pub mod UnseenNumbers
 pub mod GroupReaders
 pub mod ArticleReaders
+pub mod ToldAnswers
+pub mod CoresFound

@@ -3,3 +3,4 @@ pub mod JudgedSession
 pub mod NotedAsJudged
 pub mod OneReading
 pub mod FirstBadOfAReading
+pub mod NotedContradictions

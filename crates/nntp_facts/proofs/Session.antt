@@ -2,6 +2,7 @@ pub mod CurrentArticle
 pub mod FactsHold
 pub mod NumbersOfShownGroups
 pub mod FittingFacts
+pub mod GroupOfAnAnswer
 pub mod NumbersWithinLimit
 pub mod LaterPrompts
 pub mod OneMoreAnswer

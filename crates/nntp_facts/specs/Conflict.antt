@@ -1,23 +1,27 @@
 -- With which earlier answers a bad answer conflicts.
-use Rattle.std.specs.Prelude.{◌≡◌, ℕ, zero, suc, ◌+◌, ◌<◌, ◌≤◌, not, List, [], ◌∷◌, ◌++◌, length, IsTrue, slice_get, ⊤}
+use Rattle.std.specs.Prelude.{◌≡◌, ℕ, zero, suc, ◌+◌, ◌<◌, ◌≤◌, not, List, [], ◌∷◌, ◌++◌, length, Option, None, Some, IsTrue, slice_get, ⊤, Contains, MatchOption}
 use Rattle.std.specs.List.{AllByRecursion, flat_map, list_any}
 use Rattle.std.specs.Option.{option_map_or}
 use Rattle.nntp_wire.specs.Answer.{Asked, Response}
 use Rattle.nntp_wire.specs.declared.water_marks.WaterMarks.{WaterMarks}
+use Rattle.nntp_wire.specs.declared.marks.Marks.{Marks}
 use Rattle.nntp_wire.specs.declared.marks.Marks.TheVariants.{Lenient}
 use Rattle.nntp_article.specs.Session.Spool.{Spool, IsSpool, Name}
 use Rattle.nntp_article.specs.declared.session.profile.Profile.{Profile}
-use Rattle.nntp_article.specs.Session.Machine.{Visible, visible_after, fits}
+use Rattle.nntp_article.specs.Session.Machine.{Visible, visible_after, start, fits, is_ascending}
 use Rattle.nntp_facts.specs.Asks.{position_after, Estimates}
+use Rattle.nntp_pair.specs.Pairing.{Paired, asked_at, asked_of, responses_of}
 use Rattle.nntp_facts.specs.declared.position.Position.{Position}
+use Rattle.nntp_facts.specs.declared.position.Position.TheVariants.{Nowhere}
+use Rattle.nntp_facts.specs.Classes.{visible_from, position_from}
 use Rattle.nntp_article.specs.Article.Parts.{Id}
-use Rattle.nntp_facts.specs.Facts.{Fact, Holds, ThereIs, Asks, IdAt, facts_of}
+use Rattle.nntp_facts.specs.Facts.{Fact, Holds, ThereIs, Asks, facts_of, group_of}
 use Rattle.nntp_facts.specs.Given.{is_shown, is_denied, asks_of, is_shown_group, id_in, head_in, body_in}
 use Rattle.nntp_facts.specs.Together.{is_possible, AsksStand, denies_group, number_in, shows_article, denies_article, GiveOne}
 
--- an answer where it stands: what the session shows before it, what was asked, and the response
+-- an answer where it stands: the group that is selected before it, where the session stands in that group, what was asked, and the response
 pub record Placed : Type 0 where
-  pub visible : Visible
+  pub selected : Option Name
   pub position : Position
   pub asked : Asked
   pub response : Response
@@ -27,11 +31,28 @@ abbrev pub placed_from : Visible → Position → List Asked → List Response �
 placed_from v at [] answers = []
 placed_from v at (asked ∷ ps) [] = []
 placed_from v at (asked ∷ ps) (response ∷ more) =
-    record { visible = v; position = at; asked = asked; response = response } ∷ placed_from (visible_after v asked response) (position_after at asked response) ps more
+    record { selected = v.selected; position = at; asked = asked; response = response } ∷ placed_from (visible_after v asked response) (position_after at asked response) ps more
 
--- the answer fits where it stands
+-- the exchanges, each where it stands
+abbrev pub placed_of : List Paired → List Placed
+placed_of past = placed_from start.visible Nowhere (asked_of past) (responses_of past)
+
+-- one exchange more, where it stands behind those
+abbrev pub placed_behind : List Paired → Paired → Placed
+placed_behind past pair = record {
+  selected = (visible_from start.visible (asked_of past) (responses_of past)).selected;
+  position = position_from Nowhere (asked_of past) (responses_of past);
+  asked = asked_at pair.line;
+  response = pair.response;
+}
+
+-- the answer fits a visible state in which that group is selected
 abbrev pub FitsThere : Profile → Placed → Type 0
-FitsThere profile a = IsTrue (fits profile a.visible a.asked a.response)
+FitsThere profile a = (v : Visible) × (v.selected ≡ a.selected) × IsTrue (fits profile v a.asked a.response)
+
+-- what the answer says of the spool, where marks are read so: of the visible state it speaks of the selected group alone
+abbrev pub said : Marks → Placed → List Fact
+said how a = facts_of how (record start.visible { selected = a.selected }) a.position a.asked a.response
 
 -- the marks that each group has: all article numbers, and room for them
 abbrev pub widest : Profile → WaterMarks
@@ -41,16 +62,18 @@ widest profile = record { estimate = profile.limit; low = 1; high = profile.limi
 abbrev pub a_group : Profile → Name → List Fact
 a_group profile name = ThereIs name ∷ Asks name (Estimates Lenient (widest profile)) ∷ []
 
--- what the fact says by itself: where it speaks of the numbers of a group, that there is such a group too
-abbrev pub with_group : Profile → Fact → List Fact
-with_group profile (ThereIs name) = a_group profile name
-with_group profile (Asks name ask) = a_group profile name ++ Asks name ask ∷ []
-with_group profile (IdAt name n id) = a_group profile name ++ IdAt name n id ∷ []
-with_group profile fact = fact ∷ []
+-- there is the group, if one is given
+abbrev pub the_group : Profile → Option Name → List Fact
+the_group profile None = []
+the_group profile (Some name) = a_group profile name
+
+-- what facts say by themselves: where they speak of the numbers of a group, that there is such a group too
+abbrev pub with_group : Profile → List Fact → List Fact
+with_group profile facts = the_group profile (group_of facts) ++ facts
 
 -- what the answer says by itself
 abbrev pub told : Profile → Placed → List Fact
-told profile a = flat_map (with_group profile) (facts_of profile.marks a.visible a.position a.asked a.response)
+told profile a = with_group profile (said profile.marks a)
 
 -- some spool has all the facts
 abbrev pub SomeHas : Profile → List Fact → Type 0
@@ -87,6 +110,29 @@ pub record IsPartOfCore (profile : Profile) (bad : Placed) (answers : List Place
   pub there : AllByRecursion (λ k. k < length answers) places
   pub conflict : SomeHas profile (told_with profile bad answers (below bound ++ places)) → ⊥
   pub found : AreFound (λ places. SomeHas profile (told_with profile bad answers places)) bound places
+
+-- ---- what is found of it
+
+-- all of these are among those
+abbrev pub AreAmong : List ℕ → List ℕ → Type 0
+AreAmong these those = (k : ℕ) → Contains these k → Contains those k
+
+-- the end of a core, and the bound below which the rest of it is: with the answers below the bound the bad one conflicts, with these alone it doesn't, and each such conflict has all of these
+pub record IsEndOfCore (profile : Profile) (bad : Placed) (answers : List Placed) (bound : ℕ) (places : List ℕ) : Type 0 where
+  pub there : AllByRecursion (λ k. (bound ≤ k) × (k < length answers)) places
+  pub conflict : SomeHas profile (told_with profile bad answers (below bound ++ places)) → ⊥
+  pub stand : SomeHas profile (told_with profile bad answers places)
+  pub in_each : (some : List ℕ) → AreAmong some (below bound ++ places) → (SomeHas profile (told_with profile bad answers some) → ⊥) → AreAmong places some
+
+-- what was found: all places of a core; or the last ones, and the bound below which the rest is
+pub record Core : Type 0 where
+  pub places : List ℕ
+  pub rest : Option ℕ
+
+-- the places ascend, and are a core or the end of one
+pub record IsFound (profile : Profile) (bad : Placed) (answers : List Placed) (core : Core) : Type 0 where
+  pub ascending : IsTrue (is_ascending core.places)
+  pub found : MatchOption core.rest (IsCore profile bad answers core.places) (λ bound. IsEndOfCore profile bad answers bound core.places)
 
 -- ---- where facts conflict
 

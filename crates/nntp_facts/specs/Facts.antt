@@ -65,6 +65,14 @@ facts_of how v at (to (retrieve what current)) (sends sent) = TextIs what sent.i
 facts_of how v at (to (list_active p)) (active_are lines) = GroupsAre p (active_groups lines) ∷ []
 facts_of how v at asked response = []
 
+-- the group of whose numbers facts speak, if they do: all facts of one answer speak of one
+abbrev pub group_of : List Fact → Option Name
+group_of [] = None
+group_of (ThereIs name ∷ facts) = Some name
+group_of (Asks name ask ∷ facts) = Some name
+group_of (IdAt name n id ∷ facts) = Some name
+group_of (fact ∷ facts) = group_of facts
+
 -- what answers say, from a visible state and a position on
 abbrev pub facts_from : Marks → Visible → Position → List Asked → List Response → List Fact
 facts_from how v at [] answers = []

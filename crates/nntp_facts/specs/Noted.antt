@@ -49,7 +49,7 @@ pub record HasNoted (profile : Profile) (facts : FactsKept) (past : List Paired)
   pub lines : AllByRecursion (λ pair. lines_in pair.response < 2 ^ 64) past
   pub few : length past < 2 ^ 64
 
--- the exchange may be noted: its index isn't below the number of those that were accepted, and none of them closed the connection
+-- the exchange may come next: its place is behind those of the accepted ones, and none of them closed the connection
 pub record IsDue (facts : FactsKept) (pair : Paired) : Type 0 where
   pub index : facts.count ≤ pair.index
   pub is_open : facts.visible.closed ≡ false

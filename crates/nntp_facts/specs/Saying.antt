@@ -1,5 +1,5 @@
 -- What an answer says of the spool, in parts (RFC 3977, sections 6 and 7.6.3).
-use Rattle.std.specs.Prelude.{◌≡◌, ℕ, true, IsTrue, List, [], ◌∷◌, ◌++◌, map, Option, None, Some, IfSome, MatchOption, ⊤, ◌⊎◌}
+use Rattle.std.specs.Prelude.{◌≡◌, ℕ, true, IsTrue, List, [], ◌∷◌, ◌++◌, map, Option, None, Some, option_map, unwrap_or, IfSome, MatchOption, ⊤, ◌⊎◌}
 use Rattle.nntp_article.specs.Article.Parts.{Id, Line}
 use Rattle.nntp_article.specs.Session.Spool.{Name}
 use Rattle.nntp_article.specs.Session.Machine.{Visible, head_fits}
@@ -7,7 +7,7 @@ use Rattle.nntp_wire.specs.declared.command.What.{What}
 use Rattle.nntp_wire.specs.Answer.{Response, numbers_are}
 use Rattle.nntp_wire.specs.Listing.{ActiveValue, listed_numbers}
 use Rattle.nntp_facts.specs.Asks.{Ask, Has}
-use Rattle.nntp_facts.specs.Facts.{Fact, ThereIs, ThereIsNo, Asks, IdAt, TextIs, NoArticle, GroupsAre}
+use Rattle.nntp_facts.specs.Facts.{Fact, ThereIs, ThereIsNo, Asks, IdAt, TextIs, NoArticle, GroupsAre, group_of}
 use Rattle.nntp_facts.specs.Given.{is_shown_group}
 use Rattle.nntp_facts.specs.Part.{Said, Says}
 use Rattle.nntp_facts.specs.Summary.{AreBounded}
@@ -118,6 +118,16 @@ pub record Tells (facts : List Fact) (s : Saying) (more : List Fact) : Type 0 wh
   pub asks : List Ask
   pub same : facts_in s asks ≡ more
   pub may : MaySay facts s asks
+
+-- the saying tells these facts, and its group is the one of whose numbers they speak: it says that there is such a group, or this one is selected
+pub record TellsHere (selected : Name) (facts : List Fact) (s : Saying) (more : List Fact) : Type 0 where
+  pub tells : Tells facts s more
+  pub group : option_map (λ g. g.name) s.group ≡ group_of more
+  pub there : IfSome s.group (λ g. (s.there_is ≡ Some g.name) ⊎ (g.name ≡ selected))
+
+-- the saying tells these facts behind all others that show the selected group, if there is one
+abbrev pub TellsThere : Option Name → Saying → List Fact → Type 0
+TellsThere selected s more = (facts : List Fact) → IfSome selected (λ name. is_shown_group facts name ≡ true) → TellsHere (unwrap_or selected []) facts s more
 
 -- the selected group, if there is one, is shown
 abbrev pub IsSelectedShown : Visible → List Fact → Type 0

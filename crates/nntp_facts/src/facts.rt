@@ -1,10 +1,12 @@
 //! What the accepted exchanges of a session say of the spool.
 ghost use Rattle.std.specs.Prelude.{◌≡◌, true, false, List, [], IfOk, Err, slice_get};
-ghost use Rattle.nntp_pair.specs.Pairing.{Paired};
+ghost use Rattle.nntp_pair.specs.Pairing.{Paired, asked_at};
 ghost use Rattle.nntp_article.specs.declared.session.profile.Profile.{Profile};
 ghost use Rattle.nntp_article.specs.Session.Limit.{profile_of};
+ghost use Rattle.nntp_article.specs.Session.Misfit.{misfit};
+ghost use Rattle.nntp_article.specs.Session.MisfitView.{why_if};
 ghost use Rattle.nntp_facts.specs.Given.{is_mentioned};
-ghost use Rattle.nntp_facts.specs.Noted.{HasNoted, IsDue, IsNoted, Notes, said_by};
+ghost use Rattle.nntp_facts.specs.Noted.{HasNoted, IsDue, IsNoted, Notes, profile_kept, said_by};
 ghost use Rattle.nntp_facts.specs.Readers.{ShownGroup as GroupValue, ShownArticle as ArticleValue, AreShownGroups, AreShownArticles};
 
 use crate::articles::{ShownArticle, ShownArticles};
@@ -13,7 +15,7 @@ use crate::noted::{FactsError, Noted};
 use crate::position::Position;
 use crate::saying::{Saying, numbers_listed};
 use crate::shown_groups::{ShownGroup, ShownGroups};
-use nntp_article::{Profile, Visible};
+use nntp_article::{Misfit, Profile, Visible};
 use nntp_pair::Exchange;
 use nntp_wire::{Limit, Marks};
 use std::alloc::{AllocError, Allocator, Global};
@@ -70,8 +72,8 @@ impl<A: Allocator + Copy> Facts<A> {
     /// Accepts a further exchange of the session, if some spool permits it together with those that
     /// were accepted before. If none does, the facts stay as they were, and the value tells why.
     ///
-    /// Exchanges may be passed over before it. Its index is not below the number of those that were
-    /// accepted, and none of these closed the connection.
+    /// The exchange has to come behind those that were accepted, and none of these closed the
+    /// connection: its index is not below their number. So exchanges may be passed over.
     ///
     /// For an answer that lists k numbers of a group of which n numbers are kept, it takes time in
     /// the order of (k + 1) log n. For an answer to LIST ACTIVE (RFC 3977, section 7.6.3) it takes
@@ -126,7 +128,30 @@ impl<A: Allocator + Copy> Facts<A> {
     }
 }
 
+impl<A: Allocator + Copy> Facts<A> {
+    /// Tells why the answer of an exchange doesn't fit what the accepted ones leave visible, whatever
+    /// the spool. Returns `None` exactly if it fits.
+    ///
+    /// # Errors
+    ///
+    /// If memory is refused.
+    pub fn misfit<'a>(&self, exchange: &Exchange<'a>) -> Result<Option<Misfit<'a>>, AllocError>
+        ensures { IfOk result (λ reason. why_if reason ≡ misfit (profile_kept self.now) self.now.visible (asked_at exchange.now.line) exchange.now.response) }
+    {
+        let judged_by = Profile::of(self.limit, self.marks);
+        self.visible
+            .misfit(judged_by, exchange.prompt(), exchange.answer())
+    }
+}
+
 impl<A: Allocator> Facts<A> {
+    /// Returns the position in the selected group at which the accepted exchanges leave the session.
+    pub fn position(&self) -> Position
+        ensures { result ≡ self.now.position }
+    {
+        self.position
+    }
+
     /// Returns the limit of article numbers (RFC 3977, section 6).
     pub fn limit(&self) -> Limit
         ensures { result ≡ self.now.limit }

@@ -16,6 +16,7 @@ ghost use Rattle.nntp_facts.specs.Readers.{shown_groups, shown_articles};
 ghost use Rattle.nntp_facts.specs.KeptSaying.{GroupJoins, JoinGroups, MayBeSaid, article_facts};
 
 mod listed_groups;
+mod told;
 
 use crate::articles::{Articles, ShownArticles};
 use crate::groups::Groups;

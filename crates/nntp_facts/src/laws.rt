@@ -24,7 +24,7 @@ ghost use Rattle.nntp_pair.specs.declared.class.PairClass.{PairClass};
 ghost use Rattle.nntp_wire.specs.Answer.{Asked, Response, Spells};
 ghost use Rattle.nntp_wire.specs.declared.marks.Marks.{Marks};
 ghost use Rattle.nntp_wire.specs.declared.marks.Marks.TheVariants.{Strict};
-ghost use Rattle.nntp_facts.specs.Conflict.{Placed, placed_from, FitsThere, a_group, told, SomeHas, told_with, below, IsCore, IsPartOfCore, Point, ConflictAt};
+ghost use Rattle.nntp_facts.specs.Conflict.{Placed, placed_from, FitsThere, a_group, told, SomeHas, told_with, below, IsCore, IsPartOfCore, IsEndOfCore, AreAmong, Point, ConflictAt};
 
 pub mod reading;
 
@@ -355,7 +355,7 @@ pub fn answers_stand_together_where_a_spool_has_them()
 /// A smallest set of answers with which a bad one conflicts is found from the last answer down. At
 /// the start nothing is found. Where the answers below a place stand with what is found, and those
 /// up to the place don't, the answer at the place is found. What is found is such a set, once it
-/// conflicts alone.
+/// conflicts alone. As long as it doesn't, each conflict has another answer below the last place.
 pub fn core_is_found()
     ensures start { (profile : Profile) (bad : Placed) (answers : List Placed)
         → (SomeHas profile (told_with profile bad answers (below (length answers))) → ⊥) → IsPartOfCore profile bad answers (length answers) [] }
@@ -368,6 +368,9 @@ pub fn core_is_found()
         → (SomeHas profile (told_with profile bad answers some) → ⊥) → Contains places k → Contains some k }
     ensures done { (profile : Profile) (bad : Placed) (answers : List Placed) (bound : ℕ) (places : List ℕ)
         → IsPartOfCore profile bad answers bound places → (SomeHas profile (told_with profile bad answers places) → ⊥) → IsCore profile bad answers places }
+    ensures rest { (profile : Profile) (bad : Placed) (answers : List Placed) (bound : ℕ) (places some : List ℕ)
+        → IsEndOfCore profile bad answers bound places → AreAmong some (below bound ++ places)
+        → (SomeHas profile (told_with profile bad answers some) → ⊥) → (k : ℕ) × (k < bound) × Contains some k }
 {}
 
 /// A session that fits is permitted exactly if some spool has what its answers say, each by itself.
@@ -380,11 +383,15 @@ pub fn contradiction_conflicts_with_those_before()
     ensures bad { (profile : Profile) (prompts : List Asked) (answers : List Response) (asked : Asked) (response : Response)
         → asked_next prompts answers ≡ Some asked → FitsAll profile start.visible prompts (answers ++ response ∷ [])
         → (SomePermits profile prompts (answers ++ response ∷ []) → ⊥)
-        → SomeHas profile (told_with profile (record { visible = visible_from start.visible prompts answers; position = position_from Nowhere prompts answers; asked = asked; response = response })
+        → SomeHas profile (told_with profile (record { selected = (visible_from start.visible prompts answers).selected; position = position_from Nowhere prompts answers; asked = asked; response = response })
         (placed_from start.visible Nowhere prompts answers) (below (length (placed_from start.visible Nowhere prompts answers)))) → ⊥ }
 {}
 
-/// No spool has facts that conflict at some point.
+/// No spool has facts that conflict at some point. What answers say that no spool has, each fitting
+/// where it stands, conflicts at some point.
 pub fn no_spool_has_what_conflicts()
-    ensures { (profile : Profile) (facts : List Fact) (point : Point) → ConflictAt facts point → SomeHas profile facts → ⊥ }
+    ensures none { (profile : Profile) (facts : List Fact) (point : Point) → ConflictAt facts point → SomeHas profile facts → ⊥ }
+    ensures point { (profile : Profile) (bad : Placed) (answers : List Placed) (places : List ℕ) → FitsThere profile bad → AllByRecursion (FitsThere profile) answers
+        → AllByRecursion IsWellFormed (told_with profile bad answers places) → size (told_with profile bad answers places) < 2 ^ 210
+        → (SomeHas profile (told_with profile bad answers places) → ⊥) → (point : Point) × ConflictAt (told_with profile bad answers places) point }
 {}

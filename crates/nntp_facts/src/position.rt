@@ -8,7 +8,7 @@ use nntp_wire::{Answer, Command, Prompt, Which};
 
 /// The place at which a session stands in the selected group: its current article.
 #[derive(Clone, Copy)]
-pub(crate) enum Position {
+pub enum Position {
     /// No group was selected yet.
     Nowhere,
     /// The session stands at the first number of the group, whatever that is.
@@ -19,7 +19,7 @@ pub(crate) enum Position {
 
 impl Position {
     /// Returns the position at which an answer leaves the session.
-    pub(crate) fn after(self, prompt: &Prompt<'_>, answer: &Answer<'_>) -> Position
+    pub fn after(self, prompt: &Prompt<'_>, answer: &Answer<'_>) -> Position
         ensures { result ≡ position_after self (asked prompt.now) (response answer.now) }
     {
         match (prompt, answer) {

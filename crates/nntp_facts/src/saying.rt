@@ -1,6 +1,7 @@
 //! What an answer says of the spool (RFC 3977, sections 6 and 7.6.3).
 ghost use Rattle.std.specs.Prelude.{◌≡◌, ℕ, IsTrue, List, [], ◌∷◌, None, Some, option_map, IfOk};
 ghost use Rattle.nntp_wire.specs.declared.marks.Marks.{Marks};
+ghost use Rattle.nntp_wire.specs.Name.{IsGroupName};
 ghost use Rattle.nntp_wire.specs.View.{asked, request, target};
 ghost use Rattle.nntp_wire.specs.AnswerView.{response};
 ghost use Rattle.nntp_wire.specs.Answer.{to, plain, sends};
@@ -10,7 +11,7 @@ ghost use Rattle.nntp_article.specs.declared.session.profile.Profile.{Profile};
 ghost use Rattle.nntp_article.specs.Session.Machine.{Visible, fits};
 ghost use Rattle.nntp_facts.specs.Facts.{Fact, here, facts_of, facts_of_code};
 ghost use Rattle.nntp_facts.specs.Saying as said_of;
-ghost use Rattle.nntp_facts.specs.Saying.{IsSelectedShown, Tells, numbers_listed};
+ghost use Rattle.nntp_facts.specs.Saying.{IsSelectedShown, TellsHere, numbers_listed};
 ghost use Rattle.nntp_facts.specs.Asks.{Bounds};
 ghost use Rattle.nntp_facts.specs.Part.{Says};
 ghost use Rattle.nntp_facts.specs.PartView.{said};
@@ -150,7 +151,7 @@ impl<'s> Saying<'s> {
     ) -> Saying<'s>
         ensures { (profile : Profile) (v : Visible) (facts : List Fact) → IsTrue (fits profile v (asked prompt.now) (response answer.now)) → IsSelectedShown v facts
             → selected.now ≡ here v → numbers.now ≡ numbers_listed (response answer.now)
-            → Tells facts (saying_of result) (facts_of how v at (asked prompt.now) (response answer.now)) }
+            → TellsHere selected.now facts (saying_of result) (facts_of how v at (asked prompt.now) (response answer.now)) }
     {
         match prompt {
             Prompt::Greeting => NOTHING,
@@ -169,7 +170,7 @@ impl<'s> Saying<'s> {
     ) -> Saying<'s>
         ensures { (profile : Profile) (v : Visible) (facts : List Fact) → IsTrue (fits profile v (to (request command.now)) (response answer.now)) → IsSelectedShown v facts
             → selected.now ≡ here v → numbers.now ≡ numbers_listed (response answer.now)
-            → Tells facts (saying_of result) (facts_of how v at (to (request command.now)) (response answer.now)) }
+            → TellsHere selected.now facts (saying_of result) (facts_of how v at (to (request command.now)) (response answer.now)) }
     {
         match (command, answer) {
             (_, Answer::Plain { code }) => Saying::by_code(selected, at, command, *code),
@@ -205,7 +206,7 @@ impl<'s> Saying<'s> {
     /// Returns what a code alone says.
     fn by_code(selected: &'s [u8], at: Position, command: &'s Command<'s>, code: u64) -> Saying<'s>
         ensures { (profile : Profile) (v : Visible) (facts : List Fact) → IsTrue (fits profile v (to (request command.now)) (plain code)) → IsSelectedShown v facts
-            → selected.now ≡ here v → Tells facts (saying_of result) (facts_of_code v at (request command.now) code) }
+            → selected.now ≡ here v → TellsHere selected.now facts (saying_of result) (facts_of_code v at (request command.now) code) }
     {
         match (command, code) {
             (Command::Group(word), 411) => Saying::denies(*word),
@@ -231,7 +232,7 @@ impl<'s> Saying<'s> {
     /// Returns what a failure of ARTICLE, HEAD, BODY or STAT says.
     fn by_failure(selected: &'s [u8], at: Position, which: &'s Which<'s>, code: u64) -> Saying<'s>
         ensures { (profile : Profile) (v : Visible) (facts : List Fact) (what : What) → IsTrue (fits profile v (to (retrieve what (target which.now))) (plain code)) → IsSelectedShown v facts
-            → selected.now ≡ here v → Tells facts (saying_of result) (facts_of_code v at (retrieve what (target which.now)) code) }
+            → selected.now ≡ here v → TellsHere selected.now facts (saying_of result) (facts_of_code v at (retrieve what (target which.now)) code) }
     {
         match (which, code) {
             (Which::Id(word), 430) => Saying {
@@ -260,7 +261,7 @@ impl<'s> Saying<'s> {
         ensures { (profile : Profile) (how : Marks) (v : Visible) (facts : List Fact) (code : ℕ)
             → IsTrue (fits profile v (to (retrieve what (target which.now))) (sends (record { code = code; number = number.now; id = id.now; block = block.now }))) → IsSelectedShown v facts
             → selected.now ≡ here v
-            → Tells facts (saying_of result) (facts_of how v at (to (retrieve what (target which.now))) (sends (record { code = code; number = number.now; id = id.now; block = block.now }))) }
+            → TellsHere selected.now facts (saying_of result) (facts_of how v at (to (retrieve what (target which.now))) (sends (record { code = code; number = number.now; id = id.now; block = block.now }))) }
     {
         match which {
             Which::Id(_) if *number == 0 => Saying::sends(None, what, id, block),
@@ -277,8 +278,9 @@ impl<'s> Saying<'s> {
     }
 
     /// Says that there is such a group, and this of its numbers.
-    fn selects(name: &'s GroupName<'s>, numbers: NumbersPart<'s>) -> Saying<'s>
-        ensures { saying_of result ≡ record {
+    pub(crate) fn selects(name: &'s GroupName<'s>, numbers: NumbersPart<'s>) -> Saying<'s>
+        ensures is_name { IsGroupName name.now }
+        ensures says { saying_of result ≡ record {
           there_is = Some name.now;
           there_is_no = None;
           group = Some (record { name = name.now; numbers = said numbers.entry; id = None });

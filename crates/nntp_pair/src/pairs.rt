@@ -1,5 +1,5 @@
 //! The pairing of both streams, one exchange at a time.
-ghost use Rattle.std.specs.Prelude.{◌≡◌, ◌<◌, length, MatchResult};
+ghost use Rattle.std.specs.Prelude.{◌≡◌, ◌<◌, ◌^◌, length, count_by, drop, is_some, MatchResult};
 ghost use Rattle.std.specs.Option.{option_copied};
 ghost use Rattle.nntp_pair.specs.Pairing.{IsNext, IsBad, IsPassedOver, streams, line_ahead};
 ghost use Rattle.nntp_pair.specs.Step.{IsStep, OnExchange};
@@ -121,11 +121,23 @@ impl<'a> Pairs<'a> {
         frame
     }
 
-    /// The index of the next place, which is how many places were passed.
+    /// The index of the next place, which is how many places were passed. It is less than 2^63.
     pub fn index(&self) -> u64
-        ensures { result ≡ self.now.index }
+        ensures value { result ≡ self.now.index }
+        ensures small { self.now.index < 2 ^ 63 }
     {
         self.index
+    }
+
+    /// How many lines of the client are behind the next place: those that have no answer, if the octets there are the
+    /// last. It reads the rest of the client's stream.
+    pub fn count_lines_behind(&self) -> u64
+        ensures { result ≡ count_by is_some (drop 1 self.now.places) }
+    {
+        match self.places.split_first() {
+            Some((_, behind)) => behind.count_lines(),
+            None => 0,
+        }
     }
 
     /// The line of the next place, and what is left of the server's stream.

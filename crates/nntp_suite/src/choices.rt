@@ -31,3 +31,11 @@ pub(crate) fn verify_task(choice: Choice) -> Task {
         marks: choice.marks,
     }
 }
+
+/// The task of telling all that is bad of a session.
+pub(crate) fn explain_task(choice: Choice) -> Task {
+    Task::Explain {
+        limit: choice.limit,
+        marks: choice.marks,
+    }
+}

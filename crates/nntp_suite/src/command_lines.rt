@@ -1,5 +1,5 @@
 //! The command line, the words on standard error, and the exit status.
-use crate::choices::{check_task, verify_task};
+use crate::choices::{check_task, explain_task, verify_task};
 use clap::error::ErrorKind;
 use nntp_check::{Failure, Kind, ReadFault, RunFault, Task, job, refusal, status};
 use nntp_sessions::{NARROW_LENIENT, NARROW_STRICT, WIDE_LENIENT, WIDE_STRICT};
@@ -17,7 +17,7 @@ fn words(alloc: Global, of: &[&str]) -> Result<Vec<String>, AllocError> {
 
 #[test]
 fn words_that_ask_for_a_task(rt: HostRuntime) -> Result<(), Fail> {
-    let rows: [(&[&str], Task); 8] = [
+    let rows: [(&[&str], Task); 11] = [
         (&["nntpcheck", "check"], check_task(NARROW_LENIENT)),
         (
             &["nntpcheck", "check", "--strict-marks"],
@@ -38,6 +38,15 @@ fn words_that_ask_for_a_task(rt: HostRuntime) -> Result<(), Fail> {
             verify_task(NARROW_STRICT),
         ),
         (&["nntpcheck", "show"], Task::Show),
+        (&["nntpcheck", "explain"], explain_task(NARROW_LENIENT)),
+        (
+            &["nntpcheck", "explain", "--strict-marks"],
+            explain_task(NARROW_STRICT),
+        ),
+        (
+            &["nntpcheck", "explain", "--wide"],
+            explain_task(WIDE_LENIENT),
+        ),
     ];
     for (of, task) in rows {
         let words = words(rt.alloc(), of)?;
@@ -47,7 +56,7 @@ fn words_that_ask_for_a_task(rt: HostRuntime) -> Result<(), Fail> {
 }
 
 /// Words that ask for no task, of which kind the error is, and the exit status.
-const REFUSED: [(&[&str], ErrorKind, u8); 15] = [
+const REFUSED: [(&[&str], ErrorKind, u8); 17] = [
     (&["nntpcheck"], ErrorKind::MissingSubcommand, 2),
     (&["nntpcheck", "check", "x"], ErrorKind::UnknownArgument, 2),
     (
@@ -57,6 +66,11 @@ const REFUSED: [(&[&str], ErrorKind, u8); 15] = [
     ),
     (&["nntpcheck", "verify", "x"], ErrorKind::UnknownArgument, 2),
     (&["nntpcheck", "show", "x"], ErrorKind::UnknownArgument, 2),
+    (
+        &["nntpcheck", "explain", "x"],
+        ErrorKind::UnknownArgument,
+        2,
+    ),
     (
         &["nntpcheck", "verify", "--wide"],
         ErrorKind::UnknownArgument,
@@ -86,6 +100,7 @@ const REFUSED: [(&[&str], ErrorKind, u8); 15] = [
     (&["nntpcheck", "--help"], ErrorKind::DisplayHelp, 0),
     (&["nntpcheck", "check", "-h"], ErrorKind::DisplayHelp, 0),
     (&["nntpcheck", "show", "--help"], ErrorKind::DisplayHelp, 0),
+    (&["nntpcheck", "explain", "-h"], ErrorKind::DisplayHelp, 0),
     (&["nntpcheck", "--version"], ErrorKind::DisplayVersion, 0),
 ];
 

@@ -13,6 +13,8 @@ mod cuts;
 #[cfg(test)]
 mod expectations;
 #[cfg(test)]
+mod explanations;
+#[cfg(test)]
 mod fakes;
 #[cfg(test)]
 mod family;
@@ -28,6 +30,8 @@ mod limits;
 mod marks;
 #[cfg(test)]
 mod memory;
+#[cfg(test)]
+mod reported;
 #[cfg(test)]
 mod runs;
 #[cfg(test)]

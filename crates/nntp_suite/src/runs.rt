@@ -116,8 +116,13 @@ const VERIFY_STRICTLY: Task = Task::Verify {
     marks: Marks::Strict,
 };
 
+pub(crate) const EXPLAIN: Task = Task::Explain {
+    limit: Limit::Narrow,
+    marks: Marks::Lenient,
+};
+
 /// Tasks, each with a capture of this session and the report on it.
-const REPORTS: [(Task, &[u8], &[u8]); 5] = [
+const REPORTS: [(Task, &[u8], &[u8]); 6] = [
     (CHECK, CAPTURE, REPORT),
     (
         CHECK_WIDE_AND_STRICT,
@@ -139,14 +144,16 @@ const REPORTS: [(Task, &[u8], &[u8]); 5] = [
         CAPTURE,
         b"0 greeting -> 200 hi\n1 GROUP g -> 211 0 1 0 g\n  group g\n2 QUIT -> 205 bye\nend answers=3 unanswered=0\n",
     ),
+    (EXPLAIN, CAPTURE, b"end answers=3 bad=0 unanswered=0\n"),
 ];
 
-const TASKS: [Task; 5] = [
+const TASKS: [Task; 6] = [
     CHECK,
     CHECK_WIDE_AND_STRICT,
     VERIFY,
     VERIFY_STRICTLY,
     Task::Show,
+    EXPLAIN,
 ];
 
 #[test]

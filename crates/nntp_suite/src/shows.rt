@@ -1,41 +1,8 @@
 //! Sessions, and what `show` prints of them.
+use crate::reported::Reported;
 use crate::trials::Trial;
-use std::alloc::{AllocError, Global};
+use nntp_check::Task;
 use std::test::Fail;
-
-/// A session by name: what the client and the server sent, the report on it, and whether all octets of
-/// the server are answers.
-#[derive(Clone, Copy)]
-pub(crate) struct Shown {
-    pub(crate) name: &'static str,
-    client: &'static [u8],
-    server: &'static [u8],
-    pub(crate) report: &'static [u8],
-    pub(crate) is_answered: bool,
-}
-
-impl Shown {
-    /// The capture of both streams, each in one piece, and of a spool piece that is passed over.
-    pub(crate) fn capture(&self, alloc: Global) -> Result<Vec<u8>, AllocError> {
-        let mut capture = Vec::new(alloc);
-        put_piece(alloc, &mut capture, "client", self.client)?;
-        put_piece(alloc, &mut capture, "server", self.server)?;
-        put_piece(alloc, &mut capture, "spool", b"xyz")?;
-        Ok(capture)
-    }
-}
-
-/// Adds a piece of a capture.
-fn put_piece(
-    alloc: Global,
-    capture: &mut Vec<u8>,
-    word: &str,
-    octets: &[u8],
-) -> Result<(), AllocError> {
-    let line = format!(in alloc; "{word} {}\n", octets.len())?;
-    capture.extend_from_slice(line.as_bytes())?;
-    capture.extend_from_slice(octets)
-}
 
 /// A head with Control headers on several lines, and of names and verbs in several cases.
 const CONTROLS: &[u8] = b"200 hi\r\n221 0 <c@x>\r\n\
@@ -85,9 +52,10 @@ const NO_HEADS: &[u8] = b"200 hi\r\n\
 223 0 <a@b>\r\n\
 430 no\r\n";
 
-pub(crate) const SHOWN: [Shown; 16] = [
-    Shown {
+pub(crate) const SHOWN: [Reported; 16] = [
+    Reported {
         name: "a control message on two lines",
+        task: Task::Show,
         client: b"HEAD <c@x>\r\nQUIT\r\n",
         server: b"200 hi\r\n221 0 <c@x>\r\nControl: cancel\r\n <a@b>\r\nMessage-ID: <c@x>\r\n.\r\n205 bye\r\n",
         report: b"0 greeting -> 200 hi
@@ -97,10 +65,11 @@ pub(crate) const SHOWN: [Shown; 16] = [
 2 QUIT -> 205 bye
 end answers=3 unanswered=0
 ",
-        is_answered: true,
+        answer: true,
     },
-    Shown {
+    Reported {
         name: "a group, an article and a line without an answer",
+        task: Task::Show,
         client: b"GROUP g\r\nARTICLE 1\r\nHELP\r\n",
         server: b"200 hi\r\n211 1 1 1 g\r\n220 1 <a@b>\r\nControl: newgroup comp.x moderated\r\nControl: sendsys\r\n\r\n.\r\n",
         report: b"0 greeting -> 200 hi
@@ -112,45 +81,51 @@ end answers=3 unanswered=0
   missing From Date Newsgroups Subject Message-ID Path
 end answers=3 unanswered=1
 ",
-        is_answered: true,
+        answer: true,
     },
-    Shown {
+    Reported {
         name: "an octet behind the last answer",
+        task: Task::Show,
         client: b"QUIT\r\n",
         server: b"200 hi\r\n205 bye\r\nx",
         report: b"0 greeting -> 200 hi\n1 QUIT -> 205 bye\nbad answer 2 Surplus\n",
-        is_answered: false,
+        answer: false,
     },
-    Shown {
+    Reported {
         name: "a backslash in a command line",
+        task: Task::Show,
         client: b"HEL\\P\r\n",
         server: b"200 hi\r\n500 no\r\n",
         report: b"0 greeting -> 200 hi\n1 HEL\\\\P -> 500 no\nend answers=2 unanswered=0\n",
-        is_answered: true,
+        answer: true,
     },
-    Shown {
+    Reported {
         name: "nothing at all",
+        task: Task::Show,
         client: b"",
         server: b"",
         report: b"end answers=0 unanswered=0\n",
-        is_answered: true,
+        answer: true,
     },
-    Shown {
+    Reported {
         name: "a server that says nothing",
+        task: Task::Show,
         client: b"HELP\r\nQUIT\r\nno line",
         server: b"",
         report: b"end answers=0 unanswered=2\n",
-        is_answered: true,
+        answer: true,
     },
-    Shown {
+    Reported {
         name: "a server that answers once, and is left",
+        task: Task::Show,
         client: b"",
         server: b"400 later\r\n",
         report: b"0 greeting -> 400 later\nend answers=1 unanswered=0\n",
-        is_answered: true,
+        answer: true,
     },
-    Shown {
+    Reported {
         name: "names of the answers",
+        task: Task::Show,
         client: b"GROUP g\r\nLISTGROUP\r\nGROUP g\r\nLIST ACTIVE\r\n",
         server: b"200 hi\r\n211 0 1 0 h\r\n211 1 4 4 gr\xC3\xBCn\r\n4\r\n.\r\n411 no\r\n215 ok\r\ng 1 1 y\r\n.\r\n",
         report: b"0 greeting -> 200 hi
@@ -162,17 +137,19 @@ end answers=3 unanswered=1
 4 LIST ACTIVE -> 215 ok
 end answers=5 unanswered=0
 ",
-        is_answered: true,
+        answer: true,
     },
-    Shown {
+    Reported {
         name: "Control headers of each kind",
+        task: Task::Show,
         client: b"HEAD <c@x>\r\n",
         server: CONTROLS,
         report: CONTROLS_REPORT,
-        is_answered: true,
+        answer: true,
     },
-    Shown {
+    Reported {
         name: "octets past ASCII",
+        task: Task::Show,
         client: b"HEAD <c@x>\r\nXX\xE9\t\x7F\r\n\r\n",
         server: b"200 \xFF\r\n221 0 <c@x>\r\nControl: newgroup gr\xC3\xBCn\r\nControl: newgroup gr\xFCn\r\nSubject: \xFC\r\n.\r\n500 n\xE3o\r\n501\r\n",
         report: b"0 greeting -> 200 \\xff
@@ -184,10 +161,11 @@ end answers=5 unanswered=0
 3  -> 501
 end answers=4 unanswered=0
 ",
-        is_answered: true,
+        answer: true,
     },
-    Shown {
+    Reported {
         name: "a head with none of the six headers",
+        task: Task::Show,
         client: b"HEAD <c@x>\r\n",
         server: b"200 hi\r\n221 0 <c@x>\r\nX-From: a\r\n.\r\n",
         report: b"0 greeting -> 200 hi
@@ -195,17 +173,19 @@ end answers=4 unanswered=0
   missing From Date Newsgroups Subject Message-ID Path
 end answers=2 unanswered=0
 ",
-        is_answered: true,
+        answer: true,
     },
-    Shown {
+    Reported {
         name: "an article with all of them",
+        task: Task::Show,
         client: b"ARTICLE 7\r\n",
         server: COMPLETE,
         report: b"0 greeting -> 200 hi\n1 ARTICLE 7 -> 220 7 <a@b>\nend answers=2 unanswered=0\n",
-        is_answered: true,
+        answer: true,
     },
-    Shown {
+    Reported {
         name: "lines that are no head",
+        task: Task::Show,
         client: b"HEAD 1\r\nHEAD 2\r\nHEAD 3\r\nARTICLE 4\r\nARTICLE 5\r\nARTICLE 6\r\nBODY 7\r\nSTAT 8\r\nHEAD <a@b>\r\n",
         server: NO_HEADS,
         report: b"0 greeting -> 200 hi
@@ -220,24 +200,27 @@ end answers=2 unanswered=0
 9 HEAD <a@b> -> 430 no
 end answers=10 unanswered=0
 ",
-        is_answered: true,
+        answer: true,
     },
-    Shown {
+    Reported {
         name: "an answer that is cut",
+        task: Task::Show,
         client: b"GROUP g\r\nHEAD 1\r\nQUIT\r\n",
         server: b"200 hi\r\n211 1 1 1 g\r\n221 1 <a@b>\r\nFrom: a\r\n",
         report: b"0 greeting -> 200 hi\n1 GROUP g -> 211 1 1 1 g\n  group g\nbad answer 2 Cut\n",
-        is_answered: false,
+        answer: false,
     },
-    Shown {
+    Reported {
         name: "an answer that is malformed",
+        task: Task::Show,
         client: b"GROUP g\r\n",
         server: b"200 hi\r\n211 x\r\n",
         report: b"0 greeting -> 200 hi\nbad answer 1 Malformed\n",
-        is_answered: false,
+        answer: false,
     },
-    Shown {
+    Reported {
         name: "an answer that no spool gives",
+        task: Task::Show,
         client: b"GROUP g\r\nGROUP g\r\n",
         server: b"200 hi\r\n211 1 1 1 g\r\n411 no\r\n",
         report: b"0 greeting -> 200 hi
@@ -246,7 +229,7 @@ end answers=10 unanswered=0
 2 GROUP g -> 411 no
 end answers=3 unanswered=0
 ",
-        is_answered: true,
+        answer: true,
     },
 ];
 

@@ -1,10 +1,11 @@
 //! Trials of the runs over worked sessions, and over those that are shown.
 use crate::choices::{check_task, verify_task};
+use crate::explanations::EXPLAINED;
 use crate::fakes::Full;
 use crate::memory;
+use crate::reported::Reported;
 use crate::runs::Run;
-use crate::shows::{SHOWN, Shown};
-use nntp_check::Task;
+use crate::shows::SHOWN;
 use nntp_sessions::{Session, each_session, verified_report, with_spool};
 use std::alloc::{AllocError, Global};
 use std::process::Abort;
@@ -81,14 +82,14 @@ impl Trial {
         self.make(rt, alloc, &run)
     }
 
-    /// Tries the run of `show` over a session.
-    fn show(self, rt: &impl Abort, alloc: Global, session: &Shown) -> Result<(), AllocError> {
+    /// Tries the run of a task over a session.
+    fn report(self, rt: &impl Abort, alloc: Global, session: &Reported) -> Result<(), AllocError> {
         let capture = session.capture(alloc)?;
         let run = Run::of(
             session.name,
-            Task::Show,
+            session.task,
             &capture,
-            session.is_answered,
+            session.answer,
             session.report,
         );
         self.make(rt, alloc, &run)
@@ -106,7 +107,15 @@ impl Trial {
     /// Tries the runs over each session that is shown.
     pub(crate) fn shown(self, rt: &impl Abort, alloc: Global) -> Result<(), AllocError> {
         for session in SHOWN {
-            self.show(rt, alloc, &session)?;
+            self.report(rt, alloc, &session)?;
+        }
+        Ok(())
+    }
+
+    /// Tries the runs over each session that is explained.
+    pub(crate) fn explained(self, rt: &impl Abort, alloc: Global) -> Result<(), AllocError> {
+        for session in EXPLAINED {
+            self.report(rt, alloc, &session)?;
         }
         Ok(())
     }
@@ -114,6 +123,7 @@ impl Trial {
     /// Tries all of these runs.
     pub(crate) fn all(self, rt: &impl Abort, alloc: Global) -> Result<(), AllocError> {
         self.sessions(rt, alloc)?;
-        self.shown(rt, alloc)
+        self.shown(rt, alloc)?;
+        self.explained(rt, alloc)
     }
 }

@@ -1,4 +1,5 @@
 //! Worked rows: what the definitions are meant to say.
+mod misfits;
 mod visible;
 
 use nntp_article::{Control, Head, Parts, content, control, lines_say, missing};

@@ -4,6 +4,7 @@ mod answers;
 mod blocks;
 mod commands;
 mod frames;
+mod misspellings;
 mod names;
 mod numbers;
 mod searches;

@@ -25,14 +25,14 @@ dec_name name = dec_by (group_name-iff name).0 (group_name-iff name).1 (dec_true
 -- ---- arguments
 
 -- the octets before the first space, and those from it on
-record UpToSpace (bytes : List ℕ) : Type 0 where
-  word : List ℕ
-  rest : List ℕ
-  whole : bytes ≡ word ++ rest
-  spaceless : IsTrue (list_all no_space word)
-  ended : IsTrue (is_comment rest)
+pub record UpToSpace (bytes : List ℕ) : Type 0 where
+  pub word : List ℕ
+  pub rest : List ℕ
+  pub whole : bytes ≡ word ++ rest
+  pub spaceless : IsTrue (list_all no_space word)
+  pub ended : IsTrue (is_comment rest)
 
-up_to_space : (bytes : List ℕ) → UpToSpace bytes
+pub up_to_space : (bytes : List ℕ) → UpToSpace bytes
 up_to_space [] = record { word = []; rest = []; whole = refl; spaceless = refl; ended = refl }
 up_to_space (b ∷ bs) = elim (cases_Bool (b == space)) [
   | inl e ↦ record { word = []; rest = b ∷ bs; whole = refl; spaceless = refl; ended = e }
@@ -76,7 +76,7 @@ dec_article bytes = elim (dec_number bytes) [
 ]
 
 -- three numbers and a group name
-abbrev Grouped : List ℕ → Type 0
+abbrev pub Grouped : List ℕ → Type 0
 Grouped bytes = (marks : WaterMarks) × (name : List ℕ) × HasGroup bytes marks name
 
 dec_group : (bytes : List ℕ) → Dec (Grouped bytes)
@@ -113,19 +113,19 @@ dec_group bytes = elim (dec_number bytes) [
 
 -- ---- what is said
 
-group_said : (bytes : List ℕ) (r : Response) → SaysGroup bytes r → Grouped bytes
+pub group_said : (bytes : List ℕ) (r : Response) → SaysGroup bytes r → Grouped bytes
 group_said bytes (group_is m name) says = (m, name, says)
 group_said bytes r says = absurd says
 
-numbers_said : (bytes : List ℕ) (lines : List (List ℕ)) (r : Response) → SaysNumbers bytes lines r → Grouped bytes × IsTrue (are_listed_numbers lines)
+pub numbers_said : (bytes : List ℕ) (lines : List (List ℕ)) (r : Response) → SaysNumbers bytes lines r → Grouped bytes × IsTrue (are_listed_numbers lines)
 numbers_said bytes lines (numbers_are m name listed) says = ((m, name, says.0), says.1)
 numbers_said bytes lines r says = absurd says
 
-article_said : (code : ℕ) (bytes : List ℕ) (block : Option (List (List ℕ))) (r : Response) → SaysArticle code bytes block r → (n : ℕ) × (id : List ℕ) × HasArticle bytes n id
+pub article_said : (code : ℕ) (bytes : List ℕ) (block : Option (List (List ℕ))) (r : Response) → SaysArticle code bytes block r → (n : ℕ) × (id : List ℕ) × HasArticle bytes n id
 article_said code bytes block (sends s) says = (s.number, s.id, says.1)
 article_said code bytes block r says = absurd says
 
-active_said : (lines : List (List ℕ)) (r : Response) → SaysActive lines r → IsTrue (are_active_lines lines)
+pub active_said : (lines : List (List ℕ)) (r : Response) → SaysActive lines r → IsTrue (are_active_lines lines)
 active_said lines (active_are listed) says = says.0
 active_said lines r says = absurd says
 

@@ -10,6 +10,7 @@ use Rattle.nntp_wire.specs.Block.{stuffed, sent, dot_line, AreClean}
 use Rattle.nntp_wire.specs.Answer.{Asked, Response, Spells, Says, kind_of, status_of, is_block_due, block_octets, IsCleanBlock, group_is, numbers_are, sends, active_are, plain}
 use Rattle.nntp_wire.proofs.Decide.{Dec, dec_by}
 use Rattle.nntp_wire.proofs.FrameLemmas.{one_line}
+use Rattle.nntp_wire.proofs.BlockLemmas.{stuffed-clean}
 use Rattle.nntp_wire.proofs.SpellLemmas.{clean-line, status-clean, spelling-frame, one-frame, one_block, sent-lines}
 use Rattle.nntp_wire.proofs.ResponseLemmas.{one-response, one-sent}
 use Rattle.nntp_wire.proofs.SaysDecided.{dec_says}
@@ -105,13 +106,6 @@ unstuffed-clean (b ∷ bs) h = elim (cases_eq b dot) [
       (sym (ap (λ t. cond t (dot ∷ b ∷ bs) (b ∷ bs)) (eq-eqb b dot is)))
       ∙ h in (and_parts (not (is_line_breaking dot)) (is_clean (b ∷ bs)) e).1)
   | inr other ↦ ap is_clean (sym (ap (λ t. cond t (dot ∷ b ∷ bs) (b ∷ bs)) (ne_eqb b dot other))) ∙ h
-]
-
-stuffed-clean : (l : List ℕ) → is_clean l ≡ true → is_clean (stuffed l) ≡ true
-stuffed-clean [] h = refl
-stuffed-clean (b ∷ bs) h = elim (cases_eq b dot) [
-  | inl is ↦ ap is_clean (ap (λ t. cond t (dot ∷ b ∷ bs) (b ∷ bs)) (eq-eqb b dot is)) ∙ h
-  | inr other ↦ ap is_clean (ap (λ t. cond t (dot ∷ b ∷ bs) (b ∷ bs)) (ne_eqb b dot other)) ∙ h
 ]
 
 -- a block, and what follows it

@@ -20,3 +20,5 @@ pub mod Limit
 pub mod AnswerView
 pub mod Session
 pub mod Held
+pub mod Reason
+pub mod Misspelling

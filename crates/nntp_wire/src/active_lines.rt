@@ -48,7 +48,7 @@ pub fn active_line(line: &[u8]) -> Option<ActiveLine<'_>>
 }
 
 /// Tells whether the line is one of LIST ACTIVE.
-fn is_active_line(line: &[u8]) -> bool
+pub(crate) fn is_active_line(line: &[u8]) -> bool
     ensures { result ≡ is_some (active_of line.now) }
 {
     active_line(line).is_some()

@@ -17,7 +17,7 @@ pub(crate) fn begins_with_versions(block: &Block<'_>) -> bool
 }
 
 /// Tells whether the words are VERSION and then versions.
-fn gives_versions(mut words: Words<'_>) -> bool
+pub(crate) fn gives_versions(mut words: Words<'_>) -> bool
     ensures { result ≡ gives_versions words.entry }
 {
     match words.next() {

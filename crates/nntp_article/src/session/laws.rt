@@ -1,9 +1,14 @@
 //! Laws of the machine's definitions alone.
-ghost use Rattle.std.specs.Prelude.{◌≡◌, IsTrue, ◌⊎◌, List};
-ghost use Rattle.nntp_article.specs.Session.Spool.{Spool, Numbers, least, IsFirst};
+ghost use Rattle.std.specs.Prelude.{◌≡◌, ◌≤◌, ◌↔◌, ◌==◌, ℕ, IsTrue, IsFalse, ◌⊎◌, List, None, Some, MatchOption};
+ghost use Rattle.nntp_article.specs.Session.Spool.{Name, Spool, Numbers, least, IsFirst};
 ghost use Rattle.nntp_article.specs.declared.session.profile.Profile.{Profile};
-ghost use Rattle.nntp_article.specs.Session.Machine.{State, fits, Permits, Run};
-ghost use Rattle.nntp_wire.specs.Answer.{Asked, Response};
+ghost use Rattle.nntp_article.specs.Session.Machine.{Visible, State, is_one_of, is_same, is_article_number, fits, Permits, Run};
+ghost use Rattle.nntp_article.specs.Article.Parts.{Id, said_id};
+ghost use Rattle.nntp_article.specs.Session.Misfit.{misfit, wrong_code, wrong_name, wrong_number, wrong_id, below_low, beyond_limit, not_above};
+ghost use Rattle.nntp_article.specs.Session.Misfit.{beyond_range, unmatched, listed_twice, other_id};
+ghost use Rattle.nntp_article.specs.Session.Misfit.{asked_group, asked_number, asked_id, sent_by, sent_head, names_of, IsTwice};
+ghost use Rattle.nntp_article.specs.Session.Misfit.{allowed_codes, is_success, answered_code, marked_by, numbers_of, is_outside, is_unmatched, AreNeighbours, IsAbove};
+ghost use Rattle.nntp_wire.specs.Answer.{Asked, Response, plain};
 
 /// An answer that some spool permits meets the visible condition, and the visible state after it is
 /// the same whatever the spool.
@@ -31,4 +36,46 @@ pub fn first_is_least()
 pub fn permitting_is_decided()
     ensures { (profile : Profile) (S : Spool) (s : State) (prompts : List Asked) (answers : List Response)
         → Run profile S s prompts answers ⊎ (Run profile S s prompts answers → ⊥) }
+{}
+
+/// A reason is given exactly for the answers that don't fit.
+pub fn misfits_alone_have_reasons()
+    ensures { (profile : Profile) (v : Visible) (asked : Asked) (response : Response)
+        → IsTrue (fits profile v asked response) ↔ (misfit profile v asked response ≡ None) }
+{}
+
+/// Each allowed code fits: by itself, unless it begins an answer that says more than its code.
+pub fn allowed_codes_fit()
+    ensures { (profile : Profile) (v : Visible) (asked : Asked) (code : ℕ)
+        → IsTrue (is_one_of (allowed_codes v asked) code) → IsFalse (is_success asked code) → IsTrue (fits profile v asked (plain code)) }
+{}
+
+/// What a reason names is at fault.
+pub fn reasons_are_so()
+    ensures code { (profile : Profile) (v : Visible) (asked : Asked) (response : Response) (code : ℕ) (allowed : List ℕ)
+        → misfit profile v asked response ≡ Some (wrong_code code allowed) → (code ≡ answered_code response) × (allowed ≡ allowed_codes v asked) }
+    ensures name { (profile : Profile) (v : Visible) (asked : Asked) (response : Response) (name : Name)
+        → misfit profile v asked response ≡ Some (wrong_name name)
+        → MatchOption (marked_by response) ⊥ (λ marked. marked.0 ≡ name) × MatchOption (asked_group v asked) ⊥ (λ word. IsFalse (is_same name word)) }
+    ensures number { (profile : Profile) (v : Visible) (asked : Asked) (response : Response) (number : ℕ)
+        → misfit profile v asked response ≡ Some (wrong_number number)
+        → MatchOption (sent_by response) ⊥ (λ sent. sent.number ≡ number) × MatchOption (asked_number asked) (v.selected ≡ None) (λ n. IsFalse (number == n)) }
+    ensures id { (profile : Profile) (v : Visible) (asked : Asked) (response : Response) (id : Id)
+        → misfit profile v asked response ≡ Some (wrong_id id)
+        → MatchOption (sent_by response) ⊥ (λ sent. sent.id ≡ id) × MatchOption (asked_id asked) ⊥ (λ word. IsFalse (is_same id word)) }
+    ensures low { (profile : Profile) (v : Visible) (asked : Asked) (response : Response) (low : ℕ)
+        → misfit profile v asked response ≡ Some (below_low low) → MatchOption (marked_by response) ⊥ (IsAbove v low) }
+    ensures limit { (profile : Profile) (v : Visible) (asked : Asked) (response : Response) (number : ℕ)
+        → misfit profile v asked response ≡ Some (beyond_limit number) → IsFalse (is_article_number profile.limit number) }
+    ensures order { (profile : Profile) (v : Visible) (asked : Asked) (response : Response) (before number : ℕ)
+        → misfit profile v asked response ≡ Some (not_above before number) → AreNeighbours (numbers_of response) before number × (number ≤ before) }
+    ensures range { (profile : Profile) (v : Visible) (asked : Asked) (response : Response) (number : ℕ)
+        → misfit profile v asked response ≡ Some (beyond_range number) → IsTrue (is_outside asked number) }
+    ensures matched { (profile : Profile) (v : Visible) (asked : Asked) (response : Response) (name : Name)
+        → misfit profile v asked response ≡ Some (unmatched name) → IsTrue (is_unmatched asked name) }
+    ensures twice { (profile : Profile) (v : Visible) (asked : Asked) (response : Response) (name : Name)
+        → misfit profile v asked response ≡ Some (listed_twice name) → IsTwice (names_of response) name }
+    ensures own { (profile : Profile) (v : Visible) (asked : Asked) (response : Response) (said : Id)
+        → misfit profile v asked response ≡ Some (other_id said)
+        → MatchOption (sent_head asked response) ⊥ (λ head. said_id head ≡ Some said) × MatchOption (sent_by response) ⊥ (λ sent. IsFalse (is_same said sent.id)) }
 {}

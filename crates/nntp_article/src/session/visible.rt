@@ -6,11 +6,12 @@ ghost use Rattle.nntp_wire.specs.View.{asked};
 ghost use Rattle.nntp_wire.specs.AnswerView.{response};
 ghost use Rattle.nntp_article.specs.Session.Machine.{start, visible_after, selects};
 
+mod allowed;
 mod codes;
-mod fits;
 mod groups;
 mod heads;
 mod marks;
+mod misfits;
 mod numbers;
 
 pub use codes::is_generic_failure;

@@ -44,7 +44,7 @@ code_size v at (retrieve what current) code = let a = one (code == 420) (Asks (h
 code_size v at command code = omega arith
 
 -- an answer says three, and one for each line
-answer_size : (how : Marks) (v : Visible) (at : Position) (p : Asked) (a : Response) → size (facts_of how v at p a) ≤ lines_in a + 3
+pub answer_size : (how : Marks) (v : Visible) (at : Position) (p : Asked) (a : Response) → size (facts_of how v at p a) ≤ lines_in a + 3
 answer_size how v at (to command) (plain code) = let c = code_size v at command code in omega arith
 answer_size how v at (to (group word)) (group_is m name) = omega arith
 answer_size how v at (to (list_group word range)) (numbers_are m name lines) = let few = listed_numbers-few lines in omega arith

@@ -20,7 +20,7 @@ use Rattle.nntp_facts.specs.Together.{IsWellFormed, Together, Join}
 use Rattle.nntp_facts.specs.Permits.{SomePermits}
 use Rattle.nntp_facts.specs.Classes.{visible_from, position_from}
 use Rattle.nntp_facts.specs.Kept.{Kept, IsKept, AreAdded}
-use Rattle.nntp_facts.specs.Saying.{Saying, IsSelectedShown, Tells, numbers_listed}
+use Rattle.nntp_facts.specs.Saying.{Saying, IsSelectedShown, Tells, TellsHere, numbers_listed}
 use Rattle.nntp_facts.specs.Noted.{FactsKept, HasNoted, said_by, IsDue, ArePermitted, IsNoted}
 use Rattle.nntp_facts.specs.declared.noted.Noted.TheVariants.{Consistent, OutOfPlace, Contradiction}
 use Rattle.nntp_facts.proofs.Members.{all_both}
@@ -136,7 +136,7 @@ pub weighed : (profile used : Profile) (facts old : FactsKept) (past : List Pair
     → asked ≡ asked_at pair.line → response ≡ pair.response → used ≡ profile_of facts.limit facts.marks → does ≡ fits used facts.visible asked response → does ≡ true
     → name ≡ here facts.visible → numbers ≡ numbers_listed response
     → ((profile : Profile) (v : Visible) (all : List Fact) → IsTrue (fits profile v asked response) → IsSelectedShown v all → name ≡ here v → numbers ≡ numbers_listed response
-    → Tells all saying (facts_of facts.marks v facts.position asked response))
+    → TellsHere name all saying (facts_of facts.marks v facts.position asked response))
     → Weighed profile facts pair saying
 weighed profile used facts old past pair asked response saying name numbers does is s due low few spelled to by judged tested fitting named listed tells =
     let fits_it = tested_it profile used facts past pair asked response does s to by judged tested ∙ fitting in
@@ -149,7 +149,7 @@ weighed profile used facts old past pair asked response saying name numbers does
       tells = λ all shown.
           subst (λ (profile : Profile). Tells all saying (said_next profile facts pair)) s.profile_is
           (subst (Tells all saying) (ap₂ (λ asked response. facts_of facts.marks facts.visible facts.position asked response) to by)
-          (tells profile facts.visible all (ap₂ (λ asked response. fits profile facts.visible asked response) to by ∙ fits_it) shown named listed));
+          (tells profile facts.visible all (ap₂ (λ asked response. fits profile facts.visible asked response) to by ∙ fits_it) shown named listed).tells);
     }
 
 -- some spool permits it exactly if what it says joins what was said

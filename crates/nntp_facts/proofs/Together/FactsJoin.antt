@@ -1,6 +1,6 @@
 -- More facts behind those that stand together.
 use Rattle.nntp_wire.specs.declared.marks.Marks.{Marks}
-use Rattle.std.proofs.Common.{◌≡◌, ℕ, ◌<◌, ◌^◌, ◌↔◌, Bool, true, false, ◌||◌, ◌==◌, not, IsTrue, List, [], ◌∷◌, ◌++◌, Option, Some, refl, sym, subst, ◌∙◌}
+use Rattle.std.proofs.Common.{◌≡◌, ℕ, ◌<◌, ◌^◌, ◌↔◌, Bool, true, false, ◌==◌, not, IsTrue, List, [], ◌∷◌, ◌++◌, Option, Some, refl, sym, subst, ◌∙◌}
 use Rattle.std.specs.Prelude.{if◌then◌else◌}
 use Rattle.std.specs.List.{AllByRecursion, list_any}
 use Rattle.std.specs.Option.{option_map_or}
@@ -73,7 +73,7 @@ together_more facts more t w = (
 
 -- ---- what an answer says agrees with itself
 
-none_agrees : AgreeWithin []
+pub none_agrees : AgreeWithin []
 none_agrees = record { groups = λ name s. refl; ids = λ name n. tt; ids_once = λ name id. tt; articles = λ id s. refl; heads = λ id. tt; bodies = λ id. tt }
 
 ask_agrees : (name : Name) (ask : Ask) → AgreeWithin (Asks name ask ∷ [])
@@ -92,7 +92,7 @@ no_group_agrees name = record {
 no_article_agrees : (id : Id) → AgreeWithin (NoArticle id ∷ [])
 no_article_agrees id = record { groups = λ g s. refl; ids = λ g n. (tt, tt); ids_once = λ g i. (tt, tt); articles = λ i s. absurd (true≢false (sym s)); heads = λ i. (tt, tt); bodies = λ i. (tt, tt) }
 
-group_agrees : (name : Name) (ask : Ask) → AgreeWithin (ThereIs name ∷ Asks name ask ∷ [])
+pub group_agrees : (name : Name) (ask : Ask) → AgreeWithin (ThereIs name ∷ Asks name ask ∷ [])
 group_agrees name ask = record {
   groups = λ g s. refl;
   ids = λ g n. (tt, (tt, tt));

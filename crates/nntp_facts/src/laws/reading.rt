@@ -1,5 +1,6 @@
 //! Laws of the reading of two streams, which goes on behind bad answers.
 ghost use Rattle.std.specs.Prelude.{◌≡◌, ℕ, ◌↔◌, ◌≤◌, ◌<◌, ◌^◌, List, [], ◌∷◌, ◌++◌, length, map, Some};
+ghost use Rattle.std.specs.List.{AllByRecursion};
 ghost use Rattle.nntp_article.specs.Session.Spool.{Spool};
 ghost use Rattle.nntp_article.specs.declared.session.profile.Profile.{Profile};
 ghost use Rattle.nntp_article.specs.Session.Explains.{Explains};
@@ -10,6 +11,7 @@ ghost use Rattle.nntp_facts.specs.declared.class.Class.{Class};
 ghost use Rattle.nntp_facts.specs.declared.class.Class.TheVariants.{OutOfPlace, Contradiction};
 ghost use Rattle.nntp_facts.specs.declared.noted.Noted.TheVariants.{Consistent, OutOfPlace as NotedOutOfPlace, Contradiction as NotedContradiction};
 ghost use Rattle.nntp_facts.specs.Classes.{class_of};
+ghost use Rattle.nntp_facts.specs.Conflict.{placed_of, placed_behind, FitsThere, SomeHas, told_with, below};
 ghost use Rattle.nntp_facts.specs.Noted.{FactsKept, HasNoted, IsNoted, IsDue, ArePermitted};
 ghost use Rattle.nntp_facts.specs.Outcome.{No, IsOutcome};
 ghost use Rattle.nntp_facts.specs.Reading.{Judged, Accepted, Refused, accepted_of, accepted_with, IsJudged, AreJudged, class_behind, IsReading};
@@ -74,4 +76,15 @@ pub fn noted_exchange_is_judged()
     ensures contradiction { (profile : Profile) (past : List Paired) (pair : Paired) (old new : FactsKept) (before after : Unpaired)
         → HasNoted profile old past → IsNoted profile past pair old new NotedContradiction → IsNext before pair after
         → IsJudged profile past before (Refused pair) after × (class_behind profile past (Refused pair) ≡ Some Contradiction) }
+{}
+
+/// The accepted exchanges fit where they stand, and so does one that contradicts them, which no
+/// spool has with them. So [`Core::find`](crate::Core::find) may be called.
+pub fn noted_contradiction_conflicts()
+    ensures next { (past : List Paired) (pair : Paired) → placed_of (past ++ pair ∷ []) ≡ placed_of past ++ placed_behind past pair ∷ [] }
+    ensures accepted { (profile : Profile) (facts : FactsKept) (past : List Paired) → HasNoted profile facts past → AllByRecursion (FitsThere profile) (placed_of past) }
+    ensures contradiction { (profile : Profile) (past : List Paired) (pair : Paired) (old new : FactsKept)
+        → HasNoted profile old past → IsDue old pair → IsNoted profile past pair old new NotedContradiction
+        → FitsThere profile (placed_behind past pair)
+        × (SomeHas profile (told_with profile (placed_behind past pair) (placed_of past) (below (length (placed_of past)))) → ⊥) }
 {}

@@ -1,50 +1,79 @@
 //! The groups of LIST ACTIVE (RFC 3977, section 7.6.3).
-ghost use Rattle.std.specs.Prelude.{◌≡◌, ◌==◌, ◌&&◌, ◌||◌, ◌+◌, nat_le, true, IfOk};
-ghost use Rattle.std.specs.List.{list_all};
+ghost use Rattle.std.specs.Prelude.{◌≡◌, IfOk, map, []};
 ghost use Rattle.nntp_wire.specs.Listing.{active_groups};
+ghost use Rattle.nntp_wire.specs.Reason.{first};
 ghost use Rattle.nntp_wire.specs.View.{active_value};
-ghost use Rattle.nntp_article.specs.Session.Machine.{active_fits, names_differ};
+ghost use Rattle.nntp_article.specs.Session.Misfit.{active_marks_misfit, active_misfit, twice_misfit};
+ghost use Rattle.nntp_article.specs.Session.MisfitView.{why_if};
 
+use crate::session::misfit::Misfit;
 use crate::session::profile::Profile;
 use nntp_wire::{ActiveLine, Block, Wildmat, matches_if_given};
 use std::alloc::{AllocError, Allocator};
 use std::collections::BTreeSet;
 
-/// Whether the marks of a listed group are well formed and within the limit.
-fn are_marks(profile: Profile, low: u64, high: u64) -> bool
-    ensures { result ≡ ((low == 0 && high == 0) || (nat_le 1 low && nat_le low (high + 1) && nat_le high profile.limit)) }
+/// Why the marks of a listed group don't fit, if they don't.
+fn active_marks_misfit<'a>(profile: Profile, group: &ActiveLine<'a>) -> Option<Misfit<'a>>
+    ensures { why_if result ≡ active_marks_misfit profile (active_value group.now) }
 {
-    (low == 0 && high == 0) || (low >= 1 && low - 1 <= high && high <= profile.limit)
+    if group.low == 0 && group.high == 0 {
+        return None;
+    }
+    if group.low < 1 || group.low - 1 > group.high {
+        return Some(Misfit::WrongMarks(group.name.as_slice()));
+    }
+    if group.high > profile.limit {
+        return Some(Misfit::BeyondLimit(group.high));
+    }
+    None
 }
 
-/// Whether a listed group fits the command.
-fn fits_group(profile: Profile, wildmat: &Option<Wildmat<'_>>, group: &ActiveLine<'_>) -> bool
-    ensures { result ≡ active_fits profile wildmat.now (active_value group.now) }
+/// Why a listed group doesn't fit the command, if it doesn't.
+fn active_misfit<'a>(
+    profile: Profile,
+    wildmat: &Option<Wildmat<'_>>,
+    group: &ActiveLine<'a>,
+) -> Option<Misfit<'a>>
+    ensures { why_if result ≡ active_misfit profile wildmat.now (active_value group.now) }
 {
-    are_marks(profile, group.low, group.high) && matches_if_given(wildmat, &group.name)
+    if let Some(why) = active_marks_misfit(profile, group) {
+        return Some(why);
+    }
+    if !matches_if_given(wildmat, &group.name) {
+        return Some(Misfit::Unmatched(group.name.as_slice()));
+    }
+    None
 }
 
-/// Whether each listed group fits the command.
-pub(crate) fn fit_groups(profile: Profile, wildmat: &Option<Wildmat<'_>>, block: &Block<'_>) -> bool
-    ensures { result ≡ list_all (active_fits profile wildmat.now) (active_groups block.now) }
+/// Why one of the listed groups doesn't fit the command, if there is one: of the first such group.
+pub(crate) fn groups_misfit<'a>(
+    profile: Profile,
+    wildmat: &Option<Wildmat<'_>>,
+    block: &Block<'a>,
+) -> Option<Misfit<'a>>
+    ensures { why_if result ≡ first (map (active_misfit profile wildmat.now) (active_groups block.now)) }
 {
-    block
-        .groups()
-        .all(|group| fits_group(profile, wildmat, &group))
+    for group in block.groups() {
+        if let Some(why) = active_misfit(profile, wildmat, &group) {
+            return Some(why);
+        }
+    }
+    None
 }
 
-/// Whether no group is listed twice.
-pub(crate) fn names_differ<A: Allocator + Copy>(
+/// The first group that an earlier line lists too, if there is one.
+pub(crate) fn twice_misfit<'a, A: Allocator + Copy>(
     alloc: A,
-    block: &Block<'_>,
-) -> Result<bool, AllocError>
-    ensures { IfOk result (λ differ. differ ≡ names_differ (active_groups block.now)) }
+    block: &Block<'a>,
+) -> Result<Option<Misfit<'a>>, AllocError>
+    ensures { IfOk result (λ reason. why_if reason ≡ twice_misfit [] (active_groups block.now)) }
 {
     let mut names = BTreeSet::new(alloc);
     for group in block.groups() {
-        if !names.insert(group.name.as_slice())? {
-            return Ok(false);
+        let name = group.name.as_slice();
+        if !names.insert(name)? {
+            return Ok(Some(Misfit::ListedTwice(name)));
         }
     }
-    Ok(true)
+    Ok(None)
 }

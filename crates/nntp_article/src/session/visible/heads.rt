@@ -1,9 +1,12 @@
 //! What is sent of an article, and the id that its head says (RFC 3977, section 6.2).
-ghost use Rattle.std.specs.Prelude.{◌≡◌, ◌&&◌};
-ghost use Rattle.nntp_article.specs.Article.Parts.{is_head};
-ghost use Rattle.nntp_article.specs.Session.Machine.{is_same, head_fits, says_own_id};
+ghost use Rattle.std.specs.Prelude.{◌≡◌};
+ghost use Rattle.nntp_article.specs.Article.Parts.{said_id};
+ghost use Rattle.nntp_article.specs.Session.Machine.{is_same};
+ghost use Rattle.nntp_article.specs.Session.Misfit.{said_misfit, head_misfit};
+ghost use Rattle.nntp_article.specs.Session.MisfitView.{why_if};
 
 use crate::article::{Head, Parts};
+use crate::session::misfit::Misfit;
 use nntp_wire::{Block, What};
 
 /// Whether these are the same octets.
@@ -13,37 +16,37 @@ pub(crate) fn is_same(name: &[u8], word: &[u8]) -> bool
     name == word
 }
 
-fn says_own_id(id: &[u8], head: &Head<'_>) -> bool
-    ensures { result ≡ says_own_id id.now head.now }
+/// Why the head can't be that of the article of this id, if it can't.
+fn said_misfit<'a>(id: &[u8], head: &Head<'a>) -> Option<Misfit<'a>>
+    ensures { why_if result ≡ said_misfit id.now (said_id head.now) }
 {
-    match head.message_id() {
-        Some(said) => is_same(said.as_slice(), id),
-        None => true,
+    let said = head.message_id()?;
+    if is_same(said.as_slice(), id) {
+        return None;
     }
+    Some(Misfit::OtherId(said.as_slice()))
 }
 
-/// Whether the lines are a head that says this id or none.
-fn is_head_of(id: &[u8], lines: &Block<'_>) -> bool
-    ensures { result ≡ (is_head lines.now && says_own_id id.now lines.now) }
+/// Why what is sent isn't the part that was asked for, if it isn't.
+pub(crate) fn head_misfit<'a>(
+    what: What,
+    id: &[u8],
+    block: &Option<Block<'a>>,
+) -> Option<Misfit<'a>>
+    ensures { why_if result ≡ head_misfit what id.now block.now }
 {
-    match Head::parse(lines) {
-        Some(head) => says_own_id(id, &head),
-        None => false,
-    }
-}
-
-/// Whether what is sent has the parts that were asked for, and its head says the answered id or none.
-pub(crate) fn fits_head(what: What, id: &[u8], block: &Option<Block<'_>>) -> bool
-    ensures { result ≡ head_fits what id.now block.now }
-{
-    match (what, block) {
+    let head = match (what, block) {
         (What::Article, Some(lines)) => match Parts::split(lines) {
-            Some(parts) => is_head_of(id, &parts.head),
-            None => false,
+            Some(parts) => Head::parse(&parts.head),
+            None => None,
         },
-        (What::Head, Some(lines)) => is_head_of(id, lines),
-        (What::Body, Some(_)) => true,
-        (What::Stat, None) => true,
-        _ => false,
+        (What::Head, Some(lines)) => Head::parse(lines),
+        (What::Body, Some(_)) => return None,
+        (What::Stat, None) => return None,
+        _ => None,
+    };
+    match head {
+        Some(head) => said_misfit(id, &head),
+        None => Some(Misfit::NoHead),
     }
 }

@@ -1,7 +1,10 @@
 //! The marks of a 211 (RFC 3977, section 6.1.1).
 ghost use Rattle.std.specs.Prelude.{◌≡◌};
-ghost use Rattle.nntp_article.specs.Session.Machine.{are_zeros, marks_fit};
+ghost use Rattle.nntp_article.specs.Session.Machine.{are_zeros};
+ghost use Rattle.nntp_article.specs.Session.Misfit.{marks_misfit};
+ghost use Rattle.nntp_article.specs.Session.MisfitView.{why_if};
 
+use crate::session::misfit::Misfit;
 use crate::session::profile::Profile;
 use crate::session::visible::Visible;
 use nntp_wire::WaterMarks;
@@ -15,23 +18,36 @@ pub(crate) fn are_zeros(marks: WaterMarks) -> bool
 }
 
 impl<A: Allocator> Visible<A> {
-    /// Whether the marks are well formed, within the limit, and not below an earlier low mark of the
-    /// name.
-    pub(crate) fn fits_marks(&self, profile: Profile, name: &[u8], marks: WaterMarks) -> bool
-        ensures { result ≡ marks_fit profile self.now name.now marks }
+    /// Why the marks don't fit, if they don't.
+    pub(crate) fn marks_misfit<'a>(
+        &self,
+        profile: Profile,
+        name: &'a [u8],
+        marks: WaterMarks,
+    ) -> Option<Misfit<'a>>
+        ensures { why_if result ≡ marks_misfit profile self.now name.now marks }
     {
         if are_zeros(marks) {
-            return true;
+            return None;
         }
         let WaterMarks {
             estimate,
             low,
             high,
         } = marks;
-        low >= 1
-            && high <= profile.limit
-            && low - 1 <= high
-            && estimate <= high - (low - 1)
-            && self.low(name).unwrap_or(0) <= low
+        if low < 1 {
+            return Some(Misfit::WrongMarks(name));
+        }
+        if high > profile.limit {
+            return Some(Misfit::BeyondLimit(high));
+        }
+        if low - 1 > high || estimate > high - (low - 1) {
+            return Some(Misfit::WrongMarks(name));
+        }
+        let earlier = self.low(name).unwrap_or(0);
+        if earlier > low {
+            return Some(Misfit::BelowLow(earlier));
+        }
+        None
     }
 }

@@ -1,11 +1,13 @@
 //! Article numbers of answers (RFC 3977, section 6.1).
-ghost use Rattle.std.specs.Prelude.{◌≡◌, ◌&&◌, nat_lt, true, is_some};
-ghost use Rattle.std.specs.List.{list_all};
-ghost use Rattle.std.specs.Option.{option_map_or};
+ghost use Rattle.std.specs.Prelude.{◌≡◌, is_some, map, None};
 ghost use Rattle.nntp_wire.specs.View.{target};
 ghost use Rattle.nntp_wire.specs.Listing.{listed_numbers};
-ghost use Rattle.nntp_article.specs.Session.Machine.{is_article_number, is_in_range, is_ascending, number_fits};
+ghost use Rattle.nntp_wire.specs.Reason.{first};
+ghost use Rattle.nntp_article.specs.Session.Machine.{is_article_number, is_in_range};
+ghost use Rattle.nntp_article.specs.Session.Misfit.{step_misfit, order_misfit, listed_misfit, selected_misfit, id_misfit, target_misfit};
+ghost use Rattle.nntp_article.specs.Session.MisfitView.{why, why_if};
 
+use crate::session::misfit::Misfit;
 use crate::session::profile::Profile;
 use crate::session::visible::Visible;
 use crate::session::visible::heads::is_same;
@@ -29,42 +31,54 @@ fn is_in_range(range: Range, number: u64) -> bool
         }
 }
 
-fn is_article_number_in_range(limit: u64, range: Range, number: u64) -> bool
-    ensures { result ≡ (is_article_number limit number && is_in_range range number) }
+/// Why a listed number can't follow the one before it, if it can't.
+fn step_misfit(before: Option<u64>, number: u64) -> Option<Misfit<'static>>
+    ensures { why_if result ≡ step_misfit before number }
 {
-    is_article_number(limit, number) && is_in_range(range, number)
-}
-
-/// Whether the listed numbers are article numbers within the range.
-pub(crate) fn are_in_range(limit: u64, range: Range, block: &Block<'_>) -> bool
-    ensures { result ≡ list_all (λ n. is_article_number limit n && is_in_range range n) (listed_numbers block.now) }
-{
-    block
-        .numbers()
-        .all(|number| is_article_number_in_range(limit, range, number))
-}
-
-fn is_above(before: Option<u64>, number: u64) -> bool
-    ensures { result ≡ option_map_or (λ m. nat_lt m number) before true }
-{
-    match before {
-        Some(before) => before < number,
-        None => true,
+    let before = before?;
+    if before < number {
+        return None;
     }
+    Some(Misfit::NotAbove { before, number })
 }
 
-/// Whether each listed number is greater than the one before it.
-pub(crate) fn is_ascending(block: &Block<'_>) -> bool
-    ensures { result ≡ is_ascending (listed_numbers block.now) }
+/// Why the listed numbers don't ascend, if they don't.
+pub(crate) fn order_misfit(block: &Block<'_>) -> Option<Misfit<'static>>
+    ensures { why_if result ≡ order_misfit None (listed_numbers block.now) }
 {
     let mut before = None;
     for number in block.numbers() {
-        if !is_above(before, number) {
-            return false;
+        if let Some(why) = step_misfit(before, number) {
+            return Some(why);
         }
         before = Some(number);
     }
-    true
+    None
+}
+
+/// Why a number can't be listed, if it can't.
+fn listed_misfit(limit: u64, range: Range, number: u64) -> Option<Misfit<'static>>
+    ensures { why_if result ≡ listed_misfit limit range number }
+{
+    if !is_article_number(limit, number) {
+        return Some(Misfit::BeyondLimit(number));
+    }
+    if !is_in_range(range, number) {
+        return Some(Misfit::BeyondRange(number));
+    }
+    None
+}
+
+/// Why one of the listed numbers can't be listed, if there is one: of the first such number.
+pub(crate) fn range_misfit(limit: u64, range: Range, block: &Block<'_>) -> Option<Misfit<'static>>
+    ensures { why_if result ≡ first (map (listed_misfit limit range) (listed_numbers block.now)) }
+{
+    for number in block.numbers() {
+        if let Some(why) = listed_misfit(limit, range, number) {
+            return Some(why);
+        }
+    }
+    None
 }
 
 impl<A: Allocator> Visible<A> {
@@ -74,22 +88,71 @@ impl<A: Allocator> Visible<A> {
         self.selected.is_some()
     }
 
-    /// Whether the number and the id of a success fit what was asked.
-    pub(crate) fn fits_number(
+    /// Why a number isn't that of an article of the selected group, if it isn't. The code is at fault
+    /// where no group is selected.
+    pub(crate) fn selected_misfit<'a>(
         &self,
         profile: Profile,
+        wrong_code: Misfit<'a>,
+        number: u64,
+    ) -> Option<Misfit<'a>>
+        ensures { why_if result ≡ selected_misfit profile self.now (why wrong_code.entry) number }
+    {
+        if !self.is_selected() {
+            return Some(wrong_code);
+        }
+        if !is_article_number(profile.limit, number) {
+            return Some(Misfit::BeyondLimit(number));
+        }
+        None
+    }
+
+    /// Why the number and the id of a success aren't those that were asked for, if they aren't.
+    pub(crate) fn target_misfit<'a>(
+        &self,
+        profile: Profile,
+        wrong_code: Misfit<'a>,
         which: &Which<'_>,
         number: u64,
-        id: &[u8],
-    ) -> bool
-        ensures { result ≡ number_fits profile self.now (target which.now) number id.now }
+        id: &'a [u8],
+    ) -> Option<Misfit<'a>>
+        ensures { why_if result ≡ target_misfit profile self.now (why wrong_code.entry) (target which.now) number id.now }
     {
-        let is_known = self.is_selected() && is_article_number(profile.limit, number);
         match which {
-            Which::Id(word) => is_same(id, *word) && (number == 0 || is_known),
-            Which::Number(None) => false,
-            Which::Number(Some(asked)) => number == *asked && is_known,
-            Which::Current => is_known,
+            Which::Id(word) => self.id_misfit(profile, *word, number, id),
+            Which::Number(None) => Some(wrong_code),
+            Which::Number(Some(asked)) => {
+                if self.is_selected() && number != *asked {
+                    return Some(Misfit::WrongNumber(number));
+                }
+                self.selected_misfit(profile, wrong_code, *asked)
+            }
+            Which::Current => self.selected_misfit(profile, wrong_code, number),
         }
+    }
+
+    /// Why the number and the id of a success don't answer the word of an id, if they don't.
+    fn id_misfit<'a>(
+        &self,
+        profile: Profile,
+        word: &[u8],
+        number: u64,
+        id: &'a [u8],
+    ) -> Option<Misfit<'a>>
+        ensures { why_if result ≡ id_misfit profile self.now word.now number id.now }
+    {
+        if !is_same(id, word) {
+            return Some(Misfit::WrongId(id));
+        }
+        if number == 0 {
+            return None;
+        }
+        if !self.is_selected() {
+            return Some(Misfit::WrongNumber(number));
+        }
+        if !is_article_number(profile.limit, number) {
+            return Some(Misfit::BeyondLimit(number));
+        }
+        None
     }
 }

@@ -39,5 +39,5 @@ pub returns-in-End : goal.returns-in-End
 returns-in-End g c =
     told_of c.ended.result _ _ c.ended.ensures
     (λ v h. h c.args.limit c.args.marks c.args.client.now c.args.server.now c.loop-exchange.pairs c.in-End.unanswered
-    c.loop-exchange.invariant (c.index.ensures
+    c.loop-exchange.invariant (c.index.ensures.value
     ∙ ap (λ (p : Unpaired). p.index) c.in-End.ensures.step.1) c.in-End.ensures.step.0)

@@ -2,6 +2,7 @@ use Rattle.nntp_facts.specs.Conflict.{below}
 use Rattle.std.proofs.Common.{◌++◌}
 use Rattle.nntp_facts.proofs.Members.{contains_in, in_contains}
 use Rattle.nntp_facts.proofs.Conflicts.{core_start, core_step, core_done, found_in_each}
+use Rattle.nntp_facts.proofs.Keeping.CoresFound.{one_below}
 use Rattle.nntp_facts.proofs.laws.core_is_found.Goals as goal
 
 pub returns : goal.returns
@@ -11,4 +12,5 @@ returns c = record {
   in_each = λ profile bad answers bound places some k p among none i.
       contains_in k some (found_in_each profile bad answers bound places some k p (λ j t. in_contains j (below bound ++ places) (among j (contains_in j some t))) none (in_contains k places i));
   done = core_done;
+  rest = one_below;
 }

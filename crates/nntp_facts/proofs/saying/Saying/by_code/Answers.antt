@@ -4,7 +4,7 @@ use Rattle.nntp_wire.specs.Answer.{to, plain}
 use Rattle.nntp_article.specs.Session.Machine.{fits}
 use Rattle.nntp_facts.specs.Asks.{IsBottom, IsTop, StandsNowhere}
 use Rattle.nntp_facts.specs.Facts.{Asks, here, facts_of_code}
-use Rattle.nntp_facts.specs.Saying.{Tells}
+use Rattle.nntp_facts.specs.Saying.{TellsHere}
 use Rattle.nntp_facts.specs.SayingView.{saying_of}
 use Rattle.nntp_facts.proofs.Keeping.SayingRows.{tells_numbers, tells_nothing}
 use Rattle.nntp_facts.proofs.saying.Saying.by_code.Goals as goal
@@ -27,7 +27,7 @@ pub returns-in-Retrieve-default : goal.returns-in-Retrieve-default
 returns-in-Retrieve-default c profile v facts may shown is =
     let asked = ap request c.in-Retrieve-default.is-0 in
     let fitting = subst (λ asked. IsTrue (fits profile v (to asked) (plain c.args.code))) asked may in
-    subst (λ asked. Tells facts (saying_of c.by_failure.result) (facts_of_code v c.args.at asked c.args.code)) (sym asked)
+    subst (λ asked. TellsHere c.args.selected.now facts (saying_of c.by_failure.result) (facts_of_code v c.args.at asked c.args.code)) (sym asked)
     (c.by_failure.ensures profile v facts c.in-Retrieve-default.what-0 fitting shown is)
 
 pub returns-in-Next-eq420 : goal.returns-in-Next-eq420

@@ -10,7 +10,7 @@ use Rattle.nntp_article.specs.Session.Machine.{fits}
 use Rattle.nntp_facts.specs.Asks.{Estimates, ListsIn, StepsDown, StepsUp}
 use Rattle.nntp_facts.specs.Facts.{Asks, GroupsAre, IdAt, ThereIs, here, facts_of}
 use Rattle.nntp_facts.specs.Part.{AreListable}
-use Rattle.nntp_facts.specs.Saying.{Tells}
+use Rattle.nntp_facts.specs.Saying.{TellsHere}
 use Rattle.nntp_facts.specs.SayingView.{saying_of}
 use Rattle.nntp_facts.proofs.Session.FittingAnswers.{groups_may_list, numbers_listable, step_placed}
 use Rattle.nntp_facts.proofs.Keeping.SayingRows.{tells_groups, tells_list, tells_marks, tells_step}
@@ -20,7 +20,7 @@ pub returns-in_default-Plain : goal.returns-in_default-Plain
 returns-in_default-Plain c profile v facts may shown is numbers =
     let says = ap response c.in_default-Plain.is-1 in
     let asked : Asked = to (request c.args.command.now) in
-    subst (λ r. Tells facts (saying_of c.by_code.result) (facts_of c.args.how v c.args.at asked r)) (sym says)
+    subst (λ r. TellsHere c.args.selected.now facts (saying_of c.by_code.result) (facts_of c.args.how v c.args.at asked r)) (sym says)
     (c.by_code.ensures profile v facts (subst (λ r. IsTrue (fits profile v asked r)) says may) shown is)
 
 pub returns-in-Group-Group : goal.returns-in-Group-Group
@@ -29,7 +29,7 @@ returns-in-Group-Group c profile v facts may shown is numbers =
     let m : WaterMarks = c.in-Group-Group.marks in
     let name = c.in-Group-Group.name in
     let same : (ThereIs name ∷ Asks name (Estimates c.args.how m) ∷ []) ≡ more = search rules in
-    tells_marks facts name _ c.args.how m _ more c.of_marks.ensures.says c.of_marks.ensures.bounded c.selects.ensures same
+    tells_marks facts name _ c.args.how m _ more c.of_marks.ensures.says c.of_marks.ensures.bounded c.selects.ensures.says same
 
 pub returns-in-ListGroup-Numbers : goal.returns-in-ListGroup-Numbers
 returns-in-ListGroup-Numbers c profile v facts may shown is numbers =
@@ -40,7 +40,7 @@ returns-in-ListGroup-Numbers c profile v facts may shown is numbers =
     let fitting = subst (λ q. IsTrue (fits profile v (to q) (response c.args.answer.now))) (ap request w.is-0) may in
     let listable = subst (AreListable w.range) (sym numbers) (numbers_listable profile v (option_copied w.group-0) w.range (response c.args.answer.now) fitting) in
     let same : (ThereIs w.name ∷ Asks w.name (Estimates c.args.how m) ∷ Asks w.name (ListsIn w.range ns) ∷ []) ≡ more = search rules in
-    tells_list facts w.name _ c.args.how m w.range ns _ more (c.of_numbers.ensures.says listable) c.of_numbers.ensures.bounded c.selects-in-ListGroup-Numbers.ensures same
+    tells_list facts w.name _ c.args.how m w.range ns _ more (c.of_numbers.ensures.says listable) c.of_numbers.ensures.bounded c.selects-in-ListGroup-Numbers.ensures.says same
 
 pub returns-in-Next-Sent : goal.returns-in-Next-Sent
 returns-in-Next-Sent c profile v facts may shown is numbers =
@@ -68,9 +68,9 @@ returns-in-Retrieve-Sent c profile v facts may shown is numbers =
     let fits_command : IsTrue (fits profile v asked (response c.args.answer.now)) = subst (λ q. IsTrue (fits profile v (to (request q)) (response c.args.answer.now))) w.is-0 may in
     let fits_answer = subst (λ a. IsTrue (fits profile v asked (response a))) w.is-1 fits_command in
     let told = c.by_success.ensures profile how v facts _ fits_answer shown is in
-    let told_of_answer : Tells facts (saying_of c.by_success.result) (facts_of how v c.args.at asked (response c.args.answer.now)) =
-    subst (λ a. Tells facts (saying_of c.by_success.result) (facts_of how v c.args.at asked (response a))) (sym w.is-1) told in
-    subst (λ q. Tells facts (saying_of c.by_success.result) (facts_of how v c.args.at (to (request q)) (response c.args.answer.now))) (sym w.is-0) told_of_answer
+    let told_of_answer : TellsHere c.args.selected.now facts (saying_of c.by_success.result) (facts_of how v c.args.at asked (response c.args.answer.now)) =
+    subst (λ a. TellsHere c.args.selected.now facts (saying_of c.by_success.result) (facts_of how v c.args.at asked (response a))) (sym w.is-1) told in
+    subst (λ q. TellsHere c.args.selected.now facts (saying_of c.by_success.result) (facts_of how v c.args.at (to (request q)) (response c.args.answer.now))) (sym w.is-0) told_of_answer
 
 pub returns-in-ListActive-Active : goal.returns-in-ListActive-Active
 returns-in-ListActive-Active c profile v facts may shown is numbers =

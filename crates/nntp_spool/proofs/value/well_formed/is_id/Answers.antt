@@ -1,5 +1,5 @@
 use Rattle.nntp_wire.specs.Decided.{is_message_id}
-use Rattle.nntp_article.proofs.ArticleLemmas.ValuesByTests.{some-test}
+use Rattle.nntp_wire.proofs.ValuesByTests.{some-test}
 use Rattle.nntp_spool.proofs.value.well_formed.is_id.Goals as goal
 
 pub returns : goal.returns

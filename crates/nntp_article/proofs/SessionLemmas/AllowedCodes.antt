@@ -1,0 +1,74 @@
+-- The allowed codes fit.
+use Rattle.std.proofs.Common.{◌≡◌, ℕ, Bool, true, false, ◌==◌, IsTrue, IsFalse, Option, None, Some, List, [], ◌∷◌, inl, inr, refl, sym, subst}
+use Rattle.std.specs.Prelude.{⊤}
+use Rattle.std.specs.FinMap.{FinMap}
+use Rattle.std.specs.Ordering.{nat_cmp}
+use Rattle.std.specs.Cmp.Lexicographic.{slice_cmp}
+use Rattle.std.proofs.lemmas.Bool.{or_cases, eqb-true, true≢false}
+use Rattle.nntp_wire.specs.Answer.{Asked, greeting, to, plain}
+use Rattle.nntp_wire.specs.declared.command.What.{What}
+use Rattle.nntp_wire.specs.declared.command.What.TheVariants.{Article, Head, Body, Stat}
+use Rattle.nntp_wire.specs.Command.{Target, by_id, by_number, current, capabilities, mode_reader, quit, opaque, ill_formed, group, list_group, next, last, retrieve, list_active}
+use Rattle.nntp_article.specs.Session.Spool.{Name}
+use Rattle.nntp_article.specs.Session.Machine.{Visible, is_one_of, fits}
+use Rattle.nntp_article.specs.Session.Misfit.{allowed_codes, is_success}
+use Rattle.nntp_article.specs.declared.session.profile.Profile.{Profile}
+
+-- each of the codes has the property
+abbrev Each : (ℕ → Type 0) → List ℕ → Type 0
+Each P [] = ⊤
+Each P (c ∷ cs) = P c × Each P cs
+
+of_each : (P : ℕ → Type 0) (cs : List ℕ) (code : ℕ) → Each P cs → is_one_of cs code ≡ true → P code
+of_each P [] code each h = absurd (true≢false (sym h))
+of_each P (c ∷ cs) code each h =
+    elim (or_cases (c == code) (is_one_of cs code) h) [ inl e ↦ subst P (eqb-true c code e) each.0 | inr e ↦ of_each P cs code each.1 e ]
+
+-- the code fits by itself, unless more is due with it
+abbrev Fits : Profile → Visible → Asked → ℕ → Type 0
+Fits profile v asked code = is_success asked code ≡ false → fits profile v asked (plain code) ≡ true
+
+module _ (profile : Profile) (closed : Bool) (lows : FinMap (slice_cmp nat_cmp) ℕ) where
+  abbrev with_selected : Option Name → Visible
+  with_selected selected = record { closed = closed; selected = selected; lows = lows }
+
+  retrieved : (what : What) (selected : Option Name) (which : Target)
+      → Each (Fits profile (with_selected selected) (to (retrieve what which))) (allowed_codes (with_selected selected) (to (retrieve what which)))
+  retrieved Article selected (by_id word) = (λ e. absurd (true≢false e), (λ e. refl, tt))
+  retrieved Head selected (by_id word) = (λ e. absurd (true≢false e), (λ e. refl, tt))
+  retrieved Body selected (by_id word) = (λ e. absurd (true≢false e), (λ e. refl, tt))
+  retrieved Stat selected (by_id word) = (λ e. absurd (true≢false e), (λ e. refl, tt))
+  retrieved what None (by_number None) = (λ e. refl, tt)
+  retrieved what (Some name) (by_number None) = (λ e. refl, tt)
+  retrieved what None (by_number (Some n)) = (λ e. refl, tt)
+  retrieved Article (Some name) (by_number (Some n)) = (λ e. absurd (true≢false e), (λ e. refl, tt))
+  retrieved Head (Some name) (by_number (Some n)) = (λ e. absurd (true≢false e), (λ e. refl, tt))
+  retrieved Body (Some name) (by_number (Some n)) = (λ e. absurd (true≢false e), (λ e. refl, tt))
+  retrieved Stat (Some name) (by_number (Some n)) = (λ e. absurd (true≢false e), (λ e. refl, tt))
+  retrieved what None current = (λ e. refl, tt)
+  retrieved Article (Some name) current = (λ e. absurd (true≢false e), (λ e. refl, tt))
+  retrieved Head (Some name) current = (λ e. absurd (true≢false e), (λ e. refl, tt))
+  retrieved Body (Some name) current = (λ e. absurd (true≢false e), (λ e. refl, tt))
+  retrieved Stat (Some name) current = (λ e. absurd (true≢false e), (λ e. refl, tt))
+
+  each_allowed : (selected : Option Name) (asked : Asked) → Each (Fits profile (with_selected selected) asked) (allowed_codes (with_selected selected) asked)
+  each_allowed selected greeting = (λ e. refl, (λ e. refl, (λ e. refl, (λ e. refl, tt))))
+  each_allowed selected (to capabilities) = (λ e. refl, tt)
+  each_allowed selected (to mode_reader) = (λ e. refl, (λ e. refl, tt))
+  each_allowed selected (to quit) = (λ e. refl, tt)
+  each_allowed selected (to (group word)) = (λ e. absurd (true≢false e), (λ e. refl, tt))
+  each_allowed None (to (list_group None range)) = (λ e. refl, tt)
+  each_allowed (Some name) (to (list_group None range)) = (λ e. absurd (true≢false e), tt)
+  each_allowed selected (to (list_group (Some word) range)) = (λ e. absurd (true≢false e), (λ e. refl, tt))
+  each_allowed None (to next) = (λ e. refl, tt)
+  each_allowed (Some name) (to next) = (λ e. absurd (true≢false e), (λ e. refl, (λ e. refl, tt)))
+  each_allowed None (to last) = (λ e. refl, tt)
+  each_allowed (Some name) (to last) = (λ e. absurd (true≢false e), (λ e. refl, (λ e. refl, tt)))
+  each_allowed selected (to (retrieve what which)) = retrieved what selected which
+  each_allowed selected (to (list_active p)) = (λ e. absurd (true≢false e), tt)
+  each_allowed selected (to opaque) = (λ e. refl, tt)
+  each_allowed selected (to ill_formed) = tt
+
+pub allowed_fits : (profile : Profile) (v : Visible) (asked : Asked) (code : ℕ)
+    → IsTrue (is_one_of (allowed_codes v asked) code) → IsFalse (is_success asked code) → IsTrue (fits profile v asked (plain code))
+allowed_fits profile v asked code h = of_each (Fits profile v asked) (allowed_codes v asked) code (each_allowed profile v.closed v.lows v.selected asked) h

@@ -1,0 +1,313 @@
+-- What a reason names is at fault.
+use Rattle.std.proofs.Common.{◌≡◌, ℕ, ◌≤◌, Bool, true, false, not, ◌&&◌, ◌||◌, ◌==◌, Option, None}
+use Rattle.std.proofs.Common.{Some, is_some, MatchOption, List, [], ◌∷◌, ◌++◌, map, ◌⊎◌, inl, inr, refl, sym, ap, subst, arith}
+use Rattle.std.specs.Prelude.{⊤, ◌+◌, ◌-◌, nat_le, nat_lt, unwrap_or, option_map, if◌then◌else◌, IfSome}
+use Rattle.std.specs.List.{list_any}
+use Rattle.std.specs.Option.{option_map_or, option_or}
+use Rattle.std.specs.FinMap.{get}
+use Rattle.std.specs.Cmp.Lexicographic.{bytes_decides}
+use Rattle.std.proofs.lemmas.Bool.{true≢false, or_cases, leb-false, ltb-false}
+use Rattle.std.proofs.lemmas.Option.{IfSome_then}
+use Rattle.nntp_wire.specs.Answer.{Success, Asked, Response, greeting, to, group_is, numbers_are, sends, active_are, plain, success_code}
+use Rattle.nntp_wire.specs.declared.water_marks.WaterMarks.{WaterMarks}
+use Rattle.nntp_wire.specs.declared.command.What.{What}
+use Rattle.nntp_wire.specs.declared.command.What.TheVariants.{Article, Head, Body, Stat}
+use Rattle.nntp_wire.specs.Listing.{ActiveValue, listed_numbers, active_groups}
+use Rattle.nntp_wire.specs.Decided.{matches_name}
+use Rattle.nntp_wire.specs.Command.{Target, by_id, by_number, current, group, list_group, next, last, retrieve, list_active}
+use Rattle.nntp_wire.specs.Reason.{unless, first}
+use Rattle.nntp_wire.proofs.Reasons.{so_unless, so_first, so_each}
+use Rattle.nntp_article.specs.Article.Parts.{Line, Id, is_empty, is_head, said_id, head_part}
+use Rattle.nntp_article.specs.Session.Spool.{Name}
+use Rattle.nntp_article.specs.Session.Machine.{Visible, is_same, is_generic, is_greeting, is_article_number, are_zeros, is_in_range, code_fits}
+use Rattle.nntp_article.specs.Session.Misfit.{Misfit, wrong_code, wrong_name, wrong_number, wrong_id, below_low, wrong_marks, beyond_limit, not_above, beyond_range, unmatched}
+use Rattle.nntp_article.specs.Session.Misfit.{listed_twice, no_head, other_id, name_misfit, marks_misfit, step_misfit, order_misfit, listed_misfit}
+use Rattle.nntp_article.specs.Session.Misfit.{selected_misfit, target_misfit, said_misfit, head_misfit, active_misfit, twice_misfit, step_sent_misfit}
+use Rattle.nntp_article.specs.Session.Misfit.{code_misfit, misfit, allowed_codes, answered_code, marked_by, numbers_of, is_outside, is_unmatched, AreNeighbours, IsAbove}
+use Rattle.nntp_article.specs.Session.Misfit.{asked_group, asked_number, asked_id, sent_by, sent_head, names_of, IsTwice}
+use Rattle.nntp_article.specs.declared.session.profile.Profile.{Profile}
+
+so_if : (Q : Misfit → Type 0) (b : Bool) (o : Option Misfit) → IfSome o Q → IfSome (if b then None else o) Q
+so_if Q true o p = tt
+so_if Q false o p = p
+
+-- ---- numbers that don't ascend
+
+record Falls (numbers : List ℕ) (why : Misfit) : Type 0 where
+  before : ℕ
+  number : ℕ
+  is : why ≡ not_above before number
+  neighbours : AreNeighbours numbers before number
+  falls : number ≤ before
+
+so_order : (before : ℕ) (ns : List ℕ) → IfSome (order_misfit (Some before) ns) (Falls (before ∷ ns))
+so_order before [] = tt
+so_order before (n ∷ ns) =
+    so_first (Falls (before ∷ n ∷ ns)) (step_misfit (Some before) n) (order_misfit (Some n) ns ∷ [])
+    (so_unless _ (nat_lt before n) (not_above before n)
+    (λ e. record { before = before; number = n; is = refl; neighbours = record { front = []; behind = ns; whole = refl }; falls = ltb-false before n e }))
+    (so_first (Falls (before ∷ n ∷ ns)) (order_misfit (Some n) ns) [] (IfSome_then (order_misfit (Some n) ns) (so_order n ns) later) tt)
+  where
+    later : (why : Misfit) → Falls (n ∷ ns) why → Falls (before ∷ n ∷ ns) why
+    later why f = record {
+      before = f.before;
+      number = f.number;
+      is = f.is;
+      falls = f.falls;
+      neighbours = record { front = before ∷ f.neighbours.front; behind = f.neighbours.behind; whole = ap (λ rest. before ∷ rest) f.neighbours.whole };
+    }
+
+so_numbers : (ns : List ℕ) → IfSome (order_misfit None ns) (Falls ns)
+so_numbers [] = tt
+so_numbers (n ∷ ns) = so_first (Falls (n ∷ ns)) (order_misfit (Some n) ns) [] (so_order n ns) tt
+
+-- ---- each reason
+
+-- what the reason names is at fault
+abbrev pub Tells : Profile → Visible → Asked → Response → Misfit → Type 0
+Tells profile v asked response (wrong_code code allowed) = (code ≡ answered_code response) × (allowed ≡ allowed_codes v asked)
+Tells profile v asked response (below_low low) = MatchOption (marked_by response) ⊥ (IsAbove v low)
+Tells profile v asked response (beyond_limit n) = is_article_number profile.limit n ≡ false
+Tells profile v asked response (not_above before n) = AreNeighbours (numbers_of response) before n × (n ≤ before)
+Tells profile v asked response (beyond_range n) = is_outside asked n ≡ true
+Tells profile v asked response (unmatched name) = is_unmatched asked name ≡ true
+Tells profile v asked response (wrong_name name) =
+    MatchOption (marked_by response) ⊥ (λ marked. marked.0 ≡ name) × MatchOption (asked_group v asked) ⊥ (λ word. is_same name word ≡ false)
+Tells profile v asked response (wrong_number n) =
+    MatchOption (sent_by response) ⊥ (λ sent. sent.number ≡ n) × MatchOption (asked_number asked) (v.selected ≡ None) (λ k. (n == k) ≡ false)
+Tells profile v asked response (wrong_id id) =
+    MatchOption (sent_by response) ⊥ (λ sent. sent.id ≡ id) × MatchOption (asked_id asked) ⊥ (λ word. is_same id word ≡ false)
+Tells profile v asked response (listed_twice name) = IsTwice (names_of response) name
+Tells profile v asked response (other_id said) =
+    MatchOption (sent_head asked response) ⊥ (λ head. said_id head ≡ Some said) × MatchOption (sent_by response) ⊥ (λ sent. is_same said sent.id ≡ false)
+Tells profile v asked response (wrong_marks name) = ⊤
+Tells profile v asked response no_head = ⊤
+
+not_false : (b : Bool) → b ≡ false → not b ≡ true
+not_false b e = ap not e
+
+and_false : (a b : Bool) → b ≡ false → (a && b) ≡ false
+and_false true b e = e
+and_false false b e = refl
+
+or_false : (a b : Bool) → (a || b) ≡ false → b ≡ false
+or_false true b e = absurd (true≢false e)
+or_false false b e = e
+
+so_marks : (profile : Profile) (v : Visible) (asked : Asked) (response : Response) (name : Name) (m : WaterMarks) → marked_by response ≡ Some (name, m)
+    → IfSome (marks_misfit profile v name m) (Tells profile v asked response)
+so_marks profile v asked response name m is =
+    so_if Q (are_zeros m) _
+    (so_first Q _ _ (so_unless Q (nat_le 1 m.low) _ (λ e. tt))
+    (so_first Q _ _ (so_unless Q (nat_le m.high profile.limit) _ (λ e. and_false (nat_le 1 m.high) (nat_le m.high profile.limit) e))
+    (so_first Q _ _ (so_unless Q (nat_le m.low (m.high + 1) && nat_le m.estimate (m.high + 1 - m.low)) _ (λ e. tt))
+    (so_first Q _ _ (so_unless Q (nat_le (unwrap_or (get v.lows name) 0) m.low) _
+    (λ e. subst (λ o. MatchOption o ⊥ (IsAbove v (unwrap_or (get v.lows name) 0))) (sym is) (above (get v.lows name) refl e))) tt))))
+  where
+    Q : Misfit → Type 0
+    Q = Tells profile v asked response
+
+    above : (o : Option ℕ) → get v.lows name ≡ o → nat_le (unwrap_or o 0) m.low ≡ false → IsAbove v (unwrap_or o 0) (name, m)
+    above None got e = let below = leb-false 0 m.low e in absurd (omega arith)
+    above (Some low) got e = (got, leb-false low m.low e)
+
+so_selected : (profile : Profile) (v : Visible) (asked : Asked) (response : Response) (why : Misfit) (n : ℕ) → Tells profile v asked response why
+    → IfSome (selected_misfit profile v why n) (Tells profile v asked response)
+so_selected profile v asked response why n t =
+    so_first Q _ _ (so_unless Q (is_some v.selected) why (λ e. t)) (so_first Q _ _ (so_unless Q (is_article_number profile.limit n) (beyond_limit n) (λ e. e)) tt)
+  where
+    Q : Misfit → Type 0
+    Q = Tells profile v asked response
+
+none_some : (o : Option Name) → is_some o ≡ false → o ≡ None
+none_some None e = refl
+none_some (Some name) e = absurd (true≢false e)
+
+-- the reason is that of an article that is answered
+abbrev OfSent : Profile → Visible → What → Target → Success → Misfit → Type 0
+OfSent profile v what which sent = Tells profile v (to (retrieve what which)) (sends sent)
+
+so_target : (profile : Profile) (v : Visible) (what : What) (which : Target) (sent : Success) (why : Misfit) → OfSent profile v what which sent why
+    → IfSome (target_misfit profile v why which sent.number sent.id) (OfSent profile v what which sent)
+so_target profile v what (by_id word) sent why t =
+    so_first Q _ _ (so_unless Q (is_same sent.id word) (wrong_id sent.id) (λ e. (refl, e)))
+    (so_first Q _ _ (so_unless Q (sent.number == 0 || is_some v.selected) (wrong_number sent.number)
+    (λ e. (refl, none_some v.selected (or_false (sent.number == 0) (is_some v.selected) e))))
+    (so_first Q _ _ (so_unless Q (sent.number == 0 || is_article_number profile.limit sent.number) (beyond_limit sent.number)
+    (or_false (sent.number == 0) (is_article_number profile.limit sent.number))) tt))
+  where
+    Q : Misfit → Type 0
+    Q = OfSent profile v what (by_id word) sent
+so_target profile v what (by_number None) sent why t = t
+so_target profile v what (by_number (Some k)) sent why t =
+    so_first Q _ _ (so_unless Q (is_some v.selected) why (λ e. t))
+    (so_first Q _ _ (so_unless Q (sent.number == k) (wrong_number sent.number) (λ e. (refl, e)))
+    (so_first Q _ _ (so_unless Q (is_article_number profile.limit k) (beyond_limit k) (λ e. e)) tt))
+  where
+    Q : Misfit → Type 0
+    Q = OfSent profile v what (by_number (Some k)) sent
+so_target profile v what current sent why t = so_selected profile v (to (retrieve what current)) (sends sent) why sent.number t
+
+so_said : (profile : Profile) (v : Visible) (what : What) (which : Target) (sent : Success) (head : List Line) → sent_head (to (retrieve what which)) (sends sent) ≡ Some head
+    → (o : Option Id) → said_id head ≡ o → IfSome (said_misfit sent.id o) (OfSent profile v what which sent)
+so_said profile v what which sent head is None says = tt
+so_said profile v what which sent head is (Some said) says =
+    so_unless (OfSent profile v what which sent) (is_same said sent.id) (other_id said)
+    (λ e. (subst (λ o. MatchOption o ⊥ (λ head. said_id head ≡ Some said)) (sym is) says, e))
+
+so_parsed : (profile : Profile) (v : Visible) (what : What) (which : Target) (sent : Success) (b : Bool) (head : List Line) → sent_head (to (retrieve what which)) (sends sent) ≡ Some head
+    → IfSome (first (unless b no_head ∷ said_misfit sent.id (said_id head) ∷ [])) (OfSent profile v what which sent)
+so_parsed profile v what which sent b head is =
+    so_first Q (unless b no_head) (said_misfit sent.id (said_id head) ∷ []) (so_unless Q b no_head (λ e. tt))
+    (so_first Q (said_misfit sent.id (said_id head)) [] (so_said profile v what which sent head is (said_id head) refl) tt)
+  where
+    Q : Misfit → Type 0
+    Q = OfSent profile v what which sent
+
+so_head : (profile : Profile) (v : Visible) (what : What) (which : Target) (sent : Success) (lines : Option (List Line)) → sent.block ≡ lines
+    → IfSome (head_misfit what sent.id lines) (OfSent profile v what which sent)
+so_head profile v Article which sent (Some lines) e =
+    so_parsed profile v Article which sent (list_any is_empty lines && is_head (head_part lines)) (head_part lines) (ap (option_map head_part) e)
+so_head profile v Article which sent None e = tt
+so_head profile v Head which sent (Some lines) e = so_parsed profile v Head which sent (is_head lines) lines e
+so_head profile v Head which sent None e = tt
+so_head profile v Body which sent (Some lines) e = tt
+so_head profile v Body which sent None e = tt
+so_head profile v Stat which sent (Some lines) e = tt
+so_head profile v Stat which sent None e = tt
+
+so_active : (profile : Profile) (v : Visible) (response : Response) (p : Option (List ℕ)) (line : ActiveValue)
+    → IfSome (active_misfit profile p line) (Tells profile v (to (list_active p)) response)
+so_active profile v response p line =
+    so_first Q _ _
+    (so_if Q (line.low == 0 && line.high == 0) _
+    (so_first Q _ _ (so_unless Q (nat_le 1 line.low && nat_le line.low (line.high + 1)) _ (λ e. tt))
+    (so_first Q _ _ (so_unless Q (nat_le line.high profile.limit) _ (and_false (nat_le 1 line.high) (nat_le line.high profile.limit))) tt)))
+    (so_first Q _ _ (so_unless Q (option_map_or (λ w. matches_name w line.name) p true) (unmatched line.name) (by p)) tt)
+  where
+    Q : Misfit → Type 0
+    Q = Tells profile v (to (list_active p)) response
+
+    by : (p : Option (List ℕ)) → option_map_or (λ w. matches_name w line.name) p true ≡ false → is_unmatched (to (list_active p)) line.name ≡ true
+    by None e = absurd (true≢false e)
+    by (Some w) e = ap not e
+
+-- the name stands in the list
+record Occurs (names : List Name) (name : Name) : Type 0 where
+  front : List Name
+  behind : List Name
+  whole : names ≡ front ++ name ∷ behind
+
+abbrev listed_names : List ActiveValue → List Name
+listed_names lines = map (λ line. line.name) lines
+
+-- the reason names a group that the lines list twice, or that they and what stands before them list
+record IsListedTwice (names : List Name) (lines : List ActiveValue) (why : Misfit) : Type 0 where
+  name : Name
+  is : why ≡ listed_twice name
+  ways : ((list_any (is_same name) names ≡ true) × Occurs (listed_names lines) name) ⊎ IsTwice (listed_names lines) name
+
+so_twice : (names : List Name) (lines : List ActiveValue) → IfSome (twice_misfit names lines) (IsListedTwice names lines)
+so_twice names [] = tt
+so_twice names (line ∷ lines) = by (list_any (is_same line.name) names) refl (so_twice (line.name ∷ names) lines)
+  where
+    later : (why : Misfit) → IsListedTwice (line.name ∷ names) lines why → IsListedTwice names (line ∷ lines) why
+    later why t = record { name = t.name; is = t.is; ways = at t.ways }
+      where
+        at : ((list_any (is_same t.name) (line.name ∷ names) ≡ true) × Occurs (listed_names lines) t.name) ⊎ IsTwice (listed_names lines) t.name
+            → ((list_any (is_same t.name) names ≡ true) × Occurs (listed_names (line ∷ lines)) t.name) ⊎ IsTwice (listed_names (line ∷ lines)) t.name
+        at (inr two) = inr (record { front = line.name ∷ two.front; between = two.between; behind = two.behind; whole = ap (λ t. line.name ∷ t) two.whole })
+        at (inl one) = elim (or_cases (is_same t.name line.name) (list_any (is_same t.name) names) one.0) [
+          | inl e ↦ (let same : t.name ≡ line.name = (bytes_decides t.name line.name).0 e in
+              inr (record { front = []; between = one.1.front; behind = one.1.behind; whole = λ i. sym same i ∷ one.1.whole i }))
+          | inr e ↦ inl (e, record { front = line.name ∷ one.1.front; behind = one.1.behind; whole = ap (λ t. line.name ∷ t) one.1.whole })
+        ]
+
+    by : (b : Bool) → list_any (is_same line.name) names ≡ b → IfSome (twice_misfit (line.name ∷ names) lines) (IsListedTwice (line.name ∷ names) lines)
+        → IfSome (if b then Some (listed_twice line.name) else twice_misfit (line.name ∷ names) lines) (IsListedTwice names (line ∷ lines))
+    by true e t = record { name = line.name; is = refl; ways = inl (e, record { front = []; behind = listed_names lines; whole = refl }) }
+    by false e t = IfSome_then (twice_misfit (line.name ∷ names) lines) t later
+
+-- where nothing stands before them, the lines list it twice
+all_twice : (profile : Profile) (v : Visible) (asked : Asked) (lines : List (List ℕ)) (why : Misfit) → IsListedTwice [] (active_groups lines) why
+    → Tells profile v asked (active_are lines) why
+all_twice profile v asked lines why t = subst (Tells profile v asked (active_are lines)) (sym t.is) (at t.ways)
+  where
+    at : ((list_any (is_same t.name) [] ≡ true) × Occurs (listed_names (active_groups lines)) t.name) ⊎ IsTwice (listed_names (active_groups lines)) t.name
+        → IsTwice (listed_names (active_groups lines)) t.name
+    at (inl none) = absurd (true≢false (sym none.0))
+    at (inr two) = two
+
+so_name : (profile : Profile) (v : Visible) (asked : Asked) (response : Response) (why : Misfit) (o : Option Name) (name : Name) (m : WaterMarks)
+    → marked_by response ≡ Some (name, m) → asked_group v asked ≡ o → Tells profile v asked response why
+    → IfSome (name_misfit why o name) (Tells profile v asked response)
+so_name profile v asked response why None name m marked is t = t
+so_name profile v asked response why (Some word) name m marked is t =
+    so_unless (Tells profile v asked response) (is_same name word) (wrong_name name) (λ e. (
+      subst (λ o. MatchOption o ⊥ (λ marked. marked.0 ≡ name)) (sym marked) refl,
+      subst (λ o. MatchOption o ⊥ (λ word. is_same name word ≡ false)) (sym is) e,
+    ))
+
+so_step_sent : (profile : Profile) (v : Visible) (asked : Asked) (sent : Success)
+    → IfSome (step_sent_misfit profile v (code_misfit v asked sent.code) sent) (Tells profile v asked (sends sent))
+so_step_sent profile v asked sent =
+    so_first Q _ _ (so_unless Q (sent.code == 223) _ (λ e. (refl, refl)))
+    (so_first Q _ _ (so_selected profile v asked (sends sent) (code_misfit v asked sent.code) sent.number (refl, refl)) tt)
+  where
+    Q : Misfit → Type 0
+    Q = Tells profile v asked (sends sent)
+
+-- ---- answers
+
+tells : (profile : Profile) (v : Visible) (asked : Asked) (response : Response) → IfSome (misfit profile v asked response) (Tells profile v asked response)
+tells profile v greeting (plain code) = so_unless _ (is_greeting code) _ (λ e. (refl, refl))
+tells profile v (to command) (plain code) = so_unless _ (is_generic code || code_fits v command code) _ (λ e. (refl, refl))
+tells profile v (to (group word)) (group_is m name) =
+    so_first Q (unless (is_same name word) (wrong_name name)) (marks_misfit profile v name m ∷ []) (so_unless Q (is_same name word) (wrong_name name) (λ e. (refl, e)))
+    (so_first Q (marks_misfit profile v name m) [] (so_marks profile v (to (group word)) (group_is m name) name m refl) tt)
+  where
+    Q : Misfit → Type 0
+    Q = Tells profile v (to (group word)) (group_is m name)
+tells profile v (to (list_group word range)) (numbers_are m name lines) =
+    so_first Q _ _ (so_name profile v asked response (code_misfit v asked 211) (option_or word v.selected) name m refl refl (refl, refl))
+    (so_first Q _ _ (so_marks profile v asked response name m refl)
+    (so_first Q _ _ (IfSome_then (order_misfit None (listed_numbers lines)) (so_numbers (listed_numbers lines)) (λ why f. subst Q (sym f.is) (f.neighbours, f.falls)))
+    (so_first Q _ _ (so_each Q (listed_misfit profile.limit range)
+    (λ n. so_first Q _ _ (so_unless Q (is_article_number profile.limit n) _ (λ e. e)) (so_first Q _ _ (so_unless Q (is_in_range range n) _ (λ e. ap not e)) tt))
+    (listed_numbers lines)) tt)))
+  where
+    asked : Asked
+    asked = to (list_group word range)
+
+    response : Response
+    response = numbers_are m name lines
+
+    Q : Misfit → Type 0
+    Q = Tells profile v asked response
+tells profile v (to next) (sends sent) = so_step_sent profile v (to next) sent
+tells profile v (to last) (sends sent) = so_step_sent profile v (to last) sent
+tells profile v (to (retrieve what which)) (sends sent) =
+    so_first Q _ _ (so_unless Q (sent.code == success_code what) _ (λ e. (refl, refl)))
+    (so_first Q _ _ (so_target profile v what which sent (code_misfit v asked sent.code) (refl, refl))
+    (so_first Q _ _ (so_head profile v what which sent sent.block refl) tt))
+  where
+    asked : Asked
+    asked = to (retrieve what which)
+
+    Q : Misfit → Type 0
+    Q = Tells profile v asked (sends sent)
+tells profile v (to (list_active p)) (active_are lines) =
+    so_first Q (first (map (active_misfit profile p) (active_groups lines))) (twice_misfit [] (active_groups lines) ∷ [])
+    (so_each Q (active_misfit profile p) (so_active profile v (active_are lines) p) (active_groups lines))
+    (so_first Q (twice_misfit [] (active_groups lines)) []
+    (IfSome_then (twice_misfit [] (active_groups lines)) (so_twice [] (active_groups lines)) (all_twice profile v (to (list_active p)) lines)) tt)
+  where
+    Q : Misfit → Type 0
+    Q = Tells profile v (to (list_active p)) (active_are lines)
+tells profile v asked (group_is m name) = (refl, refl)
+tells profile v asked (numbers_are m name lines) = (refl, refl)
+tells profile v asked (sends sent) = (refl, refl)
+tells profile v asked (active_are lines) = (refl, refl)
+
+pub so : (profile : Profile) (v : Visible) (asked : Asked) (response : Response) (why : Misfit) → misfit profile v asked response ≡ Some why → Tells profile v asked response why
+so profile v asked response why e = subst (λ o. IfSome o (Tells profile v asked response)) e (tells profile v asked response)

@@ -1,0 +1,440 @@
+-- How an explanation goes through the answers of two streams.
+use Rattle.std.proofs.Common.{◌≡◌, ◌≢◌, ◌∙◌, sym, subst, refl, ap, ℕ, ◌+◌, ◌-◌, ◌<◌, ◌≤◌, ◌^◌, ◌==◌, ◌&&◌, Bool, true, false, List, [], ◌∷◌, ◌++◌, Option, None, Some, MatchOption, length, drop, arith}
+use Rattle.std.proofs.Common.{append_assoc, append-nil, length-append}
+use Rattle.std.proofs.Common.{Result, Ok, Err}
+use Rattle.std.specs.Prelude.{count_by, is_some, nat_lt, cond, OnOk, IfOk, codes, decimal}
+use Rattle.std.specs.List.{AllByRecursion}
+use Rattle.std.specs.Option.{option_map, option_map_or}
+use Rattle.nntp_wire.specs.Answer.{Asked, Response, group_is, numbers_are, sends, active_are, plain}
+use Rattle.nntp_wire.specs.declared.limit.Limit.{Limit}
+use Rattle.nntp_wire.specs.declared.marks.Marks.{Marks}
+use Rattle.nntp_article.specs.declared.session.profile.Profile.{Profile}
+use Rattle.nntp_article.specs.Session.Limit.{profile_of}
+use Rattle.nntp_article.specs.Session.Machine.{Visible, start, visible_after}
+use Rattle.nntp_article.specs.Session.Misfit.{misfit}
+use Rattle.nntp_article.specs.Session.Spool.{Name}
+use Rattle.nntp_pair.specs.Pairing.{Paired, Unpaired, IsNext, IsPassedOver, Ending, end, bad as ends_at, Ends, asked_at, asked_of, responses_of, line_ahead, streams}
+use Rattle.nntp_pair.specs.declared.class.PairClass.{PairClass}
+use Rattle.nntp_pair.specs.declared.class.PairClass.TheVariants.{Malformed as PairMalformed}
+use Rattle.nntp_facts.specs.Classes.{class_of, visible_from, position_from}
+use Rattle.nntp_facts.specs.Conflict.{Placed, placed_of, placed_behind, FitsThere, SomeHas, told_with, below}
+use Rattle.nntp_facts.specs.Noted.{FactsKept, HasNoted, IsNoted, IsDue, profile_kept}
+use Rattle.nntp_facts.specs.Reading.{Judged, Accepted, Refused, Unspelled, accepted_of, accepted_with, class_behind, IsJudged, AreJudged}
+use Rattle.nntp_facts.specs.declared.class.Class.{Class}
+use Rattle.nntp_facts.specs.declared.class.Class.TheVariants.{Malformed, OutOfPlace, Contradiction}
+use Rattle.nntp_facts.specs.declared.noted.Noted.{Noted}
+use Rattle.nntp_facts.specs.declared.noted.Noted.TheVariants as kinds
+use Rattle.nntp_facts.specs.declared.position.Position.{Position}
+use Rattle.nntp_facts.specs.declared.position.Position.TheVariants.{Nowhere}
+use Rattle.nntp_facts.proofs.Reading.NotedContradictions.{accepted_fit, noted_conflicts, placed_next}
+use Rattle.nntp_facts.proofs.Reading.JudgedSession.{one_more_in_session, accepted_one_more, index_in_session, due_in_session}
+use Rattle.nntp_facts.proofs.Reading.NotedAsJudged.{consistent_accepted, unfit_refused, contradiction_refused}
+use Rattle.nntp_check.specs.Explaining.{visible_left, bad_lines, place_lines, IsTold, IsConflictOf, IsReason, IsExplained, AreExplained, count_bad, end_line, is_without_fault}
+use Rattle.nntp_check.specs.ExplainingView.{Kept, placed_at, keeps, AreTold, GoesOn}
+use Rattle.nntp_check.specs.Judging.{IsFirstLine}
+use Rattle.nntp_check.specs.Reasons.{misfit_line, number_line, index_at, rest_line}
+use Rattle.nntp_check.specs.Run.{ExplainReports}
+use Rattle.nntp_check.specs.Standing.{Standing, Cited, standing, standing_by, standing_from, standing_after, moved, cited, cited_at, cited_from}
+
+-- ---- where a session stands
+
+-- an answer leads on from where those before it left the session
+standing_push : (s : Option Standing) (pairs : List Paired) (pair : Paired) → standing_from s (pairs ++ pair ∷ []) ≡ standing_after (standing_from s pairs) pair
+standing_push s [] pair = refl
+standing_push s (first ∷ pairs) pair = standing_push (standing_after s first) pairs pair
+
+-- and is cited there
+cited_push : (s : Option Standing) (pairs : List Paired) (pair : Paired) → cited_from s (pairs ++ pair ∷ []) ≡ cited_from s pairs ++ cited_at (standing_from s pairs) pair ∷ []
+cited_push s [] pair = refl
+cited_push s (first ∷ pairs) pair = ap (λ rest. cited_at s first ∷ rest) (cited_push (standing_after s first) pairs pair)
+
+-- the name of the group in which it stands
+abbrev name_in : Option Standing → Option Name
+name_in s = option_map (λ s. s.name) s
+
+-- a move stays in the group
+same_group : (pair : Paired) (s : Option Standing) → name_in (option_map (moved pair) s) ≡ name_in s
+same_group pair None = refl
+same_group pair (Some s) = refl
+
+-- that is the selected group
+name_after : (response : Response) (asked : Asked) (pair : Paired) (s : Option Standing) (v : Visible) → name_in s ≡ v.selected → name_in (standing_by response pair s) ≡ (visible_after v asked response).selected
+name_after (group_is m name) asked pair s v e = refl
+name_after (numbers_are m name lines) asked pair s v e = refl
+name_after (sends sent) asked pair s v e = same_group pair s ∙ e
+name_after (active_are lines) asked pair s v e = same_group pair s ∙ e
+name_after (plain code) asked pair s v e = same_group pair s ∙ e
+
+name_from : (s : Option Standing) (v : Visible) (pairs : List Paired) → name_in s ≡ v.selected → name_in (standing_from s pairs) ≡ (visible_from v (asked_of pairs) (responses_of pairs)).selected
+name_from s v [] e = e
+name_from s v (pair ∷ pairs) e =
+    name_from (standing_after s pair) (visible_after v (asked_at pair.line) pair.response) pairs (name_after pair.response (asked_at pair.line) pair s v e)
+
+-- an answer is placed behind the accepted ones, where it is placed by what is kept of them
+placed_there : (accepted : List Paired) (stands : Option Standing) (position : Position) (pair : Paired) → stands ≡ standing accepted
+    → position ≡ position_from Nowhere (asked_of accepted) (responses_of accepted) → placed_at stands position pair ≡ placed_behind accepted pair
+placed_there accepted stands position pair stands-is position-is =
+    let name : name_in stands ≡ (visible_from start.visible (asked_of accepted) (responses_of accepted)).selected = ap name_in stands-is ∙ name_from None start.visible accepted refl in
+    λ i. record { selected = name i; position = position-is i; asked = asked_at pair.line; response = pair.response }
+
+-- ---- one answer more
+
+-- the accepted ones are no more than all
+few_accepted : (answers : List Judged) → length (accepted_of answers) ≤ length answers
+few_accepted [] = omega arith
+few_accepted (Accepted pair ∷ answers) = omega (arith, few_accepted answers)
+few_accepted (Refused pair ∷ answers) = omega (arith, few_accepted answers)
+few_accepted (Unspelled index line initial ∷ answers) = omega (arith, few_accepted answers)
+
+joined : (past : List Paired) (first : Judged) (answers : List Judged) → past ++ accepted_of (first ∷ answers) ≡ accepted_with past first ++ accepted_of answers
+joined past (Accepted pair) answers = sym (append_assoc past (pair ∷ []) (accepted_of answers))
+joined past (Refused pair) answers = refl
+joined past (Unspelled index line initial) answers = refl
+
+-- what is told of it stands behind what is told of those before it
+explained_push : (profile : Profile) (past : List Paired) (answers : List Judged) (answer : Judged) (text more : List ℕ)
+    → AreExplained profile past answers text → IsExplained profile (past ++ accepted_of answers) answer more
+    → AreExplained profile past (answers ++ answer ∷ []) (text ++ more)
+explained_push profile past [] answer text more none is =
+    (more, [], ap (λ t. t ++ more) none ∙ sym (append-nil more), subst (λ p. IsExplained profile p answer more) (append-nil past) is, refl)
+explained_push profile past (first ∷ answers) answer text more (front, back, whole, head, tail) is = (
+  front,
+  back ++ more,
+  ap (λ t. t ++ more) whole ∙ append_assoc front back more,
+  head,
+  explained_push profile (accepted_with past first) answers answer back more tail (subst (λ p. IsExplained profile p answer more) (joined past first answers) is),
+)
+
+-- an accepted one adds nothing that is bad
+good_push : (answers : List Judged) (pair : Paired) → count_bad (answers ++ Accepted pair ∷ []) ≡ count_bad answers
+good_push answers pair =
+    let accepted = ap length (accepted_one_more answers (Accepted pair)) in
+    omega (arith, accepted, length-append (accepted_of answers) (pair ∷ []), length-append answers (Accepted pair ∷ []), few_accepted answers)
+
+-- any other is bad
+bad_push : (answers : List Judged) (answer : Judged) → accepted_with (accepted_of answers) answer ≡ accepted_of answers → count_bad (answers ++ answer ∷ []) ≡ count_bad answers + 1
+bad_push answers answer same =
+    let accepted = ap length (accepted_one_more answers answer ∙ same) in
+    omega (arith, accepted, length-append answers (answer ∷ []), few_accepted answers)
+
+-- ---- what is told of a bad answer
+
+-- with another reason that follows from the one that is told
+reason_follows : (b : Bool) (P Q N : Type 0) → (P → Q) → cond b P N → cond b Q N
+reason_follows true P Q N f h = f h
+reason_follows false P Q N f h = h
+
+told_as : (before : ℕ) (stands : Option Standing) (index : ℕ) (class : Class) (line : Option (List ℕ)) (initial : List ℕ) (P Q : List ℕ → Type 0) (text : List ℕ)
+    → ((reason : List ℕ) → P reason → Q reason) → IsTold before stands index class line initial P text → IsTold before stands index class line initial Q text
+told_as before stands index class line initial P Q text f (reason, whole, is) =
+    (reason, whole, reason_follows (nat_lt before 100) (P reason) (Q reason) (reason ≡ []) (f reason) is)
+
+-- without a reason
+no_reason : (b : Bool) (P : Type 0) → P → cond b P P
+no_reason true P p = p
+no_reason false P p = p
+
+told_plain : (before : ℕ) (stands : Option Standing) (index : ℕ) (class : Class) (line : Option (List ℕ)) (initial : List ℕ)
+    → IsTold before stands index class line initial (λ reason. reason ≡ []) (bad_lines index class line initial ++ place_lines before stands)
+told_plain before stands index class line initial =
+    ([], sym (append-nil (bad_lines index class line initial ++ place_lines before stands)), no_reason (nat_lt before 100) ([] ≡ []) refl)
+
+-- behind its lines a reason
+pub told_reason : (before : ℕ) (stands : Option Standing) (index : ℕ) (class : Class) (line : Option (List ℕ)) (initial : List ℕ) (Reason : List ℕ → Type 0) (old new reason : List ℕ) (is_told : Bool)
+    → is_told ≡ nat_lt before 100 → new ≡ (old ++ bad_lines index class line initial ++ place_lines before stands) ++ reason → cond is_told (Reason reason) (reason ≡ [])
+    → GoesOn (IsTold before stands index class line initial Reason) old new
+told_reason before stands index class line initial Reason old new reason is_told told-is whole is =
+    let bad = bad_lines index class line initial in
+    let place = place_lines before stands in (
+      bad ++ place ++ reason,
+      whole ∙ ap (λ t. t ++ reason) (append_assoc old bad place) ∙ append_assoc old (bad ++ place) reason,
+      (reason, refl, subst (λ b. cond b (Reason reason) (reason ≡ [])) told-is is),
+    )
+
+-- ---- the line of further reasons
+
+shape : (old front first middle last behind : List ℕ) → (old ++ front ++ first) ++ (middle ++ last ++ behind) ≡ old ++ (front ++ first ++ middle ++ last ++ behind)
+shape old front first middle last behind = simp append_assoc
+
+pub rest_told : (answers : List Cited) (rest : Option ℕ) (bound first last place : ℕ) (old mid new : List ℕ) → rest ≡ Some bound → place ≡ bound - 1 → first ≡ index_at answers 0 → last ≡ index_at answers place
+    → mid ≡ old ++ codes "because some of " ++ decimal first → new ≡ mid ++ number_line (codes " to ") last → new ≡ old ++ rest_line answers rest
+rest_told answers rest bound first last place old mid new is place-is first-is last-is mid-is new-is =
+    new-is ∙ ap (λ t. t ++ number_line (codes " to ") last) mid-is
+    ∙ shape old (codes "because some of ") (decimal first) (codes " to ") (decimal last) (codes "\n")
+    ∙ ap (λ (q : ℕ × ℕ). old ++ (codes "because some of " ++ decimal q.0 ++ codes " to " ++ decimal q.1 ++ codes "\n")) (λ i. (first-is i, (last-is ∙ ap (index_at answers) place-is) i))
+    ∙ ap (λ r. old ++ rest_line answers r) (sym is)
+
+-- ---- how it goes on
+
+-- nothing is told yet
+pub told_first : (profile : Profile) (client server : List ℕ) (kept : Kept) (text : List ℕ) → HasNoted profile kept.facts [] → kept.placed ≡ [] → kept.cited ≡ [] → kept.stands ≡ None
+    → kept.bad ≡ 0 → text ≡ [] → AreTold profile client server kept text (streams client server)
+told_first profile client server kept text noted placed-is cited-is stands-is bad-is text-is =
+    record { answers = []; judged = refl; noted = noted; placed_are = placed-is; cited_are = cited-is; stands_there = stands-is; bad_are = bad-is; explained = text-is }
+
+-- the next exchange is due
+pub told_due : (profile : Profile) (client server : List ℕ) (kept : Kept) (text : List ℕ) (left behind : Unpaired) (pair : Paired)
+    → AreTold profile client server kept text left → IsNext left pair behind → IsDue kept.facts pair
+told_due profile client server kept text left behind pair t next = due_in_session profile client server t.answers left behind pair kept.facts t.judged t.noted next
+
+-- no more answers are bad than there are
+pub told_few : (profile : Profile) (client server : List ℕ) (kept : Kept) (text : List ℕ) (left : Unpaired)
+    → AreTold profile client server kept text left → kept.bad ≤ left.index
+told_few profile client server kept text left t =
+    let count = index_in_session profile client server t.answers left t.judged in
+    let bad = t.bad_are in
+    omega (arith, bad, count)
+
+-- an exchange that some spool permits
+told_good : (profile : Profile) (client server : List ℕ) (kept : Kept) (new : FactsKept) (text : List ℕ) (left behind : Unpaired) (pair : Paired)
+    → AreTold profile client server kept text left → IsNext left pair behind
+    → ((past : List Paired) → HasNoted profile kept.facts past → IsNoted profile past pair kept.facts new kinds.Consistent)
+    → AreTold profile client server (record (keeps kept.facts.position pair kept) { facts = new }) text behind
+told_good profile client server kept new text left behind pair t next notes =
+    let past = accepted_of t.answers in
+    let noted = notes past t.noted in
+    let accepted = accepted_one_more t.answers (Accepted pair) in
+    record {
+      answers = t.answers ++ Accepted pair ∷ [];
+      judged = one_more_in_session profile client server t.answers (Accepted pair) left behind t.judged (next, noted.0);
+      noted = subst (HasNoted profile new) (sym accepted) noted.1;
+      placed_are = ap (λ (q : List Placed × Placed). q.0 ++ q.1 ∷ []) (λ i. (t.placed_are i, placed_there past kept.stands kept.facts.position pair t.stands_there t.noted.position i))
+          ∙ sym (placed_next past pair) ∙ ap placed_of (sym accepted);
+      cited_are = ap (λ (q : List Cited × Option Standing). q.0 ++ cited_at q.1 pair ∷ []) (λ i. (t.cited_are i, t.stands_there i)) ∙ sym (cited_push None past pair) ∙ ap cited (sym accepted);
+      stands_there = ap (λ s. standing_after s pair) t.stands_there ∙ sym (standing_push None past pair) ∙ ap standing (sym accepted);
+      bad_are = t.bad_are ∙ sym (good_push t.answers pair);
+      explained = subst (AreExplained profile [] (t.answers ++ Accepted pair ∷ [])) (append-nil text) (explained_push profile [] t.answers (Accepted pair) text [] t.explained refl);
+    }
+
+-- an answer that is bad is passed over
+told_bad : (profile : Profile) (client server : List ℕ) (kept : Kept) (text more : List ℕ) (left behind : Unpaired) (answer : Judged)
+    → (t : AreTold profile client server kept text left) → IsJudged profile (accepted_of t.answers) left answer behind
+    → accepted_with (accepted_of t.answers) answer ≡ accepted_of t.answers → IsExplained profile (accepted_of t.answers) answer more
+    → AreTold profile client server (record kept { bad = kept.bad + 1 }) (text ++ more) behind
+told_bad profile client server kept text more left behind answer t judged same is =
+    let accepted = accepted_one_more t.answers answer ∙ same in
+    record {
+      answers = t.answers ++ answer ∷ [];
+      judged = one_more_in_session profile client server t.answers answer left behind t.judged judged;
+      noted = subst (HasNoted profile kept.facts) (sym accepted) t.noted;
+      placed_are = t.placed_are ∙ ap placed_of (sym accepted);
+      cited_are = t.cited_are ∙ ap cited (sym accepted);
+      stands_there = t.stands_there ∙ ap standing (sym accepted);
+      bad_are = ap (λ n. n + 1) t.bad_are ∙ sym (bad_push t.answers answer same);
+      explained = explained_push profile [] t.answers answer text more t.explained is;
+    }
+
+-- so many answers are bad before the next one
+bad_before : (profile : Profile) (client server : List ℕ) (kept : Kept) (text : List ℕ) (left : Unpaired) (t : AreTold profile client server kept text left) (index : ℕ) → index ≡ left.index
+    → kept.bad ≡ index - length (accepted_of t.answers)
+bad_before profile client server kept text left t index at =
+    t.bad_are ∙ ap (λ n. n - length (accepted_of t.answers)) (sym (at ∙ index_in_session profile client server t.answers left t.judged))
+
+-- what is told by what is kept is told by the accepted answers
+told_behind : (profile : Profile) (client server : List ℕ) (kept : Kept) (text : List ℕ) (left : Unpaired) (t : AreTold profile client server kept text left) (index : ℕ) → index ≡ left.index
+    → (class : Class) (line : Option (List ℕ)) (initial : List ℕ) (Reason : List ℕ → Type 0) (more : List ℕ) → IsTold kept.bad kept.stands index class line initial Reason more
+    → IsTold (index - length (accepted_of t.answers)) (standing (accepted_of t.answers)) index class line initial Reason more
+told_behind profile client server kept text left t index at class line initial Reason more is =
+    subst (λ (q : ℕ × Option Standing). IsTold q.0 q.1 index class line initial Reason more) (λ i. (bad_before profile client server kept text left t index at i, t.stands_there i)) is
+
+-- a frame that spells nothing
+pub told_unspelled : (profile : Profile) (client server : List ℕ) (kept : Kept) (text : List ℕ) (left behind : Unpaired) (index : ℕ) (line : Option (List ℕ)) (initial : List ℕ)
+    → AreTold profile client server kept text left → index ≡ left.index → IsPassedOver left line initial behind
+    → AreTold profile client server (record kept { bad = kept.bad + 1 }) (text ++ bad_lines index Malformed line initial ++ place_lines kept.bad kept.stands) behind
+told_unspelled profile client server kept text left behind index line initial t at passed =
+    subst (λ text. AreTold profile client server (record kept { bad = kept.bad + 1 }) text behind) (sym (append_assoc text (bad_lines index Malformed line initial) (place_lines kept.bad kept.stands)))
+    (told_bad profile client server kept text (bad_lines index Malformed line initial ++ place_lines kept.bad kept.stands) left behind (Unspelled index line initial) t
+    (at, passed) refl
+    (told_behind profile client server kept text left t index at Malformed line initial (λ reason. reason ≡ []) _ (told_plain kept.bad kept.stands index Malformed line initial)))
+
+-- what is told of a refused answer of this class explains it
+refused_explained : (profile : Profile) (accepted : List Paired) (pair : Paired) (class : Class) (text : List ℕ) → class_behind profile accepted (Refused pair) ≡ Some class
+    → IsTold (pair.index - length accepted) (standing accepted) pair.index class pair.line pair.initial (IsReason profile accepted pair class) text
+    → IsExplained profile accepted (Refused pair) text
+refused_explained profile accepted pair class text class-is is =
+    subst (λ o. MatchOption o ⊥ (λ class. IsTold (pair.index - length accepted) (standing accepted) pair.index class pair.line pair.initial (IsReason profile accepted pair class) text)) (sym class-is) is
+
+-- an exchange that doesn't fit
+told_unfitting : (profile : Profile) (client server : List ℕ) (kept : Kept) (text : List ℕ) (left behind : Unpaired) (pair : Paired) (more : List ℕ)
+    → AreTold profile client server kept text left → IsNext left pair behind
+    → ((past : List Paired) → HasNoted profile kept.facts past → IsNoted profile past pair kept.facts kept.facts kinds.OutOfPlace)
+    → IsTold kept.bad kept.stands pair.index OutOfPlace pair.line pair.initial
+    (λ reason. reason ≡ option_map_or misfit_line (misfit (profile_kept kept.facts) kept.facts.visible (asked_at pair.line) pair.response) []) more
+    → AreTold profile client server (record kept { bad = kept.bad + 1 }) (text ++ more) behind
+told_unfitting profile client server kept text left behind pair more t next notes is =
+    let past = accepted_of t.answers in
+    let judged = unfit_refused profile past pair kept.facts kept.facts left behind t.noted (notes past t.noted) next in
+    told_bad profile client server kept text more left behind (Refused pair) t judged.0 refl
+    (refused_explained profile past pair OutOfPlace more judged.1
+    (told_as (pair.index - length past) (standing past) pair.index OutOfPlace pair.line pair.initial _ (IsReason profile past pair OutOfPlace) more
+    (λ reason is. is ∙ ap (λ (q : Profile × Visible). option_map_or misfit_line (misfit q.0 q.1 (asked_at pair.line) pair.response) []) (λ i. (t.noted.profile_is i, t.noted.visible i)))
+    (told_behind profile client server kept text left t pair.index next.index OutOfPlace pair.line pair.initial _ more is)))
+
+-- an exchange that contradicts those that were accepted
+told_contradiction : (profile : Profile) (client server : List ℕ) (kept : Kept) (text : List ℕ) (left behind : Unpaired) (pair : Paired) (more : List ℕ)
+    → AreTold profile client server kept text left → IsNext left pair behind
+    → ((past : List Paired) → HasNoted profile kept.facts past → IsNoted profile past pair kept.facts kept.facts kinds.Contradiction)
+    → IsTold kept.bad kept.stands pair.index Contradiction pair.line pair.initial
+    (IsConflictOf (profile_kept kept.facts) (placed_at kept.stands kept.facts.position pair) kept.placed kept.cited) more
+    → AreTold profile client server (record kept { bad = kept.bad + 1 }) (text ++ more) behind
+told_contradiction profile client server kept text left behind pair more t next notes is =
+    let past = accepted_of t.answers in
+    let judged = contradiction_refused profile past pair kept.facts kept.facts left behind t.noted (notes past t.noted) next in
+    let placed = placed_there past kept.stands kept.facts.position pair t.stands_there t.noted.position in
+    told_bad profile client server kept text more left behind (Refused pair) t judged.0 refl
+    (refused_explained profile past pair Contradiction more judged.1
+    (told_as (pair.index - length past) (standing past) pair.index Contradiction pair.line pair.initial _ (IsReason profile past pair Contradiction) more
+    (λ reason is. subst (λ (q : Profile × Placed × List Placed × List Cited). IsConflictOf q.0 q.1 q.2 q.3 reason)
+    (λ i. (t.noted.profile_is i, placed i, t.placed_are i, t.cited_are i)) is)
+    (told_behind profile client server kept text left t pair.index next.index Contradiction pair.line pair.initial _ more is)))
+
+-- what the search for its reasons asks for
+pub contradiction_due : (profile : Profile) (client server : List ℕ) (kept : Kept) (text : List ℕ) (left behind : Unpaired) (pair : Paired)
+    → profile_kept kept.facts ≡ profile → AreTold profile client server kept text left → IsNext left pair behind
+    → ((past : List Paired) → HasNoted profile kept.facts past → IsNoted profile past pair kept.facts kept.facts kinds.Contradiction)
+    → AllByRecursion (FitsThere (profile_kept kept.facts)) (placed_at kept.stands kept.facts.position pair ∷ kept.placed)
+    × (SomeHas (profile_kept kept.facts) (told_with (profile_kept kept.facts) (placed_at kept.stands kept.facts.position pair) kept.placed (below (length kept.placed))) → ⊥)
+contradiction_due profile client server kept text left behind pair profile-is t next notes =
+    let past = accepted_of t.answers in
+    let due = told_due profile client server kept text left behind pair t next in
+    let is = notes past t.noted in
+    let placed = placed_there past kept.stands kept.facts.position pair t.stands_there t.noted.position in
+    subst (λ (q : Profile × Placed × List Placed). AllByRecursion (FitsThere q.0) (q.1 ∷ q.2) × (SomeHas q.0 (told_with q.0 q.1 q.2 (below (length q.2))) → ⊥))
+    (λ i. (sym profile-is i, sym placed i, sym t.placed_are i))
+    (let conflicts = noted_conflicts profile past pair kept.facts kept.facts t.noted due is in
+    ((conflicts.0, accepted_fit profile kept.facts past t.noted), conflicts.1))
+
+-- ---- an exchange, by what is noted of it and kept and told then
+
+-- what is so where there are no errors
+pub on_ok : {T E P Q R : Type 0} (r : Result T E) → OnOk r P → OnOk r Q → (P → Q → R) → OnOk r R
+on_ok (Ok x) p q f = f p q
+on_ok (Err e) p q f = tt
+
+pub if_ok : {T E : Type 0} {P Q R : T → Type 0} (r : Result T E) → IfOk r P → IfOk r Q → ((v : T) → P v → Q v → R v) → IfOk r R
+if_ok (Ok x) p q f = f x p q
+if_ok (Err e) p q f = tt
+
+pub noted_consistent : (profile : Profile) (client server : List ℕ) (kept new : Kept) (facts : FactsKept) (noted : Noted) (position : Position) (text after : List ℕ) (left behind : Unpaired) (pair : Paired)
+    → noted ≡ kinds.Consistent → position ≡ kept.facts.position → ((past : List Paired) → HasNoted profile kept.facts past → IsNoted profile past pair kept.facts facts noted)
+    → new ≡ keeps position pair (record kept { facts = facts }) → after ≡ text
+    → AreTold profile client server kept text left → IsNext left pair behind → AreTold profile client server new after behind
+noted_consistent profile client server kept new facts noted position text after left behind pair is position-is notes new-is after-is t next =
+    subst (λ (q : Kept × List ℕ). AreTold profile client server q.0 q.1 behind)
+    (λ i. (sym (new-is ∙ ap (λ at. keeps at pair (record kept { facts = facts })) position-is) i, sym after-is i))
+    (told_good profile client server kept facts text left behind pair t next (λ past h. subst (IsNoted profile past pair kept.facts facts) is (notes past h)))
+
+pub noted_out_of_place : (profile : Profile) (client server : List ℕ) (kept new : Kept) (facts : FactsKept) (noted : Noted) (text after : List ℕ) (left behind : Unpaired) (pair : Paired)
+    → noted ≡ kinds.OutOfPlace → ((past : List Paired) → HasNoted profile kept.facts past → IsNoted profile past pair kept.facts facts noted)
+    → new ≡ record kept { facts = facts; bad = kept.bad + 1 }
+    → GoesOn (IsTold kept.bad kept.stands pair.index OutOfPlace pair.line pair.initial
+    (λ reason. reason ≡ option_map_or misfit_line (misfit (profile_kept facts) facts.visible (asked_at pair.line) pair.response) [])) text after
+    → AreTold profile client server kept text left → IsNext left pair behind → AreTold profile client server new after behind
+noted_out_of_place profile client server kept new facts noted text after left behind pair is notes new-is (more, after-is, told) t next =
+    let at = λ (past : List Paired) (h : HasNoted profile kept.facts past). subst (IsNoted profile past pair kept.facts facts) is (notes past h) in
+    let same : facts ≡ kept.facts = (at (accepted_of t.answers) t.noted).1 in
+    subst (λ (q : Kept × List ℕ). AreTold profile client server q.0 q.1 behind)
+    (λ i. (sym (new-is ∙ ap (λ f. record kept { facts = f; bad = kept.bad + 1 }) same) i, sym after-is i))
+    (told_unfitting profile client server kept text left behind pair more t next
+    (λ past h. subst (λ f. IsNoted profile past pair kept.facts f kinds.OutOfPlace) same (at past h))
+    (subst (λ (f : FactsKept). IsTold kept.bad kept.stands pair.index OutOfPlace pair.line pair.initial
+    (λ reason. reason ≡ option_map_or misfit_line (misfit (profile_kept f) f.visible (asked_at pair.line) pair.response) []) more) same told))
+
+pub noted_contradiction : (profile : Profile) (client server : List ℕ) (kept new : Kept) (facts : FactsKept) (noted : Noted) (position : Position) (text after : List ℕ) (left behind : Unpaired) (pair : Paired)
+    → noted ≡ kinds.Contradiction → position ≡ kept.facts.position → ((past : List Paired) → HasNoted profile kept.facts past → IsNoted profile past pair kept.facts facts noted)
+    → new ≡ record kept { facts = facts; bad = kept.bad + 1 }
+    → GoesOn (IsTold kept.bad kept.stands pair.index Contradiction pair.line pair.initial
+    (IsConflictOf (profile_kept facts) (placed_at kept.stands position pair) kept.placed kept.cited)) text after
+    → AreTold profile client server kept text left → IsNext left pair behind → AreTold profile client server new after behind
+noted_contradiction profile client server kept new facts noted position text after left behind pair is position-is notes new-is (more, after-is, told) t next =
+    let at = λ (past : List Paired) (h : HasNoted profile kept.facts past). subst (IsNoted profile past pair kept.facts facts) is (notes past h) in
+    let same : facts ≡ kept.facts = (at (accepted_of t.answers) t.noted).2 in
+    subst (λ (q : Kept × List ℕ). AreTold profile client server q.0 q.1 behind)
+    (λ i. (sym (new-is ∙ ap (λ f. record kept { facts = f; bad = kept.bad + 1 }) same) i, sym after-is i))
+    (told_contradiction profile client server kept text left behind pair more t next
+    (λ past h. subst (λ f. IsNoted profile past pair kept.facts f kinds.Contradiction) same (at past h))
+    (subst (λ (q : FactsKept × Position). IsTold kept.bad kept.stands pair.index Contradiction pair.line pair.initial
+    (IsConflictOf (profile_kept q.0) (placed_at kept.stands q.1 pair) kept.placed kept.cited) more) (λ i. (same i, position-is i)) told))
+
+-- what the search for its reasons asks for
+pub noted_contradiction_due : (client server : List ℕ) (kept : Kept) (facts : FactsKept) (noted : Noted) (position : Position) (text : List ℕ) (left behind : Unpaired) (pair : Paired)
+    → noted ≡ kinds.Contradiction → position ≡ kept.facts.position
+    → ((past : List Paired) → HasNoted (profile_kept kept.facts) kept.facts past → IsNoted (profile_kept kept.facts) past pair kept.facts facts noted)
+    → AreTold (profile_kept kept.facts) client server kept text left → IsNext left pair behind
+    → AllByRecursion (FitsThere (profile_kept facts)) (placed_at kept.stands position pair ∷ kept.placed)
+    × (SomeHas (profile_kept facts) (told_with (profile_kept facts) (placed_at kept.stands position pair) kept.placed (below (length kept.placed))) → ⊥)
+noted_contradiction_due client server kept facts noted position text left behind pair is position-is notes t next =
+    let profile = profile_kept kept.facts in
+    let at = λ (past : List Paired) (h : HasNoted profile kept.facts past). subst (IsNoted profile past pair kept.facts facts) is (notes past h) in
+    let same : facts ≡ kept.facts = (at (accepted_of t.answers) t.noted).2 in
+    subst (λ (q : FactsKept × Position). AllByRecursion (FitsThere (profile_kept q.0)) (placed_at kept.stands q.1 pair ∷ kept.placed)
+    × (SomeHas (profile_kept q.0) (told_with (profile_kept q.0) (placed_at kept.stands q.1 pair) kept.placed (below (length kept.placed))) → ⊥))
+    (λ i. (sym same i, sym position-is i))
+    (contradiction_due profile client server kept text left behind pair refl t next
+    (λ past h. subst (λ f. IsNoted profile past pair kept.facts f kinds.Contradiction) same (at past h)))
+
+-- ---- how it ends
+
+-- where no octet is left
+pub told_at_end : (limit : Limit) (marks : Marks) (client server spool : List ℕ) (kept : Kept) (text whole : List ℕ) (left : Unpaired) (answers unanswered : ℕ) (good : Bool)
+    → AreTold (profile_of limit marks) client server kept text left → answers ≡ left.index → Ends left (end unanswered)
+    → whole ≡ text ++ end_line answers kept.bad unanswered → good ≡ (kept.bad == 0) → ExplainReports limit marks client server spool whole good
+told_at_end limit marks client server spool kept text whole left answers unanswered good t at ends whole-is good-is =
+    let profile = profile_of limit marks in
+    let count = at ∙ index_in_session profile client server t.answers left t.judged in
+    record {
+      answers = t.answers;
+      ending = end unanswered;
+      reading = record { left = left; judged = t.judged; ends = ends; passed_over = λ e. absurd (let f : end unanswered ≡ ends_at PairMalformed = e in cc) };
+      front = text;
+      explained = t.explained;
+      last = end_line answers kept.bad unanswered;
+      ended = ap (λ (p : ℕ × ℕ). end_line p.0 p.1 unanswered) (λ i. (count i, t.bad_are i));
+      text_is = whole-is;
+      answer_is = good-is ∙ ap (λ n. n == 0) t.bad_are ∙ sym (and-true (count_bad t.answers == 0));
+    }
+  where
+    and-true : (b : Bool) → (b && true) ≡ b
+    and-true true = refl
+    and-true false = refl
+
+-- at octets that answer nothing
+pub told_at_octets : (limit : Limit) (marks : Marks) (client server spool : List ℕ) (kept : Kept) (text whole : List ℕ) (left : Unpaired)
+    (index : ℕ) (class : PairClass) (line : Option (List ℕ)) (octets first : List ℕ) (unanswered : ℕ) (of : Class) (good : Bool)
+    → AreTold (profile_of limit marks) client server kept text left → Ends left (ends_at class) → class ≢ PairMalformed → index ≡ left.index
+    → line ≡ line_ahead left.places → octets ≡ left.server → unanswered ≡ count_by is_some (drop 1 left.places) → of ≡ class_of class → IsFirstLine octets first
+    → whole ≡ (text ++ bad_lines index of line first ++ place_lines kept.bad kept.stands) ++ end_line (index + 1) (kept.bad + 1) unanswered → good ≡ (kept.bad + 1 == 0)
+    → ExplainReports limit marks client server spool whole good
+told_at_octets limit marks client server spool kept text whole left index class line octets first unanswered of good t ends other at line-is octets-is unanswered-is of-is is-first whole-is good-is =
+    let profile = profile_of limit marks in
+    let count = at ∙ index_in_session profile client server t.answers left t.judged in
+    let more = bad_lines index of line first ++ place_lines kept.bad kept.stands in
+    record {
+      answers = t.answers;
+      ending = ends_at class;
+      reading = record { left = left; judged = t.judged; ends = ends; passed_over = λ e. other (same-class class e) };
+      front = text;
+      explained = t.explained;
+      last = more ++ end_line (index + 1) (kept.bad + 1) unanswered;
+      ended = (
+        first,
+        subst (λ o. IsFirstLine o first) octets-is is-first,
+        more,
+        subst (λ (q : ℕ × Option Standing × ℕ × Class × Option (List ℕ)). IsTold q.0 q.1 q.2 q.3 q.4 first (λ reason. reason ≡ []) more)
+            (λ i. (t.bad_are i, t.stands_there i, count i, of-is i, line-is i)) (told_plain kept.bad kept.stands index of line first),
+        ap (λ (p : ℕ × ℕ × ℕ). more ++ end_line (p.0 + 1) (p.1 + 1) p.2) (λ i. (count i, t.bad_are i, unanswered-is i)),
+      );
+      text_is = whole-is ∙ ap (λ t. t ++ end_line (index + 1) (kept.bad + 1) unanswered) (append_assoc text (bad_lines index of line first) (place_lines kept.bad kept.stands))
+          ∙ append_assoc text more (end_line (index + 1) (kept.bad + 1) unanswered);
+      answer_is = good-is ∙ none-zero kept.bad (count_bad t.answers == 0);
+    }
+  where
+    same-class : (class : PairClass) → ends_at class ≡ ends_at PairMalformed → class ≡ PairMalformed
+    same-class class e = cc
+
+    some : (n : ℕ) → (n + 1 == 0) ≡ false
+    some n = grind arith
+
+    none-zero : (n : ℕ) (b : Bool) → (n + 1 == 0) ≡ (b && false)
+    none-zero n true = some n
+    none-zero n false = some n

@@ -1,0 +1,82 @@
+use Rattle.std.proofs.Common.{◌≡◌, ◌∙◌, ◌++◌, ◌∷◌, sym, ap, subst, refl, append-nil, true, false, ℕ, List, [], Option, length, map}
+use Rattle.std.specs.List.{AllByRecursion}
+use Rattle.std.specs.Option.{option_map}
+use Rattle.nntp_article.specs.declared.session.profile.Profile.{Profile}
+use Rattle.nntp_article.specs.Session.Limit.{profile_of}
+use Rattle.nntp_article.specs.Session.Spool.{Name}
+use Rattle.nntp_facts.specs.Conflict.{Placed, FitsThere, SomeHas, IsFound, told_with, below}
+use Rattle.nntp_facts.specs.Noted.{profile_kept}
+use Rattle.nntp_facts.specs.declared.class.Class.TheVariants.{Contradiction}
+use Rattle.nntp_pair.specs.Pairing.{asked_at}
+use Rattle.nntp_check.specs.Explaining.{bad_lines, place_lines, IsConflictOf}
+use Rattle.nntp_check.specs.ExplainingView.{Kept, standing_of, cited_of, placed_at}
+use Rattle.nntp_check.specs.Reasons.{core_lines}
+use Rattle.nntp_check.proofs.ExplainLemmas.{told_reason, on_ok}
+use Rattle.nntp_check.proofs.explainer.Explainer.refuse_contradiction.Goals as goal
+
+pub returns-then-not-branch-clause-text : goal.returns-then-not-branch-clause-text
+returns-then-not-branch-clause-text g c =
+    let pair = c.args.exchange in
+    let stands = option_map standing_of c.args.self.now.standing in
+    let lines = ap (λ (q : ℕ × Option (List ℕ) × List ℕ). c.args.self.now.text.items ++ bad_lines q.0 Contradiction q.1 q.2 ++ place_lines c.args.self.now.bad stands)
+    (λ i. (c.index.ensures.value i, c.line-line.ensures i, c.initial.ensures i)) in
+    told_reason c.args.self.now.bad stands pair.index Contradiction pair.line pair.initial _
+    c.args.self.now.text.items c.put_bad.new.self.text.items [] false
+    (sym c.if-not-branch.true ∙ c.in_ok-put_bad.ensures.told)
+    (c.in_ok-put_bad.ensures.text ∙ lines ∙ sym (append-nil _))
+    refl
+
+pub find-requires-clause-fit : goal.find-requires-clause-fit
+find-requires-clause-fit g c =
+    let kept = c.in_ok-put_bad.ensures.kept in
+    let placed : c.new-bad.result ≡ placed_at (option_map standing_of c.args.self.now.standing) c.args.position c.args.exchange =
+    c.new-bad.ensures ∙ ap (λ (name : Option Name). record { selected = name; position = c.args.position; asked = asked_at c.args.exchange.line; response = c.args.exchange.response })
+    (c.selected.ensures ∙ ap (λ (k : Kept). option_map (λ s. s.name) k.stands) kept) in
+    subst (λ (q : Profile × Placed × List Placed). AllByRecursion (FitsThere q.0) (q.1 ∷ q.2))
+    (λ i. (
+      profile_of (sym (c.limit-limit.ensures ∙ ap (λ (k : Kept). k.facts.limit) kept) i) (sym (c.marks-marks.ensures ∙ ap (λ (k : Kept). k.facts.marks) kept) i),
+      sym placed i,
+      sym (c.deref.ensures.value ∙ ap (λ (k : Kept). k.placed) kept) i,
+    ))
+    c.requires.fit
+
+pub find-requires-clause-conflict : goal.find-requires-clause-conflict
+find-requires-clause-conflict g c =
+    let kept = c.in_ok-put_bad.ensures.kept in
+    let placed : c.new-bad.result ≡ placed_at (option_map standing_of c.args.self.now.standing) c.args.position c.args.exchange =
+    c.new-bad.ensures ∙ ap (λ (name : Option Name). record { selected = name; position = c.args.position; asked = asked_at c.args.exchange.line; response = c.args.exchange.response })
+    (c.selected.ensures ∙ ap (λ (k : Kept). option_map (λ s. s.name) k.stands) kept) in
+    subst (λ (q : Profile × Placed × List Placed). SomeHas q.0 (told_with q.0 q.1 q.2 (below (length q.2))) → ⊥)
+    (λ i. (
+      profile_of (sym (c.limit-limit.ensures ∙ ap (λ (k : Kept). k.facts.limit) kept) i) (sym (c.marks-marks.ensures ∙ ap (λ (k : Kept). k.facts.marks) kept) i),
+      sym placed i,
+      sym (c.deref.ensures.value ∙ ap (λ (k : Kept). k.placed) kept) i,
+    ))
+    c.requires.conflict
+
+pub returns-clause-text : goal.returns-clause-text
+returns-clause-text g c =
+    let pair = c.args.exchange in
+    let self = c.args.self.now in
+    let stands = option_map standing_of self.standing in
+    let kept = c.in_ok-put_bad.ensures.kept in
+    let placed : c.new-bad.result ≡ placed_at stands c.args.position pair =
+    c.new-bad.ensures ∙ ap (λ (name : Option Name). record { selected = name; position = c.args.position; asked = asked_at pair.line; response = pair.response })
+    (c.selected.ensures ∙ ap (λ (k : Kept). option_map (λ s. s.name) k.stands) kept) in
+    let lines = ap (λ (q : ℕ × Option (List ℕ) × List ℕ). self.text.items ++ bad_lines q.0 Contradiction q.1 q.2 ++ place_lines self.bad stands)
+    (λ i. (c.index.ensures.value i, c.line-line.ensures i, c.initial.ensures i)) in
+    let found = subst (λ (q : Profile × Placed × List Placed). IsFound q.0 q.1 q.2 c.in_ok-core.core)
+    (λ i. (
+      profile_of ((c.limit-limit.ensures ∙ ap (λ (k : Kept). k.facts.limit) kept) i) ((c.marks-marks.ensures ∙ ap (λ (k : Kept). k.facts.marks) kept) i),
+      placed i,
+      (c.deref.ensures.value ∙ ap (λ (k : Kept). k.placed) kept) i,
+    ))
+    c.in_ok-core.ensures.found in
+    let cited : map cited_of c.deref-2.result.now ≡ map cited_of self.cited.items = ap (map cited_of) c.deref-2.ensures.value ∙ ap (λ (k : Kept). k.cited) kept in
+    on_ok c.put_core.result c.put_core.ensures c.put_core.ensures
+    (λ text _. told_reason self.bad stands pair.index Contradiction pair.line pair.initial
+    (IsConflictOf (profile_kept self.facts) (placed_at stands c.args.position pair) self.placed.items (map cited_of self.cited.items))
+    self.text.items c.put_core.new.text.items (core_lines (map cited_of c.deref-2.result.now) c.in_ok-core.core) true
+    (sym c.if-not-branch.false ∙ c.in_ok-put_bad.ensures.told)
+    (text ∙ ap (λ t. t ++ core_lines (map cited_of c.deref-2.result.now) c.in_ok-core.core) (c.in_ok-put_bad.ensures.text ∙ lines))
+    (c.in_ok-core.core, found, c.in_ok-core.ensures.most, ap (λ answers. core_lines answers c.in_ok-core.core) cited))

@@ -1,0 +1,81 @@
+-- What `explain` prints of why an answer is bad.
+use Rattle.std.specs.Prelude.{ℕ, ◌-◌, List, [], ◌∷◌, ◌++◌, Option, None, Some, unwrap_or, slice_get, codes, decimal}
+use Rattle.std.specs.List.{flat_map}
+use Rattle.std.specs.Option.{option_map, option_map_or}
+use Rattle.nntp_article.specs.Session.Misfit.{Misfit, wrong_code, wrong_name, wrong_number, wrong_id, below_low, wrong_marks, beyond_limit, not_above}
+use Rattle.nntp_article.specs.Session.Misfit.{beyond_range, unmatched, listed_twice, no_head, other_id}
+use Rattle.nntp_facts.specs.declared.position.Position.{Position}
+use Rattle.nntp_facts.specs.declared.position.Position.TheVariants.{Nowhere, First, Known}
+use Rattle.nntp_check.specs.Judging.{shown}
+use Rattle.nntp_check.specs.Report.{escaped, command_line}
+use Rattle.nntp_facts.specs.Conflict.{Core}
+use Rattle.nntp_check.specs.Standing.{Standing, Cited}
+
+-- ---- where the session stands
+
+-- the current article, and the answer that made it so: it is not known where the session stands at the first one
+abbrev pub current_text : Position → ℕ → List ℕ
+current_text Nowhere by = codes "first"
+current_text First by = codes "first"
+current_text (Known n) by = decimal n ++ codes " since " ++ decimal by
+
+-- the line that tells where the session stands
+abbrev pub standing_line : Option Standing → List ℕ
+standing_line None = codes "in no group\n"
+standing_line (Some s) = codes "in " ++ escaped s.name ++ codes " since " ++ decimal s.selected_by ++ codes " at " ++ current_text s.position s.moved_by ++ codes "\n"
+
+-- ---- why it doesn't fit
+
+-- a line of a word and a number
+abbrev pub number_line : List ℕ → ℕ → List ℕ
+number_line word n = word ++ decimal n ++ codes "\n"
+
+-- a line of a word and octets
+abbrev pub octets_line : List ℕ → List ℕ → List ℕ
+octets_line word octets = word ++ escaped octets ++ codes "\n"
+
+-- the codes that fit, if any do
+abbrev pub allowed_text : List ℕ → List ℕ
+allowed_text [] = []
+allowed_text (c ∷ cs) = codes " allowed" ++ flat_map (λ code. codes " " ++ decimal code) (c ∷ cs)
+
+-- the line of a reason
+abbrev pub misfit_line : Misfit → List ℕ
+misfit_line (wrong_code code allowed) = codes "why code " ++ decimal code ++ allowed_text allowed ++ codes "\n"
+misfit_line (wrong_name name) = octets_line (codes "why name ") name
+misfit_line (wrong_number n) = number_line (codes "why number ") n
+misfit_line (wrong_id id) = octets_line (codes "why id ") id
+misfit_line (below_low low) = number_line (codes "why low ") low
+misfit_line (wrong_marks name) = octets_line (codes "why marks ") name
+misfit_line (beyond_limit n) = number_line (codes "why limit ") n
+misfit_line (not_above before n) = codes "why order " ++ decimal before ++ codes " " ++ decimal n ++ codes "\n"
+misfit_line (beyond_range n) = number_line (codes "why range ") n
+misfit_line (unmatched name) = octets_line (codes "why match ") name
+misfit_line (listed_twice name) = octets_line (codes "why twice ") name
+misfit_line no_head = codes "why head\n"
+misfit_line (other_id said) = octets_line (codes "why own ") said
+
+-- ---- with which answers it conflicts
+
+-- an answer that is a reason: its lines, and where the session stands there
+abbrev pub because_lines : Cited → List ℕ
+because_lines c =
+    codes "because answer " ++ decimal c.index ++ codes "\n" ++ command_line (option_map shown c.line)
+    ++ codes "answer " ++ escaped (shown c.initial) ++ codes "\n" ++ standing_line c.stands
+
+-- the same of the answer at a place
+abbrev pub because_at : List Cited → ℕ → List ℕ
+because_at answers k = option_map_or because_lines (slice_get answers k) []
+
+-- which answer it is that stands at a place
+abbrev pub index_at : List Cited → ℕ → ℕ
+index_at answers k = option_map_or (λ c. c.index) (slice_get answers k) 0
+
+-- the line of the answers below a bound, where further reasons are among them
+abbrev pub rest_line : List Cited → Option ℕ → List ℕ
+rest_line answers None = []
+rest_line answers (Some bound) = codes "because some of " ++ decimal (index_at answers 0) ++ codes " to " ++ decimal (index_at answers (bound - 1)) ++ codes "\n"
+
+-- the answers of a core, or of the end of one
+abbrev pub core_lines : List Cited → Core → List ℕ
+core_lines answers core = rest_line answers core.rest ++ flat_map (because_at answers) core.places

@@ -1,0 +1,71 @@
+-- Where a session stands, and by which answers (RFC 3977, section 6.1).
+use Rattle.std.specs.Prelude.{ℕ, ◌==◌, if◌then◌else◌, List, [], ◌∷◌, Option, None, Some, option_map}
+use Rattle.nntp_wire.specs.Answer.{Response, group_is, numbers_are}
+use Rattle.nntp_article.specs.Session.Spool.{Name}
+use Rattle.nntp_facts.specs.Asks.{position_after}
+use Rattle.nntp_facts.specs.declared.position.Position.{Position}
+use Rattle.nntp_facts.specs.declared.position.Position.TheVariants.{First, Known}
+use Rattle.nntp_pair.specs.Pairing.{Paired, asked_at}
+
+-- the selected group, the answer that selected it, the position in it, and the answer that led there
+pub record Standing : Type 0 where
+  pub name : Name
+  pub selected_by : ℕ
+  pub position : Position
+  pub moved_by : ℕ
+
+-- the answer that led to a position: this one, unless the session stood there before
+abbrev pub mover : Position → Position → ℕ → ℕ → ℕ
+mover (Known before) (Known after) old this = if before == after then old else this
+mover before (Known after) old this = this
+mover before after old this = old
+
+-- the answer selected the group
+abbrev pub selected : Name → ℕ → Standing
+selected name index = record { name = name; selected_by = index; position = First; moved_by = index }
+
+-- the position in a group behind an answer
+abbrev pub moved : Paired → Standing → Standing
+moved pair s =
+    let position = position_after s.position (asked_at pair.line) pair.response in
+    record s { position = position; moved_by = mover s.position position s.moved_by pair.index }
+
+-- where an answer leaves the session
+abbrev pub standing_by : Response → Paired → Option Standing → Option Standing
+standing_by (group_is marks name) pair s = Some (selected name pair.index)
+standing_by (numbers_are marks name lines) pair s = Some (selected name pair.index)
+standing_by response pair s = option_map (moved pair) s
+
+abbrev pub standing_after : Option Standing → Paired → Option Standing
+standing_after s pair = standing_by pair.response pair s
+
+-- where answers leave it, one after the other
+abbrev pub standing_from : Option Standing → List Paired → Option Standing
+standing_from s [] = s
+standing_from s (pair ∷ pairs) = standing_from (standing_after s pair) pairs
+
+-- where these answers leave a session; no group is selected at first
+abbrev pub standing : List Paired → Option Standing
+standing pairs = standing_from None pairs
+
+-- ---- answers with where they stand
+
+-- an accepted answer as a reason cites it: its place, its line and its initial line, and where the session stands before it
+pub record Cited : Type 0 where
+  pub index : ℕ
+  pub line : Option (List ℕ)
+  pub initial : List ℕ
+  pub stands : Option Standing
+
+-- an answer before which the session stands there
+abbrev pub cited_at : Option Standing → Paired → Cited
+cited_at s pair = record { index = pair.index; line = pair.line; initial = pair.initial; stands = s }
+
+-- answers from there on, one after the other
+abbrev pub cited_from : Option Standing → List Paired → List Cited
+cited_from s [] = []
+cited_from s (pair ∷ pairs) = cited_at s pair ∷ cited_from (standing_after s pair) pairs
+
+-- the answers of a session
+abbrev pub cited : List Paired → List Cited
+cited pairs = cited_from None pairs

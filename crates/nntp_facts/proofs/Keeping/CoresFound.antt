@@ -1,0 +1,207 @@
+-- Finding the answers with which a bad one conflicts.
+use Rattle.std.proofs.Common.{arith, zero, suc, ◌+◌, ◌*◌, ◌^◌, ◌<◌, ◌≤◌, ◌≡◌, ◌⊎◌, ℕ, Bool, true, false, IsTrue, Option, None, Some, inl, inr, refl, sym, ap, subst, ◌∙◌}
+use Rattle.std.proofs.Common.{List, [], ◌∷◌, ◌++◌, length, length-append, append-nil, append_assoc, take, get_or}
+use Rattle.std.specs.Prelude.{Contains, MatchOption, nat_lt}
+use Rattle.std.specs.List.{AllByRecursion}
+use Rattle.std.proofs.lemmas.Bool.{and_from, cases_lt}
+use Rattle.std.proofs.lemmas.Bool.Decides.{nat_tests}
+use Rattle.std.proofs.lemmas.List.{take_more}
+use Rattle.nntp_article.specs.Session.Machine.{is_ascending}
+use Rattle.nntp_article.specs.declared.session.profile.Profile.{Profile}
+use Rattle.nntp_facts.specs.Given.{size}
+use Rattle.nntp_facts.specs.Together.{Together}
+use Rattle.nntp_facts.specs.Conflict.{Placed, FitsThere, told, told_with, SomeHas, below, AreFound, IsPartOfCore, AreAmong, IsEndOfCore, IsFound}
+use Rattle.nntp_facts.specs.Kept.{Kept, IsKept}
+use Rattle.nntp_facts.specs.Told.{AreTold, AreToldWith, PlacesTold}
+use Rattle.nntp_facts.proofs.Members.{In, all_at, all_from, in_front, in_back, in_cases, contains_in, in_contains, every}
+use Rattle.nntp_facts.proofs.Given.FirstBadAnswer.{none_permitted}
+use Rattle.nntp_facts.proofs.Together.FactsOfASpoolStand.{stand}
+use Rattle.nntp_facts.proofs.Conflicts.{with_told, told_together, fewer_places, from_below, core_step, core_done, found_in_each}
+
+-- ---- places
+
+-- there are so many below a bound
+below_length : (n : ℕ) → length (below n) ≡ n
+below_length zero = refl
+below_length (suc n) = omega (arith, length-append (below n) (n ∷ []), below_length n)
+
+-- the order of two lists of places doesn't matter
+swapped : (xs ys : List ℕ) (k : ℕ) → In k (xs ++ ys) → In k (ys ++ xs)
+swapped xs ys k i = elim (in_cases k xs ys i) [ inl j ↦ in_back k ys xs j | inr j ↦ in_front k ys xs j ]
+
+-- one place more below
+below_more : (places : List ℕ) (place : ℕ) → (places ++ below place) ++ place ∷ [] ≡ places ++ below (place + 1)
+below_more places place = let next : suc place ≡ place + 1 = omega arith in append_assoc places (below place) (place ∷ []) ∙ ap (λ n. places ++ below n) next
+
+-- one of the first places is one of them
+taken : (k : ℕ) (n : ℕ) (places : List ℕ) → In k (take n places) → In k places
+taken k zero places i = absurd i
+taken k (suc n) [] i = absurd i
+taken k (suc n) (j ∷ places) (inl e) = inl e
+taken k (suc n) (j ∷ places) (inr i) = inr (taken k n places i)
+
+-- those that are found ascend from the bound on
+found_from : (Stand : List ℕ → Type 0) (bound : ℕ) (places : List ℕ) → AreFound Stand bound places → (k : ℕ) → In k places → bound ≤ k
+found_from Stand bound [] f k i = absurd i
+found_from Stand bound (j ∷ places) f k (inl e) = let le = f.0 in omega (arith, le, e)
+found_from Stand bound (j ∷ places) f k (inr i) = let le = f.0 in let rest = found_from Stand (j + 1) places f.2 k i in omega (arith, le, rest)
+
+-- each is below the next
+pub found_ascend : (Stand : List ℕ → Type 0) (bound : ℕ) (places : List ℕ) → AreFound Stand bound places → IsTrue (is_ascending places)
+found_ascend Stand bound [] f = refl
+found_ascend Stand bound (j ∷ places) f =
+    and_from _ (is_ascending places)
+    (every (λ m. nat_lt j m) places (λ k i. let le = found_from Stand (j + 1) places f.2 k i in grind (arith, nat_tests, le)))
+    (found_ascend Stand (j + 1) places f.2)
+
+-- so they are few
+found_few : (Stand : List ℕ → Type 0) (bound n : ℕ) (places : List ℕ) → bound ≤ n → AreFound Stand bound places → AllByRecursion (λ k. k < n) places → length places + bound ≤ n
+found_few Stand bound n [] le f there = omega (arith, le)
+found_few Stand bound n (j ∷ places) le f there =
+    let low = f.0 in
+    let high = there.0 in
+    let rest = found_few Stand (j + 1) n places (omega (arith, high)) f.2 there.1 in
+    omega (arith, low, rest)
+
+-- ---- what is told
+
+-- nothing stands together
+pub nothing_together : (profile : Profile) → Together []
+nothing_together profile = let n = none_permitted profile [] [] in stand profile.limit n.0 [] n.1 tt
+
+-- of a bad answer alone
+pub bad_told : (profile : Profile) (bad : Placed) (answers : List Placed) (new : Kept) (does : Bool) → AreTold profile [] (told profile bad) new does → PlacesTold profile bad answers [] new does
+bad_told profile bad answers new true t = record {
+  kept = subst (λ facts. IsKept facts new) (sym (append-nil (told profile bad))) t.1;
+  together = subst Together (sym (append-nil (told profile bad))) t.0;
+  small = (let few = t.2 in
+      let le : size (told profile bad) ≤ 2 ^ 65 * (0 + 1) = omega (arith, few) in
+      subst (λ facts. size facts ≤ 2 ^ 65 * (0 + 1)) (sym (append-nil (told profile bad))) le);
+}
+bad_told profile bad answers new false none = subst (λ facts. SomeHas profile facts → ⊥) (sym (append-nil (told profile bad))) none
+
+module _ (profile : Profile) (bad : Placed) (answers : List Placed) where
+  -- what conflicts with a front of the places conflicts with all
+  pub more_conflict : (front places : List ℕ) → ((k : ℕ) → In k front → In k places) → (SomeHas profile (told_with profile bad answers front) → ⊥)
+      → SomeHas profile (told_with profile bad answers places) → ⊥
+  more_conflict front places sub none h = none (fewer_places profile bad answers front places sub h)
+
+  -- of the places one after the other
+  pub next_told : (places : List ℕ) (i : ℕ) (new : Kept) (does : Bool) → i < length places → PlacesTold profile bad answers (take i places ++ get_or places i 0 ∷ []) new does
+      → PlacesTold profile bad answers (take (i + 1) places) new does
+  next_told places i new does l t = subst (λ these. PlacesTold profile bad answers these new does) (sym (take_more places i 0 l)) t
+
+  -- where one of them doesn't stand, all don't
+  pub next_conflict : (places : List ℕ) (i : ℕ) → (SomeHas profile (told_with profile bad answers (take i places)) → ⊥) → SomeHas profile (told_with profile bad answers places) → ⊥
+  next_conflict places i none = more_conflict (take i places) places (λ k j. taken k i places j) none
+
+  -- of all of them, where they are kept
+  pub kept_told : (o : Option Kept) (k : Kept) (these places : List ℕ) → o ≡ Some k → these ≡ places
+      → MatchOption o (SomeHas profile (told_with profile bad answers these) → ⊥) (AreToldWith profile bad answers these) → AreToldWith profile bad answers places k
+  kept_told o k these places is same t =
+      subst (λ places. AreToldWith profile bad answers places k) same
+      (subst (λ o. MatchOption o (SomeHas profile (told_with profile bad answers these) → ⊥) (AreToldWith profile bad answers these)) is t)
+
+  -- where they aren't, they conflict
+  pub none_kept : (o : Option Kept) (these places : List ℕ) → ((k : Kept) → o ≡ Some k → ⊥) → these ≡ places
+      → MatchOption o (SomeHas profile (told_with profile bad answers these) → ⊥) (AreToldWith profile bad answers these) → SomeHas profile (told_with profile bad answers places) → ⊥
+  none_kept None these places none same t = subst (λ places. SomeHas profile (told_with profile bad answers places) → ⊥) same t
+  none_kept (Some k) these places none same t = absurd (none k refl)
+
+  -- those below a place one after the other
+  pub below_told : (places : List ℕ) (place : ℕ) (k : Kept) → AreToldWith profile bad answers ((places ++ below place) ++ place ∷ []) k
+      → AreToldWith profile bad answers (places ++ below (place + 1)) k
+  below_told places place k t = subst (λ these. AreToldWith profile bad answers these k) (below_more places place) t
+
+  module _ (fit : FitsThere profile bad) (fits : AllByRecursion (FitsThere profile) answers) where
+    -- what is told stands: some spool has it
+    pub had : (places : List ℕ) (k : Kept) → length places < 2 ^ 66 → AreToldWith profile bad answers places k → SomeHas profile (told_with profile bad answers places)
+    had places k few t =
+        let le = t.small in
+        let small : size (told_with profile bad answers places) < 2 ^ 210 = omega (arith, le, few) in
+        (told_together profile (told_with profile bad answers places) (with_told profile bad answers places fit fits) small).1 t.together
+
+    module _ (bound : ℕ) (places : List ℕ) (within : bound ≤ length answers) (short : length answers < 2 ^ 64) (p : IsPartOfCore profile bad answers bound places) where
+      -- those that are found are few
+      few : length places < 2 ^ 64
+      few = let all = found_few (λ places. SomeHas profile (told_with profile bad answers places)) bound (length answers) places within p.found p.there in omega (arith, all, short)
+
+      -- they stand alone, once they are told
+      pub alone : (k : Kept) → AreToldWith profile bad answers places k → SomeHas profile (told_with profile bad answers places)
+      alone k t = had places k (let l = few in omega (arith, l)) t
+
+      -- and with those below a place
+      with_below : (k : Kept) (place : ℕ) → place ≤ bound → AreToldWith profile bad answers (places ++ below place) k → SomeHas profile (told_with profile bad answers (below place ++ places))
+      with_below k place le t =
+          fewer_places profile bad answers (below place ++ places) (places ++ below place) (swapped (below place) places)
+          (had (places ++ below place) k (let l = few in let count = length-append places (below place) in let low = below_length place in omega (arith, l, count, low, le, within, short)) t)
+
+      -- where the next one breaks it, that one is found
+      pub place_found : (k : Kept) (place : ℕ) → place < bound → AreToldWith profile bad answers (places ++ below place) k
+          → (SomeHas profile (told_with profile bad answers ((places ++ below place) ++ place ∷ [])) → ⊥) → IsPartOfCore profile bad answers place (place ∷ places)
+      place_found k place l t none =
+          core_step profile bad answers bound place places p l within (with_below k place (omega (arith, l)) t)
+          (more_conflict ((places ++ below place) ++ place ∷ []) (below (place + 1) ++ places)
+          (λ j i. swapped places (below (place + 1)) j (subst (In j) (below_more places place) i)) none)
+
+      -- where all others stand, the last one is
+      pub last_found : (k : Kept) (last : ℕ) → bound ≡ last + 1 → AreToldWith profile bad answers (places ++ below last) k → IsPartOfCore profile bad answers last (last ∷ places)
+      last_found k last e t =
+          core_step profile bad answers bound last places p (omega (arith, e)) within (with_below k last (omega (arith, e)) t)
+          (subst (λ n. SomeHas profile (told_with profile bad answers (below n ++ places)) → ⊥) e p.conflict)
+
+      -- what stands alone isn't all of it
+      pub some_left : (k : Kept) → AreToldWith profile bad answers places k → 0 < bound
+      some_left k t = elim (cases_lt 0 bound) [
+        | inl some ↦ some
+        | inr le ↦ absurd ((let e : bound ≡ 0 = omega (arith, le) in subst (λ n. SomeHas profile (told_with profile bad answers (below n ++ places)) → ⊥) e p.conflict) (alone k t))
+      ]
+
+      -- all of it
+      pub whole_found : (SomeHas profile (told_with profile bad answers places) → ⊥) → IsFound profile bad answers (record { places = places; rest = None })
+      whole_found none = record {
+        ascending = found_ascend (λ places. SomeHas profile (told_with profile bad answers places)) bound places p.found;
+        found = core_done profile bad answers bound places p none;
+      }
+
+      -- the end of it
+      pub end_found : SomeHas profile (told_with profile bad answers places) → IsFound profile bad answers (record { places = places; rest = Some bound })
+      end_found stand = record {
+        ascending = found_ascend (λ places. SomeHas profile (told_with profile bad answers places)) bound places p.found;
+        found = record {
+          there = all_from (λ k. (bound ≤ k) × (k < length answers)) places
+              (λ k i. (found_from (λ places. SomeHas profile (told_with profile bad answers places)) bound places p.found k i, all_at (λ k. k < length answers) k places p.there i));
+          conflict = p.conflict;
+          stand = stand;
+          in_each = λ some among none k i.
+              contains_in k some
+              (found_in_each profile bad answers bound places some k p (λ j t. in_contains j (below bound ++ places) (among j (contains_in j some t))) none (in_contains k places i));
+        };
+      }
+
+-- ---- the end of a core
+
+-- one of the places is below the bound, or none is
+low_or_not : (bound : ℕ) (places : List ℕ) → ((k : ℕ) × (k < bound) × In k places) ⊎ ((k : ℕ) → In k places → bound ≤ k)
+low_or_not bound [] = inr (λ k i. absurd i)
+low_or_not bound (j ∷ places) = elim (cases_lt j bound) [
+  | inl l ↦ inl (j, l, inl refl)
+  | inr le ↦ elim (low_or_not bound places) [
+    | inl there ↦ inl (there.0, there.1, inr there.2)
+    | inr none ↦ inr (λ k i. elim i [ inl e ↦ omega (arith, le, e) | inr more ↦ none k more ])
+  ]
+]
+
+-- each conflict among those below the bound and those at the places has one below the bound
+pub one_below : (profile : Profile) (bad : Placed) (answers : List Placed) (bound : ℕ) (places some : List ℕ) → IsEndOfCore profile bad answers bound places
+    → AreAmong some (below bound ++ places) → (SomeHas profile (told_with profile bad answers some) → ⊥) → (k : ℕ) × (k < bound) × Contains some k
+one_below profile bad answers bound places some e among none = elim (low_or_not bound some) [
+  | inl there ↦ (there.0, there.1, contains_in there.0 some there.2)
+  | inr high ↦ absurd (none (fewer_places profile bad answers some places (sub high) e.stand))
+]
+  where
+    sub : ((k : ℕ) → In k some → bound ≤ k) → (k : ℕ) → In k some → In k places
+    sub high k i = elim (in_cases k (below bound) places (in_contains k (below bound ++ places) (among k (contains_in k some i)))) [
+      | inl low ↦ (let l = from_below k bound low in let le = high k i in absurd (omega (arith, l, le)))
+      | inr there ↦ there
+    ]

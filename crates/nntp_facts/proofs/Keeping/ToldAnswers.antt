@@ -1,0 +1,251 @@
+-- Noting what answers say by themselves.
+use Rattle.std.proofs.Common.{arith, zero, suc, ◌+◌, ◌*◌, ◌^◌, ◌<◌, ◌≤◌, ◌≡◌, ◌⊎◌, ◌↔◌, ℕ, Bool, true, false, IsTrue, Option, None, Some, inl, inr, sym, ap, subst, ◌∙◌}
+use Rattle.std.proofs.Common.{List, [], ◌∷◌, ◌++◌, length, length-append, append-nil, append_assoc}
+use Rattle.std.specs.Prelude.{IfSome, MatchOption, unwrap_or, option_map, slice_get}
+use Rattle.std.specs.List.{AllByRecursion, flat_map}
+use Rattle.std.specs.Option.{option_map_or}
+use Rattle.std.proofs.Math.Path.{ap₂}
+use Rattle.std.proofs.lemmas.Bool.{or_left}
+use Rattle.std.proofs.lemmas.Grind.{flat_map-append}
+use Rattle.nntp_wire.specs.declared.marks.Marks.TheVariants.{Lenient}
+use Rattle.nntp_wire.specs.declared.water_marks.WaterMarks.{WaterMarks}
+use Rattle.nntp_wire.specs.Answer.{Asked, Response}
+use Rattle.nntp_pair.specs.Pairing.{lines_in}
+use Rattle.nntp_article.specs.Session.Spool.{Name}
+use Rattle.nntp_article.specs.Session.Machine.{Visible, start, fits, is_same}
+use Rattle.nntp_article.specs.declared.session.profile.Profile.{Profile}
+use Rattle.nntp_facts.specs.declared.position.Position.{Position}
+use Rattle.nntp_facts.specs.Asks.{Estimates}
+use Rattle.nntp_facts.specs.Facts.{Fact, Holds, ThereIs, Asks, here, facts_of, group_of}
+use Rattle.nntp_facts.specs.Given.{is_shown_group, shows_group, size}
+use Rattle.nntp_facts.specs.Part.{Said, Says}
+use Rattle.nntp_facts.specs.Summary.{AreBounded}
+use Rattle.nntp_facts.specs.Together.{Together, AgreeWithin, Join, IsWellFormed}
+use Rattle.nntp_facts.specs.Conflict.{Placed, FitsThere, said, widest, a_group, the_group, told, SomeHas, told_at, told_with}
+use Rattle.nntp_facts.specs.Kept.{Kept, IsKept, AreAdded}
+use Rattle.nntp_facts.specs.Saying.{Saying, OfGroup, Tells, TellsHere, TellsThere, IsShownThen, IsSelectedShown, numbers_listed}
+use Rattle.nntp_facts.specs.Told.{AreTold, AreToldWith, PlacesTold}
+use Rattle.nntp_facts.proofs.Members.{any_back, all_front}
+use Rattle.nntp_facts.proofs.Given.FirstBadAnswer.{size-append}
+use Rattle.nntp_facts.proofs.Ids.SizeOfASession.{answer_size}
+use Rattle.nntp_facts.proofs.Session.GroupOfAnAnswer.{same_selected}
+use Rattle.nntp_facts.proofs.Together.FactsJoin.{together_more, none_agrees, group_agrees, answer_agrees}
+use Rattle.nntp_facts.proofs.Together.FactsOfASpoolStand.{stand, same_itself}
+use Rattle.nntp_facts.proofs.Keeping.NotedExchange.{Adds}
+use Rattle.nntp_facts.proofs.Keeping.SayingRows.{of_group, tells_marks}
+
+-- ---- that there is such a group
+
+-- what is said of it agrees with itself
+the_group_agrees : (profile : Profile) (group : Option Name) → AgreeWithin (the_group profile group)
+the_group_agrees profile None = none_agrees
+the_group_agrees profile (Some name) = group_agrees name (Estimates Lenient (widest profile))
+
+-- a saying with the widest marks tells it
+pub widest_told : (profile : Profile) (facts : List Fact) (name : Name) (p : Said) (m : WaterMarks) (s : Saying) → m ≡ widest profile
+    → Says p (Estimates Lenient m ∷ []) → AreBounded (Estimates Lenient m ∷ []) → s ≡ of_group name p → Tells facts s (a_group profile name)
+widest_told profile facts name p m s e says bounded s_is =
+    (tells_marks {selected = name} facts name p Lenient m s (a_group profile name) says bounded s_is (ap (λ m. ThereIs name ∷ Asks name (Estimates Lenient m) ∷ []) e)).tells
+
+-- nothing joins all
+pub nothing_added : (facts : List Fact) (k : Kept) → Together facts → IsKept facts k → AreAdded facts [] k k true
+nothing_added facts k together kept = (
+  (together_more facts [] together none_agrees).0 (subst Together (sym (append-nil facts)) together),
+  subst (λ facts. IsKept facts k) (sym (append-nil facts)) kept,
+)
+
+-- ---- the group of a saying
+
+-- facts that show the selected group alone
+shown_facts : Option Name → List Fact
+shown_facts None = []
+shown_facts (Some name) = ThereIs name ∷ []
+
+-- they do, behind others
+shown_there : (facts : List Fact) (selected : Option Name) → IfSome selected (λ name. is_shown_group (facts ++ shown_facts selected) name ≡ true)
+unfolding shown_facts
+shown_there facts None = tt
+shown_there facts (Some name) = any_back (shows_group name) facts (ThereIs name ∷ []) (or_left (is_same name name) _ (same_itself name))
+
+module _ (selected : Option Name) (s : Saying) (more : List Fact) (t : TellsThere selected s more) where
+  -- it tells them behind the selected group alone
+  h : TellsHere (unwrap_or selected []) (shown_facts selected) s more
+  h = t (shown_facts selected) (shown_there [] selected)
+
+  -- the group that is said to be there
+  pub group_said : (name : Name) → s.there_is ≡ Some name → group_of more ≡ Some name
+  group_said name e = by s.group (subst (λ o. IfSome o (λ name. MatchOption s.group ⊥ (λ g. g.name ≡ name))) e h.tells.may.there) h.group
+    where
+      by : (o : Option OfGroup) → MatchOption o ⊥ (λ g. g.name ≡ name) → option_map (λ g. g.name) o ≡ group_of more → group_of more ≡ Some name
+      by None none same = absurd none
+      by (Some g) is same = sym same ∙ ap (λ name. Some name) is
+
+  -- the selected group
+  pub selected_said : (g : OfGroup) (name : Name) → s.there_is ≡ None → s.group ≡ Some g → selected ≡ Some name → group_of more ≡ Some name
+  selected_said g name none e here =
+      let there : (s.there_is ≡ Some g.name) ⊎ (g.name ≡ unwrap_or selected []) = subst (λ o. IfSome o (λ g. (s.there_is ≡ Some g.name) ⊎ (g.name ≡ unwrap_or selected []))) e h.there in
+      let same : Some g.name ≡ group_of more = subst (λ o. option_map (λ g. g.name) o ≡ group_of more) e h.group in
+      elim there [
+        | inl is ↦ absurd (let n : None ≡ Some g.name = sym none ∙ is in cc)
+        | inr is ↦ sym same ∙ ap (λ name. Some name) (is ∙ ap (λ o. unwrap_or o []) here)
+      ]
+
+  -- none
+  pub none_said : s.group ≡ None → group_of more ≡ None
+  none_said e = sym (subst (λ o. option_map (λ g. g.name) o ≡ group_of more) e h.group)
+
+  -- it says there is the group, or one is selected
+  pub some_selected : (g : OfGroup) → s.there_is ≡ None → s.group ≡ Some g → selected ≡ None → ⊥
+  some_selected g none e here =
+      let u = t [] (subst (λ o. IfSome o (λ name. is_shown_group [] name ≡ true)) (sym here) tt) in
+      let shown : IsShownThen [] s.there_is u.tells.asks g.name = subst (λ o. IfSome o (λ g. IsShownThen [] s.there_is u.tells.asks g.name)) e u.tells.may.shown in
+      elim shown [ inl is ↦ cc | inr is ↦ (let n : None ≡ Some g.name = sym none ∙ is.0 in cc) ]
+
+  -- behind others, and that there is that group, it tells them
+  pub told_behind : (profile : Profile) (facts : List Fact) → Tells (facts ++ the_group profile (group_of more)) s more
+  told_behind profile facts = record {
+    asks = u.tells.asks;
+    same = u.tells.same;
+    may = record {
+      numbers = u.tells.may.numbers;
+      shown = by s.group u.group;
+      there = u.tells.may.there;
+      placed = u.tells.may.placed;
+      article = u.tells.may.article;
+      groups = u.tells.may.groups;
+    };
+  }
+    where
+      u : TellsHere (unwrap_or selected []) (facts ++ shown_facts selected) s more
+      u = t (facts ++ shown_facts selected) (shown_there facts selected)
+
+      by : (o : Option OfGroup) → option_map (λ g. g.name) o ≡ group_of more → IfSome o (λ g. IsShownThen (facts ++ the_group profile (group_of more)) s.there_is u.tells.asks g.name)
+      by None same = tt
+      by (Some g) same = inl (subst (λ o. is_shown_group (facts ++ the_group profile o) g.name ≡ true) same
+          (any_back (shows_group g.name) facts (a_group profile g.name) (or_left (is_same g.name g.name) _ (same_itself g.name))))
+
+-- ---- an answer
+
+-- what it says, behind the selected group
+pub there_told : (profile : Profile) (a : Placed) (asked : Asked) (response : Response) (at : Position) (name : Name) (numbers : List ℕ) (s : Saying)
+    → FitsThere profile a → asked ≡ a.asked → response ≡ a.response → at ≡ a.position → name ≡ unwrap_or a.selected [] → numbers ≡ numbers_listed response
+    → ((other : Profile) (v : Visible) (all : List Fact) → IsTrue (fits other v asked response) → IsSelectedShown v all → name ≡ here v → numbers ≡ numbers_listed response
+    → TellsHere name all s (facts_of profile.marks v at asked response))
+    → TellsThere a.selected s (said profile.marks a)
+there_told profile a asked response at name numbers s (v, e, f) to by stands named listed tells all shown =
+    let fitting : IsTrue (fits profile v asked response) = ap₂ (λ asked response. fits profile v asked response) to by ∙ f in
+    let t = tells profile v all fitting (subst (λ o. IfSome o (λ name. is_shown_group all name ≡ true)) (sym e) shown) (named ∙ sym (ap (λ o. unwrap_or o []) e)) listed in
+    let same : facts_of profile.marks v at asked response ≡ said profile.marks a =
+    ap₂ (λ asked response. facts_of profile.marks v at asked response) to by ∙ ap (λ at. facts_of profile.marks v at a.asked a.response) stands
+    ∙ same_selected profile.marks v (record start.visible { selected = a.selected }) e a.position a.asked a.response in
+    subst (λ name. TellsHere name all s (said profile.marks a)) named (subst (TellsHere name all s) same t)
+
+-- that there is the group says little
+group_size : (profile : Profile) (group : Option Name) → size (the_group profile group) ≤ 3
+group_size profile None = omega arith
+group_size profile (Some name) = omega arith
+
+-- and so an answer of few lines does
+told_size : (profile : Profile) (a : Placed) → lines_in a.response < 2 ^ 64 → size (told profile a) ≤ 2 ^ 65
+told_size profile a few =
+    let own = said profile.marks a in
+    let both = size-append (the_group profile (group_of own)) own in
+    let group = group_size profile (group_of own) in
+    let here = answer_size profile.marks (record start.visible { selected = a.selected }) a.position a.asked a.response in
+    omega (arith, both, group, here, few)
+
+module _ (profile : Profile) (a : Placed) (facts : List Fact) (together : Together facts) where
+  abbrev own : List Fact
+  own = said profile.marks a
+
+  abbrev group : List Fact
+  group = the_group profile (group_of own)
+
+  -- the group can't be there
+  pub group_refused : (new : Kept) → (Join facts group → ⊥) → AreTold profile facts (told profile a) new false
+  group_refused new none h =
+      let holds = subst (AllByRecursion (Holds h.0)) (sym (append_assoc facts group own)) h.2 in
+      none ((together_more facts group together (the_group_agrees profile (group_of own))).0
+      (stand profile.limit h.0 (facts ++ group) h.1 (all_front (Holds h.0) (facts ++ group) own holds)))
+
+  -- the group is there, and what is said of it is noted
+  pub answer_told : (mid new : Kept) (s : Saying) (does : Bool) → Join facts group → IsKept (facts ++ group) mid → AllByRecursion IsWellFormed own → lines_in a.response < 2 ^ 64
+      → TellsThere a.selected s own → Adds mid new s does → AreTold profile facts (told profile a) new does
+  answer_told mid new s does joins kept formed few tells adds = by does (adds (facts ++ group) own kept both formed (told_behind a.selected s own tells profile facts))
+    where
+      both : Together (facts ++ group)
+      both = (together_more facts group together (the_group_agrees profile (group_of own))).1 joins
+
+      next : Together ((facts ++ group) ++ own) ↔ Join (facts ++ group) own
+      next = together_more (facts ++ group) own both (answer_agrees profile.marks (record start.visible { selected = a.selected }) a.position a.asked a.response)
+
+      by : (does : Bool) → AreAdded (facts ++ group) own mid new does → AreTold profile facts (told profile a) new does
+      by true added = (
+        subst Together (append_assoc facts group own) (next.1 added.0),
+        subst (λ facts. IsKept facts new) (append_assoc facts group own) added.1,
+        told_size profile a few,
+      )
+      by false added = λ h.
+          added.0 (next.0 (stand profile.limit h.0 ((facts ++ group) ++ own) h.1 (subst (AllByRecursion (Holds h.0)) (sym (append_assoc facts group own)) h.2)))
+
+-- ---- answers at places
+
+module _ (profile : Profile) (bad : Placed) (answers : List Placed) (places : List ℕ) (place : ℕ) where
+  -- what those at one place more say
+  with_place : (more : List Fact) → told_at profile answers place ≡ more → told_with profile bad answers places ++ more ≡ told_with profile bad answers (places ++ place ∷ [])
+  with_place more e =
+      let before = flat_map (told_at profile answers) places in
+      append_assoc (told profile bad) before more
+      ∙ ap (λ facts. told profile bad ++ facts)
+      (ap (λ more. before ++ more) (sym e ∙ sym (append-nil (told_at profile answers place))) ∙ sym (flat_map-append (told_at profile answers) places (place ∷ [])))
+
+  -- what they say is little for each of them
+  place_size : (more : List Fact) → told_at profile answers place ≡ more → size more ≤ 2 ^ 65 → size (told_with profile bad answers places) ≤ 2 ^ 65 * (length places + 1)
+      → size (told_with profile bad answers (places ++ place ∷ [])) ≤ 2 ^ 65 * (length (places ++ place ∷ []) + 1)
+  place_size more e few small =
+      let both = size-append (told_with profile bad answers places) more in
+      let count = length-append places (place ∷ []) in
+      let le : size (told_with profile bad answers places ++ more) ≤ 2 ^ 65 * (length (places ++ place ∷ []) + 1) = omega (arith, both, count, few, small) in
+      subst (λ facts. size facts ≤ 2 ^ 65 * (length (places ++ place ∷ []) + 1)) (with_place more e) le
+
+  -- they are told
+  pub place_told : (a : Placed) (old new : Kept) (does : Bool) → slice_get answers place ≡ Some a → AreToldWith profile bad answers places old
+      → AreTold profile (told_with profile bad answers places) (told profile a) new does → PlacesTold profile bad answers (places ++ place ∷ []) new does
+  place_told a old new does e before h = by does h
+    where
+      here : told_at profile answers place ≡ told profile a
+      here = ap (λ o. option_map_or (told profile) o []) e
+
+      same : told_with profile bad answers places ++ told profile a ≡ told_with profile bad answers (places ++ place ∷ [])
+      same = with_place (told profile a) here
+
+      by : (does : Bool) → AreTold profile (told_with profile bad answers places) (told profile a) new does → PlacesTold profile bad answers (places ++ place ∷ []) new does
+      by true t = record {
+        kept = subst (λ facts. IsKept facts new) same t.1;
+        together = subst Together same t.0;
+        small = place_size (told profile a) here t.2 before.small;
+      }
+      by false none = subst (λ facts. SomeHas profile facts → ⊥) same none
+
+  -- where there is no answer, nothing is
+  pub nothing_told : (k : Kept) → slice_get answers place ≡ None → AreToldWith profile bad answers places k → AreToldWith profile bad answers (places ++ place ∷ []) k
+  nothing_told k e t =
+      let none : told_at profile answers place ≡ [] = ap (λ o. option_map_or (told profile) o []) e in
+      let same = sym (append-nil (told_with profile bad answers places)) ∙ with_place [] none in
+      record {
+        kept = subst (λ facts. IsKept facts k) same t.kept;
+        together = subst Together same t.together;
+        small = place_size [] none (omega arith) t.small;
+      }
+
+-- one of those that fit fits
+pub fits_at : (profile : Profile) (answers : List Placed) (place : ℕ) (a : Placed) → AllByRecursion (FitsThere profile) answers → slice_get answers place ≡ Some a → FitsThere profile a
+fits_at profile [] place a h e = cc
+fits_at profile (b ∷ answers) zero a h e = subst (FitsThere profile) (let same : b ≡ a = cc in same) h.0
+fits_at profile (b ∷ answers) (suc place) a h e = fits_at profile answers place a h.1 e
+
+-- behind the last there is none
+pub no_answer : (answers : List Placed) (place : ℕ) → (place < length answers → ⊥) → slice_get answers place ≡ None
+no_answer [] place h = cc
+no_answer (a ∷ answers) zero h = absurd (h (omega arith))
+no_answer (a ∷ answers) (suc place) h = no_answer answers place (λ l. h (omega arith))

@@ -1,0 +1,106 @@
+-- What is noted to be a contradiction conflicts with the accepted answers.
+use Rattle.std.proofs.Common.{◌≡◌, ◌≤◌, IsTrue, List, [], ◌∷◌, ◌++◌, length, Some, refl, sym, ap, subst, ◌∙◌, arith}
+use Rattle.std.specs.List.{AllByRecursion}
+use Rattle.nntp_wire.specs.Answer.{Asked, Response}
+use Rattle.nntp_article.specs.declared.session.profile.Profile.{Profile}
+use Rattle.nntp_article.specs.Session.Machine.{Visible, visible_after, start, fits}
+use Rattle.nntp_pair.specs.Pairing.{Paired, asked_at, asked_of, responses_of}
+use Rattle.nntp_facts.specs.declared.position.Position.{Position}
+use Rattle.nntp_facts.specs.declared.position.Position.TheVariants.{Nowhere}
+use Rattle.nntp_facts.specs.declared.noted.Noted.TheVariants.{Contradiction}
+use Rattle.nntp_facts.specs.Asks.{position_after}
+use Rattle.nntp_facts.specs.Classes.{visible_from, position_from, asked_next}
+use Rattle.nntp_facts.specs.Permits.{SomePermits}
+use Rattle.nntp_facts.specs.Noted.{FactsKept, HasNoted, IsNoted, IsDue}
+use Rattle.nntp_facts.specs.Conflict.{Placed, placed_from, placed_of, placed_behind, FitsThere, told_with, SomeHas, below}
+use Rattle.nntp_facts.proofs.Conflicts.{session_fits, contradicts}
+use Rattle.nntp_facts.proofs.Given.GivenPermits.{said}
+use Rattle.nntp_facts.proofs.Keeping.NotedExchange.{as_many, ends}
+use Rattle.nntp_facts.proofs.Session.LaterPrompts.{next_behind, visible_longer, position_longer, permitted_longer}
+use Rattle.nntp_facts.proofs.Session.OneMoreAnswer.{as_few, fitting_grows}
+
+-- ---- one answer more, and more prompts
+
+-- where there are no answers, none stands anywhere
+none_placed : (v : Visible) (at : Position) (ps : List Asked) → placed_from v at ps [] ≡ []
+none_placed v at [] = refl
+none_placed v at (p ∷ ps) = refl
+
+-- prompts behind those that are answered change nothing
+placed_longer : (v : Visible) (at : Position) (ps qs : List Asked) (answers : List Response) → length answers ≤ length ps → placed_from v at (ps ++ qs) answers ≡ placed_from v at ps answers
+placed_longer v at ps qs [] le = none_placed v at (ps ++ qs) ∙ sym (none_placed v at ps)
+placed_longer v at [] qs (a ∷ more) le = absurd (omega arith)
+placed_longer v at (p ∷ ps) qs (a ∷ more) le =
+    ap (λ rest. record { selected = v.selected; position = at; asked = p; response = a } ∷ rest) (placed_longer (visible_after v p a) (position_after at p a) ps qs more (omega arith))
+
+-- one answer more stands where those before leave the session
+placed_grow : (v : Visible) (at : Position) (ps : List Asked) (answers : List Response) (asked : Asked) (response : Response) → asked_next ps answers ≡ Some asked
+    → placed_from v at ps (answers ++ response ∷ []) ≡ placed_from v at ps answers
+    ++ record { selected = (visible_from v ps answers).selected; position = position_from at ps answers; asked = asked; response = response } ∷ []
+placed_grow v at [] answers asked response e = cc
+placed_grow v at (p ∷ ps) [] asked response e =
+    let same : p ≡ asked = cc in
+    ap (λ p. record { selected = v.selected; position = at; asked = p; response = response } ∷ placed_from (visible_after v p response) (position_after at p response) ps []) same
+    ∙ ap (λ rest. record { selected = v.selected; position = at; asked = asked; response = response } ∷ rest) (none_placed (visible_after v asked response) (position_after at asked response) ps)
+placed_grow v at (p ∷ ps) (a ∷ more) asked response e =
+    ap (λ rest. record { selected = v.selected; position = at; asked = p; response = a } ∷ rest) (placed_grow (visible_after v p a) (position_after at p a) ps more asked response e)
+
+-- ---- exchanges
+
+-- one exchange more
+pub placed_next : (past : List Paired) (pair : Paired) → placed_of (past ++ pair ∷ []) ≡ placed_of past ++ placed_behind past pair ∷ []
+placed_next past pair =
+    let ps = asked_of past in
+    let answers = responses_of past in
+    let asked = asked_at pair.line in
+    let few = as_few past in
+    ap (λ (q : List Asked × List Response). placed_from start.visible Nowhere q.0 q.1) (ends past pair)
+    ∙ placed_grow start.visible Nowhere (ps ++ asked ∷ []) answers asked pair.response (next_behind ps [] asked answers (as_many past))
+    ∙ joined (placed_longer start.visible Nowhere ps (asked ∷ []) answers few) (visible_longer start.visible ps (asked ∷ []) answers few) (position_longer Nowhere ps (asked ∷ []) answers few)
+  where
+    joined : {xs ys : List Placed} {v w : Visible} {at bt : Position} → xs ≡ ys → v ≡ w → at ≡ bt
+        → xs ++ record { selected = v.selected; position = at; asked = asked_at pair.line; response = pair.response } ∷ []
+        ≡ ys ++ record { selected = w.selected; position = bt; asked = asked_at pair.line; response = pair.response } ∷ []
+    joined {xs} {ys} {v} {w} {at} {bt} e f g =
+        ap (λ xs. xs ++ record { selected = v.selected; position = at; asked = asked_at pair.line; response = pair.response } ∷ []) e
+        ∙ ap (λ v. ys ++ record { selected = v.selected; position = at; asked = asked_at pair.line; response = pair.response } ∷ []) f
+        ∙ ap (λ at. ys ++ record { selected = w.selected; position = at; asked = asked_at pair.line; response = pair.response } ∷ []) g
+
+-- accepted answers fit where they stand
+pub accepted_fit : (profile : Profile) (facts : FactsKept) (past : List Paired) → HasNoted profile facts past → AllByRecursion (FitsThere profile) (placed_of past)
+accepted_fit profile facts past stands =
+    let ps = asked_of past in
+    let answers = responses_of past in
+    session_fits profile start.visible Nowhere ps answers (said profile stands.permitted.0 ps answers stands.permitted.2).0
+
+-- no spool has what the bad answer says with those that stand there
+abbrev Conflicts : Profile → Visible → Position → Asked → Response → List Placed → Type 0
+Conflicts profile v at asked response placed =
+    SomeHas profile (told_with profile (record { selected = v.selected; position = at; asked = asked; response = response }) placed (below (length placed))) → ⊥
+
+-- a contradiction fits where it stands, and conflicts with them
+pub noted_conflicts : (profile : Profile) (past : List Paired) (pair : Paired) (old new : FactsKept) → HasNoted profile old past → IsDue old pair
+    → IsNoted profile past pair old new Contradiction
+    → FitsThere profile (placed_behind past pair) × (SomeHas profile (told_with profile (placed_behind past pair) (placed_of past) (below (length (placed_of past)))) → ⊥)
+noted_conflicts profile past pair old new stands due noted =
+    let ps = asked_of past in
+    let answers = responses_of past in
+    let asked = asked_at pair.line in
+    let qs = ps ++ asked ∷ [] in
+    let few = as_few past in
+    let comes = next_behind ps [] asked answers (as_many past) in
+    let v = visible_from start.visible ps answers in
+    let fit : IsTrue (fits profile v asked pair.response) = subst (λ v. IsTrue (fits profile v asked pair.response)) stands.visible noted.0 in
+    let seen = visible_longer start.visible ps (asked ∷ []) answers few in
+    let permitted = (permitted_longer profile ps (asked ∷ []) answers few).1 stands.permitted in
+    let all = (fitting_grows profile start.visible qs answers asked pair.response comes).1 (
+      (said profile permitted.0 qs answers permitted.2).0,
+      ap (λ v. v.closed) (seen ∙ sym stands.visible) ∙ due.is_open,
+      subst (λ v. IsTrue (fits profile v asked pair.response)) (sym seen) fit,
+    ) in
+    let none = contradicts profile qs answers asked pair.response comes all (λ h. noted.1 (subst (λ (q : List Asked × List Response). SomePermits profile q.0 q.1) (sym (ends past pair)) h)) in (
+      (v, refl, fit),
+      subst (Conflicts profile v (position_from Nowhere ps answers) asked pair.response) (placed_longer start.visible Nowhere ps (asked ∷ []) answers few)
+          (subst (λ at. Conflicts profile v at asked pair.response (placed_from start.visible Nowhere qs answers)) (position_longer Nowhere ps (asked ∷ []) answers few)
+          (subst (λ v. Conflicts profile v (position_from Nowhere qs answers) asked pair.response (placed_from start.visible Nowhere qs answers)) seen none)),
+    )

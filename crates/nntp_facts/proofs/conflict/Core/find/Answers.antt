@@ -1,0 +1,54 @@
+use Rattle.std.proofs.Common.{◌^◌, ◌<◌, ◌≤◌, length, arith, rules, subst, sym}
+use Rattle.nntp_article.specs.Session.Limit.{profile_of}
+use Rattle.nntp_facts.specs.Conflict.{IsPartOfCore}
+use Rattle.nntp_facts.proofs.Conflicts.{core_start}
+use Rattle.nntp_facts.proofs.Keeping.CoresFound.{alone, some_left, whole_found, end_found, kept_told, none_kept}
+use Rattle.nntp_facts.proofs.conflict.Core.find.Goals as goal
+
+pub loop-places-init : goal.loop-places-init
+loop-places-init g c =
+    let profile = profile_of c.args.limit c.args.marks in
+    let bad = c.args.bad.now in
+    let answers = c.args.answers.now in (
+      subst (λ places. IsPartOfCore profile bad answers (length answers) places) (sym c.new-places.ensures.items) (core_start profile bad answers c.requires.conflict),
+      omega arith,
+      subst (λ places. length places ≤ c.args.most) (sym c.new-places.ensures.items) (omega arith),
+    )
+
+pub returns-then-len-most-clause-found : goal.returns-then-len-most-clause-found
+returns-then-len-most-clause-found g c =
+    let profile = profile_of c.args.limit c.args.marks in
+    let bad = c.args.bad.now in
+    let answers = c.args.answers.now in
+    let fit = c.requires.fit in
+    let now = c.loop-places.invariant in
+    let bound = c.loop-places.bound in
+    let places = c.loop-places.places.items in
+    let short : length answers < 2 ^ 64 = search rules in
+    let told = kept_told profile bad answers c.in_ok-kept.field-0 c.in-Some.kept c.deref.result.now places c.in-Some.is c.deref.ensures.value (c.in_ok-kept.ensures fit) in
+    end_found profile bad answers fit.0 fit.1 bound places now.1 short now.0 (alone profile bad answers fit.0 fit.1 bound places now.1 short now.0 c.in-Some.kept told)
+
+pub first_refused-requires : goal.first_refused-requires
+first_refused-requires g c =
+    let profile = profile_of c.args.limit c.args.marks in
+    let bad = c.args.bad.now in
+    let answers = c.args.answers.now in
+    let fit = c.requires.fit in
+    let now = c.loop-places.invariant in
+    let bound = c.loop-places.bound in
+    let places = c.loop-places.places.items in
+    let short : length answers < 2 ^ 64 = search rules in
+    let told = kept_told profile bad answers c.in_ok-kept.field-0 c.in-Some.kept c.deref.result.now places c.in-Some.is c.deref.ensures.value (c.in_ok-kept.ensures fit) in
+    some_left profile bad answers fit.0 fit.1 bound places now.1 short now.0 c.in-Some.kept told
+
+pub returns-clause-found : goal.returns-clause-found
+returns-clause-found g c =
+    let profile = profile_of c.args.limit c.args.marks in
+    let bad = c.args.bad.now in
+    let answers = c.args.answers.now in
+    let fit = c.requires.fit in
+    let now = c.loop-places.invariant in
+    let places = c.loop-places.places.items in
+    let short : length answers < 2 ^ 64 = search rules in
+    whole_found profile bad answers fit.0 fit.1 c.loop-places.bound places now.1 short now.0
+    (none_kept profile bad answers c.in_ok-kept.field-0 c.deref.result.now places c.in_default.not-Some c.deref.ensures.value (c.in_ok-kept.ensures fit))

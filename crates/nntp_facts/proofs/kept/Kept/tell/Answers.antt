@@ -1,0 +1,33 @@
+use Rattle.std.proofs.Common.{sym, subst, ◌∙◌, refl}
+use Rattle.nntp_article.specs.Session.Limit.{profile_of}
+use Rattle.nntp_article.specs.Session.Machine.{start}
+use Rattle.nntp_facts.specs.Facts.{group_of}
+use Rattle.nntp_facts.specs.Conflict.{said, the_group}
+use Rattle.nntp_facts.specs.Kept.{AreAdded}
+use Rattle.nntp_facts.specs.Saying.{TellsThere}
+use Rattle.nntp_facts.specs.SayingView.{saying_of}
+use Rattle.nntp_facts.proofs.OkResults.{if_ok}
+use Rattle.nntp_facts.proofs.Keeping.ToldAnswers.{there_told, group_refused, answer_told}
+use Rattle.nntp_facts.proofs.kept.Kept.tell.Goals as goal
+
+pub returns-then-not-branch : goal.returns-then-not-branch
+returns-then-not-branch g c facts kept together fit =
+    let profile = profile_of c.args.limit c.args.marks in
+    let a = c.args.answer.now in
+    let saying = saying_of c.of-saying.result in
+    let own = said profile.marks a in
+    let there = there_told profile a _ _ _ _ _ saying fit c.prompt.ensures c.answer-response.ensures.value c.position.ensures c.selected_name.ensures (c.deref.ensures.value ∙ c.in_ok-numbers.ensures) c.of-saying.ensures in
+    let group = c.in_ok-tell_group.ensures profile facts own refl kept together (subst (λ o. TellsThere o saying own) (sym c.selected.ensures) there) in
+    group_refused profile a facts together c.tell_group.new.self (subst (λ does. AreAdded facts (the_group profile (group_of own)) c.args.self.now c.tell_group.new.self does) c.if-not-branch.true group).0
+
+pub returns : goal.returns
+returns g c = if_ok c.note.result (λ does adds facts kept together fit.
+    let profile = profile_of c.args.limit c.args.marks in
+    let a = c.args.answer.now in
+    let saying = saying_of c.of-saying.result in
+    let own = said profile.marks a in
+    let there = there_told profile a _ _ _ _ _ saying fit c.prompt.ensures c.answer-response.ensures.value c.position.ensures c.selected_name.ensures (c.deref.ensures.value ∙ c.in_ok-numbers.ensures) c.of-saying.ensures in
+    let group = subst (λ does. AreAdded facts (the_group profile (group_of own)) c.args.self.now c.tell_group.new.self does) c.if-not-branch.false
+    (c.in_ok-tell_group.ensures profile facts own refl kept together (subst (λ o. TellsThere o saying own) (sym c.selected.ensures) there)) in
+    let formed = c.answer-response.ensures.well_formed profile.marks (record start.visible { selected = a.selected }) a.position in
+    answer_told profile a facts together c.tell_group.new.self c.note.new.self saying does group.0 group.1 formed c.answer-response.ensures.few_lines there adds) c.note.ensures

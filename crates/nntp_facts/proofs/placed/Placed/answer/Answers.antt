@@ -1,0 +1,12 @@
+use Rattle.std.proofs.Common.{subst}
+use Rattle.std.specs.List.{AllByRecursion}
+use Rattle.nntp_facts.specs.Conflict.{Placed}
+use Rattle.nntp_facts.specs.Facts.{facts_of}
+use Rattle.nntp_facts.specs.Together.{IsWellFormed}
+use Rattle.nntp_facts.proofs.Together.WellFormed.{spelled_formed}
+use Rattle.nntp_facts.proofs.placed.Placed.answer.Goals as goal
+
+pub returns-clause-well_formed : goal.returns-clause-well_formed
+returns-clause-well_formed c how v at =
+    subst (λ (a : Placed). AllByRecursion IsWellFormed (facts_of how v at a.asked a.response)) c.self.view_is
+    (spelled_formed how v at _ _ _ c.answer.ensures.is_spelled.spells c.answer.ensures.is_spelled.octets)

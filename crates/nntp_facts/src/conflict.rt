@@ -1,0 +1,136 @@
+//! The accepted answers with which a bad one conflicts.
+ghost use Rattle.std.specs.Prelude.{◌≡◌, ◌<◌, ◌≤◌, ◌^◌, ◌∷◌, List, ℕ, length, IfOk, MatchOption};
+ghost use Rattle.std.specs.List.{AllByRecursion};
+ghost use Rattle.nntp_article.specs.Session.Limit.{profile_of};
+ghost use Rattle.nntp_facts.specs.Conflict.{Placed as PlacedValue, FitsThere, SomeHas, told_with, below, IsPartOfCore, IsFound};
+ghost use Rattle.nntp_facts.specs.Told.{AreToldWith};
+
+use crate::kept::Kept;
+use crate::placed::Placed;
+use nntp_wire::{Limit, Marks};
+use std::alloc::{AllocError, Allocator, Global};
+use std::marker::Model;
+
+/// The places of the accepted answers with which a bad one conflicts. They are a smallest set of
+/// such answers: no spool has what these and the bad one say, and without any one of them some
+/// spool has the rest.
+#[derive(Drop)]
+pub struct Core<A: Allocator = Global> {
+    places: Vec<usize, A>,
+    /// Where not all were looked for, the bound below which the others are.
+    rest: Option<usize>,
+}
+
+impl<A: Allocator> Model for Core<A> {
+    ghost use Rattle.nntp_facts.specs.Conflict.{Core as CoreValue};
+
+    ghost Value = { CoreValue };
+
+    ghost view = { λ c. record { places = c.places.items; rest = c.rest } };
+}
+
+impl<A: Allocator> Core<A> {
+    /// Returns the places, in ascending order. They count from 0.
+    pub fn places(&self) -> &[usize]
+        ensures { result.now ≡ self.now.places }
+    {
+        &self.places
+    }
+
+    /// Returns the bound below which further places are, if not all were looked for. With these
+    /// alone the bad answer doesn't conflict; with these and all below the bound it does, and only
+    /// together with each of these and one below the bound.
+    pub fn rest(&self) -> Option<usize>
+        ensures { result ≡ self.now.rest }
+    {
+        self.rest
+    }
+}
+
+impl<A: Allocator + Copy> Core<A> {
+    /// Finds the accepted answers with which a bad one conflicts, from the last one down, and at
+    /// most so many. A bad answer that contradicts itself, or what is always so, needs none.
+    ///
+    /// It takes time in the order of that of noting all the answers, once for each that is found.
+    ///
+    /// # Errors
+    ///
+    /// If memory is refused.
+    pub fn find(
+        alloc: A,
+        limit: Limit,
+        marks: Marks,
+        answers: &[Placed<'_>],
+        bad: &Placed<'_>,
+        most: usize,
+    ) -> Result<Core<A>, AllocError>
+        requires fit { AllByRecursion (FitsThere (profile_of limit marks)) (bad.now ∷ answers.now) }
+        requires conflict { SomeHas (profile_of limit marks) (told_with (profile_of limit marks) bad.now answers.now (below (length answers.now))) → ⊥ }
+        ensures found { IfOk result (IsFound (profile_of limit marks) bad.now answers.now) }
+        ensures most { IfOk result (λ core. MatchOption core.rest (length core.places ≤ most) (λ _. length core.places ≡ most)) }
+    {
+        let mut places = Vec::new(alloc);
+        let mut bound = answers.len();
+        while let Some(kept) = keep(alloc, limit, marks, answers, bad, &places)? {
+            if places.len() == most {
+                return Ok(Core {
+                    places,
+                    rest: Some(bound),
+                });
+            }
+            bound = first_refused(kept, limit, marks, answers, bound)?;
+            places.insert(0, bound)?;
+        }
+        Ok(Core { places, rest: None })
+    }
+}
+
+/// Keeps what the bad answer and those at the places say, if some spool has it.
+fn keep<A: Allocator + Copy>(
+    alloc: A,
+    limit: Limit,
+    marks: Marks,
+    answers: &[Placed<'_>],
+    bad: &Placed<'_>,
+    places: &[usize],
+) -> Result<Option<Kept<A>>, AllocError>
+    ensures { IfOk result (λ kept. AllByRecursion (FitsThere (profile_of limit marks)) (bad.now ∷ answers.now)
+        → MatchOption kept (SomeHas (profile_of limit marks) (told_with (profile_of limit marks) bad.now answers.now places.now) → ⊥)
+        (AreToldWith (profile_of limit marks) bad.now answers.now places.now)) }
+{
+    let mut kept = Kept::new(alloc);
+    if !kept.tell(limit, marks, bad)? {
+        return Ok(None);
+    }
+    for place in places {
+        if !kept.tell_at(limit, marks, answers, *place)? {
+            return Ok(None);
+        }
+    }
+    Ok(Some(kept))
+}
+
+/// Finds the first answer that doesn't stand with what is kept and the answers before it. It is
+/// one of those below the bound, since all of these don't stand with it.
+fn first_refused<A: Allocator + Copy>(
+    mut kept: Kept<A>,
+    limit: Limit,
+    marks: Marks,
+    answers: &[Placed<'_>],
+    bound: usize,
+) -> Result<usize, AllocError>
+    requires { 0 < bound }
+    ensures below { IfOk result (λ place. place < bound) }
+    ensures found { IfOk result (λ place. (bad : PlacedValue) (places : List ℕ) → AllByRecursion (FitsThere (profile_of limit marks)) (bad ∷ answers.now)
+        → AreToldWith (profile_of limit marks) bad answers.now places kept → bound ≤ length answers.now → length answers.now < 2 ^ 64
+        → IsPartOfCore (profile_of limit marks) bad answers.now bound places
+        → IsPartOfCore (profile_of limit marks) bad answers.now place (place ∷ places)) }
+{
+    let last = bound - 1;
+    for place in 0..last {
+        if !kept.tell_at(limit, marks, answers, place)? {
+            return Ok(place);
+        }
+    }
+    Ok(last)
+}

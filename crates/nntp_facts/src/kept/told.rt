@@ -1,0 +1,101 @@
+//! What answers say by themselves.
+ghost use Rattle.std.specs.Prelude.{◌≡◌, ℕ, List, [], ◌∷◌, ◌++◌, Option, IfOk, option_map};
+ghost use Rattle.std.specs.List.{AllByRecursion};
+ghost use Rattle.nntp_wire.specs.Limit.{greatest};
+ghost use Rattle.nntp_article.specs.declared.session.profile.Profile.{Profile};
+ghost use Rattle.nntp_article.specs.Session.Limit.{profile_of};
+ghost use Rattle.nntp_facts.specs.Facts.{Fact, group_of};
+ghost use Rattle.nntp_facts.specs.Together.{Together};
+ghost use Rattle.nntp_facts.specs.Conflict.{Placed as PlacedValue, a_group, the_group, told, FitsThere};
+ghost use Rattle.nntp_facts.specs.Kept.{IsKept, AreAdded};
+ghost use Rattle.nntp_facts.specs.Saying.{TellsThere};
+ghost use Rattle.nntp_facts.specs.SayingView.{saying_of};
+ghost use Rattle.nntp_facts.specs.Told.{AreTold, AreToldWith, PlacesTold};
+
+use crate::kept::Kept;
+use crate::numbers_part::NumbersPart;
+use crate::placed::Placed;
+use crate::saying::{Saying, numbers_listed};
+use nntp_wire::{GroupName, Limit, Marks, WaterMarks};
+use std::alloc::{AllocError, Allocator};
+
+impl<A: Allocator + Copy> Kept<A> {
+    /// Adds what an answer says by itself, if some spool has it and all before, and tells whether
+    /// one may. If none has, and after an error, the value says nothing of use.
+    pub(crate) fn tell(
+        &mut self,
+        limit: Limit,
+        marks: Marks,
+        answer: &Placed<'_>,
+    ) -> Result<bool, AllocError>
+        ensures { IfOk result (λ does. (facts : List Fact) → IsKept facts self.old → Together facts → FitsThere (profile_of limit marks) answer.now
+            → AreTold (profile_of limit marks) facts (told (profile_of limit marks) answer.now) self.new does) }
+    {
+        let response = answer.answer();
+        let numbers = numbers_listed(self.alloc, response)?;
+        let saying = Saying::of(
+            marks,
+            answer.selected_name(),
+            answer.position(),
+            answer.prompt(),
+            response,
+            &numbers,
+        );
+        if !self.tell_group(limit, &saying, answer.selected())? {
+            return Ok(false);
+        }
+        self.note(&saying)
+    }
+
+    /// Adds that there is the group of which the answer speaks, if it speaks of one and this stands
+    /// together with all before, and tells whether it does.
+    fn tell_group(
+        &mut self,
+        limit: Limit,
+        saying: &Saying<'_>,
+        selected: Option<&GroupName<'_>>,
+    ) -> Result<bool, AllocError>
+        ensures { IfOk result (λ does. (profile : Profile) (facts more : List Fact) → profile.limit ≡ greatest limit → IsKept facts self.old → Together facts
+            → TellsThere (option_map (λ name. name.now) selected.entry) (saying_of saying.now) more → AreAdded facts (the_group profile (group_of more)) self.old self.new does) }
+    {
+        match (saying.there_is, &saying.group, selected) {
+            (Some(name), _, _) => self.note_group(limit, name),
+            (None, Some(_), Some(name)) => self.note_group(limit, name),
+            (None, Some(_), None) => Ok(true),
+            (None, None, _) => Ok(true),
+        }
+    }
+
+    /// Adds that there is such a group, if it stands together with all before, and tells whether it
+    /// does.
+    fn note_group(&mut self, limit: Limit, name: &GroupName<'_>) -> Result<bool, AllocError>
+        ensures { IfOk result (λ does. (profile : Profile) (facts : List Fact) → profile.limit ≡ greatest limit → IsKept facts self.old → Together facts
+            → AreAdded facts (a_group profile name.now) self.old self.new does) }
+    {
+        let widest = WaterMarks {
+            estimate: limit.value(),
+            low: 1,
+            high: limit.value(),
+        };
+        let numbers = NumbersPart::of_marks(Marks::Lenient, widest);
+        self.note(&Saying::selects(name, numbers))
+    }
+
+    /// Adds what the answer at the place says by itself, as [`tell`](Kept::tell) does. Where there is
+    /// none, nothing is said.
+    pub(crate) fn tell_at(
+        &mut self,
+        limit: Limit,
+        marks: Marks,
+        answers: &[Placed<'_>],
+        place: usize,
+    ) -> Result<bool, AllocError>
+        ensures { IfOk result (λ does. (bad : PlacedValue) (places : List ℕ) → AllByRecursion (FitsThere (profile_of limit marks)) answers.now
+            → AreToldWith (profile_of limit marks) bad answers.now places self.old → PlacesTold (profile_of limit marks) bad answers.now (places ++ place ∷ []) self.new does) }
+    {
+        match answers.get(place) {
+            Some(answer) => self.tell(limit, marks, answer),
+            None => Ok(true),
+        }
+    }
+}

@@ -1,0 +1,93 @@
+//! Exchanges where they stand.
+ghost use Rattle.std.specs.Prelude.{◌≡◌, ◌<◌, ◌^◌, [], option_map, unwrap_or};
+ghost use Rattle.std.specs.List.{AllByRecursion};
+ghost use Rattle.nntp_wire.specs.declared.marks.Marks.{Marks};
+ghost use Rattle.nntp_wire.specs.AnswerView.{response};
+ghost use Rattle.nntp_wire.specs.View.{asked};
+ghost use Rattle.nntp_article.specs.Session.Machine.{Visible};
+ghost use Rattle.nntp_facts.specs.Facts.{facts_of};
+ghost use Rattle.nntp_facts.specs.Together.{IsWellFormed};
+ghost use Rattle.nntp_pair.specs.Pairing.{asked_at, lines_in};
+
+use crate::position::Position;
+use nntp_pair::Exchange;
+use nntp_wire::{Answer, GroupName, Prompt};
+use std::marker::Model;
+
+/// An exchange of a session where it stands: the group that is selected before it, and the place in
+/// that group at which the session stands (RFC 3977, section 6.1).
+#[derive(Drop)]
+pub struct Placed<'a> {
+    selected: Option<GroupName<'a>>,
+    position: Position,
+    exchange: Exchange<'a>,
+}
+
+impl<'a> Model for Placed<'a> {
+    ghost use Rattle.nntp_pair.specs.Pairing.{asked_at};
+    ghost use Rattle.nntp_facts.specs.Conflict.{Placed as PlacedValue};
+
+    ghost Value = { PlacedValue };
+
+    ghost view = { λ p. record { selected = p.selected; position = p.position; asked = asked_at p.exchange.line; response = p.exchange.response } };
+}
+
+impl<'a> Placed<'a> {
+    /// Puts the exchange where this group is selected, and the session stands at this position.
+    pub fn new(
+        selected: Option<GroupName<'a>>,
+        position: Position,
+        exchange: Exchange<'a>,
+    ) -> Placed<'a>
+        ensures { result ≡ record { selected = selected.entry; position = position; asked = asked_at exchange.entry.line; response = exchange.entry.response } }
+    {
+        Placed {
+            selected,
+            position,
+            exchange,
+        }
+    }
+
+    /// Returns the group that is selected, if one is.
+    pub(crate) fn selected(&self) -> Option<&GroupName<'a>>
+        ensures { option_map (λ name. name.now) result ≡ self.now.selected }
+    {
+        match &self.selected {
+            Some(name) => Some(name),
+            None => None,
+        }
+    }
+
+    /// Returns the octets of the name of the selected group, or none if no group is selected.
+    pub(crate) fn selected_name(&self) -> &'a [u8]
+        ensures { result.now ≡ unwrap_or self.now.selected [] }
+    {
+        match &self.selected {
+            Some(name) => name.as_slice(),
+            None => &[],
+        }
+    }
+
+    /// Returns the position at which the session stands.
+    pub(crate) fn position(&self) -> Position
+        ensures { result ≡ self.now.position }
+    {
+        self.position
+    }
+
+    /// Returns what is answered.
+    pub(crate) fn prompt(&self) -> &Prompt<'a>
+        ensures { asked result.now ≡ self.now.asked }
+    {
+        self.exchange.prompt()
+    }
+
+    /// Returns what the response says.
+    pub(crate) fn answer(&self) -> &Answer<'a>
+        ensures value { response result.now ≡ self.now.response }
+        ensures few_lines { lines_in self.now.response < 2 ^ 64 }
+        ensures well_formed { (how : Marks) (v : Visible) (at : Position) → AllByRecursion IsWellFormed (facts_of how v at self.now.asked self.now.response) }
+    {
+        self.exchange.answer()
+    }
+}

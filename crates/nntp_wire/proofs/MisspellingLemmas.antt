@@ -1,0 +1,85 @@
+-- The arguments and the lines that a reason counts.
+use Rattle.std.proofs.Common.{◌≡◌, ℕ, ◌+◌, ◌<◌, true, false, List, [], ◌∷◌, ◌++◌, None, Some, refl, sym, ap, ◌∙◌, cond, length, drop, get_or, drop-cons, add-one, inl, inr}
+use Rattle.std.proofs.lemmas.Bool.{cases_Bool, eqb-true, and_parts, not-true}
+use Rattle.std.specs.Prelude.{option_map}
+use Rattle.std.specs.List.{list_all, slice_split, onto_first}
+use Rattle.nntp_wire.specs.Octets.{space}
+use Rattle.nntp_wire.specs.Argument.{no_space, is_comment, BeginsWithArgument}
+use Rattle.nntp_wire.specs.Reason.{unless, first}
+use Rattle.nntp_wire.specs.Misspelling.{is_space, arguments_of, is_argument, argument_misspelling, line_fault, kind_behind, line_misspelling}
+use Rattle.nntp_wire.specs.declared.kind.Kind.{Kind}
+use Rattle.nntp_wire.specs.declared.misspelling.Misspelling.TheVariants.{WrongArgument, WrongLine}
+use Rattle.nntp_wire.specs.declared.misspelling.Due.{Due}
+use Rattle.nntp_wire.specs.declared.misspelling.LineFault.{LineFault}
+use Rattle.nntp_wire.proofs.Reasons.{first_alone}
+use Rattle.nntp_wire.proofs.SaysDecided.{up_to_space}
+
+-- ---- arguments
+
+-- octets up to a space are the first part
+split_word : (word rest : List ℕ) → list_all no_space word ≡ true → is_comment rest ≡ true → slice_split is_space (word ++ rest) ≡ word ∷ arguments_of rest
+split_word [] [] spaceless ended = refl
+split_word [] (b ∷ bs) spaceless ended = rw ended refl
+split_word (a ∷ word) rest spaceless ended =
+    let both = and_parts (no_space a) (list_all no_space word) spaceless in
+    let other : is_space a ≡ false = not-true (is_space a) both.0 in
+    ap (λ t. cond t ([] ∷ slice_split is_space (word ++ rest)) (onto_first a (slice_split is_space (word ++ rest)))) other
+    ∙ ap (onto_first a) (split_word word rest both.1 ended)
+
+-- the first argument, and those behind it
+pub argument-first : (bytes word rest : List ℕ) → BeginsWithArgument bytes word rest → arguments_of bytes ≡ word ∷ arguments_of rest
+argument-first bytes word rest a = ap arguments_of a.whole ∙ split_word word rest a.spaceless a.ended
+
+-- an argument stands behind a space, whatever follows
+pub argument-some : (b : ℕ) (bs : List ℕ) → is_space b ≡ true → (word : List ℕ) × (rest : List ℕ) × BeginsWithArgument (b ∷ bs) word rest
+argument-some b bs is =
+    let w = up_to_space bs in
+    let at : b ≡ space = eqb-true b space is in
+    (w.word, w.rest, record { whole = λ i. at i ∷ w.whole i; spaceless = w.spaceless; ended = w.ended })
+
+pub argument-none : (bytes : List ℕ) → ((word rest : List ℕ) → ¬ (BeginsWithArgument bytes word rest)) → arguments_of bytes ≡ []
+argument-none [] none = refl
+argument-none (b ∷ bs) none = elim (cases_Bool (is_space b)) [
+  | inl is ↦ (let a = argument-some b bs is in absurd (none a.0 a.1 a.2))
+  | inr other ↦ ap (λ t. cond t (slice_split is_space bs) []) other
+]
+
+-- what is due next, and what is due behind it
+due-next : (dues : List Due) (index : ℕ) (d due : Due) → index < length dues → due ≡ get_or dues index d → drop index dues ≡ due ∷ drop (index + 1) dues
+due-next dues index d due low is = rw add-one (drop-cons dues index d low) ∙ ap (λ d. d ∷ drop (index + 1) dues) (sym is)
+
+-- below, something is due
+module _ (place index : ℕ) (dues : List Due) (d due : Due) (low : index < length dues) (is : due ≡ get_or dues index d) where
+  pub argument-missing : (arguments : List (List ℕ)) → arguments ≡ [] → argument_misspelling place (drop index dues) arguments ≡ Some (WrongArgument place due)
+  argument-missing arguments none = ap (λ words. argument_misspelling place (drop index dues) words) none ∙ ap (λ ds. argument_misspelling place ds []) (due-next dues index d due low is)
+
+  at_word : (arguments more : List (List ℕ)) (word : List ℕ) → arguments ≡ word ∷ more
+      → argument_misspelling place (drop index dues) arguments
+      ≡ first (unless (is_argument due word) (WrongArgument place due) ∷ argument_misspelling (place + 1) (drop (index + 1) dues) more ∷ [])
+  at_word arguments more word e =
+      ap (λ words. argument_misspelling place (drop index dues) words) e ∙ ap (λ ds. argument_misspelling place ds (word ∷ more)) (due-next dues index d due low is)
+
+  pub argument-wrong : (arguments more : List (List ℕ)) (word : List ℕ) → arguments ≡ word ∷ more → is_argument due word ≡ false
+      → argument_misspelling place (drop index dues) arguments ≡ Some (WrongArgument place due)
+  argument-wrong arguments more word e other =
+      at_word arguments more word e
+      ∙ ap (λ b. first (unless b (WrongArgument place due) ∷ argument_misspelling (place + 1) (drop (index + 1) dues) more ∷ [])) other
+
+  pub argument-right : (arguments more : List (List ℕ)) (word : List ℕ) → arguments ≡ word ∷ more → is_argument due word ≡ true
+      → argument_misspelling place (drop index dues) arguments ≡ argument_misspelling (place + 1) (drop (index + 1) dues) more
+  argument-right arguments more word e right =
+      at_word arguments more word e
+      ∙ ap (λ b. first (unless b (WrongArgument place due) ∷ argument_misspelling (place + 1) (drop (index + 1) dues) more ∷ [])) right
+      ∙ first_alone (argument_misspelling (place + 1) (drop (index + 1) dues) more)
+
+-- ---- lines
+
+pub line-wrong : (kind : Kind) (place : ℕ) (line : List ℕ) (lines : List (List ℕ)) (fault : LineFault) → Some fault ≡ line_fault kind line
+    → line_misspelling kind place (line ∷ lines) ≡ Some (WrongLine place fault)
+line-wrong kind place line lines fault e = ap (λ o. first (option_map (WrongLine place) o ∷ line_misspelling (kind_behind kind) (place + 1) lines ∷ [])) (sym e)
+
+pub line-right : (kind : Kind) (place : ℕ) (line : List ℕ) (lines : List (List ℕ)) → None ≡ line_fault kind line
+    → line_misspelling kind place (line ∷ lines) ≡ line_misspelling (kind_behind kind) (place + 1) lines
+line-right kind place line lines e =
+    ap (λ o. first (option_map (WrongLine place) o ∷ line_misspelling (kind_behind kind) (place + 1) lines ∷ [])) (sym e)
+    ∙ first_alone (line_misspelling (kind_behind kind) (place + 1) lines)
