@@ -111,7 +111,7 @@ impl<A: Allocator + Copy> Facts<A> {
     {
         let prompt = exchange.prompt();
         let answer = exchange.answer();
-        let profile = Profile::of(self.limit, self.marks);
+        let profile = self.profile();
         if !self.visible.fits(profile, prompt, answer)? {
             return Ok(Noted::OutOfPlace);
         }
@@ -138,13 +138,19 @@ impl<A: Allocator + Copy> Facts<A> {
     pub fn misfit<'a>(&self, exchange: &Exchange<'a>) -> Result<Option<Misfit<'a>>, AllocError>
         ensures { IfOk result (λ reason. why_if reason ≡ misfit (profile_kept self.now) self.now.visible (asked_at exchange.now.line) exchange.now.response) }
     {
-        let judged_by = Profile::of(self.limit, self.marks);
         self.visible
-            .misfit(judged_by, exchange.prompt(), exchange.answer())
+            .misfit(self.profile(), exchange.prompt(), exchange.answer())
     }
 }
 
 impl<A: Allocator> Facts<A> {
+    /// Returns what the exchanges are judged by.
+    fn profile(&self) -> Profile
+        ensures { result ≡ profile_kept self.now }
+    {
+        Profile::of(self.limit, self.marks)
+    }
+
     /// Returns the position in the selected group at which the accepted exchanges leave the session.
     pub fn position(&self) -> Position
         ensures { result ≡ self.now.position }

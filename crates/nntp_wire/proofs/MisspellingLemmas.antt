@@ -74,10 +74,6 @@ module _ (place index : ℕ) (dues : List Due) (d due : Due) (low : index < leng
 
 -- ---- lines
 
-pub line-wrong : (kind : Kind) (place : ℕ) (line : List ℕ) (lines : List (List ℕ)) (fault : LineFault) → Some fault ≡ line_fault kind line
-    → line_misspelling kind place (line ∷ lines) ≡ Some (WrongLine place fault)
-line-wrong kind place line lines fault e = ap (λ o. first (option_map (WrongLine place) o ∷ line_misspelling (kind_behind kind) (place + 1) lines ∷ [])) (sym e)
-
 pub line-right : (kind : Kind) (place : ℕ) (line : List ℕ) (lines : List (List ℕ)) → None ≡ line_fault kind line
     → line_misspelling kind place (line ∷ lines) ≡ line_misspelling (kind_behind kind) (place + 1) lines
 line-right kind place line lines e =

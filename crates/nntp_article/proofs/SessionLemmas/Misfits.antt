@@ -194,9 +194,6 @@ fits_by_reason profile v asked response (Some reason) e = ap is_none e ∙ none_
 
 -- ---- loops that end at the first reason
 
-pub order_goes_on : (before : Option ℕ) (n : ℕ) (ns : List ℕ) → None ≡ step_misfit before n → order_misfit before (n ∷ ns) ≡ order_misfit (Some n) ns
-order_goes_on before n ns e = first_none (step_misfit before n) (order_misfit (Some n) ns ∷ []) e ∙ first_alone (order_misfit (Some n) ns)
-
 pub plain_alone : (profile : Profile) (v : Visible) (asked : Asked) (code : ℕ)
     → misfit profile v asked (plain code) ≡ unless (fits profile v asked (plain code)) (code_misfit v asked code)
 plain_alone profile v greeting code = refl

@@ -1,7 +1,7 @@
 -- What a reason names is at fault.
 use Rattle.std.proofs.Common.{◌≡◌, ℕ, ◌≤◌, Bool, true, false, not, ◌&&◌, ◌||◌, ◌==◌, Option, None}
-use Rattle.std.proofs.Common.{Some, is_some, MatchOption, List, [], ◌∷◌, ◌++◌, map, ◌⊎◌, inl, inr, refl, sym, ap, subst, arith}
-use Rattle.std.specs.Prelude.{⊤, ◌+◌, ◌-◌, nat_le, nat_lt, unwrap_or, option_map, if◌then◌else◌, IfSome}
+use Rattle.std.proofs.Common.{Some, is_some, MatchOption, List, [], ◌∷◌, ◌++◌, map, ◌⊎◌, inl, inr, refl, sym, ap, subst, arith, ◌∙◌}
+use Rattle.std.specs.Prelude.{◌+◌, ◌-◌, nat_le, nat_lt, unwrap_or, option_map, if◌then◌else◌, IfSome}
 use Rattle.std.specs.List.{list_any}
 use Rattle.std.specs.Option.{option_map_or, option_or}
 use Rattle.std.specs.FinMap.{get}
@@ -25,11 +25,12 @@ use Rattle.nntp_article.specs.Session.Misfit.{listed_twice, no_head, other_id, n
 use Rattle.nntp_article.specs.Session.Misfit.{selected_misfit, target_misfit, said_misfit, head_misfit, active_misfit, twice_misfit, step_sent_misfit}
 use Rattle.nntp_article.specs.Session.Misfit.{code_misfit, misfit, allowed_codes, answered_code, marked_by, numbers_of, is_outside, is_unmatched, AreNeighbours, IsAbove}
 use Rattle.nntp_article.specs.Session.Misfit.{asked_group, asked_number, asked_id, sent_by, sent_head, names_of, IsTwice}
+use Rattle.nntp_article.specs.Session.Misfit.{are_out_of_order, have_no_room, is_out_of_order, has_wrong_marks, has_parts, lacks_parts}
 use Rattle.nntp_article.specs.declared.session.profile.Profile.{Profile}
 
-so_if : (Q : Misfit → Type 0) (b : Bool) (o : Option Misfit) → IfSome o Q → IfSome (if b then None else o) Q
+so_if : (Q : Misfit → Type 0) (b : Bool) (o : Option Misfit) → (b ≡ false → IfSome o Q) → IfSome (if b then None else o) Q
 so_if Q true o p = tt
-so_if Q false o p = p
+so_if Q false o p = p refl
 
 -- ---- numbers that don't ascend
 
@@ -80,11 +81,8 @@ Tells profile v asked response (wrong_id id) =
 Tells profile v asked response (listed_twice name) = IsTwice (names_of response) name
 Tells profile v asked response (other_id said) =
     MatchOption (sent_head asked response) ⊥ (λ head. said_id head ≡ Some said) × MatchOption (sent_by response) ⊥ (λ sent. is_same said sent.id ≡ false)
-Tells profile v asked response (wrong_marks name) = ⊤
-Tells profile v asked response no_head = ⊤
-
-not_false : (b : Bool) → b ≡ false → not b ≡ true
-not_false b e = ap not e
+Tells profile v asked response (wrong_marks name) = has_wrong_marks response name ≡ true
+Tells profile v asked response no_head = lacks_parts asked response ≡ true
 
 and_false : (a b : Bool) → b ≡ false → (a && b) ≡ false
 and_false true b e = e
@@ -94,18 +92,44 @@ or_false : (a b : Bool) → (a || b) ≡ false → b ≡ false
 or_false true b e = absurd (true≢false e)
 or_false false b e = e
 
+and_both : (a b : Bool) → a ≡ true → b ≡ true → (a && b) ≡ true
+and_both true b e f = f
+and_both false b e f = e
+
+or_left : (a b : Bool) → a ≡ true → (a || b) ≡ true
+or_left a b e = ap (λ a. a || b) e
+
+or_right : (a b : Bool) → b ≡ true → (a || b) ≡ true
+or_right true b e = refl
+or_right false b e = e
+
+-- ---- marks
+
+-- the marks are out of order, or there is no room between them
+disordered : (p a b : Bool) → (a && b) ≡ false → (not (p && a) || not b) ≡ true
+disordered p true true e = absurd (true≢false e)
+disordered true true false e = refl
+disordered false true false e = refl
+disordered true false b e = refl
+disordered false false b e = refl
+
 so_marks : (profile : Profile) (v : Visible) (asked : Asked) (response : Response) (name : Name) (m : WaterMarks) → marked_by response ≡ Some (name, m)
+    → has_wrong_marks response name ≡ (is_same name name && have_no_room m)
     → IfSome (marks_misfit profile v name m) (Tells profile v asked response)
-so_marks profile v asked response name m is =
+so_marks profile v asked response name m is given =
     so_if Q (are_zeros m) _
-    (so_first Q _ _ (so_unless Q (nat_le 1 m.low) _ (λ e. tt))
+    (λ z. so_first Q _ _ (so_unless Q (nat_le 1 m.low) _ (λ e. wrong z (or_left _ _ (ap (λ b. not (b && nat_le m.low (m.high + 1))) e))))
     (so_first Q _ _ (so_unless Q (nat_le m.high profile.limit) _ (λ e. and_false (nat_le 1 m.high) (nat_le m.high profile.limit) e))
-    (so_first Q _ _ (so_unless Q (nat_le m.low (m.high + 1) && nat_le m.estimate (m.high + 1 - m.low)) _ (λ e. tt))
+    (so_first Q _ _ (so_unless Q (nat_le m.low (m.high + 1) && nat_le m.estimate (m.high + 1 - m.low)) _
+    (λ e. wrong z (disordered (nat_le 1 m.low) (nat_le m.low (m.high + 1)) (nat_le m.estimate (m.high + 1 - m.low)) e)))
     (so_first Q _ _ (so_unless Q (nat_le (unwrap_or (get v.lows name) 0) m.low) _
     (λ e. subst (λ o. MatchOption o ⊥ (IsAbove v (unwrap_or (get v.lows name) 0))) (sym is) (above (get v.lows name) refl e))) tt))))
   where
     Q : Misfit → Type 0
     Q = Tells profile v asked response
+
+    wrong : are_zeros m ≡ false → (are_out_of_order m.low m.high || not (nat_le m.estimate (m.high + 1 - m.low))) ≡ true → has_wrong_marks response name ≡ true
+    wrong z x = given ∙ and_both (is_same name name) (have_no_room m) ((bytes_decides name name).1 refl) (and_both (not (are_zeros m)) _ (ap not z) x)
 
     above : (o : Option ℕ) → get v.lows name ≡ o → nat_le (unwrap_or o 0) m.low ≡ false → IsAbove v (unwrap_or o 0) (name, m)
     above None got e = let below = leb-false 0 m.low e in absurd (omega arith)
@@ -155,10 +179,10 @@ so_said profile v what which sent head is (Some said) says =
     so_unless (OfSent profile v what which sent) (is_same said sent.id) (other_id said)
     (λ e. (subst (λ o. MatchOption o ⊥ (λ head. said_id head ≡ Some said)) (sym is) says, e))
 
-so_parsed : (profile : Profile) (v : Visible) (what : What) (which : Target) (sent : Success) (b : Bool) (head : List Line) → sent_head (to (retrieve what which)) (sends sent) ≡ Some head
-    → IfSome (first (unless b no_head ∷ said_misfit sent.id (said_id head) ∷ [])) (OfSent profile v what which sent)
-so_parsed profile v what which sent b head is =
-    so_first Q (unless b no_head) (said_misfit sent.id (said_id head) ∷ []) (so_unless Q b no_head (λ e. tt))
+so_parsed : (profile : Profile) (v : Visible) (what : What) (which : Target) (sent : Success) (b : Bool) (head : List Line) → has_parts what sent.block ≡ b
+    → sent_head (to (retrieve what which)) (sends sent) ≡ Some head → IfSome (first (unless b no_head ∷ said_misfit sent.id (said_id head) ∷ [])) (OfSent profile v what which sent)
+so_parsed profile v what which sent b head parts is =
+    so_first Q (unless b no_head) (said_misfit sent.id (said_id head) ∷ []) (so_unless Q b no_head (λ e. ap not (parts ∙ e)))
     (so_first Q (said_misfit sent.id (said_id head)) [] (so_said profile v what which sent head is (said_id head) refl) tt)
   where
     Q : Misfit → Type 0
@@ -167,21 +191,23 @@ so_parsed profile v what which sent b head is =
 so_head : (profile : Profile) (v : Visible) (what : What) (which : Target) (sent : Success) (lines : Option (List Line)) → sent.block ≡ lines
     → IfSome (head_misfit what sent.id lines) (OfSent profile v what which sent)
 so_head profile v Article which sent (Some lines) e =
-    so_parsed profile v Article which sent (list_any is_empty lines && is_head (head_part lines)) (head_part lines) (ap (option_map head_part) e)
-so_head profile v Article which sent None e = tt
-so_head profile v Head which sent (Some lines) e = so_parsed profile v Head which sent (is_head lines) lines e
-so_head profile v Head which sent None e = tt
+    so_parsed profile v Article which sent (list_any is_empty lines && is_head (head_part lines)) (head_part lines) (ap (has_parts Article) e) (ap (option_map head_part) e)
+so_head profile v Article which sent None e = ap (λ b. not (has_parts Article b)) e
+so_head profile v Head which sent (Some lines) e = so_parsed profile v Head which sent (is_head lines) lines (ap (has_parts Head) e) e
+so_head profile v Head which sent None e = ap (λ b. not (has_parts Head b)) e
 so_head profile v Body which sent (Some lines) e = tt
-so_head profile v Body which sent None e = tt
-so_head profile v Stat which sent (Some lines) e = tt
+so_head profile v Body which sent None e = ap (λ b. not (has_parts Body b)) e
+so_head profile v Stat which sent (Some lines) e = ap (λ b. not (has_parts Stat b)) e
 so_head profile v Stat which sent None e = tt
 
 so_active : (profile : Profile) (v : Visible) (response : Response) (p : Option (List ℕ)) (line : ActiveValue)
-    → IfSome (active_misfit profile p line) (Tells profile v (to (list_active p)) response)
-so_active profile v response p line =
+    → (is_out_of_order line.name line ≡ true → has_wrong_marks response line.name ≡ true) → IfSome (active_misfit profile p line) (Tells profile v (to (list_active p)) response)
+so_active profile v response p line listed =
     so_first Q _ _
     (so_if Q (line.low == 0 && line.high == 0) _
-    (so_first Q _ _ (so_unless Q (nat_le 1 line.low && nat_le line.low (line.high + 1)) _ (λ e. tt))
+    (λ z. so_first Q _ _ (so_unless Q (nat_le 1 line.low && nat_le line.low (line.high + 1)) _
+    (λ e. listed (and_both (is_same line.name line.name && not (line.low == 0 && line.high == 0)) (are_out_of_order line.low line.high)
+    (and_both (is_same line.name line.name) _ ((bytes_decides line.name line.name).1 refl) (ap not z)) (ap not e))))
     (so_first Q _ _ (so_unless Q (nat_le line.high profile.limit) _ (and_false (nat_le 1 line.high) (nat_le line.high profile.limit))) tt)))
     (so_first Q _ _ (so_unless Q (option_map_or (λ w. matches_name w line.name) p true) (unmatched line.name) (by p)) tt)
   where
@@ -191,6 +217,16 @@ so_active profile v response p line =
     by : (p : Option (List ℕ)) → option_map_or (λ w. matches_name w line.name) p true ≡ false → is_unmatched (to (list_active p)) line.name ≡ true
     by None e = absurd (true≢false e)
     by (Some w) e = ap not e
+
+-- the lines are among those that the answer lists
+so_actives : (profile : Profile) (v : Visible) (response : Response) (p : Option (List ℕ)) (lines : List ActiveValue)
+    → ((name : Name) → list_any (is_out_of_order name) lines ≡ true → has_wrong_marks response name ≡ true)
+    → IfSome (first (map (active_misfit profile p) lines)) (Tells profile v (to (list_active p)) response)
+so_actives profile v response p [] listed = tt
+so_actives profile v response p (line ∷ lines) listed =
+    so_first (Tells profile v (to (list_active p)) response) (active_misfit profile p line) (map (active_misfit profile p) lines)
+    (so_active profile v response p line (λ e. listed line.name (or_left (is_out_of_order line.name line) (list_any (is_out_of_order line.name) lines) e)))
+    (so_actives profile v response p lines (λ name e. listed name (or_right (is_out_of_order name line) (list_any (is_out_of_order name) lines) e)))
 
 -- the name stands in the list
 record Occurs (names : List Name) (name : Name) : Type 0 where
@@ -264,13 +300,13 @@ tells profile v greeting (plain code) = so_unless _ (is_greeting code) _ (λ e. 
 tells profile v (to command) (plain code) = so_unless _ (is_generic code || code_fits v command code) _ (λ e. (refl, refl))
 tells profile v (to (group word)) (group_is m name) =
     so_first Q (unless (is_same name word) (wrong_name name)) (marks_misfit profile v name m ∷ []) (so_unless Q (is_same name word) (wrong_name name) (λ e. (refl, e)))
-    (so_first Q (marks_misfit profile v name m) [] (so_marks profile v (to (group word)) (group_is m name) name m refl) tt)
+    (so_first Q (marks_misfit profile v name m) [] (so_marks profile v (to (group word)) (group_is m name) name m refl refl) tt)
   where
     Q : Misfit → Type 0
     Q = Tells profile v (to (group word)) (group_is m name)
 tells profile v (to (list_group word range)) (numbers_are m name lines) =
     so_first Q _ _ (so_name profile v asked response (code_misfit v asked 211) (option_or word v.selected) name m refl refl (refl, refl))
-    (so_first Q _ _ (so_marks profile v asked response name m refl)
+    (so_first Q _ _ (so_marks profile v asked response name m refl refl)
     (so_first Q _ _ (IfSome_then (order_misfit None (listed_numbers lines)) (so_numbers (listed_numbers lines)) (λ why f. subst Q (sym f.is) (f.neighbours, f.falls)))
     (so_first Q _ _ (so_each Q (listed_misfit profile.limit range)
     (λ n. so_first Q _ _ (so_unless Q (is_article_number profile.limit n) _ (λ e. e)) (so_first Q _ _ (so_unless Q (is_in_range range n) _ (λ e. ap not e)) tt))
@@ -298,7 +334,7 @@ tells profile v (to (retrieve what which)) (sends sent) =
     Q = Tells profile v asked (sends sent)
 tells profile v (to (list_active p)) (active_are lines) =
     so_first Q (first (map (active_misfit profile p) (active_groups lines))) (twice_misfit [] (active_groups lines) ∷ [])
-    (so_each Q (active_misfit profile p) (so_active profile v (active_are lines) p) (active_groups lines))
+    (so_actives profile v (active_are lines) p (active_groups lines) (λ name e. e))
     (so_first Q (twice_misfit [] (active_groups lines)) []
     (IfSome_then (twice_misfit [] (active_groups lines)) (so_twice [] (active_groups lines)) (all_twice profile v (to (list_active p)) lines)) tt)
   where

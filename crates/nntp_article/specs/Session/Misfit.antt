@@ -263,6 +263,38 @@ abbrev pub is_unmatched : Asked → Name → Bool
 is_unmatched (to (list_active (Some w))) name = not (matches_name w name)
 is_unmatched asked name = false
 
+-- the marks begin below 1, or are in no order (section 7.6.3)
+abbrev pub are_out_of_order : ℕ → ℕ → Bool
+are_out_of_order low high = not (nat_le 1 low && nat_le low (high + 1))
+
+-- the marks of a 211 are, or leave no room for the estimate (section 6.1.1.2)
+abbrev pub have_no_room : WaterMarks → Bool
+have_no_room m = not (are_zeros m) && (are_out_of_order m.low m.high || not (nat_le m.estimate (m.high + 1 - m.low)))
+
+-- a listed group has such marks (section 7.6.3)
+abbrev pub is_out_of_order : Name → ActiveValue → Bool
+is_out_of_order name line = is_same line.name name && not (line.low == 0 && line.high == 0) && are_out_of_order line.low line.high
+
+-- the answer gives the group such marks
+abbrev pub has_wrong_marks : Response → Name → Bool
+has_wrong_marks (group_is m given) name = is_same given name && have_no_room m
+has_wrong_marks (numbers_are m given lines) name = is_same given name && have_no_room m
+has_wrong_marks (active_are lines) name = list_any (is_out_of_order name) (active_groups lines)
+has_wrong_marks response name = false
+
+-- what is sent has the parts that were asked for (section 6.2)
+abbrev pub has_parts : What → Option (List Line) → Bool
+has_parts Article (Some lines) = list_any is_empty lines && is_head (head_part lines)
+has_parts Head (Some lines) = is_head lines
+has_parts Body (Some lines) = true
+has_parts Stat None = true
+has_parts what lines = false
+
+-- the article that is answered lacks them
+abbrev pub lacks_parts : Asked → Response → Bool
+lacks_parts (to (retrieve what which)) (sends sent) = not (has_parts what sent.block)
+lacks_parts asked response = false
+
 -- the two numbers stand in the list, one after the other
 pub record AreNeighbours (numbers : List ℕ) (before next : ℕ) : Type 0 where
   pub front : List ℕ

@@ -4,8 +4,8 @@ ghost use Rattle.nntp_article.specs.Session.Spool.{Name, Spool, Numbers, least, 
 ghost use Rattle.nntp_article.specs.declared.session.profile.Profile.{Profile};
 ghost use Rattle.nntp_article.specs.Session.Machine.{Visible, State, is_one_of, is_same, is_article_number, fits, Permits, Run};
 ghost use Rattle.nntp_article.specs.Article.Parts.{Id, said_id};
-ghost use Rattle.nntp_article.specs.Session.Misfit.{misfit, wrong_code, wrong_name, wrong_number, wrong_id, below_low, beyond_limit, not_above};
-ghost use Rattle.nntp_article.specs.Session.Misfit.{beyond_range, unmatched, listed_twice, other_id};
+ghost use Rattle.nntp_article.specs.Session.Misfit.{misfit, wrong_code, wrong_name, wrong_number, wrong_id, below_low, wrong_marks, beyond_limit, not_above};
+ghost use Rattle.nntp_article.specs.Session.Misfit.{beyond_range, unmatched, listed_twice, no_head, other_id, has_wrong_marks, lacks_parts};
 ghost use Rattle.nntp_article.specs.Session.Misfit.{asked_group, asked_number, asked_id, sent_by, sent_head, names_of, IsTwice};
 ghost use Rattle.nntp_article.specs.Session.Misfit.{allowed_codes, is_success, answered_code, marked_by, numbers_of, is_outside, is_unmatched, AreNeighbours, IsAbove};
 ghost use Rattle.nntp_wire.specs.Answer.{Asked, Response, plain};
@@ -65,6 +65,8 @@ pub fn reasons_are_so()
         → MatchOption (sent_by response) ⊥ (λ sent. sent.id ≡ id) × MatchOption (asked_id asked) ⊥ (λ word. IsFalse (is_same id word)) }
     ensures low { (profile : Profile) (v : Visible) (asked : Asked) (response : Response) (low : ℕ)
         → misfit profile v asked response ≡ Some (below_low low) → MatchOption (marked_by response) ⊥ (IsAbove v low) }
+    ensures marks { (profile : Profile) (v : Visible) (asked : Asked) (response : Response) (name : Name)
+        → misfit profile v asked response ≡ Some (wrong_marks name) → IsTrue (has_wrong_marks response name) }
     ensures limit { (profile : Profile) (v : Visible) (asked : Asked) (response : Response) (number : ℕ)
         → misfit profile v asked response ≡ Some (beyond_limit number) → IsFalse (is_article_number profile.limit number) }
     ensures order { (profile : Profile) (v : Visible) (asked : Asked) (response : Response) (before number : ℕ)
@@ -75,6 +77,8 @@ pub fn reasons_are_so()
         → misfit profile v asked response ≡ Some (unmatched name) → IsTrue (is_unmatched asked name) }
     ensures twice { (profile : Profile) (v : Visible) (asked : Asked) (response : Response) (name : Name)
         → misfit profile v asked response ≡ Some (listed_twice name) → IsTwice (names_of response) name }
+    ensures head { (profile : Profile) (v : Visible) (asked : Asked) (response : Response)
+        → misfit profile v asked response ≡ Some no_head → IsTrue (lacks_parts asked response) }
     ensures own { (profile : Profile) (v : Visible) (asked : Asked) (response : Response) (said : Id)
         → misfit profile v asked response ≡ Some (other_id said)
         → MatchOption (sent_head asked response) ⊥ (λ head. said_id head ≡ Some said) × MatchOption (sent_by response) ⊥ (λ sent. IsFalse (is_same said sent.id)) }

@@ -1,4 +1,4 @@
-use Rattle.nntp_article.specs.Session.Misfit.{wrong_code, wrong_name, wrong_number, wrong_id, below_low, beyond_limit, not_above, beyond_range, unmatched, listed_twice, other_id}
+use Rattle.nntp_article.specs.Session.Misfit.{wrong_code, wrong_name, wrong_number, wrong_id, below_low, wrong_marks, beyond_limit, not_above, beyond_range, unmatched, listed_twice, no_head, other_id}
 use Rattle.nntp_article.proofs.SessionLemmas.ReasonsAreSo.{so}
 use Rattle.nntp_article.proofs.session.laws.reasons_are_so.Goals as goal
 
@@ -17,6 +17,9 @@ returns-clause-id c = λ profile v asked response id. so profile v asked respons
 pub returns-clause-low : goal.returns-clause-low
 returns-clause-low c = λ profile v asked response low. so profile v asked response (below_low low)
 
+pub returns-clause-marks : goal.returns-clause-marks
+returns-clause-marks c = λ profile v asked response name. so profile v asked response (wrong_marks name)
+
 pub returns-clause-limit : goal.returns-clause-limit
 returns-clause-limit c = λ profile v asked response number. so profile v asked response (beyond_limit number)
 
@@ -31,6 +34,9 @@ returns-clause-matched c = λ profile v asked response name. so profile v asked 
 
 pub returns-clause-twice : goal.returns-clause-twice
 returns-clause-twice c = λ profile v asked response name. so profile v asked response (listed_twice name)
+
+pub returns-clause-head : goal.returns-clause-head
+returns-clause-head c = λ profile v asked response. so profile v asked response no_head
 
 pub returns-clause-own : goal.returns-clause-own
 returns-clause-own c = λ profile v asked response said. so profile v asked response (other_id said)
