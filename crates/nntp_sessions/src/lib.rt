@@ -1,13 +1,19 @@
-//! Worked sessions of a news reader and a server, with what is to be said of each, and sessions made at random.
+//! Worked sessions of a news reader and a server, with what is to be said of each, and sessions made at random; and readers
+//! and writers for runs over them.
 #![tactic(auto)]
 
 mod choice;
+mod fakes;
 mod marks;
 mod random;
 mod sessions;
 mod written;
 
 pub use choice::{CHOICES, Choice, NARROW_LENIENT, NARROW_STRICT, WIDE_LENIENT, WIDE_STRICT};
+pub use fakes::{
+    EndlessReader, FakeReader, FakeWriter, Full, cut_reader, endless_reader, reader,
+    unflushed_writer, writer,
+};
 pub use marks::{Outcome, Row, each_row};
 pub use random::{BASES, Random, Wandering};
 pub use sessions::{Session, capture, each_session, verified_report, with_spool};

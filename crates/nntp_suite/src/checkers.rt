@@ -1,10 +1,9 @@
 //! Checkers: the worked sessions in pieces, and what is told as bad while octets come.
-use crate::choices::checker_by;
 use crate::expectations::expect_octets;
-use crate::verdicts::shown;
 use nntp_check::{CheckError, Checker, Class, Verdict};
+use nntp_fixtures::{checker_by, feed_split, shown};
 use nntp_sessions::{Choice, NARROW_LENIENT, Random, Session, each_session};
-use std::alloc::{Allocator, Global};
+use std::alloc::Global;
 use std::process::Abort;
 use std::test::Fail;
 
@@ -33,20 +32,6 @@ fn is_told(told: Option<(u64, Class)>, verdict: &Verdict) -> bool {
             None => *class == Class::Cut || *class == Class::Surplus,
         },
     }
-}
-
-/// Gives both streams in two pieces each, split at these places.
-pub(crate) fn feed_split<A: Allocator + Copy>(
-    checker: &mut Checker<A>,
-    (client, server): (&[u8], &[u8]),
-    (at_client, at_server): (usize, usize),
-) -> Result<(), CheckError> {
-    let (client_front, client_rest) = client.split_at(at_client.min(client.len()));
-    let (server_front, server_rest) = server.split_at(at_server.min(server.len()));
-    checker.feed_client(client_front)?;
-    checker.feed_server(server_front)?;
-    checker.feed_client(client_rest)?;
-    checker.feed_server(server_rest)
 }
 
 /// Expects the verdict of this report where both streams come in two pieces each, split at these places.

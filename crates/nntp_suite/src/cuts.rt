@@ -1,8 +1,7 @@
 //! Recordings that end early: each consistent worked session, with one of both streams cut after each octet.
 use crate::checkers::expect_split;
-use crate::choices::check_by;
 use crate::expectations::{expect_front, expect_octets};
-use crate::verdicts::shown;
+use nntp_fixtures::{check_by, shown};
 use nntp_sessions::{Session, each_session};
 use nntp_slow_judge::{Answered, exchanges};
 use std::alloc::{AllocError, Global};

@@ -1,13 +1,12 @@
 //! Every session of at most three exchanges out of twelve, by each choice, and one of a thousand groups: all judges
 //! agree, and each spool that is given is read back and permitted.
 use crate::checkers::expect_split;
-use crate::choices::{check_by, check_task, verify_task};
 use crate::expectations::{expect_verified, expect_written};
 use crate::given_spools::put;
 use crate::slowly_judged::compare_report;
-use crate::verdicts::shown;
 use crate::written::written;
 use nntp_check::Task;
+use nntp_fixtures::{check_by, check_task, shown, verify_task};
 use nntp_sessions::{
     CHOICES, Choice, NARROW_LENIENT, NARROW_STRICT, WIDE_LENIENT, WIDE_STRICT, capture,
     verified_report, with_spool,

@@ -1,25 +1,15 @@
-//! Tests of the whole: worked sessions, runs by fake readers and writers, want of memory, and the
-//! command line.
+//! Tests of what is judged: worked sessions, all small ones and random ones go through every call, and through a slow
+//! judge.
 #![tactic(auto)]
 
 #[cfg(test)]
 mod checkers;
 #[cfg(test)]
-mod choices;
-#[cfg(test)]
-mod command_lines;
-#[cfg(test)]
 mod cuts;
 #[cfg(test)]
 mod expectations;
 #[cfg(test)]
-mod explanations;
-#[cfg(test)]
-mod fakes;
-#[cfg(test)]
 mod family;
-#[cfg(test)]
-mod faults;
 #[cfg(test)]
 mod given_spools;
 #[cfg(test)]
@@ -29,19 +19,9 @@ mod limits;
 #[cfg(test)]
 mod marks;
 #[cfg(test)]
-mod memory;
-#[cfg(test)]
-mod reported;
-#[cfg(test)]
-mod runs;
-#[cfg(test)]
-mod shows;
-#[cfg(test)]
 mod slowly_judged;
 #[cfg(test)]
 mod slowly_noted;
-#[cfg(test)]
-mod trials;
 #[cfg(test)]
 mod verdicts;
 #[cfg(test)]

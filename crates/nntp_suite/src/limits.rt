@@ -1,9 +1,8 @@
 //! Lines at their greatest length and past it, and lines with octets that none may have.
 use crate::checkers::expect_split;
-use crate::choices::{check_by, check_task};
 use crate::expectations::{expect_octets, expect_written};
-use crate::verdicts::shown;
 use crate::written::written;
+use nntp_fixtures::{check_by, check_task, shown};
 use nntp_sessions::{NARROW_LENIENT, capture};
 use std::alloc::{AllocError, Global};
 use std::process::Abort;

@@ -1,24 +1,12 @@
 //! Sessions that are noted by lenient and by strict marks: which answer is the first that is bad, or what is known
 //! of the groups.
-use crate::choices::check_by;
 use crate::expectations::{expect_front, expect_octets};
 use crate::group_lines::group_lines;
-use crate::memory::facts::{Stop, beginning, note_all};
-use crate::verdicts::shown;
-use nntp_facts::Class;
+use nntp_fixtures::{Stop, bad_of, beginning, check_by, note_all, shown};
 use nntp_sessions::{Choice, NARROW_LENIENT, NARROW_STRICT, Outcome, Row, each_row};
 use std::alloc::Global;
 use std::process::Abort;
 use std::test::Fail;
-
-/// How many answers are right, and the class of the one behind them, if that is bad.
-pub(crate) fn bad_of(outcome: Outcome) -> (u64, Option<Class>) {
-    match outcome {
-        Outcome::Consistent(answers, _) => (answers, None),
-        Outcome::OutOfPlace(answer) => (answer, Some(Class::OutOfPlace)),
-        Outcome::Contradiction(answer) => (answer, Some(Class::Contradiction)),
-    }
-}
 
 /// Notes the session, which has to end so, and judges it, which has to say the same.
 fn note(

@@ -1,8 +1,7 @@
 //! Sessions that the slow judge judges too, answer by answer.
-use crate::choices::check_by;
 use crate::expectations::{expect_front, expect_octets, expect_verified};
-use crate::verdicts::shown;
 use nntp_check::Verdict;
+use nntp_fixtures::{check_by, shown};
 use nntp_sessions::{
     BASES, CHOICES, Choice, NARROW_LENIENT, NARROW_STRICT, Random, Session, WIDE_LENIENT,
     WIDE_STRICT, Wandering, each_row, each_session,

@@ -1,9 +1,9 @@
 //! Sessions that are noted and that the slow judge judges too, answer by answer: what is said of each answer, and what
 //! is then known of the groups.
 use crate::group_lines::group_lines;
-use crate::memory::facts::{Stop, note_all};
 use crate::slowly_judged::Counts;
 use nntp_facts::Class;
+use nntp_fixtures::{Stop, note_all};
 use nntp_sessions::{
     CHOICES, Choice, NARROW_LENIENT, NARROW_STRICT, Random, Wandering, each_row, each_session,
 };

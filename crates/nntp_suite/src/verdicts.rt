@@ -1,61 +1,9 @@
-//! The verdicts of `check`, and the reports of its runs.
-use crate::choices::{check_by, check_task};
-use crate::expectations::{expect_octets, expect_written};
-use crate::trials::Trial;
-use crate::written::written;
+//! The verdicts of `check`.
+use crate::expectations::expect_octets;
 use nntp_check::Verdict;
-use nntp_sessions::{NARROW_LENIENT, capture, each_session, with_spool_text};
-use std::alloc::{AllocError, Allocator, Global};
-use std::process::Abort;
+use nntp_fixtures::{check_by, shown};
+use nntp_sessions::{NARROW_LENIENT, each_session};
 use std::test::Fail;
-
-/// Writes the first line of the report on a bad answer, and the answer with nothing escaped.
-fn show_bad<A: Allocator>(
-    shown: &mut Vec<u8>,
-    first: &str,
-    command: Option<&Vec<u8, A>>,
-    reply: &[u8],
-) -> Result<(), AllocError> {
-    shown.extend_from_slice(first.as_bytes())?;
-    match command {
-        Some(line) => {
-            shown.extend_from_slice(b"command ")?;
-            shown.extend_from_slice(line)?;
-        }
-        None => shown.extend_from_slice(b"no command")?,
-    }
-    shown.extend_from_slice(b"\nanswer ")?;
-    shown.extend_from_slice(reply)?;
-    shown.extend_from_slice(b"\n")
-}
-
-/// The report on a verdict, with nothing escaped.
-pub(crate) fn shown<A: Allocator>(
-    alloc: Global,
-    verdict: &Verdict<A>,
-) -> Result<Vec<u8>, AllocError> {
-    match verdict {
-        Verdict::Consistent { spool, answers } => {
-            let counts = spool.counts();
-            let first = format!(in alloc;
-                "consistent answers={answers} groups={} numbers={} articles={}\n",
-                counts.groups, counts.numbers, counts.articles
-            )?;
-            with_spool_text(first.into_bytes(), spool)
-        }
-        Verdict::Bad {
-            answer,
-            class,
-            command,
-            reply,
-        } => {
-            let mut shown = Vec::new(alloc);
-            let first = format!(in alloc; "bad answer {answer} {class}\n")?;
-            show_bad(&mut shown, first.as_str(), command.as_ref(), reply)?;
-            Ok(shown)
-        }
-    }
-}
 
 #[test]
 fn verdicts_on_worked_sessions(rt: HostRuntime) -> Result<(), Fail> {
@@ -65,23 +13,6 @@ fn verdicts_on_worked_sessions(rt: HostRuntime) -> Result<(), Fail> {
         let wanted = session.report(rt.alloc())?;
         expect_octets(&rt, session.name, &octets, wanted.as_bytes());
     }
-    Ok(())
-}
-
-#[test]
-fn reports_on_worked_sessions(rt: HostRuntime) -> Result<(), Fail> {
-    for session in each_session(rt.alloc())? {
-        Trial::Pass(4096).check(&rt, rt.alloc(), session)?;
-    }
-    Ok(())
-}
-
-#[test]
-fn octets_that_are_not_printed(rt: HostRuntime) -> Result<(), Fail> {
-    let capture = capture(rt.alloc(), "GROUP \\\t\x01\r\n", "200 hi\r\n2\u{e9}\r\n")?;
-    let ended = written(rt.alloc(), check_task(NARROW_LENIENT), capture.as_str())?;
-    let wanted = b"bad answer 1 Malformed\ncommand GROUP \\\\\\x09\\x01\nanswer 2\\xc3\\xa9\n";
-    expect_written(&rt, "escapes", ended, (false, wanted.as_slice()));
     Ok(())
 }
 

@@ -1,6 +1,6 @@
 //! What a run writes.
-use crate::fakes::{Full, reader, writer};
 use nntp_check::{Task, run_task};
+use nntp_sessions::{Full, reader, writer};
 use std::alloc::Global;
 use std::test::Fail;
 

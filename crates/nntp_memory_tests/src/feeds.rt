@@ -1,9 +1,9 @@
 //! Want of memory while streams are fed in pieces.
-use super::{Ended, refuse_each};
+use nntp_little_memory::{Ended, refuse_each};
 use nntp_pair::{Ending, Feed, PairClass, PairError, Peek};
 use nntp_refusing::Refusing;
 use std::alloc::Global;
-use std::process::Abort;
+use std::test::Fail;
 
 type Heap<'a> = &'a Refusing<Global>;
 
@@ -126,13 +126,14 @@ fn feed_all(heap: Heap<'_>, feedings: &[Feeding]) -> Ended {
 }
 
 #[test]
-fn streams_that_are_fed(rt: HostRuntime) {
+fn streams_that_are_fed(rt: HostRuntime) -> Result<(), Fail> {
     let rows: [(&str, &[Feeding]); 2] = [
         ("a body in two pieces", &BODY),
         ("an answer before its line", &ANSWER_FIRST),
     ];
     for (name, feedings) in rows {
-        let refused = refuse_each(&rt, rt.alloc(), name, |heap| feed_all(heap, feedings));
+        let refused = refuse_each(rt.alloc(), name, |heap| feed_all(heap, feedings))?;
         assert!(rt; refused > 1, "{name}, {refused}");
     }
+    Ok(())
 }

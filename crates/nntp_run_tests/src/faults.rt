@@ -1,8 +1,8 @@
 //! Readers and writers that fail, or give and take one octet, in runs over worked sessions.
-use crate::fakes::{Full, reader, unflushed_writer, writer};
 use crate::runs::Run;
 use crate::trials::Trial;
 use nntp_check::{RunFault, run_task};
+use nntp_sessions::{Full, reader, unflushed_writer, writer};
 use std::alloc::Global;
 use std::process::Abort;
 use std::test::Fail;

@@ -4,7 +4,7 @@ use nntp_sessions::Choice;
 use std::alloc::{AllocError, Allocator};
 
 /// The verdict of `check` on two streams.
-pub(crate) fn check_by<A: Allocator + Copy>(
+pub fn check_by<A: Allocator + Copy>(
     choice: Choice,
     alloc: A,
     (client, server): (&[u8], &[u8]),
@@ -13,12 +13,12 @@ pub(crate) fn check_by<A: Allocator + Copy>(
 }
 
 /// A checker to which nothing was fed.
-pub(crate) fn checker_by<A: Allocator + Copy>(choice: Choice, alloc: A) -> Checker<A> {
+pub fn checker_by<A: Allocator + Copy>(choice: Choice, alloc: A) -> Checker<A> {
     Checker::new(alloc, choice.limit, choice.marks)
 }
 
 /// The task of judging a session.
-pub(crate) fn check_task(choice: Choice) -> Task {
+pub fn check_task(choice: Choice) -> Task {
     Task::Check {
         limit: choice.limit,
         marks: choice.marks,
@@ -26,14 +26,14 @@ pub(crate) fn check_task(choice: Choice) -> Task {
 }
 
 /// The task of telling whether a spool explains a session. The limit is that of the spool.
-pub(crate) fn verify_task(choice: Choice) -> Task {
+pub fn verify_task(choice: Choice) -> Task {
     Task::Verify {
         marks: choice.marks,
     }
 }
 
 /// The task of telling all that is bad of a session.
-pub(crate) fn explain_task(choice: Choice) -> Task {
+pub fn explain_task(choice: Choice) -> Task {
     Task::Explain {
         limit: choice.limit,
         marks: choice.marks,

@@ -1,10 +1,10 @@
 //! Want of memory while a spool is built, read and put to a session.
-use super::{AMPLE, Ended, give_each, refuse_each, right_if};
 use linked_list_allocator::LocalHeap;
-use nntp_check::Limit;
+use nntp_little_memory::{AMPLE, Ended, give_each, refuse_each, right_if};
 use nntp_refusing::{Refusal, Refusing};
 use nntp_sessions::{Session, each_session, spool_text};
 use nntp_spool::{Article, Counts, Kind, ReadFault, Spool, SpoolBuilder, SpoolFault, verify};
+use nntp_wire::Limit;
 use std::alloc::{AllocError, Allocator, Global};
 use std::process::Abort;
 use std::test::Fail;
@@ -163,13 +163,14 @@ type Building<'a> = (
 );
 
 /// Builds a spool, with each request refused in turn.
-fn refuse_building(rt: &impl Abort, alloc: Global, building: Building<'_>) {
+fn refuse_building(rt: &impl Abort, alloc: Global, building: Building<'_>) -> Result<(), Fail> {
     let (name, limit, calls, wanted) = building;
     let ample = Refusing::new(alloc, Refusal::Never);
-    let refused = refuse_each(rt, alloc, name, |heap| {
+    let refused = refuse_each(alloc, name, |heap| {
         build(heap, &ample, limit, calls, wanted)
-    });
+    })?;
     assert!(rt; refused > 3, "{refused}");
+    Ok(())
 }
 
 const ONE_ARTICLE: Counts = Counts {
@@ -179,7 +180,7 @@ const ONE_ARTICLE: Counts = Counts {
 };
 
 #[test]
-fn spools_that_are_built(rt: HostRuntime) {
+fn spools_that_are_built(rt: HostRuntime) -> Result<(), Fail> {
     let (unknown, _) = CALLS.split_at(12);
     let rows: [Building<'_>; 3] = [
         (
@@ -202,12 +203,13 @@ fn spools_that_are_built(rt: HostRuntime) {
         ),
     ];
     for row in rows {
-        refuse_building(&rt, rt.alloc(), row);
+        refuse_building(&rt, rt.alloc(), row)?;
     }
+    Ok(())
 }
 
 #[test]
-fn spools_with_numbers_above_31_bits(rt: HostRuntime) {
+fn spools_with_numbers_above_31_bits(rt: HostRuntime) -> Result<(), Fail> {
     let no_number = Counts {
         groups: 1,
         numbers: 0,
@@ -228,12 +230,13 @@ fn spools_with_numbers_above_31_bits(rt: HostRuntime) {
         ),
     ];
     for row in rows {
-        refuse_building(&rt, rt.alloc(), row);
+        refuse_building(&rt, rt.alloc(), row)?;
     }
+    Ok(())
 }
 
 /// Right if the spool is written so.
-pub(super) fn right_if_written<A: Allocator>(
+pub(crate) fn right_if_written<A: Allocator>(
     alloc: Global,
     spool: &Spool<A>,
     text: &[u8],
@@ -270,9 +273,9 @@ fn read<A: Allocator + Copy>(
 fn spools_of_worked_sessions_are_read(rt: HostRuntime) -> Result<(), Fail> {
     for session in each_session(rt.alloc())? {
         let (text, _) = session.given;
-        refuse_each(&rt, rt.alloc(), session.name, |heap| {
+        refuse_each(rt.alloc(), session.name, |heap| {
             read(rt.alloc(), heap, text.as_bytes(), None)
-        });
+        })?;
     }
     Ok(())
 }
@@ -313,13 +316,14 @@ const NO_SPOOLS: [(&str, &[u8], u64, Kind); 6] = [
 ];
 
 #[test]
-fn texts_of_no_spool_are_read(rt: HostRuntime) {
+fn texts_of_no_spool_are_read(rt: HostRuntime) -> Result<(), Fail> {
     for (name, text, line, kind) in NO_SPOOLS {
         let fault = Some(ReadFault { line, kind });
-        refuse_each(&rt, rt.alloc(), name, |heap| {
+        refuse_each(rt.alloc(), name, |heap| {
             read(rt.alloc(), heap, text, fault)
-        });
+        })?;
     }
+    Ok(())
 }
 
 /// Puts the spool that is given for a session, which is made of `ample` memory, to it.
@@ -340,9 +344,9 @@ fn spools_that_are_put_to_worked_sessions(rt: HostRuntime) -> Result<(), Fail> {
     let ample = Refusing::new(rt.alloc(), Refusal::Never);
     let mut most = 0;
     for session in each_session(rt.alloc())? {
-        let refused = refuse_each(&rt, rt.alloc(), session.name, |heap| {
+        let refused = refuse_each(rt.alloc(), session.name, |heap| {
             verify_given(heap, &ample, session)
-        });
+        })?;
         most = refused.max(most);
     }
     assert!(rt; most > 3, "{most}");
@@ -353,7 +357,7 @@ fn spools_that_are_put_to_worked_sessions(rt: HostRuntime) -> Result<(), Fail> {
 fn spools_with_few_octets(rt: HostRuntime) -> Result<(), Fail> {
     for session in each_session(rt.alloc())? {
         let (text, _) = session.given;
-        give_each(&rt, rt.alloc(), session.name, |heap| {
+        give_each(rt.alloc(), session.name, |heap| {
             read(rt.alloc(), heap, text.as_bytes(), None)
         })?;
     }
@@ -364,7 +368,7 @@ fn spools_with_few_octets(rt: HostRuntime) -> Result<(), Fail> {
 fn spools_that_are_put_with_few_octets(rt: HostRuntime) -> Result<(), Fail> {
     let ample = LocalHeap::new(rt.alloc(), AMPLE)?;
     for session in each_session(rt.alloc())? {
-        give_each(&rt, rt.alloc(), session.name, |heap| {
+        give_each(rt.alloc(), session.name, |heap| {
             verify_given(heap, &ample, session)
         })?;
     }

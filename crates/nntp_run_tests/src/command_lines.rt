@@ -1,7 +1,7 @@
 //! The command line, the words on standard error, and the exit status.
-use crate::choices::{check_task, explain_task, verify_task};
 use clap::error::ErrorKind;
 use nntp_check::{Failure, Kind, ReadFault, RunFault, Task, job, refusal, status};
+use nntp_fixtures::{check_task, explain_task, verify_task};
 use nntp_sessions::{NARROW_LENIENT, NARROW_STRICT, WIDE_LENIENT, WIDE_STRICT};
 use std::alloc::{AllocError, Global};
 use std::process::Abort;

@@ -1,14 +1,14 @@
 //! Trials of the runs over worked sessions, and over those that are shown.
-use crate::choices::{check_task, verify_task};
 use crate::explanations::EXPLAINED;
-use crate::fakes::Full;
 use crate::memory;
 use crate::reported::Reported;
 use crate::runs::Run;
 use crate::shows::SHOWN;
-use nntp_sessions::{Session, each_session, verified_report, with_spool};
-use std::alloc::{AllocError, Global};
+use nntp_fixtures::{check_task, verify_task};
+use nntp_sessions::{Full, Session, each_session, verified_report, with_spool};
+use std::alloc::Global;
 use std::process::Abort;
+use std::test::Fail;
 
 /// What is tried with a run.
 #[derive(Clone, Copy)]
@@ -28,16 +28,16 @@ pub(crate) enum Trial {
 }
 
 impl Trial {
-    fn make(self, rt: &impl Abort, alloc: Global, run: &Run<'_>) -> Result<(), AllocError> {
+    fn make(self, rt: &impl Abort, alloc: Global, run: &Run<'_>) -> Result<(), Fail> {
         match self {
             Trial::Pass(octets) => run.pass(rt, alloc, octets),
             Trial::FailReads => run.fail_reads(rt, alloc),
             Trial::FailWrites(full) => run.fail_writes(rt, alloc, full),
             Trial::FailFlush => run.fail_flush(rt, alloc),
             Trial::RefuseMemory => {
-                memory::refuse_run(rt, alloc, run);
+                memory::refuse_run(rt, alloc, run)?;
             }
-            Trial::GiveMemory => return memory::give_run(rt, alloc, run),
+            Trial::GiveMemory => memory::give_run(rt, alloc, run)?,
         }
         Ok(())
     }
@@ -48,7 +48,7 @@ impl Trial {
         rt: &impl Abort,
         alloc: Global,
         session: &Session,
-    ) -> Result<(), AllocError> {
+    ) -> Result<(), Fail> {
         let capture = session.capture(alloc)?;
         let report = session.report(alloc)?;
         let run = Run::of(
@@ -67,7 +67,7 @@ impl Trial {
         rt: &impl Abort,
         alloc: Global,
         session: &Session,
-    ) -> Result<(), AllocError> {
+    ) -> Result<(), Fail> {
         let (text, verified) = session.given;
         let streams = session.capture(alloc)?;
         let capture = with_spool(alloc, streams.as_str(), text)?;
@@ -83,7 +83,7 @@ impl Trial {
     }
 
     /// Tries the run of a task over a session.
-    fn report(self, rt: &impl Abort, alloc: Global, session: &Reported) -> Result<(), AllocError> {
+    fn report(self, rt: &impl Abort, alloc: Global, session: &Reported) -> Result<(), Fail> {
         let capture = session.capture(alloc)?;
         let run = Run::of(
             session.name,
@@ -96,7 +96,7 @@ impl Trial {
     }
 
     /// Tries the runs of `check` and of `verify` over each worked session.
-    pub(crate) fn sessions(self, rt: &impl Abort, alloc: Global) -> Result<(), AllocError> {
+    pub(crate) fn sessions(self, rt: &impl Abort, alloc: Global) -> Result<(), Fail> {
         for session in each_session(alloc)? {
             self.check(rt, alloc, session)?;
             self.verify(rt, alloc, session)?;
@@ -105,7 +105,7 @@ impl Trial {
     }
 
     /// Tries the runs over each session that is shown.
-    pub(crate) fn shown(self, rt: &impl Abort, alloc: Global) -> Result<(), AllocError> {
+    pub(crate) fn shown(self, rt: &impl Abort, alloc: Global) -> Result<(), Fail> {
         for session in SHOWN {
             self.report(rt, alloc, &session)?;
         }
@@ -113,7 +113,7 @@ impl Trial {
     }
 
     /// Tries the runs over each session that is explained.
-    pub(crate) fn explained(self, rt: &impl Abort, alloc: Global) -> Result<(), AllocError> {
+    pub(crate) fn explained(self, rt: &impl Abort, alloc: Global) -> Result<(), Fail> {
         for session in EXPLAINED {
             self.report(rt, alloc, &session)?;
         }
@@ -121,7 +121,7 @@ impl Trial {
     }
 
     /// Tries all of these runs.
-    pub(crate) fn all(self, rt: &impl Abort, alloc: Global) -> Result<(), AllocError> {
+    pub(crate) fn all(self, rt: &impl Abort, alloc: Global) -> Result<(), Fail> {
         self.sessions(rt, alloc)?;
         self.shown(rt, alloc)?;
         self.explained(rt, alloc)

@@ -1,6 +1,6 @@
 use Rattle.std.proofs.Common.{◌-◌}
 use Rattle.std.specs.Prelude.{⊤}
-use Rattle.nntp_suite.proofs.memory.give_each.Given as goal
+use Rattle.nntp_little_memory.proofs.give_more.Given as goal
 
 abbrev pub invariant-loop-size : goal.invariant-loop-size
 invariant-loop-size g l = ⊤

@@ -1,11 +1,10 @@
 //! Want of memory in a run: nothing is written, and the exit status is 3.
-use super::{Ended, give_each, refuse_each, right_if};
-use crate::fakes::{FakeWriter, Full, reader, writer};
 use crate::runs::{CAPTURE, CHECK, REPORT, Run, VERIFY};
 use crate::trials::Trial;
 use nntp_check::{Failure, Kind, ReadFault, RunFault, Task, run_task, status};
-use nntp_sessions::{capture, with_spool};
-use std::alloc::{AllocError, Allocator, Global};
+use nntp_little_memory::{Ended, Fault, give_each, refuse_each, right_if};
+use nntp_sessions::{FakeWriter, Full, capture, reader, with_spool, writer};
+use std::alloc::{Allocator, Global};
 use std::process::Abort;
 use std::test::Fail;
 
@@ -33,15 +32,19 @@ impl Run<'_> {
 }
 
 /// Refuses each request of a run that makes some. Returns how many there are.
-pub(crate) fn refuse_run(rt: &impl Abort, alloc: Global, run: &Run<'_>) -> u64 {
-    let refused = refuse_each(rt, alloc, run.name, |heap| run.end(alloc, heap));
+pub(crate) fn refuse_run<'a>(
+    rt: &impl Abort,
+    alloc: Global,
+    run: &Run<'a>,
+) -> Result<u64, Fault<'a>> {
+    let refused = refuse_each(alloc, run.name, |heap| run.end(alloc, heap))?;
     assert!(rt; refused > 0, "{refused}");
-    refused
+    Ok(refused)
 }
 
 /// Gives a run a few octets of memory, and then more.
-pub(crate) fn give_run(rt: &impl Abort, alloc: Global, run: &Run<'_>) -> Result<(), AllocError> {
-    let enough = give_each(rt, alloc, run.name, |heap| run.end(alloc, heap))?;
+pub(crate) fn give_run<'a>(rt: &impl Abort, alloc: Global, run: &Run<'a>) -> Result<(), Fault<'a>> {
+    let enough = give_each(alloc, run.name, |heap| run.end(alloc, heap))?;
     assert!(rt; enough > 16, "{enough}");
     Ok(())
 }
@@ -91,11 +94,12 @@ const RUNS: [Run<'static>; 5] = [
 ];
 
 #[test]
-fn runs_over_captures(rt: HostRuntime) {
+fn runs_over_captures(rt: HostRuntime) -> Result<(), Fail> {
     for run in RUNS {
-        let refused = refuse_run(&rt, rt.alloc(), &run);
+        let refused = refuse_run(&rt, rt.alloc(), &run)?;
         assert!(rt; refused > 3 || run.answer != Ok(true), "{refused}");
     }
+    Ok(())
 }
 
 #[test]
@@ -113,7 +117,7 @@ fn runs_over_a_text_of_no_spool(rt: HostRuntime) -> Result<(), Fail> {
         })),
         report: b"",
     };
-    refuse_run(&rt, rt.alloc(), &run);
+    refuse_run(&rt, rt.alloc(), &run)?;
     Ok(())
 }
 

@@ -3,7 +3,7 @@ use Rattle.nntp_article.specs.Session.Limit.{profile_of}
 use Rattle.nntp_witness.proofs.Aims.{noted_as_kept}
 use Rattle.nntp_check.specs.Judging.{class_noted}
 use Rattle.nntp_check.proofs.JudgeLemmas.{is-due, one-more}
-use Rattle.nntp_suite.proofs.memory.facts.note_all.Goals as goal
+use Rattle.nntp_fixtures.proofs.notes.note_all.Goals as goal
 
 pub loop-exchange-init : goal.loop-exchange-init
 loop-exchange-init g c = record { pairs = []; before = sym c.new-pairs.ensures; stands = c.new-facts.ensures.stands }

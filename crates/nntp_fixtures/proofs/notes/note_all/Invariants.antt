@@ -1,7 +1,7 @@
 use Rattle.std.proofs.Common.{length}
 use Rattle.nntp_article.specs.Session.Limit.{profile_of}
 use Rattle.nntp_check.specs.Judging.{Passed}
-use Rattle.nntp_suite.proofs.memory.facts.note_all.Given as goal
+use Rattle.nntp_fixtures.proofs.notes.note_all.Given as goal
 
 abbrev pub invariant-loop-exchange : goal.invariant-loop-exchange
 invariant-loop-exchange g l = Passed (profile_of l.fn.limit l.fn.marks) l.client l.server l.facts l.pairs

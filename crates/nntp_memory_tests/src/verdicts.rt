@@ -1,14 +1,13 @@
 //! Want of memory while worked sessions are judged.
-use super::{Ended, give_each, refuse_each, right_if};
-use crate::choices::check_by;
-use crate::verdicts::shown;
 use nntp_check::Verdict;
+use nntp_fixtures::{check_by, shown};
+use nntp_little_memory::{Ended, give_each, refuse_each, right_if};
 use nntp_sessions::{Session, each_session};
 use std::alloc::{Allocator, Global};
 use std::test::Fail;
 
 /// Right if the report on the verdict is this one.
-pub(super) fn right_if_shown<A: Allocator>(
+pub(crate) fn right_if_shown<A: Allocator>(
     alloc: Global,
     verdict: &Verdict<A>,
     wanted: &str,
@@ -36,9 +35,9 @@ fn judge_at_once<A: Allocator + Copy>(
 fn verdicts_on_worked_sessions(rt: HostRuntime) -> Result<(), Fail> {
     for session in each_session(rt.alloc())? {
         let wanted = session.report(rt.alloc())?;
-        refuse_each(&rt, rt.alloc(), session.name, |heap| {
+        refuse_each(rt.alloc(), session.name, |heap| {
             judge_at_once(rt.alloc(), heap, session, wanted.as_str())
-        });
+        })?;
     }
     Ok(())
 }
@@ -47,7 +46,7 @@ fn verdicts_on_worked_sessions(rt: HostRuntime) -> Result<(), Fail> {
 fn verdicts_with_few_octets(rt: HostRuntime) -> Result<(), Fail> {
     for session in each_session(rt.alloc())? {
         let wanted = session.report(rt.alloc())?;
-        give_each(&rt, rt.alloc(), session.name, |heap| {
+        give_each(rt.alloc(), session.name, |heap| {
             judge_at_once(rt.alloc(), heap, session, wanted.as_str())
         })?;
     }

@@ -1,9 +1,8 @@
 //! Want of memory while worked sessions come in pieces.
-use super::verdicts::right_if_shown;
-use super::{Ended, give_each, refuse_each};
-use crate::checkers::feed_split;
-use crate::choices::checker_by;
+use crate::verdicts::right_if_shown;
 use nntp_check::{CheckError, Checker};
+use nntp_fixtures::{checker_by, feed_split};
+use nntp_little_memory::{Ended, give_each, refuse_each};
 use nntp_sessions::{Session, each_session};
 use std::alloc::{Allocator, Global};
 use std::test::Fail;
@@ -47,9 +46,9 @@ fn judge_in_pieces<A: Allocator + Copy>(
 fn sessions_in_pieces(rt: HostRuntime) -> Result<(), Fail> {
     for session in each_session(rt.alloc())? {
         let wanted = session.report(rt.alloc())?;
-        refuse_each(&rt, rt.alloc(), session.name, |heap| {
+        refuse_each(rt.alloc(), session.name, |heap| {
             judge_in_pieces(rt.alloc(), heap, session, wanted.as_str())
-        });
+        })?;
     }
     Ok(())
 }
@@ -58,7 +57,7 @@ fn sessions_in_pieces(rt: HostRuntime) -> Result<(), Fail> {
 fn sessions_in_pieces_with_few_octets(rt: HostRuntime) -> Result<(), Fail> {
     for session in each_session(rt.alloc())? {
         let wanted = session.report(rt.alloc())?;
-        give_each(&rt, rt.alloc(), session.name, |heap| {
+        give_each(rt.alloc(), session.name, |heap| {
             judge_in_pieces(rt.alloc(), heap, session, wanted.as_str())
         })?;
     }

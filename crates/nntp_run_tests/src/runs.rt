@@ -1,6 +1,6 @@
 //! Runs over captures, by readers and writers that give and take a little or fail.
-use crate::fakes::{FakeWriter, Full, cut_reader, endless_reader, reader, writer};
 use nntp_check::{Failure, Limit, Marks, RunFault, Task, run_task, status};
+use nntp_sessions::{FakeWriter, Full, cut_reader, endless_reader, reader, writer};
 use std::alloc::{AllocError, Global};
 use std::process::Abort;
 use std::test::Fail;

@@ -1,10 +1,10 @@
 //! Want of memory while a header's content and the control messages of a head are read.
-use super::{Ended, refuse_each, right_if};
 use nntp_article::{Control, Head, content, control};
+use nntp_little_memory::{Ended, refuse_each, right_if};
 use nntp_refusing::Refusing;
 use nntp_wire::{Answer, Command, Prompt, frame};
 use std::alloc::Global;
-use std::process::Abort;
+use std::test::Fail;
 
 /// An answer to HEAD whose first header is on two lines.
 const CANCEL: &[u8] = b"221 0 <c@x>\r\nControl: cancel\r\n <a@b>\r\nMessage-ID: <c@x>\r\n.\r\n";
@@ -48,7 +48,7 @@ fn contents(heap: &Refusing<Global>, answer: &[u8], wanted: &[&[u8]]) -> Ended {
 }
 
 #[test]
-fn contents_of_headers(rt: HostRuntime) {
+fn contents_of_headers(rt: HostRuntime) -> Result<(), Fail> {
     let rows: [(&str, &[u8], &[&[u8]]); 2] = [
         (
             "a header of two lines",
@@ -66,9 +66,10 @@ fn contents_of_headers(rt: HostRuntime) {
         ),
     ];
     for (name, answer, wanted) in rows {
-        let refused = refuse_each(&rt, rt.alloc(), name, |heap| contents(heap, answer, wanted));
+        let refused = refuse_each(rt.alloc(), name, |heap| contents(heap, answer, wanted))?;
         assert!(rt; refused >= 3, "{refused}");
     }
+    Ok(())
 }
 
 /// A word for the kind of a control message, and its octets.
@@ -109,7 +110,7 @@ fn controls(heap: &Refusing<Global>, answer: &[u8], wanted: &[(&[u8], &[u8])]) -
 }
 
 #[test]
-fn control_messages(rt: HostRuntime) {
+fn control_messages(rt: HostRuntime) -> Result<(), Fail> {
     let rows: [(&str, &[u8], &[(&[u8], &[u8])]); 2] = [
         ("a cancellation", CANCEL, &[(b"cancel", b"<a@b>")]),
         (
@@ -123,7 +124,8 @@ fn control_messages(rt: HostRuntime) {
         ),
     ];
     for (name, answer, wanted) in rows {
-        let refused = refuse_each(&rt, rt.alloc(), name, |heap| controls(heap, answer, wanted));
+        let refused = refuse_each(rt.alloc(), name, |heap| controls(heap, answer, wanted))?;
         assert!(rt; refused >= 3, "{refused}");
     }
+    Ok(())
 }

@@ -1,12 +1,12 @@
 //! A reader and a writer that do as a test tells them.
-use nntp_check::Watched;
+use nntp_spool::Watched;
 use std::alloc::Global;
 use std::io;
 use std::io::{Read, Write};
 
 /// Gives its octets a few at a read, and fails at the read of this number, counted from 1.
 #[derive(Drop)]
-pub(crate) struct FakeReader<'a> {
+pub struct FakeReader<'a> {
     /// The octets that come first. No read gives some of them and some of those behind.
     front: &'a [u8],
     left: &'a [u8],
@@ -36,7 +36,7 @@ impl<'a> Read for FakeReader<'a> {
 }
 
 /// Gives these octets, `most` at a read. It fails at no read where `fails_at` is 0.
-pub(crate) fn reader(left: &[u8], most: usize, fails_at: u64) -> Watched<FakeReader<'_>> {
+pub fn reader(left: &[u8], most: usize, fails_at: u64) -> Watched<FakeReader<'_>> {
     Watched::new(FakeReader {
         front: &[],
         left,
@@ -47,7 +47,7 @@ pub(crate) fn reader(left: &[u8], most: usize, fails_at: u64) -> Watched<FakeRea
 }
 
 /// Gives these octets in two reads, the first of which ends at this place.
-pub(crate) fn cut_reader(octets: &[u8], at: usize) -> Watched<FakeReader<'_>> {
+pub fn cut_reader(octets: &[u8], at: usize) -> Watched<FakeReader<'_>> {
     let (front, left) = octets.split_at(at.min(octets.len()));
     Watched::new(FakeReader {
         front,
@@ -60,7 +60,7 @@ pub(crate) fn cut_reader(octets: &[u8], at: usize) -> Watched<FakeReader<'_>> {
 
 /// Gives a front, and then one octet for ever.
 #[derive(Drop)]
-pub(crate) struct EndlessReader<'a> {
+pub struct EndlessReader<'a> {
     front: &'a [u8],
     octet: u8,
 }
@@ -77,25 +77,25 @@ impl<'a> Read for EndlessReader<'a> {
 }
 
 /// Gives the front, and then the octet for ever.
-pub(crate) fn endless_reader(front: &[u8], octet: u8) -> Watched<EndlessReader<'_>> {
+pub fn endless_reader(front: &[u8], octet: u8) -> Watched<EndlessReader<'_>> {
     Watched::new(EndlessReader { front, octet })
 }
 
 /// What a full sink does.
 #[derive(Clone, Copy)]
-pub(crate) enum Full {
+pub enum Full {
     Fails,
     TakesNone,
 }
 
 /// Takes at most so many octets at a write, and so many in all. Where `is_flushed` is false, each flush fails.
 #[derive(Drop)]
-pub(crate) struct FakeWriter {
-    pub(crate) held: Vec<u8>,
+pub struct FakeWriter {
+    pub held: Vec<u8>,
     room: usize,
     most: usize,
     full: Full,
-    pub(crate) flushes: u64,
+    pub flushes: u64,
     is_flushed: bool,
 }
 
@@ -124,7 +124,7 @@ impl Write for FakeWriter {
 }
 
 /// Takes `room` octets, `most` at a write.
-pub(crate) fn writer(alloc: Global, room: usize, most: usize, full: Full) -> Watched<FakeWriter> {
+pub fn writer(alloc: Global, room: usize, most: usize, full: Full) -> Watched<FakeWriter> {
     Watched::new(FakeWriter {
         held: Vec::new(alloc),
         room,
@@ -136,7 +136,7 @@ pub(crate) fn writer(alloc: Global, room: usize, most: usize, full: Full) -> Wat
 }
 
 /// Takes `room` octets at any number of writes, and fails at each flush.
-pub(crate) fn unflushed_writer(alloc: Global, room: usize) -> Watched<FakeWriter> {
+pub fn unflushed_writer(alloc: Global, room: usize) -> Watched<FakeWriter> {
     Watched::new(FakeWriter {
         held: Vec::new(alloc),
         room,
