@@ -1,11 +1,14 @@
 -- How an explanation goes through the answers of two streams.
-use Rattle.std.proofs.Common.{◌≡◌, ◌≢◌, ◌∙◌, sym, subst, refl, ap, ℕ, ◌+◌, ◌-◌, ◌<◌, ◌≤◌, ◌^◌, ◌==◌, ◌&&◌, Bool, true, false, List, [], ◌∷◌, ◌++◌, Option, None, Some, MatchOption, length, drop, arith}
+use Rattle.std.proofs.Common.{◌≡◌, ◌≢◌, ◌∙◌, sym, subst, refl, ap, ℕ, ◌+◌, ◌-◌, ◌≤◌, ◌==◌, ◌&&◌, Bool, true, false, List, [], ◌∷◌, ◌++◌, Option, None, Some, MatchOption, length, drop, arith}
 use Rattle.std.proofs.Common.{append_assoc, append-nil, length-append}
 use Rattle.std.proofs.Common.{Result, Ok, Err}
 use Rattle.std.specs.Prelude.{count_by, is_some, nat_lt, cond, OnOk, IfOk, codes, decimal}
 use Rattle.std.specs.List.{AllByRecursion}
 use Rattle.std.specs.Option.{option_map, option_map_or}
 use Rattle.nntp_wire.specs.Answer.{Asked, Response, group_is, numbers_are, sends, active_are, plain}
+use Rattle.nntp_wire.specs.Misspelling.{misspelling}
+use Rattle.nntp_wire.specs.declared.misspelling.Misspelling.{Misspelling}
+use Rattle.nntp_wire.specs.declared.misspelling.Misspelling.TheVariants.{WrongBlock}
 use Rattle.nntp_wire.specs.declared.limit.Limit.{Limit}
 use Rattle.nntp_wire.specs.declared.marks.Marks.{Marks}
 use Rattle.nntp_article.specs.declared.session.profile.Profile.{Profile}
@@ -13,13 +16,14 @@ use Rattle.nntp_article.specs.Session.Limit.{profile_of}
 use Rattle.nntp_article.specs.Session.Machine.{Visible, start, visible_after}
 use Rattle.nntp_article.specs.Session.Misfit.{misfit}
 use Rattle.nntp_article.specs.Session.Spool.{Name}
-use Rattle.nntp_pair.specs.Pairing.{Paired, Unpaired, IsNext, IsPassedOver, Ending, end, bad as ends_at, Ends, asked_at, asked_of, responses_of, line_ahead, streams}
+use Rattle.nntp_pair.specs.Pairing.{Paired, Unpaired, IsNext, IsPassedOver, end, bad as ends_at, Ends, asked_at, asked_of, responses_of, line_ahead, streams}
 use Rattle.nntp_pair.specs.declared.class.PairClass.{PairClass}
 use Rattle.nntp_pair.specs.declared.class.PairClass.TheVariants.{Malformed as PairMalformed}
+use Rattle.nntp_pair.proofs.PassedLemmas.{passed-reason}
 use Rattle.nntp_facts.specs.Classes.{class_of, visible_from, position_from}
 use Rattle.nntp_facts.specs.Conflict.{Placed, placed_of, placed_behind, FitsThere, SomeHas, told_with, below}
 use Rattle.nntp_facts.specs.Noted.{FactsKept, HasNoted, IsNoted, IsDue, profile_kept}
-use Rattle.nntp_facts.specs.Reading.{Judged, Accepted, Refused, Unspelled, accepted_of, accepted_with, class_behind, IsJudged, AreJudged}
+use Rattle.nntp_facts.specs.Reading.{Judged, Accepted, Refused, Unspelled, accepted_of, accepted_with, class_behind, IsJudged}
 use Rattle.nntp_facts.specs.declared.class.Class.{Class}
 use Rattle.nntp_facts.specs.declared.class.Class.TheVariants.{Malformed, OutOfPlace, Contradiction}
 use Rattle.nntp_facts.specs.declared.noted.Noted.{Noted}
@@ -28,11 +32,11 @@ use Rattle.nntp_facts.specs.declared.position.Position.{Position}
 use Rattle.nntp_facts.specs.declared.position.Position.TheVariants.{Nowhere}
 use Rattle.nntp_facts.proofs.Reading.NotedContradictions.{accepted_fit, noted_conflicts, placed_next}
 use Rattle.nntp_facts.proofs.Reading.JudgedSession.{one_more_in_session, accepted_one_more, index_in_session, due_in_session}
-use Rattle.nntp_facts.proofs.Reading.NotedAsJudged.{consistent_accepted, unfit_refused, contradiction_refused}
-use Rattle.nntp_check.specs.Explaining.{visible_left, bad_lines, place_lines, IsTold, IsConflictOf, IsReason, IsExplained, AreExplained, count_bad, end_line, is_without_fault}
+use Rattle.nntp_facts.proofs.Reading.NotedAsJudged.{unfit_refused, contradiction_refused}
+use Rattle.nntp_check.specs.Explaining.{bad_lines, place_lines, IsTold, IsConflictOf, IsReason, IsExplained, AreExplained, count_bad, end_line}
 use Rattle.nntp_check.specs.ExplainingView.{Kept, placed_at, keeps, AreTold, GoesOn}
 use Rattle.nntp_check.specs.Judging.{IsFirstLine}
-use Rattle.nntp_check.specs.Reasons.{misfit_line, number_line, index_at, rest_line}
+use Rattle.nntp_check.specs.Reasons.{misfit_line, misspelling_line, number_line, index_at, rest_line}
 use Rattle.nntp_check.specs.Run.{ExplainReports}
 use Rattle.nntp_check.specs.Standing.{Standing, Cited, standing, standing_by, standing_from, standing_after, moved, cited, cited_at, cited_from}
 
@@ -84,12 +88,12 @@ few_accepted : (answers : List Judged) → length (accepted_of answers) ≤ leng
 few_accepted [] = omega arith
 few_accepted (Accepted pair ∷ answers) = omega (arith, few_accepted answers)
 few_accepted (Refused pair ∷ answers) = omega (arith, few_accepted answers)
-few_accepted (Unspelled index line initial ∷ answers) = omega (arith, few_accepted answers)
+few_accepted (Unspelled index line initial block ∷ answers) = omega (arith, few_accepted answers)
 
 joined : (past : List Paired) (first : Judged) (answers : List Judged) → past ++ accepted_of (first ∷ answers) ≡ accepted_with past first ++ accepted_of answers
 joined past (Accepted pair) answers = sym (append_assoc past (pair ∷ []) (accepted_of answers))
 joined past (Refused pair) answers = refl
-joined past (Unspelled index line initial) answers = refl
+joined past (Unspelled index line initial block) answers = refl
 
 -- what is told of it stands behind what is told of those before it
 explained_push : (profile : Profile) (past : List Paired) (answers : List Judged) (answer : Judged) (text more : List ℕ)
@@ -237,15 +241,34 @@ told_behind : (profile : Profile) (client server : List ℕ) (kept : Kept) (text
 told_behind profile client server kept text left t index at class line initial Reason more is =
     subst (λ (q : ℕ × Option Standing). IsTold q.0 q.1 index class line initial Reason more) (λ i. (bad_before profile client server kept text left t index at i, t.stands_there i)) is
 
+-- the reason of a frame that is passed over
+abbrev pub unspelled_lines : Asked → List ℕ → Option (List ℕ) → List ℕ
+unspelled_lines asked initial block = option_map_or misspelling_line (misspelling asked initial block) []
+
+-- what is told of it explains it, since there is one
+unspelled_explained : (profile : Profile) (accepted : List Paired) (left behind : Unpaired) (index : ℕ) (line : Option (List ℕ)) (initial : List ℕ) (block : Option (List ℕ)) (text : List ℕ)
+    → IsPassedOver left line initial block behind
+    → IsTold (index - length accepted) (standing accepted) index Malformed line initial (λ reason. reason ≡ unspelled_lines (asked_at line) initial block) text
+    → IsExplained profile accepted (Unspelled index line initial block) text
+unspelled_explained profile accepted left behind index line initial block text passed is =
+    by (misspelling (asked_at line) initial block) (passed-reason left behind line initial block passed) is
+  where
+    by : (o : Option Misspelling) → MatchOption o ⊥ (λ why. why ≢ WrongBlock)
+        → IsTold (index - length accepted) (standing accepted) index Malformed line initial (λ reason. reason ≡ option_map_or misspelling_line o []) text
+        → MatchOption o ⊥ (λ why. IsTold (index - length accepted) (standing accepted) index Malformed line initial (λ reason. reason ≡ misspelling_line why) text)
+    by None none is = none
+    by (Some why) some is = is
+
 -- a frame that spells nothing
-pub told_unspelled : (profile : Profile) (client server : List ℕ) (kept : Kept) (text : List ℕ) (left behind : Unpaired) (index : ℕ) (line : Option (List ℕ)) (initial : List ℕ)
-    → AreTold profile client server kept text left → index ≡ left.index → IsPassedOver left line initial behind
-    → AreTold profile client server (record kept { bad = kept.bad + 1 }) (text ++ bad_lines index Malformed line initial ++ place_lines kept.bad kept.stands) behind
-told_unspelled profile client server kept text left behind index line initial t at passed =
-    subst (λ text. AreTold profile client server (record kept { bad = kept.bad + 1 }) text behind) (sym (append_assoc text (bad_lines index Malformed line initial) (place_lines kept.bad kept.stands)))
-    (told_bad profile client server kept text (bad_lines index Malformed line initial ++ place_lines kept.bad kept.stands) left behind (Unspelled index line initial) t
-    (at, passed) refl
-    (told_behind profile client server kept text left t index at Malformed line initial (λ reason. reason ≡ []) _ (told_plain kept.bad kept.stands index Malformed line initial)))
+pub told_unspelled : (profile : Profile) (client server : List ℕ) (kept new : Kept) (text after : List ℕ) (left behind : Unpaired) (index : ℕ) (asked : Asked) (line : Option (List ℕ)) (initial : List ℕ)
+    (block : Option (List ℕ)) → new ≡ record kept { bad = kept.bad + 1 } → asked ≡ asked_at line → GoesOn (IsTold kept.bad kept.stands index Malformed line initial (λ reason. reason ≡ unspelled_lines asked initial block)) text after
+    → AreTold profile client server kept text left → index ≡ left.index → IsPassedOver left line initial block behind → AreTold profile client server new after behind
+told_unspelled profile client server kept new text after left behind index asked line initial block new-is asked-is (more, after-is, told) t at passed =
+    let here = subst (λ asked. IsTold kept.bad kept.stands index Malformed line initial (λ reason. reason ≡ unspelled_lines asked initial block) more) asked-is told in
+    subst (λ (q : Kept × List ℕ). AreTold profile client server q.0 q.1 behind) (λ i. (sym new-is i, sym after-is i))
+    (told_bad profile client server kept text more left behind (Unspelled index line initial block) t (at, passed) refl
+    (unspelled_explained profile (accepted_of t.answers) left behind index line initial block more passed
+    (told_behind profile client server kept text left t index at Malformed line initial (λ reason. reason ≡ unspelled_lines (asked_at line) initial block) more here)))
 
 -- what is told of a refused answer of this class explains it
 refused_explained : (profile : Profile) (accepted : List Paired) (pair : Paired) (class : Class) (text : List ℕ) → class_behind profile accepted (Refused pair) ≡ Some class

@@ -1,6 +1,7 @@
 -- What `explain` prints of a session: each bad answer, where the session stands there, and why it is bad.
-use Rattle.std.specs.Prelude.{◌≡◌, ℕ, ◌+◌, ◌-◌, ◌≤◌, ◌==◌, ◌&&◌, nat_lt, if◌then◌else◌, cond, Bool, List, [], ◌∷◌, ◌++◌, length, drop, count_by, is_some, Option, None, Some, MatchOption, codes, decimal}
+use Rattle.std.specs.Prelude.{◌≡◌, ℕ, ◌+◌, ◌-◌, ◌≤◌, ◌==◌, ◌&&◌, nat_lt, if◌then◌else◌, cond, Bool, List, [], ◌∷◌, ◌++◌, length, drop, count_by, is_some, Option, MatchOption, codes, decimal}
 use Rattle.std.specs.Option.{option_map, option_map_or}
+use Rattle.nntp_wire.specs.Misspelling.{misspelling}
 use Rattle.nntp_article.specs.Session.Machine.{Visible, start}
 use Rattle.nntp_article.specs.Session.Misfit.{misfit}
 use Rattle.nntp_article.specs.declared.session.profile.Profile.{Profile}
@@ -11,7 +12,7 @@ use Rattle.nntp_facts.specs.declared.class.Class.TheVariants.{Malformed, OutOfPl
 use Rattle.nntp_facts.specs.Reading.{Judged, Accepted, Refused, Unspelled, accepted_of, accepted_with, class_behind}
 use Rattle.nntp_pair.specs.Pairing.{Paired, Unpaired, Ending, end, bad as ends_at, line_ahead, asked_at, asked_of, responses_of}
 use Rattle.nntp_check.specs.Judging.{IsFirstLine, shown}
-use Rattle.nntp_check.specs.Reasons.{standing_line, misfit_line, core_lines}
+use Rattle.nntp_check.specs.Reasons.{standing_line, misfit_line, misspelling_line, core_lines}
 use Rattle.nntp_check.specs.Report.{report_of}
 use Rattle.nntp_check.specs.Show.{is_end}
 use Rattle.nntp_check.specs.Standing.{Standing, Cited, standing, cited}
@@ -57,7 +58,9 @@ IsExplained profile accepted (Accepted pair) text = text ≡ []
 IsExplained profile accepted (Refused pair) text =
     MatchOption (class_behind profile accepted (Refused pair)) ⊥
     (λ class. IsTold (pair.index - length accepted) (standing accepted) pair.index class pair.line pair.initial (IsReason profile accepted pair class) text)
-IsExplained profile accepted (Unspelled index line initial) text = IsTold (index - length accepted) (standing accepted) index Malformed line initial (λ reason. reason ≡ []) text
+IsExplained profile accepted (Unspelled index line initial block) text =
+    MatchOption (misspelling (asked_at line) initial block) ⊥
+    (λ why. IsTold (index - length accepted) (standing accepted) index Malformed line initial (λ reason. reason ≡ misspelling_line why) text)
 
 -- the text is what is printed of answers, one after the other
 abbrev pub AreExplained : Profile → List Paired → List Judged → List ℕ → Type 0

@@ -1,7 +1,13 @@
 -- What `explain` prints of why an answer is bad.
-use Rattle.std.specs.Prelude.{ℕ, ◌-◌, List, [], ◌∷◌, ◌++◌, Option, None, Some, unwrap_or, slice_get, codes, decimal}
+use Rattle.std.specs.Prelude.{ℕ, ◌-◌, List, [], ◌∷◌, ◌++◌, Option, None, Some, slice_get, codes, decimal}
 use Rattle.std.specs.List.{flat_map}
 use Rattle.std.specs.Option.{option_map, option_map_or}
+use Rattle.nntp_wire.specs.declared.misspelling.Misspelling.{Misspelling}
+use Rattle.nntp_wire.specs.declared.misspelling.Misspelling.TheVariants.{WrongOctet, TooLong, NoCode, WrongArgument, WrongLine, WrongBlock}
+use Rattle.nntp_wire.specs.declared.misspelling.Due.{Due}
+use Rattle.nntp_wire.specs.declared.misspelling.Due.TheVariants.{Number, GroupName, MessageId}
+use Rattle.nntp_wire.specs.declared.misspelling.LineFault.{LineFault}
+use Rattle.nntp_wire.specs.declared.misspelling.LineFault.TheVariants.{BadOctet, SingleDot, NoNumber, NoGroup, NoVersions}
 use Rattle.nntp_article.specs.Session.Misfit.{Misfit, wrong_code, wrong_name, wrong_number, wrong_id, below_low, wrong_marks, beyond_limit, not_above}
 use Rattle.nntp_article.specs.Session.Misfit.{beyond_range, unmatched, listed_twice, no_head, other_id}
 use Rattle.nntp_facts.specs.declared.position.Position.{Position}
@@ -54,6 +60,31 @@ misfit_line (unmatched name) = octets_line (codes "why match ") name
 misfit_line (listed_twice name) = octets_line (codes "why twice ") name
 misfit_line no_head = codes "why head\n"
 misfit_line (other_id said) = octets_line (codes "why own ") said
+
+-- ---- why it spells nothing
+
+-- what is due as an argument
+abbrev pub due_word : Due → List ℕ
+due_word Number = codes "number"
+due_word GroupName = codes "group"
+due_word MessageId = codes "id"
+
+-- what is wrong with a line of a block
+abbrev pub fault_word : LineFault → List ℕ
+fault_word BadOctet = codes "octet"
+fault_word SingleDot = codes "dot"
+fault_word NoNumber = codes "number"
+fault_word NoGroup = codes "group"
+fault_word NoVersions = codes "versions"
+
+-- the line of a reason
+abbrev pub misspelling_line : Misspelling → List ℕ
+misspelling_line WrongOctet = codes "why octet\n"
+misspelling_line (TooLong n) = number_line (codes "why length ") n
+misspelling_line NoCode = codes "why code\n"
+misspelling_line (WrongArgument place due) = codes "why argument " ++ decimal place ++ codes " " ++ due_word due ++ codes "\n"
+misspelling_line (WrongLine place fault) = codes "why block line " ++ decimal place ++ codes " " ++ fault_word fault ++ codes "\n"
+misspelling_line WrongBlock = codes "why block\n"
 
 -- ---- with which answers it conflicts
 

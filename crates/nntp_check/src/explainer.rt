@@ -2,27 +2,29 @@
 ghost use Rattle.std.specs.Prelude.{◌≡◌, ◌≢◌, ◌==◌, ℕ, ◌+◌, ◌<◌, ◌≤◌, ◌^◌, List, [], ◌∷◌, ◌++◌, length, map, nat_lt, OnOk, IfOk, count_by, drop, is_some};
 ghost use Rattle.std.specs.List.{AllByRecursion};
 ghost use Rattle.std.specs.Option.{option_copied, option_map, option_map_or};
+ghost use Rattle.nntp_wire.specs.Misspelling.{misspelling};
+ghost use Rattle.nntp_wire.specs.View.{asked};
 ghost use Rattle.nntp_article.specs.Session.Limit.{profile_of};
 ghost use Rattle.nntp_article.specs.Session.Misfit.{misfit};
 ghost use Rattle.nntp_article.specs.declared.session.profile.Profile.{Profile};
 ghost use Rattle.nntp_pair.specs.Pairing.{Unpaired, IsNext, Ends, end, bad, asked_at, line_ahead, streams};
 ghost use Rattle.nntp_pair.specs.declared.class.PairClass.TheVariants.{Malformed};
 ghost use Rattle.nntp_facts.specs.Conflict.{FitsThere, SomeHas, told_with, below};
-ghost use Rattle.nntp_facts.specs.declared.class.Class.TheVariants.{OutOfPlace, Contradiction};
+ghost use Rattle.nntp_facts.specs.declared.class.Class.TheVariants.{Malformed as MalformedClass, OutOfPlace, Contradiction};
 ghost use Rattle.nntp_facts.specs.Noted.{profile_kept};
 ghost use Rattle.nntp_check.specs.Explaining.{bad_lines, end_line, place_lines, IsConflictOf, IsTold};
 ghost use Rattle.nntp_check.specs.ExplainingView.{cited_of, kept_of, keeps, placed_at, standing_of, GoesOn, HasTold};
-ghost use Rattle.nntp_check.specs.Reasons.{misfit_line};
+ghost use Rattle.nntp_check.specs.Reasons.{misfit_line, misspelling_line};
 ghost use Rattle.nntp_check.specs.Run.{ExplainReports};
 
 use crate::judge::{first_line, shown, shown_line};
 use crate::printing::put_number;
-use crate::reasons::{put_core, put_misfit, put_standing};
+use crate::reasons::{put_core, put_misfit, put_misspelling, put_standing};
 use crate::report::put_bad_answer;
 use crate::standing::{Cited, Standing, standing_after};
 use nntp_facts::{Class, Core, Facts, Noted, Placed, Position};
-use nntp_pair::{Ahead, Exchange, PairClass, Pairs, Step};
-use nntp_wire::{GroupName, Limit, Marks};
+use nntp_pair::{Ahead, Exchange, MalformedFrame, PairClass, Pairs, Step};
+use nntp_wire::{GroupName, Limit, Marks, Misspelling};
 use std::alloc::{AllocError, Allocator};
 use std::mem;
 
@@ -81,13 +83,13 @@ pub(crate) fn explain<A: Allocator + Copy>(
             Step::Exchange(exchange) => explainer.note(exchange)?,
             Step::Bad { class, .. } => {
                 let index = pairs.index();
-                let ahead = pairs.ahead();
                 match class {
                     PairClass::Malformed => {
-                        let frame = pairs.pass_over();
-                        explainer.put_bad(index, Class::Malformed, ahead.line, frame.initial())?;
+                        let malformed = pairs.pass_over();
+                        explainer.refuse_malformed(index, &malformed)?;
                     }
                     _ => {
+                        let ahead = pairs.ahead();
                         let unanswered = pairs.count_lines_behind();
                         return explainer.stop(index, class, ahead, unanswered);
                     }
@@ -208,6 +210,25 @@ impl<'a, A: Allocator + Copy> Explainer<'a, A> {
         put_core(&mut self.text, &self.cited, &core)
     }
 
+    /// Tells that the frame at this place spells nothing.
+    fn refuse_malformed(
+        &mut self,
+        index: u64,
+        malformed: &MalformedFrame<'_>,
+    ) -> Result<(), AllocError>
+        requires { self.old.bad < 2 ^ 63 }
+        ensures kept { OnOk result (kept_of self.new ≡ record (kept_of self.old) { bad = self.old.bad + 1 }) }
+        ensures text { OnOk result (GoesOn (IsTold self.old.bad (option_map standing_of self.old.standing) index MalformedClass (option_copied malformed.now.line) malformed.now.frame.initial
+            (λ reason. reason ≡ option_map_or misspelling_line (misspelling (asked malformed.now.prompt) malformed.now.frame.initial malformed.now.frame.block) []))
+            self.old.text.items self.new.text.items) }
+    {
+        let initial = malformed.frame.initial();
+        if self.put_bad(index, Class::Malformed, malformed.line, initial)? {
+            put_unspelled(&mut self.text, malformed)?;
+        }
+        Ok(())
+    }
+
     /// Adds the lines of a bad answer, and where the session stands, if fewer than a hundred are bad before it: then a
     /// reason is to be told too.
     fn put_bad(
@@ -284,6 +305,20 @@ fn put_unfitting<A: Allocator + Copy>(
 {
     match facts.misfit(exchange)? {
         Some(misfit) => put_misfit(text, misfit),
+        None => Ok(()),
+    }
+}
+
+/// Adds why a frame spells nothing.
+fn put_unspelled<A: Allocator + Copy>(
+    text: &mut Vec<u8, A>,
+    malformed: &MalformedFrame<'_>,
+) -> Result<(), AllocError>
+    ensures { OnOk result (text.new.items ≡ text.old.items
+        ++ option_map_or misspelling_line (misspelling (asked malformed.now.prompt) malformed.now.frame.initial malformed.now.frame.block) []) }
+{
+    match Misspelling::of(&malformed.prompt, &malformed.frame) {
+        Some(misspelling) => put_misspelling(text, misspelling),
         None => Ok(()),
     }
 }

@@ -3,7 +3,7 @@ ghost use Rattle.std.specs.Prelude.{◌≡◌, ◌++◌, OnOk, codes, decimal, m
 ghost use Rattle.std.specs.List.{flat_map};
 ghost use Rattle.std.specs.Option.{option_map};
 ghost use Rattle.nntp_article.specs.Session.MisfitView.{why};
-ghost use Rattle.nntp_check.specs.Reasons.{current_text, standing_line, allowed_text, misfit_line, number_line, core_lines, rest_line, index_at, because_at, because_lines};
+ghost use Rattle.nntp_check.specs.Reasons.{current_text, standing_line, allowed_text, misfit_line, misspelling_line, due_word, fault_word, number_line, core_lines, rest_line, index_at, because_at, because_lines};
 ghost use Rattle.nntp_check.specs.ExplainingView.{standing_of, cited_of};
 
 use crate::judge::{shown, shown_line};
@@ -12,6 +12,7 @@ use crate::report::put_command;
 use crate::standing::{Cited, Standing};
 use nntp_article::Misfit;
 use nntp_facts::{Core, Position};
+use nntp_wire::{Due, LineFault, Misspelling};
 use std::alloc::{AllocError, Allocator};
 
 /// Adds the line that tells where the session stands.
@@ -80,6 +81,73 @@ pub(crate) fn put_misfit<A: Allocator + Copy>(
         Misfit::NoHead => text.extend_from_slice(b"why head\n"),
         Misfit::OtherId(said) => put_escaped_line(text, b"why own ", said),
     }
+}
+
+/// Adds the line of a reason why a frame spells nothing.
+pub(crate) fn put_misspelling<A: Allocator + Copy>(
+    text: &mut Vec<u8, A>,
+    misspelling: Misspelling,
+) -> Result<(), AllocError>
+    ensures { OnOk result (text.new.items ≡ text.old.items ++ misspelling_line misspelling) }
+{
+    match misspelling {
+        Misspelling::WrongOctet => text.extend_from_slice(b"why octet\n"),
+        Misspelling::TooLong(length) => put_number_line(text, b"why length ", length as u64),
+        Misspelling::NoCode => text.extend_from_slice(b"why code\n"),
+        Misspelling::WrongArgument { place, due } => put_place_line(
+            text,
+            b"why argument ",
+            place,
+            due_word(due),
+        ),
+        Misspelling::WrongLine { place, fault } => put_place_line(
+            text,
+            b"why block line ",
+            place,
+            fault_word(fault),
+        ),
+        Misspelling::WrongBlock => text.extend_from_slice(b"why block\n"),
+    }
+}
+
+/// The word that is printed for what is due as an argument.
+fn due_word(due: Due) -> &'static [u8]
+    ensures { result.now ≡ due_word due }
+{
+    match due {
+        Due::Number => b"number",
+        Due::GroupName => b"group",
+        Due::MessageId => b"id",
+    }
+}
+
+/// The word that is printed for what is wrong with a line of a block.
+fn fault_word(fault: LineFault) -> &'static [u8]
+    ensures { result.now ≡ fault_word fault }
+{
+    match fault {
+        LineFault::BadOctet => b"octet",
+        LineFault::SingleDot => b"dot",
+        LineFault::NoNumber => b"number",
+        LineFault::NoGroup => b"group",
+        LineFault::NoVersions => b"versions",
+    }
+}
+
+/// Adds a line of a label, a place and a word.
+fn put_place_line<A: Allocator + Copy>(
+    text: &mut Vec<u8, A>,
+    label: &[u8],
+    place: usize,
+    word: &[u8],
+) -> Result<(), AllocError>
+    ensures { OnOk result (text.new.items ≡ text.old.items ++ label.now ++ decimal place ++ codes " " ++ word.now ++ codes "\n") }
+{
+    put_number(text, label, place as u64)?;
+    text.push(b' ')?;
+    text.extend_from_slice(word)?;
+    text.push(b'\n')?;
+    Ok(())
 }
 
 /// Adds a line of a label and a number.

@@ -9,30 +9,30 @@ use Rattle.nntp_facts.specs.declared.class.Class.TheVariants.{Malformed}
 use Rattle.nntp_facts.specs.Classes.{class_by, visible_from}
 use Rattle.nntp_facts.specs.Noted.{ArePermitted}
 
--- an answer as it is judged: accepted, refused, or a frame that spells nothing, with its place, its line and its initial line
+-- an answer as it is judged: accepted, refused, or a frame that spells nothing, with its place, its line, its initial line and its block
 pub data Judged : Type 0 where
   Accepted : (pair : Paired) → Judged
   Refused : (pair : Paired) → Judged
-  Unspelled : (index : ℕ) → (line : Option (List ℕ)) → (initial : List ℕ) → Judged
+  Unspelled : (index : ℕ) → (line : Option (List ℕ)) → (initial : List ℕ) → (block : Option (List ℕ)) → Judged
 
 -- those that are accepted
 abbrev pub accepted_of : List Judged → List Paired
 accepted_of [] = []
 accepted_of (Accepted pair ∷ answers) = pair ∷ accepted_of answers
 accepted_of (Refused pair ∷ answers) = accepted_of answers
-accepted_of (Unspelled index line initial ∷ answers) = accepted_of answers
+accepted_of (Unspelled index line initial block ∷ answers) = accepted_of answers
 
 -- these, and the answer if it is accepted
 abbrev pub accepted_with : List Paired → Judged → List Paired
 accepted_with past (Accepted pair) = past ++ pair ∷ []
 accepted_with past (Refused pair) = past
-accepted_with past (Unspelled index line initial) = past
+accepted_with past (Unspelled index line initial block) = past
 
 -- the answer comes next, and is judged so behind these that were accepted: a pair is accepted if some spool permits it with them; and then this is left
 abbrev pub IsJudged : Profile → List Paired → Unpaired → Judged → Unpaired → Type 0
 IsJudged profile past before (Accepted pair) after = IsNext before pair after × ArePermitted profile (past ++ pair ∷ [])
 IsJudged profile past before (Refused pair) after = IsNext before pair after × (ArePermitted profile (past ++ pair ∷ []) → ⊥)
-IsJudged profile past before (Unspelled index line initial) after = (index ≡ before.index) × IsPassedOver before line initial after
+IsJudged profile past before (Unspelled index line initial block) after = (index ≡ before.index) × IsPassedOver before line initial block after
 
 -- the answers come next, one after the other, and are judged so behind these that were accepted; and then this is left
 abbrev pub AreJudged : Profile → List Paired → Unpaired → List Judged → Unpaired → Type 0
@@ -44,7 +44,7 @@ AreJudged profile past before (answer ∷ answers) after =
 abbrev pub class_behind : Profile → List Paired → Judged → Option Class
 class_behind profile past (Accepted pair) = None
 class_behind profile past (Refused pair) = Some (class_by (fits profile (visible_from start.visible (asked_of past) (responses_of past)) (asked_at pair.line) pair.response))
-class_behind profile past (Unspelled index line initial) = Some Malformed
+class_behind profile past (Unspelled index line initial block) = Some Malformed
 
 -- the reading of both streams: their answers as they are judged, and how the pairing ends behind them, which isn't at a frame that spells nothing
 pub record IsReading (profile : Profile) (client server : List ℕ) (answers : List Judged) (ending : Ending) : Type 0 where

@@ -82,11 +82,10 @@ pub record IsNext (before : Unpaired) (pair : Paired) (after : Unpaired) : Type 
   pub next_index : after.index ≡ before.index + 1
   pub closing : after.is_closed ≡ closes (asked_at pair.line) pair.response
 
--- at the next place, which has this line, a frame with this initial line spells nothing, and this is left behind it (RFC 3977, sections 3.1 and 3.2)
-pub record IsPassedOver (before : Unpaired) (line : Option (List ℕ)) (initial : List ℕ) (after : Unpaired) : Type 0 where
+-- at the next place, which has this line, a frame of this initial line and this block spells nothing, and this is left behind it (RFC 3977, sections 3.1 and 3.2)
+pub record IsPassedOver (before : Unpaired) (line : Option (List ℕ)) (initial : List ℕ) (block : Option (List ℕ)) (after : Unpaired) : Type 0 where
   pub is_open : before.is_closed ≡ false
   pub place : before.places ≡ line ∷ after.places
-  pub block : Option (List ℕ)
   pub frame : HasFrame (asked_at line) before.server initial block after.server
   pub nothing : (response : Response) → ¬ (Spells (asked_at line) response (frame_octets initial block))
   pub next_index : after.index ≡ before.index + 1

@@ -1,6 +1,8 @@
 //! Laws of pairings, and of octets that are spellings one after the other.
-ghost use Rattle.std.specs.Prelude.{◌≡◌, ◌≢◌, ◌↔◌, ◌⊎◌, ℕ, List, [], ◌++◌, Option, length, map, drop};
+ghost use Rattle.std.specs.Prelude.{◌≡◌, ◌≢◌, ◌↔◌, ◌⊎◌, ℕ, List, [], ◌++◌, Option, MatchOption, length, map, drop};
 ghost use Rattle.nntp_wire.specs.Answer.{Response};
+ghost use Rattle.nntp_wire.specs.Misspelling.{misspelling};
+ghost use Rattle.nntp_wire.specs.declared.misspelling.Misspelling.TheVariants.{WrongBlock};
 ghost use Rattle.nntp_wire.specs.Session.{prompts_of, AreSpelled, StaysOpen};
 ghost use Rattle.nntp_pair.specs.declared.class.PairClass.{PairClass};
 ghost use Rattle.nntp_pair.specs.declared.class.PairClass.TheVariants.{Malformed};
@@ -32,14 +34,21 @@ pub fn one_end()
 
 /// One frame that spells nothing is passed over, and then one thing is left.
 pub fn one_passed_over()
-    ensures { (before left other : Unpaired) (line also : Option (List ℕ)) (initial second : List ℕ)
-        → IsPassedOver before line initial left → IsPassedOver before also second other → (line ≡ also) × (initial ≡ second) × (left ≡ other) }
+    ensures { (before left other : Unpaired) (line also : Option (List ℕ)) (initial second : List ℕ) (block next : Option (List ℕ))
+        → IsPassedOver before line initial block left → IsPassedOver before also second next other
+        → (line ≡ also) × (initial ≡ second) × (block ≡ next) × (left ≡ other) }
 {}
 
 /// There is one exactly where the pairing ends at a frame that spells nothing. So no pair comes next there.
 pub fn malformed_is_passed_over()
     ensures { (before : Unpaired) → Ends before (bad Malformed)
-        ↔ ((line : Option (List ℕ)) × (initial : List ℕ) × (left : Unpaired) × IsPassedOver before line initial left) }
+        ↔ ((line : Option (List ℕ)) × (initial : List ℕ) × (block : Option (List ℕ)) × (left : Unpaired) × IsPassedOver before line initial block left) }
+{}
+
+/// There is a reason why a frame that is passed over spells nothing, and it isn't that its block isn't due.
+pub fn passed_over_for_a_reason()
+    ensures { (before left : Unpaired) (line : Option (List ℕ)) (initial : List ℕ) (block : Option (List ℕ)) → IsPassedOver before line initial block left
+        → MatchOption (misspelling (asked_at line) initial block) ⊥ (λ why. why ≢ WrongBlock) }
 {}
 
 /// Two streams have one pairing.

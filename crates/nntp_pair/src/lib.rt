@@ -25,7 +25,7 @@ pub use exchange::Exchange;
 pub use feed::Feed;
 pub use octet_counts::OctetCounts;
 pub use pair_error::PairError;
-pub use pairs::{Ahead, Pairs};
+pub use pairs::{Ahead, MalformedFrame, Pairs};
 pub use peek::Peek;
 pub use side::Side;
 pub use step::Step;

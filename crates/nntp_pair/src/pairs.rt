@@ -1,7 +1,8 @@
 //! The pairing of both streams, one exchange at a time.
 ghost use Rattle.std.specs.Prelude.{◌≡◌, ◌<◌, ◌^◌, length, count_by, drop, is_some, MatchResult};
 ghost use Rattle.std.specs.Option.{option_copied};
-ghost use Rattle.nntp_pair.specs.Pairing.{IsNext, IsBad, IsPassedOver, streams, line_ahead};
+ghost use Rattle.nntp_wire.specs.View.{asked};
+ghost use Rattle.nntp_pair.specs.Pairing.{IsNext, IsBad, IsPassedOver, asked_at, streams, line_ahead};
 ghost use Rattle.nntp_pair.specs.Step.{IsStep, OnExchange};
 ghost use Rattle.nntp_pair.specs.declared.class.PairClass.TheVariants.{Malformed};
 
@@ -9,7 +10,7 @@ use crate::class::PairClass;
 use crate::exchange::{Exchange, prompt_at};
 use crate::places::Places;
 use crate::step::Step;
-use nntp_wire::{Frame, frame};
+use nntp_wire::{Frame, Prompt, frame};
 use std::marker::Model;
 
 /// The pairing of both streams: what is left of it. It keeps nothing but slices of the streams, and takes no memory.
@@ -39,6 +40,17 @@ pub struct Ahead<'a> {
     pub line: Option<&'a [u8]>,
     /// The octets that are left of the server's stream.
     pub rest: &'a [u8],
+}
+
+/// A frame that spells no response, with what it answers.
+#[derive(Drop)]
+pub struct MalformedFrame<'a> {
+    /// The client's line, without its CRLF; none at the greeting's place.
+    pub line: Option<&'a [u8]>,
+    /// The greeting's place, or the command of the line.
+    pub prompt: Prompt<'a>,
+    /// The octets, as they were cut for this prompt.
+    pub frame: Frame<'a>,
 }
 
 impl<'a> Pairs<'a> {
@@ -100,15 +112,17 @@ impl<'a> Pairs<'a> {
 
     /// Goes behind the next frame, where it spells no response ([`PairClass::Malformed`]), and gives it back. It answers
     /// its place all the same, and the connection stays open (RFC 3977, sections 3.1 and 3.2).
-    pub fn pass_over(&mut self) -> Frame<'a>
+    pub fn pass_over(&mut self) -> MalformedFrame<'a>
         requires { IsBad Malformed self.old }
-        ensures passed { IsPassedOver self.old (line_ahead self.old.places) result.initial self.new }
+        ensures passed { IsPassedOver self.old (option_copied result.line) result.frame.initial result.frame.block self.new }
+        ensures prompt { asked result.prompt ≡ asked_at (option_copied result.line) }
         ensures progress { length self.new.server < length self.old.server }
     {
         let Some((line, places)) = self.places.split_first() else {
             unreachable!();
         };
-        let Some(frame) = frame(&prompt_at(line), self.server) else {
+        let prompt = prompt_at(line);
+        let Some(frame) = frame(&prompt, self.server) else {
             unreachable!();
         };
         let (_, server) = self.server.split_at(frame.len());
@@ -118,7 +132,11 @@ impl<'a> Pairs<'a> {
             server,
             is_closed: false,
         };
-        frame
+        MalformedFrame {
+            line,
+            prompt,
+            frame,
+        }
     }
 
     /// The index of the next place, which is how many places were passed. It is less than 2^63.

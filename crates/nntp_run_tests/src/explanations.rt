@@ -91,7 +91,78 @@ why code 423
 end answers=13 bad=11 unanswered=0
 ";
 
-pub(crate) const EXPLAINED: [Reported; 22] = [
+/// Commands, of which the last alone is answered by what spells an answer.
+const MISSPELLED_CLIENT: &[u8] = b"DATE\r\nGROUP g\r\nGROUP g\r\nSTAT 1\r\nSTAT <a@b>\r\nHELP\r\n\
+BODY <a@b>\r\nLISTGROUP g\r\nLIST ACTIVE\r\nCAPABILITIES\r\nCAPABILITIES\r\nQUIT\r\n";
+
+const MISSPELLED_SERVER: &[u8] = b"200 hi\r\n111 a\0b\r\n211 1 x 1 g\r\n211 1 1 1\r\n\
+223 1 a@b\r\n223\r\n100 help\r\na\r\nb\0\r\n.\r\n\
+222 0 <a@b>\r\na\r\n..\r\n.b\r\n.\r\n\
+211 2 1 2 g\r\n1\r\nx\r\n.\r\n\
+215 list\r\ng 1 x y\r\n.\r\n\
+101 capabilities\r\nREADER\r\n.\r\n\
+101 capabilities\r\n.\r\n\
+205 bye\r\n";
+
+const MISSPELLED_REPORT: &[u8] = b"bad answer 1 Malformed
+command DATE
+answer 111 a\\x00b
+in no group
+why octet
+bad answer 2 Malformed
+command GROUP g
+answer 211 1 x 1 g
+in no group
+why argument 2 number
+bad answer 3 Malformed
+command GROUP g
+answer 211 1 1 1
+in no group
+why argument 4 group
+bad answer 4 Malformed
+command STAT 1
+answer 223 1 a@b
+in no group
+why argument 2 id
+bad answer 5 Malformed
+command STAT <a@b>
+answer 223
+in no group
+why argument 1 number
+bad answer 6 Malformed
+command HELP
+answer 100 help
+in no group
+why block line 2 octet
+bad answer 7 Malformed
+command BODY <a@b>
+answer 222 0 <a@b>
+in no group
+why block line 3 dot
+bad answer 8 Malformed
+command LISTGROUP g
+answer 211 2 1 2 g
+in no group
+why block line 2 number
+bad answer 9 Malformed
+command LIST ACTIVE
+answer 215 list
+in no group
+why block line 1 group
+bad answer 10 Malformed
+command CAPABILITIES
+answer 101 capabilities
+in no group
+why block line 1 versions
+bad answer 11 Malformed
+command CAPABILITIES
+answer 101 capabilities
+in no group
+why block line 1 versions
+end answers=13 bad=11 unanswered=0
+";
+
+pub(crate) const EXPLAINED: [Reported; 23] = [
     Reported {
         name: "nothing at all",
         task: EXPLAIN,
@@ -197,6 +268,7 @@ end answers=4 bad=2 unanswered=0
 command HELP
 answer 2x3 ok
 in no group
+why code
 end answers=4 bad=1 unanswered=0
 ",
         answer: false,
@@ -210,6 +282,7 @@ end answers=4 bad=1 unanswered=0
 command BODY <a@b>
 answer 222 0 <a@b>
 in no group
+why block line 1 dot
 end answers=4 bad=1 unanswered=0
 ",
         answer: false,
@@ -314,6 +387,7 @@ end answers=5 bad=1 unanswered=0
 command XX\\\\\\x09\\xe9
 answer 34\\xff
 in no group
+why code
 end answers=2 bad=1 unanswered=0
 ",
         answer: false,
@@ -404,6 +478,14 @@ end answers=2 bad=1 unanswered=0
         answer: false,
     },
     Reported {
+        name: "each reason why a frame spells nothing, but a line that is too long",
+        task: EXPLAIN,
+        client: MISSPELLED_CLIENT,
+        server: MISSPELLED_SERVER,
+        report: MISSPELLED_REPORT,
+        answer: false,
+    },
+    Reported {
         name: "numbers that may be wide",
         task: WIDELY,
         client: b"GROUP g\r\n",
@@ -461,6 +543,44 @@ fn where_it_stands_is_told_a_hundred_times(rt: HostRuntime) -> Result<(), Fail> 
         );
         run.pass(&rt, alloc, 4096);
     }
+    Ok(())
+}
+
+/// An initial line of 513 octets, its CRLF among them, as the answer to a command.
+fn one_octet_too_long(alloc: Global) -> Result<(String, String), AllocError> {
+    let client = String::from_str(alloc, "DATE\r\n")?;
+    let mut server = String::from_str(alloc, "200 hi\r\n111 ")?;
+    for _ in 0..507 {
+        server.push_str("x")?;
+    }
+    server.push_str("\r\n")?;
+    Ok((client, server))
+}
+
+/// What is printed of it.
+fn too_long_told(alloc: Global) -> Result<String, AllocError> {
+    let mut report = String::from_str(alloc, "bad answer 1 Malformed\ncommand DATE\nanswer 111 ")?;
+    for _ in 0..507 {
+        report.push_str("x")?;
+    }
+    report.push_str("\nin no group\nwhy length 513\nend answers=2 bad=1 unanswered=0\n")?;
+    Ok(report)
+}
+
+#[test]
+fn a_line_that_is_too_long(rt: HostRuntime) -> Result<(), Fail> {
+    let alloc = rt.alloc();
+    let (client, server) = one_octet_too_long(alloc)?;
+    let report = too_long_told(alloc)?;
+    let capture = capture(alloc, client.as_str(), server.as_str())?;
+    let run = Run::of(
+        "a long line",
+        EXPLAIN,
+        capture.as_bytes(),
+        false,
+        report.as_bytes(),
+    );
+    run.pass(&rt, alloc, 4096);
     Ok(())
 }
 

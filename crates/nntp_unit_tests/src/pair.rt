@@ -287,7 +287,7 @@ fn what_is_passed_over(rt: HostRuntime) {
         else {
             panic!(rt; "no malformed frame");
         };
-        assert_eq!(rt; pairs.pass_over().initial(), initial);
+        assert_eq!(rt; pairs.pass_over().frame.initial(), initial);
     }
     assert!(rt; matches!(pairs.next(), Step::Exchange(exchange) if exchange.index() == 3));
     assert!(rt; matches!(pairs.next(), Step::End { unanswered: 0 }));

@@ -57,10 +57,10 @@ first_bad profile client server pairs (Refused pair) more ending class reading e
     let same : _ ≡ class = cc in
     subst (λ class. IsOutcome profile client server (No (length pairs) class)) same
     (outcome_at_response profile client server pairs pair r.between r.rest.0 r.paired first.0 r.permitted first.1)
-first_bad profile client server pairs (Unspelled index line initial) more ending class reading e =
-    let r = accepted_first profile [] (streams client server) reading.left pairs (Unspelled index line initial ∷ more) (none_accepted profile) reading.judged in
+first_bad profile client server pairs (Unspelled index line initial block) more ending class reading e =
+    let r = accepted_first profile [] (streams client server) reading.left pairs (Unspelled index line initial block ∷ more) (none_accepted profile) reading.judged in
     let first = r.rest.1 in
-    let pairing : IsPairing client server pairs (bad PairMalformed) = record { left = r.between; paired = r.paired; ends = passed-ends r.between r.rest.0 line initial first.1 } in
+    let pairing : IsPairing client server pairs (bad PairMalformed) = record { left = r.between; paired = r.paired; ends = passed-ends r.between r.rest.0 line initial block first.1 } in
     let same : class_of PairMalformed ≡ class = cc in
     subst (λ class. IsOutcome profile client server (No (length pairs) class)) same (outcome_at_octets profile client server pairs PairMalformed pairing r.permitted)
 
@@ -100,7 +100,7 @@ accepted_or_bad (Accepted pair ∷ answers) = elim (accepted_or_bad answers) [
   | inr first ↦ inr (record { pairs = pair ∷ first.pairs; answer = first.answer; more = first.more; whole = ap (λ answers. Accepted pair ∷ answers) first.whole; is_bad = first.is_bad })
 ]
 accepted_or_bad (Refused pair ∷ answers) = inr (record { pairs = []; answer = Refused pair; more = answers; whole = refl; is_bad = λ profile past. (_, refl) })
-accepted_or_bad (Unspelled index line initial ∷ answers) = inr (record { pairs = []; answer = Unspelled index line initial; more = answers; whole = refl; is_bad = λ profile past. (_, refl) })
+accepted_or_bad (Unspelled index line initial block ∷ answers) = inr (record { pairs = []; answer = Unspelled index line initial block; more = answers; whole = refl; is_bad = λ profile past. (_, refl) })
 
 -- all answers are accepted, and no octet is left
 abbrev IsGood : List Judged → Ending → Type 0

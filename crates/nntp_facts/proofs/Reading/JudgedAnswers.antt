@@ -25,7 +25,7 @@ use Rattle.nntp_facts.proofs.Keeping.NotedExchange.{visible_next, as_many, ends}
 pub judged_shorter : (profile : Profile) (past : List Paired) (a b : Unpaired) (answer : Judged) → IsJudged profile past a answer b → length b.server < length a.server
 judged_shorter profile past a b (Accepted pair) (next, h) = next-shorter a b pair next
 judged_shorter profile past a b (Refused pair) (next, h) = next-shorter a b pair next
-judged_shorter profile past a b (Unspelled index line initial) (at, passed) = passed-shorter a b line initial passed
+judged_shorter profile past a b (Unspelled index line initial block) (at, passed) = passed-shorter a b line initial block passed
 
 -- behind the same ones it is determined
 pub one_judged : (profile : Profile) (past : List Paired) (a b c : Unpaired) (x y : Judged) → IsJudged profile past a x b → IsJudged profile past a y c → (x ≡ y) × (b ≡ c)
@@ -33,20 +33,20 @@ one_judged profile past a b c (Accepted x) (Accepted y) (n, h) (m, k) = let one 
 one_judged profile past a b c (Refused x) (Refused y) (n, h) (m, k) = let one = one-next a b c x y n m in (ap Refused one.0, one.1)
 one_judged profile past a b c (Accepted x) (Refused y) (n, h) (m, none) = absurd (none (subst (λ pair. ArePermitted profile (past ++ pair ∷ [])) (one-next a b c x y n m).0 h))
 one_judged profile past a b c (Refused x) (Accepted y) (n, none) (m, h) = absurd (none (subst (λ pair. ArePermitted profile (past ++ pair ∷ [])) (sym (one-next a b c x y n m).0) h))
-one_judged profile past a b c (Accepted x) (Unspelled i line initial) (n, h) (at, passed) = absurd (next-no-end (bad PairMalformed) a b x n (passed-ends a c line initial passed))
-one_judged profile past a b c (Refused x) (Unspelled i line initial) (n, h) (at, passed) = absurd (next-no-end (bad PairMalformed) a b x n (passed-ends a c line initial passed))
-one_judged profile past a b c (Unspelled i line initial) (Accepted y) (at, passed) (m, k) = absurd (next-no-end (bad PairMalformed) a c y m (passed-ends a b line initial passed))
-one_judged profile past a b c (Unspelled i line initial) (Refused y) (at, passed) (m, k) = absurd (next-no-end (bad PairMalformed) a c y m (passed-ends a b line initial passed))
-one_judged profile past a b c (Unspelled i line initial) (Unspelled j also other) (at, passed) (to, second) =
-    let one = one-passed a b c line also initial other passed second in
+one_judged profile past a b c (Accepted x) (Unspelled i line initial block) (n, h) (at, passed) = absurd (next-no-end (bad PairMalformed) a b x n (passed-ends a c line initial block passed))
+one_judged profile past a b c (Refused x) (Unspelled i line initial block) (n, h) (at, passed) = absurd (next-no-end (bad PairMalformed) a b x n (passed-ends a c line initial block passed))
+one_judged profile past a b c (Unspelled i line initial block) (Accepted y) (at, passed) (m, k) = absurd (next-no-end (bad PairMalformed) a c y m (passed-ends a b line initial block passed))
+one_judged profile past a b c (Unspelled i line initial block) (Refused y) (at, passed) (m, k) = absurd (next-no-end (bad PairMalformed) a c y m (passed-ends a b line initial block passed))
+one_judged profile past a b c (Unspelled i line initial block) (Unspelled j also other next) (at, passed) (to, second) =
+    let one = one-passed a b c line also initial other block next passed second in
     let index : i ≡ j = at ∙ sym to in
-    ((λ t. Unspelled (index t) (one.0 t) (one.1 t)), one.2)
+    ((λ t. Unspelled (index t) (one.0 t) (one.1 t) (one.2 t)), one.3)
 
 -- where there is one, no reading ends
 pub judged_no_end : (profile : Profile) (past : List Paired) (a b : Unpaired) (answer : Judged) (ending : Ending) → IsJudged profile past a answer b → Ends a ending → ending ≢ bad PairMalformed → ⊥
 judged_no_end profile past a b (Accepted pair) ending (next, h) ends other = next-no-end ending a b pair next ends
 judged_no_end profile past a b (Refused pair) ending (next, h) ends other = next-no-end ending a b pair next ends
-judged_no_end profile past a b (Unspelled index line initial) ending (at, passed) ends other = other (passed-no-other ending a b line initial passed ends)
+judged_no_end profile past a b (Unspelled index line initial block) ending (at, passed) ends other = other (passed-no-other ending a b line initial block passed ends)
 
 -- ---- several answers
 
@@ -59,7 +59,7 @@ pub accepted_behind : (past : List Paired) (answers : List Judged) → all_accep
 accepted_behind past [] = sym (append-nil past)
 accepted_behind past (Accepted pair ∷ answers) = accepted_behind (past ++ pair ∷ []) answers ∙ append_assoc past (pair ∷ []) (accepted_of answers)
 accepted_behind past (Refused pair ∷ answers) = accepted_behind past answers
-accepted_behind past (Unspelled index line initial ∷ answers) = accepted_behind past answers
+accepted_behind past (Unspelled index line initial block ∷ answers) = accepted_behind past answers
 
 -- with one more answer
 pub judged_push : (profile : Profile) (past : List Paired) (a b c : Unpaired) (answers : List Judged) (answer : Judged)
@@ -83,7 +83,7 @@ judged_count profile past a b (answer ∷ answers) (m, first, more) =
     by : (answer : Judged) → IsJudged profile past a answer m → m.index ≡ a.index + 1
     by (Accepted pair) (next, h) = next.next_index
     by (Refused pair) (next, h) = next.next_index
-    by (Unspelled index line initial) (at, passed) = passed.next_index
+    by (Unspelled index line initial block) (at, passed) = passed.next_index
 
 -- no more are accepted than there are answers
 pub accepted_few : (past : List Paired) (answers : List Judged) → length (all_accepted past answers) ≤ length past + length answers
@@ -92,7 +92,7 @@ accepted_few past (answer ∷ answers) = let rest = accepted_few (accepted_with 
   by : (answer : Judged) → length (accepted_with past answer) ≤ length past + 1
   by (Accepted pair) = omega (arith, length-append past (pair ∷ []))
   by (Refused pair) = omega arith
-  by (Unspelled index line initial) = omega arith
+  by (Unspelled index line initial block) = omega arith
 
 -- some spool permits those that are accepted
 pub accepted_permitted : (profile : Profile) (past : List Paired) (a b : Unpaired) (answers : List Judged)
@@ -104,7 +104,7 @@ accepted_permitted profile past a b (answer ∷ answers) permitted (m, first, mo
     by : (answer : Judged) → IsJudged profile past a answer m → ArePermitted profile (accepted_with past answer)
     by (Accepted pair) (next, h) = h
     by (Refused pair) (next, h) = permitted
-    by (Unspelled index line initial) (at, passed) = permitted
+    by (Unspelled index line initial block) (at, passed) = permitted
 
 -- ---- what is said is bounded by the octets
 
@@ -133,7 +133,7 @@ accepted_weight profile past a b (answer ∷ answers) (m, first, more) =
     by : (answer : Judged) → IsJudged profile past a answer m → weight (responses_of (accepted_with past answer)) + length m.server ≤ weight (responses_of past) + length a.server
     by (Accepted pair) (next, h) = weight_next past a m pair next
     by (Refused pair) (next, h) = let less = next-shorter a m pair next in omega (arith, less)
-    by (Unspelled index line initial) (at, passed) = let less = passed-shorter a m line initial passed in omega (arith, less)
+    by (Unspelled index line initial block) (at, passed) = let less = passed-shorter a m line initial block passed in omega (arith, less)
 
 -- so what one more pair says is small
 pub next_size : (how : Marks) (past : List Paired) (a b : Unpaired) (pair : Paired) → IsNext a pair b
@@ -169,4 +169,4 @@ accepted_open profile past a b (answer ∷ answers) before (m, first, more) stil
         (ap (λ q. visible_from start.visible q.0 q.1) (ends past pair) ∙ visible_next (asked_of past) (responses_of past) (asked_at pair.line) pair.response (as_many past))
         ∙ after-closes (visible_behind past) (asked_at pair.line) pair.response (before next.is_open) ∙ sym next.closing ∙ is_open
     by (Refused pair) (next, h) is_open = before next.is_open
-    by (Unspelled index line initial) (at, passed) is_open = before passed.is_open
+    by (Unspelled index line initial block) (at, passed) is_open = before passed.is_open

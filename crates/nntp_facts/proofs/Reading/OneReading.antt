@@ -61,7 +61,7 @@ end_judged : (profile : Profile) (past : List Paired) (a : Unpaired) (ending : E
 end_judged profile past a (end unanswered) ends = inr (end unanswered, ends, λ e. cc)
 end_judged profile past a (bad PairSurplus) ends = inr (bad PairSurplus, ends, λ e. cc)
 end_judged profile past a (bad PairCut) ends = inr (bad PairCut, ends, λ e. cc)
-end_judged profile past a (bad PairMalformed) ends = let some = (passed-exactly a).0 ends in inl (Unspelled a.index some.0 some.1, some.2, (refl, some.3))
+end_judged profile past a (bad PairMalformed) ends = let some = (passed-exactly a).0 ends in inl (Unspelled a.index some.0 some.1 some.2, some.3, (refl, some.4))
 
 -- so there is one answer more, or the reading ends
 more_or_last : (profile : Profile) (past : List Paired) (a : Unpaired) → weight (responses_of past) + length a.server < 2 ^ 210 → IsMore profile past a ⊎ IsLast a

@@ -1,15 +1,16 @@
-use Rattle.std.proofs.Common.{◌≡◌, ◌∙◌, ◌<◌, ◌≤◌, ◌^◌, ◌++◌, sym, ap, subst, arith, ℕ, List, Option}
+use Rattle.std.proofs.Common.{◌≡◌, ◌∙◌, ◌<◌, ◌≤◌, ◌^◌, sym, ap, subst, arith}
 use Rattle.std.specs.Prelude.{count_by, is_some, drop}
 use Rattle.std.specs.Option.{option_copied}
 use Rattle.nntp_article.specs.Session.Limit.{profile_of}
-use Rattle.nntp_pair.specs.Pairing.{Unpaired, IsPassedOver, line_ahead}
-use Rattle.nntp_check.specs.ExplainingView.{Kept, kept_of, AreTold}
+use Rattle.nntp_wire.specs.View.{asked}
+use Rattle.nntp_pair.specs.Pairing.{Unpaired, line_ahead}
+use Rattle.nntp_check.specs.ExplainingView.{kept_of, AreTold}
 use Rattle.nntp_check.proofs.ExplainLemmas.{told_few, told_unspelled, told_at_end, if_ok}
 use Rattle.nntp_check.proofs.JudgeLemmas.{told_of}
 use Rattle.nntp_check.proofs.explainer.explain.Goals as goal
 
-pub put_bad-requires : goal.put_bad-requires
-put_bad-requires g c =
+pub refuse_malformed-requires : goal.refuse_malformed-requires
+refuse_malformed-requires g c =
     let few : c.loop-exchange.explainer.bad ≤ c.loop-exchange.pairs.index = told_few (profile_of c.args.limit c.args.marks) c.args.client.now c.args.server.now
     (kept_of c.loop-exchange.explainer) c.loop-exchange.explainer.text.items c.loop-exchange.pairs c.loop-exchange.invariant in
     let same : c.next.new.self.index ≡ c.loop-exchange.pairs.index = ap (λ (u : Unpaired). u.index) c.in-Bad.ensures.step.2 in
@@ -24,12 +25,11 @@ loop-exchange-preserved g c =
     let kept = kept_of c.loop-exchange.explainer in
     let text = c.loop-exchange.explainer.text.items in
     let told = subst (AreTold profile client server kept text) (sym c.in-Bad.ensures.step.2) c.loop-exchange.invariant in
-    let passed = subst (λ (q : Option (List ℕ) × List ℕ). IsPassedOver c.next.new.self q.0 q.1 c.pass_over-frame.new.self)
-    (λ i. (sym c.ahead-ahead.ensures.line i, sym c.initial.ensures.value i)) c.pass_over-frame.ensures.passed in
-    subst (λ (q : Kept × List ℕ). AreTold profile client server q.0 q.1 c.pass_over-frame.new.self)
-    (λ i. (sym c.in_ok-put_bad-in-Malformed.ensures.kept i, sym c.in_ok-put_bad-in-Malformed.ensures.text i))
-    (told_unspelled profile client server kept text c.next.new.self c.pass_over-frame.new.self c.index-index.result (option_copied c.ahead-ahead.result.line) c.initial.result.now
-    told c.index-index.ensures.value passed)
+    let frame = c.pass_over-malformed.result.frame in
+    told_unspelled profile client server kept (kept_of c.refuse_malformed.new.self) text c.refuse_malformed.new.self.text.items c.next.new.self c.pass_over-malformed.new.self
+    c.index-index.result (asked c.pass_over-malformed.result.prompt) (option_copied c.pass_over-malformed.result.line) frame.initial frame.block
+    c.in_ok-refuse_malformed-in-Malformed.ensures.kept c.pass_over-malformed.ensures.prompt c.in_ok-refuse_malformed-in-Malformed.ensures.text
+    told c.index-index.ensures.value c.pass_over-malformed.ensures.passed
 
 pub stop-requires : goal.stop-requires
 stop-requires g c =

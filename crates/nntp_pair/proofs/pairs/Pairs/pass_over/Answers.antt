@@ -10,5 +10,5 @@ returns-clause-passed c =
     let i = c.self.inside in
     let a : Unpaired = record { index = i.index; places = i.places; server = i.server.now; is_closed = i.is_closed } in
     let frame = c.in-Some-frame.frame in
-    passed-found a c.args.self.now (option_copied c.in-Some.line) (asked c.prompt_at.result) frame.initial frame.block frame.len c.in-Some.places c.split_at.result.1.now
-    c.self.view_is c.requires c.in-Some.ensures c.prompt_at.ensures c.in-Some-frame.ensures.found (c.split_at.ensures.back ∙ ap (λ n. drop n i.server.now) c.len.ensures.value)
+    passed-found a c.args.self.now (option_copied c.in-Some.line) (asked c.prompt_at-prompt.result) frame.initial frame.block frame.len c.in-Some.places c.split_at.result.1.now
+    c.self.view_is c.requires c.in-Some.ensures c.prompt_at-prompt.ensures c.in-Some-frame.ensures.found (c.split_at.ensures.back ∙ ap (λ n. drop n i.server.now) c.len.ensures.value)
