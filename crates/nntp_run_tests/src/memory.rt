@@ -132,6 +132,11 @@ fn runs_that_show_sessions(rt: HostRuntime) -> Result<(), Fail> {
 }
 
 #[test]
+fn runs_that_explain_sessions(rt: HostRuntime) -> Result<(), Fail> {
+    Ok(Trial::RefuseMemory.explained(&rt, rt.alloc())?)
+}
+
+#[test]
 fn runs_with_few_octets(rt: HostRuntime) -> Result<(), Fail> {
     Ok(Trial::GiveMemory.sessions(&rt, rt.alloc())?)
 }

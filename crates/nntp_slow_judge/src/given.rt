@@ -85,22 +85,20 @@ fn shown_numbers(alloc: Global, said: &Said<'_>, group: &[u8]) -> Result<Vec<u64
     Ok(numbers)
 }
 
-/// The numbers of a group, ascending: those that are shown, and beside them one more where one is needed, or
-/// its marks where they are strict and it has a number.
-fn numbers(
+/// The numbers of a group, ascending: those that are shown, its marks where they are strict and it has a number, and
+/// one more where one is needed.
+pub(crate) fn numbers(
     alloc: Global,
     marks: Marks,
     said: &Said<'_>,
     group: &[u8],
 ) -> Result<Vec<u64>, AllocError> {
     let mut numbers = shown_numbers(alloc, said, group)?;
-    match marks {
-        Marks::Lenient => {
-            if let Some(number) = one_more(said, group, &numbers) {
-                numbers.push(number)?;
-            }
-        }
-        Marks::Strict => add_marks(&mut numbers, said, group)?,
+    if marks == Marks::Strict {
+        add_marks(&mut numbers, said, group)?;
+    }
+    if let Some(number) = one_more(said, group, &numbers) {
+        numbers.push(number)?;
     }
     numbers.sort_unstable();
     Ok(numbers)
@@ -181,7 +179,7 @@ fn one_more(said: &Said<'_>, group: &[u8], numbers: &[u64]) -> Option<u64> {
 }
 
 /// The id that is shown for a number.
-fn shown_id<'a>(said: &Said<'a>, group: &[u8], number: u64) -> Option<&'a [u8]> {
+pub(crate) fn shown_id<'a>(said: &Said<'a>, group: &[u8], number: u64) -> Option<&'a [u8]> {
     for shown in &said.shown {
         if shown.group == group && shown.number == number && shown.id.is_some() {
             return shown.id;

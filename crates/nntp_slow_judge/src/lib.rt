@@ -1,13 +1,16 @@
 //! A slow judge of sessions, by plain lists. It works out anew from all answers what is shown and what
 //! is denied, makes the spool that is given for them, and asks `verify` of it. Where marks are strict, it sees
-//! for itself whether those of each 211 are the least and the greatest number of the group.
+//! for itself whether those of each 211 are the least and the greatest number of the group. It reads a session on
+//! behind bad answers too, and tells whether some spool has what answers say by themselves.
 #![tactic(auto)]
 
 mod ends;
 mod given;
 mod lines;
 mod numbers;
+mod reading;
 mod said;
+mod told;
 mod visible;
 
 use given::{given_spool, have_ends};
@@ -16,8 +19,10 @@ use nntp_pair::{Exchange, Pairs, Step};
 use nntp_sessions::{Choice, spool_text};
 use nntp_spool::{Verified, verify};
 use nntp_wire::Marks;
+pub use reading::{Reading, read};
 use said::Said;
 use std::alloc::{AllocError, Global};
+pub use told::{Told, some_spool_has};
 use visible::Visible;
 
 /// An exchange, and how many octets the server has sent up to its end.

@@ -75,6 +75,38 @@ impl<'a> Said<'a> {
         }
     }
 
+    /// Where the session stands: the selected group, and the number of the current article where it was shown.
+    pub(crate) fn stands(&self) -> (Option<&'a [u8]>, Option<u64>) {
+        let current = match self.place {
+            Place::First => None,
+            Place::Number(number) => Some(number),
+        };
+        (self.selected, current)
+    }
+
+    /// Goes there.
+    pub(crate) fn stand(&mut self, selected: Option<&'a [u8]>, current: Option<u64>) {
+        self.selected = selected;
+        self.place = match current {
+            Some(number) => Place::Number(number),
+            None => Place::First,
+        };
+    }
+
+    /// Adds to the groups each of whose numbers something is said.
+    pub(crate) fn add_groups(&mut self) -> Result<(), AllocError> {
+        for shown in &self.shown {
+            self.groups.push(shown.group)?;
+        }
+        for denied in &self.denied {
+            self.groups.push(denied.group)?;
+        }
+        for unseen in &self.unseen {
+            self.groups.push(unseen.group)?;
+        }
+        Ok(())
+    }
+
     /// Adds what one more answer says.
     pub(crate) fn hear(&mut self, exchange: &Exchange<'a>) -> Result<(), AllocError> {
         let Prompt::To(command) = exchange.prompt() else {

@@ -17,7 +17,7 @@ pub(crate) struct Visible<'a> {
 }
 
 /// The greatest number of 31 bits, or of 16 digits.
-fn greatest(limit: Limit) -> u64 {
+pub(crate) fn greatest(limit: Limit) -> u64 {
     match limit {
         Limit::Narrow => (1 << 31) - 1,
         Limit::Wide => 9_999_999_999_999_999,

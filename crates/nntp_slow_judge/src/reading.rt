@@ -1,0 +1,177 @@
+//! A session that is read on behind bad answers: one that no spool permits with those accepted before is left out.
+use crate::said::Said;
+use crate::told::Told;
+use crate::{Judged, exchanges, judge};
+use nntp_pair::{Exchange, PairClass, Pairs, Step};
+use nntp_sessions::Choice;
+use std::alloc::{AllocError, Global};
+
+/// What was read of a session.
+#[derive(Drop)]
+pub struct Reading<'a> {
+    alloc: Global,
+    choice: Choice,
+    /// Both streams, of the accepted exchanges alone.
+    client: Vec<u8>,
+    server: Vec<u8>,
+    /// What the accepted answers say.
+    said: Said<'a>,
+    /// The accepted answers.
+    accepted: Vec<Told<'a>>,
+    /// Those that don't fit, or contradict the accepted ones.
+    refused: Vec<Told<'a>>,
+    /// How many answers are bad.
+    bad: u64,
+    /// A line for each bad answer, and in the end the last line of the report.
+    lines: String,
+}
+
+/// Reads a session to its end.
+pub fn read<'a>(
+    alloc: Global,
+    choice: Choice,
+    client: &'a [u8],
+    server: &'a [u8],
+) -> Result<Reading<'a>, AllocError> {
+    let mut reading = Reading::new(alloc, choice);
+    let mut pairs = Pairs::new(client, server);
+    for _ in 0..=server.len() {
+        let rest = pairs.ahead().rest;
+        match pairs.next() {
+            Step::Exchange(exchange) => {
+                let left = pairs.ahead().rest.len();
+                let (octets, _) = rest.split_at(rest.len().saturating_sub(left));
+                reading.judge(exchange, octets)?;
+            }
+            Step::Bad { index, class } => match class {
+                PairClass::Malformed => {
+                    pairs.pass_over();
+                    reading.leave_out(index, "Malformed")?;
+                }
+                PairClass::Cut => {
+                    reading.leave_out(index, "Cut")?;
+                    reading.end(index.saturating_add(1), client)?;
+                    return Ok(reading);
+                }
+                PairClass::Surplus => {
+                    reading.leave_out(index, "Surplus")?;
+                    reading.end(index.saturating_add(1), client)?;
+                    return Ok(reading);
+                }
+            },
+            Step::End { .. } => {
+                reading.end(pairs.index(), client)?;
+                return Ok(reading);
+            }
+        }
+    }
+    Ok(reading)
+}
+
+impl<'a> Reading<'a> {
+    fn new(alloc: Global, choice: Choice) -> Reading<'a> {
+        Reading {
+            alloc,
+            choice,
+            client: Vec::new(alloc),
+            server: Vec::new(alloc),
+            said: Said::new(alloc),
+            accepted: Vec::new(alloc),
+            refused: Vec::new(alloc),
+            bad: 0,
+            lines: String::new(alloc),
+        }
+    }
+
+    /// The lines `bad answer K CLASS`, and the last line.
+    pub fn lines(&self) -> &str {
+        self.lines.as_str()
+    }
+
+    /// The accepted answer of an index.
+    pub fn accepted(&self, index: u64) -> Option<&Told<'a>> {
+        self.accepted.iter().find(|told| told.index() == index)
+    }
+
+    /// The answer of an index that doesn't fit, or contradicts the accepted ones.
+    pub fn refused(&self, index: u64) -> Option<&Told<'a>> {
+        self.refused.iter().find(|told| told.index() == index)
+    }
+
+    /// Accepts the next exchange, of which the answer is in these octets, or leaves it out.
+    fn judge(&mut self, exchange: Exchange<'a>, octets: &'a [u8]) -> Result<(), AllocError> {
+        let asked = self.client.len();
+        let answered = self.server.len();
+        self.join(exchange.line(), octets)?;
+        let index = exchange.index();
+        let told = Told::new(&self.said, exchange, octets);
+        let class = match self.judged()? {
+            Judged::Consistent => {
+                told.hear(&mut self.said)?;
+                self.accepted.push(told)?;
+                return Ok(());
+            }
+            Judged::OutOfPlace => "OutOfPlace",
+            Judged::Contradiction => "Contradiction",
+        };
+        self.refused.push(told)?;
+        self.client.truncate(asked);
+        self.server.truncate(answered);
+        self.leave_out(index, class)
+    }
+
+    /// Adds a line of the client and the octets of its answer to the accepted streams.
+    fn join(&mut self, line: Option<&[u8]>, octets: &[u8]) -> Result<(), AllocError> {
+        if let Some(line) = line {
+            self.client.extend_from_slice(line)?;
+            self.client.extend_from_slice(b"\r\n")?;
+        }
+        self.server.extend_from_slice(octets)
+    }
+
+    /// What is said of the last answer of the accepted streams.
+    fn judged(&self) -> Result<Judged, AllocError> {
+        let exchanges = exchanges(self.alloc, &self.client, &self.server)?;
+        let (judged, _) = judge(
+            self.alloc,
+            self.choice,
+            &self.client,
+            &self.server,
+            &exchanges,
+        )?;
+        Ok(judged)
+    }
+
+    /// Tells that an answer is bad. In the place of a greeting there is one that says nothing.
+    fn leave_out(&mut self, index: u64, class: &str) -> Result<(), AllocError> {
+        if self.server.is_empty() {
+            self.server.extend_from_slice(b"200 hi\r\n")?;
+        }
+        self.bad = self.bad.saturating_add(1);
+        let line = format!(in self.alloc; "bad answer {index} {class}\n")?;
+        self.lines.push_str(line.as_str())
+    }
+
+    /// Tells the last line, where there are so many answers.
+    fn end(&mut self, answers: u64, client: &[u8]) -> Result<(), AllocError> {
+        let bad = self.bad;
+        let unanswered = count_lines(client).saturating_sub(answers.saturating_sub(1));
+        let line = format!(in self.alloc;
+            "end answers={answers} bad={bad} unanswered={unanswered}\n"
+        )?;
+        self.lines.push_str(line.as_str())
+    }
+}
+
+/// How many lines the client sent.
+fn count_lines(client: &[u8]) -> u64 {
+    let mut count = 0u64;
+    let mut before = 0;
+    for octet in client {
+        if before == b'\r' && *octet == b'\n' {
+            count = count.saturating_add(1);
+        }
+        before = *octet;
+    }
+    count
+}

@@ -1,0 +1,194 @@
+//! What answers say by themselves, each where it stands in its session, and whether some spool has it.
+use crate::given::{given_spool, have_ends, numbers, shown_id};
+use crate::said::Said;
+use crate::visible::greatest;
+use nntp_pair::Exchange;
+use nntp_sessions::Choice;
+use nntp_spool::{Spool, Verified, verify};
+use nntp_wire::{Answer, Command, Marks, Prompt, What, Which};
+use std::alloc::{AllocError, Global};
+
+/// An answer where it stands.
+#[derive(Drop)]
+pub struct Told<'a> {
+    /// The group that is selected before it.
+    selected: Option<&'a [u8]>,
+    /// The number of the current article, where an answer showed it.
+    current: Option<u64>,
+    exchange: Exchange<'a>,
+    /// The octets of the answer.
+    octets: &'a [u8],
+}
+
+/// Whether some spool has what all of these answers say by themselves. What an answer says of the numbers of a group
+/// includes that there is such a group.
+pub fn some_spool_has(
+    alloc: Global,
+    choice: Choice,
+    answers: &[&Told<'_>],
+) -> Result<bool, AllocError> {
+    let mut said = Said::new(alloc);
+    for told in answers {
+        told.hear_alone(&mut said)?;
+    }
+    said.add_groups()?;
+    let Some(spool) = given_spool(alloc, choice, &said)? else {
+        return Ok(false);
+    };
+    if choice.marks == Marks::Strict && !have_ends(alloc, &said)? {
+        return Ok(false);
+    }
+    for told in answers {
+        if !told.is_had(alloc, choice, &said, &spool)? {
+            return Ok(false);
+        }
+    }
+    Ok(true)
+}
+
+impl<'a> Told<'a> {
+    /// The answer behind those of which this was said.
+    pub(crate) fn new(said: &Said<'a>, exchange: Exchange<'a>, octets: &'a [u8]) -> Told<'a> {
+        let (selected, current) = said.stands();
+        Told {
+            selected,
+            current,
+            exchange,
+            octets,
+        }
+    }
+
+    /// The place of the answer in its session.
+    pub fn index(&self) -> u64 {
+        self.exchange.index()
+    }
+
+    /// Adds what it says behind those before it.
+    pub(crate) fn hear(&self, said: &mut Said<'a>) -> Result<(), AllocError> {
+        said.hear(&self.exchange)
+    }
+
+    /// Adds what it says where it stands.
+    fn hear_alone(&self, said: &mut Said<'a>) -> Result<(), AllocError> {
+        said.stand(self.selected, self.current);
+        said.hear(&self.exchange)
+    }
+
+    /// Whether the spool that is given for what is said has what the answer says. A step from a number is looked up in
+    /// the numbers of the group, and for the current article it is asked by its number, since by itself the answer
+    /// doesn't say that the group has the number it goes from. All else is put to `verify` as a session of its own.
+    fn is_had(
+        &self,
+        alloc: Global,
+        choice: Choice,
+        said: &Said<'_>,
+        spool: &Spool,
+    ) -> Result<bool, AllocError> {
+        let (Prompt::To(command), Some(line)) = (self.exchange.prompt(), self.exchange.line())
+        else {
+            return Ok(true);
+        };
+        let Some(from) = self.current else {
+            return self.is_permitted(alloc, choice, said, spool, line);
+        };
+        match command {
+            Command::Next | Command::Last => self.is_step(alloc, choice.marks, said, command, from),
+            Command::Retrieve {
+                what,
+                which: Which::Current,
+            } => {
+                let line = format!(in alloc; "{} {from}", keyword(*what))?;
+                self.is_permitted(alloc, choice, said, spool, line.as_bytes())
+            }
+            _ => self.is_permitted(alloc, choice, said, spool, line),
+        }
+    }
+
+    /// Whether an answer to NEXT or LAST is what the numbers say, from this one on.
+    fn is_step(
+        &self,
+        alloc: Global,
+        marks: Marks,
+        said: &Said<'_>,
+        command: &Command<'_>,
+        from: u64,
+    ) -> Result<bool, AllocError> {
+        let Some(group) = self.selected else {
+            return Ok(false);
+        };
+        let numbers = numbers(alloc, marks, said, group)?;
+        let found = match command {
+            Command::Next => first_above(&numbers, from),
+            _ => last_below(&numbers, from),
+        };
+        Ok(match self.exchange.answer() {
+            Answer::Sent { number, id, .. } =>
+                found == Some(*number)
+                    && shown_id(said, group, *number).is_some_and(|shown| shown == id.as_slice()),
+            Answer::Plain { code } => match *code {
+                420 => false,
+                421 | 422 => found.is_none(),
+                _ => true,
+            },
+            _ => false,
+        })
+    }
+
+    /// Whether the spool permits the answer to a line, where the group is selected if it is there. The group is selected
+    /// with marks that any group has.
+    fn is_permitted(
+        &self,
+        alloc: Global,
+        choice: Choice,
+        said: &Said<'_>,
+        spool: &Spool,
+        line: &[u8],
+    ) -> Result<bool, AllocError> {
+        let mut client = Vec::new(alloc);
+        let mut server = Vec::from_slice(alloc, b"200 hi\r\n")?;
+        if let Some(group) = self.selected {
+            if said.groups.iter().any(|name| *name == group) {
+                let most = greatest(choice.limit);
+                client.extend_from_slice(b"GROUP ")?;
+                client.extend_from_slice(group)?;
+                client.extend_from_slice(b"\r\n")?;
+                server.extend_from_slice(format!(in alloc; "211 {most} 1 {most} ")?.as_bytes())?;
+                server.extend_from_slice(group)?;
+                server.extend_from_slice(b"\r\n")?;
+            }
+        }
+        client.extend_from_slice(line)?;
+        client.extend_from_slice(b"\r\n")?;
+        server.extend_from_slice(self.octets)?;
+        Ok(match verify(alloc, Marks::Lenient, spool, &client, &server)? {
+            Verified::Permits { .. } => true,
+            Verified::Refuses { .. } => false,
+        })
+    }
+}
+
+/// The keyword that asks for these parts of an article.
+fn keyword(what: What) -> &'static str {
+    match what {
+        What::Article => "ARTICLE",
+        What::Head => "HEAD",
+        What::Body => "BODY",
+        What::Stat => "STAT",
+    }
+}
+
+/// The first of ascending numbers that is above this one.
+fn first_above(numbers: &[u64], from: u64) -> Option<u64> {
+    numbers.iter().find(|number| **number > from).copied()
+}
+
+/// The last of ascending numbers that is below this one.
+fn last_below(numbers: &[u64], from: u64) -> Option<u64> {
+    let mut last = None;
+    for number in numbers {
+        if *number < from {
+            last = Some(*number);
+        }
+    }
+    last
+}
