@@ -33,7 +33,7 @@ use Rattle.nntp_facts.specs.declared.position.Position.TheVariants.{Nowhere}
 use Rattle.nntp_facts.proofs.Reading.NotedContradictions.{accepted_fit, noted_conflicts, placed_next}
 use Rattle.nntp_facts.proofs.Reading.JudgedSession.{one_more_in_session, accepted_one_more, index_in_session, due_in_session}
 use Rattle.nntp_facts.proofs.Reading.NotedAsJudged.{unfit_refused, contradiction_refused}
-use Rattle.nntp_check.specs.Explaining.{bad_lines, place_lines, IsTold, IsConflictOf, IsReason, IsExplained, AreExplained, count_bad, end_line}
+use Rattle.nntp_check.specs.Explaining.{bad_lines, place_lines, IsTold, IsConflictOf, IsReason, IsEndReason, IsExplained, AreExplained, count_bad, end_line}
 use Rattle.nntp_check.specs.ExplainingView.{Kept, placed_at, keeps, AreTold, GoesOn}
 use Rattle.nntp_check.specs.Judging.{IsFirstLine}
 use Rattle.nntp_check.specs.Reasons.{misfit_line, misspelling_line, number_line, index_at, rest_line}
@@ -132,16 +132,6 @@ told_as : (before : ℕ) (stands : Option Standing) (index : ℕ) (class : Class
     → ((reason : List ℕ) → P reason → Q reason) → IsTold before stands index class line initial P text → IsTold before stands index class line initial Q text
 told_as before stands index class line initial P Q text f (reason, whole, is) =
     (reason, whole, reason_follows (nat_lt before 100) (P reason) (Q reason) (reason ≡ []) (f reason) is)
-
--- without a reason
-no_reason : (b : Bool) (P : Type 0) → P → cond b P P
-no_reason true P p = p
-no_reason false P p = p
-
-told_plain : (before : ℕ) (stands : Option Standing) (index : ℕ) (class : Class) (line : Option (List ℕ)) (initial : List ℕ)
-    → IsTold before stands index class line initial (λ reason. reason ≡ []) (bad_lines index class line initial ++ place_lines before stands)
-told_plain before stands index class line initial =
-    ([], sym (append-nil (bad_lines index class line initial ++ place_lines before stands)), no_reason (nat_lt before 100) ([] ≡ []) refl)
 
 -- behind its lines a reason
 pub told_reason : (before : ℕ) (stands : Option Standing) (index : ℕ) (class : Class) (line : Option (List ℕ)) (initial : List ℕ) (Reason : List ℕ → Type 0) (old new reason : List ℕ) (is_told : Bool)
@@ -422,16 +412,16 @@ told_at_end limit marks client server spool kept text whole left answers unanswe
     and-true false = refl
 
 -- at octets that answer nothing
-pub told_at_octets : (limit : Limit) (marks : Marks) (client server spool : List ℕ) (kept : Kept) (text whole : List ℕ) (left : Unpaired)
-    (index : ℕ) (class : PairClass) (line : Option (List ℕ)) (octets first : List ℕ) (unanswered : ℕ) (of : Class) (good : Bool)
+pub told_at_octets : (limit : Limit) (marks : Marks) (client server spool : List ℕ) (kept : Kept) (text after whole : List ℕ) (left : Unpaired)
+    (index : ℕ) (class : PairClass) (line : Option (List ℕ)) (octets : List ℕ) (unanswered : ℕ) (good : Bool)
     → AreTold (profile_of limit marks) client server kept text left → Ends left (ends_at class) → class ≢ PairMalformed → index ≡ left.index
-    → line ≡ line_ahead left.places → octets ≡ left.server → unanswered ≡ count_by is_some (drop 1 left.places) → of ≡ class_of class → IsFirstLine octets first
-    → whole ≡ (text ++ bad_lines index of line first ++ place_lines kept.bad kept.stands) ++ end_line (index + 1) (kept.bad + 1) unanswered → good ≡ (kept.bad + 1 == 0)
+    → line ≡ line_ahead left.places → octets ≡ left.server → unanswered ≡ count_by is_some (drop 1 left.places)
+    → ((first : List ℕ) × IsFirstLine octets first × GoesOn (IsTold kept.bad kept.stands index (class_of class) line first (IsEndReason class octets)) text after)
+    → whole ≡ after ++ end_line (index + 1) (kept.bad + 1) unanswered → good ≡ (kept.bad + 1 == 0)
     → ExplainReports limit marks client server spool whole good
-told_at_octets limit marks client server spool kept text whole left index class line octets first unanswered of good t ends other at line-is octets-is unanswered-is of-is is-first whole-is good-is =
+told_at_octets limit marks client server spool kept text after whole left index class line octets unanswered good t ends other at line-is octets-is unanswered-is (first, is-first, (more, after-is, told)) whole-is good-is =
     let profile = profile_of limit marks in
     let count = at ∙ index_in_session profile client server t.answers left t.judged in
-    let more = bad_lines index of line first ++ place_lines kept.bad kept.stands in
     record {
       answers = t.answers;
       ending = ends_at class;
@@ -443,12 +433,11 @@ told_at_octets limit marks client server spool kept text whole left index class 
         first,
         subst (λ o. IsFirstLine o first) octets-is is-first,
         more,
-        subst (λ (q : ℕ × Option Standing × ℕ × Class × Option (List ℕ)). IsTold q.0 q.1 q.2 q.3 q.4 first (λ reason. reason ≡ []) more)
-            (λ i. (t.bad_are i, t.stands_there i, count i, of-is i, line-is i)) (told_plain kept.bad kept.stands index of line first),
+        subst (λ (q : ℕ × Option Standing × ℕ × Option (List ℕ) × List ℕ). IsTold q.0 q.1 q.2 (class_of class) q.3 first (IsEndReason class q.4) more)
+            (λ i. (t.bad_are i, t.stands_there i, count i, line-is i, octets-is i)) told,
         ap (λ (p : ℕ × ℕ × ℕ). more ++ end_line (p.0 + 1) (p.1 + 1) p.2) (λ i. (count i, t.bad_are i, unanswered-is i)),
       );
-      text_is = whole-is ∙ ap (λ t. t ++ end_line (index + 1) (kept.bad + 1) unanswered) (append_assoc text (bad_lines index of line first) (place_lines kept.bad kept.stands))
-          ∙ append_assoc text more (end_line (index + 1) (kept.bad + 1) unanswered);
+      text_is = whole-is ∙ ap (λ t. t ++ end_line (index + 1) (kept.bad + 1) unanswered) after-is ∙ append_assoc text more (end_line (index + 1) (kept.bad + 1) unanswered);
       answer_is = good-is ∙ none-zero kept.bad (count_bad t.answers == 0);
     }
   where

@@ -86,6 +86,13 @@ misspelling_line (WrongArgument place due) = codes "why argument " ++ decimal pl
 misspelling_line (WrongLine place fault) = codes "why block line " ++ decimal place ++ codes " " ++ fault_word fault ++ codes "\n"
 misspelling_line WrongBlock = codes "why block\n"
 
+-- ---- why it is cut
+
+-- what of a response is missing, where these of its lines are whole: the end of its initial line, or the end of its block
+abbrev pub cut_line : List (List ℕ) → List ℕ
+cut_line [] = codes "why line\n"
+cut_line (initial ∷ lines) = codes "why block\n"
+
 -- ---- with which answers it conflicts
 
 -- an answer that is a reason: its lines, and where the session stands there

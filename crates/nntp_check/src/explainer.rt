@@ -11,15 +11,17 @@ ghost use Rattle.nntp_pair.specs.Pairing.{Unpaired, IsNext, Ends, end, bad, aske
 ghost use Rattle.nntp_pair.specs.declared.class.PairClass.TheVariants.{Malformed};
 ghost use Rattle.nntp_facts.specs.Conflict.{FitsThere, SomeHas, told_with, below};
 ghost use Rattle.nntp_facts.specs.declared.class.Class.TheVariants.{Malformed as MalformedClass, OutOfPlace, Contradiction};
+ghost use Rattle.nntp_facts.specs.Classes.{class_of};
 ghost use Rattle.nntp_facts.specs.Noted.{profile_kept};
-ghost use Rattle.nntp_check.specs.Explaining.{bad_lines, end_line, place_lines, IsConflictOf, IsTold};
+ghost use Rattle.nntp_check.specs.Explaining.{bad_lines, end_line, place_lines, IsConflictOf, IsEndReason, IsTold};
 ghost use Rattle.nntp_check.specs.ExplainingView.{cited_of, kept_of, keeps, placed_at, standing_of, GoesOn, HasTold};
+ghost use Rattle.nntp_check.specs.Judging.{IsFirstLine};
 ghost use Rattle.nntp_check.specs.Reasons.{misfit_line, misspelling_line};
 ghost use Rattle.nntp_check.specs.Run.{ExplainReports};
 
 use crate::judge::{first_line, shown, shown_line};
 use crate::printing::put_number;
-use crate::reasons::{put_core, put_misfit, put_misspelling, put_standing};
+use crate::reasons::{put_core, put_cut, put_misfit, put_misspelling, put_standing};
 use crate::report::put_bad_answer;
 use crate::standing::{Cited, Standing, standing_after};
 use nntp_facts::{Class, Core, Facts, Noted, Placed, Position};
@@ -229,6 +231,27 @@ impl<'a, A: Allocator + Copy> Explainer<'a, A> {
         Ok(())
     }
 
+    /// Tells that the octets ahead, at this place, answer nothing.
+    fn refuse_octets(
+        &mut self,
+        index: u64,
+        class: PairClass,
+        ahead: Ahead<'_>,
+    ) -> Result<(), AllocError>
+        requires few { self.old.bad < 2 ^ 63 }
+        requires passed { class ≢ Malformed }
+        ensures kept { OnOk result (kept_of self.new ≡ record (kept_of self.old) { bad = self.old.bad + 1 }) }
+        ensures text { OnOk result ((line : List ℕ) × IsFirstLine ahead.entry.rest.now line
+            × GoesOn (IsTold self.old.bad (option_map standing_of self.old.standing) index (class_of class) (option_copied ahead.entry.line) line
+            (IsEndReason class ahead.entry.rest.now)) self.old.text.items self.new.text.items) }
+    {
+        let initial = first_line(ahead.rest);
+        if self.put_bad(index, Class::from(class), ahead.line, initial)? {
+            put_end_reason(&mut self.text, class, ahead.rest)?;
+        }
+        Ok(())
+    }
+
     /// Adds the lines of a bad answer, and where the session stands, if fewer than a hundred are bad before it: then a
     /// reason is to be told too.
     fn put_bad(
@@ -270,13 +293,13 @@ impl<'a, A: Allocator + Copy> Explainer<'a, A> {
     ) -> Result<Explanation<A>, AllocError>
         requires few { self.bad < 2 ^ 63 }
         requires low { index < 2 ^ 63 }
+        requires passed { class ≢ Malformed }
         ensures { IfOk result (λ told. (limit : Limit) (marks : Marks) (client server spool : List ℕ) (left : Unpaired)
-            → HasTold (profile_of limit marks) client server self.entry left → Ends left (bad class) → class ≢ Malformed → index ≡ left.index
+            → HasTold (profile_of limit marks) client server self.entry left → Ends left (bad class) → index ≡ left.index
             → option_copied ahead.entry.line ≡ line_ahead left.places → ahead.entry.rest.now ≡ left.server → unanswered ≡ count_by is_some (drop 1 left.places)
             → ExplainReports limit marks client server spool told.text.items told.is_without_fault) }
     {
-        let initial = first_line(ahead.rest);
-        self.put_bad(index, Class::from(class), ahead.line, initial)?;
+        self.refuse_octets(index, class, ahead)?;
         self.finish(index + 1, unanswered)
     }
 
@@ -320,6 +343,22 @@ fn put_unspelled<A: Allocator + Copy>(
     match Misspelling::of(&malformed.prompt, &malformed.frame) {
         Some(misspelling) => put_misspelling(text, misspelling),
         None => Ok(()),
+    }
+}
+
+/// Adds why octets that are left answer nothing.
+fn put_end_reason<A: Allocator + Copy>(
+    text: &mut Vec<u8, A>,
+    class: PairClass,
+    octets: &[u8],
+) -> Result<(), AllocError>
+    requires { class ≢ Malformed }
+    ensures { OnOk result (GoesOn (IsEndReason class octets.now) text.old.items text.new.items) }
+{
+    match class {
+        PairClass::Surplus => Ok(()),
+        PairClass::Cut => put_cut(text, octets),
+        PairClass::Malformed => unreachable!(),
     }
 }
 

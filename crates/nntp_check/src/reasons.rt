@@ -2,8 +2,9 @@
 ghost use Rattle.std.specs.Prelude.{◌≡◌, ◌++◌, OnOk, codes, decimal, map};
 ghost use Rattle.std.specs.List.{flat_map};
 ghost use Rattle.std.specs.Option.{option_map};
+ghost use Rattle.nntp_wire.specs.Lines.{lines_of_stream};
 ghost use Rattle.nntp_article.specs.Session.MisfitView.{why};
-ghost use Rattle.nntp_check.specs.Reasons.{current_text, standing_line, allowed_text, misfit_line, misspelling_line, due_word, fault_word, number_line, core_lines, rest_line, index_at, because_at, because_lines};
+ghost use Rattle.nntp_check.specs.Reasons.{current_text, standing_line, allowed_text, misfit_line, misspelling_line, cut_line, due_word, fault_word, number_line, core_lines, rest_line, index_at, because_at, because_lines};
 ghost use Rattle.nntp_check.specs.ExplainingView.{standing_of, cited_of};
 
 use crate::judge::{shown, shown_line};
@@ -12,7 +13,7 @@ use crate::report::put_command;
 use crate::standing::{Cited, Standing};
 use nntp_article::Misfit;
 use nntp_facts::{Core, Position};
-use nntp_wire::{Due, LineFault, Misspelling};
+use nntp_wire::{Due, LineFault, Misspelling, split_first_line};
 use std::alloc::{AllocError, Allocator};
 
 /// Adds the line that tells where the session stands.
@@ -107,6 +108,19 @@ pub(crate) fn put_misspelling<A: Allocator + Copy>(
             fault_word(fault),
         ),
         Misspelling::WrongBlock => text.extend_from_slice(b"why block\n"),
+    }
+}
+
+/// Adds the line that tells what is missing of a response of which these octets came.
+pub(crate) fn put_cut<A: Allocator + Copy>(
+    text: &mut Vec<u8, A>,
+    octets: &[u8],
+) -> Result<(), AllocError>
+    ensures { OnOk result (text.new.items ≡ text.old.items ++ cut_line (lines_of_stream octets.now)) }
+{
+    match split_first_line(octets) {
+        Some(_) => text.extend_from_slice(b"why block\n"),
+        None => text.extend_from_slice(b"why line\n"),
     }
 }
 

@@ -162,7 +162,7 @@ why block line 1 versions
 end answers=13 bad=11 unanswered=0
 ";
 
-pub(crate) const EXPLAINED: [Reported; 23] = [
+pub(crate) const EXPLAINED: [Reported; 24] = [
     Reported {
         name: "nothing at all",
         task: EXPLAIN,
@@ -296,7 +296,22 @@ end answers=4 bad=1 unanswered=0
 command HEAD 1
 answer 221 1 <a@b>
 in g since 1 at first
+why block
 end answers=3 bad=1 unanswered=1
+",
+        answer: false,
+    },
+    Reported {
+        name: "an initial line that is cut",
+        task: EXPLAIN,
+        client: b"HELP\r\nQUIT\r\n",
+        server: b"200 hi\r\n100 help\n.\n",
+        report: b"bad answer 1 Cut
+command HELP
+answer 100 help\\x0a.\\x0a
+in no group
+why line
+end answers=2 bad=1 unanswered=1
 ",
         answer: false,
     },

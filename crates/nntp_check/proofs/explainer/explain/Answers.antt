@@ -38,14 +38,14 @@ stop-requires g c =
     let same : c.next.new.self.index ≡ c.loop-exchange.pairs.index = ap (λ (u : Unpaired). u.index) c.in-Bad.ensures.step.2 in
     let small : c.next.new.self.index < 2 ^ 63 = c.index-index.ensures.small in
     let value : c.index-index.result ≡ c.next.new.self.index = c.index-index.ensures.value in
-    record { few = omega (arith, few, same, small); low = omega (arith, value, small) }
+    record { few = omega (arith, few, same, small); low = omega (arith, value, small); passed = c.in_default.not-Malformed }
 
 pub returns-in_default : goal.returns-in_default
 returns-in_default g c =
     let step = c.in-Bad.ensures.step in
     told_of c.stop.result _ _ c.stop.ensures
     (λ told h spool. h c.args.limit c.args.marks c.args.client.now c.args.server.now spool c.loop-exchange.pairs c.loop-exchange.invariant
-    step.1 c.in_default.not-Malformed
+    step.1
     (c.index-index.ensures.value ∙ ap (λ (u : Unpaired). u.index) step.2)
     (c.ahead-ahead.ensures.line ∙ ap (λ (u : Unpaired). line_ahead u.places) step.2)
     (c.ahead-ahead.ensures.rest ∙ ap (λ (u : Unpaired). u.server) step.2)

@@ -1,4 +1,4 @@
-use Rattle.std.proofs.Common.{◌≡◌, ◌∙◌, ◌+◌, ◌++◌, ◌==◌, ap, ℕ, List}
+use Rattle.std.proofs.Common.{◌≡◌, ◌∙◌, ◌+◌, ◌++◌, ◌==◌, ap}
 use Rattle.std.specs.Option.{option_copied}
 use Rattle.nntp_check.specs.Explaining.{end_line}
 use Rattle.nntp_check.specs.ExplainingView.{Kept, kept_of}
@@ -7,10 +7,10 @@ use Rattle.nntp_check.proofs.explainer.Explainer.stop.Goals as goal
 
 pub returns : goal.returns
 returns g c = if_ok c.finish.result c.finish.ensures.text c.finish.ensures.is_without_fault
-    (λ told text good limit marks client server spool left t ends other at line-is octets-is unanswered-is.
-    let bad : c.put_bad.new.self.bad ≡ c.args.self.bad + 1 = ap (λ (k : Kept). k.bad) c.in_ok-put_bad.ensures.kept in
-    told_at_octets limit marks client server spool (kept_of c.args.self) c.args.self.text.items told.text.items left c.args.index c.args.class
-    (option_copied c.args.ahead.line) c.args.ahead.rest.now c.first_line-initial.result.now c.args.unanswered c.from.result told.is_without_fault
-    t ends other at line-is octets-is unanswered-is c.from.ensures c.first_line-initial.ensures
-    (text ∙ ap (λ (q : List ℕ × ℕ). q.0 ++ end_line (c.args.index + 1) q.1 c.args.unanswered) (λ i. (c.in_ok-put_bad.ensures.text i, bad i)))
+    (λ told text good limit marks client server spool left t ends at line-is octets-is unanswered-is.
+    let bad : c.refuse_octets.new.self.bad ≡ c.args.self.bad + 1 = ap (λ (k : Kept). k.bad) c.in_ok-refuse_octets.ensures.kept in
+    told_at_octets limit marks client server spool (kept_of c.args.self) c.args.self.text.items c.refuse_octets.new.self.text.items told.text.items left c.args.index c.args.class
+    (option_copied c.args.ahead.line) c.args.ahead.rest.now c.args.unanswered told.is_without_fault
+    t ends c.requires.passed at line-is octets-is unanswered-is c.in_ok-refuse_octets.ensures.text
+    (text ∙ ap (λ n. c.refuse_octets.new.self.text.items ++ end_line (c.args.index + 1) n c.args.unanswered) bad)
     (good ∙ ap (λ n. n == 0) bad))
