@@ -563,8 +563,8 @@ fn where_it_stands_is_told_a_hundred_times(rt: HostRuntime) -> Result<(), Fail> 
 
 /// An initial line of 513 octets, its CRLF among them, as the answer to a command.
 fn one_octet_too_long(alloc: Global) -> Result<(String, String), AllocError> {
-    let client = String::from_str(alloc, "DATE\r\n")?;
-    let mut server = String::from_str(alloc, "200 hi\r\n111 ")?;
+    let client = String::from_str(alloc, "QUIT\r\n")?;
+    let mut server = String::from_str(alloc, "200 hi\r\n205 ")?;
     for _ in 0..507 {
         server.push_str("x")?;
     }
@@ -574,7 +574,7 @@ fn one_octet_too_long(alloc: Global) -> Result<(String, String), AllocError> {
 
 /// What is printed of it.
 fn too_long_told(alloc: Global) -> Result<String, AllocError> {
-    let mut report = String::from_str(alloc, "bad answer 1 Malformed\ncommand DATE\nanswer 111 ")?;
+    let mut report = String::from_str(alloc, "bad answer 1 Malformed\ncommand QUIT\nanswer 205 ")?;
     for _ in 0..507 {
         report.push_str("x")?;
     }
