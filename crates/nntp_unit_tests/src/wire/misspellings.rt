@@ -54,7 +54,7 @@ fn long_line(
     count: usize,
 ) -> Result<Option<Misspelling>, std::test::Fail> {
     let mut stream = Vec::from_slice(rt.alloc(), b"423 ")?;
-    stream.resize(count - 2, b'x')?;
+    stream.resize(count.saturating_sub(2), b'x')?;
     stream.extend_from_slice(b"\r\n")?;
     Ok(misspelling(line, stream.as_slice()))
 }
