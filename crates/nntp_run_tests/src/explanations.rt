@@ -618,11 +618,11 @@ fn sixteen_told(alloc: Global) -> Result<String, AllocError> {
         alloc,
         "bad answer 22 Contradiction\ncommand STAT 21\nanswer 223 21 <a21@x>\nin g since 1 at 20 since 21\nbecause some of 0 to 5\n",
     )?;
-    for n in 5..21 {
+    for before in 4..20 {
+        let number = before + 1;
         let lines = format!(in alloc;
-            "because answer {}\ncommand STAT {n}\nanswer 223 {n} <a{n}@x>\nin g since 1 at {} since {n}\n",
-            n + 1,
-            n - 1
+            "because answer {}\ncommand STAT {number}\nanswer 223 {number} <a{number}@x>\nin g since 1 at {before} since {number}\n",
+            before + 2
         )?;
         report.push_str(lines.as_str())?;
     }
