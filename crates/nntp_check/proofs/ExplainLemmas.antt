@@ -38,7 +38,7 @@ use Rattle.nntp_check.specs.ExplainingView.{Kept, placed_at, keeps, AreTold, Goe
 use Rattle.nntp_check.specs.Judging.{IsFirstLine}
 use Rattle.nntp_check.specs.Reasons.{misfit_line, misspelling_line, number_line, index_at, rest_line}
 use Rattle.nntp_check.specs.Run.{ExplainReports}
-use Rattle.nntp_check.specs.Standing.{Standing, Cited, standing, standing_by, standing_from, standing_after, moved, cited, cited_at, cited_from}
+use Rattle.nntp_check.specs.Standing.{Standing, Cited, standing, standing_by, standing_from, standing_after, moved, cited, cited_at, cited_from, closing, closing_after, closing_with, closing_from}
 
 -- ---- where a session stands
 
@@ -51,6 +51,26 @@ standing_push s (first ∷ pairs) pair = standing_push (standing_after s first) 
 cited_push : (s : Option Standing) (pairs : List Paired) (pair : Paired) → cited_from s (pairs ++ pair ∷ []) ≡ cited_from s pairs ++ cited_at (standing_from s pairs) pair ∷ []
 cited_push s [] pair = refl
 cited_push s (first ∷ pairs) pair = ap (λ rest. cited_at s first ∷ rest) (cited_push (standing_after s first) pairs pair)
+
+-- those that are accepted, the first one taken by itself
+joined : (past : List Paired) (first : Judged) (answers : List Judged) → past ++ accepted_of (first ∷ answers) ≡ accepted_with past first ++ accepted_of answers
+joined past (Accepted pair) answers = sym (append_assoc past (pair ∷ []) (accepted_of answers))
+joined past (Refused pair) answers = refl
+joined past (Unspelled index line initial block) answers = refl
+
+-- and is the one that closed the connection, if it did
+closing_push : (before : Option Cited) (past : List Paired) (answers : List Judged) (answer : Judged)
+    → closing_from before past (answers ++ answer ∷ []) ≡ closing_with (closing_from before past answers) (standing (past ++ accepted_of answers)) answer
+closing_push before past [] answer = ap (λ accepted. closing_with before (standing accepted) answer) (sym (append-nil past))
+closing_push before past (first ∷ answers) answer =
+    closing_push (closing_with before (standing past) first) (accepted_with past first) answers answer
+    ∙ ap (λ accepted. closing_with (closing_from before past (first ∷ answers)) (standing accepted) answer) (sym (joined past first answers))
+
+-- so it goes on behind what is kept of those before it
+closing_next : (answers : List Judged) (answer : Judged) (before : Option Cited) (stands : Option Standing) → before ≡ closing answers → stands ≡ standing (accepted_of answers)
+    → closing_with before stands answer ≡ closing (answers ++ answer ∷ [])
+closing_next answers answer before stands before-is stands-is =
+    ap (λ (q : Option Cited × Option Standing). closing_with q.0 q.1 answer) (λ i. (before-is i, stands-is i)) ∙ sym (closing_push None [] answers answer)
 
 -- the name of the group in which it stands
 abbrev name_in : Option Standing → Option Name
@@ -89,11 +109,6 @@ few_accepted [] = omega arith
 few_accepted (Accepted pair ∷ answers) = omega (arith, few_accepted answers)
 few_accepted (Refused pair ∷ answers) = omega (arith, few_accepted answers)
 few_accepted (Unspelled index line initial block ∷ answers) = omega (arith, few_accepted answers)
-
-joined : (past : List Paired) (first : Judged) (answers : List Judged) → past ++ accepted_of (first ∷ answers) ≡ accepted_with past first ++ accepted_of answers
-joined past (Accepted pair) answers = sym (append_assoc past (pair ∷ []) (accepted_of answers))
-joined past (Refused pair) answers = refl
-joined past (Unspelled index line initial block) answers = refl
 
 -- what is told of it stands behind what is told of those before it
 explained_push : (profile : Profile) (past : List Paired) (answers : List Judged) (answer : Judged) (text more : List ℕ)
@@ -162,9 +177,19 @@ rest_told answers rest bound first last place old mid new is place-is first-is l
 
 -- nothing is told yet
 pub told_first : (profile : Profile) (client server : List ℕ) (kept : Kept) (text : List ℕ) → HasNoted profile kept.facts [] → kept.placed ≡ [] → kept.cited ≡ [] → kept.stands ≡ None
-    → kept.bad ≡ 0 → text ≡ [] → AreTold profile client server kept text (streams client server)
-told_first profile client server kept text noted placed-is cited-is stands-is bad-is text-is =
-    record { answers = []; judged = refl; noted = noted; placed_are = placed-is; cited_are = cited-is; stands_there = stands-is; bad_are = bad-is; explained = text-is }
+    → kept.closing ≡ None → kept.bad ≡ 0 → text ≡ [] → AreTold profile client server kept text (streams client server)
+told_first profile client server kept text noted placed-is cited-is stands-is closing-is bad-is text-is =
+    record {
+      answers = [];
+      judged = refl;
+      noted = noted;
+      placed_are = placed-is;
+      cited_are = cited-is;
+      stands_there = stands-is;
+      closing_is = closing-is;
+      bad_are = bad-is;
+      explained = text-is;
+    }
 
 -- the next exchange is due
 pub told_due : (profile : Profile) (client server : List ℕ) (kept : Kept) (text : List ℕ) (left behind : Unpaired) (pair : Paired)
@@ -183,7 +208,7 @@ told_few profile client server kept text left t =
 told_good : (profile : Profile) (client server : List ℕ) (kept : Kept) (new : FactsKept) (text : List ℕ) (left behind : Unpaired) (pair : Paired)
     → AreTold profile client server kept text left → IsNext left pair behind
     → ((past : List Paired) → HasNoted profile kept.facts past → IsNoted profile past pair kept.facts new kinds.Consistent)
-    → AreTold profile client server (record (keeps kept.facts.position pair kept) { facts = new }) text behind
+    → AreTold profile client server (record (keeps kept.facts.position pair kept) { facts = new; closing = closing_after kept.closing kept.stands pair }) text behind
 told_good profile client server kept new text left behind pair t next notes =
     let past = accepted_of t.answers in
     let noted = notes past t.noted in
@@ -196,6 +221,7 @@ told_good profile client server kept new text left behind pair t next notes =
           ∙ sym (placed_next past pair) ∙ ap placed_of (sym accepted);
       cited_are = ap (λ (q : List Cited × Option Standing). q.0 ++ cited_at q.1 pair ∷ []) (λ i. (t.cited_are i, t.stands_there i)) ∙ sym (cited_push None past pair) ∙ ap cited (sym accepted);
       stands_there = ap (λ s. standing_after s pair) t.stands_there ∙ sym (standing_push None past pair) ∙ ap standing (sym accepted);
+      closing_is = closing_next t.answers (Accepted pair) kept.closing kept.stands t.closing_is t.stands_there;
       bad_are = t.bad_are ∙ sym (good_push t.answers pair);
       explained = subst (AreExplained profile [] (t.answers ++ Accepted pair ∷ [])) (append-nil text) (explained_push profile [] t.answers (Accepted pair) text [] t.explained refl);
     }
@@ -204,7 +230,7 @@ told_good profile client server kept new text left behind pair t next notes =
 told_bad : (profile : Profile) (client server : List ℕ) (kept : Kept) (text more : List ℕ) (left behind : Unpaired) (answer : Judged)
     → (t : AreTold profile client server kept text left) → IsJudged profile (accepted_of t.answers) left answer behind
     → accepted_with (accepted_of t.answers) answer ≡ accepted_of t.answers → IsExplained profile (accepted_of t.answers) answer more
-    → AreTold profile client server (record kept { bad = kept.bad + 1 }) (text ++ more) behind
+    → AreTold profile client server (record kept { closing = closing_with kept.closing kept.stands answer; bad = kept.bad + 1 }) (text ++ more) behind
 told_bad profile client server kept text more left behind answer t judged same is =
     let accepted = accepted_one_more t.answers answer ∙ same in
     record {
@@ -214,6 +240,7 @@ told_bad profile client server kept text more left behind answer t judged same i
       placed_are = t.placed_are ∙ ap placed_of (sym accepted);
       cited_are = t.cited_are ∙ ap cited (sym accepted);
       stands_there = t.stands_there ∙ ap standing (sym accepted);
+      closing_is = closing_next t.answers answer kept.closing kept.stands t.closing_is t.stands_there;
       bad_are = ap (λ n. n + 1) t.bad_are ∙ sym (bad_push t.answers answer same);
       explained = explained_push profile [] t.answers answer text more t.explained is;
     }
@@ -273,7 +300,7 @@ told_unfitting : (profile : Profile) (client server : List ℕ) (kept : Kept) (t
     → ((past : List Paired) → HasNoted profile kept.facts past → IsNoted profile past pair kept.facts kept.facts kinds.OutOfPlace)
     → IsTold kept.bad kept.stands pair.index OutOfPlace pair.line pair.initial
     (λ reason. reason ≡ option_map_or misfit_line (misfit (profile_kept kept.facts) kept.facts.visible (asked_at pair.line) pair.response) []) more
-    → AreTold profile client server (record kept { bad = kept.bad + 1 }) (text ++ more) behind
+    → AreTold profile client server (record kept { closing = closing_after kept.closing kept.stands pair; bad = kept.bad + 1 }) (text ++ more) behind
 told_unfitting profile client server kept text left behind pair more t next notes is =
     let past = accepted_of t.answers in
     let judged = unfit_refused profile past pair kept.facts kept.facts left behind t.noted (notes past t.noted) next in
@@ -289,7 +316,7 @@ told_contradiction : (profile : Profile) (client server : List ℕ) (kept : Kept
     → ((past : List Paired) → HasNoted profile kept.facts past → IsNoted profile past pair kept.facts kept.facts kinds.Contradiction)
     → IsTold kept.bad kept.stands pair.index Contradiction pair.line pair.initial
     (IsConflictOf (profile_kept kept.facts) (placed_at kept.stands kept.facts.position pair) kept.placed kept.cited) more
-    → AreTold profile client server (record kept { bad = kept.bad + 1 }) (text ++ more) behind
+    → AreTold profile client server (record kept { closing = closing_after kept.closing kept.stands pair; bad = kept.bad + 1 }) (text ++ more) behind
 told_contradiction profile client server kept text left behind pair more t next notes is =
     let past = accepted_of t.answers in
     let judged = contradiction_refused profile past pair kept.facts kept.facts left behind t.noted (notes past t.noted) next in
@@ -328,42 +355,43 @@ pub if_ok : {T E : Type 0} {P Q R : T → Type 0} (r : Result T E) → IfOk r P 
 if_ok (Ok x) p q f = f x p q
 if_ok (Err e) p q f = tt
 
-pub noted_consistent : (profile : Profile) (client server : List ℕ) (kept new : Kept) (facts : FactsKept) (noted : Noted) (position : Position) (text after : List ℕ) (left behind : Unpaired) (pair : Paired)
-    → noted ≡ kinds.Consistent → position ≡ kept.facts.position → ((past : List Paired) → HasNoted profile kept.facts past → IsNoted profile past pair kept.facts facts noted)
-    → new ≡ keeps position pair (record kept { facts = facts }) → after ≡ text
+pub noted_consistent : (profile : Profile) (client server : List ℕ) (kept new : Kept) (facts : FactsKept) (noted : Noted) (position : Position) (closing : Option Cited) (text after : List ℕ) (left behind : Unpaired) (pair : Paired)
+    → noted ≡ kinds.Consistent → position ≡ kept.facts.position → closing ≡ closing_after kept.closing kept.stands pair → ((past : List Paired) → HasNoted profile kept.facts past → IsNoted profile past pair kept.facts facts noted)
+    → new ≡ keeps position pair (record kept { facts = facts; closing = closing }) → after ≡ text
     → AreTold profile client server kept text left → IsNext left pair behind → AreTold profile client server new after behind
-noted_consistent profile client server kept new facts noted position text after left behind pair is position-is notes new-is after-is t next =
+noted_consistent profile client server kept new facts noted position closing text after left behind pair is position-is closing-is notes new-is after-is t next =
     subst (λ (q : Kept × List ℕ). AreTold profile client server q.0 q.1 behind)
-    (λ i. (sym (new-is ∙ ap (λ at. keeps at pair (record kept { facts = facts })) position-is) i, sym after-is i))
+    (λ i. (sym (new-is ∙ ap (λ (q : Position × Option Cited). keeps q.0 pair (record kept { facts = facts; closing = q.1 })) (λ i. (position-is i, closing-is i))) i, sym after-is i))
     (told_good profile client server kept facts text left behind pair t next (λ past h. subst (IsNoted profile past pair kept.facts facts) is (notes past h)))
 
-pub noted_out_of_place : (profile : Profile) (client server : List ℕ) (kept new : Kept) (facts : FactsKept) (noted : Noted) (text after : List ℕ) (left behind : Unpaired) (pair : Paired)
-    → noted ≡ kinds.OutOfPlace → ((past : List Paired) → HasNoted profile kept.facts past → IsNoted profile past pair kept.facts facts noted)
-    → new ≡ record kept { facts = facts; bad = kept.bad + 1 }
+pub noted_out_of_place : (profile : Profile) (client server : List ℕ) (kept new : Kept) (facts : FactsKept) (noted : Noted) (closing : Option Cited) (text after : List ℕ) (left behind : Unpaired) (pair : Paired)
+    → noted ≡ kinds.OutOfPlace → closing ≡ closing_after kept.closing kept.stands pair → ((past : List Paired) → HasNoted profile kept.facts past → IsNoted profile past pair kept.facts facts noted)
+    → new ≡ record kept { facts = facts; closing = closing; bad = kept.bad + 1 }
     → GoesOn (IsTold kept.bad kept.stands pair.index OutOfPlace pair.line pair.initial
     (λ reason. reason ≡ option_map_or misfit_line (misfit (profile_kept facts) facts.visible (asked_at pair.line) pair.response) [])) text after
     → AreTold profile client server kept text left → IsNext left pair behind → AreTold profile client server new after behind
-noted_out_of_place profile client server kept new facts noted text after left behind pair is notes new-is (more, after-is, told) t next =
+noted_out_of_place profile client server kept new facts noted closing text after left behind pair is closing-is notes new-is (more, after-is, told) t next =
     let at = λ (past : List Paired) (h : HasNoted profile kept.facts past). subst (IsNoted profile past pair kept.facts facts) is (notes past h) in
     let same : facts ≡ kept.facts = (at (accepted_of t.answers) t.noted).1 in
     subst (λ (q : Kept × List ℕ). AreTold profile client server q.0 q.1 behind)
-    (λ i. (sym (new-is ∙ ap (λ f. record kept { facts = f; bad = kept.bad + 1 }) same) i, sym after-is i))
+    (λ i. (sym (new-is ∙ ap (λ (q : FactsKept × Option Cited). record kept { facts = q.0; closing = q.1; bad = kept.bad + 1 }) (λ i. (same i, closing-is i))) i, sym after-is i))
     (told_unfitting profile client server kept text left behind pair more t next
     (λ past h. subst (λ f. IsNoted profile past pair kept.facts f kinds.OutOfPlace) same (at past h))
     (subst (λ (f : FactsKept). IsTold kept.bad kept.stands pair.index OutOfPlace pair.line pair.initial
     (λ reason. reason ≡ option_map_or misfit_line (misfit (profile_kept f) f.visible (asked_at pair.line) pair.response) []) more) same told))
 
-pub noted_contradiction : (profile : Profile) (client server : List ℕ) (kept new : Kept) (facts : FactsKept) (noted : Noted) (position : Position) (text after : List ℕ) (left behind : Unpaired) (pair : Paired)
-    → noted ≡ kinds.Contradiction → position ≡ kept.facts.position → ((past : List Paired) → HasNoted profile kept.facts past → IsNoted profile past pair kept.facts facts noted)
-    → new ≡ record kept { facts = facts; bad = kept.bad + 1 }
+pub noted_contradiction : (profile : Profile) (client server : List ℕ) (kept new : Kept) (facts : FactsKept) (noted : Noted) (position : Position) (closing : Option Cited) (text after : List ℕ) (left behind : Unpaired) (pair : Paired)
+    → noted ≡ kinds.Contradiction → position ≡ kept.facts.position → closing ≡ closing_after kept.closing kept.stands pair
+    → ((past : List Paired) → HasNoted profile kept.facts past → IsNoted profile past pair kept.facts facts noted)
+    → new ≡ record kept { facts = facts; closing = closing; bad = kept.bad + 1 }
     → GoesOn (IsTold kept.bad kept.stands pair.index Contradiction pair.line pair.initial
     (IsConflictOf (profile_kept facts) (placed_at kept.stands position pair) kept.placed kept.cited)) text after
     → AreTold profile client server kept text left → IsNext left pair behind → AreTold profile client server new after behind
-noted_contradiction profile client server kept new facts noted position text after left behind pair is position-is notes new-is (more, after-is, told) t next =
+noted_contradiction profile client server kept new facts noted position closing text after left behind pair is position-is closing-is notes new-is (more, after-is, told) t next =
     let at = λ (past : List Paired) (h : HasNoted profile kept.facts past). subst (IsNoted profile past pair kept.facts facts) is (notes past h) in
     let same : facts ≡ kept.facts = (at (accepted_of t.answers) t.noted).2 in
     subst (λ (q : Kept × List ℕ). AreTold profile client server q.0 q.1 behind)
-    (λ i. (sym (new-is ∙ ap (λ f. record kept { facts = f; bad = kept.bad + 1 }) same) i, sym after-is i))
+    (λ i. (sym (new-is ∙ ap (λ (q : FactsKept × Option Cited). record kept { facts = q.0; closing = q.1; bad = kept.bad + 1 }) (λ i. (same i, closing-is i))) i, sym after-is i))
     (told_contradiction profile client server kept text left behind pair more t next
     (λ past h. subst (λ f. IsNoted profile past pair kept.facts f kinds.Contradiction) same (at past h))
     (subst (λ (q : FactsKept × Position). IsTold kept.bad kept.stands pair.index Contradiction pair.line pair.initial
@@ -416,7 +444,7 @@ pub told_at_octets : (limit : Limit) (marks : Marks) (client server spool : List
     (index : ℕ) (class : PairClass) (line : Option (List ℕ)) (octets : List ℕ) (unanswered : ℕ) (good : Bool)
     → AreTold (profile_of limit marks) client server kept text left → Ends left (ends_at class) → class ≢ PairMalformed → index ≡ left.index
     → line ≡ line_ahead left.places → octets ≡ left.server → unanswered ≡ count_by is_some (drop 1 left.places)
-    → ((first : List ℕ) × IsFirstLine octets first × GoesOn (IsTold kept.bad kept.stands index (class_of class) line first (IsEndReason class octets)) text after)
+    → ((first : List ℕ) × IsFirstLine octets first × GoesOn (IsTold kept.bad kept.stands index (class_of class) line first (IsEndReason class kept.closing octets)) text after)
     → whole ≡ after ++ end_line (index + 1) (kept.bad + 1) unanswered → good ≡ (kept.bad + 1 == 0)
     → ExplainReports limit marks client server spool whole good
 told_at_octets limit marks client server spool kept text after whole left index class line octets unanswered good t ends other at line-is octets-is unanswered-is (first, is-first, (more, after-is, told)) whole-is good-is =
@@ -433,8 +461,8 @@ told_at_octets limit marks client server spool kept text after whole left index 
         first,
         subst (λ o. IsFirstLine o first) octets-is is-first,
         more,
-        subst (λ (q : ℕ × Option Standing × ℕ × Option (List ℕ) × List ℕ). IsTold q.0 q.1 q.2 (class_of class) q.3 first (IsEndReason class q.4) more)
-            (λ i. (t.bad_are i, t.stands_there i, count i, line-is i, octets-is i)) told,
+        subst (λ (q : ℕ × Option Standing × ℕ × Option (List ℕ) × Option Cited × List ℕ). IsTold q.0 q.1 q.2 (class_of class) q.3 first (IsEndReason class q.4 q.5) more)
+            (λ i. (t.bad_are i, t.stands_there i, count i, line-is i, t.closing_is i, octets-is i)) told,
         ap (λ (p : ℕ × ℕ × ℕ). more ++ end_line (p.0 + 1) (p.1 + 1) p.2) (λ i. (count i, t.bad_are i, unanswered-is i)),
       );
       text_is = whole-is ∙ ap (λ t. t ++ end_line (index + 1) (kept.bad + 1) unanswered) after-is ∙ append_assoc text more (end_line (index + 1) (kept.bad + 1) unanswered);

@@ -15,10 +15,10 @@ use Rattle.nntp_pair.specs.declared.class.PairClass.{PairClass}
 use Rattle.nntp_pair.specs.declared.class.PairClass.TheVariants.{Surplus as PairSurplus, Cut as PairCut, Malformed as PairMalformed}
 use Rattle.nntp_pair.specs.Pairing.{Paired, Unpaired, Ending, end, bad as ends_at, line_ahead, asked_at, asked_of, responses_of}
 use Rattle.nntp_check.specs.Judging.{IsFirstLine, shown}
-use Rattle.nntp_check.specs.Reasons.{standing_line, misfit_line, misspelling_line, cut_line, core_lines}
+use Rattle.nntp_check.specs.Reasons.{standing_line, misfit_line, misspelling_line, cut_line, surplus_lines, core_lines}
 use Rattle.nntp_check.specs.Report.{report_of}
 use Rattle.nntp_check.specs.Show.{is_end}
-use Rattle.nntp_check.specs.Standing.{Standing, Cited, standing, cited}
+use Rattle.nntp_check.specs.Standing.{Standing, Cited, standing, cited, closing}
 use Rattle.nntp_check.specs.Verdict.{bad as is_bad}
 
 -- the visible state that accepted answers leave
@@ -83,18 +83,18 @@ abbrev pub end_line : ℕ → ℕ → ℕ → List ℕ
 end_line answers bad unanswered =
     codes "end answers=" ++ decimal answers ++ codes " bad=" ++ decimal bad ++ codes " unanswered=" ++ decimal unanswered ++ codes "\n"
 
--- the text is why octets that are left answer nothing, by their class; a frame that spells nothing is passed over instead
-abbrev pub IsEndReason : PairClass → List ℕ → List ℕ → Type 0
-IsEndReason PairSurplus octets text = text ≡ []
-IsEndReason PairCut octets text = text ≡ cut_line (lines_of_stream octets)
-IsEndReason PairMalformed octets text = ⊥
+-- the text is why octets that are left answer nothing, by their class and the answer that closed the connection; a frame that spells nothing is passed over instead
+abbrev pub IsEndReason : PairClass → Option Cited → List ℕ → List ℕ → Type 0
+IsEndReason PairSurplus closing octets text = text ≡ surplus_lines closing
+IsEndReason PairCut closing octets text = text ≡ cut_line (lines_of_stream octets)
+IsEndReason PairMalformed closing octets text = ⊥
 
 -- what is printed behind the answers: octets that answer nothing are one more bad answer, and the lines behind its place have none
 abbrev pub IsEnded : List Judged → Unpaired → Ending → List ℕ → Type 0
 IsEnded answers left (end unanswered) text = text ≡ end_line (length answers) (count_bad answers) unanswered
 IsEnded answers left (ends_at class) text =
     (line : List ℕ) × IsFirstLine left.server line × (told : List ℕ)
-    × IsTold (count_bad answers) (standing (accepted_of answers)) (length answers) (class_of class) (line_ahead left.places) line (IsEndReason class left.server) told
+    × IsTold (count_bad answers) (standing (accepted_of answers)) (length answers) (class_of class) (line_ahead left.places) line (IsEndReason class (closing answers) left.server) told
     × (text ≡ told ++ end_line (length answers + 1) (count_bad answers + 1) (count_by is_some (drop 1 left.places)))
 
 -- no answer is bad, and no octet of the server is left

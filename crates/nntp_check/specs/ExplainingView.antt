@@ -10,7 +10,7 @@ use Rattle.nntp_check.specs.declared.standing.Standing.{Standing as StandingCode
 use Rattle.nntp_check.specs.declared.standing.Cited.{Cited as CitedCode}
 use Rattle.nntp_check.specs.declared.explainer.Explainer.{Explainer}
 use Rattle.nntp_facts.specs.declared.position.Position.{Position}
-use Rattle.nntp_check.specs.Standing.{Standing, Cited, standing, standing_after, cited, cited_at}
+use Rattle.nntp_check.specs.Standing.{Standing, Cited, standing, standing_after, cited, cited_at, closing}
 use Rattle.nntp_check.specs.Explaining.{AreExplained, count_bad}
 
 -- where a session stands, without where the name lies in memory
@@ -21,12 +21,13 @@ standing_of s = record { name = s.name; selected_by = s.selected_by; position = 
 abbrev pub cited_of : CitedCode → Cited
 cited_of c = record { index = c.index; line = option_copied c.line; initial = c.initial.now; stands = option_map standing_of c.standing }
 
--- what is kept of answers that were judged: what the accepted ones say, each of them as it is placed and cited, where they leave the session; and how many are bad
+-- what is kept of answers that were judged: what the accepted ones say, each of them as it is placed and cited, where they leave the session; which closed the connection, and how many are bad
 pub record Kept : Type 0 where
   pub facts : FactsKept
   pub placed : List Placed
   pub cited : List Cited
   pub stands : Option Standing
+  pub closing : Option Cited
   pub bad : ℕ
 
 -- an answer in the selected group, at a position
@@ -46,12 +47,20 @@ pub record AreTold (profile : Profile) (client server : List ℕ) (kept : Kept) 
   pub placed_are : kept.placed ≡ placed_of (accepted_of answers)
   pub cited_are : kept.cited ≡ cited (accepted_of answers)
   pub stands_there : kept.stands ≡ standing (accepted_of answers)
+  pub closing_is : kept.closing ≡ closing answers
   pub bad_are : kept.bad ≡ count_bad answers
   pub explained : AreExplained profile [] answers text
 
 -- what an explainer keeps
 abbrev pub kept_of : {A : Type 0} → Explainer A → Kept
-kept_of e = record { facts = e.facts; placed = e.placed.items; cited = map cited_of e.cited.items; stands = option_map standing_of e.standing; bad = e.bad }
+kept_of e = record {
+  facts = e.facts;
+  placed = e.placed.items;
+  cited = map cited_of e.cited.items;
+  stands = option_map standing_of e.standing;
+  closing = option_map cited_of e.closing;
+  bad = e.bad;
+}
 
 -- what the explainer keeps and tells is that of answers of both streams
 abbrev pub HasTold : {A : Type 0} → Profile → List ℕ → List ℕ → Explainer A → Unpaired → Type 0

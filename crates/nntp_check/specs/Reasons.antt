@@ -93,15 +93,24 @@ abbrev pub cut_line : List (List ℕ) → List ℕ
 cut_line [] = codes "why line\n"
 cut_line (initial ∷ lines) = codes "why block\n"
 
--- ---- with which answers it conflicts
+-- ---- an answer that is a reason
 
--- an answer that is a reason: its lines, and where the session stands there
+-- its lines, and where the session stands there
 abbrev pub because_lines : Cited → List ℕ
 because_lines c =
     codes "because answer " ++ decimal c.index ++ codes "\n" ++ command_line (option_map shown c.line)
     ++ codes "answer " ++ escaped (shown c.initial) ++ codes "\n" ++ standing_line c.stands
 
--- the same of the answer at a place
+-- ---- why it is surplus
+
+-- this answer closed the connection, or none did, and no line is left to be answered
+abbrev pub surplus_lines : Option Cited → List ℕ
+surplus_lines None = codes "why no command\n"
+surplus_lines (Some c) = codes "why closed\n" ++ because_lines c
+
+-- ---- with which answers it conflicts
+
+-- the answer at a place
 abbrev pub because_at : List Cited → ℕ → List ℕ
 because_at answers k = option_map_or because_lines (slice_get answers k) []
 

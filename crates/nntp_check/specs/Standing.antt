@@ -1,8 +1,10 @@
 -- Where a session stands, and by which answers (RFC 3977, section 6.1).
 use Rattle.std.specs.Prelude.{ℕ, ◌==◌, if◌then◌else◌, List, [], ◌∷◌, Option, None, Some, option_map}
 use Rattle.nntp_wire.specs.Answer.{Response, group_is, numbers_are}
+use Rattle.nntp_wire.specs.Session.{closes}
 use Rattle.nntp_article.specs.Session.Spool.{Name}
 use Rattle.nntp_facts.specs.Asks.{position_after}
+use Rattle.nntp_facts.specs.Reading.{Judged, Accepted, Refused, Unspelled, accepted_with}
 use Rattle.nntp_facts.specs.declared.position.Position.{Position}
 use Rattle.nntp_facts.specs.declared.position.Position.TheVariants.{First, Known}
 use Rattle.nntp_pair.specs.Pairing.{Paired, asked_at}
@@ -69,3 +71,24 @@ cited_from s (pair ∷ pairs) = cited_at s pair ∷ cited_from (standing_after s
 -- the answers of a session
 abbrev pub cited : List Paired → List Cited
 cited pairs = cited_from None pairs
+
+-- ---- the answer that closed the connection
+
+-- this answer, before which the session stands there, if it closes the connection, and else the one that closed it before
+abbrev pub closing_after : Option Cited → Option Standing → Paired → Option Cited
+closing_after before s pair = if closes (asked_at pair.line) pair.response then Some (cited_at s pair) else before
+
+-- the same of an answer that is judged: one that is refused closes the connection all the same, and a frame that spells nothing leaves it open
+abbrev pub closing_with : Option Cited → Option Standing → Judged → Option Cited
+closing_with before s (Accepted pair) = closing_after before s pair
+closing_with before s (Refused pair) = closing_after before s pair
+closing_with before s (Unspelled index line initial block) = before
+
+-- the same of answers behind these accepted ones, one after the other
+abbrev pub closing_from : Option Cited → List Paired → List Judged → Option Cited
+closing_from before accepted [] = before
+closing_from before accepted (answer ∷ answers) = closing_from (closing_with before (standing accepted) answer) (accepted_with accepted answer) answers
+
+-- the answer of a session that closed the connection, if one did
+abbrev pub closing : List Judged → Option Cited
+closing answers = closing_from None [] answers

@@ -21,9 +21,9 @@ ghost use Rattle.nntp_check.specs.Run.{ExplainReports};
 
 use crate::judge::{first_line, shown, shown_line};
 use crate::printing::put_number;
-use crate::reasons::{put_core, put_cut, put_misfit, put_misspelling, put_standing};
+use crate::reasons::{put_core, put_cut, put_misfit, put_misspelling, put_standing, put_surplus};
 use crate::report::put_bad_answer;
-use crate::standing::{Cited, Standing, standing_after};
+use crate::standing::{Cited, Standing, note_closing, standing_after};
 use nntp_facts::{Class, Core, Facts, Noted, Placed, Position};
 use nntp_pair::{Ahead, Exchange, MalformedFrame, PairClass, Pairs, Step};
 use nntp_wire::{GroupName, Limit, Marks, Misspelling};
@@ -57,6 +57,8 @@ pub(crate) struct Explainer<'a, A: Allocator> {
     cited: Vec<Cited<'a>, A>,
     /// Where they leave the session; none before a group is selected.
     standing: Option<Standing<'a>>,
+    /// The answer that closed the connection, accepted or refused; none where it is open.
+    closing: Option<Cited<'a>>,
     /// How many answers are bad so far.
     bad: u64,
     /// The report so far.
@@ -113,6 +115,7 @@ impl<'a, A: Allocator + Copy> Explainer<'a, A> {
             placed: Vec::new(alloc),
             cited: Vec::new(alloc),
             standing: None,
+            closing: None,
             bad: 0,
             text: Vec::new(alloc),
         }
@@ -130,6 +133,7 @@ impl<'a, A: Allocator + Copy> Explainer<'a, A> {
         let Ok(noted) = self.facts.note(&exchange) else {
             return Err(AllocError);
         };
+        note_closing(&mut self.closing, &self.standing, &exchange);
         match noted {
             Noted::Consistent => self.accept(position, exchange),
             Noted::OutOfPlace => self.refuse_unfitting(&exchange),
@@ -243,11 +247,11 @@ impl<'a, A: Allocator + Copy> Explainer<'a, A> {
         ensures kept { OnOk result (kept_of self.new ≡ record (kept_of self.old) { bad = self.old.bad + 1 }) }
         ensures text { OnOk result ((line : List ℕ) × IsFirstLine ahead.entry.rest.now line
             × GoesOn (IsTold self.old.bad (option_map standing_of self.old.standing) index (class_of class) (option_copied ahead.entry.line) line
-            (IsEndReason class ahead.entry.rest.now)) self.old.text.items self.new.text.items) }
+            (IsEndReason class (option_map cited_of self.old.closing) ahead.entry.rest.now)) self.old.text.items self.new.text.items) }
     {
         let initial = first_line(ahead.rest);
         if self.put_bad(index, Class::from(class), ahead.line, initial)? {
-            put_end_reason(&mut self.text, class, ahead.rest)?;
+            put_end_reason(&mut self.text, class, &self.closing, ahead.rest)?;
         }
         Ok(())
     }
@@ -346,17 +350,18 @@ fn put_unspelled<A: Allocator + Copy>(
     }
 }
 
-/// Adds why octets that are left answer nothing.
+/// Adds why octets that are left answer nothing, where this answer closed the connection, if one did.
 fn put_end_reason<A: Allocator + Copy>(
     text: &mut Vec<u8, A>,
     class: PairClass,
+    closing: &Option<Cited<'_>>,
     octets: &[u8],
 ) -> Result<(), AllocError>
     requires { class ≢ Malformed }
-    ensures { OnOk result (GoesOn (IsEndReason class octets.now) text.old.items text.new.items) }
+    ensures { OnOk result (GoesOn (IsEndReason class (option_map cited_of closing.now) octets.now) text.old.items text.new.items) }
 {
     match class {
-        PairClass::Surplus => Ok(()),
+        PairClass::Surplus => put_surplus(text, closing),
         PairClass::Cut => put_cut(text, octets),
         PairClass::Malformed => unreachable!(),
     }

@@ -4,7 +4,7 @@ ghost use Rattle.std.specs.List.{flat_map};
 ghost use Rattle.std.specs.Option.{option_map};
 ghost use Rattle.nntp_wire.specs.Lines.{lines_of_stream};
 ghost use Rattle.nntp_article.specs.Session.MisfitView.{why};
-ghost use Rattle.nntp_check.specs.Reasons.{current_text, standing_line, allowed_text, misfit_line, misspelling_line, cut_line, due_word, fault_word, number_line, core_lines, rest_line, index_at, because_at, because_lines};
+ghost use Rattle.nntp_check.specs.Reasons.{current_text, standing_line, allowed_text, misfit_line, misspelling_line, cut_line, surplus_lines, due_word, fault_word, number_line, core_lines, rest_line, index_at, because_at, because_lines};
 ghost use Rattle.nntp_check.specs.ExplainingView.{standing_of, cited_of};
 
 use crate::judge::{shown, shown_line};
@@ -121,6 +121,22 @@ pub(crate) fn put_cut<A: Allocator + Copy>(
     match split_first_line(octets) {
         Some(_) => text.extend_from_slice(b"why block\n"),
         None => text.extend_from_slice(b"why line\n"),
+    }
+}
+
+/// Adds the lines that tell which answer closed the connection, if one did, or else that no line is left to be answered.
+pub(crate) fn put_surplus<A: Allocator + Copy>(
+    text: &mut Vec<u8, A>,
+    closing: &Option<Cited<'_>>,
+) -> Result<(), AllocError>
+    ensures { OnOk result (text.new.items ≡ text.old.items ++ surplus_lines (option_map cited_of closing.now)) }
+{
+    match closing {
+        Some(answer) => {
+            text.extend_from_slice(b"why closed\n")?;
+            put_because(text, answer)
+        }
+        None => text.extend_from_slice(b"why no command\n"),
     }
 }
 

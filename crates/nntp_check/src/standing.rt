@@ -1,7 +1,7 @@
 //! Where a session stands, and by which answers (RFC 3977, section 6.1).
 ghost use Rattle.std.specs.Prelude.{◌≡◌};
 ghost use Rattle.std.specs.Option.{option_map};
-ghost use Rattle.nntp_check.specs.Standing.{cited_at, mover, moved, selected, standing_after};
+ghost use Rattle.nntp_check.specs.Standing.{cited_at, closing_after, mover, moved, selected, standing_after};
 ghost use Rattle.nntp_check.specs.ExplainingView.{cited_of, standing_of};
 
 use nntp_facts::Position;
@@ -35,6 +35,18 @@ pub(crate) struct Cited<'a> {
 }
 
 impl<'a> Standing<'a> {
+    /// Returns the same once more.
+    fn copy(&self) -> Standing<'a>
+        ensures { standing_of result ≡ standing_of self.now }
+    {
+        Standing {
+            name: self.name.copy(),
+            selected_by: self.selected_by,
+            position: self.position,
+            moved_by: self.moved_by,
+        }
+    }
+
     /// At the first article of a group that the answer selects.
     fn selected(name: &GroupName<'a>, index: u64) -> Standing<'a>
         ensures { standing_of result ≡ selected name.now index }
@@ -100,5 +112,28 @@ impl<'a> Cited<'a> {
             initial: exchange.initial(),
             standing,
         }
+    }
+}
+
+/// Keeps an exchange, before which the session stands there, as the one that closed the connection, if it closes it.
+pub(crate) fn note_closing<'a>(
+    closing: &mut Option<Cited<'a>>,
+    standing: &Option<Standing<'a>>,
+    exchange: &Exchange<'a>,
+)
+    ensures { option_map cited_of closing.new ≡ closing_after (option_map cited_of closing.old) (option_map standing_of standing.now) exchange.now }
+{
+    if exchange.closes() {
+        *closing = Some(Cited::new(copied(standing), exchange));
+    }
+}
+
+/// Returns the same once more.
+fn copied<'a>(standing: &Option<Standing<'a>>) -> Option<Standing<'a>>
+    ensures { option_map standing_of result ≡ option_map standing_of standing.now }
+{
+    match standing {
+        Some(standing) => Some(standing.copy()),
+        None => None,
     }
 }

@@ -162,7 +162,7 @@ why block line 1 versions
 end answers=13 bad=11 unanswered=0
 ";
 
-pub(crate) const EXPLAINED: [Reported; 24] = [
+pub(crate) const EXPLAINED: [Reported; 26] = [
     Reported {
         name: "nothing at all",
         task: EXPLAIN,
@@ -324,6 +324,7 @@ end answers=2 bad=1 unanswered=1
 no command
 answer x
 in no group
+why no command
 end answers=3 bad=1 unanswered=0
 ",
         answer: false,
@@ -337,7 +338,53 @@ end answers=3 bad=1 unanswered=0
 command GROUP g
 answer 411 no
 in no group
+why closed
+because answer 1
+command QUIT
+answer 205 bye
+in no group
 end answers=3 bad=1 unanswered=1
+",
+        answer: false,
+    },
+    Reported {
+        name: "octets behind an answer that closed the connection behind a bad one",
+        task: EXPLAIN,
+        client: b"GROUP g\r\nSTAT 1\r\nHELP\r\nQUIT\r\n",
+        server: b"200 hi\r\n211 1 1 1 g\r\n223 2 <a@b>\r\n400 bye\r\n205 bye\r\n",
+        report: b"bad answer 2 OutOfPlace
+command STAT 1
+answer 223 2 <a@b>
+in g since 1 at first
+why number 2
+bad answer 4 Surplus
+command QUIT
+answer 205 bye
+in g since 1 at first
+why closed
+because answer 3
+command HELP
+answer 400 bye
+in g since 1 at first
+end answers=5 bad=2 unanswered=0
+",
+        answer: false,
+    },
+    Reported {
+        name: "octets where the greeting closed the connection",
+        task: EXPLAIN,
+        client: b"",
+        server: b"502 no\r\n205 bye\r\n",
+        report: b"bad answer 1 Surplus
+no command
+answer 205 bye
+in no group
+why closed
+because answer 0
+no command
+answer 502 no
+in no group
+end answers=2 bad=1 unanswered=0
 ",
         answer: false,
     },
