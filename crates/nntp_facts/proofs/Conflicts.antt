@@ -2,7 +2,7 @@
 use Rattle.std.proofs.Common.{map, length-append, ◌≡◌, ℕ, zero, suc, ◌+◌, ◌<◌, ◌≤◌, ◌^◌, ◌⊎◌, ◌↔◌, IsTrue, List, [], ◌∷◌, ◌++◌, length, Option, None, Some, inl, inr, refl, sym, ap, subst, ◌∙◌, arith}
 use Rattle.std.specs.Prelude.{not}
 use Rattle.std.specs.List.{AllByRecursion, flat_map}
-use Rattle.std.proofs.lemmas.Bool.{cases_lt, cases_eq, true≢false, not-true, or_left}
+use Rattle.std.proofs.lemmas.Bool.{cases_lt, cases_eq, true≢false, not-true}
 use Rattle.std.proofs.lemmas.List.{length-map}
 use Rattle.std.specs.Cmp.{nat_cmp_total}
 use Rattle.std.specs.FinMap.{len, len-entries}
@@ -23,11 +23,11 @@ use Rattle.nntp_article.specs.Session.Machine.{Visible, visible_after, start, fi
 use Rattle.nntp_facts.specs.Asks.{position_after}
 use Rattle.nntp_facts.specs.declared.position.Position.{Position}
 use Rattle.nntp_facts.specs.Facts.{Fact, Holds, ThereIs, ThereIsNo, Asks, IdAt, TextIs, NoArticle, GroupsAre, facts_of, facts_from, FitsAll, group_of}
-use Rattle.nntp_facts.specs.Given.{unshown_ids, size, asks_of, is_shown}
+use Rattle.nntp_facts.specs.Given.{unshown_ids, size, asks_of}
 use Rattle.nntp_facts.specs.Together.{Together, is_possible}
 use Rattle.nntp_facts.specs.Conflict.{Placed, placed_from, FitsThere, widest, said as said_there, a_group, the_group, with_group, told, SomeHas, told_at}
-use Rattle.nntp_facts.specs.Conflict.{told_with, below, IsCore, AreFound, IsPartOfCore, Point, Step, Group, Number, Numbers}
-use Rattle.nntp_facts.specs.Conflict.{IdOf, PlaceOf, Article, HeadOf, BodyOf, ConflictAt}
+use Rattle.nntp_facts.specs.Conflict.{told_with, below, IsCore, AreFound, IsPartOfCore, Point, Step, Group, Number, Count}
+use Rattle.nntp_facts.specs.Conflict.{First, IdOf, PlaceOf, Article, HeadOf, BodyOf, ConflictAt}
 use Rattle.nntp_facts.proofs.Members.{In, all_at, all_from, all_both, all_front, all_back, in_front, in_back, in_cases, in_map, found_in, to_flat, from_flat}
 use Rattle.nntp_facts.proofs.Session.NumbersOfShownGroups.{Placed as IsPlaced, Among, selectable, session_placed}
 use Rattle.nntp_facts.proofs.Session.GroupOfAnAnswer.{IsOf, one_group, same_selected}
@@ -439,8 +439,9 @@ at_point facts (Step name) h t =
     let f = found_in (λ ask. not (is_possible ask)) (asks_of name facts) h in
     true≢false (sym (all_at (λ ask. IsTrue (is_possible ask)) f.0 (asks_of name facts) (t.numbers name).possible f.1) ∙ not-true _ f.2)
 at_point facts (Group name) h t = true≢false (sym h.1 ∙ t.groups name h.0)
-at_point facts (Number name n) h t = true≢false (sym h.1 ∙ (t.numbers name).not_denied n (inl (or_left (is_shown (asks_of name facts) n) _ h.0)))
-at_point facts (Numbers name) h t = h (t.numbers name)
+at_point facts (Number name n) h t = true≢false (sym h.1 ∙ (t.numbers name).not_denied n (inl h.0))
+at_point facts (Count name) h t = h.2 ((t.numbers name).few h.0 h.1)
+at_point facts (First name) h t = h (t.numbers name).demand_met
 at_point facts (IdOf name n) h t = h (t.ids name n)
 at_point facts (PlaceOf name id) h t = h (t.ids_once name id)
 at_point facts (Article id) h t = true≢false (sym h.1 ∙ t.articles id h.0)

@@ -6,18 +6,18 @@ use Rattle.nntp_wire.specs.Answer.{Asked, Response}
 use Rattle.nntp_wire.specs.declared.water_marks.WaterMarks.{WaterMarks}
 use Rattle.nntp_wire.specs.declared.marks.Marks.{Marks}
 use Rattle.nntp_wire.specs.declared.marks.Marks.TheVariants.{Lenient}
-use Rattle.nntp_article.specs.Session.Spool.{Spool, IsSpool, Name}
+use Rattle.nntp_article.specs.Session.Spool.{Spool, IsSpool, Name, Numbers}
 use Rattle.nntp_article.specs.declared.session.profile.Profile.{Profile}
 use Rattle.nntp_article.specs.Session.Machine.{Visible, visible_after, start, fits, is_ascending}
-use Rattle.nntp_facts.specs.Asks.{position_after, Estimates}
+use Rattle.nntp_facts.specs.Asks.{position_after, Ask, Estimates}
 use Rattle.nntp_pair.specs.Pairing.{Paired, asked_at, asked_of, responses_of}
 use Rattle.nntp_facts.specs.declared.position.Position.{Position}
 use Rattle.nntp_facts.specs.declared.position.Position.TheVariants.{Nowhere}
 use Rattle.nntp_facts.specs.Classes.{visible_from, position_from}
 use Rattle.nntp_article.specs.Article.Parts.{Id}
 use Rattle.nntp_facts.specs.Facts.{Fact, Holds, ThereIs, Asks, facts_of, group_of}
-use Rattle.nntp_facts.specs.Given.{is_shown, is_denied, asks_of, is_shown_group, id_in, head_in, body_in}
-use Rattle.nntp_facts.specs.Together.{is_possible, AsksStand, denies_group, number_in, shows_article, denies_article, GiveOne}
+use Rattle.nntp_facts.specs.Given.{is_known, is_denied, demand, IsGivenNumber, HasGivenNumbers, asks_of, is_shown_group, id_in, head_in, body_in}
+use Rattle.nntp_facts.specs.Together.{is_possible, MeetsDemand, IsFewFor, denies_group, number_in, shows_article, denies_article, GiveOne}
 
 -- an answer where it stands: the group that is selected before it, where the session stands in that group, what was asked, and the response
 pub record Placed : Type 0 where
@@ -141,21 +141,45 @@ pub data Point : Type 0 where
   Step : (name : Name) → Point  -- a step, or the current article, can't be
   Group : (name : Name) → Point  -- whether there is such a group
   Number : (name : Name) → (number : ℕ) → Point  -- whether the group has the number
-  Numbers : (name : Name) → Point  -- how many numbers the group has, the first one, or a mark that is read strictly
+  Count : (name : Name) → Point  -- how many numbers the group has
+  First : (name : Name) → Point  -- whether the group has a first number, and which number is the second
   IdOf : (name : Name) → (number : ℕ) → Point  -- which id is at the number
   PlaceOf : (name : Name) → (id : Id) → Point  -- at which number the id is
   Article : (id : Id) → Point  -- whether the id has an article
   HeadOf : (id : Id) → Point  -- which head the article has
   BodyOf : (id : Id) → Point  -- which body the article has
 
--- the facts conflict there
+-- the given numbers are more than is estimated
+abbrev pub AreTooMany : List Ask → Type 0
+AreTooMany asks = (N : Numbers) × HasGivenNumbers asks N × ¬ (AllByRecursion (IsFewFor N) asks)
+
+-- the facts conflict there; of the numbers of a group each part of `AsksStand` has its point
 abbrev pub ConflictAt : List Fact → Point → Type 0
 ConflictAt facts (Step name) = IsTrue (list_any (λ ask. not (is_possible ask)) (asks_of name facts))
 ConflictAt facts (Group name) = IsTrue (is_shown_group facts name) × IsTrue (list_any (denies_group name) facts)
-ConflictAt facts (Number name n) = IsTrue (is_shown (asks_of name facts) n) × IsTrue (is_denied (asks_of name facts) n)
-ConflictAt facts (Numbers name) = AsksStand (asks_of name facts) → ⊥
-ConflictAt facts (IdOf name n) = GiveOne (id_in name n) facts → ⊥
-ConflictAt facts (PlaceOf name id) = GiveOne (number_in name id) facts → ⊥
+ConflictAt facts (Number name n) = IsTrue (is_known (asks_of name facts) n) × IsTrue (is_denied (asks_of name facts) n)
+ConflictAt facts (Count name) = AreTooMany (asks_of name facts)
+ConflictAt facts (First name) = ¬ (MeetsDemand (demand (asks_of name facts)) (IsGivenNumber (asks_of name facts)))
+ConflictAt facts (IdOf name n) = ¬ (GiveOne (id_in name n) facts)
+ConflictAt facts (PlaceOf name id) = ¬ (GiveOne (number_in name id) facts)
 ConflictAt facts (Article id) = IsTrue (list_any (shows_article id) facts) × IsTrue (list_any (denies_article id) facts)
-ConflictAt facts (HeadOf id) = GiveOne (head_in id) facts → ⊥
-ConflictAt facts (BodyOf id) = GiveOne (body_in id) facts → ⊥
+ConflictAt facts (HeadOf id) = ¬ (GiveOne (head_in id) facts)
+ConflictAt facts (BodyOf id) = ¬ (GiveOne (body_in id) facts)
+
+-- in which order points are told, by their kinds
+abbrev pub rank : Point → ℕ
+rank (Step name) = 0
+rank (Group name) = 1
+rank (Number name n) = 2
+rank (Count name) = 3
+rank (First name) = 4
+rank (IdOf name n) = 5
+rank (PlaceOf name id) = 6
+rank (Article id) = 7
+rank (HeadOf id) = 8
+rank (BodyOf id) = 9
+
+-- the facts conflict at the point, and at none of a kind that is told before
+pub record IsFirstPoint (facts : List Fact) (point : Point) : Type 0 where
+  pub conflict : ConflictAt facts point
+  pub first : (other : Point) → rank other < rank point → ¬ (ConflictAt facts other)

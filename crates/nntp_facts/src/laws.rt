@@ -24,7 +24,7 @@ ghost use Rattle.nntp_pair.specs.declared.class.PairClass.{PairClass};
 ghost use Rattle.nntp_wire.specs.Answer.{Asked, Response, Spells};
 ghost use Rattle.nntp_wire.specs.declared.marks.Marks.{Marks};
 ghost use Rattle.nntp_wire.specs.declared.marks.Marks.TheVariants.{Strict};
-ghost use Rattle.nntp_facts.specs.Conflict.{Placed, placed_from, FitsThere, a_group, told, SomeHas, told_with, below, IsCore, IsPartOfCore, IsEndOfCore, AreAmong, Point, ConflictAt};
+ghost use Rattle.nntp_facts.specs.Conflict.{Placed, placed_from, FitsThere, a_group, told, SomeHas, told_with, below, IsCore, IsPartOfCore, IsEndOfCore, AreAmong, Point, ConflictAt, IsFirstPoint};
 
 pub mod reading;
 
@@ -388,10 +388,10 @@ pub fn contradiction_conflicts_with_those_before()
 {}
 
 /// No spool has facts that conflict at some point. What answers say that no spool has, each fitting
-/// where it stands, conflicts at some point.
+/// where it stands, conflicts at some point, and so at a first one.
 pub fn no_spool_has_what_conflicts()
     ensures none { (profile : Profile) (facts : List Fact) (point : Point) → ConflictAt facts point → SomeHas profile facts → ⊥ }
     ensures point { (profile : Profile) (bad : Placed) (answers : List Placed) (places : List ℕ) → FitsThere profile bad → AllByRecursion (FitsThere profile) answers
         → AllByRecursion IsWellFormed (told_with profile bad answers places) → size (told_with profile bad answers places) < 2 ^ 210
-        → (SomeHas profile (told_with profile bad answers places) → ⊥) → (point : Point) × ConflictAt (told_with profile bad answers places) point }
+        → (SomeHas profile (told_with profile bad answers places) → ⊥) → (point : Point) × IsFirstPoint (told_with profile bad answers places) point }
 {}

@@ -1,16 +1,18 @@
--- Whether what is asked of a group stands together can be decided, where there are the given numbers.
-use Rattle.std.proofs.Common.{◌≡◌, ◌||◌, ◌==◌, IsTrue, List, is_some, inl, inr, sym, ap, ◌∙◌, arith}
-use Rattle.std.specs.Prelude.{not, nat_le}
+-- Whether each part of what is asked of a group stands can be decided, where there are the given numbers.
+use Rattle.std.proofs.Common.{◌≡◌, ℕ, Bool, true, false, ◌||◌, ◌==◌, ◌⊎◌, IsTrue, List, is_some, inl, inr, refl, sym, ◌∙◌, arith}
+use Rattle.std.specs.Prelude.{not, nat_le, IsFalse}
+use Rattle.std.specs.List.{AllByRecursion, list_all}
 use Rattle.std.specs.Cmp.{nat_cmp_total}
-use Rattle.std.specs.FinMap.{get, len, nat_cmp-IsAntisymmetric}
-use Rattle.std.proofs.lemmas.Bool.{not-true, eqb-true, eq-eqb, leb-true, le-leb, or_cases, or_left, or_right, cases_lt}
-use Rattle.nntp_article.proofs.SessionLemmas.FiniteMapsDecided.{Dec, dec_true, dec_le, dec_both, dec_by, dec_all, each_key}
+use Rattle.std.specs.FinMap.{get, len, keys, contains_key-keys, nat_cmp-IsAntisymmetric}
+use Rattle.std.proofs.lemmas.Bool.{true≢false, not-true, not-false, eqb-true, eq-eqb, leb-true, le-leb, or_cases, or_left, or_right, cases_lt}
+use Rattle.nntp_article.proofs.SessionLemmas.FiniteMapsDecided.{Dec, dec_true, dec_le, dec_by, dec_all, each_key, passes, fails}
 use Rattle.nntp_article.specs.Session.Spool.{Numbers, IsNumber}
 use Rattle.nntp_facts.specs.declared.demand.Demand.{Demand}
 use Rattle.nntp_facts.specs.declared.demand.Demand.TheVariants.{NoDemand, NotEmpty, OnlyOne, SecondIs, Impossible}
 use Rattle.nntp_facts.specs.Asks.{Ask, Estimates}
-use Rattle.nntp_facts.specs.Given.{demand, is_denied, IsGivenNumber, HasGivenNumbers}
-use Rattle.nntp_facts.specs.Together.{is_possible, MeetsDemand, IsFewFor, AsksStand}
+use Rattle.nntp_facts.specs.Given.{demand, is_known, is_denied, IsGivenNumber, HasGivenNumbers}
+use Rattle.nntp_facts.specs.Together.{MeetsDemand, IsFewFor}
+use Rattle.nntp_facts.specs.Conflict.{AreTooMany}
 use Rattle.nntp_facts.proofs.Members.{all_at, all_from}
 use Rattle.nntp_facts.proofs.GivenNumbers.LeastNumber.{Empty, Begins, firsts}
 use Rattle.nntp_facts.proofs.GivenNumbers.GivenNumbersMeet.{same_demand}
@@ -52,20 +54,33 @@ same_few : (N M : Numbers) → len M ≡ len N → (ask : Ask) → IsFewFor N as
 same_few N M e (Estimates how m) h = omega (arith, e, h)
 same_few N M e ask h = tt
 
--- whether what is asked stands together
-pub dec_asks : (asks : List Ask) (N : Numbers) → HasGivenNumbers asks N → Dec (AsksStand asks)
-dec_asks asks N given =
-    dec_by
-    (λ h. record {
-      possible = h.0.0;
-      not_denied = λ n i. not-true (is_denied asks n) (h.0.1 n ((given n).1 i));
-      demand_met = same_demand (IsNumber N) (IsGivenNumber asks) (λ n. (given n).0) (λ n. (given n).1) (demand asks) h.1.0;
-      few = λ M g. all_from (IsFewFor M) asks (λ ask i. same_few N M (as_many_given asks M N g given) ask (all_at (IsFewFor N) ask asks h.1.1 i));
-    })
-    (λ s. (
-      (s.possible, λ n i. ap not (s.not_denied n ((given n).0 i))),
-      (same_demand (IsGivenNumber asks) (IsNumber N) (λ n. (given n).1) (λ n. (given n).0) (demand asks) s.demand_met, s.few N given),
-    ))
-    (dec_both
-    (dec_both (dec_all (λ ask. IsTrue (is_possible ask)) (λ ask. dec_true (is_possible ask)) asks) (each_key nat_cmp_total nat_cmp-IsAntisymmetric (λ n. not (is_denied asks n)) N))
-    (dec_both (dec_demand N (demand asks)) (dec_all (IsFewFor N) (dec_few N) asks)))
+-- ---- each part of what is asked
+
+module _ (asks : List Ask) (N : Numbers) (given : HasGivenNumbers asks N) where
+  -- a known number is denied, or none is
+  pub denied_or_not : ((n : ℕ) × IsTrue (is_known asks n) × IsTrue (is_denied asks n)) ⊎ ((n : ℕ) → IsTrue (is_known asks n) → IsFalse (is_denied asks n))
+  denied_or_not = by (list_all (λ n. not (is_denied asks n)) (keys N)) refl
+    where
+      by : (b : Bool) → list_all (λ n. not (is_denied asks n)) (keys N) ≡ b
+          → ((n : ℕ) × IsTrue (is_known asks n) × IsTrue (is_denied asks n)) ⊎ ((n : ℕ) → IsTrue (is_known asks n) → IsFalse (is_denied asks n))
+      by true e = inr (λ n k. not-true (is_denied asks n) (passes nat_cmp_total nat_cmp-IsAntisymmetric (λ n. not (is_denied asks n)) (keys N) n e (sym (contains_key-keys N n) ∙ (given n).1 (inl k))))
+      by false e =
+          let f = fails nat_cmp_total nat_cmp-IsAntisymmetric (λ n. not (is_denied asks n)) (keys N) e in
+          elim ((given f.0).0 (contains_key-keys N f.0 ∙ f.2)) [
+            | inl k ↦ inl (f.0, k, not-false (is_denied asks f.0) f.1)
+            | inr x ↦ absurd (true≢false (sym (not-false (is_denied asks f.0) f.1) ∙ x.first.1))
+          ]
+
+  -- the given numbers are more than is estimated, or they aren't
+  pub too_many_or_not : AreTooMany asks ⊎ ((M : Numbers) → HasGivenNumbers asks M → AllByRecursion (IsFewFor M) asks)
+  too_many_or_not = elim (dec_all (IsFewFor N) (dec_few N) asks) [
+    | inl few ↦ inr (λ M g. all_from (IsFewFor M) asks (λ ask i. same_few N M (as_many_given asks M N g given) ask (all_at (IsFewFor N) ask asks few i)))
+    | inr many ↦ inl (N, given, many)
+  ]
+
+  -- they don't meet the demand, or do
+  pub unmet_or_met : (MeetsDemand (demand asks) (IsGivenNumber asks) → ⊥) ⊎ MeetsDemand (demand asks) (IsGivenNumber asks)
+  unmet_or_met = elim (dec_demand N (demand asks)) [
+    | inl met ↦ inr (same_demand (IsNumber N) (IsGivenNumber asks) (λ n. (given n).0) (λ n. (given n).1) (demand asks) met)
+    | inr not_met ↦ inl (λ met. not_met (same_demand (IsGivenNumber asks) (IsNumber N) (λ n. (given n).1) (λ n. (given n).0) (demand asks) met))
+  ]
