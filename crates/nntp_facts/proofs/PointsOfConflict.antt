@@ -1,5 +1,5 @@
 -- What doesn't stand together conflicts at some point, and so at a first one.
-use Rattle.std.proofs.Common.{◌≡◌, ℕ, zero, suc, ◌+◌, ◌<◌, ◌^◌, ◌⊎◌, ◌&&◌, ◌==◌, Bool, true, false, cond, IsTrue, List, [], ◌∷◌, ◌++◌, Option, None, Some, inl, inr, refl, sym, ap, subst, ◌∙◌, arith}
+use Rattle.std.proofs.Common.{◌≡◌, ℕ, ◌+◌, ◌<◌, ◌^◌, ◌⊎◌, ◌&&◌, ◌==◌, Bool, true, false, cond, IsTrue, List, [], ◌∷◌, ◌++◌, Option, None, Some, inl, inr, refl, sym, ap, subst, ◌∙◌, arith}
 use Rattle.std.specs.Prelude.{IsFalse, IfSome, ⊤, not}
 use Rattle.std.specs.List.{AllByRecursion, list_any, flat_map}
 use Rattle.std.specs.Cmp.Lexicographic.{same_text}
@@ -18,6 +18,7 @@ use Rattle.nntp_facts.specs.Given.{asks_in, asks_of, is_shown_group, shows_group
 use Rattle.nntp_facts.specs.Together.{IsWellFormed, is_possible, MeetsDemand, IsFewFor, denies_group, number_in, shows_article, denies_article, GiveOne, Together}
 use Rattle.nntp_facts.specs.Conflict.{Placed, FitsThere, told, told_with, SomeHas}
 use Rattle.nntp_facts.specs.Conflict.{Point, Step, Group, Number, Count, First, IdOf, PlaceOf, Article, HeadOf, BodyOf, ConflictAt, rank, IsFirstPoint}
+use Rattle.nntp_facts.proofs.PointsByRank.{each, or_next, PointsOf, of_rank}
 use Rattle.nntp_facts.proofs.Members.{In, all_at, all_from, any_in, found_in}
 use Rattle.nntp_facts.proofs.Together.FactsOfASpoolStand.{same_itself}
 use Rattle.nntp_facts.proofs.Session.NumbersOfShownGroups.{Placed as IsPlaced}
@@ -48,48 +49,6 @@ dec_if (Some x) Q d = d x
 flat_none : {A B : Type 0} (f : A → List B) (xs : List A) → ((x : A) → In x xs → f x ≡ []) → flat_map f xs ≡ []
 flat_none f [] h = refl
 flat_none f (x ∷ xs) h = ap (λ ys. ys ++ flat_map f xs) (h x (inl refl)) ∙ flat_none f xs (λ y i. h y (inr i))
-
--- one of the elements has the one, or each has the other
-each : {A : Type 0} (C : Type 0) (P : A → Type 0) (xs : List A) → ((x : A) → In x xs → C ⊎ P x) → C ⊎ AllByRecursion P xs
-each C P [] test = inr tt
-each C P (x ∷ xs) test = elim (test x (inl refl)) [
-  | inl c ↦ inl c
-  | inr here ↦ elim (each C P xs (λ y i. test y (inr i))) [ inl c ↦ inl c | inr rest ↦ inr (here, rest) ]
-]
-
--- where the one isn't so, what comes next is looked at
-or_next : {C A B : Type 0} → C ⊎ A → (A → C ⊎ B) → C ⊎ B
-or_next (inl c) next = inl c
-or_next (inr a) next = next a
-
--- ---- points by their order
-
--- what holds of the points of one rank
-abbrev PointsOf : (Point → Type 0) → ℕ → Type 0
-PointsOf P zero = (name : Name) → P (Step name)
-PointsOf P (suc zero) = (name : Name) → P (Group name)
-PointsOf P (suc (suc zero)) = (name : Name) (n : ℕ) → P (Number name n)
-PointsOf P (suc (suc (suc zero))) = (name : Name) → P (Count name)
-PointsOf P (suc (suc (suc (suc zero)))) = (name : Name) → P (First name)
-PointsOf P (suc (suc (suc (suc (suc zero))))) = (name : Name) (n : ℕ) → P (IdOf name n)
-PointsOf P (suc (suc (suc (suc (suc (suc zero)))))) = (name : Name) (id : Id) → P (PlaceOf name id)
-PointsOf P (suc (suc (suc (suc (suc (suc (suc zero))))))) = (id : Id) → P (Article id)
-PointsOf P (suc (suc (suc (suc (suc (suc (suc (suc zero)))))))) = (id : Id) → P (HeadOf id)
-PointsOf P (suc (suc (suc (suc (suc (suc (suc (suc (suc zero))))))))) = (id : Id) → P (BodyOf id)
-PointsOf P n = ⊤
-
--- holds of each of them
-of_rank : (P : Point → Type 0) (n : ℕ) → PointsOf P n → (point : Point) → rank point ≡ n → P point
-of_rank P n h (Step name) e = subst (PointsOf P) (sym e) h name
-of_rank P n h (Group name) e = subst (PointsOf P) (sym e) h name
-of_rank P n h (Number name m) e = subst (PointsOf P) (sym e) h name m
-of_rank P n h (Count name) e = subst (PointsOf P) (sym e) h name
-of_rank P n h (First name) e = subst (PointsOf P) (sym e) h name
-of_rank P n h (IdOf name m) e = subst (PointsOf P) (sym e) h name m
-of_rank P n h (PlaceOf name id) e = subst (PointsOf P) (sym e) h name id
-of_rank P n h (Article id) e = subst (PointsOf P) (sym e) h id
-of_rank P n h (HeadOf id) e = subst (PointsOf P) (sym e) h id
-of_rank P n h (BodyOf id) e = subst (PointsOf P) (sym e) h id
 
 -- another id isn't that of a head
 other_head : (what : What) (lines : Option (List Line)) (other id : Id) → is_same other id ≡ false → head_in id (TextIs what other lines) ≡ None

@@ -142,7 +142,7 @@ pub data Point : Type 0 where
   Group : (name : Name) → Point  -- whether there is such a group
   Number : (name : Name) → (number : ℕ) → Point  -- whether the group has the number
   Count : (name : Name) → Point  -- how many numbers the group has
-  First : (name : Name) → Point  -- whether the group has a first number, and which number is the second
+  First : (name : Name) → Point  -- with which numbers the group begins
   IdOf : (name : Name) → (number : ℕ) → Point  -- which id is at the number
   PlaceOf : (name : Name) → (id : Id) → Point  -- at which number the id is
   Article : (id : Id) → Point  -- whether the id has an article
