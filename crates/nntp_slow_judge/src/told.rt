@@ -122,9 +122,8 @@ impl<'a> Told<'a> {
             _ => last_below(&numbers, from),
         };
         Ok(match self.exchange.answer() {
-            Answer::Sent { number, id, .. } =>
-                found == Some(*number)
-                    && shown_id(said, group, *number).is_some_and(|shown| shown == id.as_slice()),
+            Answer::Sent { number, id, .. } => found == Some(*number)
+                && shown_id(said, group, *number).is_some_and(|shown| shown == id.as_slice()),
             Answer::Plain { code } => match *code {
                 420 => false,
                 421 | 422 => found.is_none(),
@@ -160,10 +159,12 @@ impl<'a> Told<'a> {
         client.extend_from_slice(line)?;
         client.extend_from_slice(b"\r\n")?;
         server.extend_from_slice(self.octets)?;
-        Ok(match verify(alloc, Marks::Lenient, spool, &client, &server)? {
-            Verified::Permits { .. } => true,
-            Verified::Refuses { .. } => false,
-        })
+        Ok(
+            match verify(alloc, Marks::Lenient, spool, &client, &server)? {
+                Verified::Permits { .. } => true,
+                Verified::Refuses { .. } => false,
+            },
+        )
     }
 }
 

@@ -97,7 +97,13 @@ fn report(
     capture.extend_from_slice(server)?;
     let mut input = reader(&capture, 4096, 0);
     let mut output = writer(alloc, 1 << 20, 4096, Full::Fails);
-    let outcome = run_task(alloc, explain_task(choice), &mut input, &mut output, 1 << 30);
+    let outcome = run_task(
+        alloc,
+        explain_task(choice),
+        &mut input,
+        &mut output,
+        1 << 30,
+    );
     assert!(rt; outcome.is_ok(), "{choice:?}: {}", client.escape_ascii());
     Ok(output.into_inner().held)
 }
