@@ -68,6 +68,3 @@ so_each Q f p (x ∷ xs) = so_first Q (f x) (map f xs) (p x) (so_each Q f p xs)
 pub first_alone : {A : Type 0} (o : Option A) → first (o ∷ []) ≡ o
 first_alone None = refl
 first_alone (Some why) = refl
-
-pub first_none : {A : Type 0} (o : Option A) (others : List (Option A)) → None ≡ o → first (o ∷ others) ≡ first others
-first_none o others e = ap (λ o. first (o ∷ others)) (sym e)
