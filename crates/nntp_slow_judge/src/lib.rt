@@ -22,7 +22,6 @@ use nntp_wire::Marks;
 pub use reading::{Reading, read};
 use said::Said;
 use std::alloc::{AllocError, Global};
-pub use told::{Told, some_spool_has};
 use visible::Visible;
 
 /// An exchange, and how many octets the server has sent up to its end.

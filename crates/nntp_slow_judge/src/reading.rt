@@ -1,9 +1,12 @@
 //! A session that is read on behind bad answers: one that no spool permits with those accepted before is left out.
+use crate::given::{given_spool, have_ends};
 use crate::said::Said;
 use crate::told::Told;
 use crate::{Judged, exchanges, judge};
 use nntp_pair::{Exchange, PairClass, Pairs, Step};
 use nntp_sessions::Choice;
+use nntp_spool::Spool;
+use nntp_wire::Marks;
 use std::alloc::{AllocError, Global};
 
 /// What was read of a session.
@@ -89,13 +92,84 @@ impl<'a> Reading<'a> {
     }
 
     /// The accepted answer of an index.
-    pub fn accepted(&self, index: u64) -> Option<&Told<'a>> {
+    fn accepted(&self, index: u64) -> Option<&Told<'a>> {
         self.accepted.iter().find(|told| told.index() == index)
     }
 
     /// The answer of an index that doesn't fit, or contradicts the accepted ones.
-    pub fn refused(&self, index: u64) -> Option<&Told<'a>> {
+    fn refused(&self, index: u64) -> Option<&Told<'a>> {
         self.refused.iter().find(|told| told.index() == index)
+    }
+
+    /// Whether some spool has what a bad answer and accepted ones say by themselves, where one of these may be left out:
+    /// they are given by their indexes. What an answer says of the numbers of a group includes that there is such a group.
+    /// `None` where one of them isn't there.
+    pub fn some_spool_has(
+        &self,
+        bad: u64,
+        reasons: &[u64],
+        left_out: Option<u64>,
+    ) -> Result<Option<bool>, AllocError> {
+        let Some(said) = self.hear_alone(bad, reasons, left_out)? else {
+            return Ok(None);
+        };
+        let Some(spool) = given_spool(self.alloc, self.choice, &said)? else {
+            return Ok(Some(false));
+        };
+        if self.choice.marks == Marks::Strict && !have_ends(self.alloc, &said)? {
+            return Ok(Some(false));
+        }
+        let Some(told) = self.refused(bad) else {
+            return Ok(None);
+        };
+        let is_had = told.is_had(self.alloc, self.choice, &said, &spool)?
+            && self.are_had(reasons, left_out, &said, &spool)?;
+        Ok(Some(is_had))
+    }
+
+    /// What these answers say by themselves, with their groups.
+    fn hear_alone(
+        &self,
+        bad: u64,
+        reasons: &[u64],
+        left_out: Option<u64>,
+    ) -> Result<Option<Said<'a>>, AllocError> {
+        let mut said = Said::new(self.alloc);
+        let Some(told) = self.refused(bad) else {
+            return Ok(None);
+        };
+        told.hear_alone(&mut said)?;
+        for index in reasons {
+            if left_out != Some(*index) {
+                let Some(told) = self.accepted(*index) else {
+                    return Ok(None);
+                };
+                told.hear_alone(&mut said)?;
+            }
+        }
+        said.add_groups()?;
+        Ok(Some(said))
+    }
+
+    /// Whether the spool that is given for what is said has what the accepted answers of these indexes say.
+    fn are_had(
+        &self,
+        indexes: &[u64],
+        left_out: Option<u64>,
+        said: &Said<'_>,
+        spool: &Spool,
+    ) -> Result<bool, AllocError> {
+        for index in indexes {
+            if left_out != Some(*index) {
+                let Some(told) = self.accepted(*index) else {
+                    return Ok(false);
+                };
+                if !told.is_had(self.alloc, self.choice, said, spool)? {
+                    return Ok(false);
+                }
+            }
+        }
+        Ok(true)
     }
 
     /// Accepts the next exchange, of which the answer is in these octets, or leaves it out.

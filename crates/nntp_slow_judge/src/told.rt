@@ -1,5 +1,5 @@
 //! What answers say by themselves, each where it stands in its session, and whether some spool has it.
-use crate::given::{given_spool, have_ends, numbers, shown_id};
+use crate::given::{numbers, shown_id};
 use crate::said::Said;
 use crate::visible::greatest;
 use nntp_pair::Exchange;
@@ -10,7 +10,7 @@ use std::alloc::{AllocError, Global};
 
 /// An answer where it stands.
 #[derive(Drop)]
-pub struct Told<'a> {
+pub(crate) struct Told<'a> {
     /// The group that is selected before it.
     selected: Option<&'a [u8]>,
     /// The number of the current article, where an answer showed it.
@@ -18,32 +18,6 @@ pub struct Told<'a> {
     exchange: Exchange<'a>,
     /// The octets of the answer.
     octets: &'a [u8],
-}
-
-/// Whether some spool has what all of these answers say by themselves. What an answer says of the numbers of a group
-/// includes that there is such a group.
-pub fn some_spool_has(
-    alloc: Global,
-    choice: Choice,
-    answers: &[&Told<'_>],
-) -> Result<bool, AllocError> {
-    let mut said = Said::new(alloc);
-    for told in answers {
-        told.hear_alone(&mut said)?;
-    }
-    said.add_groups()?;
-    let Some(spool) = given_spool(alloc, choice, &said)? else {
-        return Ok(false);
-    };
-    if choice.marks == Marks::Strict && !have_ends(alloc, &said)? {
-        return Ok(false);
-    }
-    for told in answers {
-        if !told.is_had(alloc, choice, &said, &spool)? {
-            return Ok(false);
-        }
-    }
-    Ok(true)
 }
 
 impl<'a> Told<'a> {
@@ -59,7 +33,7 @@ impl<'a> Told<'a> {
     }
 
     /// The place of the answer in its session.
-    pub fn index(&self) -> u64 {
+    pub(crate) fn index(&self) -> u64 {
         self.exchange.index()
     }
 
@@ -69,7 +43,7 @@ impl<'a> Told<'a> {
     }
 
     /// Adds what it says where it stands.
-    fn hear_alone(&self, said: &mut Said<'a>) -> Result<(), AllocError> {
+    pub(crate) fn hear_alone(&self, said: &mut Said<'a>) -> Result<(), AllocError> {
         said.stand(self.selected, self.current);
         said.hear(&self.exchange)
     }
@@ -77,7 +51,7 @@ impl<'a> Told<'a> {
     /// Whether the spool that is given for what is said has what the answer says. A step from a number is looked up in
     /// the numbers of the group, and for the current article it is asked by its number, since by itself the answer
     /// doesn't say that the group has the number it goes from. All else is put to `verify` as a session of its own.
-    fn is_had(
+    pub(crate) fn is_had(
         &self,
         alloc: Global,
         choice: Choice,

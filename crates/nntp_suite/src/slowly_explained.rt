@@ -5,7 +5,7 @@ use nntp_sessions::{
     BASES, CHOICES, Choice, Full, NARROW_LENIENT, NARROW_STRICT, Random, WIDE_LENIENT, WIDE_STRICT,
     Wandering, each_row, each_session, reader, writer,
 };
-use nntp_slow_judge::{Reading, Told, read, some_spool_has};
+use nntp_slow_judge::{Reading, read};
 use nntp_wire::{number, words};
 use std::alloc::{AllocError, Global};
 use std::process::Abort;
@@ -108,41 +108,15 @@ fn report(
     Ok(output.into_inner().held)
 }
 
-/// The bad answer of a conflict and its reasons, but for one that is left out.
-fn gather<'r, 'a>(
-    alloc: Global,
-    reading: &'r Reading<'a>,
-    conflict: &Conflict,
-    left_out: Option<u64>,
-) -> Result<Vec<&'r Told<'a>>, AllocError> {
-    let mut gathered = Vec::new(alloc);
-    if let Some(told) = reading.refused(conflict.bad) {
-        gathered.push(told)?;
-    }
-    for index in &conflict.reasons {
-        if let (true, Some(told)) = (left_out != Some(*index), reading.accepted(*index)) {
-            gathered.push(told)?;
-        }
-    }
-    Ok(gathered)
-}
-
 /// Whether the reasons of a conflict are a smallest set: no spool has what they and the bad answer say, and without any
 /// one of them some spool has what is left.
-fn is_smallest(
-    alloc: Global,
-    choice: Choice,
-    reading: &Reading<'_>,
-    conflict: &Conflict,
-) -> Result<bool, AllocError> {
-    let all = gather(alloc, reading, conflict, None)?;
-    let are_there = all.len() == conflict.reasons.len().saturating_add(1);
-    if !are_there || some_spool_has(alloc, choice, &all)? {
+fn is_smallest(reading: &Reading<'_>, conflict: &Conflict) -> Result<bool, AllocError> {
+    if reading.some_spool_has(conflict.bad, &conflict.reasons, None)? != Some(false) {
         return Ok(false);
     }
     for index in &conflict.reasons {
-        let others = gather(alloc, reading, conflict, Some(*index))?;
-        if !some_spool_has(alloc, choice, &others)? {
+        let others = reading.some_spool_has(conflict.bad, &conflict.reasons, Some(*index))?;
+        if others != Some(true) {
             return Ok(false);
         }
     }
@@ -194,7 +168,7 @@ fn compare(
         streams.1.escape_ascii()
     );
     for conflict in &explained.conflicts {
-        let is_right = !conflict.is_whole || is_smallest(alloc, choice, &reading, conflict)?;
+        let is_right = !conflict.is_whole || is_smallest(&reading, conflict)?;
         assert!(rt;
             is_right,
             "{choice:?}, answer {}: {}, {}",
