@@ -34,9 +34,9 @@ use Rattle.nntp_facts.proofs.Reading.NotedContradictions.{accepted_fit, noted_co
 use Rattle.nntp_facts.proofs.Reading.JudgedSession.{one_more_in_session, accepted_one_more, index_in_session, due_in_session}
 use Rattle.nntp_facts.proofs.Reading.NotedAsJudged.{unfit_refused, contradiction_refused}
 use Rattle.nntp_check.specs.Explaining.{bad_lines, place_lines, IsTold, IsConflictOf, IsReason, IsEndReason, IsExplained, AreExplained, count_bad, end_line}
-use Rattle.nntp_check.specs.ExplainingView.{Kept, placed_at, keeps, AreTold, GoesOn}
+use Rattle.nntp_check.specs.ExplainingView.{Kept, placed_at, keeps, unfitting_told, AreTold, GoesOn}
 use Rattle.nntp_check.specs.Judging.{IsFirstLine}
-use Rattle.nntp_check.specs.Reasons.{misfit_line, misspelling_line, number_line, index_at, rest_line}
+use Rattle.nntp_check.specs.Reasons.{unfitting_lines, misspelling_line, number_line, index_at, rest_line}
 use Rattle.nntp_check.specs.Run.{ExplainReports}
 use Rattle.nntp_check.specs.Standing.{Standing, Cited, standing, standing_by, standing_from, standing_after, moved, cited, cited_at, cited_from, closing, closing_after, closing_with, closing_from}
 
@@ -299,7 +299,7 @@ told_unfitting : (profile : Profile) (client server : List ℕ) (kept : Kept) (t
     → AreTold profile client server kept text left → IsNext left pair behind
     → ((past : List Paired) → HasNoted profile kept.facts past → IsNoted profile past pair kept.facts kept.facts kinds.OutOfPlace)
     → IsTold kept.bad kept.stands pair.index OutOfPlace pair.line pair.initial
-    (λ reason. reason ≡ option_map_or misfit_line (misfit (profile_kept kept.facts) kept.facts.visible (asked_at pair.line) pair.response) []) more
+    (λ reason. reason ≡ unfitting_told kept pair) more
     → AreTold profile client server (record kept { closing = closing_after kept.closing kept.stands pair; bad = kept.bad + 1 }) (text ++ more) behind
 told_unfitting profile client server kept text left behind pair more t next notes is =
     let past = accepted_of t.answers in
@@ -307,7 +307,8 @@ told_unfitting profile client server kept text left behind pair more t next note
     told_bad profile client server kept text more left behind (Refused pair) t judged.0 refl
     (refused_explained profile past pair OutOfPlace more judged.1
     (told_as (pair.index - length past) (standing past) pair.index OutOfPlace pair.line pair.initial _ (IsReason profile past pair OutOfPlace) more
-    (λ reason is. is ∙ ap (λ (q : Profile × Visible). option_map_or misfit_line (misfit q.0 q.1 (asked_at pair.line) pair.response) []) (λ i. (t.noted.profile_is i, t.noted.visible i)))
+    (λ reason is. is ∙ ap (λ (q : Profile × Visible × List Placed × List Cited). option_map_or (unfitting_lines q.2 q.3 pair.response) (misfit q.0 q.1 (asked_at pair.line) pair.response) [])
+    (λ i. (t.noted.profile_is i, t.noted.visible i, t.placed_are i, t.cited_are i)))
     (told_behind profile client server kept text left t pair.index next.index OutOfPlace pair.line pair.initial _ more is)))
 
 -- an exchange that contradicts those that were accepted
@@ -368,7 +369,7 @@ pub noted_out_of_place : (profile : Profile) (client server : List ℕ) (kept ne
     → noted ≡ kinds.OutOfPlace → closing ≡ closing_after kept.closing kept.stands pair → ((past : List Paired) → HasNoted profile kept.facts past → IsNoted profile past pair kept.facts facts noted)
     → new ≡ record kept { facts = facts; closing = closing; bad = kept.bad + 1 }
     → GoesOn (IsTold kept.bad kept.stands pair.index OutOfPlace pair.line pair.initial
-    (λ reason. reason ≡ option_map_or misfit_line (misfit (profile_kept facts) facts.visible (asked_at pair.line) pair.response) [])) text after
+    (λ reason. reason ≡ unfitting_told (record kept { facts = facts; closing = closing }) pair)) text after
     → AreTold profile client server kept text left → IsNext left pair behind → AreTold profile client server new after behind
 noted_out_of_place profile client server kept new facts noted closing text after left behind pair is closing-is notes new-is (more, after-is, told) t next =
     let at = λ (past : List Paired) (h : HasNoted profile kept.facts past). subst (IsNoted profile past pair kept.facts facts) is (notes past h) in
@@ -378,7 +379,7 @@ noted_out_of_place profile client server kept new facts noted closing text after
     (told_unfitting profile client server kept text left behind pair more t next
     (λ past h. subst (λ f. IsNoted profile past pair kept.facts f kinds.OutOfPlace) same (at past h))
     (subst (λ (f : FactsKept). IsTold kept.bad kept.stands pair.index OutOfPlace pair.line pair.initial
-    (λ reason. reason ≡ option_map_or misfit_line (misfit (profile_kept f) f.visible (asked_at pair.line) pair.response) []) more) same told))
+    (λ reason. reason ≡ unfitting_told (record kept { facts = f }) pair) more) same told))
 
 pub noted_contradiction : (profile : Profile) (client server : List ℕ) (kept new : Kept) (facts : FactsKept) (noted : Noted) (position : Position) (closing : Option Cited) (text after : List ℕ) (left behind : Unpaired) (pair : Paired)
     → noted ≡ kinds.Contradiction → position ≡ kept.facts.position → closing ≡ closing_after kept.closing kept.stands pair

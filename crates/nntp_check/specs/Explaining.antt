@@ -7,7 +7,7 @@ use Rattle.nntp_article.specs.Session.Machine.{Visible, start}
 use Rattle.nntp_article.specs.Session.Misfit.{misfit}
 use Rattle.nntp_article.specs.declared.session.profile.Profile.{Profile}
 use Rattle.nntp_facts.specs.Classes.{class_of, visible_from}
-use Rattle.nntp_facts.specs.Conflict.{Placed, placed_of, placed_behind, Core, IsFound}
+use Rattle.nntp_facts.specs.Conflict.{Placed, placed_of, placed_behind, Core, IsFound, Point, IsFirstPoint, told_with}
 use Rattle.nntp_facts.specs.declared.class.Class.{Class}
 use Rattle.nntp_facts.specs.declared.class.Class.TheVariants.{Malformed, OutOfPlace, Contradiction}
 use Rattle.nntp_facts.specs.Reading.{Judged, Accepted, Refused, Unspelled, accepted_of, accepted_with, class_behind}
@@ -15,8 +15,9 @@ use Rattle.nntp_pair.specs.declared.class.PairClass.{PairClass}
 use Rattle.nntp_pair.specs.declared.class.PairClass.TheVariants.{Surplus as PairSurplus, Cut as PairCut, Malformed as PairMalformed}
 use Rattle.nntp_pair.specs.Pairing.{Paired, Unpaired, Ending, end, bad as ends_at, line_ahead, asked_at, asked_of, responses_of}
 use Rattle.nntp_check.specs.Judging.{IsFirstLine, shown}
-use Rattle.nntp_check.specs.Reasons.{standing_line, misfit_line, misspelling_line, cut_line, surplus_lines, core_lines}
+use Rattle.nntp_check.specs.Reasons.{standing_line, unfitting_lines, misspelling_line, cut_line, surplus_lines, core_lines}
 use Rattle.nntp_check.specs.Report.{report_of}
+use Rattle.nntp_check.specs.Says.{conflict_lines}
 use Rattle.nntp_check.specs.Show.{is_end}
 use Rattle.nntp_check.specs.Standing.{Standing, Cited, standing, cited, closing}
 use Rattle.nntp_check.specs.Verdict.{bad as is_bad}
@@ -42,14 +43,22 @@ IsTold before stands index class line initial Reason text =
 
 -- ---- why it is bad
 
--- the text tells with which of these answers the bad one conflicts: at most sixteen, and where there are more, the last of them
+-- the text tells of a core what its answers and the bad one conflict about, the first point of that; where it is cut short, only which they are
+abbrev pub TellsCore : Profile → Placed → List Placed → List Cited → Core → List ℕ → Type 0
+TellsCore profile bad answers told core text =
+    MatchOption core.rest
+    ((point : Point) × IsFirstPoint (told_with profile bad answers core.places) point × (text ≡ conflict_lines profile.marks point bad answers told core.places))
+    (λ bound. text ≡ core_lines told core)
+
+-- the text tells with which of these answers the bad one conflicts, and about what: at most sixteen, and where there are more, the last of them
 abbrev pub IsConflictOf : Profile → Placed → List Placed → List Cited → List ℕ → Type 0
 IsConflictOf profile bad answers told text =
-    (core : Core) × IsFound profile bad answers core × MatchOption core.rest (length core.places ≤ 16) (λ bound. length core.places ≡ 16) × (text ≡ core_lines told core)
+    (core : Core) × IsFound profile bad answers core × MatchOption core.rest (length core.places ≤ 16) (λ bound. length core.places ≡ 16) × TellsCore profile bad answers told core text
 
 -- the text is the reason of an answer that is refused, by its class
 abbrev pub IsReason : Profile → List Paired → Paired → Class → List ℕ → Type 0
-IsReason profile accepted pair OutOfPlace text = text ≡ option_map_or misfit_line (misfit profile (visible_left accepted) (asked_at pair.line) pair.response) []
+IsReason profile accepted pair OutOfPlace text =
+    text ≡ option_map_or (unfitting_lines (placed_of accepted) (cited accepted) pair.response) (misfit profile (visible_left accepted) (asked_at pair.line) pair.response) []
 IsReason profile accepted pair Contradiction text = IsConflictOf profile (placed_behind accepted pair) (placed_of accepted) (cited accepted) text
 IsReason profile accepted pair class text = text ≡ []
 

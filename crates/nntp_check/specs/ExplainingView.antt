@@ -1,10 +1,11 @@
 -- What the values of src/standing.rt and src/explainer.rt mean.
 use Rattle.std.specs.Prelude.{◌≡◌, ℕ, List, [], ◌∷◌, ◌++◌, map, Option}
-use Rattle.std.specs.Option.{option_copied, option_map}
+use Rattle.std.specs.Option.{option_copied, option_map, option_map_or}
+use Rattle.nntp_article.specs.Session.Misfit.{misfit}
 use Rattle.nntp_article.specs.declared.session.profile.Profile.{Profile}
 use Rattle.nntp_pair.specs.Pairing.{Paired, Unpaired, asked_at, streams}
 use Rattle.nntp_facts.specs.Conflict.{Placed, placed_of}
-use Rattle.nntp_facts.specs.Noted.{FactsKept, HasNoted}
+use Rattle.nntp_facts.specs.Noted.{FactsKept, HasNoted, profile_kept}
 use Rattle.nntp_facts.specs.Reading.{Judged, accepted_of, AreJudged}
 use Rattle.nntp_check.specs.declared.standing.Standing.{Standing as StandingCode}
 use Rattle.nntp_check.specs.declared.standing.Cited.{Cited as CitedCode}
@@ -12,6 +13,7 @@ use Rattle.nntp_check.specs.declared.explainer.Explainer.{Explainer}
 use Rattle.nntp_facts.specs.declared.position.Position.{Position}
 use Rattle.nntp_check.specs.Standing.{Standing, Cited, standing, standing_after, cited, cited_at, closing}
 use Rattle.nntp_check.specs.Explaining.{AreExplained, count_bad}
+use Rattle.nntp_check.specs.Reasons.{unfitting_lines}
 
 -- where a session stands, without where the name lies in memory
 abbrev pub standing_of : StandingCode → Standing
@@ -38,6 +40,11 @@ placed_at stands position pair = record { selected = option_map (λ s. s.name) s
 abbrev pub keeps : Position → Paired → Kept → Kept
 keeps position pair k =
     record k { placed = k.placed ++ placed_at k.stands position pair ∷ []; cited = k.cited ++ cited_at k.stands pair ∷ []; stands = standing_after k.stands pair }
+
+-- why an answer doesn't fit what is kept
+abbrev pub unfitting_told : Kept → Paired → List ℕ
+unfitting_told k pair =
+    option_map_or (unfitting_lines k.placed k.cited pair.response) (misfit (profile_kept k.facts) k.facts.visible (asked_at pair.line) pair.response) []
 
 -- answers of both streams were judged, this is kept of them, and this is told; and then this is left
 pub record AreTold (profile : Profile) (client server : List ℕ) (kept : Kept) (text : List ℕ) (left : Unpaired) : Type 0 where

@@ -8,6 +8,8 @@ pub mod Show
 pub mod Showing
 pub mod Standing
 pub mod Reasons
+pub mod Says
+pub mod SaysView
 pub mod Explaining
 pub mod ExplainingView
 pub mod Faults

@@ -1,7 +1,8 @@
 -- What `explain` prints of why an answer is bad.
-use Rattle.std.specs.Prelude.{ℕ, ◌-◌, List, [], ◌∷◌, ◌++◌, Option, None, Some, slice_get, codes, decimal}
+use Rattle.std.specs.Prelude.{ℕ, suc, ◌-◌, ◌==◌, ◌&&◌, Bool, false, if◌then◌else◌, List, [], ◌∷◌, ◌++◌, Option, None, Some, slice_get, codes, decimal}
 use Rattle.std.specs.List.{flat_map}
 use Rattle.std.specs.Option.{option_map, option_map_or}
+use Rattle.nntp_wire.specs.Answer.{Response, group_is, numbers_are}
 use Rattle.nntp_wire.specs.declared.misspelling.Misspelling.{Misspelling}
 use Rattle.nntp_wire.specs.declared.misspelling.Misspelling.TheVariants.{WrongOctet, TooLong, NoCode, WrongArgument, WrongLine, WrongBlock}
 use Rattle.nntp_wire.specs.declared.misspelling.Due.{Due}
@@ -14,7 +15,9 @@ use Rattle.nntp_facts.specs.declared.position.Position.{Position}
 use Rattle.nntp_facts.specs.declared.position.Position.TheVariants.{Nowhere, First, Known}
 use Rattle.nntp_check.specs.Judging.{shown}
 use Rattle.nntp_check.specs.Report.{escaped, command_line}
-use Rattle.nntp_facts.specs.Conflict.{Core}
+use Rattle.nntp_article.specs.Session.Machine.{is_same}
+use Rattle.nntp_article.specs.Session.Spool.{Name}
+use Rattle.nntp_facts.specs.Conflict.{Placed, Core, Point, Step, Group, Number as NumberOf, Count, First as FirstNumber, IdOf, PlaceOf, Article, HeadOf, BodyOf}
 use Rattle.nntp_check.specs.Standing.{Standing, Cited}
 
 -- ---- where the session stands
@@ -126,3 +129,42 @@ rest_line answers (Some bound) = codes "because some of " ++ decimal (index_at a
 -- the answers of a core, or of the end of one
 abbrev pub core_lines : List Cited → Core → List ℕ
 core_lines answers core = rest_line answers core.rest ++ flat_map (because_at answers) core.places
+
+-- ---- which answer gave a group its low mark
+
+-- the response gives the group this low mark (RFC 3977, section 6.1.1.2)
+abbrev pub gives_low : Name → ℕ → Response → Bool
+gives_low name low (group_is m g) = is_same g name && m.low == low
+gives_low name low (numbers_are m g lines) = is_same g name && m.low == low
+gives_low name low response = false
+
+-- the place of the first answer that gives it
+abbrev pub low_giver : Name → ℕ → List Placed → Option ℕ
+low_giver name low [] = None
+low_giver name low (a ∷ answers) = if gives_low name low a.response then Some 0 else option_map suc (low_giver name low answers)
+
+-- the answer that gave the group of a 211 a low mark, as it is cited
+abbrev pub giver_lines : List Placed → List Cited → Response → ℕ → List ℕ
+giver_lines answers told (group_is m name) low = option_map_or (because_at told) (low_giver name low answers) []
+giver_lines answers told (numbers_are m name lines) low = option_map_or (because_at told) (low_giver name low answers) []
+giver_lines answers told response low = []
+
+-- why a response doesn't fit behind these answers; where its low mark is below an earlier one, the answer that gave that one too
+abbrev pub unfitting_lines : List Placed → List Cited → Response → Misfit → List ℕ
+unfitting_lines answers told response (below_low low) = misfit_line (below_low low) ++ giver_lines answers told response low
+unfitting_lines answers told response why = misfit_line why
+
+-- ---- what it conflicts about
+
+-- the line of what a bad answer and those of a core conflict about
+abbrev pub about_line : Point → List ℕ
+about_line (Step name) = octets_line (codes "about step ") name
+about_line (Group name) = octets_line (codes "about group ") name
+about_line (NumberOf name n) = codes "about number " ++ escaped name ++ number_line (codes " ") n
+about_line (Count name) = octets_line (codes "about count ") name
+about_line (FirstNumber name) = octets_line (codes "about first ") name
+about_line (IdOf name n) = codes "about id " ++ escaped name ++ number_line (codes " ") n
+about_line (PlaceOf name id) = codes "about place " ++ escaped name ++ octets_line (codes " ") id
+about_line (Article id) = octets_line (codes "about article ") id
+about_line (HeadOf id) = octets_line (codes "about head ") id
+about_line (BodyOf id) = octets_line (codes "about body ") id

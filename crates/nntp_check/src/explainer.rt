@@ -1,5 +1,5 @@
 //! A session read to its end, behind bad answers too, and what is bad of it.
-ghost use Rattle.std.specs.Prelude.{◌≡◌, ◌≢◌, ◌==◌, ℕ, ◌+◌, ◌<◌, ◌≤◌, ◌^◌, List, [], ◌∷◌, ◌++◌, length, map, nat_lt, OnOk, IfOk, count_by, drop, is_some};
+ghost use Rattle.std.specs.Prelude.{◌≡◌, ◌≢◌, ◌==◌, ℕ, ◌+◌, ◌<◌, ◌≤◌, ◌^◌, List, [], ◌∷◌, ◌++◌, length, map, nat_lt, OnOk, IfOk, MatchOption, count_by, drop, is_some};
 ghost use Rattle.std.specs.List.{AllByRecursion};
 ghost use Rattle.std.specs.Option.{option_copied, option_map, option_map_or};
 ghost use Rattle.nntp_wire.specs.Misspelling.{misspelling};
@@ -9,22 +9,24 @@ ghost use Rattle.nntp_article.specs.Session.Misfit.{misfit};
 ghost use Rattle.nntp_article.specs.declared.session.profile.Profile.{Profile};
 ghost use Rattle.nntp_pair.specs.Pairing.{Unpaired, IsNext, Ends, end, bad, asked_at, line_ahead, streams};
 ghost use Rattle.nntp_pair.specs.declared.class.PairClass.TheVariants.{Malformed};
-ghost use Rattle.nntp_facts.specs.Conflict.{FitsThere, SomeHas, told_with, below};
+ghost use Rattle.nntp_facts.specs.Conflict.{FitsThere, IsFound, SomeHas, told_with, below};
 ghost use Rattle.nntp_facts.specs.declared.class.Class.TheVariants.{Malformed as MalformedClass, OutOfPlace, Contradiction};
 ghost use Rattle.nntp_facts.specs.Classes.{class_of};
 ghost use Rattle.nntp_facts.specs.Noted.{profile_kept};
-ghost use Rattle.nntp_check.specs.Explaining.{bad_lines, end_line, place_lines, IsConflictOf, IsEndReason, IsTold};
-ghost use Rattle.nntp_check.specs.ExplainingView.{cited_of, kept_of, keeps, placed_at, standing_of, GoesOn, HasTold};
+ghost use Rattle.nntp_check.specs.Explaining.{bad_lines, end_line, place_lines, IsConflictOf, IsEndReason, IsTold, TellsCore};
+ghost use Rattle.nntp_check.specs.ExplainingView.{cited_of, kept_of, keeps, placed_at, standing_of, unfitting_told, GoesOn, HasTold};
 ghost use Rattle.nntp_check.specs.Judging.{IsFirstLine};
-ghost use Rattle.nntp_check.specs.Reasons.{misfit_line, misspelling_line};
+ghost use Rattle.nntp_check.specs.Reasons.{misspelling_line};
 ghost use Rattle.nntp_check.specs.Run.{ExplainReports};
 
+use crate::conflict::put_conflict;
 use crate::judge::{first_line, shown, shown_line};
 use crate::printing::put_number;
-use crate::reasons::{put_core, put_cut, put_misfit, put_misspelling, put_standing, put_surplus};
+use crate::reasons::{put_core, put_cut, put_misspelling, put_standing, put_surplus};
 use crate::report::put_bad_answer;
 use crate::standing::{Cited, Standing, note_closing, standing_after};
-use nntp_facts::{Class, Core, Facts, Noted, Placed, Position};
+use crate::unfitting::put_unfitting;
+use nntp_facts::{Class, Conflict, Core, Facts, Noted, Placed, Position};
 use nntp_pair::{Ahead, Exchange, MalformedFrame, PairClass, Pairs, Step};
 use nntp_wire::{GroupName, Limit, Marks, Misspelling};
 use std::alloc::{AllocError, Allocator};
@@ -169,7 +171,7 @@ impl<'a, A: Allocator + Copy> Explainer<'a, A> {
         requires { self.old.bad ≤ exchange.now.index }
         ensures kept { OnOk result (kept_of self.new ≡ record (kept_of self.old) { bad = self.old.bad + 1 }) }
         ensures text { OnOk result (GoesOn (IsTold self.old.bad (option_map standing_of self.old.standing) exchange.now.index OutOfPlace exchange.now.line exchange.now.initial
-            (λ reason. reason ≡ option_map_or misfit_line (misfit (profile_kept self.old.facts) self.old.facts.visible (asked_at exchange.now.line) exchange.now.response) []))
+            (λ reason. reason ≡ unfitting_told (kept_of self.old) exchange.now))
             self.old.text.items self.new.text.items) }
     {
         let line = exchange.line();
@@ -179,7 +181,14 @@ impl<'a, A: Allocator + Copy> Explainer<'a, A> {
             line,
             exchange.initial(),
         )? {
-            put_unfitting(&mut self.text, &self.facts, exchange)?;
+            let reason = self.facts.misfit(exchange)?;
+            put_unfitting(
+                &mut self.text,
+                &self.placed,
+                &self.cited,
+                exchange.answer(),
+                reason,
+            )?;
         }
         Ok(())
     }
@@ -213,7 +222,37 @@ impl<'a, A: Allocator + Copy> Explainer<'a, A> {
         let limit = self.facts.limit();
         let marks = self.facts.marks();
         let core = Core::find(self.alloc, limit, marks, &self.placed, &bad, CITED)?;
-        put_core(&mut self.text, &self.cited, &core)
+        self.put_found(&bad, &core)
+    }
+
+    /// Tells with which of the accepted answers the bad one conflicts, and where these are all of them, about what.
+    fn put_found(&mut self, bad: &Placed<'a>, core: &Core<A>) -> Result<(), AllocError>
+        requires fit { AllByRecursion (FitsThere (profile_kept self.old.facts)) (bad.now ∷ self.old.placed.items) }
+        requires found { IsFound (profile_kept self.old.facts) bad.now self.old.placed.items core.now }
+        requires most { MatchOption core.now.rest (length core.now.places ≤ 16) (λ bound. length core.now.places ≡ 16) }
+        ensures kept { OnOk result (kept_of self.new ≡ kept_of self.old) }
+        ensures text { OnOk result (GoesOn (TellsCore (profile_kept self.old.facts) bad.now self.old.placed.items (map cited_of self.old.cited.items) core.now)
+            self.old.text.items self.new.text.items) }
+    {
+        if core.rest().is_some() {
+            return put_core(&mut self.text, &self.cited, core);
+        }
+        let limit = self.facts.limit();
+        let marks = self.facts.marks();
+        let places = core.places();
+        let conflict = Conflict::of(self.alloc, limit, marks, &self.placed, bad, places)?;
+        match conflict.point()? {
+            Some(point) => put_conflict(
+                &mut self.text,
+                marks,
+                point,
+                bad,
+                &self.placed,
+                &self.cited,
+                places,
+            ),
+            None => unreachable!(),
+        }
     }
 
     /// Tells that the frame at this place spells nothing.
@@ -318,21 +357,6 @@ impl<'a, A: Allocator + Copy> Explainer<'a, A> {
             text: self.text,
             is_without_fault: bad == 0,
         })
-    }
-}
-
-/// Adds why the answer of an exchange doesn't fit what the accepted ones leave visible.
-fn put_unfitting<A: Allocator + Copy>(
-    text: &mut Vec<u8, A>,
-    facts: &Facts<A>,
-    exchange: &Exchange<'_>,
-) -> Result<(), AllocError>
-    ensures { OnOk result (text.new.items ≡ text.old.items
-        ++ option_map_or misfit_line (misfit (profile_kept facts.now) facts.now.visible (asked_at exchange.now.line) exchange.now.response) []) }
-{
-    match facts.misfit(exchange)? {
-        Some(misfit) => put_misfit(text, misfit),
-        None => Ok(()),
     }
 }
 

@@ -4,7 +4,9 @@ ghost use Rattle.std.specs.List.{flat_map};
 ghost use Rattle.std.specs.Option.{option_map};
 ghost use Rattle.nntp_wire.specs.Lines.{lines_of_stream};
 ghost use Rattle.nntp_article.specs.Session.MisfitView.{why};
-ghost use Rattle.nntp_check.specs.Reasons.{current_text, standing_line, allowed_text, misfit_line, misspelling_line, cut_line, surplus_lines, due_word, fault_word, number_line, core_lines, rest_line, index_at, because_at, because_lines};
+ghost use Rattle.nntp_facts.specs.PointView.{point_of};
+ghost use Rattle.nntp_check.specs.Report.{escaped};
+ghost use Rattle.nntp_check.specs.Reasons.{about_line, current_text, standing_line, allowed_text, misfit_line, misspelling_line, cut_line, surplus_lines, due_word, fault_word, number_line, core_lines, rest_line, index_at, because_at, because_lines};
 ghost use Rattle.nntp_check.specs.ExplainingView.{standing_of, cited_of};
 
 use crate::judge::{shown, shown_line};
@@ -12,7 +14,7 @@ use crate::printing::{put_escaped, put_escaped_line, put_number};
 use crate::report::put_command;
 use crate::standing::{Cited, Standing};
 use nntp_article::Misfit;
-use nntp_facts::{Core, Position};
+use nntp_facts::{Core, Point, Position};
 use nntp_wire::{Due, LineFault, Misspelling, split_first_line};
 use std::alloc::{AllocError, Allocator};
 
@@ -217,6 +219,48 @@ fn put_codes<A: Allocator + Copy>(text: &mut Vec<u8, A>, found: &[u64]) -> Resul
     Ok(())
 }
 
+/// Adds the line of what a bad answer and accepted ones conflict about.
+pub(crate) fn put_point<A: Allocator + Copy>(
+    text: &mut Vec<u8, A>,
+    point: &Point<'_>,
+) -> Result<(), AllocError>
+    ensures { OnOk result (text.new.items ≡ text.old.items ++ about_line (point_of point.now)) }
+{
+    match point {
+        Point::Step(name) => put_escaped_line(text, b"about step ", *name),
+        Point::Group(name) => put_escaped_line(text, b"about group ", name.as_slice()),
+        Point::Number { name, number } => {
+            put_named(text, b"about number ", *name)?;
+            put_number_line(text, b" ", *number)
+        }
+        Point::Count(name) => put_escaped_line(text, b"about count ", *name),
+        Point::First(name) => put_escaped_line(text, b"about first ", *name),
+        Point::IdOf { name, number } => {
+            put_named(text, b"about id ", *name)?;
+            put_number_line(text, b" ", *number)
+        }
+        Point::PlaceOf { name, id } => {
+            put_named(text, b"about place ", *name)?;
+            put_escaped_line(text, b" ", *id)
+        }
+        Point::Article(id) => put_escaped_line(text, b"about article ", *id),
+        Point::HeadOf(id) => put_escaped_line(text, b"about head ", *id),
+        Point::BodyOf(id) => put_escaped_line(text, b"about body ", *id),
+    }
+}
+
+/// Adds a label and a name.
+fn put_named<A: Allocator + Copy>(
+    text: &mut Vec<u8, A>,
+    label: &[u8],
+    name: &[u8],
+) -> Result<(), AllocError>
+    ensures { OnOk result (text.new.items ≡ text.old.items ++ (label.now ++ escaped name.now)) }
+{
+    text.extend_from_slice(label)?;
+    put_escaped(text, name)
+}
+
 /// Adds the answers of a core, or of the end of one.
 pub(crate) fn put_core<A: Allocator + Copy>(
     text: &mut Vec<u8, A>,
@@ -271,7 +315,7 @@ fn put_places<A: Allocator + Copy>(
 }
 
 /// Adds the answer at a place, if one is there.
-fn put_place<A: Allocator + Copy>(
+pub(crate) fn put_place<A: Allocator + Copy>(
     text: &mut Vec<u8, A>,
     answers: &[Cited<'_>],
     place: usize,

@@ -29,7 +29,9 @@ pub mod ShownNames
 pub mod ListedNames
 pub mod BoundGroups
 pub mod UnseenNumbers
+pub mod ConflictsOfNumbers
 pub mod GroupReaders
 pub mod ArticleReaders
 pub mod ToldAnswers
+pub mod FewTold
 pub mod CoresFound

@@ -1,5 +1,5 @@
 -- With which earlier answers a bad answer conflicts.
-use Rattle.std.specs.Prelude.{◌≡◌, ℕ, zero, suc, ◌+◌, ◌<◌, ◌≤◌, not, List, [], ◌∷◌, ◌++◌, length, Option, None, Some, IsTrue, slice_get, ⊤, Contains, MatchOption}
+use Rattle.std.specs.Prelude.{◌≡◌, ℕ, zero, suc, ◌+◌, ◌<◌, ◌≤◌, not, List, [], ◌∷◌, ◌++◌, length, Option, None, Some, IsTrue, IsFalse, slice_get, ⊤, Contains, MatchOption}
 use Rattle.std.specs.List.{AllByRecursion, flat_map, list_any}
 use Rattle.std.specs.Option.{option_map_or}
 use Rattle.nntp_wire.specs.Answer.{Asked, Response}
@@ -148,6 +148,10 @@ pub data Point : Type 0 where
   Article : (id : Id) → Point  -- whether the id has an article
   HeadOf : (id : Id) → Point  -- which head the article has
   BodyOf : (id : Id) → Point  -- which body the article has
+
+-- no known number is denied
+abbrev pub AreApart : List Ask → Type 0
+AreApart asks = (n : ℕ) → IsTrue (is_known asks n) → IsFalse (is_denied asks n)
 
 -- the given numbers are more than is estimated
 abbrev pub AreTooMany : List Ask → Type 0

@@ -97,6 +97,15 @@ is_settled NotEmpty found free count estimate = is_within estimate count
 is_settled d Single free count estimate = is_within estimate count
 is_settled d Several free count estimate = false
 
+-- the demand is met by the numbers that are known, of which it wants so many
+abbrev pub is_met : Demand → HowMany → Bool
+is_met NoDemand found = true
+is_met Impossible found = false
+is_met d Absent = false
+is_met NotEmpty found = true
+is_met d Single = true
+is_met d Several = false
+
 -- there are so many numbers that pass the test
 abbrev pub AreCounted : (ℕ → Bool) → ℕ → Type 0
 AreCounted p c = (M : Numbers) × ((n : ℕ) → IsNumber M n ↔ IsTrue (p n)) × (len M ≡ c)
@@ -134,6 +143,13 @@ pub record LooksAfter (s : Summary) (p : Said) (d : Demand) (w : HowMany) (f : O
   pub tally : IsTally (known_after s p) d w c
   pub free : FirstFreeBelow (denied_after s.denied p) f
   pub estimate : (n : ℕ) → is_within e n ≡ (is_within s.estimate n && is_within p.estimate n)
+
+-- ---- the parts of it, each by itself
+
+-- the number is one of those that pass the test, and is denied; or none of them is, all of which are below 2^64
+abbrev pub DeniedAmong : (ℕ → Bool) → List (ℕ × ℕ) → Option ℕ → Type 0
+DeniedAmong p denied found =
+    MatchOption found ((n : ℕ) → p n ≡ true → (n < 2 ^ 64) × (holds denied n ≡ false)) (λ n. (p n ≡ true) × (holds denied n ≡ true))
 
 -- ---- the intervals that numbers leave
 

@@ -18,7 +18,8 @@ mod known;
 mod shown_articles;
 
 use crate::saying::{ArticlePart, OfArticle};
-use known::{Known, KnownArticle, Sent};
+pub(crate) use known::Sent;
+use known::{Known, KnownArticle};
 use nntp_wire::{Block, What};
 pub use shown_articles::{ShownArticle, ShownArticles};
 use std::alloc::{AllocError, Allocator, Global};

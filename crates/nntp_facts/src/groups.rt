@@ -18,6 +18,7 @@ use crate::group::Group;
 use crate::joins::Joins;
 use crate::saying::GroupPart;
 use crate::shown_groups::ShownGroups;
+pub(crate) use listed::{is_unlisted, names_of};
 use std::alloc::{AllocError, Allocator, Global};
 use std::collections::BTreeMap;
 use std::marker::Model;

@@ -10,6 +10,8 @@ ghost use Rattle.nntp_facts.specs.Given.{join};
 ghost use Rattle.nntp_facts.specs.Readers.{known_ends_in, unless_shown, one_more_in, unseen_in, unseen_high_in};
 ghost use Rattle.nntp_facts.specs.Summary.{IsSummary, AreBounded, ends_after, denied_after, is_open, FirstFreeBelow, has_room, is_settled};
 
+mod conflict;
+
 use crate::demand::Demand;
 use crate::ends::{self, Ends};
 use crate::gaps::deny_gaps;

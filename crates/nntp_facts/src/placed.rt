@@ -1,9 +1,10 @@
 //! Exchanges where they stand.
-ghost use Rattle.std.specs.Prelude.{◌≡◌, ◌<◌, ◌^◌, [], option_map, unwrap_or};
+ghost use Rattle.std.specs.Prelude.{◌≡◌, ◌<◌, ◌^◌, [], option_map, unwrap_or, IfSome};
 ghost use Rattle.std.specs.List.{AllByRecursion};
 ghost use Rattle.nntp_wire.specs.declared.marks.Marks.{Marks};
 ghost use Rattle.nntp_wire.specs.AnswerView.{response};
 ghost use Rattle.nntp_wire.specs.View.{asked};
+ghost use Rattle.nntp_wire.specs.Name.{IsGroupName};
 ghost use Rattle.nntp_article.specs.Session.Machine.{Visible};
 ghost use Rattle.nntp_facts.specs.Facts.{facts_of};
 ghost use Rattle.nntp_facts.specs.Together.{IsWellFormed};
@@ -59,8 +60,9 @@ impl<'a> Placed<'a> {
     }
 
     /// Returns the octets of the name of the selected group, or none if no group is selected.
-    pub(crate) fn selected_name(&self) -> &'a [u8]
-        ensures { result.now ≡ unwrap_or self.now.selected [] }
+    pub fn selected_name(&self) -> &'a [u8]
+        ensures value { result.now ≡ unwrap_or self.now.selected [] }
+        ensures is_name { IfSome self.now.selected IsGroupName }
     {
         match &self.selected {
             Some(name) => name.as_slice(),
@@ -69,21 +71,21 @@ impl<'a> Placed<'a> {
     }
 
     /// Returns the position at which the session stands.
-    pub(crate) fn position(&self) -> Position
+    pub fn position(&self) -> Position
         ensures { result ≡ self.now.position }
     {
         self.position
     }
 
     /// Returns what is answered.
-    pub(crate) fn prompt(&self) -> &Prompt<'a>
+    pub fn prompt(&self) -> &Prompt<'a>
         ensures { asked result.now ≡ self.now.asked }
     {
         self.exchange.prompt()
     }
 
     /// Returns what the response says.
-    pub(crate) fn answer(&self) -> &Answer<'a>
+    pub fn answer(&self) -> &Answer<'a>
         ensures value { response result.now ≡ self.now.response }
         ensures few_lines { lines_in self.now.response < 2 ^ 64 }
         ensures well_formed { (how : Marks) (v : Visible) (at : Position) → AllByRecursion IsWellFormed (facts_of how v at self.now.asked self.now.response) }

@@ -1,4 +1,5 @@
 //! Want of memory in a run: nothing is written, and the exit status is 3.
+use crate::explanations::POINTS;
 use crate::runs::{CAPTURE, CHECK, REPORT, Run, VERIFY};
 use crate::trials::Trial;
 use nntp_check::{Failure, Kind, ReadFault, RunFault, Task, run_task, status};
@@ -134,6 +135,11 @@ fn runs_that_show_sessions(rt: HostRuntime) -> Result<(), Fail> {
 #[test]
 fn runs_that_explain_sessions(rt: HostRuntime) -> Result<(), Fail> {
     Ok(Trial::RefuseMemory.explained(&rt, rt.alloc())?)
+}
+
+#[test]
+fn runs_that_explain_each_kind_of_point(rt: HostRuntime) -> Result<(), Fail> {
+    Ok(Trial::RefuseMemory.reports(&rt, rt.alloc(), POINTS)?)
 }
 
 #[test]

@@ -52,7 +52,7 @@ const NO_HEADS: &[u8] = b"200 hi\r\n\
 223 0 <a@b>\r\n\
 430 no\r\n";
 
-pub(crate) const SHOWN: [Reported; 16] = [
+pub(crate) const SHOWN: &[Reported] = &[
     Reported {
         name: "a control message on two lines",
         task: Task::Show,

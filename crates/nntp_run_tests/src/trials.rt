@@ -1,5 +1,5 @@
 //! Trials of the runs over worked sessions, and over those that are shown.
-use crate::explanations::EXPLAINED;
+use crate::explanations::{CONFLICTS, ENDINGS, FAULTLESS, MISFITS, MISSPELLINGS};
 use crate::memory;
 use crate::reported::Reported;
 use crate::runs::Run;
@@ -104,20 +104,31 @@ impl Trial {
         Ok(())
     }
 
-    /// Tries the runs over each session that is shown.
-    pub(crate) fn shown(self, rt: &impl Abort, alloc: Global) -> Result<(), Fail> {
-        for session in SHOWN {
-            self.report(rt, alloc, &session)?;
+    /// Tries the runs over these sessions.
+    pub(crate) fn reports(
+        self,
+        rt: &impl Abort,
+        alloc: Global,
+        sessions: &[Reported],
+    ) -> Result<(), Fail> {
+        for session in sessions {
+            self.report(rt, alloc, session)?;
         }
         Ok(())
     }
 
-    /// Tries the runs over each session that is explained.
+    /// Tries the runs over each session that is shown.
+    pub(crate) fn shown(self, rt: &impl Abort, alloc: Global) -> Result<(), Fail> {
+        self.reports(rt, alloc, SHOWN)
+    }
+
+    /// Tries the runs over each session that is explained, but the two that go through all kinds of conflicts.
     pub(crate) fn explained(self, rt: &impl Abort, alloc: Global) -> Result<(), Fail> {
-        for session in EXPLAINED {
-            self.report(rt, alloc, &session)?;
-        }
-        Ok(())
+        self.reports(rt, alloc, FAULTLESS)?;
+        self.reports(rt, alloc, MISFITS)?;
+        self.reports(rt, alloc, MISSPELLINGS)?;
+        self.reports(rt, alloc, ENDINGS)?;
+        self.reports(rt, alloc, CONFLICTS)
     }
 
     /// Tries all of these runs.

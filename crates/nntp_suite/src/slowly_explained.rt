@@ -25,6 +25,8 @@ struct Explained {
     alloc: Global,
     lines: Vec<u8>,
     conflicts: Vec<Conflict>,
+    /// Whether the last bad answer so far is a contradiction.
+    is_in_conflict: bool,
 }
 
 impl Explained {
@@ -34,6 +36,7 @@ impl Explained {
             alloc,
             lines: Vec::new(alloc),
             conflicts: Vec::new(alloc),
+            is_in_conflict: false,
         };
         let mut line = Vec::new(alloc);
         for octet in report {
@@ -56,6 +59,9 @@ impl Explained {
         if let Some(rest) = line.strip_prefix(b"bad answer ") {
             return self.add_bad(rest);
         }
+        if !self.is_in_conflict {
+            return Ok(());
+        }
         if let Some(conflict) = self.conflicts.last_mut() {
             if let Some(index) = line.strip_prefix(b"because answer ") {
                 conflict.reasons.push(number(index).unwrap_or(0))?;
@@ -72,7 +78,8 @@ impl Explained {
         let (Some(index), Some(class)) = (words.next(), words.next()) else {
             return Ok(());
         };
-        if class != b"Contradiction".as_slice() {
+        self.is_in_conflict = class == b"Contradiction".as_slice();
+        if !self.is_in_conflict {
             return Ok(());
         }
         self.conflicts.push(Conflict {

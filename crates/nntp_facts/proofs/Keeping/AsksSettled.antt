@@ -1,17 +1,18 @@
 -- Whether what is asked stands together, from what is shown, the first free number, how many there are, and the demand.
-use Rattle.std.proofs.Common.{◌≡◌, ℕ, ◌+◌, true, false, ◌&&◌, IsTrue, List, [], ◌∷◌, Option, None, Some, inl, inr, refl, sym, ap, subst, ◌∙◌}
-use Rattle.std.specs.Prelude.{IsFalse, ◌↔◌}
+use Rattle.std.proofs.Common.{◌≡◌, ◌⊎◌, ℕ, ◌+◌, true, false, ◌&&◌, IsTrue, List, [], ◌∷◌, Option, None, Some, inl, inr, refl, sym, ap, subst, ◌∙◌}
+use Rattle.std.specs.Prelude.{◌↔◌}
 use Rattle.std.specs.List.{AllByRecursion}
 use Rattle.std.specs.FinMap.{len, insert}
 use Rattle.std.proofs.lemmas.Bool.{true≢false, and_parts, and_from, false_from_ne_true, ltb-true, lt-ltb, le-leb, leb-true}
 use Rattle.nntp_article.specs.Session.Spool.{Numbers, IsNumber}
 use Rattle.nntp_facts.specs.Asks.{Ask, Estimates}
+use Rattle.nntp_facts.specs.Conflict.{AreApart}
 use Rattle.nntp_facts.specs.Given.{is_known, is_denied, demand, wants, IsOneMore, IsGivenNumber, HasGivenNumbers}
 use Rattle.nntp_facts.specs.declared.demand.Demand.{Demand}
 use Rattle.nntp_facts.specs.declared.demand.Demand.TheVariants.{NoDemand, NotEmpty, OnlyOne, SecondIs, Impossible}
 use Rattle.nntp_facts.specs.Together.{is_possible, MeetsDemand, IsFewFor, AsksStand}
 use Rattle.nntp_facts.specs.Part.{estimate_in, is_within, is_within_all}
-use Rattle.nntp_facts.specs.Summary.{PassSoMany, FirstFree, has_room, is_settled, Looks}
+use Rattle.nntp_facts.specs.Summary.{PassSoMany, FirstFree, has_room, is_settled, is_met, Looks}
 use Rattle.nntp_facts.specs.declared.shown.HowMany.{HowMany}
 use Rattle.nntp_facts.specs.declared.shown.HowMany.TheVariants.{Absent, Single, Several}
 use Rattle.nntp_facts.proofs.GivenNumbers.FirstFreeNumber.{first_free_once}
@@ -34,15 +35,11 @@ pub few_for : (N : Numbers) (asks : List Ask) → IsTrue (is_within_all asks (le
 few_for N [] t = tt
 few_for N (ask ∷ asks) t = let p = and_parts (is_within (estimate_in ask) (len N)) (is_within_all asks (len N)) t in (few_for_one N ask p.0, few_for N asks p.1)
 
-within_all : (N : Numbers) (asks : List Ask) → AllByRecursion (IsFewFor N) asks → is_within_all asks (len N) ≡ true
+pub within_all : (N : Numbers) (asks : List Ask) → AllByRecursion (IsFewFor N) asks → is_within_all asks (len N) ≡ true
 within_all N [] h = refl
 within_all N (ask ∷ asks) h = and_from (is_within (estimate_in ask) (len N)) (is_within_all asks (len N)) (within_one N ask h.0) (within_all N asks h.1)
 
 -- ---- the demand
-
--- nothing that is known is denied
-abbrev pub AreApart : List Ask → Type 0
-AreApart asks = (n : ℕ) → IsTrue (is_known asks n) → IsFalse (is_denied asks n)
 
 -- each ask can be met
 abbrev pub ArePossible : List Ask → Type 0
@@ -50,7 +47,7 @@ ArePossible asks = AllByRecursion (λ ask. IsTrue (is_possible ask)) asks
 
 module _ (asks : List Ask) where
   -- what is shown
-  abbrev Shown : ℕ → Type 0
+  abbrev pub Shown : ℕ → Type 0
   Shown n = IsTrue (is_known asks n)
 
   -- there is a map of what is shown, with so many
@@ -62,11 +59,11 @@ module _ (asks : List Ask) where
   no_more met e x = let w = wanted_there Shown (demand asks) e met x.wanted in true≢false (sym w.2 ∙ x.needed w.0 w.1)
 
   -- what is given is as many as is shown
-  as_shown : (count : ℕ) → Counted count → ((e : ℕ) → IsOneMore asks e → ⊥) → (N : Numbers) → HasGivenNumbers asks N → len N ≡ count
+  pub as_shown : (count : ℕ) → Counted count → ((e : ℕ) → IsOneMore asks e → ⊥) → (N : Numbers) → HasGivenNumbers asks N → len N ≡ count
   as_shown count (M, shown, is) none N given = as_many_given asks N M given (none_more asks M shown none) ∙ is
 
   -- or one more
-  as_more : (count e : ℕ) → Counted count → IsOneMore asks e → (N : Numbers) → HasGivenNumbers asks N → len N ≡ count + 1
+  pub as_more : (count e : ℕ) → Counted count → IsOneMore asks e → (N : Numbers) → HasGivenNumbers asks N → len N ≡ count + 1
   as_more count e (M, shown, is) x N given = as_many_given asks N (insert M e []) given (one_more_given asks M shown e x) ∙ one_more_counted asks M shown e x ∙ ap (λ n. n + 1) is
 
   -- there is a map of what is given
@@ -98,9 +95,23 @@ module _ (asks : List Ask) where
     few = λ N given. few_for N asks (ap (is_within_all asks) (as_more count e counted x N given) ∙ few);
   }
 
-  -- and no other
+  -- what is given meets the demand by what is shown, or by one more
+  pub met_by : MeetsDemand (demand asks) (IsGivenNumber asks) → MeetsDemand (demand asks) Shown ⊎ ((e : ℕ) × IsOneMore asks e)
+  met_by = by (demand asks) refl
+    where
+      by : (d : Demand) → demand asks ≡ d → MeetsDemand d (IsGivenNumber asks) → MeetsDemand d Shown ⊎ ((e : ℕ) × IsOneMore asks e)
+      by NoDemand is met = inl tt
+      by NotEmpty is (n, inl s) = inl (n, s)
+      by NotEmpty is (n, inr x) = inr (n, x)
+      by OnlyOne is (n, inl s, once) = inl (n, s, λ m t. once m (inl t))
+      by OnlyOne is (n, inr x, once) = inr (n, x)
+      by (SecondIs k) is (second, n, below, inl s, once) = inl (shown_known asks k (second_shown asks k is), n, below, s, λ m l t. once m l (inl t))
+      by (SecondIs k) is (second, n, below, inr x, once) = inr (n, x)
+      by Impossible is met = absurd met
+
+  -- so there is no other way
   pub ways : (count : ℕ) → Counted count → AsksStand asks → Ways count
-  ways count counted stand = by (demand asks) refl stand.demand_met
+  ways count counted stand = elim (met_by stand.demand_met) [ inl met ↦ shown met | inr x ↦ more x.0 x.1 ]
     where
       shown : MeetsDemand (demand asks) Shown → Ways count
       shown met =
@@ -113,21 +124,45 @@ module _ (asks : List Ask) where
           let N = given_of_more count e counted x in
           ByMore e x (ap (is_within_all asks) (sym (as_more count e counted x N.0 N.1)) ∙ within_all N.0 asks (stand.few N.0 N.1))
 
-      by : (d : Demand) → demand asks ≡ d → MeetsDemand d (IsGivenNumber asks) → Ways count
-      by NoDemand is met = shown (subst (λ d. MeetsDemand d Shown) (sym is) tt)
-      by NotEmpty is (n, inl s) = shown (subst (λ d. MeetsDemand d Shown) (sym is) (n, s))
-      by NotEmpty is (n, inr x) = more n x
-      by OnlyOne is (n, inl s, once) = shown (subst (λ d. MeetsDemand d Shown) (sym is) (n, s, λ m t. once m (inl t)))
-      by OnlyOne is (n, inr x, once) = more n x
-      by (SecondIs k) is (second, n, below, inl s, once) = shown (subst (λ d. MeetsDemand d Shown) (sym is) (shown_known asks k (second_shown asks k is), n, below, s, λ m l t. once m l (inl t)))
-      by (SecondIs k) is (second, n, below, inr x, once) = more n x
-      by Impossible is met = absurd met
-
 -- ---- the test
 
 -- a shown number that is wanted is found
 found_is : (asks : List Ask) (d : Demand) (n : ℕ) → IsTrue (is_known asks n) → wants d n ≡ true → ((m : ℕ) → (is_known asks m && wants d m) ≡ false) → ⊥
 found_is asks d n s w none = true≢false (sym (and_from (is_known asks n) (wants d n) s w) ∙ none n)
+
+-- where so many are wanted that they meet the demand, they meet it
+pub met_if : (asks : List Ask) (d : Demand) → d ≡ demand asks → (w : HowMany) → PassSoMany (λ n. is_known asks n && wants d n) w → is_met d w ≡ true → MeetsDemand d (Shown asks)
+met_if asks NoDemand is w found t = tt
+met_if asks Impossible is w found t = cc
+met_if asks NotEmpty is Absent found t = cc
+met_if asks NotEmpty is Single found t = (found.0, (and_parts (is_known asks found.0) true found.1).0)
+met_if asks NotEmpty is Several found t = (found.0, (and_parts (is_known asks found.0) true found.3).0)
+met_if asks OnlyOne is Absent found t = cc
+met_if asks OnlyOne is Single (n, here, once) t = (n, (and_parts (is_known asks n) true here).0, λ m s. once m (and_from (is_known asks m) true s refl))
+met_if asks OnlyOne is Several found t = cc
+met_if asks (SecondIs k) is Absent found t = cc
+met_if asks (SecondIs k) is Single (n, here, once) t =
+    let p = and_parts (is_known asks n) (wants (SecondIs k) n) here in
+    (shown_known asks k (second_shown asks k (sym is)), n, ltb-true n k p.1, p.0, λ m l s. once m (and_from (is_known asks m) (wants (SecondIs k) m) s (lt-ltb m k l)))
+met_if asks (SecondIs k) is Several found t = cc
+
+-- and back
+pub is_met_if : (asks : List Ask) (d : Demand) (w : HowMany) → PassSoMany (λ n. is_known asks n && wants d n) w → MeetsDemand d (Shown asks) → is_met d w ≡ true
+is_met_if asks NoDemand w found met = refl
+is_met_if asks Impossible w found met = absurd met
+is_met_if asks NotEmpty Absent found met = absurd (found_is asks NotEmpty met.0 met.1 refl found)
+is_met_if asks OnlyOne Absent found met = absurd (found_is asks OnlyOne met.0 met.1 refl found)
+is_met_if asks (SecondIs k) Absent found met = absurd (found_is asks (SecondIs k) met.1 met.3 (lt-ltb met.1 k met.2) found)
+is_met_if asks NotEmpty Single found met = refl
+is_met_if asks NotEmpty Several found met = refl
+is_met_if asks OnlyOne Single found met = refl
+is_met_if asks (SecondIs k) Single found met = refl
+is_met_if asks OnlyOne Several (n, m, apart, a, b) met =
+    absurd (apart (met.2 n (and_parts (is_known asks n) true a).0 ∙ sym (met.2 m (and_parts (is_known asks m) true b).0)))
+is_met_if asks (SecondIs k) Several (n, m, apart, a, b) met =
+    let p = and_parts (is_known asks n) (wants (SecondIs k) n) a in
+    let q = and_parts (is_known asks m) (wants (SecondIs k) m) b in
+    absurd (apart (met.4 n (ltb-true n k p.1) p.0 ∙ sym (met.4 m (ltb-true m k q.1) q.0)))
 
 module _ (asks : List Ask) (c : ℕ) (e : Option ℕ) (within : (n : ℕ) → is_within e n ≡ is_within_all asks n) where
   -- room for one more where nothing is found
@@ -156,27 +191,36 @@ module _ (asks : List Ask) (c : ℕ) (e : Option ℕ) (within : (n : ℕ) → is
       let p = and_parts (is_known asks n) (wants d n) t in
       true≢false (sym p.1 ∙ ap (λ d. wants d n) is ∙ x.needed n p.0)
 
+  -- by those that are known, where they meet the demand
+  by_known : (d : Demand) → d ≡ demand asks → (w : HowMany) → PassSoMany (λ n. is_known asks n && wants d n) w → is_met d w ≡ true → IsTrue (is_within e c) → Ways asks c
+  by_known d is w found met t = ByShown (subst (λ d. MeetsDemand d (Shown asks)) is (met_if asks d is w found met)) (sym (within c) ∙ t)
+
+  -- where they meet it, the test is whether there are few
+  few_settle : (d : Demand) (w : HowMany) (f : Option ℕ) → is_met d w ≡ true → is_settled d w f c e ≡ is_within e c
+  few_settle NoDemand w f met = refl
+  few_settle Impossible w f met = cc
+  few_settle NotEmpty Absent f met = cc
+  few_settle NotEmpty Single f met = refl
+  few_settle NotEmpty Several f met = refl
+  few_settle OnlyOne Absent f met = cc
+  few_settle OnlyOne Single f met = refl
+  few_settle OnlyOne Several f met = cc
+  few_settle (SecondIs k) Absent f met = cc
+  few_settle (SecondIs k) Single f met = refl
+  few_settle (SecondIs k) Several f met = cc
+
   module _ (f : Option ℕ) (free : FirstFree (is_denied asks) f) where
     -- the test that passes tells the way
     way : (d : Demand) → d ≡ demand asks → (w : HowMany) → PassSoMany (λ n. is_known asks n && wants d n) w → IsTrue (is_settled d w f c e) → Ways asks c
-    way NoDemand is w found t = ByShown (subst (λ d. MeetsDemand d (λ n. IsTrue (is_known asks n))) is tt) (sym (within c) ∙ t)
+    way NoDemand is w found t = by_known NoDemand is w found refl t
     way Impossible is w found t = cc
     way NotEmpty is Absent found t = more_of_room NotEmpty is found f free t
     way OnlyOne is Absent found t = more_of_room OnlyOne is found f free t
     way (SecondIs k) is Absent found t = more_of_room (SecondIs k) is found f free t
-    way NotEmpty is Single found t =
-        ByShown (subst (λ d. MeetsDemand d (λ n. IsTrue (is_known asks n))) is (found.0, (and_parts (is_known asks found.0) true found.1).0)) (sym (within c) ∙ t)
-    way NotEmpty is Several found t =
-        ByShown (subst (λ d. MeetsDemand d (λ n. IsTrue (is_known asks n))) is (found.0, (and_parts (is_known asks found.0) true found.3).0)) (sym (within c) ∙ t)
-    way OnlyOne is Single (n, here, once) t =
-        ByShown (subst (λ d. MeetsDemand d (λ n. IsTrue (is_known asks n))) is
-        (n, (and_parts (is_known asks n) true here).0, λ m s. once m (and_from (is_known asks m) true s refl)))
-        (sym (within c) ∙ t)
-    way (SecondIs k) is Single (n, here, once) t =
-        let p = and_parts (is_known asks n) (wants (SecondIs k) n) here in
-        ByShown (subst (λ d. MeetsDemand d (λ n. IsTrue (is_known asks n))) is
-        (shown_known asks k (second_shown asks k (sym is)), n, ltb-true n k p.1, p.0, λ m l s. once m (and_from (is_known asks m) (wants (SecondIs k) m) s (lt-ltb m k l))))
-        (sym (within c) ∙ t)
+    way NotEmpty is Single found t = by_known NotEmpty is Single found refl t
+    way NotEmpty is Several found t = by_known NotEmpty is Several found refl t
+    way OnlyOne is Single found t = by_known OnlyOne is Single found refl t
+    way (SecondIs k) is Single found t = by_known (SecondIs k) is Single found refl t
     way OnlyOne is Several found t = cc
     way (SecondIs k) is Several found t = cc
 
@@ -196,27 +240,7 @@ module _ (asks : List Ask) (c : ℕ) (e : Option ℕ) (within : (n : ℕ) → is
         by OnlyOne is Several found = absurd (not_needed OnlyOne is found.0 found.3 n x)
         by (SecondIs k) is Single found = absurd (not_needed (SecondIs k) is found.0 found.1 n x)
         by (SecondIs k) is Several found = absurd (not_needed (SecondIs k) is found.0 found.3 n x)
-    test d is w found (ByShown met few) = by d w found (subst (λ d. MeetsDemand d (λ n. IsTrue (is_known asks n))) (sym is) met)
-      where
-        enough : is_within e c ≡ true
-        enough = within c ∙ few
-
-        by : (d : Demand) → (w : HowMany) → PassSoMany (λ n. is_known asks n && wants d n) w → MeetsDemand d (λ n. IsTrue (is_known asks n)) → is_settled d w f c e ≡ true
-        by NoDemand w found met = enough
-        by Impossible w found met = absurd met
-        by NotEmpty Absent found met = absurd (found_is asks NotEmpty met.0 met.1 refl found)
-        by OnlyOne Absent found met = absurd (found_is asks OnlyOne met.0 met.1 refl found)
-        by (SecondIs k) Absent found met = absurd (found_is asks (SecondIs k) met.1 met.3 (lt-ltb met.1 k met.2) found)
-        by NotEmpty Single found met = enough
-        by NotEmpty Several found met = enough
-        by OnlyOne Single found met = enough
-        by (SecondIs k) Single found met = enough
-        by OnlyOne Several (n, m, apart, a, b) met =
-            absurd (apart (met.2 n (and_parts (is_known asks n) true a).0 ∙ sym (met.2 m (and_parts (is_known asks m) true b).0)))
-        by (SecondIs k) Several (n, m, apart, a, b) met =
-            let p = and_parts (is_known asks n) (wants (SecondIs k) n) a in
-            let q = and_parts (is_known asks m) (wants (SecondIs k) m) b in
-            absurd (apart (met.4 n (ltb-true n k p.1) p.0 ∙ sym (met.4 m (ltb-true m k q.1) q.0)))
+    test d is w found (ByShown met few) = few_settle d w f (is_met_if asks d w found (subst (λ d. MeetsDemand d (Shown asks)) (sym is) met)) ∙ within c ∙ few
 
 -- where nothing that is known is denied, and each ask can be met, all stands together exactly if the test passes
 pub settled : (asks : List Ask) (d : Demand) (w : HowMany) (f : Option ℕ) (c : ℕ) (e : Option ℕ) → Looks asks d w f c e → ArePossible asks → AreApart asks

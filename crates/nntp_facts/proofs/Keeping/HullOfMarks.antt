@@ -14,6 +14,7 @@ use Rattle.nntp_facts.specs.declared.demand.Demand.{Demand}
 use Rattle.nntp_facts.specs.declared.demand.Demand.TheVariants.{NoDemand, NotEmpty, OnlyOne, SecondIs, Impossible}
 use Rattle.nntp_facts.specs.declared.ends.Ends.{Ends}
 use Rattle.nntp_facts.specs.Together.{AsksStand}
+use Rattle.nntp_facts.specs.Conflict.{AreApart}
 use Rattle.nntp_facts.proofs.Members.{In, any_in, found_in}
 use Rattle.nntp_facts.proofs.GivenNumbers.GivenNumbersMeet.{shows_some, no_demand}
 use Rattle.std.specs.Cmp.{both_ways}
@@ -196,10 +197,13 @@ known_by asks free n = by (list_any says_some asks) refl (ends_of asks) refl
     by true said None is = ap (λ b. is_shown asks n || b) (no_hull asks is n)
     by true said (Some e) is = let f = free said e is in ap (λ b. is_shown asks n || b) (same_ends asks e is f.0 f.1 n)
 
--- so it is of what stands together
+-- so it is where nothing that is known is denied
+pub apart_known : (asks : List Ask) → AreApart asks → (n : ℕ) → is_known asks n ≡ is_known_by asks n
+apart_known asks apart = known_by asks (λ said e is. let known = ends_known asks e is said in (apart e.low known.0, apart e.high known.1))
+
+-- as where all stands together
 pub stands_by_hull : (asks : List Ask) → AsksStand asks → (n : ℕ) → is_known asks n ≡ is_known_by asks n
-stands_by_hull asks stand =
-    known_by asks (λ said e is. let known = ends_known asks e is said in (stand.not_denied e.low (inl known.0), stand.not_denied e.high (inl known.1)))
+stands_by_hull asks stand = apart_known asks (λ n t. stand.not_denied n (inl t))
 
 -- and where nothing that is known by the hull is denied
 pub apart_by_hull : (asks : List Ask) → ((n : ℕ) → IsTrue (is_known_by asks n) → IsFalse (is_denied asks n)) → (n : ℕ) → is_known asks n ≡ is_known_by asks n

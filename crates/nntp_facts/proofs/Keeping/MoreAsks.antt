@@ -32,7 +32,8 @@ use Rattle.nntp_facts.proofs.GivenNumbers.MetNumbersStand.{key_in, key_is, shown
 use Rattle.nntp_facts.proofs.Maps.{key_map, in_key_map, of_key_map, sorted_keys}
 use Rattle.nntp_facts.proofs.GivenNumbers.JoinedDemands.{demand_append}
 use Rattle.nntp_facts.proofs.Keeping.HullOfMarks.{is_known_by, end_if, ends_append, some_is, apart_by_hull, stands_by_hull}
-use Rattle.nntp_facts.proofs.Keeping.AsksSettled.{settled, stands, ByShown, ArePossible, AreApart}
+use Rattle.nntp_facts.proofs.Keeping.AsksSettled.{settled, stands, ByShown, ArePossible}
+use Rattle.nntp_facts.specs.Conflict.{AreApart}
 
 -- ---- maps of ascending numbers
 

@@ -39,7 +39,7 @@ counted_more p m c fresh (M, is, as_many) = (insert M m [], grown, len-insert na
           (λ i. or_left (p n) (m == n) ((is n).0 (sym kept ∙ i)), λ t. kept ∙ (is n).1 (elim (or_cases (p n) (m == n) t) [ inl a ↦ a | inr b ↦ absurd (ne (sym (eqb-true m n b))) ]))
     ]
 
-same_tally : (p q : ℕ → Bool) → ((n : ℕ) → p n ≡ q n) → (d : Demand) (w : HowMany) (c : ℕ) → IsTally p d w c → IsTally q d w c
+pub same_tally : (p q : ℕ → Bool) → ((n : ℕ) → p n ≡ q n) → (d : Demand) (w : HowMany) (c : ℕ) → IsTally p d w c → IsTally q d w c
 same_tally p q same d w c t = subst {A = ℕ → Bool} (λ p. IsTally p d w c) (λ i n. same n i) t
 
 unwanted : (a w b : Bool) → (b ≡ true → w ≡ false) → (a && w) ≡ ((a || b) && w)
@@ -80,7 +80,7 @@ pub or_assoc : (a b c : Bool) → ((a || b) || c) ≡ (a || (b || c))
 or_assoc true b c = refl
 or_assoc false b c = refl
 
-or_none : (a : Bool) → a ≡ (a || false)
+pub or_none : (a : Bool) → a ≡ (a || false)
 or_none true = refl
 or_none false = refl
 

@@ -146,7 +146,7 @@ group_size profile None = omega arith
 group_size profile (Some name) = omega arith
 
 -- and so an answer of few lines does
-told_size : (profile : Profile) (a : Placed) → lines_in a.response < 2 ^ 64 → size (told profile a) ≤ 2 ^ 65
+pub told_size : (profile : Profile) (a : Placed) → lines_in a.response < 2 ^ 64 → size (told profile a) ≤ 2 ^ 65
 told_size profile a few =
     let own = said profile.marks a in
     let both = size-append (the_group profile (group_of own)) own in

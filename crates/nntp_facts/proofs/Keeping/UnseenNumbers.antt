@@ -22,7 +22,7 @@ use Rattle.nntp_facts.specs.declared.shown.HowMany.{HowMany}
 use Rattle.nntp_facts.specs.declared.shown.HowMany.TheVariants.{Absent, Single, Several}
 use Rattle.nntp_facts.proofs.Keeping.MoreAsks.{some_there, there_is_has}
 use Rattle.nntp_facts.proofs.GivenNumbers.FirstFreeNumber.{free_is, free_none, first_free_once}
-use Rattle.nntp_facts.proofs.Keeping.HullOfMarks.{end_if, some_is, stands_by_hull, between_ends}
+use Rattle.nntp_facts.proofs.Keeping.HullOfMarks.{is_known_by, end_if, some_is, stands_by_hull, between_ends}
 use Rattle.nntp_facts.proofs.Members.{In, any_in, found_in}
 use Rattle.nntp_facts.proofs.GivenNumbers.MetNumbersStand.{shown_known, one_more_once, wants_less}
 
@@ -119,15 +119,13 @@ or_none false = refl
 -- ---- what is read off
 
 module _ (s : Summary) (asks : List Ask) (sum : IsSummary s asks) (bounded : AreBounded asks) where
-  -- where what is known is what is shown, the number is the one more, and there is none where there is none
-  one_more_is : ((n : ℕ) → is_known asks n ≡ is_shown asks n) → MatchOption (one_more_in s) ((n : ℕ) → IsOneMore asks n → ⊥) (IsOneMore asks)
-  one_more_is same = by (list_any (wants s.demand) s.shown) refl (free (holds s.denied) all_numbers 1) refl
+  -- where no number is known that is wanted unless one is shown, the number is the one more, and there is none where there is none
+  pub one_more_is : (list_any (wants s.demand) s.shown ≡ false → (n : ℕ) → IsTrue (is_known asks n) → IsFalse (wants (demand asks) n))
+      → MatchOption (one_more_in s) ((n : ℕ) → IsOneMore asks n → ⊥) (IsOneMore asks)
+  one_more_is needed = by (list_any (wants s.demand) s.shown) refl (free (holds s.denied) all_numbers 1) refl
     where
-      known_is : (n : ℕ) → has s.shown n ≡ is_known asks n
-      known_is n = sum.shown n ∙ sym (same n)
-
       shown : (n : ℕ) → In n s.shown → IsTrue (is_known asks n)
-      shown n i = sym (known_is n) ∙ one_has s.shown n i
+      shown n i = shown_known asks n (sym (sum.shown n) ∙ one_has s.shown n i)
 
       low : (f : ℕ) → free (holds s.denied) all_numbers 1 ≡ Some f → f < 2 ^ 64
       low f e = subst (λ k. f < k) all_small (free_within (holds s.denied) all_numbers 1 f e)
@@ -147,7 +145,7 @@ module _ (s : Summary) (asks : List Ask) (sum : IsSummary s asks) (bounded : Are
       found : list_any (wants s.demand) s.shown ≡ false → (f : ℕ) → free (holds s.denied) all_numbers 1 ≡ Some f → (b : Bool) → wants s.demand f ≡ b
           → MatchOption (cond b (Some f) None) ((n : ℕ) → IsOneMore asks n → ⊥) (IsOneMore asks)
       found none f e true t = record {
-        needed = λ m sh. false_from_ne_true _ (λ w. true≢false (sym (any_in (wants s.demand) m s.shown (has_one s.shown m (known_is m ∙ sh)) (ap (λ d. wants d m) sum.demand ∙ w)) ∙ none));
+        needed = needed none;
         wanted = sym (ap (λ d. wants d f) sum.demand) ∙ t;
         first = first f e;
       }
@@ -163,6 +161,11 @@ module _ (s : Summary) (asks : List Ask) (sum : IsSummary s asks) (bounded : Are
       by false none None e = λ n x. true≢false (sym (all_denied e n x.first.0) ∙ x.first.1)
       by false none (Some f) e = found none f e (wants s.demand f) refl
 
+  -- none is known that is wanted, where what is known is shown, and none that is shown is wanted
+  shown_unwanted : ((n : ℕ) → is_known asks n ≡ is_shown asks n) → list_any (wants s.demand) s.shown ≡ false → (n : ℕ) → IsTrue (is_known asks n) → IsFalse (wants (demand asks) n)
+  shown_unwanted same none n k =
+      false_from_ne_true _ (λ w. true≢false (sym (any_in (wants s.demand) n s.shown (has_one s.shown n (sum.shown n ∙ sym (same n) ∙ k)) (ap (λ d. wants d n) sum.demand ∙ w)) ∙ none))
+
   -- whether it is said that there is a number
   some_kept : (not (length s.shown == 0) || is_demanding s.demand) ≡ list_any says_some asks
   some_kept = some_is asks (not (length s.shown == 0) || is_demanding s.demand)
@@ -174,20 +177,24 @@ module _ (s : Summary) (asks : List Ask) (sum : IsSummary s asks) (bounded : Are
       (λ d. or_right (not (length s.shown == 0)) (is_demanding s.demand) (ap is_demanding sum.demand ∙ d))
 
   -- the strict marks that are kept, where there is a number
-  ends_kept : (e : Ends) → known_ends_in s ≡ Some e → (list_any says_some asks ≡ true) × (ends_of asks ≡ Some e)
+  pub ends_kept : (e : Ends) → known_ends_in s ≡ Some e → (list_any says_some asks ≡ true) × (ends_of asks ≡ Some e)
   ends_kept e is = by (not (length s.shown == 0) || is_demanding s.demand) refl is
     where
       by : (b : Bool) → (not (length s.shown == 0) || is_demanding s.demand) ≡ b → cond b s.ends None ≡ Some e → (list_any says_some asks ≡ true) × (ends_of asks ≡ Some e)
       by true t is = (sym some_kept ∙ t, sym sum.ends ∙ is)
       by false f is = cc
 
+  -- what is known by the hull is shown, or one of these
+  pub hull_is : (n : ℕ) → is_known_by asks n ≡ (is_shown asks n || is_end_of (known_ends_in s) n)
+  hull_is n =
+      let end : is_end_of (known_ends_in s) n ≡ (list_any says_some asks && is_end_of (ends_of asks) n) =
+      end_if (not (length s.shown == 0) || is_demanding s.demand) s.ends n ∙ (λ i. some_kept i && is_end_of (sum.ends i) n) in
+      sym (ap (λ b. is_shown asks n || b) end)
+
   module _ (stand : AsksStand asks) where
-    -- what is known is shown, or one of these
+    -- so is what is known
     known_is : (n : ℕ) → is_known asks n ≡ (is_shown asks n || is_end_of (known_ends_in s) n)
-    known_is n =
-        let end : is_end_of (known_ends_in s) n ≡ (list_any says_some asks && is_end_of (ends_of asks) n) =
-        end_if (not (length s.shown == 0) || is_demanding s.demand) s.ends n ∙ (λ i. some_kept i && is_end_of (sum.ends i) n) in
-        stands_by_hull asks stand n ∙ sym (ap (λ b. is_shown asks n || b) end)
+    known_is n = stands_by_hull asks stand n ∙ hull_is n
 
     -- ---- without strict marks
 
@@ -315,5 +322,5 @@ module _ (s : Summary) (asks : List Ask) (sum : IsSummary s asks) (bounded : Are
         by : (o : Option Ends) → known_ends_in s ≡ o → AreUnseen asks (unseen_beside o s) (unseen_high_beside o s.shown)
         by None is =
             let same : (n : ℕ) → is_known asks n ≡ is_shown asks n = λ n. known_is n ∙ ap (λ o. is_shown asks n || is_end_of o n) is ∙ or_none (is_shown asks n) in
-            by_more same (one_more_in s) (one_more_is same)
+            by_more same (one_more_in s) (one_more_is (shown_unwanted same))
         by (Some e) is = by_ends e is (has s.shown e.low) (sym (sum.shown e.low)) (e.high == e.low) refl (has s.shown e.high) (sym (sum.shown e.high))

@@ -34,8 +34,10 @@ pub(crate) struct KnownArticle<A: Allocator> {
 /// The parts of an article that a success sends.
 #[derive(Drop)]
 pub(crate) struct Sent<'a> {
-    head: Option<Block<'a>>,
-    body: Option<Block<'a>>,
+    /// The lines of the head.
+    pub(crate) head: Option<Block<'a>>,
+    /// The lines of the body.
+    pub(crate) body: Option<Block<'a>>,
 }
 
 impl<'a> Sent<'a> {

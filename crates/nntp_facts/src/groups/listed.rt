@@ -1,5 +1,7 @@
 //! The groups that LIST ACTIVE lists, beside those that are kept (RFC 3977, section 7.6.3).
-ghost use Rattle.std.specs.Prelude.{◌≡◌, ℕ, ◌↔◌, ◌++◌, ◌∷◌, [], true, List, Option, IsTrue, IfOk, OnOk};
+ghost use Rattle.std.specs.Prelude.{◌≡◌, ℕ, ◌↔◌, ◌++◌, ◌∷◌, ◌&&◌, not, [], true, List, Option, IsTrue, IfOk, OnOk};
+ghost use Rattle.std.specs.Option.{option_map_or};
+ghost use Rattle.nntp_wire.specs.Decided.{matches_name};
 ghost use Rattle.std.specs.List.{list_any};
 ghost use Rattle.std.specs.BTreeMap.{keys};
 ghost use Rattle.nntp_wire.specs.Listing.{active_groups};
@@ -45,7 +47,7 @@ impl<A: Allocator + Copy> Groups<A> {
 }
 
 /// Collects the names of the groups that the lines list.
-fn names_of<'a, A: Allocator + Copy>(
+pub(crate) fn names_of<'a, A: Allocator + Copy>(
     alloc: A,
     block: &Block<'a>,
 ) -> Result<BTreeSet<&'a [u8], A>, AllocError>
@@ -88,6 +90,17 @@ fn is_missing<A: Allocator>(
         Some(group) => matches_if_given(wildmat, &group) && !is_one_of(listed, name),
         None => false,
     }
+}
+
+/// Tells whether the group matches, and isn't listed.
+pub(crate) fn is_unlisted<A: Allocator>(
+    listed: &BTreeSet<&[u8], A>,
+    wildmat: &Option<Wildmat<'_>>,
+    group: &GroupName<'_>,
+) -> bool
+    ensures { result ≡ (option_map_or (λ w. matches_name w group.now) wildmat.now true && not (list_any (λ k. is_same k.now group.now) listed.now.keys)) }
+{
+    matches_if_given(wildmat, group) && !is_one_of(listed, group.as_slice())
 }
 
 /// Tells whether the name is one of these names.

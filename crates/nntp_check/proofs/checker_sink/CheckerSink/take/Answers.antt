@@ -1,5 +1,4 @@
-use Rattle.std.proofs.Common.{◌≡◌, ◌+◌, ◌<◌, ◌^◌, length, arith}
-use Rattle.nntp_pair.specs.declared.pair_error.PairError.{PairError}
+use Rattle.std.proofs.Common.{arith}
 use Rattle.nntp_pair.specs.declared.side.Side.TheVariants.{Client, Server}
 use Rattle.nntp_check.proofs.CheckerLemmas.{on-ok, if-err, untaken-memory}
 use Rattle.nntp_check.proofs.checker_sink.CheckerSink.take.Goals as goal

@@ -8,9 +8,9 @@ use Rattle.nntp_facts.specs.Conflict.{Placed, FitsThere, SomeHas, IsFound, told_
 use Rattle.nntp_facts.specs.Noted.{profile_kept}
 use Rattle.nntp_facts.specs.declared.class.Class.TheVariants.{Contradiction}
 use Rattle.nntp_pair.specs.Pairing.{asked_at}
-use Rattle.nntp_check.specs.Explaining.{bad_lines, place_lines, IsConflictOf}
+use Rattle.nntp_check.specs.Explaining.{bad_lines, place_lines, IsConflictOf, TellsCore}
 use Rattle.nntp_check.specs.ExplainingView.{Kept, standing_of, cited_of, placed_at}
-use Rattle.nntp_check.specs.Reasons.{core_lines}
+use Rattle.nntp_check.specs.Standing.{Cited}
 use Rattle.nntp_check.proofs.ExplainLemmas.{told_reason, on_ok}
 use Rattle.nntp_check.proofs.explainer.Explainer.refuse_contradiction.Goals as goal
 
@@ -54,29 +54,41 @@ find-requires-clause-conflict g c =
     ))
     c.requires.conflict
 
+pub put_found-requires-clause-fit : goal.put_found-requires-clause-fit
+put_found-requires-clause-fit g c =
+    let kept = c.in_ok-put_bad.ensures.kept in
+    let placed : c.new-bad.result ≡ placed_at (option_map standing_of c.args.self.now.standing) c.args.position c.args.exchange =
+    c.new-bad.ensures ∙ ap (λ (name : Option Name). record { selected = name; position = c.args.position; asked = asked_at c.args.exchange.line; response = c.args.exchange.response })
+    (c.selected.ensures ∙ ap (λ (k : Kept). option_map (λ s. s.name) k.stands) kept) in
+    subst (λ (q : Profile × Placed × List Placed). AllByRecursion (FitsThere q.0) (q.1 ∷ q.2))
+    (λ i. (sym (ap (λ (k : Kept). profile_kept k.facts) kept) i, sym placed i, sym (ap (λ (k : Kept). k.placed) kept) i))
+    c.requires.fit
+
 pub returns-clause-text : goal.returns-clause-text
 returns-clause-text g c =
     let pair = c.args.exchange in
     let self = c.args.self.now in
     let stands = option_map standing_of self.standing in
     let kept = c.in_ok-put_bad.ensures.kept in
+    let core = c.in_ok-core.core in
     let placed : c.new-bad.result ≡ placed_at stands c.args.position pair =
     c.new-bad.ensures ∙ ap (λ (name : Option Name). record { selected = name; position = c.args.position; asked = asked_at pair.line; response = pair.response })
     (c.selected.ensures ∙ ap (λ (k : Kept). option_map (λ s. s.name) k.stands) kept) in
     let lines = ap (λ (q : ℕ × Option (List ℕ) × List ℕ). self.text.items ++ bad_lines q.0 Contradiction q.1 q.2 ++ place_lines self.bad stands)
     (λ i. (c.index.ensures.value i, c.line-line.ensures i, c.initial.ensures i)) in
-    let found = subst (λ (q : Profile × Placed × List Placed). IsFound q.0 q.1 q.2 c.in_ok-core.core)
+    let found = subst (λ (q : Profile × Placed × List Placed). IsFound q.0 q.1 q.2 core)
     (λ i. (
       profile_of ((c.limit-limit.ensures ∙ ap (λ (k : Kept). k.facts.limit) kept) i) ((c.marks-marks.ensures ∙ ap (λ (k : Kept). k.facts.marks) kept) i),
       placed i,
       (c.deref.ensures.value ∙ ap (λ (k : Kept). k.placed) kept) i,
     ))
     c.in_ok-core.ensures.found in
-    let cited : map cited_of c.deref-2.result.now ≡ map cited_of self.cited.items = ap (map cited_of) c.deref-2.ensures.value ∙ ap (λ (k : Kept). k.cited) kept in
-    on_ok c.put_core.result c.put_core.ensures c.put_core.ensures
-    (λ text _. told_reason self.bad stands pair.index Contradiction pair.line pair.initial
+    let tells = λ (more : List ℕ). subst (λ (q : Profile × Placed × List Placed × List Cited). TellsCore q.0 q.1 q.2 q.3 core more)
+    (λ i. (ap (λ (k : Kept). profile_kept k.facts) kept i, placed i, ap (λ (k : Kept). k.placed) kept i, ap (λ (k : Kept). k.cited) kept i)) in
+    on_ok c.put_found.result c.put_found.ensures.text c.put_found.ensures.text
+    (λ goes _. told_reason self.bad stands pair.index Contradiction pair.line pair.initial
     (IsConflictOf (profile_kept self.facts) (placed_at stands c.args.position pair) self.placed.items (map cited_of self.cited.items))
-    self.text.items c.put_core.new.text.items (core_lines (map cited_of c.deref-2.result.now) c.in_ok-core.core) true
+    self.text.items c.put_found.new.self.text.items goes.0 true
     (sym c.if-not-branch.false ∙ c.in_ok-put_bad.ensures.told)
-    (text ∙ ap (λ t. t ++ core_lines (map cited_of c.deref-2.result.now) c.in_ok-core.core) (c.in_ok-put_bad.ensures.text ∙ lines))
-    (c.in_ok-core.core, found, c.in_ok-core.ensures.most, ap (λ answers. core_lines answers c.in_ok-core.core) cited))
+    (goes.1 ∙ ap (λ t. t ++ goes.0) (c.in_ok-put_bad.ensures.text ∙ lines))
+    (core, found, c.in_ok-core.ensures.most, tells goes.0 goes.2))

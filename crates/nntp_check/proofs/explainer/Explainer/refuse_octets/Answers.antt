@@ -1,4 +1,4 @@
-use Rattle.std.proofs.Common.{◌≡◌, ◌∙◌, ◌++◌, sym, subst, ap, true, false, refl, ℕ, List, [], Option, append-nil, append_assoc}
+use Rattle.std.proofs.Common.{◌∙◌, ◌++◌, sym, subst, ap, true, false, refl, [], append-nil}
 use Rattle.std.specs.Option.{option_map, option_copied}
 use Rattle.nntp_facts.specs.declared.class.Class.{Class}
 use Rattle.nntp_facts.specs.Classes.{class_of}

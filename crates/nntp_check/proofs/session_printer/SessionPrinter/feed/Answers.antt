@@ -1,4 +1,4 @@
-use Rattle.std.proofs.Common.{◌≡◌, ◌+◌, ◌<◌, ◌^◌, length, arith}
+use Rattle.std.proofs.Common.{arith}
 use Rattle.nntp_pair.specs.declared.side.Side.TheVariants.{Client, Server}
 use Rattle.nntp_check.proofs.CheckerLemmas.{on-ok, if-err}
 use Rattle.nntp_check.proofs.ShowLemmas.{shown-more, untaken-memory}

@@ -1,0 +1,81 @@
+-- What an answer tells by itself, and the group of which it speaks.
+use Rattle.std.proofs.Common.{◌≡◌, ℕ, true, List, [], Option, None, Some, inl, refl, sym, subst, ◌∙◌}
+use Rattle.std.specs.Prelude.{IsTrue, IfSome, unwrap_or}
+use Rattle.std.specs.List.{AllByRecursion}
+use Rattle.std.proofs.lemmas.Bool.{or_left}
+use Rattle.nntp_wire.specs.Name.{IsGroupName}
+use Rattle.nntp_wire.specs.Answer.{Asked, Response}
+use Rattle.nntp_wire.specs.declared.marks.Marks.{Marks}
+use Rattle.nntp_article.specs.Session.Spool.{Name}
+use Rattle.nntp_article.specs.Session.Machine.{Visible, start, fits, is_same}
+use Rattle.nntp_article.specs.declared.session.profile.Profile.{Profile}
+use Rattle.nntp_facts.specs.declared.position.Position.{Position}
+use Rattle.nntp_facts.specs.Facts.{Fact, ThereIs, here, facts_of, group_of}
+use Rattle.nntp_facts.specs.Given.{is_shown_group}
+use Rattle.nntp_facts.specs.Together.{IsWellFormed}
+use Rattle.nntp_facts.specs.Saying.{Saying, OfGroup, TellsHere, TellsThere, IsSelectedShown, numbers_listed, sent_facts, there_facts}
+use Rattle.nntp_facts.specs.Conflict.{Placed, FitsThere, said, the_group, told}
+use Rattle.nntp_facts.specs.Points.{TellsAlone}
+use Rattle.nntp_facts.proofs.Members.{In, in_front, in_back, all_at, all_both}
+use Rattle.nntp_facts.proofs.Together.FactsJoin.{answer_agrees}
+use Rattle.nntp_facts.proofs.Together.FactsOfASpoolStand.{same_itself}
+use Rattle.nntp_facts.proofs.Keeping.ToldAnswers.{there_told, group_said, none_said, selected_said, some_selected}
+
+-- an answer that speaks of the selected group speaks of one
+pub selected_spoken : (selected : Option Name) (s : Saying) (more : List Fact) → TellsThere selected s more → (g : OfGroup) → s.there_is ≡ None → s.group ≡ Some g → selected ≡ group_of more
+selected_spoken selected s more t g none e = by selected refl
+  where
+    by : (o : Option Name) → selected ≡ o → selected ≡ group_of more
+    by (Some name) is = is ∙ sym (selected_said selected s more t g name none e is)
+    by None is = absurd (some_selected selected s more t g none e is)
+
+-- facts that show the selected group
+shown_by : (profile : Profile) (selected : Option Name) → IfSome selected (λ name. is_shown_group (the_group profile selected) name ≡ true)
+shown_by profile None = tt
+shown_by profile (Some name) = or_left (is_same name name) _ (same_itself name)
+
+module _ (profile : Profile) (a : Placed) (s : Saying) (t : TellsThere a.selected s (said profile.marks a)) where
+  h : TellsHere (unwrap_or a.selected []) (the_group profile a.selected) s (said profile.marks a)
+  h = t (the_group profile a.selected) (shown_by profile a.selected)
+
+  -- the group of which it speaks is one
+  group_formed : AllByRecursion IsWellFormed (said profile.marks a) → IfSome a.selected IsGroupName → IfSome (group_of (said profile.marks a)) IsGroupName
+  group_formed formed name = by s.there_is refl s.group refl
+    where
+      there : (n : Name) → s.there_is ≡ Some n → IsGroupName n
+      there n e = all_at IsWellFormed (ThereIs n) (said profile.marks a) formed
+          (subst (In (ThereIs n)) h.tells.same
+          (in_back (ThereIs n) (sent_facts s.article) _ (in_front (ThereIs n) (there_facts s.there_is) _ (subst (λ o. In (ThereIs n) (there_facts o)) (sym e) (inl refl)))))
+
+      by : (o : Option Name) → s.there_is ≡ o → (g : Option OfGroup) → s.group ≡ g → IfSome (group_of (said profile.marks a)) IsGroupName
+      by (Some n) e g is = subst (λ o. IfSome o IsGroupName) (sym (group_said a.selected s (said profile.marks a) t n e)) (there n e)
+      by None e (Some g) is = subst (λ o. IfSome o IsGroupName) (selected_spoken a.selected s (said profile.marks a) t g e is) name
+      by None e None is = subst (λ o. IfSome o IsGroupName) (sym (none_said a.selected s (said profile.marks a) t is)) tt
+
+  -- by itself the answer tells its facts
+  pub told_alone : (group : Option Name) → group ≡ group_of (said profile.marks a) → AllByRecursion IsWellFormed (said profile.marks a) → IfSome a.selected IsGroupName
+      → TellsAlone profile (record { group = group; saying = s }) (told profile a)
+  told_alone group is formed name = record {
+    own = said profile.marks a;
+    whole = refl;
+    before = the_group profile a.selected;
+    tells = h.tells;
+    group = is;
+    named = h.group ∙ sym is;
+    formed = all_both IsWellFormed (the_group profile (group_of (said profile.marks a))) (said profile.marks a) (by (group_of (said profile.marks a)) (group_formed formed name)) formed;
+    agree = answer_agrees profile.marks (record start.visible { selected = a.selected }) a.position a.asked a.response;
+  }
+    where
+      by : (o : Option Name) → IfSome o IsGroupName → AllByRecursion IsWellFormed (the_group profile o)
+      by None n = tt
+      by (Some name) n = (n, (tt, tt))
+
+-- what it says tells its facts, where marks are read so
+pub there_told_so : (profile : Profile) (a : Placed) (asked : Asked) (response : Response) (at : Position) (name : Name) (numbers : List ℕ) (s : Saying) (how : Marks) → profile.marks ≡ how
+    → FitsThere profile a → asked ≡ a.asked → response ≡ a.response → at ≡ a.position → name ≡ unwrap_or a.selected [] → numbers ≡ numbers_listed response
+    → ((other : Profile) (v : Visible) (all : List Fact) → IsTrue (fits other v asked response) → IsSelectedShown v all → name ≡ here v → numbers ≡ numbers_listed response
+    → TellsHere name all s (facts_of how v at asked response))
+    → TellsThere a.selected s (said profile.marks a)
+there_told_so profile a asked response at name numbers s how marks fit to by stands named listed tells =
+    there_told profile a asked response at name numbers s fit to by stands named listed
+    (λ other v all f shown is lists. subst (λ how. TellsHere name all s (facts_of how v at asked response)) (sym marks) (tells other v all f shown is lists))

@@ -1,0 +1,16 @@
+use Rattle.std.proofs.Common.{ap, is_some, ◌&&◌, ◌∙◌, subst, sym}
+use Rattle.std.proofs.lemmas.Bool.{true≢false}
+use Rattle.nntp_facts.specs.Given.{is_known, demand, wants}
+use Rattle.nntp_facts.specs.Summary.{PassSoMany}
+use Rattle.nntp_facts.proofs.Keeping.ConflictsOfNumbers.{more_found}
+use Rattle.nntp_facts.proofs.numbers.Numbers.has_one_more.Goals as goal
+use Rattle.nntp_facts.proofs.numbers.Numbers.has_one_more.Goals.{in-Absent, in_default}
+
+pub returns-then-matches : goal.returns-then-matches
+returns-then-matches g c = λ asks sum bounded found.
+    elim c.match-matches.branch [
+      | in-Absent w ↦
+          more_found c.args.self.now asks sum bounded (subst (PassSoMany (λ n. is_known asks n && wants (demand asks) n)) w.in-Absent.is found)
+          c.is_some.result (c.is_some.ensures ∙ ap is_some c.one_more.ensures)
+      | in_default w ↦ absurd (true≢false (sym c.if-matches.true ∙ w.matches-is))
+    ]

@@ -1,0 +1,19 @@
+use Rattle.std.proofs.Common.{map, ap, refl, sym, ◌∙◌}
+use Rattle.std.specs.Prelude.{option_map}
+use Rattle.std.proofs.lemmas.Bool.{true≢false}
+use Rattle.nntp_facts.specs.SayingView.{of_group, id_at}
+use Rattle.nntp_facts.specs.StatementView.{statement_of}
+use Rattle.nntp_facts.proofs.PointsFound.KindsOfPoints.{id_found, id_free}
+use Rattle.nntp_facts.proofs.points.ids.other_id.Goals as goal
+
+pub returns-then-is_first_id : goal.returns-then-is_first_id
+returns-then-is_first_id c profile facts all there =
+    id_free profile (map statement_of c.args.all.now) facts all (statement_of c.args.told.now) there (of_group c.in-Some.group) c.in_ok-at.at.number c.in_ok-at.at.id.now
+    (ap (option_map of_group) c.in-Some.is) (ap id_at c.in_ok-at.was) (c.is_first_id.ensures.0 c.if-is_first_id.true)
+
+pub returns : goal.returns
+returns c profile facts all there = (
+  id_found profile (map statement_of c.args.all.now) facts all (statement_of c.args.told.now) there (of_group c.in-Some.group) c.in_ok-at.at.number c.in_ok-at.at.id.now
+      (ap (option_map of_group) c.in-Some.is) (ap id_at c.in_ok-at.was) (λ first. true≢false (sym (c.is_first_id.ensures.1 first) ∙ c.if-is_first_id.false)),
+  refl,
+)

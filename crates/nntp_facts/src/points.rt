@@ -1,0 +1,221 @@
+//! The first point about which a bad answer and accepted ones conflict.
+ghost use Rattle.std.specs.Prelude.{◌≡◌, ◌<◌, ◌^◌, ◌∷◌, ◌++◌, map, List, ℕ, IfOk, OnOk, MatchOption, option_map, Contains};
+ghost use Rattle.std.specs.List.{AllByRecursion, flat_map};
+ghost use Rattle.nntp_wire.specs.Limit.{greatest};
+ghost use Rattle.nntp_article.specs.Session.Limit.{profile_of};
+ghost use Rattle.nntp_article.specs.declared.session.profile.Profile.{Profile};
+ghost use Rattle.nntp_facts.specs.Facts.{Fact};
+ghost use Rattle.nntp_facts.specs.Together.{Together};
+ghost use Rattle.nntp_facts.specs.Conflict.{Placed as PlacedValue, FitsThere, told, told_with, IsFirstPoint};
+ghost use Rattle.nntp_facts.specs.Points.{AreTaken, AllTell, answer_at, with_numbers, IsPointWith, IsPointOf, NoneBefore};
+ghost use Rattle.nntp_facts.specs.PointView.{point_of};
+ghost use Rattle.nntp_pair.specs.Pairing.{lines_in};
+ghost use Rattle.nntp_facts.specs.StatementView.{listing_of, statement_of, rank_of};
+
+mod articles;
+mod groups;
+mod ids;
+mod numbers;
+mod statement;
+
+use crate::placed::Placed;
+use crate::point::Point;
+use crate::saying::numbers_listed;
+use articles::Part;
+use nntp_wire::{Limit, Marks};
+use statement::Statement;
+use std::alloc::{AllocError, Allocator, Global};
+use std::marker::Model;
+
+/// A kind of points.
+#[derive(Clone, Copy)]
+enum Kind {
+    Step,
+    Group,
+    Number,
+    Count,
+    First,
+    IdOf,
+    PlaceOf,
+    Article,
+    HeadOf,
+    BodyOf,
+}
+
+/// All kinds, in the order in which they are told.
+const KINDS: [Kind; 10] = [
+    Kind::Step,
+    Kind::Group,
+    Kind::Number,
+    Kind::Count,
+    Kind::First,
+    Kind::IdOf,
+    Kind::PlaceOf,
+    Kind::Article,
+    Kind::HeadOf,
+    Kind::BodyOf,
+];
+
+/// An answer, and the numbers that it lists.
+#[derive(Drop)]
+struct Listing<'a, A: Allocator> {
+    answer: &'a Placed<'a>,
+    numbers: Vec<u64, A>,
+}
+
+/// A bad answer, and accepted ones with which it conflicts.
+#[derive(Drop)]
+pub struct Conflict<'a, A: Allocator = Global> {
+    alloc: A,
+    limit: Limit,
+    marks: Marks,
+    /// The answers, the bad one first.
+    answers: Vec<Listing<'a, A>, A>,
+}
+
+impl<'a, A: Allocator> Model for Conflict<'a, A> {
+    ghost use Rattle.std.specs.Prelude.{map};
+    ghost use Rattle.nntp_article.specs.Session.Limit.{profile_of};
+    ghost use Rattle.nntp_facts.specs.Points.{Answers};
+    ghost use Rattle.nntp_facts.specs.StatementView.{listing_of};
+
+    ghost Value = { Answers };
+
+    ghost view = { λ c. record { profile = profile_of c.limit c.marks; answers = map listing_of c.answers.items } };
+}
+
+impl<'a, A: Allocator + Copy> Conflict<'a, A> {
+    /// Takes the bad answer, and the accepted ones at the places.
+    ///
+    /// # Errors
+    ///
+    /// If memory is refused.
+    pub fn of(
+        alloc: A,
+        limit: Limit,
+        marks: Marks,
+        answers: &'a [Placed<'a>],
+        bad: &'a Placed<'a>,
+        places: &[usize],
+    ) -> Result<Conflict<'a, A>, AllocError>
+        ensures { IfOk result (AreTaken (profile_of limit marks) bad.now answers.now places.now) }
+    {
+        let mut taken = Vec::new(alloc);
+        taken.push(Listing::of(alloc, bad)?)?;
+        for place in places {
+            push_at(alloc, &mut taken, answers, *place)?;
+        }
+        Ok(Conflict {
+            alloc,
+            limit,
+            marks,
+            answers: taken,
+        })
+    }
+
+    /// Returns the first point about which the answers conflict, in the order of [`Point`], or `None` if they stand
+    /// together.
+    ///
+    /// For k answers it takes time in the order of k k, and of k log n for each of n lines.
+    ///
+    /// # Errors
+    ///
+    /// If memory is refused.
+    pub fn point(&self) -> Result<Option<Point<'_>>, AllocError>
+        ensures { IfOk result (λ point. (profile : Profile) (bad : PlacedValue) (answers : List PlacedValue) (places : List ℕ) → AreTaken profile bad answers places self.now
+            → AllByRecursion (FitsThere profile) (bad ∷ answers)
+            → MatchOption point (Together (told_with profile bad answers places)) (λ point. IsFirstPoint (told_with profile bad answers places) (point_of point))) }
+    {
+        let all = self.statements()?;
+        for kind in &KINDS {
+            if let Some(point) = first_of(self.alloc, self.limit, *kind, &all)? {
+                return Ok(Some(point));
+            }
+        }
+        Ok(None)
+    }
+
+    /// Returns what each of the answers says.
+    fn statements(&self) -> Result<Vec<Statement<'_>, A>, AllocError>
+        ensures { IfOk result (λ all. (answers : List PlacedValue) → self.now.answers ≡ map with_numbers answers → AllByRecursion (FitsThere self.now.profile) answers
+            → AllTell self.now.profile (map statement_of all.items) (flat_map (told self.now.profile) answers)) }
+    {
+        let mut all = Vec::new(self.alloc);
+        for listing in &self.answers {
+            all.push(Statement::of(self.marks, listing.answer, &listing.numbers))?;
+        }
+        Ok(all)
+    }
+}
+
+impl<'a, A: Allocator + Copy> Listing<'a, A> {
+    /// Puts the numbers that an answer lists beside it.
+    fn of(alloc: A, answer: &'a Placed<'a>) -> Result<Listing<'a, A>, AllocError>
+        ensures numbers { IfOk result (λ listing. listing_of listing ≡ with_numbers answer.now) }
+        ensures few { IfOk result (λ listing. lines_in answer.now.response < 2 ^ 64) }
+    {
+        Ok(Listing {
+            answer,
+            numbers: numbers_listed(alloc, answer.answer())?,
+        })
+    }
+}
+
+/// Adds the answer at the place. Where there is none, nothing is added.
+fn push_at<'a, A: Allocator + Copy>(
+    alloc: A,
+    taken: &mut Vec<Listing<'a, A>, A>,
+    answers: &'a [Placed<'a>],
+    place: usize,
+) -> Result<(), AllocError>
+    ensures taken { OnOk result (map listing_of taken.new.items ≡ map listing_of taken.old.items ++ map with_numbers (answer_at answers.now place)) }
+    ensures few { OnOk result (AllByRecursion (λ a. lines_in a.response < 2 ^ 64) (answer_at answers.now place)) }
+{
+    if let Some(answer) = answers.get(place) {
+        taken.push(Listing::of(alloc, answer)?)?;
+    }
+    Ok(())
+}
+
+/// Returns a point of the kind about which all the answers conflict, if there is one.
+fn first_of<'s, A: Allocator + Copy>(
+    alloc: A,
+    limit: Limit,
+    kind: Kind,
+    all: &[Statement<'s>],
+) -> Result<Option<Point<'s>>, AllocError>
+    ensures { IfOk result (λ point. (profile : Profile) (facts : List Fact) → profile.limit ≡ greatest limit → AllTell profile (map statement_of all.now) facts
+        → NoneBefore facts (rank_of kind) → IsPointOf facts (rank_of kind) (option_map point_of point)) }
+{
+    for told in all {
+        if let Some(point) = point_with(alloc, limit, kind, told, all)? {
+            return Ok(Some(point));
+        }
+    }
+    Ok(None)
+}
+
+/// Returns a point of the kind in which this answer has a part, if all of them conflict about one.
+fn point_with<'s, A: Allocator + Copy>(
+    alloc: A,
+    limit: Limit,
+    kind: Kind,
+    told: &Statement<'s>,
+    all: &[Statement<'s>],
+) -> Result<Option<Point<'s>>, AllocError>
+    ensures { IfOk result (λ point. (profile : Profile) (facts : List Fact) → profile.limit ≡ greatest limit → AllTell profile (map statement_of all.now) facts
+        → Contains (map statement_of all.now) (statement_of told.now) → NoneBefore facts (rank_of kind) → IsPointWith facts (statement_of told.now) (rank_of kind) (option_map point_of point)) }
+{
+    match kind {
+        Kind::Step => Ok(numbers::impossible(told)),
+        Kind::Group => groups::denied(alloc, told, all),
+        Kind::Number => numbers::denied_number(alloc, limit, told, all),
+        Kind::Count => numbers::too_many(alloc, limit, told, all),
+        Kind::First => numbers::unmet(alloc, limit, told, all),
+        Kind::IdOf => Ok(ids::other_id(told, all)),
+        Kind::PlaceOf => Ok(ids::other_place(told, all)),
+        Kind::Article => Ok(articles::denied(told, all)),
+        Kind::HeadOf => Ok(articles::sent_twice(told, all, Part::Head)),
+        Kind::BodyOf => Ok(articles::sent_twice(told, all, Part::Body)),
+    }
+}
