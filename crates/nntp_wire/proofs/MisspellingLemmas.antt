@@ -10,7 +10,6 @@ use Rattle.nntp_wire.specs.Misspelling.{is_space, arguments_of, is_argument, arg
 use Rattle.nntp_wire.specs.declared.kind.Kind.{Kind}
 use Rattle.nntp_wire.specs.declared.misspelling.Misspelling.TheVariants.{WrongArgument, WrongLine}
 use Rattle.nntp_wire.specs.declared.misspelling.Due.{Due}
-use Rattle.nntp_wire.specs.declared.misspelling.LineFault.{LineFault}
 use Rattle.nntp_wire.proofs.Reasons.{first_alone}
 use Rattle.nntp_wire.proofs.SaysDecided.{up_to_space}
 
