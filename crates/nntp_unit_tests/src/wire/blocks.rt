@@ -1,7 +1,8 @@
 //! Blocks and their lines.
-use super::{all_malformed, has_lines, reply};
+use super::{all_malformed, has_lines, is_malformed, reply};
 use nntp_wire::{Answer, active_line, listed_number};
-use std::alloc::AllocError;
+use std::alloc::{AllocError, Global};
+use std::process::Abort;
 
 #[test]
 fn lines_of_a_block(rt: HostRuntime) {
@@ -63,6 +64,88 @@ fn blocks_that_send_nothing(rt: HostRuntime) {
             ("bare LF", b"HELP", b"100\r\na\nb\r\n.\r\n"),
         ],
     );
+}
+
+/// A response to HELP whose block has these octets among others, and ends with CRLF.
+fn help_with(
+    alloc: Global,
+    front: usize,
+    octets: &[u8],
+    behind: usize,
+) -> Result<Vec<u8>, AllocError> {
+    let mut stream = Vec::from_slice(alloc, b"100\r\n")?;
+    for _ in 0..front {
+        stream.push(b'a')?;
+    }
+    stream.extend_from_slice(octets)?;
+    for _ in 0..behind {
+        stream.push(b'a')?;
+    }
+    stream.extend_from_slice(b"\r\n.\r\n")?;
+    Ok(stream)
+}
+
+/// Whether a block is malformed is the same wherever these octets stand in it, up to 35 places from
+/// either end.
+fn are_malformed(
+    rt: &impl Abort,
+    alloc: Global,
+    octets: &[u8],
+    want: bool,
+) -> Result<(), AllocError> {
+    for behind in 1..35usize {
+        for front in 0..35usize {
+            let stream = help_with(alloc, front, octets, behind)?;
+            assert!(rt;
+                is_malformed(b"HELP", stream.as_slice()) == want,
+                "{front} {octets:?} {behind}"
+            );
+        }
+    }
+    Ok(())
+}
+
+#[test]
+fn octets_at_each_place_of_a_block(rt: HostRuntime) -> Result<(), AllocError> {
+    let rows: &[(&[u8], bool)] = &[
+        (b"\0", true),
+        (b"\r", true),
+        (b"\n", true),
+        (b"\n\r", true),
+        (b"\r\r\n", true),
+        (b"\r\n\n", true),
+        (b"\r\n.", true),
+        (b"\r\n..", false),
+        (b"\r\n", false),
+        (b"\r\n\r\n", false),
+        (b"a.", false),
+    ];
+    for &(octets, want) in rows {
+        are_malformed(&rt, rt.alloc(), octets, want)?;
+    }
+    Ok(())
+}
+
+#[test]
+fn octets_at_the_end_of_a_block(rt: HostRuntime) -> Result<(), AllocError> {
+    let rows: &[(&[u8], bool)] = &[
+        (b"\0", true),
+        (b"\r", true),
+        (b"\n", true),
+        (b"\r\n.a", true),
+        (b"\r\n..", false),
+        (b"\r\n", false),
+    ];
+    for &(octets, want) in rows {
+        for front in 0..67usize {
+            let stream = help_with(rt.alloc(), front, octets, 0)?;
+            assert!(rt;
+                is_malformed(b"HELP", stream.as_slice()) == want,
+                "{front} {octets:?}"
+            );
+        }
+    }
+    Ok(())
 }
 
 #[test]
