@@ -10,7 +10,7 @@ ghost use Rattle.nntp_facts.specs.PointView.{point_of};
 ghost use Rattle.nntp_check.specs.ExplainingView.{cited_of};
 ghost use Rattle.nntp_check.specs.Says.{conflict_lines, difference, first_part, part_at, part_sent, reason_lines, said_lines, told_line};
 
-use crate::reasons::{put_place, put_point};
+use crate::reasons::{put_about, put_because_at};
 use crate::said_numbers::is_same;
 use crate::said_parts::{body_of, first_difference, head_of};
 use crate::says::{About, put_said};
@@ -32,7 +32,7 @@ pub(crate) fn put_conflict<A: Allocator + Copy>(
 ) -> Result<(), AllocError>
     ensures { OnOk result (text.new.items ≡ text.old.items ++ conflict_lines how (point_of point.entry) bad.now answers.now (map cited_of cited.now) places.now) }
 {
-    put_point(text, &point)?;
+    put_about(text, &point)?;
     let line = told_line(&point, bad, answers, places);
     let about = About { point, line };
     put_said(text, how, &about, bad)?;
@@ -70,7 +70,7 @@ fn put_reason<A: Allocator + Copy>(
     requires { IfSome about.now.line (λ place. place < 2 ^ 64 - 1) }
     ensures { OnOk result (text.new.items ≡ text.old.items ++ reason_lines how about.now.line (point_of about.now.point) answers.now (map cited_of cited.now) place) }
 {
-    put_place(text, cited, place)?;
+    put_because_at(text, cited, place)?;
     put_said_at(text, how, about, answers, place)
 }
 

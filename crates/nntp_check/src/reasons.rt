@@ -220,7 +220,7 @@ fn put_codes<A: Allocator + Copy>(text: &mut Vec<u8, A>, found: &[u64]) -> Resul
 }
 
 /// Adds the line of what a bad answer and accepted ones conflict about.
-pub(crate) fn put_point<A: Allocator + Copy>(
+pub(crate) fn put_about<A: Allocator + Copy>(
     text: &mut Vec<u8, A>,
     point: &Point<'_>,
 ) -> Result<(), AllocError>
@@ -309,13 +309,13 @@ fn put_places<A: Allocator + Copy>(
     ensures { OnOk result (text.new.items ≡ text.old.items ++ flat_map (because_at (map cited_of answers.now)) places.now) }
 {
     for place in places {
-        put_place(text, answers, *place)?;
+        put_because_at(text, answers, *place)?;
     }
     Ok(())
 }
 
 /// Adds the answer at a place, if one is there.
-pub(crate) fn put_place<A: Allocator + Copy>(
+pub(crate) fn put_because_at<A: Allocator + Copy>(
     text: &mut Vec<u8, A>,
     answers: &[Cited<'_>],
     place: usize,

@@ -117,7 +117,7 @@ impl<'s> Ask<'s> {
                 text.extend_from_slice(b" is missing")
             }
             Ask::StandsAt(at, number) => {
-                put_current(text, *at)?;
+                put_current_place(text, *at)?;
                 put_number(text, b" is ", *number)
             }
             Ask::StandsNowhere(at) => put_no_current(text, *at),
@@ -199,7 +199,10 @@ fn current_word(at: Position) -> &'static [u8]
 }
 
 /// Adds the number of the current article, if it is known.
-fn put_current<A: Allocator + Copy>(text: &mut Vec<u8, A>, at: Position) -> Result<(), AllocError>
+fn put_current_place<A: Allocator + Copy>(
+    text: &mut Vec<u8, A>,
+    at: Position,
+) -> Result<(), AllocError>
     ensures { OnOk result (text.new.items ≡ text.old.items ++ current_place at) }
 {
     match at {
@@ -215,7 +218,7 @@ fn put_no_current<A: Allocator + Copy>(
 ) -> Result<(), AllocError>
     ensures { OnOk result (text.new.items ≡ text.old.items ++ ask_text (asks.StandsNowhere at)) }
 {
-    put_current(text, at)?;
+    put_current_place(text, at)?;
     text.extend_from_slice(b" is missing")?;
     Ok(())
 }

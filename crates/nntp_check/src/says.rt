@@ -107,7 +107,7 @@ fn put_said_to<A: Allocator + Copy>(
             },
         ) => {
             put_text_is(text, about, *what, id.as_slice(), block)?;
-            put_place(text, about, here, which, *number, id.as_slice())
+            put_numbers_of_success(text, about, here, which, *number, id.as_slice())
         }
         (Command::ListActive(wildmat), Answer::Active(block)) => {
             put_groups(text, about, wildmat, block)
@@ -117,7 +117,7 @@ fn put_said_to<A: Allocator + Copy>(
 }
 
 /// Adds what a success of ARTICLE, HEAD, BODY or STAT says of the number.
-fn put_place<A: Allocator + Copy>(
+fn put_numbers_of_success<A: Allocator + Copy>(
     text: &mut Vec<u8, A>,
     about: &About<'_>,
     here: Here<'_>,

@@ -6,7 +6,7 @@ ghost use Rattle.nntp_article.specs.Session.MisfitView.{why, why_if};
 ghost use Rattle.nntp_check.specs.ExplainingView.{cited_of};
 ghost use Rattle.nntp_check.specs.Reasons.{gives_low, giver_lines, low_giver, unfitting_lines};
 
-use crate::reasons::{put_misfit, put_place};
+use crate::reasons::{put_because_at, put_misfit};
 use crate::standing::Cited;
 use nntp_article::Misfit;
 use nntp_facts::Placed;
@@ -51,7 +51,7 @@ fn put_giver<A: Allocator + Copy>(
         _ => None,
     };
     match giver {
-        Some(place) => put_place(text, cited, place),
+        Some(place) => put_because_at(text, cited, place),
         None => Ok(()),
     }
 }

@@ -2,6 +2,7 @@
 use nntp_wire::GroupName;
 
 /// What a bad answer and those with which it conflicts disagree about. Names and message-ids are octets of the answers.
+/// The variants stand in the order in which the kinds of points are looked for.
 #[derive(Drop)]
 pub enum Point<'a> {
     /// A step in the group of this name, or its current article, can't be (RFC 3977, section 6.1).

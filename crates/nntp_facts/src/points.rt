@@ -1,4 +1,4 @@
-//! The first point about which a bad answer and accepted ones conflict.
+//! A point, of the first kind that there is, about which a bad answer and accepted ones conflict.
 ghost use Rattle.std.specs.Prelude.{◌≡◌, ◌<◌, ◌^◌, ◌∷◌, ◌++◌, map, List, ℕ, IfOk, OnOk, MatchOption, option_map, Contains};
 ghost use Rattle.std.specs.List.{AllByRecursion, flat_map};
 ghost use Rattle.nntp_wire.specs.Limit.{greatest};
@@ -85,7 +85,8 @@ impl<'a, A: Allocator> Model for Conflict<'a, A> {
 }
 
 impl<'a, A: Allocator + Copy> Conflict<'a, A> {
-    /// Takes the bad answer, and the accepted ones at the places.
+    /// Takes the bad answer, and the accepted ones at the places. A place at which none stands is
+    /// passed over.
     ///
     /// # Errors
     ///
@@ -113,10 +114,11 @@ impl<'a, A: Allocator + Copy> Conflict<'a, A> {
         })
     }
 
-    /// Returns the first point about which the answers conflict, in the order of [`Point`], or `None` if they stand
-    /// together.
+    /// Returns a point about which the answers conflict, of the first kind of which there is one,
+    /// in the order of [`Point`]'s variants; or `None` if they stand together.
     ///
-    /// For k answers it takes time in the order of k k, and of k log n for each of n lines.
+    /// For k answers it takes time in the order of k k, and for each of n lines of k log n and of k
+    /// matches of a wildmat.
     ///
     /// # Errors
     ///
@@ -177,7 +179,7 @@ fn push_at<'a, A: Allocator + Copy>(
     Ok(())
 }
 
-/// Returns a point of the kind about which all the answers conflict, if there is one.
+/// Returns a point of the kind about which the answers together conflict, if there is one.
 fn first_of<'s, A: Allocator + Copy>(
     alloc: A,
     limit: Limit,

@@ -13,6 +13,6 @@ returns g c =
     on_ok c.put_reasons.result
     (λ put. conflict_told c.args.text.now.items (about_line point) (λ k. said_lines c.args.how k point c.args.bad.now)
     (λ k. flat_map (reason_lines c.args.how k point c.args.answers.now (map cited_of c.args.cited.now)) c.args.places.now)
-    c.told_line-line.result (told_line point c.args.bad.now c.args.answers.now c.args.places.now) c.put_point.new.text.items c.put_said.new.text.items c.put_reasons.new.text.items
-    c.in_ok-put_point.ensures c.in_ok-put_said.ensures put c.told_line-line.ensures.line)
+    c.told_line-line.result (told_line point c.args.bad.now c.args.answers.now c.args.places.now) c.put_about.new.text.items c.put_said.new.text.items c.put_reasons.new.text.items
+    c.in_ok-put_about.ensures c.in_ok-put_said.ensures put c.told_line-line.ensures.line)
     c.put_reasons.ensures

@@ -5,5 +5,5 @@ use Rattle.nntp_check.proofs.said_numbers.put_no_current.Goals as goal
 
 pub returns : goal.returns
 returns g c =
-    one_more c.args.text.now.items (current_place c.args.at) (codes " is missing") c.put_current.new.text.items c.extend_from_slice.new.self.items
-    c.in_ok-put_current.ensures c.in_ok-extend_from_slice.ensures.items
+    one_more c.args.text.now.items (current_place c.args.at) (codes " is missing") c.put_current_place.new.text.items c.extend_from_slice.new.self.items
+    c.in_ok-put_current_place.ensures c.in_ok-extend_from_slice.ensures.items

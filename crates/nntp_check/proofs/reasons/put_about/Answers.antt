@@ -4,7 +4,7 @@ use Rattle.nntp_facts.specs.PointView.{point_of}
 use Rattle.nntp_check.specs.Reasons.{about_line, number_line, octets_line}
 use Rattle.nntp_check.specs.Report.{escaped}
 use Rattle.nntp_check.proofs.SaysLemmas.{on_ok, line_told, two_told}
-use Rattle.nntp_check.proofs.reasons.put_point.Goals as goal
+use Rattle.nntp_check.proofs.reasons.put_about.Goals as goal
 
 pub returns-in-Group : goal.returns-in-Group
 returns-in-Group g c =
