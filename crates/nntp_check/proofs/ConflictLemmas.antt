@@ -32,6 +32,7 @@ module _ (profile : Profile) (bad : Placed) (answers : List Placed) (core : Core
       let text = conflict_lines profile.marks point bad answers told core.places in (
         text,
         is,
-        subst (λ o. MatchOption o ((point : Point) × IsFirstPoint (told_with profile bad answers core.places) point × (text ≡ conflict_lines profile.marks point bad answers told core.places)) (λ bound. text ≡ core_lines told core))
+        subst (λ o. MatchOption o ((point : Point) × IsFirstPoint (told_with profile bad answers core.places) point
+            × (text ≡ conflict_lines profile.marks point bad answers told core.places)) (λ bound. text ≡ core_lines told core))
             (sym whole) (point, first, refl),
       )

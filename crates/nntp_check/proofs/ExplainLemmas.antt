@@ -82,7 +82,8 @@ same_group pair None = refl
 same_group pair (Some s) = refl
 
 -- that is the selected group
-name_after : (response : Response) (asked : Asked) (pair : Paired) (s : Option Standing) (v : Visible) → name_in s ≡ v.selected → name_in (standing_by response pair s) ≡ (visible_after v asked response).selected
+name_after : (response : Response) (asked : Asked) (pair : Paired) (s : Option Standing) (v : Visible) → name_in s ≡ v.selected
+    → name_in (standing_by response pair s) ≡ (visible_after v asked response).selected
 name_after (group_is m name) asked pair s v e = refl
 name_after (numbers_are m name lines) asked pair s v e = refl
 name_after (sends sent) asked pair s v e = same_group pair s ∙ e
@@ -165,7 +166,8 @@ told_reason before stands index class line initial Reason old new reason is_told
 shape : (old front first middle last behind : List ℕ) → (old ++ front ++ first) ++ (middle ++ last ++ behind) ≡ old ++ (front ++ first ++ middle ++ last ++ behind)
 shape old front first middle last behind = simp append_assoc
 
-pub rest_told : (answers : List Cited) (rest : Option ℕ) (bound first last place : ℕ) (old mid new : List ℕ) → rest ≡ Some bound → place ≡ bound - 1 → first ≡ index_at answers 0 → last ≡ index_at answers place
+pub rest_told : (answers : List Cited) (rest : Option ℕ) (bound first last place : ℕ) (old mid new : List ℕ) → rest ≡ Some bound
+    → place ≡ bound - 1 → first ≡ index_at answers 0 → last ≡ index_at answers place
     → mid ≡ old ++ codes "because some of " ++ decimal first → new ≡ mid ++ number_line (codes " to ") last → new ≡ old ++ rest_line answers rest
 rest_told answers rest bound first last place old mid new is place-is first-is last-is mid-is new-is =
     new-is ∙ ap (λ t. t ++ number_line (codes " to ") last) mid-is
@@ -277,8 +279,11 @@ unspelled_explained profile accepted left behind index line initial block text p
     by (Some why) some is = is
 
 -- a frame that spells nothing
-pub told_unspelled : (profile : Profile) (client server : List ℕ) (kept new : Kept) (text after : List ℕ) (left behind : Unpaired) (index : ℕ) (asked : Asked) (line : Option (List ℕ)) (initial : List ℕ)
-    (block : Option (List ℕ)) → new ≡ record kept { bad = kept.bad + 1 } → asked ≡ asked_at line → GoesOn (IsTold kept.bad kept.stands index Malformed line initial (λ reason. reason ≡ unspelled_lines asked initial block)) text after
+pub told_unspelled : (profile : Profile) (client server : List ℕ) (kept new : Kept) (text after : List ℕ)
+    (left behind : Unpaired) (index : ℕ) (asked : Asked) (line : Option (List ℕ)) (initial : List ℕ)
+    (block : Option (List ℕ)) → new ≡ record kept { bad = kept.bad + 1 } → asked ≡ asked_at line
+    → GoesOn (IsTold kept.bad kept.stands index Malformed line initial
+    (λ reason. reason ≡ unspelled_lines asked initial block)) text after
     → AreTold profile client server kept text left → index ≡ left.index → IsPassedOver left line initial block behind → AreTold profile client server new after behind
 told_unspelled profile client server kept new text after left behind index asked line initial block new-is asked-is (more, after-is, told) t at passed =
     let here = subst (λ asked. IsTold kept.bad kept.stands index Malformed line initial (λ reason. reason ≡ unspelled_lines asked initial block) more) asked-is told in
@@ -292,7 +297,9 @@ refused_explained : (profile : Profile) (accepted : List Paired) (pair : Paired)
     → IsTold (pair.index - length accepted) (standing accepted) pair.index class pair.line pair.initial (IsReason profile accepted pair class) text
     → IsExplained profile accepted (Refused pair) text
 refused_explained profile accepted pair class text class-is is =
-    subst (λ o. MatchOption o ⊥ (λ class. IsTold (pair.index - length accepted) (standing accepted) pair.index class pair.line pair.initial (IsReason profile accepted pair class) text)) (sym class-is) is
+    subst (λ o. MatchOption o ⊥ (λ class. IsTold (pair.index - length accepted)
+    (standing accepted) pair.index class pair.line pair.initial (IsReason profile accepted pair class) text))
+    (sym class-is) is
 
 -- an exchange that doesn't fit
 told_unfitting : (profile : Profile) (client server : List ℕ) (kept : Kept) (text : List ℕ) (left behind : Unpaired) (pair : Paired) (more : List ℕ)
@@ -356,8 +363,10 @@ pub if_ok : {T E : Type 0} {P Q R : T → Type 0} (r : Result T E) → IfOk r P 
 if_ok (Ok x) p q f = f x p q
 if_ok (Err e) p q f = tt
 
-pub noted_consistent : (profile : Profile) (client server : List ℕ) (kept new : Kept) (facts : FactsKept) (noted : Noted) (position : Position) (closing : Option Cited) (text after : List ℕ) (left behind : Unpaired) (pair : Paired)
-    → noted ≡ kinds.Consistent → position ≡ kept.facts.position → closing ≡ closing_after kept.closing kept.stands pair → ((past : List Paired) → HasNoted profile kept.facts past → IsNoted profile past pair kept.facts facts noted)
+pub noted_consistent : (profile : Profile) (client server : List ℕ) (kept new : Kept) (facts : FactsKept) (noted : Noted)
+    (position : Position) (closing : Option Cited) (text after : List ℕ) (left behind : Unpaired) (pair : Paired)
+    → noted ≡ kinds.Consistent → position ≡ kept.facts.position → closing ≡ closing_after kept.closing kept.stands pair
+    → ((past : List Paired) → HasNoted profile kept.facts past → IsNoted profile past pair kept.facts facts noted)
     → new ≡ keeps position pair (record kept { facts = facts; closing = closing }) → after ≡ text
     → AreTold profile client server kept text left → IsNext left pair behind → AreTold profile client server new after behind
 noted_consistent profile client server kept new facts noted position closing text after left behind pair is position-is closing-is notes new-is after-is t next =
@@ -365,7 +374,8 @@ noted_consistent profile client server kept new facts noted position closing tex
     (λ i. (sym (new-is ∙ ap (λ (q : Position × Option Cited). keeps q.0 pair (record kept { facts = facts; closing = q.1 })) (λ i. (position-is i, closing-is i))) i, sym after-is i))
     (told_good profile client server kept facts text left behind pair t next (λ past h. subst (IsNoted profile past pair kept.facts facts) is (notes past h)))
 
-pub noted_out_of_place : (profile : Profile) (client server : List ℕ) (kept new : Kept) (facts : FactsKept) (noted : Noted) (closing : Option Cited) (text after : List ℕ) (left behind : Unpaired) (pair : Paired)
+pub noted_out_of_place : (profile : Profile) (client server : List ℕ) (kept new : Kept) (facts : FactsKept) (noted : Noted)
+    (closing : Option Cited) (text after : List ℕ) (left behind : Unpaired) (pair : Paired)
     → noted ≡ kinds.OutOfPlace → closing ≡ closing_after kept.closing kept.stands pair → ((past : List Paired) → HasNoted profile kept.facts past → IsNoted profile past pair kept.facts facts noted)
     → new ≡ record kept { facts = facts; closing = closing; bad = kept.bad + 1 }
     → GoesOn (IsTold kept.bad kept.stands pair.index OutOfPlace pair.line pair.initial
@@ -381,7 +391,8 @@ noted_out_of_place profile client server kept new facts noted closing text after
     (subst (λ (f : FactsKept). IsTold kept.bad kept.stands pair.index OutOfPlace pair.line pair.initial
     (λ reason. reason ≡ unfitting_told (record kept { facts = f }) pair) more) same told))
 
-pub noted_contradiction : (profile : Profile) (client server : List ℕ) (kept new : Kept) (facts : FactsKept) (noted : Noted) (position : Position) (closing : Option Cited) (text after : List ℕ) (left behind : Unpaired) (pair : Paired)
+pub noted_contradiction : (profile : Profile) (client server : List ℕ) (kept new : Kept) (facts : FactsKept) (noted : Noted)
+    (position : Position) (closing : Option Cited) (text after : List ℕ) (left behind : Unpaired) (pair : Paired)
     → noted ≡ kinds.Contradiction → position ≡ kept.facts.position → closing ≡ closing_after kept.closing kept.stands pair
     → ((past : List Paired) → HasNoted profile kept.facts past → IsNoted profile past pair kept.facts facts noted)
     → new ≡ record kept { facts = facts; closing = closing; bad = kept.bad + 1 }
@@ -448,7 +459,8 @@ pub told_at_octets : (limit : Limit) (marks : Marks) (client server spool : List
     → ((first : List ℕ) × IsFirstLine octets first × GoesOn (IsTold kept.bad kept.stands index (class_of class) line first (IsEndReason class kept.closing octets)) text after)
     → whole ≡ after ++ end_line (index + 1) (kept.bad + 1) unanswered → good ≡ (kept.bad + 1 == 0)
     → ExplainReports limit marks client server spool whole good
-told_at_octets limit marks client server spool kept text after whole left index class line octets unanswered good t ends other at line-is octets-is unanswered-is (first, is-first, (more, after-is, told)) whole-is good-is =
+told_at_octets limit marks client server spool kept text after whole left index class line octets unanswered good t ends other at
+    line-is octets-is unanswered-is (first, is-first, (more, after-is, told)) whole-is good-is =
     let profile = profile_of limit marks in
     let count = at ∙ index_in_session profile client server t.answers left t.judged in
     record {

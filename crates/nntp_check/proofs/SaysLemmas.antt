@@ -27,7 +27,8 @@ pub bounds_told : (name : Name) (about : Option ℕ) (p : Option (List ℕ)) (li
 bounds_told name about p line left lines text more whole of same is told h =
     let one = numbers_said name about (Asks line.name (Bounds line.low line.high)) in
     let rest = numbers_said name about (GroupsAre p lines) in
-    ap (λ t. t ++ rest) (told ∙ ap (λ g. text ++ numbers_said name about (Asks g (Bounds line.low line.high))) same) ∙ append_assoc text one rest ∙ ap (λ t. text ++ t) (sym (bounds_more name about p line lines))
+    ap (λ t. t ++ rest) (told ∙ ap (λ g. text ++ numbers_said name about (Asks g (Bounds line.low line.high))) same)
+    ∙ append_assoc text one rest ∙ ap (λ t. text ++ t) (sym (bounds_more name about p line lines))
     ∙ ap (λ ls. text ++ numbers_said name about (GroupsAre p ls)) (sym is) ∙ h
 
 -- where no line is left, the text is whole

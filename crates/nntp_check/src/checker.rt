@@ -205,7 +205,8 @@ fn go_on<A: Allocator + Copy>(
     mut feed: Feed<A>,
 ) -> Result<State<A>, AllocError>
     requires { (limit : Limit) × (marks : Marks) × (client : List ℕ) × (server : List ℕ) × Keeps (profile_of limit marks) judge.facts feed client server }
-    ensures { IfOk result (λ state. (limit : Limit) (marks : Marks) (client server : List ℕ) → Keeps (profile_of limit marks) judge.facts feed client server → StandsFor limit marks (of_state state) client server) }
+    ensures { IfOk result (λ state. (limit : Limit) (marks : Marks) (client server : List ℕ) → Keeps (profile_of limit marks) judge.facts feed client server
+        → StandsFor limit marks (of_state state) client server) }
 {
     while let Peek::Whole(exchange) = feed.peek() {
         if let Some(verdict) = judge.note(&exchange)? {

@@ -7,7 +7,8 @@ ghost use Rattle.nntp_article.specs.Session.Machine.{is_in_range, is_same};
 ghost use Rattle.nntp_facts.specs.Asks as asks;
 ghost use Rattle.nntp_facts.specs.Facts.{Asks, GroupsAre, IdAt};
 ghost use Rattle.nntp_facts.specs.Given.{is_end};
-ghost use Rattle.nntp_check.specs.Says.{ask_line, ask_text, ask_word, bears_on, current_place, current_word, id_line, listed_text, marks_text, numbers_said, place_text, range_text, subject, with_or_without};
+ghost use Rattle.nntp_check.specs.Says.{ask_line, ask_text, ask_word, bears_on, current_place, current_word, id_line};
+ghost use Rattle.nntp_check.specs.Says.{listed_text, marks_text, numbers_said, place_text, range_text, subject, with_or_without};
 ghost use Rattle.nntp_check.specs.SaysView.{ask_of};
 
 use crate::printing::{put_escaped, put_escaped_line, put_number};

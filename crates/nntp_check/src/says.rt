@@ -73,7 +73,8 @@ fn put_said_to<A: Allocator + Copy>(
     answer: &Answer<'_>,
 ) -> Result<(), AllocError>
     requires { IfSome about.now.line (λ place. place < 2 ^ 64 - 1) }
-    ensures { OnOk result (text.new.items ≡ text.old.items ++ flat_map (says about.now.line (point_of about.now.point)) (facts_of how (in_group here.entry.name.now) here.entry.at (to (request command.now)) (response answer.now))) }
+    ensures { OnOk result (text.new.items ≡ text.old.items
+        ++ flat_map (says about.now.line (point_of about.now.point)) (facts_of how (in_group here.entry.name.now) here.entry.at (to (request command.now)) (response answer.now))) }
 {
     match (command, answer) {
         (_, Answer::Plain { code }) => put_said_by_code(text, about, here, command, *code),
@@ -125,7 +126,8 @@ fn put_numbers_of_success<A: Allocator + Copy>(
     number: u64,
     id: &[u8],
 ) -> Result<(), AllocError>
-    ensures { OnOk result (text.new.items ≡ text.old.items ++ flat_map (says about.now.line (point_of about.now.point)) (numbers_of_success (in_group here.entry.name.now) here.entry.at (target which.now) number id.now)) }
+    ensures { OnOk result (text.new.items ≡ text.old.items
+        ++ flat_map (says about.now.line (point_of about.now.point)) (numbers_of_success (in_group here.entry.name.now) here.entry.at (target which.now) number id.now)) }
 {
     match which {
         Which::Id(_) if number == 0 => Ok(()),
@@ -145,7 +147,8 @@ fn put_said_by_code<A: Allocator + Copy>(
     command: &Command<'_>,
     code: u64,
 ) -> Result<(), AllocError>
-    ensures { OnOk result (text.new.items ≡ text.old.items ++ flat_map (says about.now.line (point_of about.now.point)) (facts_of_code (in_group here.entry.name.now) here.entry.at (request command.now) code)) }
+    ensures { OnOk result (text.new.items ≡ text.old.items
+        ++ flat_map (says about.now.line (point_of about.now.point)) (facts_of_code (in_group here.entry.name.now) here.entry.at (request command.now) code)) }
 {
     match (command, code) {
         (Command::Group(word), 411) => put_there_is_no(text, about, *word),
@@ -174,7 +177,8 @@ fn put_failure<A: Allocator + Copy>(
     which: &Which<'_>,
     code: u64,
 ) -> Result<(), AllocError>
-    ensures { OnOk result (text.new.items ≡ text.old.items ++ flat_map (says about.now.line (point_of about.now.point)) (facts_of_code (in_group here.entry.name.now) here.entry.at (retrieve Stat (target which.now)) code)) }
+    ensures { OnOk result (text.new.items ≡ text.old.items
+        ++ flat_map (says about.now.line (point_of about.now.point)) (facts_of_code (in_group here.entry.name.now) here.entry.at (retrieve Stat (target which.now)) code)) }
 {
     match (which, code) {
         (Which::Id(word), 430) => put_no_article(text, about, *word),

@@ -333,7 +333,9 @@ told_holds profile S all spool holds v at (q ∷ ps) (a ∷ more) h p =
     let own_placed = subst (AllByRecursion (IsPlaced profile.marks all)) same (all_front (IsPlaced profile.marks all) (facts_of profile.marks v at q a) rest p) in
     all_both (Holds S) (with_group profile own) (flat_map (told profile) (placed_from (visible_after v q a) (position_after at q a) ps more))
     (all_both (Holds S) (the_group profile (group_of own)) own (with_holds profile S all spool holds own own_placed) own_hold)
-    (told_holds profile S all spool holds (visible_after v q a) (position_after at q a) ps more (all_back (Holds S) (facts_of profile.marks v at q a) rest h) (all_back (IsPlaced profile.marks all) (facts_of profile.marks v at q a) rest p))
+    (told_holds profile S all spool holds (visible_after v q a) (position_after at q a) ps more
+    (all_back (Holds S) (facts_of profile.marks v at q a) rest h)
+    (all_back (IsPlaced profile.marks all) (facts_of profile.marks v at q a) rest p))
 
 -- a session that fits is permitted exactly if some spool has what is told of it
 pub session_had : (profile : Profile) (ps : List Asked) (answers : List Response) → FitsAll profile start.visible ps answers

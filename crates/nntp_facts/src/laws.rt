@@ -383,7 +383,12 @@ pub fn contradiction_conflicts_with_those_before()
     ensures bad { (profile : Profile) (prompts : List Asked) (answers : List Response) (asked : Asked) (response : Response)
         → asked_next prompts answers ≡ Some asked → FitsAll profile start.visible prompts (answers ++ response ∷ [])
         → (SomePermits profile prompts (answers ++ response ∷ []) → ⊥)
-        → SomeHas profile (told_with profile (record { selected = (visible_from start.visible prompts answers).selected; position = position_from Nowhere prompts answers; asked = asked; response = response })
+        → SomeHas profile (told_with profile (record {
+          selected = (visible_from start.visible prompts answers).selected;
+          position = position_from Nowhere prompts answers;
+          asked = asked;
+          response = response;
+        })
         (placed_from start.visible Nowhere prompts answers) (below (length (placed_from start.visible Nowhere prompts answers)))) → ⊥ }
 {}
 

@@ -261,7 +261,8 @@ impl<'s> Saying<'s> {
         ensures { (profile : Profile) (how : Marks) (v : Visible) (facts : List Fact) (code : ℕ)
             → IsTrue (fits profile v (to (retrieve what (target which.now))) (sends (record { code = code; number = number.now; id = id.now; block = block.now }))) → IsSelectedShown v facts
             → selected.now ≡ here v
-            → TellsHere selected.now facts (saying_of result) (facts_of how v at (to (retrieve what (target which.now))) (sends (record { code = code; number = number.now; id = id.now; block = block.now }))) }
+            → TellsHere selected.now facts (saying_of result)
+            (facts_of how v at (to (retrieve what (target which.now))) (sends (record { code = code; number = number.now; id = id.now; block = block.now }))) }
     {
         match which {
             Which::Id(_) if *number == 0 => Saying::sends(None, what, id, block),

@@ -153,7 +153,8 @@ impl<A: Allocator + Copy> Feed<A> {
     pub fn advance(&mut self)
         requires { HasNext (left_of self.old) }
         ensures next { (pair : Paired) × IsNext (left_of self.old) pair (left_of self.new) }
-        ensures fed { (client server : List ℕ) (pairs : List Paired) (pair : Paired) (behind : Unpaired) → IsFed self.old client server pairs → IsNext (left_of self.old) pair behind → IsFed self.new client server (pairs ++ pair ∷ []) }
+        ensures fed { (client server : List ℕ) (pairs : List Paired) (pair : Paired) (behind : Unpaired) → IsFed self.old client server pairs
+            → IsNext (left_of self.old) pair behind → IsFed self.new client server (pairs ++ pair ∷ []) }
         ensures counts { self.new.counts ≡ self.old.counts }
         ensures has_failed { self.new.has_failed ≡ self.old.has_failed }
     {

@@ -10,7 +10,8 @@ ghost use Rattle.nntp_pair.specs.declared.peek.Peek.{Peek};
 ghost use Rattle.nntp_pair.specs.declared.peek.Peek.TheVariants.{Nothing};
 ghost use Rattle.nntp_pair.specs.declared.ending.Ending.TheVariants.{End, Bad};
 ghost use Rattle.nntp_pair.specs.Feeding.{Fed, IsFed, IsPeek, IsEnding, left_of, with_octets};
-ghost use Rattle.nntp_pair.specs.Pairing.{Paired, Unpaired, IsNext, IsPassedOver, AreNext, Ending, end, bad, Ends, IsPairing, IsLasting, HasPairs, responses_of, asked_at, places_of, streams, with_more};
+ghost use Rattle.nntp_pair.specs.Pairing.{Paired, Unpaired, IsNext, IsPassedOver, AreNext, Ending, end, bad};
+ghost use Rattle.nntp_pair.specs.Pairing.{Ends, IsPairing, IsLasting, HasPairs, responses_of, asked_at, places_of, streams, with_more};
 
 /// One pair comes next, and then one thing is left.
 pub fn one_next_pair()

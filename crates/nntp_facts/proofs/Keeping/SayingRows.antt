@@ -56,7 +56,16 @@ shown_here v facts name shown is there = subst (λ name. is_shown_group facts na
 
 -- nothing is said
 pub tells_nothing : {selected : Name} → (facts more : List Fact) → [] ≡ more → TellsHere selected facts nothing more
-tells_nothing {selected} facts more same = record { tells = record { asks = []; same = same; may = record { numbers = tt; shown = tt; there = tt; placed = tt; article = tt; groups = tt } }; group = ap group_of same; there = tt }
+tells_nothing {selected} facts more same =
+    record {
+      tells = record {
+        asks = [];
+        same = same;
+        may = record { numbers = tt; shown = tt; there = tt; placed = tt; article = tt; groups = tt };
+      };
+      group = ap group_of same;
+      there = tt;
+    }
 
 -- something of the numbers of the selected group
 pub tells_numbers : (v : Visible) (facts : List Fact) (name : Name) (p : Said) (ask : Ask) (s : Saying) (more : List Fact)
@@ -211,11 +220,29 @@ tells_list {selected} facts name p how m r ns s more says bounded s_is same =
 pub tells_text : {selected : Name} → (facts : List Fact) (what : What) (id : Id) (lines : Option (List Line)) (s : Saying) (more : List Fact)
     → IsTrue (head_fits what id lines) → s ≡ of_sent None what id lines → (TextIs what id lines ∷ []) ≡ more → TellsHere selected facts s more
 tells_text {selected} facts what id lines s more fits s_is same =
-    subst (λ s. TellsHere selected facts s more) (sym s_is) (record { tells = record { asks = []; same = same; may = record { numbers = tt; shown = tt; there = tt; placed = tt; article = fits; groups = tt } }; group = ap group_of same; there = tt })
+    subst (λ s. TellsHere selected facts s more) (sym s_is)
+    (record {
+      tells = record {
+        asks = [];
+        same = same;
+        may = record { numbers = tt; shown = tt; there = tt; placed = tt; article = fits; groups = tt };
+      };
+      group = ap group_of same;
+      there = tt;
+    })
 
 -- an id that has no article
 pub tells_lack : {selected : Name} → (facts : List Fact) (id : Id) (more : List Fact) → (NoArticle id ∷ []) ≡ more → TellsHere selected facts (record nothing { article = Some (id, Lacks) }) more
-tells_lack {selected} facts id more same = record { tells = record { asks = []; same = same; may = record { numbers = tt; shown = tt; there = tt; placed = tt; article = tt; groups = tt } }; group = ap group_of same; there = tt }
+tells_lack {selected} facts id more same =
+    record {
+      tells = record {
+        asks = [];
+        same = same;
+        may = record { numbers = tt; shown = tt; there = tt; placed = tt; article = tt; groups = tt };
+      };
+      group = ap group_of same;
+      there = tt;
+    }
 
 -- the groups that match
 pub tells_groups : {selected : Name} → (facts : List Fact) (p : Option (List ℕ)) (lines : List ActiveValue) (more : List Fact) → MayList p lines

@@ -24,7 +24,9 @@ use Rattle.nntp_facts.specs.Summary.{AreBounded}
 use Rattle.nntp_facts.specs.Conflict.{widest, the_group, Point, Step, Group, Number, IdOf, PlaceOf, Article, rank, ConflictAt, AreApart, AreTooMany}
 use Rattle.nntp_facts.specs.declared.points.articles.Part.{Part}
 use Rattle.nntp_facts.specs.declared.points.articles.Part.TheVariants.{Head, Body}
-use Rattle.nntp_facts.specs.Points.{Statement, AllTell, HasPart, IsPointWith, NoneBefore, first_in, is_impossible, shows_name, denies_name, speaks_of, id_told, place_told, shows_id, denies_id, part_told, part_sent, point_of_part, rank_of_part}
+use Rattle.nntp_facts.specs.Points.{Statement, AllTell, HasPart, IsPointWith, NoneBefore, first_in, is_impossible, shows_name}
+use Rattle.nntp_facts.specs.Points.{denies_name, speaks_of, id_told, place_told, shows_id, denies_id, part_told, part_sent}
+use Rattle.nntp_facts.specs.Points.{point_of_part, rank_of_part}
 use Rattle.nntp_facts.proofs.Members.{In, in_contains, any_in, to_flat}
 use Rattle.nntp_facts.proofs.PointsByRank.{of_rank}
 use Rattle.nntp_facts.proofs.Together.FactsJoin.{asks_append}

@@ -100,7 +100,14 @@ accepted_or_bad (Accepted pair ∷ answers) = elim (accepted_or_bad answers) [
   | inr first ↦ inr (record { pairs = pair ∷ first.pairs; answer = first.answer; more = first.more; whole = ap (λ answers. Accepted pair ∷ answers) first.whole; is_bad = first.is_bad })
 ]
 accepted_or_bad (Refused pair ∷ answers) = inr (record { pairs = []; answer = Refused pair; more = answers; whole = refl; is_bad = λ profile past. (_, refl) })
-accepted_or_bad (Unspelled index line initial block ∷ answers) = inr (record { pairs = []; answer = Unspelled index line initial block; more = answers; whole = refl; is_bad = λ profile past. (_, refl) })
+accepted_or_bad (Unspelled index line initial block ∷ answers) = inr
+    (record {
+      pairs = [];
+      answer = Unspelled index line initial block;
+      more = answers;
+      whole = refl;
+      is_bad = λ profile past. (_, refl);
+    })
 
 -- all answers are accepted, and no octet is left
 abbrev IsGood : List Judged → Ending → Type 0

@@ -29,5 +29,7 @@ returns-clause-ok g c =
       text = told.text.items;
       reports = subst (λ (s : List ℕ × List ℕ). ExplainReports c.args.limit c.args.marks s.0 s.1 read.2 told.text.items told.is_without_fault)
           (λ i. ((c.deref.ensures.value ∙ read.4.0) i, (c.deref-2.ensures.value ∙ read.4.1) i)) (c.in_ok-told.ensures read.2);
-      whole = wrote-all (g.W.Write.contents c.args.output.now.inner) (g.W.Write.contents c.print.new.output.inner) told.text.items c.deref-3.result.now c.deref-3.ensures.value c.in_ok-print.ensures.text;
+      whole = wrote-all (g.W.Write.contents c.args.output.now.inner)
+          (g.W.Write.contents c.print.new.output.inner) told.text.items c.deref-3.result.now c.deref-3.ensures.value
+          c.in_ok-print.ensures.text;
     }

@@ -40,7 +40,9 @@ pub returns-in-Consistent : goal.returns-in-Consistent
 returns-in-Consistent g c =
     on_ok c.accept.result c.accept.ensures.kept c.accept.ensures.text
     (λ kept text profile client server left behind t next.
-    noted_consistent profile client server (kept_of c.args.self.now) (kept_of c.accept.new.self) c.note.new.self c.in-Ok.noted c.position-position.result (option_map cited_of c.note_closing.new.closing)
+    noted_consistent profile client server (kept_of c.args.self.now)
+    (kept_of c.accept.new.self) c.note.new.self c.in-Ok.noted c.position-position.result
+    (option_map cited_of c.note_closing.new.closing)
     c.args.self.now.text.items c.accept.new.self.text.items left behind c.args.exchange
     c.in-Consistent.is c.position-position.ensures c.note_closing.ensures (c.in-Ok.ensures.noted profile) kept text t next)
 
@@ -56,6 +58,8 @@ pub returns-in-Contradiction : goal.returns-in-Contradiction
 returns-in-Contradiction g c =
     on_ok c.refuse_contradiction.result c.refuse_contradiction.ensures.kept c.refuse_contradiction.ensures.text
     (λ kept text profile client server left behind t next.
-    noted_contradiction profile client server (kept_of c.args.self.now) (kept_of c.refuse_contradiction.new.self) c.note.new.self c.in-Ok.noted c.position-position.result (option_map cited_of c.note_closing.new.closing)
+    noted_contradiction profile client server (kept_of c.args.self.now)
+    (kept_of c.refuse_contradiction.new.self) c.note.new.self c.in-Ok.noted c.position-position.result
+    (option_map cited_of c.note_closing.new.closing)
     c.args.self.now.text.items c.refuse_contradiction.new.self.text.items left behind c.args.exchange
     c.in-Contradiction.is c.position-position.ensures c.note_closing.ensures (c.in-Ok.ensures.noted profile) kept text t next)

@@ -12,7 +12,8 @@ returns-in_ok-put_unspelled-clause-text g c =
     let m = c.args.malformed.now in
     let stands = option_map standing_of c.args.self.now.standing in
     let reason = unspelled_lines (asked m.prompt) m.frame.initial m.frame.block in
-    let lines = ap (λ initial. c.args.self.now.text.items ++ bad_lines c.args.index Malformed (option_copied m.line) initial ++ place_lines c.args.self.now.bad stands) c.initial-initial.ensures.value in
+    let lines = ap (λ initial. c.args.self.now.text.items ++ bad_lines c.args.index Malformed
+    (option_copied m.line) initial ++ place_lines c.args.self.now.bad stands) c.initial-initial.ensures.value in
     told_reason c.args.self.now.bad stands c.args.index Malformed (option_copied m.line) m.frame.initial (λ r. r ≡ reason)
     c.args.self.now.text.items c.put_unspelled.new.text.items reason true
     (sym c.if-branch.true ∙ c.in_ok-put_bad.ensures.told)

@@ -5,7 +5,9 @@ use Rattle.nntp_check.proofs.ShowLemmas.{shown-more, untaken-memory}
 use Rattle.nntp_check.proofs.session_printer.SessionPrinter.feed.Goals as goal
 
 pub returns-in-Client-clause-ok : goal.returns-in-Client-clause-ok
-returns-in-Client-clause-ok g c = rw c.in-Client.is (on-ok _ c.feed_client.result c.feed_client.ensures (λ taken client server shows. shown-more _ _ Client c.args.octets.now _ client server taken shows))
+returns-in-Client-clause-ok g c = rw c.in-Client.is
+    (on-ok _ c.feed_client.result c.feed_client.ensures
+    (λ taken client server shows. shown-more _ _ Client c.args.octets.now _ client server taken shows))
 
 pub returns-in-Client-clause-err : goal.returns-in-Client-clause-err
 returns-in-Client-clause-err g c =
@@ -14,7 +16,9 @@ returns-in-Client-clause-err g c =
     if-err _ _ _ c.feed_client.result c.feed_client.ensures (λ error is. untaken-memory error Client c.args.octets.now _ _ _ room.0 room.1 room.3 (omega arith) is)
 
 pub returns-in-Server-clause-ok : goal.returns-in-Server-clause-ok
-returns-in-Server-clause-ok g c = rw c.in-Server.is (on-ok _ c.feed_server.result c.feed_server.ensures (λ taken client server shows. shown-more _ _ Server c.args.octets.now _ client server taken shows))
+returns-in-Server-clause-ok g c = rw c.in-Server.is
+    (on-ok _ c.feed_server.result c.feed_server.ensures
+    (λ taken client server shows. shown-more _ _ Server c.args.octets.now _ client server taken shows))
 
 pub returns-in-Server-clause-err : goal.returns-in-Server-clause-err
 returns-in-Server-clause-err g c =

@@ -16,9 +16,12 @@ returns-then-not-branch g c facts kept together fit =
     let a = c.args.answer.now in
     let saying = saying_of c.of-saying.result in
     let own = said profile.marks a in
-    let there = there_told profile a _ _ _ _ _ saying fit c.prompt.ensures c.answer-response.ensures.value c.position.ensures c.selected_name.ensures.value (c.deref.ensures.value ∙ c.in_ok-numbers.ensures) c.of-saying.ensures in
+    let there = there_told profile a _ _ _ _ _ saying fit c.prompt.ensures c.answer-response.ensures.value c.position.ensures
+    c.selected_name.ensures.value (c.deref.ensures.value ∙ c.in_ok-numbers.ensures) c.of-saying.ensures in
     let group = c.in_ok-tell_group.ensures profile facts own refl kept together (subst (λ o. TellsThere o saying own) (sym c.selected.ensures) there) in
-    group_refused profile a facts together c.tell_group.new.self (subst (λ does. AreAdded facts (the_group profile (group_of own)) c.args.self.now c.tell_group.new.self does) c.if-not-branch.true group).0
+    group_refused profile a facts together c.tell_group.new.self
+    (subst (λ does. AreAdded facts (the_group profile (group_of own)) c.args.self.now c.tell_group.new.self does)
+    c.if-not-branch.true group).0
 
 pub returns : goal.returns
 returns g c = if_ok c.note.result (λ does adds facts kept together fit.
@@ -26,7 +29,8 @@ returns g c = if_ok c.note.result (λ does adds facts kept together fit.
     let a = c.args.answer.now in
     let saying = saying_of c.of-saying.result in
     let own = said profile.marks a in
-    let there = there_told profile a _ _ _ _ _ saying fit c.prompt.ensures c.answer-response.ensures.value c.position.ensures c.selected_name.ensures.value (c.deref.ensures.value ∙ c.in_ok-numbers.ensures) c.of-saying.ensures in
+    let there = there_told profile a _ _ _ _ _ saying fit c.prompt.ensures c.answer-response.ensures.value c.position.ensures
+    c.selected_name.ensures.value (c.deref.ensures.value ∙ c.in_ok-numbers.ensures) c.of-saying.ensures in
     let group = subst (λ does. AreAdded facts (the_group profile (group_of own)) c.args.self.now c.tell_group.new.self does) c.if-not-branch.false
     (c.in_ok-tell_group.ensures profile facts own refl kept together (subst (λ o. TellsThere o saying own) (sym c.selected.ensures) there)) in
     let formed = c.answer-response.ensures.well_formed profile.marks (record start.visible { selected = a.selected }) a.position in

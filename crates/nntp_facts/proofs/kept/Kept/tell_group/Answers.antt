@@ -16,7 +16,8 @@ pub returns-in-None-Some-Some : goal.returns-in-None-Some-Some
 returns-in-None-Some-Some g c = if_ok c.note_group-in-None-Some-Some.result (λ does adds profile facts more limit kept together tells.
     let w = c.in-None-Some-Some in
     let said = selected_said _ (saying_of c.args.saying.now) more tells _ _ (ap (option_map (λ name. name.now)) w.is-0) (ap (option_map of_group) w.is-1) (ap (option_map (λ name. name.now)) w.is-2) in
-    subst (λ o. AreAdded facts (the_group profile o) c.args.self.now c.note_group-in-None-Some-Some.new.self does) (sym said) (adds profile facts limit kept together)) c.note_group-in-None-Some-Some.ensures
+    subst (λ o. AreAdded facts (the_group profile o) c.args.self.now c.note_group-in-None-Some-Some.new.self does) (sym said)
+    (adds profile facts limit kept together)) c.note_group-in-None-Some-Some.ensures
 
 pub returns-in-None-Some-None : goal.returns-in-None-Some-None
 returns-in-None-Some-None g c profile facts more limit kept together tells =

@@ -17,7 +17,9 @@ loop-place-preserved g c =
     let places = c.args.places.now in
     let answers = c.args.answers.now in
     let i = c.loop-place.place-index in (
-      c.in_ok-push_at.ensures.taken ∙ ap (λ xs. xs ++ map with_numbers (answer_at answers (get_or places i 0))) c.loop-place.invariant.0 ∙ answers_next c.args.bad.now answers places i c.loop-place-test.true,
+      c.in_ok-push_at.ensures.taken ∙ ap (λ xs. xs ++ map with_numbers
+          (answer_at answers (get_or places i 0))) c.loop-place.invariant.0
+          ∙ answers_next c.args.bad.now answers places i c.loop-place-test.true,
       all_next (λ a. lines_in a.response < 2 ^ 64) c.args.bad.now answers places i c.loop-place-test.true c.loop-place.invariant.1 c.in_ok-push_at.ensures.few,
     )
 
