@@ -1,17 +1,25 @@
 //! Laws of captures: octets are pieces, one after the other, in one way. And of verdicts: two streams
 //! have one, and it is a yes exactly if some spool explains them; and what is bad for good stays so.
-ghost use Rattle.std.specs.Prelude.{◌≡◌, ◌↔◌, ◌++◌, ◌⊎◌, ℕ, List, Option, is_some, IsTrue};
+ghost use Rattle.std.specs.Prelude.{◌≡◌, ◌↔◌, ◌++◌, ◌⊎◌, ◌<◌, ℕ, List, Option, Some, MatchOption, length, is_some, IsTrue};
+ghost use Rattle.nntp_wire.specs.Answer.{Asked, Response};
 ghost use Rattle.nntp_wire.specs.declared.limit.Limit.{Limit};
 ghost use Rattle.nntp_wire.specs.declared.marks.Marks.{Marks};
 ghost use Rattle.nntp_article.specs.Session.Explains.{Explains};
 ghost use Rattle.nntp_article.specs.Session.Limit.{profile_of};
+ghost use Rattle.nntp_article.specs.Session.Misfit.{misfit, below_low, marked_by};
 ghost use Rattle.nntp_article.specs.Session.Spool.{Spool};
 ghost use Rattle.nntp_article.specs.declared.session.profile.Profile.{Profile};
 ghost use Rattle.nntp_check.specs.Capture.{AreStreams, BeginsCapture, IsBadPieceForGood, IsBadPiece, IsCapture, IsPiece, Part, spelled};
 ghost use Rattle.nntp_check.specs.Checking.{IsBadForGood, IsToldBad};
+ghost use Rattle.nntp_check.specs.Explaining.{visible_left};
 ghost use Rattle.nntp_check.specs.Judging.{IsVerdict};
+ghost use Rattle.nntp_check.specs.Reasons.{low_giver};
+ghost use Rattle.nntp_facts.specs.Conflict.{placed_of};
+ghost use Rattle.nntp_pair.specs.Pairing.{Paired};
 ghost use Rattle.nntp_facts.specs.declared.class.Class.{Class};
 ghost use Rattle.nntp_check.specs.Verdict.{Judgement, is_consistent};
+
+use nntp_article::session::laws::reasons_are_so;
 
 /// Octets begin with one piece.
 pub fn one_first_piece()
@@ -75,3 +83,12 @@ pub fn one_is_told_bad()
     ensures stays { (profile : Profile) (client server client_more server_more : List ℕ) (told other : Option (ℕ × Class)) → IsTrue (is_some told)
         → IsToldBad profile client server told → IsToldBad profile (client ++ client_more) (server ++ server_more) other → other ≡ told }
 {}
+
+/// Where a low mark is below an earlier one of the group, an accepted answer gave that one (RFC 3977, section 6.1.1.2).
+pub fn low_marks_have_givers()
+    ensures { (profile : Profile) (accepted : List Paired) (asked : Asked) (response : Response) (low : ℕ)
+        → misfit profile (visible_left accepted) asked response ≡ Some (below_low low)
+        → MatchOption (marked_by response) ⊥ (λ marked. MatchOption (low_giver marked.0 low (placed_of accepted)) ⊥ (λ place. place < length (placed_of accepted))) }
+{
+    reasons_are_so();
+}
