@@ -14,7 +14,7 @@ use Rattle.nntp_pair.specs.declared.side.Side.TheVariants.{Client, Server}
 use Rattle.nntp_pair.proofs.FedLaws.{fed-paired}
 use Rattle.nntp_facts.specs.Classes.{class_of}
 use Rattle.nntp_facts.specs.declared.class.Class.{Class}
-use Rattle.nntp_check.specs.Report.{bad_line}
+use Rattle.nntp_printing.specs.BadAnswer.{bad_line}
 use Rattle.nntp_check.specs.Run.{ShowReports}
 use Rattle.nntp_check.specs.Show.{exchange_text, ending_line, is_end}
 use Rattle.nntp_check.specs.Showing.{IsShown}

@@ -14,16 +14,15 @@ use Rattle.nntp_spool.specs.Writing.{Wrote}
 use Rattle.nntp_spool.specs.declared.text.read_fault.ReadFault.{ReadFault}
 use Rattle.nntp_spool.specs.declared.verification.verified.Verified.{Verified}
 use Rattle.nntp_spool.specs.declared.watched.Watched.{Watched}
-use Rattle.nntp_facts.specs.Reading.{Judged, IsReading}
-use Rattle.nntp_check.specs.Explaining.{AreExplained, IsEnded, is_without_fault}
+use Rattle.nntp_explain.specs.Explaining.{IsExplanation}
 use Rattle.nntp_check.specs.Capture.{AreStreams, BeginsCapture, IsBadPieceForGood, IsBadPiece}
-use Rattle.nntp_check.specs.Judging.{IsVerdict}
+use Rattle.nntp_verdict.specs.Judging.{IsVerdict}
 use Rattle.nntp_check.specs.Report.{report_of, verified_report, is_permitted}
 use Rattle.nntp_check.specs.Show.{shown_report, is_end}
-use Rattle.nntp_check.specs.Verdict.{Judgement, is_consistent}
+use Rattle.nntp_verdict.specs.Verdict.{Judgement, is_consistent}
 use Rattle.nntp_check.specs.declared.command_line.Task.{Task}
-use Rattle.nntp_check.specs.declared.command_line.Task.TheVariants as tasks
 use Rattle.nntp_check.specs.declared.run_fault.RunFault.{RunFault}
+use Rattle.nntp_check.specs.declared.command_line.Task.TheVariants as tasks
 use Rattle.nntp_check.specs.declared.run_fault.RunFault.TheVariants as faults
 
 -- what a run read: what the reader had before and what it has after, and how many octets may be read
@@ -107,16 +106,8 @@ pub record ShowReports (client server spool text : List ℕ) (answer : Bool) : T
   pub answer_is : answer ≡ is_end ending
 
 -- the report of `explain` on them, by the limit and the marks, and its answer: the spool's text makes no difference
-pub record ExplainReports (limit : Limit) (marks : Marks) (client server spool text : List ℕ) (answer : Bool) : Type 0 where
-  pub answers : List Judged
-  pub ending : Ending
-  pub reading : IsReading (profile_of limit marks) client server answers ending
-  pub front : List ℕ
-  pub explained : AreExplained (profile_of limit marks) [] answers front
-  pub last : List ℕ
-  pub ended : IsEnded answers reading.left ending last
-  pub text_is : text ≡ front ++ last
-  pub answer_is : answer ≡ is_without_fault answers ending
+abbrev pub ExplainReports : Limit → Marks → List ℕ → List ℕ → List ℕ → List ℕ → Bool → Type 0
+ExplainReports limit marks client server spool text answer = IsExplanation limit marks client server text answer
 
 -- what was read is a capture, and what was written is the report on it
 pub record IsReported (Reports : List ℕ → List ℕ → List ℕ → List ℕ → Bool → Type 0) (input : Input) (output : Output) (answer : Bool) : Type 0 where

@@ -8,7 +8,8 @@ use Rattle.nntp_article.specs.Article.Control.{ControlValue, cancel, new_group, 
 use Rattle.nntp_article.specs.Article.Required.{missing_of}
 use Rattle.nntp_article.specs.declared.article.missing_headers.Missing.{Missing}
 use Rattle.nntp_facts.specs.Classes.{class_of}
-use Rattle.nntp_check.specs.Report.{escaped, bad_line}
+use Rattle.nntp_printing.specs.BadAnswer.{bad_line}
+use Rattle.nntp_printing.specs.Printing.{escaped}
 
 -- what is answered: the greeting, or the line of the client
 abbrev pub prompt_text : Option (List ℕ) → List ℕ

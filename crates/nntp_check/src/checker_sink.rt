@@ -1,13 +1,13 @@
 //! A checker takes the streams of a capture.
 ghost use Rattle.nntp_wire.specs.declared.limit.Limit.{Limit};
 ghost use Rattle.nntp_wire.specs.declared.marks.Marks.{Marks};
-ghost use Rattle.nntp_check.specs.Checking.{StandsFor};
-ghost use Rattle.nntp_check.specs.CheckerView.{checked};
+ghost use Rattle.nntp_verdict.specs.Checking.{StandsFor};
+ghost use Rattle.nntp_verdict.specs.CheckerView.{checked};
 
-use crate::checker::Checker;
 use crate::sink::Sink;
 use crate::source::Source;
 use nntp_pair::PairError;
+use nntp_verdict::Checker;
 use std::alloc::Allocator;
 
 /// It passes over the text of a spool.

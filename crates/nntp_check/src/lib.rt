@@ -7,38 +7,24 @@
 #![tactic(auto)]
 
 mod capture_reader;
-mod checker;
 mod checker_sink;
 mod command_line;
-mod conflict;
-mod explainer;
 mod input;
-mod judge;
 pub mod laws;
-mod printing;
-mod reasons;
 mod report;
 mod run;
 mod run_fault;
-mod said_numbers;
-mod said_parts;
-mod says;
 mod session_printer;
 mod show;
 mod sink;
 mod source;
-mod standing;
 mod streams;
-mod unfitting;
-mod verdict;
 
-pub use checker::Checker;
 pub use command_line::{Failure, Task, job, refusal, status};
-pub use judge::check;
 pub use nntp_facts::Class;
 pub use nntp_pair::PairError as CheckError;
 pub use nntp_spool::{Counts, Kind, ReadFault, Spool, Watched, WriteFault};
+pub use nntp_verdict::{Checker, Verdict, check};
 pub use nntp_wire::{Limit, Marks};
 pub use run::{run_check, run_explain, run_show, run_task, run_verify};
 pub use run_fault::RunFault;
-pub use verdict::Verdict;

@@ -1,15 +1,13 @@
-//! The reports of `check` and `verify`, and the lines that others have too.
-ghost use Rattle.std.specs.Prelude.{◌≡◌, ◌++◌, OnOk, IfOk, codes, decimal};
-ghost use Rattle.std.specs.Option.{option_copied, option_map};
+//! The reports of `check` and `verify`.
+ghost use Rattle.std.specs.Prelude.{◌≡◌, ◌++◌, IfOk, codes, decimal};
 ghost use Rattle.nntp_spool.specs.Text.{spool_text};
-ghost use Rattle.nntp_check.specs.Report.{report_of, verified_report, bad_line, class_word, command_line};
-ghost use Rattle.nntp_check.specs.Verdict.{bad, verdict_shown};
+ghost use Rattle.nntp_check.specs.Report.{report_of, verified_report};
+ghost use Rattle.nntp_verdict.specs.Verdict.{verdict_shown};
 
-use crate::printing::{put_escaped_line, put_number};
-use crate::verdict::Verdict;
 use itoa::Buffer;
-use nntp_facts::Class;
+use nntp_printing::{put_bad_answer, put_number};
 use nntp_spool::{Counts, Spool, Verified, Watched, WriteFault};
+use nntp_verdict::Verdict;
 use std::alloc::{AllocError, Allocator};
 
 /// The report on a verdict, whole.
@@ -90,60 +88,4 @@ fn consistent_line<A: Allocator + Copy>(
     text.extend_from_slice(buffer.format(counts.articles).as_bytes())?;
     text.push(b'\n')?;
     Ok(text)
-}
-
-/// Adds the line of a bad answer: which it is, and why.
-pub(crate) fn put_bad_line<A: Allocator + Copy>(
-    text: &mut Vec<u8, A>,
-    answer: u64,
-    class: Class,
-) -> Result<(), AllocError>
-    ensures { OnOk result (text.new.items ≡ text.old.items ++ bad_line answer class) }
-{
-    put_number(text, b"bad answer ", answer)?;
-    text.push(b' ')?;
-    text.extend_from_slice(word(class))?;
-    text.push(b'\n')?;
-    Ok(())
-}
-
-/// The word that is printed for a class.
-fn word(class: Class) -> &'static [u8]
-    ensures { result.now ≡ class_word class }
-{
-    match class {
-        Class::Surplus => b"Surplus",
-        Class::Cut => b"Cut",
-        Class::Malformed => b"Malformed",
-        Class::OutOfPlace => b"OutOfPlace",
-        Class::Contradiction => b"Contradiction",
-    }
-}
-
-/// Adds the line that the bad answer is for.
-pub(crate) fn put_command<A: Allocator + Copy>(
-    text: &mut Vec<u8, A>,
-    command: Option<&[u8]>,
-) -> Result<(), AllocError>
-    ensures { OnOk result (text.new.items ≡ text.old.items ++ command_line (option_copied command.entry)) }
-{
-    match command {
-        Some(line) => put_escaped_line(text, b"command ", line),
-        None => text.extend_from_slice(b"no command\n"),
-    }
-}
-
-/// Adds the lines of a bad answer: which it is, and why; the line that it is for; and its initial line.
-pub(crate) fn put_bad_answer<A: Allocator + Copy>(
-    text: &mut Vec<u8, A>,
-    answer: u64,
-    class: Class,
-    command: Option<&[u8]>,
-    reply: &[u8],
-) -> Result<(), AllocError>
-    ensures { OnOk result (text.new.items ≡ text.old.items ++ report_of (bad answer class (option_copied command.entry) reply.now)) }
-{
-    put_bad_line(text, answer, class)?;
-    put_command(text, command)?;
-    put_escaped_line(text, b"answer ", reply)
 }

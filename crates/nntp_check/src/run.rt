@@ -3,18 +3,17 @@ ghost use Rattle.std.specs.Prelude.{◌≡◌, ◌≢◌, ◌↔◌, ◌||◌, f
 ghost use Rattle.nntp_spool.specs.Watched.{inner_of, has_failed_of};
 ghost use Rattle.nntp_spool.specs.Writing.{Writes};
 ghost use Rattle.nntp_check.specs.Report.{is_permitted};
-ghost use Rattle.nntp_check.specs.Run.{read_by, written_by, CheckReports, VerifyReports, ShowReports, ExplainReports};
-ghost use Rattle.nntp_check.specs.Run.{TaskReports, IsReported, IsCheckFault, IsVerifyFault, IsShowFault, IsExplainFault, IsTaskFault};
+ghost use Rattle.nntp_check.specs.Run.{read_by, written_by, CheckReports, VerifyReports, ShowReports, ExplainReports, TaskReports, IsReported, IsCheckFault, IsVerifyFault, IsShowFault, IsExplainFault, IsTaskFault};
 
-use crate::checker::Checker;
 use crate::command_line::Task;
-use crate::explainer::explain;
 use crate::input::read_capture;
 use crate::report::{report, verified_report};
 use crate::run_fault::RunFault;
 use crate::session_printer::SessionPrinter;
 use crate::streams::Streams;
+use nntp_explain::explain;
 use nntp_spool::{Spool, Verified, Watched, WriteFault, put, verify};
+use nntp_verdict::Checker;
 use nntp_wire::{Limit, Marks};
 use std::alloc::Allocator;
 use std::io::{Read, Write};

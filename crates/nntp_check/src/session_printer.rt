@@ -7,12 +7,12 @@ ghost use Rattle.nntp_check.specs.Sinks.{HasRoom};
 ghost use Rattle.nntp_check.specs.declared.source.Source.TheVariants.{Client, Server};
 ghost use Rattle.nntp_check.specs.Showing.{Shows, ShowsWhole};
 
-use crate::report::put_bad_line;
 use crate::show::{put_end, put_exchange};
 use crate::sink::Sink;
 use crate::source::Source;
 use nntp_facts::Class;
 use nntp_pair::{Ending, Feed, PairError, Peek};
+use nntp_printing::put_bad_line;
 use std::alloc::{AllocError, Allocator};
 
 /// Shows the exchanges of both streams as they come.

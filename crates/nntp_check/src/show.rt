@@ -7,9 +7,9 @@ ghost use Rattle.nntp_article.specs.Article.Control.{new_group, other};
 ghost use Rattle.nntp_article.specs.Article.View.{control_value};
 ghost use Rattle.nntp_check.specs.Show.{exchange_text, exchange_line, prompt_text, under, under_article, under_head, control_line, missing_line, missing_names, is_one_missing, word_if, end_line};
 
-use crate::printing::{put_escaped, put_escaped_line, put_number};
 use nntp_article::{Control, Head, Missing, Parts, control, missing};
 use nntp_pair::Exchange;
+use nntp_printing::{put_escaped, put_escaped_line, put_number};
 use nntp_wire::{Answer, Block};
 use std::alloc::{AllocError, Allocator};
 

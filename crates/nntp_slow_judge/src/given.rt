@@ -65,11 +65,10 @@ fn is_done(outcome: Result<(), SpoolFault>) -> Result<bool, AllocError> {
 fn names<'a>(alloc: Global, said: &Said<'a>) -> Result<Vec<&'a [u8]>, AllocError> {
     let mut names: Vec<&'a [u8]> = Vec::new(alloc);
     for name in &said.groups {
-        if !names.iter().any(|other| *other == *name) {
-            names.push(*name)?;
-        }
+        names.push(*name)?;
     }
     names.sort_unstable();
+    names.dedup();
     Ok(names)
 }
 
@@ -77,11 +76,12 @@ fn names<'a>(alloc: Global, said: &Said<'a>) -> Result<Vec<&'a [u8]>, AllocError
 fn shown_numbers(alloc: Global, said: &Said<'_>, group: &[u8]) -> Result<Vec<u64>, AllocError> {
     let mut numbers: Vec<u64> = Vec::new(alloc);
     for shown in &said.shown {
-        if shown.group == group && !numbers.iter().any(|other| *other == shown.number) {
+        if shown.group == group {
             numbers.push(shown.number)?;
         }
     }
     numbers.sort_unstable();
+    numbers.dedup();
     Ok(numbers)
 }
 

@@ -1,7 +1,7 @@
 use Rattle.std.proofs.Common.{refl}
 use Rattle.std.proofs.lemmas.Result.{err_from_is_err_and}
 use Rattle.nntp_check.specs.Run.{read_by, CheckReports}
-use Rattle.nntp_check.specs.Verdict.{verdict_shown, is_consistent}
+use Rattle.nntp_verdict.specs.Verdict.{verdict_shown, is_consistent}
 use Rattle.nntp_check.proofs.RunLemmas.{wrote-all, cut-short}
 use Rattle.nntp_check.proofs.run.run_check.Goals as goal
 

@@ -10,7 +10,7 @@ returns-in_err-print-clause-err g c =
     let read = c.in_ok-read_capture.ensures.ok tt (c.new-streams.ensures.client, c.new-streams.ensures.server, c.new-streams.ensures.spool) in
     let told = c.in_ok-told.told in
     let reports = subst (λ (s : List ℕ × List ℕ). ExplainReports c.args.limit c.args.marks s.0 s.1 read.2 told.text.items told.is_without_fault)
-    (λ i. ((c.deref.ensures.value ∙ read.4.0) i, (c.deref-2.ensures.value ∙ read.4.1) i)) (c.in_ok-told.ensures read.2) in
+    (λ i. ((c.deref.ensures.value ∙ read.4.0) i, (c.deref-2.ensures.value ∙ read.4.1) i)) c.in_ok-told.ensures in
     rw (exit.1, exit.2)
     (cut-short (ExplainReports c.args.limit c.args.marks) (read_by g.R.Read.remaining c.args.input.now c.read_capture.new.input c.args.most)
     (g.W.Write.contents c.args.output.now.inner) (g.W.Write.contents c.print.new.output.inner)
@@ -28,7 +28,7 @@ returns-clause-ok g c =
       capture = read.3;
       text = told.text.items;
       reports = subst (λ (s : List ℕ × List ℕ). ExplainReports c.args.limit c.args.marks s.0 s.1 read.2 told.text.items told.is_without_fault)
-          (λ i. ((c.deref.ensures.value ∙ read.4.0) i, (c.deref-2.ensures.value ∙ read.4.1) i)) (c.in_ok-told.ensures read.2);
+          (λ i. ((c.deref.ensures.value ∙ read.4.0) i, (c.deref-2.ensures.value ∙ read.4.1) i)) c.in_ok-told.ensures;
       whole = wrote-all (g.W.Write.contents c.args.output.now.inner)
           (g.W.Write.contents c.print.new.output.inner) told.text.items c.deref-3.result.now c.deref-3.ensures.value
           c.in_ok-print.ensures.text;

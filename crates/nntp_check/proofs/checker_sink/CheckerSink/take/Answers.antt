@@ -1,6 +1,6 @@
 use Rattle.std.proofs.Common.{arith}
 use Rattle.nntp_pair.specs.declared.side.Side.TheVariants.{Client, Server}
-use Rattle.nntp_check.proofs.CheckerLemmas.{on-ok, if-err, untaken-memory}
+use Rattle.nntp_verdict.proofs.CheckerLemmas.{on-ok, if-err, untaken-memory}
 use Rattle.nntp_check.proofs.checker_sink.CheckerSink.take.Goals as goal
 
 pub returns-in-Client-clause-ok : goal.returns-in-Client-clause-ok

@@ -1,6 +1,6 @@
 use Rattle.std.proofs.Common.{arith}
 use Rattle.nntp_pair.specs.declared.side.Side.TheVariants.{Client, Server}
-use Rattle.nntp_check.proofs.CheckerLemmas.{on-ok, if-err}
+use Rattle.nntp_verdict.proofs.CheckerLemmas.{on-ok, if-err}
 use Rattle.nntp_check.proofs.ShowLemmas.{shown-more, untaken-memory}
 use Rattle.nntp_check.proofs.session_printer.SessionPrinter.feed.Goals as goal
 

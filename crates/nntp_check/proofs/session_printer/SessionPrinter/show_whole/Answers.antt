@@ -1,5 +1,5 @@
 use Rattle.nntp_check.proofs.ShowLemmas.{one-more}
-use Rattle.nntp_check.proofs.CheckerLemmas.{no-next}
+use Rattle.nntp_verdict.proofs.CheckerLemmas.{no-next}
 use Rattle.nntp_check.proofs.session_printer.SessionPrinter.show_whole.Goals as goal
 
 pub loop-exchange-preserved : goal.loop-exchange-preserved

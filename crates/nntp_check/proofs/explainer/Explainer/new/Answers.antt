@@ -1,9 +1,0 @@
-use Rattle.std.proofs.Common.{ap, refl, map}
-use Rattle.nntp_article.specs.Session.Limit.{profile_of}
-use Rattle.nntp_check.specs.ExplainingView.{cited_of}
-use Rattle.nntp_check.proofs.ExplainLemmas.{told_first}
-use Rattle.nntp_check.proofs.explainer.Explainer.new.Goals as goal
-
-pub returns : goal.returns
-returns g c = λ client server. told_first (profile_of c.args.limit c.args.marks) client server _ c.new-4.result.items
-    c.new.ensures.stands c.new-2.ensures.items (ap (map cited_of) c.new-3.ensures.items) refl refl refl c.new-4.ensures.items

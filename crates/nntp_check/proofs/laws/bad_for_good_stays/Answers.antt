@@ -1,5 +1,0 @@
-use Rattle.nntp_check.proofs.BadLemmas.{bad-stays}
-use Rattle.nntp_check.proofs.laws.bad_for_good_stays.Goals as goal
-
-pub returns : goal.returns
-returns c = bad-stays

@@ -1,5 +1,0 @@
-use Rattle.nntp_check.proofs.BadLemmas.{one-told, told-stays}
-use Rattle.nntp_check.proofs.laws.one_is_told_bad.Goals as goal
-
-pub returns : goal.returns
-returns c = record { one = one-told; stays = told-stays }

@@ -1,0 +1,155 @@
+-- One answer more: where it leaves a session, and what is told of it.
+use Rattle.std.proofs.Common.{◌≡◌, ◌∙◌, sym, subst, refl, ap, ℕ, ◌+◌, ◌-◌, ◌≤◌, Bool, true, false, List, [], ◌∷◌, ◌++◌, Option, None, Some, length, arith, append_assoc, append-nil, length-append}
+use Rattle.std.specs.Prelude.{nat_lt, cond, codes, decimal}
+use Rattle.std.specs.Option.{option_map}
+use Rattle.nntp_wire.specs.Answer.{Asked, Response, group_is, numbers_are, sends, active_are, plain}
+use Rattle.nntp_article.specs.declared.session.profile.Profile.{Profile}
+use Rattle.nntp_article.specs.Session.Machine.{Visible, start, visible_after}
+use Rattle.nntp_article.specs.Session.Spool.{Name}
+use Rattle.nntp_pair.specs.Pairing.{Paired, asked_at, asked_of, responses_of}
+use Rattle.nntp_facts.specs.Classes.{visible_from, position_from}
+use Rattle.nntp_facts.specs.Conflict.{placed_behind}
+use Rattle.nntp_facts.specs.Reading.{Judged, Accepted, Refused, Unspelled, accepted_of, accepted_with}
+use Rattle.nntp_facts.specs.declared.class.Class.{Class}
+use Rattle.nntp_facts.specs.declared.position.Position.{Position}
+use Rattle.nntp_facts.specs.declared.position.Position.TheVariants.{Nowhere}
+use Rattle.nntp_facts.proofs.Reading.JudgedSession.{accepted_one_more}
+use Rattle.nntp_explain.specs.Explaining.{front_lines, place_lines, IsTold, IsExplained, AreExplained, count_bad}
+use Rattle.nntp_explain.specs.ExplainingView.{placed_at, GoesOn}
+use Rattle.nntp_explain.specs.Reasons.{number_line, index_at, rest_line}
+use Rattle.nntp_explain.specs.Standing.{Standing, Cited, standing, standing_by, standing_from, standing_after, moved, cited_at, cited_from, closing, closing_with, closing_from}
+
+-- ---- where a session stands
+
+-- an answer leads on from where those before it left the session
+pub standing_push : (s : Option Standing) (pairs : List Paired) (pair : Paired) → standing_from s (pairs ++ pair ∷ []) ≡ standing_after (standing_from s pairs) pair
+standing_push s [] pair = refl
+standing_push s (first ∷ pairs) pair = standing_push (standing_after s first) pairs pair
+
+-- and is cited there
+pub cited_push : (s : Option Standing) (pairs : List Paired) (pair : Paired) → cited_from s (pairs ++ pair ∷ []) ≡ cited_from s pairs ++ cited_at (standing_from s pairs) pair ∷ []
+cited_push s [] pair = refl
+cited_push s (first ∷ pairs) pair = ap (λ rest. cited_at s first ∷ rest) (cited_push (standing_after s first) pairs pair)
+
+-- those that are accepted, the first one taken by itself
+joined : (past : List Paired) (first : Judged) (answers : List Judged) → past ++ accepted_of (first ∷ answers) ≡ accepted_with past first ++ accepted_of answers
+joined past (Accepted pair) answers = sym (append_assoc past (pair ∷ []) (accepted_of answers))
+joined past (Refused pair) answers = refl
+joined past (Unspelled index line initial block) answers = refl
+
+-- and is the one that closed the connection, if it did
+closing_push : (before : Option Cited) (past : List Paired) (answers : List Judged) (answer : Judged)
+    → closing_from before past (answers ++ answer ∷ []) ≡ closing_with (closing_from before past answers) (standing (past ++ accepted_of answers)) answer
+closing_push before past [] answer = ap (λ accepted. closing_with before (standing accepted) answer) (sym (append-nil past))
+closing_push before past (first ∷ answers) answer =
+    closing_push (closing_with before (standing past) first) (accepted_with past first) answers answer
+    ∙ ap (λ accepted. closing_with (closing_from before past (first ∷ answers)) (standing accepted) answer) (sym (joined past first answers))
+
+-- so it goes on behind what is kept of those before it
+pub closing_next : (answers : List Judged) (answer : Judged) (before : Option Cited) (stands : Option Standing) → before ≡ closing answers → stands ≡ standing (accepted_of answers)
+    → closing_with before stands answer ≡ closing (answers ++ answer ∷ [])
+closing_next answers answer before stands before-is stands-is =
+    ap (λ (q : Option Cited × Option Standing). closing_with q.0 q.1 answer) (λ i. (before-is i, stands-is i)) ∙ sym (closing_push None [] answers answer)
+
+-- the name of the group in which it stands
+abbrev name_in : Option Standing → Option Name
+name_in s = option_map (λ s. s.name) s
+
+-- a move stays in the group
+same_group : (pair : Paired) (s : Option Standing) → name_in (option_map (moved pair) s) ≡ name_in s
+same_group pair None = refl
+same_group pair (Some s) = refl
+
+-- that is the selected group
+name_after : (response : Response) (asked : Asked) (pair : Paired) (s : Option Standing) (v : Visible) → name_in s ≡ v.selected
+    → name_in (standing_by response pair s) ≡ (visible_after v asked response).selected
+name_after (group_is m name) asked pair s v e = refl
+name_after (numbers_are m name lines) asked pair s v e = refl
+name_after (sends sent) asked pair s v e = same_group pair s ∙ e
+name_after (active_are lines) asked pair s v e = same_group pair s ∙ e
+name_after (plain code) asked pair s v e = same_group pair s ∙ e
+
+name_from : (s : Option Standing) (v : Visible) (pairs : List Paired) → name_in s ≡ v.selected → name_in (standing_from s pairs) ≡ (visible_from v (asked_of pairs) (responses_of pairs)).selected
+name_from s v [] e = e
+name_from s v (pair ∷ pairs) e =
+    name_from (standing_after s pair) (visible_after v (asked_at pair.line) pair.response) pairs (name_after pair.response (asked_at pair.line) pair s v e)
+
+-- an answer is placed behind the accepted ones, where it is placed by what is kept of them
+pub placed_there : (accepted : List Paired) (stands : Option Standing) (position : Position) (pair : Paired) → stands ≡ standing accepted
+    → position ≡ position_from Nowhere (asked_of accepted) (responses_of accepted) → placed_at stands position pair ≡ placed_behind accepted pair
+placed_there accepted stands position pair stands-is position-is =
+    let name : name_in stands ≡ (visible_from start.visible (asked_of accepted) (responses_of accepted)).selected = ap name_in stands-is ∙ name_from None start.visible accepted refl in
+    λ i. record { selected = name i; position = position-is i; asked = asked_at pair.line; response = pair.response }
+
+-- ---- one answer more
+
+-- the accepted ones are no more than all
+few_accepted : (answers : List Judged) → length (accepted_of answers) ≤ length answers
+few_accepted [] = omega arith
+few_accepted (Accepted pair ∷ answers) = omega (arith, few_accepted answers)
+few_accepted (Refused pair ∷ answers) = omega (arith, few_accepted answers)
+few_accepted (Unspelled index line initial block ∷ answers) = omega (arith, few_accepted answers)
+
+-- what is told of it stands behind what is told of those before it
+pub explained_push : (profile : Profile) (past : List Paired) (answers : List Judged) (answer : Judged) (text more : List ℕ)
+    → AreExplained profile past answers text → IsExplained profile (past ++ accepted_of answers) answer more
+    → AreExplained profile past (answers ++ answer ∷ []) (text ++ more)
+explained_push profile past [] answer text more none is =
+    (more, [], ap (λ t. t ++ more) none ∙ sym (append-nil more), subst (λ p. IsExplained profile p answer more) (append-nil past) is, refl)
+explained_push profile past (first ∷ answers) answer text more (front, back, whole, head, tail) is = (
+  front,
+  back ++ more,
+  ap (λ t. t ++ more) whole ∙ append_assoc front back more,
+  head,
+  explained_push profile (accepted_with past first) answers answer back more tail (subst (λ p. IsExplained profile p answer more) (joined past first answers) is),
+)
+
+-- an accepted one adds nothing that is bad
+pub good_push : (answers : List Judged) (pair : Paired) → count_bad (answers ++ Accepted pair ∷ []) ≡ count_bad answers
+good_push answers pair =
+    let accepted = ap length (accepted_one_more answers (Accepted pair)) in
+    omega (arith, accepted, length-append (accepted_of answers) (pair ∷ []), length-append answers (Accepted pair ∷ []), few_accepted answers)
+
+-- any other is bad
+pub bad_push : (answers : List Judged) (answer : Judged) → accepted_with (accepted_of answers) answer ≡ accepted_of answers → count_bad (answers ++ answer ∷ []) ≡ count_bad answers + 1
+bad_push answers answer same =
+    let accepted = ap length (accepted_one_more answers answer ∙ same) in
+    omega (arith, accepted, length-append answers (answer ∷ []), few_accepted answers)
+
+-- ---- what is told of a bad answer
+
+-- with another reason that follows from the one that is told
+reason_follows : (b : Bool) (P Q N : Type 0) → (P → Q) → cond b P N → cond b Q N
+reason_follows true P Q N f h = f h
+reason_follows false P Q N f h = h
+
+pub told_as : (before : ℕ) (stands : Option Standing) (index : ℕ) (class : Class) (line : Option (List ℕ)) (initial : List ℕ) (P Q : List ℕ → Type 0) (text : List ℕ)
+    → ((reason : List ℕ) → P reason → Q reason) → IsTold before stands index class line initial P text → IsTold before stands index class line initial Q text
+told_as before stands index class line initial P Q text f (reason, whole, is) =
+    (reason, whole, reason_follows (nat_lt before 100) (P reason) (Q reason) (reason ≡ []) (f reason) is)
+
+-- behind its lines a reason
+pub told_reason : (before : ℕ) (stands : Option Standing) (index : ℕ) (class : Class) (line : Option (List ℕ)) (initial : List ℕ) (Reason : List ℕ → Type 0) (old new reason : List ℕ) (is_told : Bool)
+    → is_told ≡ nat_lt before 100 → new ≡ (old ++ front_lines index class line initial ++ place_lines before stands) ++ reason → cond is_told (Reason reason) (reason ≡ [])
+    → GoesOn (IsTold before stands index class line initial Reason) old new
+told_reason before stands index class line initial Reason old new reason is_told told-is whole is =
+    let bad = front_lines index class line initial in
+    let place = place_lines before stands in (
+      bad ++ place ++ reason,
+      whole ∙ ap (λ t. t ++ reason) (append_assoc old bad place) ∙ append_assoc old (bad ++ place) reason,
+      (reason, refl, subst (λ b. cond b (Reason reason) (reason ≡ [])) told-is is),
+    )
+
+-- ---- the line of further reasons
+
+shape : (old front first middle last behind : List ℕ) → (old ++ front ++ first) ++ (middle ++ last ++ behind) ≡ old ++ (front ++ first ++ middle ++ last ++ behind)
+shape old front first middle last behind = simp append_assoc
+
+pub rest_told : (answers : List Cited) (rest : Option ℕ) (bound first last place : ℕ) (old mid new : List ℕ) → rest ≡ Some bound
+    → place ≡ bound - 1 → first ≡ index_at answers 0 → last ≡ index_at answers place
+    → mid ≡ old ++ codes "because some of " ++ decimal first → new ≡ mid ++ number_line (codes " to ") last → new ≡ old ++ rest_line answers rest
+rest_told answers rest bound first last place old mid new is place-is first-is last-is mid-is new-is =
+    new-is ∙ ap (λ t. t ++ number_line (codes " to ") last) mid-is
+    ∙ shape old (codes "because some of ") (decimal first) (codes " to ") (decimal last) (codes "\n")
+    ∙ ap (λ (q : ℕ × ℕ). old ++ (codes "because some of " ++ decimal q.0 ++ codes " to " ++ decimal q.1 ++ codes "\n")) (λ i. (first-is i, (last-is ∙ ap (index_at answers) place-is) i))
+    ∙ ap (λ r. old ++ rest_line answers r) (sym is)

@@ -1,0 +1,5 @@
+pub mod AnswerLemmas
+pub mod ExplainLemmas
+pub mod SaysLemmas
+pub mod ConflictLemmas
+pub mod LowMarks

@@ -1,0 +1,103 @@
+-- Which answer gave a group its low mark.
+use Rattle.std.proofs.Common.{◌≡◌, ◌⊎◌, ◌∙◌, inl, inr, sym, ap, subst, refl, arith, ℕ, suc, ◌<◌, ◌==◌, Bool, true, false, cond, List, [], ◌∷◌, Option, None, Some, MatchOption, length}
+use Rattle.std.specs.Prelude.{◌&&◌, if◌then◌else◌}
+use Rattle.std.specs.Option.{option_map}
+use Rattle.std.specs.FinMap.{FinMap, get, insert, get-insert, get-empty}
+use Rattle.std.specs.Ordering.{nat_cmp, eq_by_cmp}
+use Rattle.std.specs.Cmp.Lexicographic.{slice_cmp, same_text, nat_list_cmp_total, texts_ties, bytes_decides}
+use Rattle.std.proofs.lemmas.Bool.Decides.{nat_tests}
+use Rattle.nntp_wire.specs.Answer.{Asked, Response, group_is, numbers_are, sends, active_are, plain}
+use Rattle.nntp_wire.specs.declared.water_marks.WaterMarks.{WaterMarks}
+use Rattle.nntp_article.specs.Session.Spool.{Name}
+use Rattle.nntp_article.specs.Session.Machine.{Visible, visible_after, selects, are_zeros, is_same, start}
+use Rattle.nntp_article.specs.Session.Misfit.{IsAbove}
+use Rattle.nntp_pair.specs.Pairing.{Paired, asked_of, responses_of}
+use Rattle.nntp_facts.specs.Asks.{position_after}
+use Rattle.nntp_facts.specs.Classes.{visible_from}
+use Rattle.nntp_facts.specs.Conflict.{placed_from, placed_of}
+use Rattle.nntp_facts.specs.declared.position.Position.{Position}
+use Rattle.nntp_facts.specs.declared.position.Position.TheVariants.{Nowhere}
+use Rattle.nntp_explain.specs.Reasons.{gives_low, low_giver}
+
+-- a place is found among so many
+abbrev pub IsFoundAmong : ℕ → Option ℕ → Type 0
+IsFoundAmong n place = MatchOption place ⊥ (λ k. k < n)
+
+-- it is found at the first, or behind it
+found_behind : (b : Bool) (place : Option ℕ) (n : ℕ) → IsFoundAmong n place → IsFoundAmong (suc n) (if b then Some 0 else option_map suc place)
+found_behind true place n found = omega arith
+found_behind false None n found = found
+found_behind false (Some k) n found = omega arith
+
+found_here : (b : Bool) (place : Option ℕ) (n : ℕ) → b ≡ true → IsFoundAmong (suc n) (if b then Some 0 else option_map suc place)
+found_here true place n e = omega arith
+found_here false place n e = cc
+
+-- a low mark that is kept was kept before, or is the one that is put there
+kept_low : (lows : FinMap (slice_cmp nat_cmp) ℕ) (g name : Name) (here low : ℕ) → get (insert lows g here) name ≡ Some low
+    → (get lows name ≡ Some low) ⊎ ((is_same g name && here == low) ≡ true)
+kept_low lows g name here low e = by (eq_by_cmp (slice_cmp nat_cmp) name g) refl where
+  is : get (insert lows g here) name ≡ cond (eq_by_cmp (slice_cmp nat_cmp) name g) (Some here) (get lows name)
+  is = get-insert nat_list_cmp_total lows g here name
+
+  both : (a b : Bool) → a ≡ true → b ≡ true → (a && b) ≡ true
+  both true b x y = y
+  both false b x y = x
+
+  by : (b : Bool) → eq_by_cmp (slice_cmp nat_cmp) name g ≡ b → (get lows name ≡ Some low) ⊎ ((is_same g name && here == low) ≡ true)
+  by true t =
+      let given : Some here ≡ Some low = sym (is ∙ ap (λ b. cond b (Some here) (get lows name)) t) ∙ e in
+      let same : name ≡ g = same_text name g (sym (texts_ties name g ∙ t)) in
+      let low_is : here == low ≡ true = grind (arith, nat_tests) in
+      inr (both (is_same g name) (here == low) (subst (λ n. is_same g n ≡ true) (sym same) ((bytes_decides g g).1 refl)) low_is)
+  by false t = inl (sym (is ∙ ap (λ b. cond b (Some here) (get lows name)) t) ∙ e)
+
+-- by all zeros none is given
+kept_by_marks : (v : Visible) (m : WaterMarks) (g name : Name) (low : ℕ) → get (selects v m g).lows name ≡ Some low
+    → (get v.lows name ≡ Some low) ⊎ ((is_same g name && m.low == low) ≡ true)
+kept_by_marks v m g name low e = by (are_zeros m) e where
+  by : (b : Bool) → get (if b then v.lows else insert v.lows g m.low) name ≡ Some low → (get v.lows name ≡ Some low) ⊎ ((is_same g name && m.low == low) ≡ true)
+  by true e = inl e
+  by false e = kept_low v.lows g name m.low low e
+
+-- an answer leaves the low marks that were there, but for the one that it gives
+given_by : (v : Visible) (asked : Asked) (response : Response) (name : Name) (low : ℕ) → get (visible_after v asked response).lows name ≡ Some low
+    → (get v.lows name ≡ Some low) ⊎ (gives_low name low response ≡ true)
+given_by v asked (group_is m g) name low e = kept_by_marks v m g name low e
+given_by v asked (numbers_are m g lines) name low e = kept_by_marks v m g name low e
+given_by v asked (sends sent) name low e = inl e
+given_by v asked (active_are lines) name low e = inl e
+given_by v asked (plain code) name low e = inl e
+
+-- so a low mark was there before the answers, or one of them gives it
+giver_from : (v : Visible) (at : Position) (ps : List Asked) (answers : List Response) (name : Name) (low : ℕ)
+    → get (visible_from v ps answers).lows name ≡ Some low
+    → (get v.lows name ≡ Some low) ⊎ IsFoundAmong (length (placed_from v at ps answers)) (low_giver name low (placed_from v at ps answers))
+giver_from v at [] [] name low e = inl e
+giver_from v at [] (response ∷ more) name low e = inl e
+giver_from v at (asked ∷ ps) [] name low e = inl e
+giver_from v at (asked ∷ ps) (response ∷ more) name low e =
+    let behind = placed_from (visible_after v asked response) (position_after at asked response) ps more in
+    elim (giver_from (visible_after v asked response) (position_after at asked response) ps more name low e) [
+      | inl here ↦ elim (given_by v asked response name low here) [
+        | inl before ↦ inl before
+        | inr gives ↦ inr (found_here (gives_low name low response) (low_giver name low behind) (length behind) gives)
+      ]
+      | inr found ↦ inr (found_behind (gives_low name low response) (low_giver name low behind) (length behind) found)
+    ]
+
+-- at the start there is none
+pub low_giver_found : (past : List Paired) (low : ℕ) (marked : Name × WaterMarks)
+    → IsAbove (visible_from start.visible (asked_of past) (responses_of past)) low marked
+    → IsFoundAmong (length (placed_of past)) (low_giver marked.0 low (placed_of past))
+low_giver_found past low marked above = elim (giver_from start.visible Nowhere (asked_of past) (responses_of past) marked.0 low above.0) [
+  | inl none ↦ absurd (let no : None ≡ Some low = sym (get-empty (slice_cmp nat_cmp) marked.0) ∙ none in cc)
+  | inr found ↦ found
+]
+
+-- so the marks of an answer that are below an earlier low mark have a giver
+pub giver_of_marks : (past : List Paired) (low : ℕ) (marked : Option (Name × WaterMarks))
+    → MatchOption marked ⊥ (IsAbove (visible_from start.visible (asked_of past) (responses_of past)) low)
+    → MatchOption marked ⊥ (λ m. IsFoundAmong (length (placed_of past)) (low_giver m.0 low (placed_of past)))
+giver_of_marks past low None above = above
+giver_of_marks past low (Some m) above = low_giver_found past low m above

@@ -1,0 +1,93 @@
+-- What lines say, one after the other.
+use Rattle.std.proofs.Common.{◌≡◌, ◌∙◌, sym, ap, refl, ℕ, List, [], ◌∷◌, ◌++◌, ◌||◌, if◌then◌else◌, Option, append_assoc, append-nil, Result, Ok, Err}
+use Rattle.std.proofs.lemmas.List.Concat.{flat_map-append}
+use Rattle.std.specs.Prelude.{OnOk, IsTrue, decimal}
+use Rattle.std.specs.List.{list_any}
+use Rattle.nntp_article.specs.Article.Parts.{Id, Line, is_empty, head_part, body_part}
+use Rattle.nntp_wire.specs.Listing.{ActiveValue}
+use Rattle.nntp_article.specs.Session.Spool.{Name}
+use Rattle.nntp_facts.specs.Asks.{Bounds}
+use Rattle.nntp_facts.specs.Conflict.{Point, Article}
+use Rattle.nntp_facts.specs.Facts.{Fact, Asks, GroupsAre}
+use Rattle.nntp_facts.specs.Given.{asks_in}
+use Rattle.nntp_facts.specs.Together.{shows_article, denies_article}
+use Rattle.nntp_explain.specs.Reasons.{octets_line}
+use Rattle.nntp_printing.specs.Printing.{escaped}
+use Rattle.nntp_explain.specs.Says.{ask_line, numbers_said, says, article_line}
+
+-- the marks of one line more
+bounds_more : (name : Name) (about : Option ℕ) (p : Option (List ℕ)) (line : ActiveValue) (lines : List ActiveValue)
+    → numbers_said name about (GroupsAre p (line ∷ lines)) ≡ numbers_said name about (Asks line.name (Bounds line.low line.high)) ++ numbers_said name about (GroupsAre p lines)
+bounds_more name about p line lines = flat_map-append (ask_line about name) (asks_in name (Asks line.name (Bounds line.low line.high))) (asks_in name (GroupsAre p lines))
+
+-- the text goes on with them
+pub bounds_told : (name : Name) (about : Option ℕ) (p : Option (List ℕ)) (line : ActiveValue) (left lines : List ActiveValue) (text more whole : List ℕ)
+    → (of : Name) → of ≡ line.name → left ≡ line ∷ lines → more ≡ text ++ numbers_said name about (Asks of (Bounds line.low line.high)) → text ++ numbers_said name about (GroupsAre p left) ≡ whole
+    → more ++ numbers_said name about (GroupsAre p lines) ≡ whole
+bounds_told name about p line left lines text more whole of same is told h =
+    let one = numbers_said name about (Asks line.name (Bounds line.low line.high)) in
+    let rest = numbers_said name about (GroupsAre p lines) in
+    ap (λ t. t ++ rest) (told ∙ ap (λ g. text ++ numbers_said name about (Asks g (Bounds line.low line.high))) same)
+    ∙ append_assoc text one rest ∙ ap (λ t. text ++ t) (sym (bounds_more name about p line lines))
+    ∙ ap (λ ls. text ++ numbers_said name about (GroupsAre p ls)) (sym is) ∙ h
+
+-- where no line is left, the text is whole
+pub bounds_end : (name : Name) (about : Option ℕ) (p : Option (List ℕ)) (left : List ActiveValue) (text whole : List ℕ)
+    → left ≡ [] → text ++ numbers_said name about (GroupsAre p left) ≡ whole → text ≡ whole
+bounds_end name about p left text whole none h = sym (append-nil text) ∙ ap (λ ls. text ++ numbers_said name about (GroupsAre p ls)) (sym none) ∙ h
+
+-- one piece more
+pub one_more : (text s x one two : List ℕ) → one ≡ text ++ s → two ≡ one ++ x → two ≡ text ++ (s ++ x)
+one_more text s x one two first second = second ∙ ap (λ t. t ++ x) first ∙ append_assoc text s x
+
+-- two pieces more
+pub two_more : (text s x y one two : List ℕ) → one ≡ text ++ s → two ≡ one ++ x ++ y → two ≡ text ++ (s ++ x ++ y)
+two_more text s x y one two first second = one_more text (s ++ x) y (one ++ x) two (one_more text s x one (one ++ x) first refl) second
+
+-- three pieces more
+pub three_more : (text s x y z one two : List ℕ) → one ≡ text ++ s → two ≡ one ++ x ++ y ++ z → two ≡ text ++ (s ++ x ++ y ++ z)
+three_more text s x y z one two first second = one_more text (s ++ x ++ y) z (one ++ x ++ y) two (two_more text s x y one (one ++ x ++ y) first refl) second
+
+-- where no line is empty, all lines are the head, and none is the body
+pub all_head : (lines : List Line) → ¬ (IsTrue (list_any is_empty lines)) → lines ≡ head_part lines
+all_head [] none = refl
+all_head ([] ∷ lines) none = absurd (none refl)
+all_head ((c ∷ cs) ∷ lines) none = ap (λ ls. (c ∷ cs) ∷ ls) (all_head lines none)
+
+pub no_body : (lines : List Line) → ¬ (IsTrue (list_any is_empty lines)) → [] ≡ body_part lines
+no_body [] none = refl
+no_body ([] ∷ lines) none = absurd (none refl)
+no_body ((c ∷ cs) ∷ lines) none = no_body lines none
+
+-- what follows where a result is a value
+pub on_ok : {A E P Q : Type 0} (r : Result A E) → (P → Q) → OnOk r P → OnOk r Q
+on_ok (Ok x) f p = f p
+on_ok (Err e) f p = tt
+
+-- the line of a fact about the id of an article
+pub told_article : (line : Option ℕ) (point : Point) (other : Id) (fact : Fact) → point ≡ Article other → IsTrue (shows_article other fact || denies_article other fact)
+    → says line point fact ≡ article_line fact
+told_article line point other fact is there = ap (λ p. says line p fact) is ∙ ap (λ b. if b then article_line fact else []) there
+
+-- a line of a label and octets is another text, that is the same
+pub line_told : (text label octets other new : List ℕ) → new ≡ text ++ label ++ escaped octets ++ 10 ∷ [] → octets_line label octets ≡ other → new ≡ text ++ other
+line_told text label octets other new is same = two_more text label (escaped octets) (10 ∷ []) (text ++ label) new refl is ∙ ap (λ t. text ++ t) same
+
+-- a label and a count, and then a line
+pub counted : (text label octets one two w word : List ℕ) (count n : ℕ) → one ≡ text ++ label ++ decimal count → count ≡ n → two ≡ one ++ w ++ escaped octets ++ 10 ∷ [] → w ≡ word
+    → two ≡ text ++ (label ++ decimal n ++ octets_line word octets)
+counted text label octets one two w word count n first count-is second word-is =
+    one_more text (label ++ decimal n) (octets_line word octets) one two
+    (first ∙ append_assoc text label (decimal count) ∙ ap (λ k. text ++ (label ++ decimal k)) count-is)
+    (line_told one w octets (octets_line word octets) two second (ap (λ v. octets_line v octets) word-is))
+
+-- a piece and a line are another text, that is the same
+pub two_told : (text piece line other one two : List ℕ) → one ≡ text ++ piece → two ≡ one ++ line → piece ++ line ≡ other → two ≡ text ++ other
+two_told text piece line other one two first second same = one_more text piece line one two first second ∙ ap (λ t. text ++ t) same
+
+-- a line, and two texts that hang on a place
+pub conflict_told : (text about : List ℕ) (said reasons : Option ℕ → List ℕ) (place told : Option ℕ) (one two three : List ℕ)
+    → one ≡ text ++ about → two ≡ one ++ said place → three ≡ two ++ reasons place → place ≡ told → three ≡ text ++ (about ++ said told ++ reasons told)
+conflict_told text about said reasons place told one two three first second third is =
+    one_more text (about ++ said told) (reasons told) two three
+    (one_more text about (said told) one two first (second ∙ ap (λ k. one ++ said k) is)) (third ∙ ap (λ k. two ++ reasons k) is)

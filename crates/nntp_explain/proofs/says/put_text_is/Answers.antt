@@ -1,0 +1,14 @@
+use Rattle.std.proofs.Common.{◌∙◌, ◌||◌, false, ap, sym}
+use Rattle.std.specs.Prelude.{codes}
+use Rattle.nntp_facts.specs.Facts.{TextIs}
+use Rattle.nntp_facts.specs.PointView.{point_of}
+use Rattle.nntp_explain.proofs.SaysLemmas.{on_ok, line_told, told_article}
+use Rattle.nntp_explain.proofs.says.put_text_is.Goals as goal
+
+pub returns-in-Article : goal.returns-in-Article
+returns-in-Article g c =
+    on_ok c.put_escaped_line.result
+    (λ put. line_told c.args.text.now.items (codes "says article ") c.args.id.now _ c.put_escaped_line.new.text.items put
+    (sym (told_article c.args.about.now.line (point_of c.args.about.now.point) c.in-Article.other.now (TextIs c.args.what c.args.id.now c.args.block.now)
+    (ap point_of c.in-Article.is) (ap (λ b. b || false) (sym c.is_same.ensures ∙ c.if-is_same.true)))))
+    c.put_escaped_line.ensures

@@ -1,0 +1,6 @@
+pub mod Standing
+pub mod Reasons
+pub mod Says
+pub mod SaysView
+pub mod Explaining
+pub mod ExplainingView

@@ -1,0 +1,169 @@
+-- What `explain` prints of why an answer is bad.
+use Rattle.std.specs.Prelude.{ℕ, suc, ◌-◌, ◌==◌, ◌&&◌, Bool, false, if◌then◌else◌, List, [], ◌∷◌, ◌++◌, Option, None, Some, slice_get, codes, decimal}
+use Rattle.std.specs.List.{flat_map}
+use Rattle.std.specs.Option.{option_map, option_map_or}
+use Rattle.nntp_wire.specs.Answer.{Response, group_is, numbers_are}
+use Rattle.nntp_wire.specs.declared.misspelling.Misspelling.{Misspelling}
+use Rattle.nntp_wire.specs.declared.misspelling.Misspelling.TheVariants.{WrongOctet, TooLong, NoCode, WrongArgument, WrongLine, WrongBlock}
+use Rattle.nntp_wire.specs.declared.misspelling.Due.{Due}
+use Rattle.nntp_wire.specs.declared.misspelling.Due.TheVariants.{Number, GroupName, MessageId}
+use Rattle.nntp_wire.specs.declared.misspelling.LineFault.{LineFault}
+use Rattle.nntp_wire.specs.declared.misspelling.LineFault.TheVariants.{BadOctet, SingleDot, NoNumber, NoGroup, NoVersions}
+use Rattle.nntp_article.specs.Session.Misfit.{Misfit, wrong_code, wrong_name, wrong_number, wrong_id, below_low, wrong_marks, beyond_limit, not_above, beyond_range, unmatched, listed_twice, no_head, other_id}
+use Rattle.nntp_facts.specs.declared.position.Position.{Position}
+use Rattle.nntp_facts.specs.declared.position.Position.TheVariants.{Nowhere, First, Known}
+use Rattle.nntp_printing.specs.BadAnswer.{shown, command_line}
+use Rattle.nntp_printing.specs.Printing.{escaped}
+use Rattle.nntp_article.specs.Session.Machine.{is_same}
+use Rattle.nntp_article.specs.Session.Spool.{Name}
+use Rattle.nntp_facts.specs.Conflict.{Placed, Core, Point, Step, Group, Number as NumberOf, Count, First as FirstNumber, IdOf, PlaceOf, Article, HeadOf, BodyOf}
+use Rattle.nntp_explain.specs.Standing.{Standing, Cited}
+
+-- ---- where the session stands
+
+-- the current article, and the answer that made it so: it is not known where the session stands at the first one
+abbrev pub current_text : Position → ℕ → List ℕ
+current_text Nowhere by = codes "first"
+current_text First by = codes "first"
+current_text (Known n) by = decimal n ++ codes " since " ++ decimal by
+
+-- the line that tells where the session stands
+abbrev pub standing_line : Option Standing → List ℕ
+standing_line None = codes "in no group\n"
+standing_line (Some s) = codes "in " ++ escaped s.name ++ codes " since " ++ decimal s.selected_by ++ codes " at " ++ current_text s.position s.moved_by ++ codes "\n"
+
+-- ---- why it doesn't fit
+
+-- a line of a word and a number
+abbrev pub number_line : List ℕ → ℕ → List ℕ
+number_line word n = word ++ decimal n ++ codes "\n"
+
+-- a line of a word and octets
+abbrev pub octets_line : List ℕ → List ℕ → List ℕ
+octets_line word octets = word ++ escaped octets ++ codes "\n"
+
+-- the codes that fit, if any do
+abbrev pub allowed_text : List ℕ → List ℕ
+allowed_text [] = []
+allowed_text (c ∷ cs) = codes " allowed" ++ flat_map (λ code. codes " " ++ decimal code) (c ∷ cs)
+
+-- the line of a reason
+abbrev pub misfit_line : Misfit → List ℕ
+misfit_line (wrong_code code allowed) = codes "why code " ++ decimal code ++ allowed_text allowed ++ codes "\n"
+misfit_line (wrong_name name) = octets_line (codes "why name ") name
+misfit_line (wrong_number n) = number_line (codes "why number ") n
+misfit_line (wrong_id id) = octets_line (codes "why id ") id
+misfit_line (below_low low) = number_line (codes "why low ") low
+misfit_line (wrong_marks name) = octets_line (codes "why marks ") name
+misfit_line (beyond_limit n) = number_line (codes "why limit ") n
+misfit_line (not_above before n) = codes "why order " ++ decimal before ++ codes " " ++ decimal n ++ codes "\n"
+misfit_line (beyond_range n) = number_line (codes "why range ") n
+misfit_line (unmatched name) = octets_line (codes "why match ") name
+misfit_line (listed_twice name) = octets_line (codes "why twice ") name
+misfit_line no_head = codes "why head\n"
+misfit_line (other_id said) = octets_line (codes "why own ") said
+
+-- ---- why it spells nothing
+
+-- what is due as an argument
+abbrev pub due_word : Due → List ℕ
+due_word Number = codes "number"
+due_word GroupName = codes "group"
+due_word MessageId = codes "id"
+
+-- what is wrong with a line of a block
+abbrev pub fault_word : LineFault → List ℕ
+fault_word BadOctet = codes "octet"
+fault_word SingleDot = codes "dot"
+fault_word NoNumber = codes "number"
+fault_word NoGroup = codes "group"
+fault_word NoVersions = codes "versions"
+
+-- the line of a reason
+abbrev pub misspelling_line : Misspelling → List ℕ
+misspelling_line WrongOctet = codes "why octet\n"
+misspelling_line (TooLong n) = number_line (codes "why length ") n
+misspelling_line NoCode = codes "why code\n"
+misspelling_line (WrongArgument place due) = codes "why argument " ++ decimal place ++ codes " " ++ due_word due ++ codes "\n"
+misspelling_line (WrongLine place fault) = codes "why block line " ++ decimal place ++ codes " " ++ fault_word fault ++ codes "\n"
+misspelling_line WrongBlock = codes "why block\n"
+
+-- ---- why it is cut
+
+-- what of a response is missing, where these of its lines are whole: the end of its initial line, or the end of its block
+abbrev pub cut_line : List (List ℕ) → List ℕ
+cut_line [] = codes "why line\n"
+cut_line (initial ∷ lines) = codes "why block\n"
+
+-- ---- an answer that is a reason
+
+-- its lines, and where the session stands there
+abbrev pub because_lines : Cited → List ℕ
+because_lines c =
+    codes "because answer " ++ decimal c.index ++ codes "\n" ++ command_line (option_map shown c.line)
+    ++ codes "answer " ++ escaped (shown c.initial) ++ codes "\n" ++ standing_line c.stands
+
+-- ---- why it is surplus
+
+-- this answer closed the connection, or none did, and no line is left to be answered
+abbrev pub surplus_lines : Option Cited → List ℕ
+surplus_lines None = codes "why no command\n"
+surplus_lines (Some c) = codes "why closed\n" ++ because_lines c
+
+-- ---- with which answers it conflicts
+
+-- the answer at a place
+abbrev pub because_at : List Cited → ℕ → List ℕ
+because_at answers k = option_map_or because_lines (slice_get answers k) []
+
+-- which answer it is that stands at a place
+abbrev pub index_at : List Cited → ℕ → ℕ
+index_at answers k = option_map_or (λ c. c.index) (slice_get answers k) 0
+
+-- the line of the answers below a bound, where further reasons are among them
+abbrev pub rest_line : List Cited → Option ℕ → List ℕ
+rest_line answers None = []
+rest_line answers (Some bound) = codes "because some of " ++ decimal (index_at answers 0) ++ codes " to " ++ decimal (index_at answers (bound - 1)) ++ codes "\n"
+
+-- the answers of a core, or of the end of one
+abbrev pub core_lines : List Cited → Core → List ℕ
+core_lines answers core = rest_line answers core.rest ++ flat_map (because_at answers) core.places
+
+-- ---- which answer gave a group its low mark
+
+-- the response gives the group this low mark (RFC 3977, section 6.1.1.2)
+abbrev pub gives_low : Name → ℕ → Response → Bool
+gives_low name low (group_is m g) = is_same g name && m.low == low
+gives_low name low (numbers_are m g lines) = is_same g name && m.low == low
+gives_low name low response = false
+
+-- the place of the first answer that gives it
+abbrev pub low_giver : Name → ℕ → List Placed → Option ℕ
+low_giver name low [] = None
+low_giver name low (a ∷ answers) = if gives_low name low a.response then Some 0 else option_map suc (low_giver name low answers)
+
+-- the answer that gave the group of a 211 a low mark, as it is cited
+abbrev pub giver_lines : List Placed → List Cited → Response → ℕ → List ℕ
+giver_lines answers told (group_is m name) low = option_map_or (because_at told) (low_giver name low answers) []
+giver_lines answers told (numbers_are m name lines) low = option_map_or (because_at told) (low_giver name low answers) []
+giver_lines answers told response low = []
+
+-- why a response doesn't fit behind these answers; where its low mark is below an earlier one, the answer that gave that one too
+abbrev pub unfitting_lines : List Placed → List Cited → Response → Misfit → List ℕ
+unfitting_lines answers told response (below_low low) = misfit_line (below_low low) ++ giver_lines answers told response low
+unfitting_lines answers told response why = misfit_line why
+
+-- ---- what it conflicts about
+
+-- the line of what a bad answer and those of a core conflict about
+abbrev pub about_line : Point → List ℕ
+about_line (Step name) = octets_line (codes "about step ") name
+about_line (Group name) = octets_line (codes "about group ") name
+about_line (NumberOf name n) = codes "about number " ++ escaped name ++ number_line (codes " ") n
+about_line (Count name) = octets_line (codes "about count ") name
+about_line (FirstNumber name) = octets_line (codes "about first ") name
+about_line (IdOf name n) = codes "about id " ++ escaped name ++ number_line (codes " ") n
+about_line (PlaceOf name id) = codes "about place " ++ escaped name ++ octets_line (codes " ") id
+about_line (Article id) = octets_line (codes "about article ") id
+about_line (HeadOf id) = octets_line (codes "about head ") id
+about_line (BodyOf id) = octets_line (codes "about body ") id

@@ -1,0 +1,288 @@
+//! One thing that an answer says of the numbers of a group, and how `explain` prints it.
+ghost use Rattle.std.specs.Prelude.{◌≡◌, ◌==◌, ◌++◌, None, true, OnOk, codes, length};
+ghost use Rattle.std.specs.List.{list_any};
+ghost use Rattle.nntp_wire.specs.Listing.{listed_numbers};
+ghost use Rattle.nntp_article.specs.Session.Machine.{is_in_range};
+ghost use Rattle.nntp_facts.specs.Given.{is_end};
+ghost use Rattle.nntp_facts.specs.Asks as asks;
+ghost use Rattle.nntp_explain.specs.Says.{ask_text, ask_word, bears_on, current_place, current_word, listed_text, marks_text, place_text, range_text, with_or_without};
+ghost use Rattle.nntp_explain.specs.SaysView.{ask_of};
+
+use nntp_facts::Position;
+use nntp_printing::put_number;
+use nntp_wire::{Block, Marks, Range, WaterMarks};
+use std::alloc::{AllocError, Allocator};
+
+/// One thing that an answer says of the numbers of a group.
+#[derive(Drop)]
+pub(crate) enum Ask<'s> {
+    /// There are at most so many, between the marks, which are read so.
+    Estimates {
+        /// How the marks are read.
+        how: Marks,
+        /// The estimate and the marks.
+        marks: WaterMarks,
+    },
+    /// All numbers are between these.
+    Bounds {
+        /// The low mark.
+        low: u64,
+        /// The high mark.
+        high: u64,
+    },
+    /// Those in the range are listed.
+    Lists {
+        /// The range that was asked for.
+        range: Range,
+        /// The lines, each of which is a number.
+        block: &'s Block<'s>,
+    },
+    /// The number isn't there.
+    Lacks(u64),
+    /// The current article is this number.
+    StandsAt(Position, u64),
+    /// There is no current article.
+    StandsNowhere(Position),
+    /// The next number above the current article is this.
+    StepsUp(Position, u64),
+    /// The next number below the current article is this.
+    StepsDown(Position, u64),
+    /// No number is above the current article.
+    IsTop(Position),
+    /// No number is below the current article.
+    IsBottom(Position),
+}
+
+impl<'s> Ask<'s> {
+    /// The word that the line begins with.
+    pub(crate) fn word(&self) -> &'static [u8]
+        ensures { result.now ≡ ask_word (ask_of self.now) }
+    {
+        match self {
+            Ask::Estimates { .. } | Ask::Bounds { .. } | Ask::Lists { .. } => b"numbers",
+            Ask::Lacks(_) => b"number",
+            Ask::StandsAt(at, _) => current_word(*at),
+            Ask::StandsNowhere(at) => current_word(*at),
+            Ask::StepsUp(_, _) | Ask::IsTop(_) => b"next",
+            Ask::StepsDown(_, _) | Ask::IsBottom(_) => b"last",
+        }
+    }
+
+    /// Tells whether it shows the number, denies it, or has it as a strict mark.
+    pub(crate) fn bears_on(&self, number: u64) -> bool
+        ensures { result ≡ bears_on (ask_of self.now) number }
+    {
+        match self {
+            Ask::Estimates { how, marks } => {
+                number < marks.low || marks.high < number || is_end(*how, *marks, number)
+            }
+            Ask::Bounds { low, high } => number < *low || *high < number,
+            Ask::Lists { range, block } => lists(block, number) || is_in_range(*range, number),
+            Ask::Lacks(missing) => *missing == number,
+            Ask::StandsAt(Position::First, first) => *first == number || number < *first,
+            Ask::StandsNowhere(Position::First) => true,
+            Ask::StandsAt(_, _) | Ask::StandsNowhere(_) => false,
+            Ask::StepsUp(Position::Known(from), next) => {
+                *next == number || (*from < number && number < *next)
+            }
+            Ask::StepsDown(Position::Known(from), last) => {
+                *last == number || (*last < number && number < *from)
+            }
+            Ask::StepsUp(_, next) => *next == number,
+            Ask::StepsDown(_, last) => *last == number,
+            Ask::IsTop(Position::Known(from)) => *from < number,
+            Ask::IsBottom(Position::Known(from)) => number < *from,
+            Ask::IsTop(_) | Ask::IsBottom(_) => false,
+        }
+    }
+
+    /// Adds what stands behind the name of the group.
+    pub(crate) fn put_text<A: Allocator + Copy>(
+        &self,
+        text: &mut Vec<u8, A>,
+    ) -> Result<(), AllocError>
+        ensures { OnOk result (text.new.items ≡ text.old.items ++ ask_text (ask_of self.now)) }
+    {
+        match self {
+            Ask::Estimates { how, marks } => {
+                put_number(text, b" at most ", marks.estimate)?;
+                put_marks(text, *how, marks.low, marks.high)
+            }
+            Ask::Bounds { low, high } => put_marks(text, Marks::Lenient, *low, *high),
+            Ask::Lists { range, block } => {
+                put_range(text, *range)?;
+                put_number(text, b" are ", count_of(block))
+            }
+            Ask::Lacks(number) => {
+                put_number(text, b" ", *number)?;
+                text.extend_from_slice(b" is missing")
+            }
+            Ask::StandsAt(at, number) => {
+                put_current_place(text, *at)?;
+                put_number(text, b" is ", *number)
+            }
+            Ask::StandsNowhere(at) => put_no_current(text, *at),
+            Ask::StepsUp(at, number) | Ask::StepsDown(at, number) => {
+                put_step(text, *at, *number)
+            }
+            Ask::IsTop(at) | Ask::IsBottom(at) => put_no_step(text, *at),
+        }
+    }
+
+    /// Adds, about a number, whether it is among those that are listed.
+    pub(crate) fn put_listed<A: Allocator + Copy>(
+        &self,
+        text: &mut Vec<u8, A>,
+        about: Option<u64>,
+    ) -> Result<(), AllocError>
+        ensures { OnOk result (text.new.items ≡ text.old.items ++ listed_text about (ask_of self.now)) }
+    {
+        match (about, self) {
+            (Some(number), Ask::Lists { block, .. }) => {
+                put_number(text, with_or_without(lists(block, number)), number)
+            }
+            _ => Ok(()),
+        }
+    }
+}
+
+/// Tells whether the number is a mark that is read strictly.
+fn is_end(how: Marks, marks: WaterMarks, number: u64) -> bool
+    ensures { result ≡ is_end (asks.Estimates how marks) number }
+{
+    match how {
+        Marks::Lenient => false,
+        Marks::Strict => marks.low == number || marks.high == number,
+    }
+}
+
+/// Tells whether the number is one of those that the lines list.
+fn lists(block: &Block<'_>, number: u64) -> bool
+    ensures { result ≡ list_any (λ m. number == m) (listed_numbers block.now) }
+{
+    for listed in block.numbers() {
+        if number == listed {
+            return true;
+        }
+    }
+    false
+}
+
+/// Returns how many numbers the lines list.
+fn count_of(block: &Block<'_>) -> u64
+    ensures { result ≡ length (listed_numbers block.now) }
+{
+    block.numbers().count() as u64
+}
+
+/// Tells whether the range has the number.
+fn is_in_range(range: Range, number: u64) -> bool
+    ensures { result ≡ is_in_range range number }
+{
+    range.first <= number && range.last.is_none_or(|last| number <= last)
+}
+
+/// The words before a number that is listed, or isn't.
+pub(crate) fn with_or_without(is_listed: bool) -> &'static [u8]
+    ensures { result.now ≡ with_or_without is_listed }
+{
+    if is_listed { b" with " } else { b" without " }
+}
+
+/// The word for the current article.
+fn current_word(at: Position) -> &'static [u8]
+    ensures { result.now ≡ current_word at }
+{
+    match at {
+        Position::Known(_) => b"current",
+        Position::Nowhere | Position::First => b"first",
+    }
+}
+
+/// Adds the number of the current article, if it is known.
+fn put_current_place<A: Allocator + Copy>(
+    text: &mut Vec<u8, A>,
+    at: Position,
+) -> Result<(), AllocError>
+    ensures { OnOk result (text.new.items ≡ text.old.items ++ current_place at) }
+{
+    match at {
+        Position::Known(number) => put_number(text, b" ", number),
+        Position::Nowhere | Position::First => Ok(()),
+    }
+}
+
+/// Adds that there is no current article.
+fn put_no_current<A: Allocator + Copy>(
+    text: &mut Vec<u8, A>,
+    at: Position,
+) -> Result<(), AllocError>
+    ensures { OnOk result (text.new.items ≡ text.old.items ++ ask_text (asks.StandsNowhere at)) }
+{
+    put_current_place(text, at)?;
+    text.extend_from_slice(b" is missing")?;
+    Ok(())
+}
+
+/// Adds what a step is taken from.
+fn put_from<A: Allocator + Copy>(text: &mut Vec<u8, A>, at: Position) -> Result<(), AllocError>
+    ensures { OnOk result (text.new.items ≡ text.old.items ++ codes " from " ++ place_text at) }
+{
+    match at {
+        Position::Known(number) => put_number(text, b" from ", number),
+        Position::Nowhere | Position::First => text.extend_from_slice(b" from first"),
+    }
+}
+
+/// Adds where a step leads.
+fn put_step<A: Allocator + Copy>(
+    text: &mut Vec<u8, A>,
+    at: Position,
+    number: u64,
+) -> Result<(), AllocError>
+    ensures { OnOk result (text.new.items ≡ text.old.items ++ ask_text (asks.StepsUp at number)) }
+{
+    put_from(text, at)?;
+    put_number(text, b" is ", number)
+}
+
+/// Adds that a step leads nowhere.
+fn put_no_step<A: Allocator + Copy>(text: &mut Vec<u8, A>, at: Position) -> Result<(), AllocError>
+    ensures { OnOk result (text.new.items ≡ text.old.items ++ ask_text (asks.IsTop at)) }
+{
+    put_from(text, at)?;
+    text.extend_from_slice(b" is missing")
+}
+
+/// Adds two marks.
+fn put_marks<A: Allocator + Copy>(
+    text: &mut Vec<u8, A>,
+    how: Marks,
+    low: u64,
+    high: u64,
+) -> Result<(), AllocError>
+    ensures { OnOk result (text.new.items ≡ text.old.items ++ marks_text how low high) }
+{
+    match how {
+        Marks::Lenient => {
+            put_number(text, b" within ", low)?;
+            put_number(text, b"-", high)
+        }
+        Marks::Strict => {
+            put_number(text, b" from ", low)?;
+            put_number(text, b" to ", high)
+        }
+    }
+}
+
+/// Adds a range.
+fn put_range<A: Allocator + Copy>(text: &mut Vec<u8, A>, range: Range) -> Result<(), AllocError>
+    ensures { OnOk result (text.new.items ≡ text.old.items ++ codes " " ++ range_text range) }
+{
+    put_number(text, b" ", range.first)?;
+    text.push(b'-')?;
+    match range.last {
+        Some(last) => put_number(text, b"", last),
+        None => Ok(()),
+    }
+}

@@ -1,0 +1,45 @@
+//! The end of an explanation: why octets that are left answer nothing, and the last line.
+ghost use Rattle.std.specs.Prelude.{◌≡◌, ◌≢◌, ◌++◌, OnOk};
+ghost use Rattle.std.specs.Option.{option_map};
+ghost use Rattle.nntp_pair.specs.declared.class.PairClass.TheVariants.{Malformed};
+ghost use Rattle.nntp_explain.specs.Explaining.{end_line, IsEndReason};
+ghost use Rattle.nntp_explain.specs.ExplainingView.{cited_of, GoesOn};
+
+use crate::reasons::{put_cut, put_surplus};
+use crate::standing::Cited;
+use nntp_pair::PairClass;
+use nntp_printing::put_number;
+use std::alloc::{AllocError, Allocator};
+
+/// Adds why octets that are left answer nothing, where this answer closed the connection, if one did.
+pub(crate) fn put_end_reason<A: Allocator + Copy>(
+    text: &mut Vec<u8, A>,
+    class: PairClass,
+    closing: &Option<Cited<'_>>,
+    octets: &[u8],
+) -> Result<(), AllocError>
+    requires { class ≢ Malformed }
+    ensures { OnOk result (GoesOn (IsEndReason class (option_map cited_of closing.now) octets.now) text.old.items text.new.items) }
+{
+    match class {
+        PairClass::Surplus => put_surplus(text, closing),
+        PairClass::Cut => put_cut(text, octets),
+        PairClass::Malformed => unreachable!(),
+    }
+}
+
+/// Adds the last line: how many answers there are, how many of them are bad, and how many lines have none.
+pub(crate) fn put_end<A: Allocator + Copy>(
+    text: &mut Vec<u8, A>,
+    answers: u64,
+    bad: u64,
+    unanswered: u64,
+) -> Result<(), AllocError>
+    ensures { OnOk result (text.new.items ≡ text.old.items ++ end_line answers bad unanswered) }
+{
+    put_number(text, b"end answers=", answers)?;
+    put_number(text, b" bad=", bad)?;
+    put_number(text, b" unanswered=", unanswered)?;
+    text.push(b'\n')?;
+    Ok(())
+}

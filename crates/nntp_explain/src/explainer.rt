@@ -1,0 +1,373 @@
+//! A session read to its end, behind bad answers too, and what is bad of it.
+ghost use Rattle.std.specs.Prelude.{◌≡◌, ◌≢◌, ◌==◌, ℕ, ◌+◌, ◌<◌, ◌≤◌, ◌^◌, List, [], ◌∷◌, ◌++◌, length, map, nat_lt, OnOk, IfOk, MatchOption, count_by, drop, is_some};
+ghost use Rattle.std.specs.List.{AllByRecursion};
+ghost use Rattle.std.specs.Option.{option_copied, option_map, option_map_or};
+ghost use Rattle.nntp_wire.specs.Misspelling.{misspelling};
+ghost use Rattle.nntp_wire.specs.View.{asked};
+ghost use Rattle.nntp_article.specs.Session.Limit.{profile_of};
+ghost use Rattle.nntp_article.specs.Session.Misfit.{misfit};
+ghost use Rattle.nntp_article.specs.declared.session.profile.Profile.{Profile};
+ghost use Rattle.nntp_pair.specs.Pairing.{Unpaired, IsNext, Ends, bad, line_ahead, streams};
+ghost use Rattle.nntp_pair.specs.declared.class.PairClass.TheVariants.{Malformed};
+ghost use Rattle.nntp_facts.specs.Conflict.{FitsThere, IsFound, SomeHas, told_with, below};
+ghost use Rattle.nntp_facts.specs.declared.class.Class.TheVariants.{Malformed as MalformedClass, OutOfPlace, Contradiction};
+ghost use Rattle.nntp_facts.specs.Classes.{class_of};
+ghost use Rattle.nntp_facts.specs.Noted.{profile_kept};
+ghost use Rattle.nntp_printing.specs.BadAnswer.{IsFirstLine};
+ghost use Rattle.nntp_explain.specs.Explaining.{end_line, front_lines, place_lines, IsConflictOf, IsEndReason, IsExplanation, IsTold, TellsCore};
+ghost use Rattle.nntp_explain.specs.ExplainingView.{cited_of, kept_of, keeps, placed_at, standing_of, unfitting_told, GoesOn, HasTold};
+ghost use Rattle.nntp_explain.specs.Reasons.{misspelling_line};
+
+use crate::conflict::put_conflict;
+use crate::ending::{put_end, put_end_reason};
+use crate::reasons::{put_core, put_misspelling, put_standing};
+use crate::standing::{Cited, Standing, note_closing, standing_after};
+use crate::unfitting::put_unfitting;
+use nntp_facts::{Class, Conflict, Core, Facts, Noted, Placed, Position};
+use nntp_pair::{Ahead, Exchange, MalformedFrame, PairClass, Pairs, Step};
+use nntp_printing::{first_line, put_bad_answer, shown, shown_line};
+use nntp_wire::{GroupName, Limit, Marks, Misspelling};
+use std::alloc::{AllocError, Allocator};
+use std::mem;
+
+/// How many bad answers are told with more than their three lines.
+const EXPLAINED: u64 = 100;
+
+/// How many answers are looked for at most with which a bad one conflicts.
+const CITED: usize = 16;
+
+/// What is to be told of a session.
+#[derive(Drop)]
+pub struct Explanation<A: Allocator> {
+    /// The report, whole.
+    pub text: Vec<u8, A>,
+    /// Whether no answer is bad, and all octets of the server are answers.
+    pub is_without_fault: bool,
+}
+
+/// Reads on behind bad answers: each is passed over, and the next one is judged behind those that were accepted.
+#[derive(Drop)]
+pub(crate) struct Explainer<'a, A: Allocator> {
+    alloc: A,
+    /// What the accepted answers say.
+    facts: Facts<A>,
+    /// The accepted answers, each where it stands.
+    placed: Vec<Placed<'a>, A>,
+    /// The same, as reasons cite them.
+    cited: Vec<Cited<'a>, A>,
+    /// Where they leave the session; none before a group is selected.
+    standing: Option<Standing<'a>>,
+    /// The answer that closed the connection, accepted or refused; none where it is open.
+    closing: Option<Cited<'a>>,
+    /// How many answers are bad so far.
+    bad: u64,
+    /// The report so far.
+    text: Vec<u8, A>,
+}
+
+/// Explains what is bad of a session, of which these are both streams.
+///
+/// # Errors
+///
+/// `AllocError` where memory is refused.
+pub fn explain<A: Allocator + Copy>(
+    alloc: A,
+    limit: Limit,
+    marks: Marks,
+    client: &[u8],
+    server: &[u8],
+) -> Result<Explanation<A>, AllocError>
+    // Whatever the text of a spool is.
+    ensures { IfOk result (λ told. IsExplanation limit marks client.now server.now told.text.items told.is_without_fault) }
+{
+    let mut explainer = Explainer::new(alloc, limit, marks);
+    let mut pairs = Pairs::new(client, server);
+    loop {
+        match pairs.next() {
+            Step::Exchange(exchange) => explainer.note(exchange)?,
+            Step::Bad { class, .. } => {
+                let index = pairs.index();
+                match class {
+                    PairClass::Malformed => {
+                        let malformed = pairs.pass_over();
+                        explainer.refuse_malformed(index, &malformed)?;
+                    }
+                    _ => {
+                        let ahead = pairs.ahead();
+                        let unanswered = pairs.count_lines_behind();
+                        return explainer.stop(index, class, ahead, unanswered);
+                    }
+                }
+            }
+            Step::End { unanswered } => return explainer.finish(pairs.index(), unanswered),
+        }
+    }
+}
+
+impl<'a, A: Allocator + Copy> Explainer<'a, A> {
+    /// No answer was judged yet. It takes no memory.
+    fn new(alloc: A, limit: Limit, marks: Marks) -> Explainer<'a, A>
+        ensures { (client server : List ℕ) → HasTold (profile_of limit marks) client server result (streams client server) }
+    {
+        Explainer {
+            alloc,
+            facts: Facts::new(alloc, limit, marks),
+            placed: Vec::new(alloc),
+            cited: Vec::new(alloc),
+            standing: None,
+            closing: None,
+            bad: 0,
+            text: Vec::new(alloc),
+        }
+    }
+
+    /// Accepts the next exchange, if some spool permits it together with those that were accepted, and else tells that
+    /// its answer is bad, and why.
+    fn note(&mut self, exchange: Exchange<'a>) -> Result<(), AllocError>
+        requires told { (client : List ℕ) × (server : List ℕ) × (left : Unpaired) × (behind : Unpaired)
+            × HasTold (profile_kept self.old.facts) client server self.old left × IsNext left exchange behind }
+        ensures { OnOk result ((profile : Profile) (client server : List ℕ) (left behind : Unpaired)
+            → HasTold profile client server self.old left → IsNext left exchange.entry behind → HasTold profile client server self.new behind) }
+    {
+        let position = self.facts.position();
+        let Ok(noted) = self.facts.note(&exchange) else {
+            return Err(AllocError);
+        };
+        note_closing(&mut self.closing, &self.standing, &exchange);
+        match noted {
+            Noted::Consistent => self.accept(position, exchange),
+            Noted::OutOfPlace => self.refuse_unfitting(&exchange),
+            Noted::Contradiction => self.refuse_contradiction(position, exchange),
+        }
+    }
+
+    /// Adds an accepted exchange, before which the session stood at this position.
+    fn accept(&mut self, position: Position, exchange: Exchange<'a>) -> Result<(), AllocError>
+        ensures kept { OnOk result (kept_of self.new ≡ keeps position exchange.entry (kept_of self.old)) }
+        ensures text { OnOk result (self.new.text.items ≡ self.old.text.items) }
+    {
+        let selected = self.selected();
+        let after = standing_after(&self.standing, &exchange);
+        let before = mem::replace(&mut self.standing, after);
+        self.cited.push(Cited::new(before, &exchange))?;
+        self.placed.push(Placed::new(selected, position, exchange))?;
+        Ok(())
+    }
+
+    /// The name of the selected group.
+    fn selected(&self) -> Option<GroupName<'a>>
+        ensures { result ≡ option_map (λ s. s.name) (option_map standing_of self.now.standing) }
+    {
+        match &self.standing {
+            Some(standing) => Some(standing.name.copy()),
+            None => None,
+        }
+    }
+
+    /// Tells that the answer of an exchange doesn't fit.
+    fn refuse_unfitting(&mut self, exchange: &Exchange<'a>) -> Result<(), AllocError>
+        requires { self.old.bad ≤ exchange.now.index }
+        ensures kept { OnOk result (kept_of self.new ≡ record (kept_of self.old) { bad = self.old.bad + 1 }) }
+        ensures text { OnOk result (GoesOn (IsTold self.old.bad (option_map standing_of self.old.standing) exchange.now.index OutOfPlace exchange.now.line exchange.now.initial
+            (λ reason. reason ≡ unfitting_told (kept_of self.old) exchange.now))
+            self.old.text.items self.new.text.items) }
+    {
+        let line = exchange.line();
+        if self.put_bad(
+            exchange.index(),
+            Class::OutOfPlace,
+            line,
+            exchange.initial(),
+        )? {
+            let reason = self.facts.misfit(exchange)?;
+            put_unfitting(
+                &mut self.text,
+                &self.placed,
+                &self.cited,
+                exchange.answer(),
+                reason,
+            )?;
+        }
+        Ok(())
+    }
+
+    /// Tells that the answer of an exchange, before which the session stands at this position, contradicts those that
+    /// were accepted.
+    fn refuse_contradiction(
+        &mut self,
+        position: Position,
+        exchange: Exchange<'a>,
+    ) -> Result<(), AllocError>
+        requires few { self.old.bad ≤ exchange.index }
+        requires fit { AllByRecursion (FitsThere (profile_kept self.old.facts)) (placed_at (option_map standing_of self.old.standing) position exchange ∷ self.old.placed.items) }
+        requires conflict { SomeHas (profile_kept self.old.facts)
+            (told_with (profile_kept self.old.facts) (placed_at (option_map standing_of self.old.standing) position exchange) self.old.placed.items (below (length self.old.placed.items))) → ⊥ }
+        ensures kept { OnOk result (kept_of self.new ≡ record (kept_of self.old) { bad = self.old.bad + 1 }) }
+        ensures text { OnOk result (GoesOn (IsTold self.old.bad (option_map standing_of self.old.standing) exchange.entry.index Contradiction exchange.entry.line exchange.entry.initial
+            (IsConflictOf (profile_kept self.old.facts) (placed_at (option_map standing_of self.old.standing) position exchange.entry) self.old.placed.items (map cited_of self.old.cited.items)))
+            self.old.text.items self.new.text.items) }
+    {
+        let line = exchange.line();
+        if !self.put_bad(
+            exchange.index(),
+            Class::Contradiction,
+            line,
+            exchange.initial(),
+        )? {
+            return Ok(());
+        }
+        let bad = Placed::new(self.selected(), position, exchange);
+        let limit = self.facts.limit();
+        let marks = self.facts.marks();
+        let core = Core::find(self.alloc, limit, marks, &self.placed, &bad, CITED)?;
+        self.put_found(&bad, &core)
+    }
+
+    /// Tells with which of the accepted answers the bad one conflicts, and where these are all of them, about what.
+    fn put_found(&mut self, bad: &Placed<'a>, core: &Core<A>) -> Result<(), AllocError>
+        requires fit { AllByRecursion (FitsThere (profile_kept self.old.facts)) (bad.now ∷ self.old.placed.items) }
+        requires found { IsFound (profile_kept self.old.facts) bad.now self.old.placed.items core.now }
+        requires most { MatchOption core.now.rest (length core.now.places ≤ 16) (λ bound. length core.now.places ≡ 16) }
+        ensures kept { OnOk result (kept_of self.new ≡ kept_of self.old) }
+        ensures text { OnOk result (GoesOn (TellsCore (profile_kept self.old.facts) bad.now self.old.placed.items (map cited_of self.old.cited.items) core.now)
+            self.old.text.items self.new.text.items) }
+    {
+        if core.rest().is_some() {
+            return put_core(&mut self.text, &self.cited, core);
+        }
+        let limit = self.facts.limit();
+        let marks = self.facts.marks();
+        let places = core.places();
+        let conflict = Conflict::of(self.alloc, limit, marks, &self.placed, bad, places)?;
+        match conflict.point()? {
+            Some(point) => put_conflict(
+                &mut self.text,
+                marks,
+                point,
+                bad,
+                &self.placed,
+                &self.cited,
+                places,
+            ),
+            None => unreachable!(),
+        }
+    }
+
+    /// Tells that the frame at this place spells nothing.
+    fn refuse_malformed(
+        &mut self,
+        index: u64,
+        malformed: &MalformedFrame<'_>,
+    ) -> Result<(), AllocError>
+        requires { self.old.bad < 2 ^ 63 }
+        ensures kept { OnOk result (kept_of self.new ≡ record (kept_of self.old) { bad = self.old.bad + 1 }) }
+        ensures text { OnOk result (GoesOn (IsTold self.old.bad (option_map standing_of self.old.standing) index MalformedClass (option_copied malformed.now.line) malformed.now.frame.initial
+            (λ reason. reason ≡ option_map_or misspelling_line (misspelling (asked malformed.now.prompt) malformed.now.frame.initial malformed.now.frame.block) []))
+            self.old.text.items self.new.text.items) }
+    {
+        let initial = malformed.frame.initial();
+        if self.put_bad(index, Class::Malformed, malformed.line, initial)? {
+            put_unspelled(&mut self.text, malformed)?;
+        }
+        Ok(())
+    }
+
+    /// Tells that the octets ahead, at this place, answer nothing.
+    fn refuse_octets(
+        &mut self,
+        index: u64,
+        class: PairClass,
+        ahead: Ahead<'_>,
+    ) -> Result<(), AllocError>
+        requires few { self.old.bad < 2 ^ 63 }
+        requires passed { class ≢ Malformed }
+        ensures kept { OnOk result (kept_of self.new ≡ record (kept_of self.old) { bad = self.old.bad + 1 }) }
+        ensures text { OnOk result ((line : List ℕ) × IsFirstLine ahead.entry.rest.now line
+            × GoesOn (IsTold self.old.bad (option_map standing_of self.old.standing) index (class_of class) (option_copied ahead.entry.line) line
+            (IsEndReason class (option_map cited_of self.old.closing) ahead.entry.rest.now)) self.old.text.items self.new.text.items) }
+    {
+        let initial = first_line(ahead.rest);
+        if self.put_bad(index, Class::from(class), ahead.line, initial)? {
+            put_end_reason(&mut self.text, class, &self.closing, ahead.rest)?;
+        }
+        Ok(())
+    }
+
+    /// Adds the lines of a bad answer, and where the session stands, if fewer than a hundred are bad before it: then a
+    /// reason is to be told too.
+    fn put_bad(
+        &mut self,
+        index: u64,
+        class: Class,
+        line: Option<&[u8]>,
+        initial: &[u8],
+    ) -> Result<bool, AllocError>
+        requires { self.old.bad < 2 ^ 63 }
+        ensures told { IfOk result (λ is_told. is_told ≡ nat_lt self.old.bad 100) }
+        ensures text { OnOk result (self.new.text.items ≡ self.old.text.items
+            ++ front_lines index class (option_copied line.entry) initial.now ++ place_lines self.old.bad (option_map standing_of self.old.standing)) }
+        ensures kept { OnOk result (kept_of self.new ≡ record (kept_of self.old) { bad = self.old.bad + 1 }) }
+    {
+        put_bad_answer(
+            &mut self.text,
+            index,
+            class,
+            shown_line(line),
+            shown(initial),
+        )?;
+        let is_told = self.bad < EXPLAINED;
+        if is_told {
+            put_standing(&mut self.text, &self.standing)?;
+        }
+        self.bad += 1;
+        Ok(is_told)
+    }
+
+    /// The report where octets are left that answer nothing. The index is that of their place, and `ahead` has the line
+    /// that is answered there, and the octets; behind it are so many lines.
+    fn stop(
+        mut self,
+        index: u64,
+        class: PairClass,
+        ahead: Ahead<'_>,
+        unanswered: u64,
+    ) -> Result<Explanation<A>, AllocError>
+        requires few { self.bad < 2 ^ 63 }
+        requires low { index < 2 ^ 63 }
+        requires passed { class ≢ Malformed }
+        ensures { IfOk result (λ told. (limit : Limit) (marks : Marks) (client server : List ℕ) (left : Unpaired)
+            → HasTold (profile_of limit marks) client server self.entry left → Ends left (bad class) → index ≡ left.index
+            → option_copied ahead.entry.line ≡ line_ahead left.places → ahead.entry.rest.now ≡ left.server → unanswered ≡ count_by is_some (drop 1 left.places)
+            → IsExplanation limit marks client server told.text.items told.is_without_fault) }
+    {
+        self.refuse_octets(index, class, ahead)?;
+        self.finish(index + 1, unanswered)
+    }
+
+    /// The report with its last line.
+    fn finish(mut self, answers: u64, unanswered: u64) -> Result<Explanation<A>, AllocError>
+        ensures text { IfOk result (λ told. told.text.items ≡ self.entry.text.items ++ end_line answers self.entry.bad unanswered) }
+        ensures is_without_fault { IfOk result (λ told. told.is_without_fault ≡ (self.entry.bad == 0)) }
+    {
+        let bad = self.bad;
+        put_end(&mut self.text, answers, bad, unanswered)?;
+        Ok(Explanation {
+            text: self.text,
+            is_without_fault: bad == 0,
+        })
+    }
+}
+
+/// Adds why a frame spells nothing.
+fn put_unspelled<A: Allocator + Copy>(
+    text: &mut Vec<u8, A>,
+    malformed: &MalformedFrame<'_>,
+) -> Result<(), AllocError>
+    ensures { OnOk result (text.new.items ≡ text.old.items
+        ++ option_map_or misspelling_line (misspelling (asked malformed.now.prompt) malformed.now.frame.initial malformed.now.frame.block) []) }
+{
+    match Misspelling::of(&malformed.prompt, &malformed.frame) {
+        Some(misspelling) => put_misspelling(text, misspelling),
+        None => Ok(()),
+    }
+}

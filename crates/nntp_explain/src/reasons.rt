@@ -1,0 +1,341 @@
+//! Why an answer is bad, as `explain` prints it.
+ghost use Rattle.std.specs.Prelude.{◌≡◌, ◌++◌, OnOk, codes, decimal, map};
+ghost use Rattle.std.specs.List.{flat_map};
+ghost use Rattle.std.specs.Option.{option_map};
+ghost use Rattle.nntp_wire.specs.Lines.{lines_of_stream};
+ghost use Rattle.nntp_article.specs.Session.MisfitView.{why};
+ghost use Rattle.nntp_facts.specs.PointView.{point_of};
+ghost use Rattle.nntp_printing.specs.Printing.{escaped};
+ghost use Rattle.nntp_explain.specs.Reasons.{about_line, current_text, standing_line, allowed_text, misfit_line, misspelling_line, cut_line, surplus_lines, due_word, fault_word, number_line, core_lines, rest_line, index_at, because_at, because_lines};
+ghost use Rattle.nntp_explain.specs.ExplainingView.{standing_of, cited_of};
+
+use crate::standing::{Cited, Standing};
+use nntp_article::Misfit;
+use nntp_facts::{Core, Point, Position};
+use nntp_printing::{put_command, put_escaped, put_escaped_line, put_number, shown, shown_line};
+use nntp_wire::{Due, LineFault, Misspelling, split_first_line};
+use std::alloc::{AllocError, Allocator};
+
+/// Adds the line that tells where the session stands.
+pub(crate) fn put_standing<A: Allocator + Copy>(
+    text: &mut Vec<u8, A>,
+    standing: &Option<Standing<'_>>,
+) -> Result<(), AllocError>
+    ensures { OnOk result (text.new.items ≡ text.old.items ++ standing_line (option_map standing_of standing.now)) }
+{
+    let Some(standing) = standing else {
+        return text.extend_from_slice(b"in no group\n");
+    };
+    text.extend_from_slice(b"in ")?;
+    put_escaped(text, standing.name.as_slice())?;
+    put_number(text, b" since ", standing.selected_by)?;
+    put_current(text, standing.position, standing.moved_by)?;
+    text.push(b'\n')?;
+    Ok(())
+}
+
+/// Adds the current article, and the answer that made it so.
+fn put_current<A: Allocator + Copy>(
+    text: &mut Vec<u8, A>,
+    position: Position,
+    moved_by: u64,
+) -> Result<(), AllocError>
+    ensures { OnOk result (text.new.items ≡ text.old.items ++ codes " at " ++ current_text position moved_by) }
+{
+    match position {
+        Position::Nowhere => text.extend_from_slice(b" at first"),
+        Position::First => text.extend_from_slice(b" at first"),
+        Position::Known(number) => {
+            put_number(text, b" at ", number)?;
+            put_number(text, b" since ", moved_by)
+        }
+    }
+}
+
+/// Adds the line of a reason why an answer doesn't fit.
+pub(crate) fn put_misfit<A: Allocator + Copy>(
+    text: &mut Vec<u8, A>,
+    misfit: Misfit<'_>,
+) -> Result<(), AllocError>
+    ensures { OnOk result (text.new.items ≡ text.old.items ++ misfit_line (why misfit.entry)) }
+{
+    match misfit {
+        Misfit::WrongCode { code, allowed } => {
+            put_number(text, b"why code ", code)?;
+            put_allowed(text, allowed)?;
+            text.push(b'\n')?;
+            Ok(())
+        }
+        Misfit::WrongName(name) => put_escaped_line(text, b"why name ", name),
+        Misfit::WrongNumber(number) => put_number_line(text, b"why number ", number),
+        Misfit::WrongId(id) => put_escaped_line(text, b"why id ", id),
+        Misfit::BelowLow(low) => put_number_line(text, b"why low ", low),
+        Misfit::WrongMarks(name) => put_escaped_line(text, b"why marks ", name),
+        Misfit::BeyondLimit(number) => put_number_line(text, b"why limit ", number),
+        Misfit::NotAbove { before, number } => {
+            put_number(text, b"why order ", before)?;
+            put_number_line(text, b" ", number)
+        }
+        Misfit::BeyondRange(number) => put_number_line(text, b"why range ", number),
+        Misfit::Unmatched(name) => put_escaped_line(text, b"why match ", name),
+        Misfit::ListedTwice(name) => put_escaped_line(text, b"why twice ", name),
+        Misfit::NoHead => text.extend_from_slice(b"why head\n"),
+        Misfit::OtherId(said) => put_escaped_line(text, b"why own ", said),
+    }
+}
+
+/// Adds the line of a reason why a frame spells nothing.
+pub(crate) fn put_misspelling<A: Allocator + Copy>(
+    text: &mut Vec<u8, A>,
+    misspelling: Misspelling,
+) -> Result<(), AllocError>
+    ensures { OnOk result (text.new.items ≡ text.old.items ++ misspelling_line misspelling) }
+{
+    match misspelling {
+        Misspelling::WrongOctet => text.extend_from_slice(b"why octet\n"),
+        Misspelling::TooLong(length) => put_number_line(text, b"why length ", length as u64),
+        Misspelling::NoCode => text.extend_from_slice(b"why code\n"),
+        Misspelling::WrongArgument { place, due } => put_place_line(
+            text,
+            b"why argument ",
+            place,
+            due_word(due),
+        ),
+        Misspelling::WrongLine { place, fault } => put_place_line(
+            text,
+            b"why block line ",
+            place,
+            fault_word(fault),
+        ),
+        Misspelling::WrongBlock => text.extend_from_slice(b"why block\n"),
+    }
+}
+
+/// Adds the line that tells what is missing of a response of which these octets came.
+pub(crate) fn put_cut<A: Allocator + Copy>(
+    text: &mut Vec<u8, A>,
+    octets: &[u8],
+) -> Result<(), AllocError>
+    ensures { OnOk result (text.new.items ≡ text.old.items ++ cut_line (lines_of_stream octets.now)) }
+{
+    match split_first_line(octets) {
+        Some(_) => text.extend_from_slice(b"why block\n"),
+        None => text.extend_from_slice(b"why line\n"),
+    }
+}
+
+/// Adds the lines that tell which answer closed the connection, if one did, or else that no line is left to be answered.
+pub(crate) fn put_surplus<A: Allocator + Copy>(
+    text: &mut Vec<u8, A>,
+    closing: &Option<Cited<'_>>,
+) -> Result<(), AllocError>
+    ensures { OnOk result (text.new.items ≡ text.old.items ++ surplus_lines (option_map cited_of closing.now)) }
+{
+    match closing {
+        Some(answer) => {
+            text.extend_from_slice(b"why closed\n")?;
+            put_because(text, answer)
+        }
+        None => text.extend_from_slice(b"why no command\n"),
+    }
+}
+
+/// The word that is printed for what is due as an argument.
+fn due_word(due: Due) -> &'static [u8]
+    ensures { result.now ≡ due_word due }
+{
+    match due {
+        Due::Number => b"number",
+        Due::GroupName => b"group",
+        Due::MessageId => b"id",
+    }
+}
+
+/// The word that is printed for what is wrong with a line of a block.
+fn fault_word(fault: LineFault) -> &'static [u8]
+    ensures { result.now ≡ fault_word fault }
+{
+    match fault {
+        LineFault::BadOctet => b"octet",
+        LineFault::SingleDot => b"dot",
+        LineFault::NoNumber => b"number",
+        LineFault::NoGroup => b"group",
+        LineFault::NoVersions => b"versions",
+    }
+}
+
+/// Adds a line of a label, a place and a word.
+fn put_place_line<A: Allocator + Copy>(
+    text: &mut Vec<u8, A>,
+    label: &[u8],
+    place: usize,
+    word: &[u8],
+) -> Result<(), AllocError>
+    ensures { OnOk result (text.new.items ≡ text.old.items ++ label.now ++ decimal place ++ codes " " ++ word.now ++ codes "\n") }
+{
+    put_number(text, label, place as u64)?;
+    text.push(b' ')?;
+    text.extend_from_slice(word)?;
+    text.push(b'\n')?;
+    Ok(())
+}
+
+/// Adds a line of a label and a number.
+fn put_number_line<A: Allocator + Copy>(
+    text: &mut Vec<u8, A>,
+    label: &[u8],
+    number: u64,
+) -> Result<(), AllocError>
+    ensures { OnOk result (text.new.items ≡ text.old.items ++ number_line label.now number) }
+{
+    put_number(text, label, number)?;
+    text.push(b'\n')?;
+    Ok(())
+}
+
+/// Adds the codes that fit, if any do.
+fn put_allowed<A: Allocator + Copy>(
+    text: &mut Vec<u8, A>,
+    allowed: &[u64],
+) -> Result<(), AllocError>
+    ensures { OnOk result (text.new.items ≡ text.old.items ++ allowed_text allowed.now) }
+{
+    if allowed.is_empty() {
+        return Ok(());
+    }
+    text.extend_from_slice(b" allowed")?;
+    put_codes(text, allowed)
+}
+
+/// Adds codes, each behind a space.
+fn put_codes<A: Allocator + Copy>(text: &mut Vec<u8, A>, found: &[u64]) -> Result<(), AllocError>
+    ensures { OnOk result (text.new.items ≡ text.old.items ++ flat_map (λ code. codes " " ++ decimal code) found.now) }
+{
+    for code in found {
+        put_number(text, b" ", *code)?;
+    }
+    Ok(())
+}
+
+/// Adds the line of what a bad answer and accepted ones conflict about.
+pub(crate) fn put_about<A: Allocator + Copy>(
+    text: &mut Vec<u8, A>,
+    point: &Point<'_>,
+) -> Result<(), AllocError>
+    ensures { OnOk result (text.new.items ≡ text.old.items ++ about_line (point_of point.now)) }
+{
+    match point {
+        Point::Step(name) => put_escaped_line(text, b"about step ", *name),
+        Point::Group(name) => put_escaped_line(text, b"about group ", name.as_slice()),
+        Point::Number { name, number } => {
+            put_named(text, b"about number ", *name)?;
+            put_number_line(text, b" ", *number)
+        }
+        Point::Count(name) => put_escaped_line(text, b"about count ", *name),
+        Point::First(name) => put_escaped_line(text, b"about first ", *name),
+        Point::IdOf { name, number } => {
+            put_named(text, b"about id ", *name)?;
+            put_number_line(text, b" ", *number)
+        }
+        Point::PlaceOf { name, id } => {
+            put_named(text, b"about place ", *name)?;
+            put_escaped_line(text, b" ", *id)
+        }
+        Point::Article(id) => put_escaped_line(text, b"about article ", *id),
+        Point::HeadOf(id) => put_escaped_line(text, b"about head ", *id),
+        Point::BodyOf(id) => put_escaped_line(text, b"about body ", *id),
+    }
+}
+
+/// Adds a label and a name.
+fn put_named<A: Allocator + Copy>(
+    text: &mut Vec<u8, A>,
+    label: &[u8],
+    name: &[u8],
+) -> Result<(), AllocError>
+    ensures { OnOk result (text.new.items ≡ text.old.items ++ (label.now ++ escaped name.now)) }
+{
+    text.extend_from_slice(label)?;
+    put_escaped(text, name)
+}
+
+/// Adds the answers of a core, or of the end of one.
+pub(crate) fn put_core<A: Allocator + Copy>(
+    text: &mut Vec<u8, A>,
+    answers: &[Cited<'_>],
+    core: &Core<A>,
+) -> Result<(), AllocError>
+    ensures { OnOk result (text.new.items ≡ text.old.items ++ core_lines (map cited_of answers.now) core.now) }
+{
+    put_rest(text, answers, core.rest())?;
+    put_places(text, answers, core.places())
+}
+
+/// Adds the line of the answers below a bound, where further reasons are among them.
+fn put_rest<A: Allocator + Copy>(
+    text: &mut Vec<u8, A>,
+    answers: &[Cited<'_>],
+    rest: Option<usize>,
+) -> Result<(), AllocError>
+    ensures { OnOk result (text.new.items ≡ text.old.items ++ rest_line (map cited_of answers.now) rest) }
+{
+    let Some(bound) = rest else {
+        return Ok(());
+    };
+    let last = index_at(answers, bound.saturating_sub(1));
+    put_number(text, b"because some of ", index_at(answers, 0))?;
+    put_number_line(text, b" to ", last)?;
+    Ok(())
+}
+
+/// Which answer it is that stands at a place.
+fn index_at(answers: &[Cited<'_>], place: usize) -> u64
+    ensures { result ≡ index_at (map cited_of answers.now) place }
+{
+    match answers.get(place) {
+        Some(answer) => answer.index,
+        None => 0,
+    }
+}
+
+/// Adds the answers at the places, one after the other.
+fn put_places<A: Allocator + Copy>(
+    text: &mut Vec<u8, A>,
+    answers: &[Cited<'_>],
+    places: &[usize],
+) -> Result<(), AllocError>
+    ensures { OnOk result (text.new.items ≡ text.old.items ++ flat_map (because_at (map cited_of answers.now)) places.now) }
+{
+    for place in places {
+        put_because_at(text, answers, *place)?;
+    }
+    Ok(())
+}
+
+/// Adds the answer at a place, if one is there.
+pub(crate) fn put_because_at<A: Allocator + Copy>(
+    text: &mut Vec<u8, A>,
+    answers: &[Cited<'_>],
+    place: usize,
+) -> Result<(), AllocError>
+    ensures { OnOk result (text.new.items ≡ text.old.items ++ because_at (map cited_of answers.now) place) }
+{
+    match answers.get(place) {
+        Some(answer) => put_because(text, answer),
+        None => Ok(()),
+    }
+}
+
+/// Adds an answer that is a reason, and where the session stands there.
+fn put_because<A: Allocator + Copy>(
+    text: &mut Vec<u8, A>,
+    answer: &Cited<'_>,
+) -> Result<(), AllocError>
+    ensures { OnOk result (text.new.items ≡ text.old.items ++ because_lines (cited_of answer.now)) }
+{
+    put_number_line(text, b"because answer ", answer.index)?;
+    put_command(text, shown_line(answer.line))?;
+    put_escaped_line(text, b"answer ", shown(answer.initial))?;
+    put_standing(text, &answer.standing)?;
+    Ok(())
+}

@@ -1,0 +1,386 @@
+//! What an answer says about the point of a conflict, as `explain` prints it.
+ghost use Rattle.std.specs.Prelude.{◌≡◌, ◌++◌, ◌<◌, ◌-◌, ◌^◌, None, IfSome, OnOk, length};
+ghost use Rattle.std.specs.List.{flat_map, list_any};
+ghost use Rattle.nntp_wire.specs.Answer.{to};
+ghost use Rattle.nntp_wire.specs.AnswerView.{response};
+ghost use Rattle.nntp_wire.specs.declared.command.What.TheVariants.{Stat};
+ghost use Rattle.nntp_wire.specs.Command.{retrieve};
+ghost use Rattle.nntp_wire.specs.Listing.{active_groups};
+ghost use Rattle.nntp_wire.specs.View.{request, target};
+ghost use Rattle.nntp_article.specs.Session.Machine.{is_same};
+ghost use Rattle.nntp_facts.specs.Facts.{ThereIs, ThereIsNo, Asks, IdAt, TextIs, NoArticle, GroupsAre, facts_of, facts_of_code};
+ghost use Rattle.nntp_facts.specs.PointView.{point_of};
+ghost use Rattle.nntp_facts.specs.Conflict as points;
+ghost use Rattle.nntp_explain.specs.Says.{groups_line, said_lines, says};
+ghost use Rattle.nntp_explain.specs.SaysView.{ask_of, in_group, numbers_of_success};
+
+use crate::ask::{Ask, with_or_without};
+use crate::said_numbers::{is_same, put_asked, put_bounds, put_id_line, put_numbered};
+use crate::said_parts::{body_of, head_of, put_part};
+use nntp_facts::{Placed, Point, Position};
+use nntp_printing::{put_escaped_line, put_number};
+use nntp_wire::{
+    Answer, Block, Command, GroupName, Marks, Prompt, What, Which, Wildmat, matches_if_given,
+};
+use std::alloc::{AllocError, Allocator};
+
+/// What is told of an answer: what it says about this point.
+#[derive(Drop)]
+pub(crate) struct About<'p> {
+    /// The point.
+    pub(crate) point: Point<'p>,
+    /// The line that is told of a head or a body, if one is. It counts from 0.
+    pub(crate) line: Option<usize>,
+}
+
+/// Where an answer stands.
+#[derive(Clone, Copy)]
+struct Here<'s> {
+    /// The name of the selected group, or no octets where none is selected.
+    name: &'s [u8],
+    /// The position in the group.
+    at: Position,
+}
+
+/// Adds what an answer says about the point, a line for each thing that it says.
+pub(crate) fn put_said<A: Allocator + Copy>(
+    text: &mut Vec<u8, A>,
+    how: Marks,
+    about: &About<'_>,
+    answer: &Placed<'_>,
+) -> Result<(), AllocError>
+    requires { IfSome about.now.line (λ place. place < 2 ^ 64 - 1) }
+    ensures { OnOk result (text.new.items ≡ text.old.items ++ said_lines how about.now.line (point_of about.now.point) answer.now) }
+{
+    let here = Here {
+        name: answer.selected_name(),
+        at: answer.position(),
+    };
+    match answer.prompt() {
+        Prompt::Greeting => Ok(()),
+        Prompt::To(command) => put_said_to(text, how, about, here, command, answer.answer()),
+    }
+}
+
+/// Adds what an answer to a command says.
+fn put_said_to<A: Allocator + Copy>(
+    text: &mut Vec<u8, A>,
+    how: Marks,
+    about: &About<'_>,
+    here: Here<'_>,
+    command: &Command<'_>,
+    answer: &Answer<'_>,
+) -> Result<(), AllocError>
+    requires { IfSome about.now.line (λ place. place < 2 ^ 64 - 1) }
+    ensures { OnOk result (text.new.items ≡ text.old.items
+        ++ flat_map (says about.now.line (point_of about.now.point)) (facts_of how (in_group here.entry.name.now) here.entry.at (to (request command.now)) (response answer.now))) }
+{
+    match (command, answer) {
+        (_, Answer::Plain { code }) => put_said_by_code(text, about, here, command, *code),
+        (Command::Group(_), Answer::Group { marks, name }) => {
+            put_there_is(text, about, name.as_slice())?;
+            let ask = Ask::Estimates { how, marks: *marks };
+            put_ask(text, about, name.as_slice(), &ask)
+        }
+        (Command::ListGroup { range, .. }, Answer::Numbers { marks, name, block }) => {
+            put_there_is(text, about, name.as_slice())?;
+            let ask = Ask::Estimates { how, marks: *marks };
+            put_ask(text, about, name.as_slice(), &ask)?;
+            let range = *range;
+            put_ask(text, about, name.as_slice(), &Ask::Lists { range, block })
+        }
+        (Command::Next, Answer::Sent { number, id, .. }) => {
+            put_ask(text, about, here.name, &Ask::StepsUp(here.at, *number))?;
+            put_id_at(text, about, here.name, *number, id.as_slice())
+        }
+        (Command::Last, Answer::Sent { number, id, .. }) => {
+            put_ask(text, about, here.name, &Ask::StepsDown(here.at, *number))?;
+            put_id_at(text, about, here.name, *number, id.as_slice())
+        }
+        (
+            Command::Retrieve { what, which },
+            Answer::Sent {
+                code: _,
+                number,
+                id,
+                block,
+            },
+        ) => {
+            put_text_is(text, about, *what, id.as_slice(), block)?;
+            put_numbers_of_success(text, about, here, which, *number, id.as_slice())
+        }
+        (Command::ListActive(wildmat), Answer::Active(block)) => {
+            put_groups(text, about, wildmat, block)
+        }
+        _ => Ok(()),
+    }
+}
+
+/// Adds what a success of ARTICLE, HEAD, BODY or STAT says of the number.
+fn put_numbers_of_success<A: Allocator + Copy>(
+    text: &mut Vec<u8, A>,
+    about: &About<'_>,
+    here: Here<'_>,
+    which: &Which<'_>,
+    number: u64,
+    id: &[u8],
+) -> Result<(), AllocError>
+    ensures { OnOk result (text.new.items ≡ text.old.items
+        ++ flat_map (says about.now.line (point_of about.now.point)) (numbers_of_success (in_group here.entry.name.now) here.entry.at (target which.now) number id.now)) }
+{
+    match which {
+        Which::Id(_) if number == 0 => Ok(()),
+        Which::Current => {
+            put_ask(text, about, here.name, &Ask::StandsAt(here.at, number))?;
+            put_id_at(text, about, here.name, number, id)
+        }
+        _ => put_id_at(text, about, here.name, number, id),
+    }
+}
+
+/// Adds what a code alone says.
+fn put_said_by_code<A: Allocator + Copy>(
+    text: &mut Vec<u8, A>,
+    about: &About<'_>,
+    here: Here<'_>,
+    command: &Command<'_>,
+    code: u64,
+) -> Result<(), AllocError>
+    ensures { OnOk result (text.new.items ≡ text.old.items
+        ++ flat_map (says about.now.line (point_of about.now.point)) (facts_of_code (in_group here.entry.name.now) here.entry.at (request command.now) code)) }
+{
+    match (command, code) {
+        (Command::Group(word), 411) => put_there_is_no(text, about, *word),
+        (
+            Command::ListGroup {
+                group: Some(word),
+                ..
+            },
+            411,
+        ) => put_there_is_no(text, about, *word),
+        (Command::Next | Command::Last, 420) => {
+            put_ask(text, about, here.name, &Ask::StandsNowhere(here.at))
+        }
+        (Command::Next, 421) => put_ask(text, about, here.name, &Ask::IsTop(here.at)),
+        (Command::Last, 422) => put_ask(text, about, here.name, &Ask::IsBottom(here.at)),
+        (Command::Retrieve { which, .. }, code) => put_failure(text, about, here, which, code),
+        _ => Ok(()),
+    }
+}
+
+/// Adds what a failure of ARTICLE, HEAD, BODY or STAT says.
+fn put_failure<A: Allocator + Copy>(
+    text: &mut Vec<u8, A>,
+    about: &About<'_>,
+    here: Here<'_>,
+    which: &Which<'_>,
+    code: u64,
+) -> Result<(), AllocError>
+    ensures { OnOk result (text.new.items ≡ text.old.items
+        ++ flat_map (says about.now.line (point_of about.now.point)) (facts_of_code (in_group here.entry.name.now) here.entry.at (retrieve Stat (target which.now)) code)) }
+{
+    match (which, code) {
+        (Which::Id(word), 430) => put_no_article(text, about, *word),
+        (Which::Number(Some(number)), 423) => {
+            put_ask(text, about, here.name, &Ask::Lacks(*number))
+        }
+        (Which::Current, 420) => put_ask(text, about, here.name, &Ask::StandsNowhere(here.at)),
+        _ => Ok(()),
+    }
+}
+
+/// Adds that there is such a group.
+fn put_there_is<A: Allocator + Copy>(
+    text: &mut Vec<u8, A>,
+    about: &About<'_>,
+    name: &[u8],
+) -> Result<(), AllocError>
+    ensures { OnOk result (text.new.items ≡ text.old.items ++ says about.now.line (point_of about.now.point) (ThereIs name.now)) }
+{
+    match &about.point {
+        Point::Group(group) if is_same(name, group.as_slice()) => {
+            put_escaped_line(text, b"says group ", name)
+        }
+        _ => Ok(()),
+    }
+}
+
+/// Adds that there is no such group.
+fn put_there_is_no<A: Allocator + Copy>(
+    text: &mut Vec<u8, A>,
+    about: &About<'_>,
+    name: &[u8],
+) -> Result<(), AllocError>
+    ensures { OnOk result (text.new.items ≡ text.old.items ++ says about.now.line (point_of about.now.point) (ThereIsNo name.now)) }
+{
+    match &about.point {
+        Point::Group(group) if is_same(name, group.as_slice()) => {
+            put_escaped_line(text, b"says no group ", name)
+        }
+        _ => Ok(()),
+    }
+}
+
+/// Adds what is asked of the numbers of a group.
+fn put_ask<A: Allocator + Copy>(
+    text: &mut Vec<u8, A>,
+    about: &About<'_>,
+    name: &[u8],
+    ask: &Ask<'_>,
+) -> Result<(), AllocError>
+    ensures { OnOk result (text.new.items ≡ text.old.items ++ says about.now.line (point_of about.now.point) (Asks name.now (ask_of ask.now))) }
+{
+    match &about.point {
+        Point::Step(group) => put_asked(text, *group, None, name, ask),
+        Point::Count(group) => put_asked(text, *group, None, name, ask),
+        Point::First(group) => put_asked(text, *group, None, name, ask),
+        Point::Number {
+            name: group,
+            number,
+        } => put_asked(text, *group, Some(*number), name, ask),
+        _ => Ok(()),
+    }
+}
+
+/// Adds that a number of a group has an id.
+fn put_id_at<A: Allocator + Copy>(
+    text: &mut Vec<u8, A>,
+    about: &About<'_>,
+    name: &[u8],
+    number: u64,
+    id: &[u8],
+) -> Result<(), AllocError>
+    ensures { OnOk result (text.new.items ≡ text.old.items ++ says about.now.line (point_of about.now.point) (IdAt name.now number id.now)) }
+{
+    match &about.point {
+        Point::Step(group) => put_numbered(text, *group, None, name, number, id),
+        Point::Count(group) => put_numbered(text, *group, None, name, number, id),
+        Point::First(group) => put_numbered(text, *group, None, name, number, id),
+        Point::Number {
+            name: group,
+            number: other,
+        } => put_numbered(text, *group, Some(*other), name, number, id),
+        Point::IdOf {
+            name: group,
+            number: other,
+        } if is_same(name, *group) && number == *other => put_id_line(text, name, number, id),
+        Point::PlaceOf {
+            name: group,
+            id: other,
+        } if is_same(name, *group) && is_same(id, *other) => put_id_line(text, name, number, id),
+        Point::Article(other) if is_same(id, *other) => put_id_line(text, name, number, id),
+        _ => Ok(()),
+    }
+}
+
+/// Adds what is sent of the article of an id; of a head or a body the line at the place is told.
+fn put_text_is<A: Allocator + Copy>(
+    text: &mut Vec<u8, A>,
+    about: &About<'_>,
+    what: What,
+    id: &[u8],
+    block: &Option<Block<'_>>,
+) -> Result<(), AllocError>
+    requires { IfSome about.now.line (λ place. place < 2 ^ 64 - 1) }
+    ensures { OnOk result (text.new.items ≡ text.old.items ++ says about.now.line (point_of about.now.point) (TextIs what id.now block.now)) }
+{
+    match &about.point {
+        Point::Article(other) if is_same(id, *other) => {
+            put_escaped_line(text, b"says article ", id)
+        }
+        Point::HeadOf(other) if is_same(id, *other) => {
+            put_part(text, b"head", *other, about.line, &head_of(what, block))
+        }
+        Point::BodyOf(other) if is_same(id, *other) => {
+            put_part(text, b"body", *other, about.line, &body_of(what, block))
+        }
+        _ => Ok(()),
+    }
+}
+
+/// Adds that an id has no article.
+fn put_no_article<A: Allocator + Copy>(
+    text: &mut Vec<u8, A>,
+    about: &About<'_>,
+    id: &[u8],
+) -> Result<(), AllocError>
+    ensures { OnOk result (text.new.items ≡ text.old.items ++ says about.now.line (point_of about.now.point) (NoArticle id.now)) }
+{
+    match &about.point {
+        Point::Article(other) if is_same(id, *other) => {
+            put_escaped_line(text, b"says no article ", id)
+        }
+        _ => Ok(()),
+    }
+}
+
+/// Adds what a list of groups says.
+fn put_groups<A: Allocator + Copy>(
+    text: &mut Vec<u8, A>,
+    about: &About<'_>,
+    wildmat: &Option<Wildmat<'_>>,
+    block: &Block<'_>,
+) -> Result<(), AllocError>
+    ensures { OnOk result (text.new.items ≡ text.old.items ++ says about.now.line (point_of about.now.point) (GroupsAre wildmat.now (active_groups block.now))) }
+{
+    match &about.point {
+        Point::Group(name) => put_group_listed(text, name, wildmat, block),
+        Point::Step(group) => put_bounds(text, *group, None, block),
+        Point::Count(group) => put_bounds(text, *group, None, block),
+        Point::First(group) => put_bounds(text, *group, None, block),
+        Point::Number {
+            name: group,
+            number,
+        } => put_bounds(text, *group, Some(*number), block),
+        _ => Ok(()),
+    }
+}
+
+/// Adds whether a group is listed, where it is or the wildmat matches it.
+fn put_group_listed<A: Allocator + Copy>(
+    text: &mut Vec<u8, A>,
+    name: &GroupName<'_>,
+    wildmat: &Option<Wildmat<'_>>,
+    block: &Block<'_>,
+) -> Result<(), AllocError>
+    ensures { OnOk result (text.new.items ≡ text.old.items ++ says None (points.Group name.now) (GroupsAre wildmat.now (active_groups block.now))) }
+{
+    let is_listed = lists_group(block, name.as_slice());
+    if is_listed || matches_if_given(wildmat, name) {
+        put_groups_line(text, name.as_slice(), block, is_listed)
+    } else {
+        Ok(())
+    }
+}
+
+/// Adds the line of groups that are listed, and whether this is one of them.
+fn put_groups_line<A: Allocator + Copy>(
+    text: &mut Vec<u8, A>,
+    name: &[u8],
+    block: &Block<'_>,
+    is_listed: bool,
+) -> Result<(), AllocError>
+    ensures { OnOk result (text.new.items ≡ text.old.items ++ groups_line name.now (active_groups block.now) is_listed) }
+{
+    put_number(text, b"says groups are ", count_of(block))?;
+    put_escaped_line(text, with_or_without(is_listed), name)
+}
+
+/// Returns how many groups the lines list.
+fn count_of(block: &Block<'_>) -> u64
+    ensures { result ≡ length (active_groups block.now) }
+{
+    block.groups().count() as u64
+}
+
+/// Tells whether a group is listed.
+fn lists_group(block: &Block<'_>, name: &[u8]) -> bool
+    ensures { result ≡ list_any (λ line. is_same line.name name.now) (active_groups block.now) }
+{
+    for line in block.groups() {
+        if is_same(line.name.as_slice(), name) {
+            return true;
+        }
+    }
+    false
+}

@@ -1,0 +1,165 @@
+-- What a checker tells as bad: the answer at the end of the pairing, if that end stays.
+use Rattle.std.proofs.Common.{◌≡◌, ◌∙◌, sym, ap, subst, refl, ℕ, ◌+◌, Bool, true, false, List, [], ◌∷◌, ◌++◌, length, Option, None, Some, inl, inr}
+use Rattle.std.specs.Prelude.{IsTrue, is_some, count_by}
+use Rattle.nntp_wire.specs.Answer.{Response, Spells}
+use Rattle.nntp_wire.specs.declared.limit.Limit.{Limit}
+use Rattle.nntp_wire.specs.declared.marks.Marks.{Marks}
+use Rattle.nntp_wire.specs.Frame.{HasFrame}
+use Rattle.nntp_wire.specs.Session.{closes}
+use Rattle.nntp_wire.proofs.SpellLemmas.{spelling-frame}
+use Rattle.nntp_wire.proofs.SpellsDecided.{dec_spelling}
+use Rattle.nntp_wire.proofs.FramesDecided.{dec_frame}
+use Rattle.nntp_article.specs.Session.Limit.{profile_of}
+use Rattle.nntp_article.specs.declared.session.profile.Profile.{Profile}
+use Rattle.nntp_pair.specs.declared.class.PairClass.{PairClass}
+use Rattle.nntp_pair.specs.declared.class.PairClass.TheVariants as pair
+use Rattle.nntp_pair.specs.Pairing.{Unpaired, Ends, Ending, end, bad as pair_end, asked_at}
+use Rattle.nntp_pair.specs.Feeding.{HasNext, EndsForGood}
+use Rattle.nntp_pair.proofs.PairingLemmas.{index-counts}
+use Rattle.nntp_facts.specs.declared.class.Class.{Class}
+use Rattle.nntp_facts.specs.declared.class.Class.TheVariants as class
+use Rattle.nntp_facts.specs.Classes.{IsSettled, class_of}
+use Rattle.nntp_facts.specs.Outcome.{No, IsOutcome}
+use Rattle.nntp_facts.specs.Noted.{FactsKept}
+use Rattle.nntp_facts.proofs.Streams.OneClass.{bad_stays as answer_stays, class_stays, settled_stays}
+use Rattle.nntp_facts.proofs.Session.OneMoreAnswer.{pairs_permitted}
+use Rattle.nntp_facts.proofs.Streams.OneOutcome.{one_outcome}
+use Rattle.nntp_facts.proofs.Streams.ExplainedOrBad.{explained_not_bad}
+use Rattle.nntp_facts.proofs.Streams.PairedStreams.{explained_end}
+use Rattle.nntp_facts.proofs.Streams.ClassAtTheEnd.{settled_lasts}
+use Rattle.nntp_verdict.specs.Judging.{Passed, IsVerdict, IsNoForGood}
+use Rattle.nntp_verdict.specs.Verdict.{Judgement, consistent, bad}
+use Rattle.nntp_verdict.specs.Checking.{IsBadForGood, IsToldBad, told_bad}
+use Rattle.nntp_verdict.proofs.JudgeLemmas.{octets-right}
+
+-- a spelling is the next exchange
+spelled-next : (index : ℕ) (place : Option (List ℕ)) (places : List (Option (List ℕ))) (server front rest : List ℕ)
+    (response : Response) → Spells (asked_at place) response front → server ≡ front ++ rest
+    → HasNext (record { index = index; places = place ∷ places; server = server; is_closed = false })
+spelled-next index place places server front rest response spells whole =
+    let found = spelling-frame (asked_at place) response front rest spells in (
+      record { index = index; line = place; initial = found.0; response = response },
+      record { index = index + 1; places = places; server = rest; is_closed = closes (asked_at place) response },
+      record {
+        index = refl;
+        is_open = refl;
+        place = refl;
+        answered = record {
+          block = found.1;
+          frame = subst (λ octets. HasFrame (asked_at place) octets found.0 found.1 rest) (sym whole) found.3;
+          spells = subst (Spells (asked_at place) response) (sym found.2) spells;
+        };
+        next_index = refl;
+        closing = refl;
+      },
+    )
+
+-- where no exchange is next, the pairing ends
+ends-here : (index : ℕ) (places : List (Option (List ℕ))) (server : List ℕ) (is_closed : Bool) → (HasNext (record { index = index; places = places; server = server; is_closed = is_closed }) → ⊥)
+    → (e : Ending) × Ends (record { index = index; places = places; server = server; is_closed = is_closed }) e
+ends-here index places [] is_closed none = (end (count_by is_some places), (refl, refl))
+ends-here index places (b ∷ server) true none = (pair_end pair.Surplus, ((λ e. cc), inl refl))
+ends-here index [] (b ∷ server) false none = (pair_end pair.Surplus, ((λ e. cc), inr refl))
+ends-here index (place ∷ places) (b ∷ server) false none = elim (dec_spelling (asked_at place) (b ∷ server)) [
+  | inl (r, front, rest, s, e) ↦ absurd (none (spelled-next index place places (b ∷ server) front rest r s e))
+  | inr unspelled ↦ elim (dec_frame (asked_at place) (b ∷ server)) [
+    | inl (line, block, rest, f) ↦ (
+      pair_end pair.Malformed,
+      (
+        (λ e. cc),
+        (
+          place,
+          record { is_open = refl; places = places; first = refl },
+          record { initial = line; block = block; rest = rest; frame = f; nothing = λ r s. unspelled (r, _, rest, s, f.whole) },
+        ),
+      ),
+    )
+    | inr no_frame ↦ (
+      pair_end pair.Cut,
+      ((λ e. cc), (place, record { is_open = refl; places = places; first = refl }, λ line block rest f. no_frame (line, block, rest, f))),
+    )
+  ]
+]
+
+module _ (profile : Profile) (client server : List ℕ) (facts : FactsKept) (left : Unpaired) (p : Passed profile client server facts left) where
+  -- an end that stays is bad for good
+  pub told : (class : PairClass) → EndsForGood class left → (index : ℕ) → index ≡ left.index → (of : Class) → of ≡ class_of class → IsBadForGood profile client server index of
+  told class ends index at of is = (
+    octets-right profile client server facts left class p ends.0 index at of is,
+    subst (λ (x : ℕ × Class). IsSettled client server x.0 x.1) (λ i. (sym (at ∙ index-counts client server p.pairs left p.before) i, sym is i))
+        ((settled_lasts client server p.pairs left class p.before).1 ends.1),
+  )
+
+  -- where all answers are explained none is bad
+  no-bad-explained : (unanswered : ℕ) → Ends left (end unanswered) → (answer : ℕ) (class : Class) → IsOutcome profile client server (No answer class) → ⊥
+  no-bad-explained unanswered ends answer class outcome =
+      let some = (pairs_permitted profile client server p.pairs left p.before).1 p.stands.permitted in
+      explained_not_bad profile some.0 client server (length p.pairs) answer
+      (explained_end profile some.0 client server p.pairs unanswered (record { left = left; paired = p.before; ends = ends }) some.1 some.2) outcome.0
+
+  -- and what is bad for good is at an end that stays
+  stays : (class : PairClass) → Ends left (pair_end class) → (answer : ℕ) (of : Class) → IsBadForGood profile client server answer of → EndsForGood class left
+  stays class ends answer of (outcome, settled) =
+      let e = one_outcome profile client server (No answer of) (No left.index (class_of class)) outcome
+      (octets-right profile client server facts left class p ends left.index refl (class_of class) refl) in
+      let place : answer ≡ length p.pairs = (let at : answer ≡ left.index = cc in at) ∙ index-counts client server p.pairs left p.before in
+      let same : of ≡ class_of class = cc in
+      (ends, (settled_lasts client server p.pairs left class p.before).0 (subst (λ (x : ℕ × Class). IsSettled client server x.0 x.1) (λ i. (place i, same i)) settled))
+
+  -- so where none stays, nothing is bad for good
+  pub untold : (HasNext left → ⊥) → ((class : PairClass) → EndsForGood class left → ⊥) → (answer : ℕ) (class : Class) → IsBadForGood profile client server answer class → ⊥
+  untold no_next no_end answer class is_bad = by (ends-here left.index left.places left.server left.is_closed no_next)
+    where
+      by : (e : Ending) × Ends left e → ⊥
+      by (end unanswered, ends) = no-bad-explained unanswered ends answer class is_bad.0
+      by (pair_end c, ends) = no_end c (stays c ends answer class is_bad)
+
+-- a no at a whole answer is settled
+settled-whole : (client server : List ℕ) (answer : ℕ) (c : Class) (command : Option (List ℕ)) (reply : List ℕ) → IsNoForGood (bad answer c command reply) → IsSettled client server answer c
+settled-whole client server answer class.Surplus command reply whole = cc
+settled-whole client server answer class.Cut command reply whole = cc
+settled-whole client server answer class.Malformed command reply whole = tt
+settled-whole client server answer class.OutOfPlace command reply whole = tt
+settled-whole client server answer class.Contradiction command reply whole = tt
+
+-- and told as bad
+pub decided-told : (limit : Limit) (marks : Marks) (client server : List ℕ) (j : Judgement) → IsNoForGood j
+    → IsVerdict limit marks client server j → IsToldBad (profile_of limit marks) client server (told_bad j)
+decided-told limit marks client server (consistent L answers) whole verdict = absurd whole
+decided-told limit marks client server (bad answer class command reply) whole verdict = (verdict.outcome, settled-whole client server answer class command reply whole)
+
+-- ---- laws
+
+-- what is bad for good stays so
+pub bad-stays : (profile : Profile) (client server client_more server_more : List ℕ) (answer : ℕ) (c : Class)
+    → IsBadForGood profile client server answer c → IsBadForGood profile (client ++ client_more) (server ++ server_more) answer c
+bad-stays profile client server client_more server_more answer c (outcome, settled) = (
+  (
+    answer_stays profile client server client_more server_more answer c outcome.1 settled outcome.0,
+    class_stays profile client server client_more server_more answer c outcome.1 settled,
+  ),
+  settled_stays client server client_more server_more answer c settled,
+)
+
+-- one answer is
+one-bad : (profile : Profile) (client server : List ℕ) (x y : ℕ × Class) → IsBadForGood profile client server x.0 x.1 → IsBadForGood profile client server y.0 y.1 → x ≡ y
+one-bad profile client server (k, c) (j, d) p q =
+    let e = one_outcome profile client server (No k c) (No j d) p.0 q.0 in
+    let place : k ≡ j = cc in
+    let same : c ≡ d = cc in
+    λ i. (place i, same i)
+
+-- so one thing is told
+pub one-told : (profile : Profile) (client server : List ℕ) (x y : Option (ℕ × Class)) → IsToldBad profile client server x → IsToldBad profile client server y → x ≡ y
+one-told profile client server None None p q = refl
+one-told profile client server None (Some y) p q = absurd (p y.0 y.1 q)
+one-told profile client server (Some x) None p q = absurd (q x.0 x.1 p)
+one-told profile client server (Some x) (Some y) p q = ap Some (one-bad profile client server x y p q)
+
+-- and it stays
+pub told-stays : (profile : Profile) (client server client_more server_more : List ℕ) (x y : Option (ℕ × Class))
+    → IsTrue (is_some x) → IsToldBad profile client server x
+    → IsToldBad profile (client ++ client_more) (server ++ server_more) y → y ≡ x
+told-stays profile client server client_more server_more None y some p q = cc
+told-stays profile client server client_more server_more (Some x) y some p q =
+    one-told profile (client ++ client_more) (server ++ server_more) y (Some x) q (bad-stays profile client server client_more server_more x.0 x.1 p)

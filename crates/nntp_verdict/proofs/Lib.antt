@@ -1,0 +1,5 @@
+pub mod JudgeLemmas
+pub mod VerdictLaws
+pub mod FedLemmas
+pub mod CheckerLemmas
+pub mod BadLemmas

@@ -1,0 +1,62 @@
+use Rattle.std.proofs.Common.{◌++◌, subst}
+use Rattle.nntp_article.specs.Session.Limit.{profile_of}
+use Rattle.nntp_pair.specs.Feeding.{EndsForGood, left_of, with_octets}
+use Rattle.nntp_verdict.proofs.JudgeLemmas.{passes, refuses}
+use Rattle.nntp_verdict.proofs.CheckerLemmas.{passed-now, passed-longer, next-due, keeps-one-more, all-passed, held, decides, no-next}
+use Rattle.nntp_verdict.proofs.FedLemmas.{next-longer, malformed-longer}
+use Rattle.nntp_verdict.proofs.checker.go_on.Goals as goal
+
+pub note-requires : goal.note-requires
+note-requires g c =
+    let whole = c.in-Whole.ensures in
+    next-due (profile_of c.requires.0 c.requires.1) c.loop-exchange.judge.facts c.loop-exchange.feed c.requires.2 c.requires.3
+    (c.loop-exchange.invariant c.requires.0 c.requires.1 c.requires.2 c.requires.3 c.requires.4) c.in-Whole.exchange whole.1
+    whole.2
+
+pub returns-in-Some : goal.returns-in-Some
+returns-in-Some g c = λ limit marks client server kept.
+    let whole = c.in-Whole.ensures in
+    let k = c.loop-exchange.invariant limit marks client server kept in
+    decides (profile_of limit marks) c.loop-exchange.judge.facts c.loop-exchange.feed client server k limit marks _ _ c.decided.ensures
+    (refuses _ c.in-Some.verdict _ _ c.in-Some.is c.in_ok-verdict.ensures.for_good)
+    (λ client_more server_more.
+    let next = next-longer c.loop-exchange.feed client_more server_more c.in-Whole.exchange whole.1 whole.2 in
+    refuses _ c.in-Some.verdict _ _ c.in-Some.is
+    (c.in_ok-verdict.ensures.judged limit marks (client ++ client_more) (server ++ server_more) (left_of (with_octets client_more server_more c.loop-exchange.feed)) next.0
+    (passed-longer (profile_of limit marks) c.loop-exchange.judge.facts c.loop-exchange.feed client server k client_more server_more) next.1))
+
+pub loop-exchange-preserved : goal.loop-exchange-preserved
+loop-exchange-preserved g c = λ limit marks client server kept.
+    let whole = c.in-Whole.ensures in
+    let k = c.loop-exchange.invariant limit marks client server kept in
+    let now = passes _ _ _ c.in_default-2.is
+    (c.in_ok-verdict.ensures.judged limit marks client server (left_of c.loop-exchange.feed) whole.1
+    (passed-now (profile_of limit marks) c.loop-exchange.judge.facts c.loop-exchange.feed client server k) whole.2) in
+    keeps-one-more (profile_of limit marks) c.loop-exchange.judge.facts c.loop-exchange.feed client server k c.note.new.self.facts c.advance.new.self
+    c.in-Whole.exchange whole.1 whole.2 now.0 now.1 c.advance.ensures.fed c.advance.ensures.has_failed
+
+pub returns-in-Bad-default-Malformed : goal.returns-in-Bad-default-Malformed
+returns-in-Bad-default-Malformed g c = λ limit marks client server kept.
+    let bad = c.in-Bad-default-Malformed.ensures in
+    let k = c.loop-exchange.invariant limit marks client server kept in
+    decides (profile_of limit marks) c.loop-exchange.judge.facts c.loop-exchange.feed client server k limit marks _ _ c.decided-in-Bad-default-Malformed.ensures
+    c.in_ok-verdict-2.ensures.for_good
+    (λ client_more server_more.
+    c.in_ok-verdict-2.ensures.verdict limit marks (client ++ client_more) (server ++ server_more) (left_of (with_octets client_more server_more c.loop-exchange.feed))
+    (passed-longer (profile_of limit marks) c.loop-exchange.judge.facts c.loop-exchange.feed client server k client_more server_more)
+    (malformed-longer c.loop-exchange.feed client_more server_more c.in-Bad-default-Malformed.index _ _
+    (subst (λ class. EndsForGood class (left_of c.loop-exchange.feed)) c.in-Bad-default-Malformed.class-is bad.2)
+    bad.1 c.ahead.ensures.line c.ahead.ensures.rest))
+
+pub invariant_of-result : goal.invariant_of-result
+invariant_of-result g c =
+    let k = c.loop-exchange.invariant c.requires.0 c.requires.1 c.requires.2 c.requires.3 c.requires.4 in
+    held (profile_of c.requires.0 c.requires.1) c.loop-exchange.judge.facts c.loop-exchange.feed c.requires.2 c.requires.3 k
+    (all-passed (profile_of c.requires.0 c.requires.1) c.loop-exchange.judge.facts c.loop-exchange.feed c.requires.2 c.requires.3 k
+    (no-next c.loop-exchange.feed c.peek.result c.peek.ensures k.is_whole c.in_default.not-Whole))
+
+pub returns : goal.returns
+returns g c = λ limit marks client server kept.
+    let k = c.loop-exchange.invariant limit marks client server kept in
+    all-passed (profile_of limit marks) c.loop-exchange.judge.facts c.loop-exchange.feed client server k
+    (no-next c.loop-exchange.feed c.peek.result c.peek.ensures k.is_whole c.in_default.not-Whole)
