@@ -5,6 +5,23 @@ mod visible;
 use nntp_article::{Control, Head, Parts, content, control, lines_say, missing};
 use nntp_wire::{Answer, Block, Command, MessageId, Prompt, frame};
 use std::alloc::{AllocError, Global};
+use std::test::Fail;
+
+/// The prompt of a line, the greeting's where it is empty, and the answer to it.
+fn answered<'a>(line: &'a [u8], server: &'a [u8]) -> Result<(Prompt<'a>, Answer<'a>), Fail> {
+    let prompt = if line.is_empty() {
+        Prompt::Greeting
+    } else {
+        Prompt::To(Command::parse(line))
+    };
+    let Some(octets) = frame(&prompt, server) else {
+        return Err("no frame".into());
+    };
+    match Answer::parse(&prompt, &octets) {
+        Ok(answer) => Ok((prompt, answer)),
+        Err(_) => Err("malformed".into()),
+    }
+}
 
 /// The block of an answer to BODY.
 fn block(answer: &[u8]) -> Option<Block<'_>> {

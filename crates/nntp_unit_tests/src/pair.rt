@@ -18,9 +18,9 @@ fn after<'a>(
         let Step::Exchange(exchange) = pairs.next() else {
             panic!(rt; "{name}: {index} is no exchange");
         };
-        assert_eq!(rt; exchange.index(), index, "{name}");
-        assert_eq!(rt; exchange.line(), *line, "{name}");
-        assert_eq!(rt; exchange.initial(), *initial, "{name}");
+        assert!(rt; exchange.index() == index, "{name}: {index}");
+        assert!(rt; exchange.line() == *line, "{name}: {index}");
+        assert!(rt; exchange.initial() == *initial, "{name}: {index}");
         index = exchange.index() + 1;
     }
     pairs

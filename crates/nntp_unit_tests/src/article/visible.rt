@@ -1,6 +1,7 @@
 //! What a session shows of its state, answer by answer.
+use super::answered;
 use nntp_article::{Profile, Visible, is_article_number};
-use nntp_wire::{Answer, Command, Limit, Malformed, Marks, Prompt, frame};
+use nntp_wire::{Limit, Marks};
 use std::test::Fail;
 
 /// One answer of a session: the line that is answered, the answer's octets, and whether it fits.
@@ -17,18 +18,7 @@ fn state_within(rt: &HostRuntime, limit: Limit, rows: &[Row]) -> Result<Visible,
     let profile = Profile::of(limit, Marks::Lenient);
     let mut visible = Visible::new(rt.alloc());
     for &(line, server, fits) in rows {
-        let prompt = if line.is_empty() {
-            Prompt::Greeting
-        } else {
-            Prompt::To(Command::parse(line))
-        };
-        let answer = match frame(&prompt, server) {
-            Some(octets) => Answer::parse(&prompt, &octets),
-            None => Err(Malformed),
-        };
-        let Ok(answer) = answer else {
-            return Err("malformed".into());
-        };
+        let (prompt, answer) = answered(line, server)?;
         if visible.fits(profile, &prompt, &answer)? != fits {
             return Err("fits otherwise".into());
         }

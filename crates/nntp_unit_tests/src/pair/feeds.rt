@@ -1,5 +1,5 @@
 //! Sessions that come in pieces.
-use nntp_pair::{Ending, Feed, PairClass, Pairs, Peek, Step};
+use nntp_pair::{Ending, Exchange, Feed, PairClass, Pairs, Peek, Step};
 use std::alloc::{Allocator, Global};
 use std::process::Abort;
 
@@ -15,6 +15,14 @@ enum Order {
 /// A session of both streams.
 type Session<'a> = (&'a [u8], &'a [u8]);
 
+/// Whether two exchanges are the same one.
+fn is_same(one: &Exchange<'_>, other: &Exchange<'_>) -> bool {
+    one.index() == other.index()
+        && one.line() == other.line()
+        && one.initial() == other.initial()
+        && one.closes() == other.closes()
+}
+
 /// Takes the exchange that waits, if one does: the next one of the pairing.
 fn take<A: Allocator + Copy>(rt: &impl Abort, feed: &mut Feed<A>, pairs: &mut Pairs<'_>) {
     let Peek::Whole(found) = feed.peek() else {
@@ -23,10 +31,7 @@ fn take<A: Allocator + Copy>(rt: &impl Abort, feed: &mut Feed<A>, pairs: &mut Pa
     let Step::Exchange(want) = pairs.next() else {
         panic!(rt; "no exchange");
     };
-    assert_eq!(rt; found.index(), want.index());
-    assert_eq!(rt; found.line(), want.line());
-    assert_eq!(rt; found.initial(), want.initial());
-    assert_eq!(rt; found.closes(), want.closes());
+    assert!(rt; is_same(&found, &want), "{}", want.index());
     feed.advance();
 }
 
