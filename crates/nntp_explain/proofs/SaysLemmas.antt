@@ -85,9 +85,11 @@ counted text label octets one two w word count n first count-is second word-is =
 pub two_told : (text piece line other one two : List ℕ) → one ≡ text ++ piece → two ≡ one ++ line → piece ++ line ≡ other → two ≡ text ++ other
 two_told text piece line other one two first second same = one_more text piece line one two first second ∙ ap (λ t. text ++ t) same
 
--- a line, and two texts that hang on a place
-pub conflict_told : (text about : List ℕ) (said reasons : Option ℕ → List ℕ) (place told : Option ℕ) (one two three : List ℕ)
-    → one ≡ text ++ about → two ≡ one ++ said place → three ≡ two ++ reasons place → place ≡ told → three ≡ text ++ (about ++ said told ++ reasons told)
-conflict_told text about said reasons place told one two three first second third is =
-    one_more text (about ++ said told) (reasons told) two three
-    (one_more text about (said told) one two first (second ∙ ap (λ k. one ++ said k) is)) (third ∙ ap (λ k. two ++ reasons k) is)
+-- a line, and another between two texts that hang on a place
+pub conflict_told : (text about rest : List ℕ) (said reasons : Option ℕ → List ℕ) (place told : Option ℕ) (one two three four : List ℕ)
+    → one ≡ text ++ about → two ≡ one ++ said place → three ≡ two ++ rest → four ≡ three ++ reasons place → place ≡ told
+    → four ≡ text ++ (about ++ said told ++ rest ++ reasons told)
+conflict_told text about rest said reasons place told one two three four first second third fourth is =
+    one_more text (about ++ said told ++ rest) (reasons told) three four
+    (one_more text (about ++ said told) rest two three (one_more text about (said told) one two first (second ∙ ap (λ k. one ++ said k) is)) third)
+    (fourth ∙ ap (λ k. three ++ reasons k) is)

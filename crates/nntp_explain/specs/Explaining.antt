@@ -10,7 +10,7 @@ use Rattle.nntp_article.specs.Session.Limit.{profile_of}
 use Rattle.nntp_article.specs.Session.Misfit.{misfit}
 use Rattle.nntp_article.specs.declared.session.profile.Profile.{Profile}
 use Rattle.nntp_facts.specs.Classes.{class_of, visible_from}
-use Rattle.nntp_facts.specs.Conflict.{Placed, placed_of, placed_behind, Core, IsFound, Point, IsFirstPoint, told_with}
+use Rattle.nntp_facts.specs.Conflict.{Placed, placed_of, placed_behind, Core, IsFound, Point, IsPointOfCore}
 use Rattle.nntp_facts.specs.declared.class.Class.{Class}
 use Rattle.nntp_facts.specs.declared.class.Class.TheVariants.{Malformed, OutOfPlace, Contradiction}
 use Rattle.nntp_facts.specs.Reading.{Judged, Accepted, Refused, Unspelled, accepted_of, accepted_with, class_behind, IsReading}
@@ -43,12 +43,10 @@ IsTold before stands index class line initial Reason text =
 
 -- ---- why it is bad
 
--- the text tells of a core what its answers and the bad one conflict about, the first point of that; where it is cut short, only which they are
+-- the text tells of a core what its answers and the bad one conflict about, the first point of that; where it is cut short, and none of its answers speaks of one group, only which they are
 abbrev pub TellsCore : Profile → Placed → List Placed → List Cited → Core → List ℕ → Type 0
 TellsCore profile bad answers told core text =
-    MatchOption core.rest
-    ((point : Point) × IsFirstPoint (told_with profile bad answers core.places) point × (text ≡ conflict_lines profile.marks point bad answers told core.places))
-    (λ bound. text ≡ core_lines told core)
+    (point : Option Point) × IsPointOfCore profile bad answers core point × (text ≡ option_map_or (λ p. conflict_lines profile.marks p bad answers told core) point (core_lines told core))
 
 -- the text tells with which of these answers the bad one conflicts, and about what: at most sixteen, and where there are more, the last of them
 abbrev pub IsConflictOf : Profile → Placed → List Placed → List Cited → List ℕ → Type 0

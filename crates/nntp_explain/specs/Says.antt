@@ -12,14 +12,14 @@ use Rattle.nntp_article.specs.Article.Parts.{Id, Line}
 use Rattle.nntp_article.specs.Session.Machine.{is_same}
 use Rattle.nntp_article.specs.Session.Spool.{Name}
 use Rattle.nntp_facts.specs.Asks.{Ask, Estimates, Bounds, ListsIn, Has, Lacks, StandsAt, StandsNowhere, StepsUp, StepsDown, IsTop, IsBottom}
-use Rattle.nntp_facts.specs.Conflict.{Placed, Point, Step, Group, Number, Count, First as FirstNumber, IdOf, PlaceOf, Article, HeadOf, BodyOf, said}
+use Rattle.nntp_facts.specs.Conflict.{Placed, Core, Point, Step, Group, Number, Count, First as FirstNumber, IdOf, PlaceOf, Article, HeadOf, BodyOf, said}
 use Rattle.nntp_facts.specs.Facts.{Fact, ThereIs, ThereIsNo, IdAt, TextIs, NoArticle, GroupsAre}
 use Rattle.nntp_facts.specs.Given.{shows, denies, is_end, asks_in, shows_group, id_in, head_in, body_in}
 use Rattle.nntp_facts.specs.Together.{denies_group, number_in, shows_article, denies_article}
 use Rattle.nntp_facts.specs.declared.position.Position.{Position}
 use Rattle.nntp_facts.specs.declared.position.Position.TheVariants.{Known}
 use Rattle.nntp_printing.specs.BadAnswer.{shown}
-use Rattle.nntp_explain.specs.Reasons.{octets_line, because_at, about_line}
+use Rattle.nntp_explain.specs.Reasons.{octets_line, because_at, about_line, rest_line}
 use Rattle.nntp_printing.specs.Printing.{escaped}
 use Rattle.nntp_explain.specs.Standing.{Cited}
 
@@ -194,8 +194,8 @@ told_line point bad answers places = difference (part_sent point bad.asked bad.r
 abbrev pub reason_lines : Marks → Option ℕ → Point → List Placed → List Cited → ℕ → List ℕ
 reason_lines how line point answers told k = because_at told k ++ option_map_or (said_lines how line point) (slice_get answers k) []
 
--- what the bad answer and those at the places conflict about, and what each of them says about it
-abbrev pub conflict_lines : Marks → Point → Placed → List Placed → List Cited → List ℕ → List ℕ
-conflict_lines how point bad answers told places =
-    let line = told_line point bad answers places in
-    about_line point ++ said_lines how line point bad ++ flat_map (reason_lines how line point answers told) places
+-- what the bad answer and those of a core conflict about, and what each of them says about it; where it is the end of one, that others are below
+abbrev pub conflict_lines : Marks → Point → Placed → List Placed → List Cited → Core → List ℕ
+conflict_lines how point bad answers told core =
+    let line = told_line point bad answers core.places in
+    about_line point ++ said_lines how line point bad ++ rest_line told core.rest ++ flat_map (reason_lines how line point answers told) core.places

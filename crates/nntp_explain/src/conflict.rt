@@ -8,17 +8,18 @@ ghost use Rattle.nntp_facts.specs.PointView.{point_of};
 ghost use Rattle.nntp_explain.specs.ExplainingView.{cited_of};
 ghost use Rattle.nntp_explain.specs.Says.{conflict_lines, first_part, part_at, part_sent, reason_lines, said_lines, told_line};
 
-use crate::reasons::{put_about, put_because_at};
+use crate::reasons::{put_about, put_because_at, put_rest};
 use crate::said_numbers::is_same;
 use crate::said_parts::{body_of, first_difference, head_of};
 use crate::says::{About, put_said};
 use crate::standing::Cited;
-use nntp_facts::{Placed, Point};
+use nntp_facts::{Core, Placed, Point};
 use nntp_wire::{Answer, Block, Command, Marks, Prompt};
 use std::alloc::{AllocError, Allocator};
 
-/// Adds what a bad answer and the accepted ones at the places conflict about, and what each of them says about it.
-/// `answers` and `cited` are the accepted answers, where they stand and as reasons cite them.
+/// Adds what a bad answer and the accepted ones of a core conflict about, and what each of them says about it; where the
+/// core is cut short, that others are below. `answers` and `cited` are the accepted answers, where they stand and as
+/// reasons cite them.
 pub(crate) fn put_conflict<A: Allocator + Copy>(
     text: &mut Vec<u8, A>,
     how: Marks,
@@ -26,15 +27,16 @@ pub(crate) fn put_conflict<A: Allocator + Copy>(
     bad: &Placed<'_>,
     answers: &[Placed<'_>],
     cited: &[Cited<'_>],
-    places: &[usize],
+    core: &Core<A>,
 ) -> Result<(), AllocError>
-    ensures { OnOk result (text.new.items ≡ text.old.items ++ conflict_lines how (point_of point.entry) bad.now answers.now (map cited_of cited.now) places.now) }
+    ensures { OnOk result (text.new.items ≡ text.old.items ++ conflict_lines how (point_of point.entry) bad.now answers.now (map cited_of cited.now) core.now) }
 {
     put_about(text, &point)?;
-    let line = told_line(&point, bad, answers, places);
+    let line = told_line(&point, bad, answers, core.places());
     let about = About { point, line };
     put_said(text, how, &about, bad)?;
-    put_reasons(text, how, &about, answers, cited, places)
+    put_rest(text, cited, core.rest())?;
+    put_reasons(text, how, &about, answers, cited, core.places())
 }
 
 /// Adds the answers at the places as reasons, one after the other, and what each says about the point.

@@ -223,7 +223,7 @@ impl<'a, A: Allocator + Copy> Explainer<'a, A> {
         self.put_found(&bad, &core)
     }
 
-    /// Tells with which of the accepted answers the bad one conflicts, and where these are all of them, about what.
+    /// Tells with which of the accepted answers the bad one conflicts, and about what.
     fn put_found(&mut self, bad: &Placed<'a>, core: &Core<A>) -> Result<(), AllocError>
         requires fit { AllByRecursion (FitsThere (profile_kept self.old.facts)) (bad.now ∷ self.old.placed.items) }
         requires found { IsFound (profile_kept self.old.facts) bad.now self.old.placed.items core.now }
@@ -232,14 +232,11 @@ impl<'a, A: Allocator + Copy> Explainer<'a, A> {
         ensures text { OnOk result (GoesOn (TellsCore (profile_kept self.old.facts) bad.now self.old.placed.items (map cited_of self.old.cited.items) core.now)
             self.old.text.items self.new.text.items) }
     {
-        if core.rest().is_some() {
-            return put_core(&mut self.text, &self.cited, core);
-        }
         let limit = self.facts.limit();
         let marks = self.facts.marks();
-        let places = core.places();
-        let conflict = Conflict::of(self.alloc, limit, marks, &self.placed, bad, places)?;
-        match conflict.point()? {
+        let places = core.all_places(self.alloc)?;
+        let conflict = Conflict::of(self.alloc, limit, marks, &self.placed, bad, &places)?;
+        match conflict.point_of(core)? {
             Some(point) => put_conflict(
                 &mut self.text,
                 marks,
@@ -247,9 +244,9 @@ impl<'a, A: Allocator + Copy> Explainer<'a, A> {
                 bad,
                 &self.placed,
                 &self.cited,
-                places,
+                core,
             ),
-            None => unreachable!(),
+            None => put_core(&mut self.text, &self.cited, core),
         }
     }
 

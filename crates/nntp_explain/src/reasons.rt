@@ -272,7 +272,7 @@ pub(crate) fn put_core<A: Allocator + Copy>(
 }
 
 /// Adds the line of the answers below a bound, where further reasons are among them.
-fn put_rest<A: Allocator + Copy>(
+pub(crate) fn put_rest<A: Allocator + Copy>(
     text: &mut Vec<u8, A>,
     answers: &[Cited<'_>],
     rest: Option<usize>,

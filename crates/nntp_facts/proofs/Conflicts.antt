@@ -197,16 +197,17 @@ fewer profile facts more sub h = (h.0, h.1, all_from (Holds h.0) facts (λ fact 
 -- ---- finding a core
 
 module _ (profile : Profile) (bad : Placed) (answers : List Placed) where
+  -- more places tell more
+  pub told_more : (xs ys : List ℕ) → ((k : ℕ) → In k xs → In k ys) → (fact : Fact) → In fact (told_with profile bad answers xs) → In fact (told_with profile bad answers ys)
+  told_more xs ys sub fact i = elim (in_cases fact (told profile bad) (flat_map (told_at profile answers) xs) i) [
+    | inl j ↦ in_front fact (told profile bad) (flat_map (told_at profile answers) ys) j
+    | inr j ↦ (let f = from_flat (told_at profile answers) fact xs j in
+        in_back fact (told profile bad) (flat_map (told_at profile answers) ys) (to_flat (told_at profile answers) f.0 fact ys (sub f.0 f.1) f.2))
+  ]
+
   -- fewer places
   pub fewer_places : (xs ys : List ℕ) → ((k : ℕ) → In k xs → In k ys) → SomeHas profile (told_with profile bad answers ys) → SomeHas profile (told_with profile bad answers xs)
-  fewer_places xs ys sub h = fewer profile (told_with profile bad answers xs) (told_with profile bad answers ys) with_more h
-    where
-      with_more : (fact : Fact) → In fact (told_with profile bad answers xs) → In fact (told_with profile bad answers ys)
-      with_more fact i = elim (in_cases fact (told profile bad) (flat_map (told_at profile answers) xs) i) [
-        | inl j ↦ in_front fact (told profile bad) (flat_map (told_at profile answers) ys) j
-        | inr j ↦ (let f = from_flat (told_at profile answers) fact xs j in
-            in_back fact (told profile bad) (flat_map (told_at profile answers) ys) (to_flat (told_at profile answers) f.0 fact ys (sub f.0 f.1) f.2))
-      ]
+  fewer_places xs ys sub h = fewer profile (told_with profile bad answers xs) (told_with profile bad answers ys) (told_more xs ys sub) h
 
 -- what stands at places with the bad answer
 abbrev StandsWith : Profile → Placed → List Placed → List ℕ → Type 0
@@ -404,7 +405,7 @@ in_or_not k (x ∷ xs) = elim (cases_eq x k) [
 ]
 
 -- an element splits the list
-split_at : (k : ℕ) (xs : List ℕ) → In k xs → (front : List ℕ) × (back : List ℕ) × (xs ≡ front ++ k ∷ back)
+pub split_at : (k : ℕ) (xs : List ℕ) → In k xs → (front : List ℕ) × (back : List ℕ) × (xs ≡ front ++ k ∷ back)
 split_at k [] i = absurd i
 split_at k (x ∷ xs) (inl e) = ([], xs, ap (λ x. x ∷ xs) e)
 split_at k (x ∷ xs) (inr i) = let r = split_at k xs i in (x ∷ r.0, r.1, ap (λ ys. x ∷ ys) r.2)

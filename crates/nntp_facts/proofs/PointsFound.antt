@@ -7,4 +7,8 @@ pub mod KindsOfPoints
 pub mod GroupsShown
 pub mod StatementsTold
 pub mod AnswersTaken
+pub mod AnswersSaid
 pub mod PointsChained
+pub mod LongConflicts
+pub mod ManyInConflict
+pub mod PointsOfCores

@@ -1,5 +1,5 @@
 -- What a bad answer and accepted ones say, each by itself, as points of conflict are looked for.
-use Rattle.std.specs.Prelude.{◌^◌, IfSome, ◌≡◌, true, false, ◌<◌, ◌||◌, ◌&&◌, not, ℕ, Bool, IsTrue, List, [], ◌∷◌, ◌++◌, map, Option, None, Some, option_map, if◌then◌else◌, MatchOption, slice_get}
+use Rattle.std.specs.Prelude.{◌^◌, ⊤, IfSome, ◌≡◌, true, false, ◌<◌, ◌||◌, ◌&&◌, not, ℕ, Bool, IsTrue, List, [], ◌∷◌, ◌++◌, map, Option, None, Some, option_map, if◌then◌else◌, MatchOption, slice_get}
 use Rattle.std.specs.List.{AllByRecursion, flat_map}
 use Rattle.std.specs.Option.{option_map_or, option_or}
 use Rattle.nntp_article.specs.Article.Parts.{Id, Line}
@@ -20,7 +20,7 @@ use Rattle.nntp_facts.specs.Kept.{id_of, place_of}
 use Rattle.nntp_facts.specs.Articles.{head_sent, body_sent}
 use Rattle.nntp_facts.specs.ListedGroups.{is_listed}
 use Rattle.nntp_facts.specs.Saying.{Saying, OfArticle, Lacks, Sends, Tells, numbers_listed}
-use Rattle.nntp_facts.specs.Conflict.{Placed, with_group, Point, Step, Group, Number, Count, First, IdOf, PlaceOf, Article, HeadOf, BodyOf, rank, ConflictAt}
+use Rattle.nntp_facts.specs.Conflict.{Placed, told, with_group, Point, Step, Group, Number, Count, First, IdOf, PlaceOf, Article, HeadOf, BodyOf, rank, ConflictAt}
 
 -- ---- the answers
 
@@ -69,6 +69,12 @@ pub record TellsAlone (profile : Profile) (t : Statement) (facts : List Fact) : 
 abbrev pub AllTell : Profile → List Statement → List Fact → Type 0
 AllTell profile [] facts = facts ≡ []
 AllTell profile (t ∷ more) facts = (here rest : List Fact) × (here ++ rest ≡ facts) × TellsAlone profile t here × AllTell profile more rest
+
+-- the statements are what the answers say, one for each
+abbrev pub AreSaid : Profile → List Statement → List Placed → Type 0
+AreSaid profile [] [] = ⊤
+AreSaid profile (t ∷ ts) (a ∷ answers) = TellsAlone profile t (told profile a) × AreSaid profile ts answers
+AreSaid profile ts answers = ⊥
 
 -- what the first element gives that gives something
 abbrev pub first_in : {A B : Type 0} → (A → Option B) → List A → Option B

@@ -2,7 +2,7 @@
 ghost use Rattle.std.specs.Prelude.{◌≡◌, ◌<◌, ◌≤◌, ◌^◌, ◌∷◌, List, ℕ, length, IfOk, MatchOption};
 ghost use Rattle.std.specs.List.{AllByRecursion};
 ghost use Rattle.nntp_article.specs.Session.Limit.{profile_of};
-ghost use Rattle.nntp_facts.specs.Conflict.{Placed as PlacedValue, FitsThere, SomeHas, told_with, below, IsPartOfCore, IsFound};
+ghost use Rattle.nntp_facts.specs.Conflict.{Placed as PlacedValue, FitsThere, SomeHas, told_with, below, places_of, IsPartOfCore, IsFound};
 ghost use Rattle.nntp_facts.specs.Told.{AreToldWith};
 
 use crate::kept::Kept;
@@ -48,6 +48,23 @@ impl<A: Allocator> Core<A> {
 }
 
 impl<A: Allocator + Copy> Core<A> {
+    /// Returns the places of all answers with which the bad one conflicts: these, and where not all were looked for all
+    /// below the bound before them.
+    ///
+    /// # Errors
+    ///
+    /// If memory is refused.
+    pub fn all_places(&self, alloc: A) -> Result<Vec<usize, A>, AllocError>
+        ensures { IfOk result (λ all. all.items ≡ places_of self.now) }
+    {
+        let mut all = Vec::new(alloc);
+        for place in 0..self.rest.unwrap_or(0) {
+            all.push(place)?;
+        }
+        all.extend_from_slice(&self.places)?;
+        Ok(all)
+    }
+
     /// Finds the accepted answers with which a bad one conflicts, from the last one down, and at
     /// most so many. A bad answer that contradicts itself, or what is always so, needs none.
     ///

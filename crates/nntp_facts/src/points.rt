@@ -1,13 +1,14 @@
 //! A point, of the first kind that there is, about which a bad answer and accepted ones conflict.
-ghost use Rattle.std.specs.Prelude.{◌≡◌, ◌<◌, ◌^◌, ◌∷◌, ◌++◌, map, List, ℕ, IfOk, OnOk, MatchOption, option_map, Contains};
-ghost use Rattle.std.specs.List.{AllByRecursion, flat_map};
+ghost use Rattle.std.specs.Prelude.{◌≡◌, ◌<◌, ◌^◌, ◌∷◌, ◌++◌, map, length, is_some, List, ℕ, ⊤, None, IsTrue, IsFalse, IfOk, OnOk, MatchOption, option_map, Contains};
+ghost use Rattle.std.specs.List.{AllByRecursion, list_any};
 ghost use Rattle.nntp_wire.specs.Limit.{greatest};
 ghost use Rattle.nntp_article.specs.Session.Limit.{profile_of};
 ghost use Rattle.nntp_article.specs.declared.session.profile.Profile.{Profile};
 ghost use Rattle.nntp_facts.specs.Facts.{Fact};
 ghost use Rattle.nntp_facts.specs.Together.{Together};
-ghost use Rattle.nntp_facts.specs.Conflict.{Placed as PlacedValue, FitsThere, told, told_with, IsFirstPoint};
-ghost use Rattle.nntp_facts.specs.Points.{AreTaken, AllTell, answer_at, with_numbers, IsPointWith, IsPointOf, NoneBefore};
+ghost use Rattle.nntp_article.specs.Session.Machine.{is_ascending};
+ghost use Rattle.nntp_facts.specs.Conflict.{Placed as PlacedValue, FitsThere, told_with, below, speaks_at, places_of, IsEndOfCore, IsFound, IsFirstPoint, IsPointOfCore};
+ghost use Rattle.nntp_facts.specs.Points.{AreTaken, AllTell, AreSaid, answer_at, with_numbers, IsPointWith, IsPointOf, NoneBefore};
 ghost use Rattle.nntp_facts.specs.PointView.{point_of};
 ghost use Rattle.nntp_pair.specs.Pairing.{lines_in};
 ghost use Rattle.nntp_facts.specs.StatementView.{listing_of, statement_of, rank_of};
@@ -18,6 +19,7 @@ mod ids;
 mod numbers;
 mod statement;
 
+use crate::conflict::Core;
 use crate::placed::Placed;
 use crate::point::Point;
 use crate::saying::numbers_listed;
@@ -114,16 +116,31 @@ impl<'a, A: Allocator + Copy> Conflict<'a, A> {
         })
     }
 
-    /// Returns a point about which the answers conflict, of the first kind of which there is one,
-    /// in the order of [`Point`]'s variants; or `None` if they stand together.
+    /// Returns the first point about which the bad answer and those of the core conflict, in the order of [`Point`]'s
+    /// variants; of several of a kind it may be any. These are the answers that were taken, at all places of the core. Of
+    /// a core that was cut short it may be none, if each of its answers is a list of groups.
     ///
-    /// For k answers it takes time in the order of k k, and for each of n lines of k log n and of k
-    /// matches of a wildmat.
+    /// For k answers of a whole core it takes time in the order of k k, and for each of n lines of k log n and of k
+    /// matches of a wildmat; of one that was cut short, at more than three, in the order of that of noting all the
+    /// answers.
     ///
     /// # Errors
     ///
     /// If memory is refused.
-    pub fn point(&self) -> Result<Option<Point<'_>>, AllocError>
+    pub fn point_of(&self, core: &Core<A>) -> Result<Option<Point<'_>>, AllocError>
+        ensures { IfOk result (λ point. (profile : Profile) (bad : PlacedValue) (answers : List PlacedValue) → AreTaken profile bad answers (places_of core.now) self.now
+            → AllByRecursion (FitsThere profile) (bad ∷ answers) → IsFound profile bad answers core.now → length (places_of core.now) < 2 ^ 66
+            → MatchOption core.now.rest ⊤ (λ _. 3 < length core.now.places) → IsPointOfCore profile bad answers core.now (option_map point_of point)) }
+    {
+        match core.rest() {
+            None => self.point(),
+            Some(_) => self.point_of_many(core.places().len()),
+        }
+    }
+
+    /// Returns a point about which the answers conflict, of the first kind of which there is one; or `None` if they stand
+    /// together.
+    fn point(&self) -> Result<Option<Point<'_>>, AllocError>
         ensures { IfOk result (λ point. (profile : Profile) (bad : PlacedValue) (answers : List PlacedValue) (places : List ℕ) → AreTaken profile bad answers places self.now
             → AllByRecursion (FitsThere profile) (bad ∷ answers)
             → MatchOption point (Together (told_with profile bad answers places)) (λ point. IsFirstPoint (told_with profile bad answers places) (point_of point))) }
@@ -137,10 +154,31 @@ impl<'a, A: Allocator + Copy> Conflict<'a, A> {
         Ok(None)
     }
 
+    /// Returns the first point about which the answers conflict, where they do, and each conflict needs the last of
+    /// them, so many and more than three; or `None` if none of these speaks of one group. No more than three answers
+    /// conflict about anything but how many numbers a group has, or with which it begins.
+    fn point_of_many(&self, needed: usize) -> Result<Option<Point<'_>>, AllocError>
+        ensures { IfOk result (λ point. (profile : Profile) (bad : PlacedValue) (answers : List PlacedValue) (bound : ℕ) (places : List ℕ)
+            → AreTaken profile bad answers (below bound ++ places) self.now → AllByRecursion (FitsThere profile) (bad ∷ answers)
+            → needed ≡ length places → 3 < needed → length (below bound ++ places) < 2 ^ 66 → IsTrue (is_ascending places) → IsEndOfCore profile bad answers bound places
+            → MatchOption point (IsFalse (list_any (speaks_at profile answers) places))
+            (λ point. IsTrue (list_any (speaks_at profile answers) places) × IsFirstPoint (told_with profile bad answers (below bound ++ places)) (point_of point))) }
+    {
+        let all = self.statements()?;
+        let (_, last) = all.split_at(all.len().saturating_sub(needed));
+        let Some(told) = of_one_group(last) else {
+            return Ok(None);
+        };
+        if let Some(point) = numbers::too_many(self.alloc, self.limit, told, &all)? {
+            return Ok(Some(point));
+        }
+        numbers::unmet(self.alloc, self.limit, told, &all)
+    }
+
     /// Returns what each of the answers says.
     fn statements(&self) -> Result<Vec<Statement<'_>, A>, AllocError>
         ensures { IfOk result (λ all. (answers : List PlacedValue) → self.now.answers ≡ map with_numbers answers → AllByRecursion (FitsThere self.now.profile) answers
-            → AllTell self.now.profile (map statement_of all.items) (flat_map (told self.now.profile) answers)) }
+            → AreSaid self.now.profile (map statement_of all.items) answers) }
     {
         let mut all = Vec::new(self.alloc);
         for listing in &self.answers {
@@ -177,6 +215,19 @@ fn push_at<'a, A: Allocator + Copy>(
         taken.push(Listing::of(alloc, answer)?)?;
     }
     Ok(())
+}
+
+/// Returns the first statement that speaks of one group, if there is one.
+fn of_one_group<'t, 's>(statements: &'t [Statement<'s>]) -> Option<&'t Statement<'s>>
+    ensures { MatchOption result (AllByRecursion (λ t. t.group ≡ None) (map statement_of statements.now))
+        (λ told. Contains (map statement_of statements.now) (statement_of told.now) × IsTrue (is_some (statement_of told.now).group)) }
+{
+    for told in statements {
+        if told.group.is_some() {
+            return Some(told);
+        }
+    }
+    None
 }
 
 /// Returns a point of the kind about which the answers together conflict, if there is one.

@@ -40,12 +40,6 @@ module _ (profile : Profile) where
       let r = all_but_last ts t rest all in
       (here ++ r.0, r.1, append_assoc here r.0 r.1 ∙ ap (λ rest. here ++ rest) r.2 ∙ e, (here, r.0, refl, tells, r.3), r.4)
 
-  -- one more
-  pub one_more_told : (ts : List Statement) (t : Statement) (facts here : List Fact) → AllTell profile ts facts → TellsAlone profile t here → AllTell profile (ts ++ t ∷ []) (facts ++ here)
-  one_more_told [] t facts here none tells = (here, [], append-nil here ∙ ap (λ facts. facts ++ here) (sym none), tells, refl)
-  one_more_told (u ∷ ts) t facts here (first, rest, e, is, all) tells =
-      (first, rest ++ here, sym (append_assoc first rest here) ∙ ap (λ facts. facts ++ here) e, is, one_more_told ts t rest here all tells)
-
   -- what is read of facts is read of one of the answers
   pub any_told : (read : List Fact → Bool) → read [] ≡ false → ((xs ys : List Fact) → read (xs ++ ys) ≡ (read xs || read ys)) → (u : Statement → Bool)
       → ((t : Statement) (here : List Fact) → TellsAlone profile t here → read here ≡ u t) → (ts : List Statement) (facts : List Fact) → AllTell profile ts facts → read facts ≡ list_any u ts

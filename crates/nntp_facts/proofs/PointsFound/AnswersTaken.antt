@@ -108,13 +108,6 @@ seen_at {X} {Y} f g xs (y ∷ ys) i d x e is l = record {
     one (z ∷ zs) zero m = inl refl
     one (z ∷ zs) (suc i) m = inr (one zs i (omega (arith, m)))
 
--- what one more of them tells
-pub told_next : (profile : Profile) (ys : List Placed) (i : ℕ) (a : Placed) → take (i + 1) ys ≡ take i ys ++ a ∷ []
-    → flat_map (told profile) (take i ys) ++ told profile a ≡ flat_map (told profile) (take (i + 1) ys)
-told_next profile ys i a next =
-    ap (λ more. flat_map (told profile) (take i ys) ++ more) (sym (append-nil (told profile a)))
-    ∙ sym (flat_map-append (told profile) (take i ys) (a ∷ [])) ∙ ap (flat_map (told profile)) (sym next)
-
 -- all of those that are seen alike
 pub all_taken : {X Y V : Type 0} (f : X → V) (g : Y → V) (xs : List X) (ys : List Y) (i : ℕ) → map f xs ≡ map g ys → length xs ≤ i → take i ys ≡ ys
 all_taken f g xs [] zero e l = refl

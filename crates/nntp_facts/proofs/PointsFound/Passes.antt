@@ -1,8 +1,8 @@
 -- Lists that are gone over up to an element.
-use Rattle.std.proofs.Common.{Bool, ◌||◌, ◌≡◌, ℕ, ◌+◌, ◌<◌, ◌≤◌, zero, suc, arith, length, List, [], ◌∷◌, ◌++◌, map, take, get_or, Option, None, Some, inl, inr, refl, sym, ap, subst, ◌∙◌}
+use Rattle.std.proofs.Common.{◌-◌, drop, Bool, ◌||◌, ◌≡◌, ℕ, ◌+◌, ◌<◌, ◌≤◌, zero, suc, arith, length, List, [], ◌∷◌, ◌++◌, map, take, get_or, Option, None, Some, inl, inr, refl, sym, ap, subst, ◌∙◌}
 use Rattle.std.specs.List.{AllByRecursion, list_any}
 use Rattle.std.specs.Option.{option_or}
-use Rattle.std.proofs.lemmas.List.{take_more}
+use Rattle.std.proofs.lemmas.List.{take_more, take-append-drop, map-append, length-map}
 use Rattle.nntp_facts.specs.Points.{first_in}
 use Rattle.nntp_facts.proofs.Members.{In}
 
@@ -78,3 +78,18 @@ module _ {X T : Type 0} (view : X → T) where
   view_all [] (suc i) end = refl
   view_all (x ∷ xs) zero end = absurd (omega (arith, end))
   view_all (x ∷ xs) (suc i) end = ap (λ ts. view x ∷ ts) (view_all xs i (omega (arith, end)))
+
+-- ---- a list in two parts
+
+module _ {X T : Type 0} (view : X → T) (items whole front back : List X) (mid : ℕ) (same : whole ≡ items) where
+  -- what is seen of both is what is seen of it
+  pub parted : front ≡ take mid whole → back ≡ drop mid whole → map view items ≡ map view front ++ map view back
+  parted first rest =
+      ap (map view) (sym same ∙ sym (take-append-drop mid whole) ∙ (λ i. sym first i ++ sym rest i)) ∙ map-append view front back
+
+-- and its end, as long as was asked for, if there are so many
+pub behind_all : {X T : Type 0} (view : X → T) (items whole back : List X) (mid needed many : ℕ) → whole ≡ items → length back + mid ≡ length whole → needed ≡ many → mid ≡ length items - needed
+    → many ≤ length (map view items) → length (map view back) ≡ many
+behind_all view items whole back mid needed many same len is at enough =
+    let whole_len = ap length same in
+    omega (arith, whole_len, len, is, at, enough, length-map items view, length-map back view)

@@ -1,22 +1,23 @@
 -- Kinds of points that are looked for one after the other.
+use Rattle.nntp_facts.specs.declared.points.Kind.TheVariants as kind
 use Rattle.std.proofs.Common.{zero, suc, get_or, ◌≡◌, ℕ, ◌+◌, ◌<◌, ◌≤◌, arith, List, [], ◌∷◌, map, Option, None, Some, inl, inr, refl, sym, subst}
-use Rattle.std.specs.List.{AllByRecursion, flat_map}
+use Rattle.std.specs.List.{AllByRecursion}
 use Rattle.std.proofs.lemmas.Bool.{cases_lt}
 use Rattle.nntp_article.specs.declared.session.profile.Profile.{Profile}
 use Rattle.nntp_facts.specs.Facts.{Fact}
 use Rattle.nntp_facts.specs.Together.{Together}
 use Rattle.nntp_facts.specs.Conflict.{Placed, FitsThere, told, told_with, Point, Step, Group, Number, Count, First, IdOf, PlaceOf, Article, HeadOf, BodyOf, rank, ConflictAt, IsFirstPoint}
-use Rattle.nntp_facts.specs.Points.{Statement, AllTell, IsPointOf, NoneBefore, Answers, AreTaken, with_numbers, answers_at}
+use Rattle.nntp_facts.specs.Points.{Statement, AllTell, AreSaid, IsPointOf, NoneBefore, Answers, AreTaken, with_numbers, answers_at}
 use Rattle.std.specs.Prelude.{option_map}
 use Rattle.nntp_facts.specs.declared.point.Point.{Point as CodePoint}
 use Rattle.nntp_facts.specs.declared.points.Kind.{Kind}
-use Rattle.nntp_facts.specs.declared.points.Kind.TheVariants as kind
 use Rattle.nntp_facts.specs.PointView.{point_of}
 use Rattle.nntp_facts.specs.StatementView.{rank_of}
 use Rattle.nntp_facts.proofs.Members.{all_at, all_from}
 use Rattle.nntp_facts.proofs.Conflicts.{with_told, told_fitting, told_placed}
 use Rattle.nntp_facts.proofs.PointsOfConflict.{stand_or_conflict}
 use Rattle.nntp_facts.proofs.PointsFound.AllTold.{all_formed}
+use Rattle.nntp_facts.proofs.PointsFound.AnswersSaid.{said_all}
 use Rattle.nntp_facts.proofs.PointsFound.AnswersTaken.{told_by_all, all_fit}
 
 -- the first point
@@ -39,16 +40,22 @@ ranks (Article id) = omega arith
 ranks (HeadOf id) = omega arith
 ranks (BodyOf id) = omega arith
 
--- what the statements tell is what the answers tell
-pub tell_all : (profile : Profile) (bad : Placed) (answers : List Placed) (places : List ℕ) (taken : Answers) (ts : List Statement) → AreTaken profile bad answers places taken
+-- the statements are what the answers say that were taken
+pub said_taken : (profile : Profile) (bad : Placed) (answers : List Placed) (places : List ℕ) (taken : Answers) (ts : List Statement) → AreTaken profile bad answers places taken
     → AllByRecursion (FitsThere profile) (bad ∷ answers)
-    → ((all : List Placed) → taken.answers ≡ map with_numbers all → AllByRecursion (FitsThere taken.profile) all → AllTell taken.profile ts (flat_map (told taken.profile) all))
-    → AllTell profile ts (told_with profile bad answers places)
-tell_all profile bad answers places taken ts are fits tells =
-    subst (λ judged. ((all : List Placed) → taken.answers ≡ map with_numbers all → AllByRecursion (FitsThere judged) all → AllTell judged ts (flat_map (told judged) all))
-    → AllTell profile ts (told_with profile bad answers places))
+    → ((all : List Placed) → taken.answers ≡ map with_numbers all → AllByRecursion (FitsThere taken.profile) all → AreSaid taken.profile ts all)
+    → AreSaid profile ts (answers_at bad answers places)
+said_taken profile bad answers places taken ts are fits says =
+    subst (λ judged. ((all : List Placed) → taken.answers ≡ map with_numbers all → AllByRecursion (FitsThere judged) all → AreSaid judged ts all)
+    → AreSaid profile ts (answers_at bad answers places))
     (sym are.judged)
-    (λ tells. subst (AllTell profile ts) (told_by_all profile bad answers places) (tells (answers_at bad answers places) are.taken_are (all_fit profile bad answers places fits.0 fits.1))) tells
+    (λ says. says (answers_at bad answers places) are.taken_are (all_fit profile bad answers places fits.0 fits.1)) says
+
+-- so they tell what these tell
+pub tell_all : (profile : Profile) (bad : Placed) (answers : List Placed) (places : List ℕ) (ts : List Statement) → AreSaid profile ts (answers_at bad answers places)
+    → AllTell profile ts (told_with profile bad answers places)
+tell_all profile bad answers places ts said =
+    subst (AllTell profile ts) (told_by_all profile bad answers places) (said_all profile ts (answers_at bad answers places) said)
 
 -- where they conflict at no point they stand together
 pub none_at_all : (profile : Profile) (bad : Placed) (answers : List Placed) (places : List ℕ) (ts : List Statement) → AllByRecursion (FitsThere profile) (bad ∷ answers)
