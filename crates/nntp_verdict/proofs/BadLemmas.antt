@@ -1,20 +1,14 @@
 -- What a checker tells as bad: the answer at the end of the pairing, if that end stays.
-use Rattle.std.proofs.Common.{◌≡◌, ◌∙◌, sym, ap, subst, refl, ℕ, ◌+◌, Bool, true, false, List, [], ◌∷◌, ◌++◌, length, Option, None, Some, inl, inr}
-use Rattle.std.specs.Prelude.{IsTrue, is_some, count_by}
-use Rattle.nntp_wire.specs.Answer.{Response, Spells}
+use Rattle.std.proofs.Common.{◌≡◌, ◌⊎◌, ◌∙◌, sym, ap, subst, refl, ℕ, List, ◌++◌, length, Option, None, Some, inl, inr}
+use Rattle.std.specs.Prelude.{IsTrue, is_some}
 use Rattle.nntp_wire.specs.declared.limit.Limit.{Limit}
 use Rattle.nntp_wire.specs.declared.marks.Marks.{Marks}
-use Rattle.nntp_wire.specs.Frame.{HasFrame}
-use Rattle.nntp_wire.specs.Session.{closes}
-use Rattle.nntp_wire.proofs.SpellLemmas.{spelling-frame}
-use Rattle.nntp_wire.proofs.SpellsDecided.{dec_spelling}
-use Rattle.nntp_wire.proofs.FramesDecided.{dec_frame}
 use Rattle.nntp_article.specs.Session.Limit.{profile_of}
 use Rattle.nntp_article.specs.declared.session.profile.Profile.{Profile}
 use Rattle.nntp_pair.specs.declared.class.PairClass.{PairClass}
-use Rattle.nntp_pair.specs.declared.class.PairClass.TheVariants as pair
-use Rattle.nntp_pair.specs.Pairing.{Unpaired, Ends, Ending, end, bad as pair_end, asked_at}
+use Rattle.nntp_pair.specs.Pairing.{Unpaired, Ends, Ending, end, bad as pair_end}
 use Rattle.nntp_pair.specs.Feeding.{HasNext, EndsForGood}
+use Rattle.nntp_pair.proofs.NextDecided.{next-or-end}
 use Rattle.nntp_pair.proofs.PairingLemmas.{index-counts}
 use Rattle.nntp_facts.specs.declared.class.Class.{Class}
 use Rattle.nntp_facts.specs.declared.class.Class.TheVariants as class
@@ -31,55 +25,6 @@ use Rattle.nntp_verdict.specs.Judging.{Passed, IsVerdict, IsNoForGood}
 use Rattle.nntp_verdict.specs.Verdict.{Judgement, consistent, bad}
 use Rattle.nntp_verdict.specs.Checking.{IsBadForGood, IsToldBad, told_bad}
 use Rattle.nntp_verdict.proofs.JudgeLemmas.{octets-right}
-
--- a spelling is the next exchange
-spelled-next : (index : ℕ) (place : Option (List ℕ)) (places : List (Option (List ℕ))) (server front rest : List ℕ)
-    (response : Response) → Spells (asked_at place) response front → server ≡ front ++ rest
-    → HasNext (record { index = index; places = place ∷ places; server = server; is_closed = false })
-spelled-next index place places server front rest response spells whole =
-    let found = spelling-frame (asked_at place) response front rest spells in (
-      record { index = index; line = place; initial = found.0; response = response },
-      record { index = index + 1; places = places; server = rest; is_closed = closes (asked_at place) response },
-      record {
-        index = refl;
-        is_open = refl;
-        place = refl;
-        answered = record {
-          block = found.1;
-          frame = subst (λ octets. HasFrame (asked_at place) octets found.0 found.1 rest) (sym whole) found.3;
-          spells = subst (Spells (asked_at place) response) (sym found.2) spells;
-        };
-        next_index = refl;
-        closing = refl;
-      },
-    )
-
--- where no exchange is next, the pairing ends
-ends-here : (index : ℕ) (places : List (Option (List ℕ))) (server : List ℕ) (is_closed : Bool) → (HasNext (record { index = index; places = places; server = server; is_closed = is_closed }) → ⊥)
-    → (e : Ending) × Ends (record { index = index; places = places; server = server; is_closed = is_closed }) e
-ends-here index places [] is_closed none = (end (count_by is_some places), (refl, refl))
-ends-here index places (b ∷ server) true none = (pair_end pair.Surplus, ((λ e. cc), inl refl))
-ends-here index [] (b ∷ server) false none = (pair_end pair.Surplus, ((λ e. cc), inr refl))
-ends-here index (place ∷ places) (b ∷ server) false none = elim (dec_spelling (asked_at place) (b ∷ server)) [
-  | inl (r, front, rest, s, e) ↦ absurd (none (spelled-next index place places (b ∷ server) front rest r s e))
-  | inr unspelled ↦ elim (dec_frame (asked_at place) (b ∷ server)) [
-    | inl (line, block, rest, f) ↦ (
-      pair_end pair.Malformed,
-      (
-        (λ e. cc),
-        (
-          place,
-          record { is_open = refl; places = places; first = refl },
-          record { initial = line; block = block; rest = rest; frame = f; nothing = λ r s. unspelled (r, _, rest, s, f.whole) },
-        ),
-      ),
-    )
-    | inr no_frame ↦ (
-      pair_end pair.Cut,
-      ((λ e. cc), (place, record { is_open = refl; places = places; first = refl }, λ line block rest f. no_frame (line, block, rest, f))),
-    )
-  ]
-]
 
 module _ (profile : Profile) (client server : List ℕ) (facts : FactsKept) (left : Unpaired) (p : Passed profile client server facts left) where
   -- an end that stays is bad for good
@@ -108,11 +53,12 @@ module _ (profile : Profile) (client server : List ℕ) (facts : FactsKept) (lef
 
   -- so where none stays, nothing is bad for good
   pub untold : (HasNext left → ⊥) → ((class : PairClass) → EndsForGood class left → ⊥) → (answer : ℕ) (class : Class) → IsBadForGood profile client server answer class → ⊥
-  untold no_next no_end answer class is_bad = by (ends-here left.index left.places left.server left.is_closed no_next)
+  untold no_next no_end answer class is_bad = by (next-or-end left)
     where
-      by : (e : Ending) × Ends left e → ⊥
-      by (end unanswered, ends) = no-bad-explained unanswered ends answer class is_bad.0
-      by (pair_end c, ends) = no_end c (stays c ends answer class is_bad)
+      by : HasNext left ⊎ ((e : Ending) × Ends left e) → ⊥
+      by (inl next) = no_next next
+      by (inr (end unanswered, ends)) = no-bad-explained unanswered ends answer class is_bad.0
+      by (inr (pair_end c, ends)) = no_end c (stays c ends answer class is_bad)
 
 -- a no at a whole answer is settled
 settled-whole : (client server : List ℕ) (answer : ℕ) (c : Class) (command : Option (List ℕ)) (reply : List ℕ) → IsNoForGood (bad answer c command reply) → IsSettled client server answer c
