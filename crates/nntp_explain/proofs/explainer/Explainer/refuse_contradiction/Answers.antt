@@ -13,7 +13,27 @@ use Rattle.nntp_explain.specs.ExplainingView.{Kept, standing_of, cited_of, place
 use Rattle.nntp_explain.specs.Standing.{Cited}
 use Rattle.nntp_explain.proofs.AnswerLemmas.{told_reason}
 use Rattle.nntp_explain.proofs.ExplainLemmas.{on_ok}
+use Rattle.nntp_explain.proofs.explainer.Explainer.refuse_contradiction.Given as given
 use Rattle.nntp_explain.proofs.explainer.Explainer.refuse_contradiction.Goals as goal
+use Rattle.nntp_explain.proofs.explainer.Explainer.refuse_contradiction.Goals.{After-deref}
+
+-- a profile, a bad answer as it is placed, and the accepted ones
+abbrev Front : Type 0
+Front = Profile × Placed × List Placed
+
+-- they are as before the answer was told
+before : (g : given.Over) (c : After-deref g) → ◌≡◌ {A = Front} (profile_kept c.put_bad.new.self.facts, c.new-bad.result, c.put_bad.new.self.placed.items)
+    (profile_kept c.args.self.now.facts, placed_at (option_map standing_of c.args.self.now.standing) c.args.position c.args.exchange, c.args.self.now.placed.items)
+before g c =
+    let kept = c.in_ok-put_bad.ensures.kept in
+    let placed = c.new-bad.ensures ∙ ap (λ (name : Option Name). record { selected = name; position = c.args.position; asked = asked_at c.args.exchange.line; response = c.args.exchange.response })
+    (c.selected.ensures ∙ ap (λ (k : Kept). option_map (λ s. s.name) k.stands) kept) in
+    λ i. (ap (λ (k : Kept). profile_kept k.facts) kept i, placed i, ap (λ (k : Kept). k.placed) kept i)
+
+-- and the search is given them
+given_before : (g : given.Over) (c : After-deref g) → ◌≡◌ {A = Front} (profile_of c.limit-limit.result c.marks-marks.result, c.new-bad.result, c.deref.result.now)
+    (profile_kept c.args.self.now.facts, placed_at (option_map standing_of c.args.self.now.standing) c.args.position c.args.exchange, c.args.self.now.placed.items)
+given_before g c = (λ i. (profile_of (c.limit-limit.ensures i) (c.marks-marks.ensures i), c.new-bad.result, c.deref.ensures.value i)) ∙ before g c
 
 pub returns-then-not-branch-clause-text : goal.returns-then-not-branch-clause-text
 returns-then-not-branch-clause-text g c =
@@ -28,42 +48,14 @@ returns-then-not-branch-clause-text g c =
     refl
 
 pub find-requires-clause-fit : goal.find-requires-clause-fit
-find-requires-clause-fit g c =
-    let kept = c.in_ok-put_bad.ensures.kept in
-    let placed : c.new-bad.result ≡ placed_at (option_map standing_of c.args.self.now.standing) c.args.position c.args.exchange =
-    c.new-bad.ensures ∙ ap (λ (name : Option Name). record { selected = name; position = c.args.position; asked = asked_at c.args.exchange.line; response = c.args.exchange.response })
-    (c.selected.ensures ∙ ap (λ (k : Kept). option_map (λ s. s.name) k.stands) kept) in
-    subst (λ (q : Profile × Placed × List Placed). AllByRecursion (FitsThere q.0) (q.1 ∷ q.2))
-    (λ i. (
-      profile_of (sym (c.limit-limit.ensures ∙ ap (λ (k : Kept). k.facts.limit) kept) i) (sym (c.marks-marks.ensures ∙ ap (λ (k : Kept). k.facts.marks) kept) i),
-      sym placed i,
-      sym (c.deref.ensures.value ∙ ap (λ (k : Kept). k.placed) kept) i,
-    ))
-    c.requires.fit
+find-requires-clause-fit g c = subst (λ (q : Front). AllByRecursion (FitsThere q.0) (q.1 ∷ q.2)) (sym (given_before g (goal.at.find-requires-clause-fit g c).After-deref)) c.requires.fit
 
 pub find-requires-clause-conflict : goal.find-requires-clause-conflict
 find-requires-clause-conflict g c =
-    let kept = c.in_ok-put_bad.ensures.kept in
-    let placed : c.new-bad.result ≡ placed_at (option_map standing_of c.args.self.now.standing) c.args.position c.args.exchange =
-    c.new-bad.ensures ∙ ap (λ (name : Option Name). record { selected = name; position = c.args.position; asked = asked_at c.args.exchange.line; response = c.args.exchange.response })
-    (c.selected.ensures ∙ ap (λ (k : Kept). option_map (λ s. s.name) k.stands) kept) in
-    subst (λ (q : Profile × Placed × List Placed). SomeHas q.0 (told_with q.0 q.1 q.2 (below (length q.2))) → ⊥)
-    (λ i. (
-      profile_of (sym (c.limit-limit.ensures ∙ ap (λ (k : Kept). k.facts.limit) kept) i) (sym (c.marks-marks.ensures ∙ ap (λ (k : Kept). k.facts.marks) kept) i),
-      sym placed i,
-      sym (c.deref.ensures.value ∙ ap (λ (k : Kept). k.placed) kept) i,
-    ))
-    c.requires.conflict
+    subst (λ (q : Front). SomeHas q.0 (told_with q.0 q.1 q.2 (below (length q.2))) → ⊥) (sym (given_before g (goal.at.find-requires-clause-conflict g c).After-deref)) c.requires.conflict
 
 pub put_found-requires-clause-fit : goal.put_found-requires-clause-fit
-put_found-requires-clause-fit g c =
-    let kept = c.in_ok-put_bad.ensures.kept in
-    let placed : c.new-bad.result ≡ placed_at (option_map standing_of c.args.self.now.standing) c.args.position c.args.exchange =
-    c.new-bad.ensures ∙ ap (λ (name : Option Name). record { selected = name; position = c.args.position; asked = asked_at c.args.exchange.line; response = c.args.exchange.response })
-    (c.selected.ensures ∙ ap (λ (k : Kept). option_map (λ s. s.name) k.stands) kept) in
-    subst (λ (q : Profile × Placed × List Placed). AllByRecursion (FitsThere q.0) (q.1 ∷ q.2))
-    (λ i. (sym (ap (λ (k : Kept). profile_kept k.facts) kept) i, sym placed i, sym (ap (λ (k : Kept). k.placed) kept) i))
-    c.requires.fit
+put_found-requires-clause-fit g c = subst (λ (q : Front). AllByRecursion (FitsThere q.0) (q.1 ∷ q.2)) (sym (before g (goal.at.put_found-requires-clause-fit g c).After-deref)) c.requires.fit
 
 pub returns-clause-text : goal.returns-clause-text
 returns-clause-text g c =
@@ -72,20 +64,12 @@ returns-clause-text g c =
     let stands = option_map standing_of self.standing in
     let kept = c.in_ok-put_bad.ensures.kept in
     let core = c.in_ok-core.core in
-    let placed : c.new-bad.result ≡ placed_at stands c.args.position pair =
-    c.new-bad.ensures ∙ ap (λ (name : Option Name). record { selected = name; position = c.args.position; asked = asked_at pair.line; response = pair.response })
-    (c.selected.ensures ∙ ap (λ (k : Kept). option_map (λ s. s.name) k.stands) kept) in
+    let front = before g (goal.at.returns-clause-text g c).After-deref in
     let lines = ap (λ (q : ℕ × Option (List ℕ) × List ℕ). self.text.items ++ front_lines q.0 Contradiction q.1 q.2 ++ place_lines self.bad stands)
     (λ i. (c.index.ensures.value i, c.line-line.ensures i, c.initial.ensures i)) in
-    let found = subst (λ (q : Profile × Placed × List Placed). IsFound q.0 q.1 q.2 core)
-    (λ i. (
-      profile_of ((c.limit-limit.ensures ∙ ap (λ (k : Kept). k.facts.limit) kept) i) ((c.marks-marks.ensures ∙ ap (λ (k : Kept). k.facts.marks) kept) i),
-      placed i,
-      (c.deref.ensures.value ∙ ap (λ (k : Kept). k.placed) kept) i,
-    ))
-    c.in_ok-core.ensures.found in
+    let found = subst (λ (q : Front). IsFound q.0 q.1 q.2 core) (given_before g (goal.at.returns-clause-text g c).After-deref) c.in_ok-core.ensures.found in
     let tells = λ (more : List ℕ). subst (λ (q : Profile × Placed × List Placed × List Cited). TellsCore q.0 q.1 q.2 q.3 core more)
-    (λ i. (ap (λ (k : Kept). profile_kept k.facts) kept i, placed i, ap (λ (k : Kept). k.placed) kept i, ap (λ (k : Kept). k.cited) kept i)) in
+    (λ i. ((front i).0, (front i).1, (front i).2, ap (λ (k : Kept). k.cited) kept i)) in
     on_ok c.put_found.result c.put_found.ensures.text c.put_found.ensures.text
     (λ goes _. told_reason self.bad stands pair.index Contradiction pair.line pair.initial
     (IsConflictOf (profile_kept self.facts) (placed_at stands c.args.position pair) self.placed.items (map cited_of self.cited.items))
