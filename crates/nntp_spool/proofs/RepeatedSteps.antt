@@ -1,11 +1,10 @@
 -- A loop that takes one step of a reading in each turn.
-use Rattle.std.proofs.Common.{◌≡◌, ℕ, suc, Bool, ◌-◌, ◌+◌, ◌≤◌, ◌<◌, Result, Ok, Err, refl, sym, ◌∙◌, arith}
+use Rattle.std.proofs.Common.{◌≡◌, ℕ, suc, Bool, ◌-◌, ◌+◌, ◌<◌, Result, Ok, Err, refl, sym, ◌∙◌, arith}
 use Rattle.nntp_spool.specs.declared.text.read_fault.ReadFault.{ReadFault}
 use Rattle.nntp_spool.specs.declared.text.read_fault.ReadError.{ReadError}
 use Rattle.nntp_spool.specs.declared.text.read_fault.ReadError.TheVariants as errors
-use Rattle.nntp_spool.specs.declared.text.read_fault.Kind.TheVariants as kinds
 use Rattle.nntp_article.specs.Session.Spool.{Spool}
-use Rattle.nntp_spool.specs.Reading.{Fails, repeat, fault, Place, On, Done, item_at, items_at}
+use Rattle.nntp_spool.specs.Reading.{Fails, repeat, Place, On, item_at, items_at}
 
 module _ {S : Type 0} (step : S → Result S ReadFault) where
   pub goes_on : (count i : ℕ) (s t : S) (total : Result S ReadFault) → i < count → step s ≡ Ok t → repeat step (count - i) s ≡ total → repeat step (count - (i + 1)) t ≡ total
@@ -21,12 +20,6 @@ module _ {S : Type 0} (step : S → Result S ReadFault) where
       let more : repeat step (count - i) s ≡ Err f = rw (k, h) refl in
       sym so_far ∙ more
 
-  pub is_done : (count i : ℕ) (s : S) (total : Result S ReadFault) → count ≤ i → repeat step (count - i) s ≡ total → total ≡ Ok s
-  is_done count i s total le so_far =
-      let k : count - i ≡ 0 = omega arith in
-      let more : repeat step (count - i) s ≡ Ok s = rw k refl in
-      sym so_far ∙ more
-
 -- ---- the same for items, which may end
 
 module _ (limit most i : ℕ) (articles : Bool) (S : Spool) (p : Place) (total : Result (Spool × Place) ReadFault) where
@@ -36,22 +29,3 @@ module _ (limit most i : ℕ) (articles : Bool) (S : Spool) (p : Place) (total :
       let k : most - i ≡ suc (most - (i + 1)) = omega arith in
       let more : items_at limit (most - i) articles S p ≡ items_at limit (most - (i + 1)) behind next q = rw (k, one) refl in
       sym more ∙ so_far
-
-  pub item_is_last : (next : Spool) (q : Place) → i < most → item_at limit articles S p ≡ Ok (Done next q) → items_at limit (most - i) articles S p ≡ total → total ≡ Ok (next, q)
-  item_is_last next q lt one so_far =
-      let k : most - i ≡ suc (most - (i + 1)) = omega arith in
-      let more : items_at limit (most - i) articles S p ≡ Ok (next, q) = rw (k, one) refl in
-      sym so_far ∙ more
-
-  pub item_fails : (e : ReadError) → i < most → Fails e (item_at limit articles S p) → items_at limit (most - i) articles S p ≡ total → Fails e total
-  item_fails errors.Memory lt h so_far = tt
-  item_fails (errors.Fault f) lt h so_far =
-      let k : most - i ≡ suc (most - (i + 1)) = omega arith in
-      let more : items_at limit (most - i) articles S p ≡ Err f = rw (k, h) refl in
-      sym so_far ∙ more
-
-  pub items_end : most ≤ i → items_at limit (most - i) articles S p ≡ total → total ≡ fault p.line kinds.Shape
-  items_end le so_far =
-      let k : most - i ≡ 0 = omega arith in
-      let more : items_at limit (most - i) articles S p ≡ fault p.line kinds.Shape = rw k refl in
-      sym so_far ∙ more
