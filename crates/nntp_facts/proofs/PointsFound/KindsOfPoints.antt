@@ -123,18 +123,6 @@ module _ (profile : Profile) (ts : List Statement) (facts : List Fact) (all : Al
   pub first_free : (name : Name) → t.group ≡ Some name → MeetsDemand (demand (asks_of name facts)) (IsGivenNumber (asks_of name facts)) → IsFree 4
   first_free name e met = of_rank Free 4 (λ other has c. c (subst (λ name. MeetsDemand (demand (asks_of name facts)) (IsGivenNumber (asks_of name facts))) (speaks name other e has) met))
 
-  silent : (other : Name) → t.group ≡ None → IsTrue (speaks_of other t) → ⊥
-  silent other e s = true≢false (sym (subst (λ o. option_map_or (λ g. is_same g other) o false ≡ true) e s))
-
-  pub no_number : t.group ≡ None → IsFree 2
-  no_number e = of_rank Free 2 (λ other n has c. silent other e has)
-
-  pub no_count : t.group ≡ None → IsFree 3
-  no_count e = of_rank Free 3 (λ other has c. silent other e has)
-
-  pub no_first : t.group ≡ None → IsFree 4
-  no_first e = of_rank Free 4 (λ other has c. silent other e has)
-
   -- ---- ids
 
   ids_all : (name : Name) (n : ℕ) → first_given (id_in name n) facts ≡ first_in (id_told name n) ts
@@ -247,10 +235,6 @@ module _ (profile : Profile) (ts : List Statement) (facts : List Fact) (all : Al
       → IsFree (rank_of_part part)
   part_free Head id a e first = of_rank Free 8 (λ other has c. has (part_same Head head_in heads_all id a e first other))
   part_free Body id a e first = of_rank Free 9 (λ other has c. has (part_same Body body_in bodies_all id a e first other))
-
-  pub no_part_sent : (part : Part) → t.saying.article ≡ None → IsFree (rank_of_part part)
-  no_part_sent Head e = of_rank Free 8 (λ other has c. has (subst (λ o. IfSome o (λ lines. first_given (head_in other) facts ≡ Some lines)) (sym (ap (part_told Head other) e)) tt))
-  no_part_sent Body e = of_rank Free 9 (λ other has c. has (subst (λ o. IfSome o (λ lines. first_given (body_in other) facts ≡ Some lines)) (sym (ap (part_told Body other) e)) tt))
 
 -- the point of a part
 pub part_point : (facts : List Fact) (part : Part) (id : Id) (point : Point) → point ≡ point_of_part part id → ConflictAt facts (point_of_part part id)
