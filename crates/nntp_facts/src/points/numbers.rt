@@ -1,5 +1,5 @@
 //! What answers say of the numbers of a group.
-ghost use Rattle.std.specs.Prelude.{◌≡◌, if◌then◌else◌, ◌++◌, ◌∷◌, [], map, List, ℕ, Option, IfOk, OnOk, option_map, Contains};
+ghost use Rattle.std.specs.Prelude.{◌≡◌, if◌then◌else◌, ◌++◌, ◌∷◌, [], map, List, ℕ, Option, None, Some, IfOk, OnOk, MatchOption, option_map, Contains};
 ghost use Rattle.nntp_wire.specs.Limit.{greatest};
 ghost use Rattle.nntp_wire.specs.Listing.{active_groups};
 ghost use Rattle.nntp_wire.specs.View.{active_value};
@@ -12,7 +12,7 @@ ghost use Rattle.nntp_facts.specs.Part.{Says};
 ghost use Rattle.nntp_facts.specs.PartView.{said};
 ghost use Rattle.nntp_facts.specs.Conflict.{widest};
 ghost use Rattle.nntp_wire.specs.declared.marks.Marks.TheVariants.{Lenient};
-ghost use Rattle.nntp_facts.specs.Summary.{IsSummary};
+ghost use Rattle.nntp_facts.specs.Summary.{IsSummary, AreBounded};
 ghost use Rattle.nntp_facts.specs.Points.{AllTell, TellsAlone, IsPointWith, NoneBefore, Statement as StatementValue, bounds_of};
 ghost use Rattle.nntp_facts.specs.PointView.{point_of};
 ghost use Rattle.nntp_facts.specs.StatementView.{statement_of};
@@ -46,11 +46,9 @@ pub(crate) fn denied_number<'s, A: Allocator + Copy>(
     ensures { IfOk result (λ point. (profile : Profile) (facts : List Fact) → profile.limit ≡ greatest limit → AllTell profile (map statement_of all.now) facts
         → Contains (map statement_of all.now) (statement_of told.now) → IsPointWith facts (statement_of told.now) 2 (option_map point_of point)) }
 {
-    let Some(group) = told.group else {
+    let Some((name, numbers)) = numbers_told(alloc, limit, told, all)? else {
         return Ok(None);
     };
-    let name = group.as_slice();
-    let numbers = numbers_of(alloc, limit, all, name)?;
     match numbers.denied_known() {
         Some(number) => Ok(Some(Point::Number { name, number })),
         None => Ok(None),
@@ -67,11 +65,9 @@ pub(crate) fn too_many<'s, A: Allocator + Copy>(
     ensures { IfOk result (λ point. (profile : Profile) (facts : List Fact) → profile.limit ≡ greatest limit → AllTell profile (map statement_of all.now) facts
         → Contains (map statement_of all.now) (statement_of told.now) → NoneBefore facts 3 → IsPointWith facts (statement_of told.now) 3 (option_map point_of point)) }
 {
-    let Some(group) = told.group else {
+    let Some((name, numbers)) = numbers_told(alloc, limit, told, all)? else {
         return Ok(None);
     };
-    let name = group.as_slice();
-    let numbers = numbers_of(alloc, limit, all, name)?;
     if numbers.are_too_many() {
         Ok(Some(Point::Count(name)))
     } else {
@@ -89,11 +85,9 @@ pub(crate) fn unmet<'s, A: Allocator + Copy>(
     ensures { IfOk result (λ point. (profile : Profile) (facts : List Fact) → profile.limit ≡ greatest limit → AllTell profile (map statement_of all.now) facts
         → Contains (map statement_of all.now) (statement_of told.now) → NoneBefore facts 4 → IsPointWith facts (statement_of told.now) 4 (option_map point_of point)) }
 {
-    let Some(group) = told.group else {
+    let Some((name, numbers)) = numbers_told(alloc, limit, told, all)? else {
         return Ok(None);
     };
-    let name = group.as_slice();
-    let numbers = numbers_of(alloc, limit, all, name)?;
     if numbers.meet_demand() {
         Ok(None)
     } else {
@@ -101,21 +95,26 @@ pub(crate) fn unmet<'s, A: Allocator + Copy>(
     }
 }
 
-/// Returns what all the answers say of the numbers of a group.
-fn numbers_of<A: Allocator + Copy>(
+/// Returns the group of which the answer speaks, if it speaks of one, and what all the answers say of its numbers.
+fn numbers_told<'s, A: Allocator + Copy>(
     alloc: A,
     limit: Limit,
-    all: &[Statement<'_>],
-    name: &[u8],
-) -> Result<Numbers<A>, AllocError>
-    ensures { IfOk result (λ numbers. (profile : Profile) (facts : List Fact) → profile.limit ≡ greatest limit → AllTell profile (map statement_of all.now) facts
-        → IsSummary numbers (asks_of name.now facts)) }
+    told: &Statement<'s>,
+    all: &[Statement<'s>],
+) -> Result<Option<(&'s [u8], Numbers<A>)>, AllocError>
+    ensures { IfOk result (λ found. (profile : Profile) (facts : List Fact) → profile.limit ≡ greatest limit → AllTell profile (map statement_of all.now) facts
+        → Contains (map statement_of all.now) (statement_of told.now) → MatchOption found ((statement_of told.now).group ≡ None)
+        (λ p. ((statement_of told.now).group ≡ Some p.0.now) × IsSummary p.1 (asks_of p.0.now facts) × AreBounded (asks_of p.0.now facts))) }
 {
+    let Some(group) = told.group else {
+        return Ok(None);
+    };
+    let name = group.as_slice();
     let mut numbers = Numbers::new(alloc);
-    for told in all {
-        add(&mut numbers, limit, told, name)?;
+    for other in all {
+        add(&mut numbers, limit, other, name)?;
     }
-    Ok(numbers)
+    Ok(Some((name, numbers)))
 }
 
 /// Adds what an answer says of the numbers of the group.

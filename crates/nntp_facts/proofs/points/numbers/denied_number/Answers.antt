@@ -1,26 +1,17 @@
-use Rattle.std.proofs.Common.{◌≡◌, map, Some, sym, ap, refl, ◌∙◌}
-use Rattle.std.specs.Prelude.{option_map}
+use Rattle.std.proofs.Common.{map, refl}
+use Rattle.std.proofs.lemmas.Option.{MatchOption-at_some}
 use Rattle.nntp_facts.specs.Given.{asks_of}
 use Rattle.nntp_facts.specs.StatementView.{statement_of}
-use Rattle.nntp_facts.proofs.PointsFound.KindsOfPoints.{bounded, limit_small, number_free}
+use Rattle.nntp_facts.proofs.PointsFound.KindsOfPoints.{number_free}
 use Rattle.nntp_facts.proofs.points.numbers.denied_number.Goals as goal
 
 pub returns-in-Some-denied_known : goal.returns-in-Some-denied_known
 returns-in-Some-denied_known g c profile facts limit all there =
-    let t = statement_of c.args.told.now in
-    let ts = map statement_of c.args.all.now in
-    let name = c.as_slice-name.result.now in
-    let is : t.group ≡ Some name = ap (option_map (λ name. name.now)) c.in-Some.is ∙ ap (λ name. Some name) (sym c.as_slice-name.ensures.value) in
-    let kept = c.in_ok-numbers.ensures profile facts limit all in
-    let bound = bounded profile ts facts all t there name is (limit_small profile c.args.limit limit) in
-    (c.in-Some-denied_known.ensures (asks_of name facts) kept bound, refl)
+    let found = MatchOption-at_some _ _ _ c.in-Some.is (c.in_ok-name.ensures profile facts limit all there) in
+    (c.in-Some-denied_known.ensures (asks_of c.in-Some.name.now facts) found.1 found.2, refl)
 
 pub returns : goal.returns
 returns g c profile facts limit all there =
-    let t = statement_of c.args.told.now in
-    let ts = map statement_of c.args.all.now in
-    let name = c.as_slice-name.result.now in
-    let is : t.group ≡ Some name = ap (option_map (λ name. name.now)) c.in-Some.is ∙ ap (λ name. Some name) (sym c.as_slice-name.ensures.value) in
-    let kept = c.in_ok-numbers.ensures profile facts limit all in
-    let bound = bounded profile ts facts all t there name is (limit_small profile c.args.limit limit) in
-    number_free profile ts facts all t there name is (c.in-None.ensures (asks_of name facts) kept bound)
+    let found = MatchOption-at_some _ _ _ c.in-Some.is (c.in_ok-name.ensures profile facts limit all there) in
+    number_free profile (map statement_of c.args.all.now) facts all (statement_of c.args.told.now) there c.in-Some.name.now found.0
+    (c.in-None.ensures (asks_of c.in-Some.name.now facts) found.1 found.2)
