@@ -9,9 +9,9 @@ ghost use Rattle.nntp_wire.specs.Command.{retrieve};
 ghost use Rattle.nntp_wire.specs.Listing.{listed_numbers};
 ghost use Rattle.nntp_article.specs.declared.session.profile.Profile.{Profile};
 ghost use Rattle.nntp_article.specs.Session.Machine.{Visible, fits};
-ghost use Rattle.nntp_facts.specs.Facts.{Fact, here, facts_of, facts_of_code};
+ghost use Rattle.nntp_facts.specs.Facts.{Fact, here, facts_of, facts_of_code, group_of};
 ghost use Rattle.nntp_facts.specs.Saying as said_of;
-ghost use Rattle.nntp_facts.specs.Saying.{IsSelectedShown, TellsHere, numbers_listed};
+ghost use Rattle.nntp_facts.specs.Saying.{IsSelectedShown, TellsHere, TellsThere, numbers_listed};
 ghost use Rattle.nntp_facts.specs.Asks.{Bounds};
 ghost use Rattle.nntp_facts.specs.Part.{Says};
 ghost use Rattle.nntp_facts.specs.PartView.{said};
@@ -156,6 +156,17 @@ impl<'s> Saying<'s> {
         match prompt {
             Prompt::Greeting => NOTHING,
             Prompt::To(command) => Saying::to(how, selected, at, command, answer, numbers),
+        }
+    }
+
+    /// Returns the group of which an answer speaks: the one that it says to be there, or the selected one.
+    pub(crate) fn group_of(&self, selected: Option<&'s GroupName<'s>>) -> Option<&'s GroupName<'s>>
+        ensures { (facts : List Fact) → TellsThere (option_map (λ name. name.now) selected.entry) (saying_of self.now) facts → option_map (λ name. name.now) result ≡ group_of facts }
+    {
+        match (self.there_is, &self.group) {
+            (Some(name), _) => Some(name),
+            (None, Some(_)) => selected,
+            (None, None) => None,
         }
     }
 

@@ -1,5 +1,5 @@
 -- Noting what answers say by themselves.
-use Rattle.std.proofs.Common.{arith, zero, suc, ◌+◌, ◌*◌, ◌^◌, ◌<◌, ◌≤◌, ◌≡◌, ◌⊎◌, ◌↔◌, ℕ, Bool, true, false, IsTrue, Option, None, Some, inl, inr, sym, ap, subst, ◌∙◌}
+use Rattle.std.proofs.Common.{arith, zero, suc, ◌+◌, ◌*◌, ◌^◌, ◌<◌, ◌≤◌, ◌≡◌, ◌⊎◌, ◌↔◌, ℕ, Bool, true, false, IsTrue, Option, None, Some, inl, inr, refl, sym, ap, subst, ◌∙◌}
 use Rattle.std.proofs.Common.{List, [], ◌∷◌, ◌++◌, length, length-append, append-nil, append_assoc}
 use Rattle.std.specs.Prelude.{IfSome, MatchOption, unwrap_or, option_map, slice_get}
 use Rattle.std.specs.List.{AllByRecursion, flat_map}
@@ -81,7 +81,7 @@ module _ (selected : Option Name) (s : Saying) (more : List Fact) (t : TellsTher
       by (Some g) is same = sym same ∙ ap (λ name. Some name) is
 
   -- the selected group
-  pub selected_said : (g : OfGroup) (name : Name) → s.there_is ≡ None → s.group ≡ Some g → selected ≡ Some name → group_of more ≡ Some name
+  selected_said : (g : OfGroup) (name : Name) → s.there_is ≡ None → s.group ≡ Some g → selected ≡ Some name → group_of more ≡ Some name
   selected_said g name none e here =
       let there : (s.there_is ≡ Some g.name) ⊎ (g.name ≡ unwrap_or selected []) = subst (λ o. IfSome o (λ g. (s.there_is ≡ Some g.name) ⊎ (g.name ≡ unwrap_or selected []))) e h.there in
       let same : Some g.name ≡ group_of more = subst (λ o. option_map (λ g. g.name) o ≡ group_of more) e h.group in
@@ -95,11 +95,19 @@ module _ (selected : Option Name) (s : Saying) (more : List Fact) (t : TellsTher
   none_said e = sym (subst (λ o. option_map (λ g. g.name) o ≡ group_of more) e h.group)
 
   -- it says there is the group, or one is selected
-  pub some_selected : (g : OfGroup) → s.there_is ≡ None → s.group ≡ Some g → selected ≡ None → ⊥
+  some_selected : (g : OfGroup) → s.there_is ≡ None → s.group ≡ Some g → selected ≡ None → ⊥
   some_selected g none e here =
       let u = t [] (subst (λ o. IfSome o (λ name. is_shown_group [] name ≡ true)) (sym here) tt) in
       let shown : IsShownThen [] s.there_is u.tells.asks g.name = subst (λ o. IfSome o (λ g. IsShownThen [] s.there_is u.tells.asks g.name)) e u.tells.may.shown in
       elim shown [ inl is ↦ cc | inr is ↦ (let n : None ≡ Some g.name = sym none ∙ is.0 in cc) ]
+
+  -- and so the selected group is the one
+  pub selected_spoken : (g : OfGroup) → s.there_is ≡ None → s.group ≡ Some g → selected ≡ group_of more
+  selected_spoken g none e = by selected refl
+    where
+      by : (o : Option Name) → selected ≡ o → selected ≡ group_of more
+      by (Some name) here = here ∙ sym (selected_said g name none e here)
+      by None here = absurd (some_selected g none e here)
 
   -- behind others, and that there is that group, it tells them
   pub told_behind : (profile : Profile) (facts : List Fact) → Tells (facts ++ the_group profile (group_of more)) s more

@@ -19,15 +19,7 @@ use Rattle.nntp_facts.specs.Points.{TellsAlone}
 use Rattle.nntp_facts.proofs.Members.{In, in_front, in_back, all_at, all_both}
 use Rattle.nntp_facts.proofs.Together.FactsJoin.{answer_agrees}
 use Rattle.nntp_facts.proofs.Together.FactsOfASpoolStand.{same_itself}
-use Rattle.nntp_facts.proofs.Keeping.ToldAnswers.{there_told, group_said, none_said, selected_said, some_selected}
-
--- an answer that speaks of the selected group speaks of one
-pub selected_spoken : (selected : Option Name) (s : Saying) (more : List Fact) → TellsThere selected s more → (g : OfGroup) → s.there_is ≡ None → s.group ≡ Some g → selected ≡ group_of more
-selected_spoken selected s more t g none e = by selected refl
-  where
-    by : (o : Option Name) → selected ≡ o → selected ≡ group_of more
-    by (Some name) is = is ∙ sym (selected_said selected s more t g name none e is)
-    by None is = absurd (some_selected selected s more t g none e is)
+use Rattle.nntp_facts.proofs.Keeping.ToldAnswers.{there_told, group_said, none_said, selected_spoken}
 
 -- facts that show the selected group
 shown_by : (profile : Profile) (selected : Option Name) → IfSome selected (λ name. is_shown_group (the_group profile selected) name ≡ true)

@@ -58,11 +58,9 @@ impl<A: Allocator + Copy> Kept<A> {
         ensures { IfOk result (λ does. (profile : Profile) (facts more : List Fact) → profile.limit ≡ greatest limit → IsKept facts self.old → Together facts
             → TellsThere (option_map (λ name. name.now) selected.entry) (saying_of saying.now) more → AreAdded facts (the_group profile (group_of more)) self.old self.new does) }
     {
-        match (saying.there_is, &saying.group, selected) {
-            (Some(name), _, _) => self.note_group(limit, name),
-            (None, Some(_), Some(name)) => self.note_group(limit, name),
-            (None, Some(_), None) => Ok(true),
-            (None, None, _) => Ok(true),
+        match saying.group_of(selected) {
+            Some(name) => self.note_group(limit, name),
+            None => Ok(true),
         }
     }
 

@@ -1,9 +1,7 @@
 //! What an answer says by itself.
-ghost use Rattle.std.specs.Prelude.{◌≡◌, List, option_map};
+ghost use Rattle.std.specs.Prelude.{◌≡◌};
 ghost use Rattle.nntp_article.specs.declared.session.profile.Profile.{Profile};
-ghost use Rattle.nntp_facts.specs.Facts.{Fact, group_of};
-ghost use Rattle.nntp_facts.specs.Saying.{TellsThere, numbers_listed};
-ghost use Rattle.nntp_facts.specs.SayingView.{saying_of};
+ghost use Rattle.nntp_facts.specs.Saying.{numbers_listed};
 ghost use Rattle.nntp_facts.specs.Conflict.{FitsThere, told};
 ghost use Rattle.nntp_facts.specs.Points.{TellsAlone};
 ghost use Rattle.nntp_facts.specs.StatementView.{statement_of};
@@ -36,22 +34,8 @@ impl<'s> Statement<'s> {
             numbers,
         );
         Statement {
-            group: group_of(&saying, answer.selected()),
+            group: saying.group_of(answer.selected()),
             saying,
         }
-    }
-}
-
-/// Returns the group of which an answer speaks: the one that it says to be there, or the selected one.
-fn group_of<'s>(
-    saying: &Saying<'s>,
-    selected: Option<&'s GroupName<'s>>,
-) -> Option<&'s GroupName<'s>>
-    ensures { (facts : List Fact) → TellsThere (option_map (λ name. name.now) selected.entry) (saying_of saying.now) facts → option_map (λ name. name.now) result ≡ group_of facts }
-{
-    match (saying.there_is, &saying.group) {
-        (Some(name), _) => Some(name),
-        (None, Some(_)) => selected,
-        (None, None) => None,
     }
 }
