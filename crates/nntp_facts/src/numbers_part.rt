@@ -1,5 +1,9 @@
 //! What an answer says of the numbers of one group (RFC 3977, section 6.1).
 ghost use Rattle.std.specs.Prelude.{◌≡◌, ◌≤◌, [], ◌∷◌, ◌↔◌, IsTrue};
+ghost use Rattle.nntp_wire.specs.Limit.{greatest};
+ghost use Rattle.nntp_wire.specs.declared.marks.Marks.TheVariants.{Lenient};
+ghost use Rattle.nntp_article.specs.declared.session.profile.Profile.{Profile};
+ghost use Rattle.nntp_facts.specs.Conflict.{widest};
 ghost use Rattle.nntp_facts.specs.Asks.{Estimates, Bounds, ListsIn, Has, Lacks, StandsAt, StandsNowhere, StepsUp, StepsDown, IsTop, IsBottom};
 ghost use Rattle.nntp_facts.specs.Part.{AreListable, Says, only_has};
 ghost use Rattle.nntp_facts.specs.PartView.{said};
@@ -8,7 +12,7 @@ ghost use Rattle.nntp_facts.specs.Summary.{AreBounded};
 use crate::demand::Demand;
 use crate::ends::Ends;
 use crate::position::Position;
-use nntp_wire::{Marks, Range, WaterMarks};
+use nntp_wire::{Limit, Marks, Range, WaterMarks};
 use std::slice;
 
 /// What one answer says at once of the numbers of a group.
@@ -79,6 +83,19 @@ impl<'s> NumbersPart<'s> {
             ends: Ends::of_marks(how, marks),
             ..NumbersPart::nothing()
         }
+    }
+
+    /// Says what holds of the numbers of each group: they are within the widest marks.
+    pub(crate) fn of_widest(limit: Limit) -> NumbersPart<'s>
+        ensures says { (profile : Profile) → profile.limit ≡ greatest limit → Says (said result) (Estimates Lenient (widest profile) ∷ []) }
+        ensures bounded { (profile : Profile) → profile.limit ≡ greatest limit → AreBounded (Estimates Lenient (widest profile) ∷ []) }
+    {
+        let widest = WaterMarks {
+            estimate: limit.value(),
+            low: 1,
+            high: limit.value(),
+        };
+        NumbersPart::of_marks(Marks::Lenient, widest)
     }
 
     /// Says what a 211 to LISTGROUP reports: as after GROUP, and that the numbers in the range are

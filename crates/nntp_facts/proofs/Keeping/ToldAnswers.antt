@@ -8,7 +8,6 @@ use Rattle.std.proofs.Math.Path.{ap₂}
 use Rattle.std.proofs.lemmas.Bool.{or_left}
 use Rattle.std.proofs.lemmas.Grind.{flat_map-append}
 use Rattle.nntp_wire.specs.declared.marks.Marks.TheVariants.{Lenient}
-use Rattle.nntp_wire.specs.declared.water_marks.WaterMarks.{WaterMarks}
 use Rattle.nntp_wire.specs.Answer.{Asked, Response}
 use Rattle.nntp_pair.specs.Pairing.{lines_in}
 use Rattle.nntp_article.specs.Session.Spool.{Name}
@@ -16,7 +15,7 @@ use Rattle.nntp_article.specs.Session.Machine.{Visible, start, fits, is_same}
 use Rattle.nntp_article.specs.declared.session.profile.Profile.{Profile}
 use Rattle.nntp_facts.specs.declared.position.Position.{Position}
 use Rattle.nntp_facts.specs.Asks.{Estimates}
-use Rattle.nntp_facts.specs.Facts.{Fact, Holds, ThereIs, Asks, here, facts_of, group_of}
+use Rattle.nntp_facts.specs.Facts.{Fact, Holds, ThereIs, here, facts_of, group_of}
 use Rattle.nntp_facts.specs.Given.{is_shown_group, shows_group, size}
 use Rattle.nntp_facts.specs.Part.{Said, Says}
 use Rattle.nntp_facts.specs.Summary.{AreBounded}
@@ -42,10 +41,9 @@ the_group_agrees profile None = none_agrees
 the_group_agrees profile (Some name) = group_agrees name (Estimates Lenient (widest profile))
 
 -- a saying with the widest marks tells it
-pub widest_told : (profile : Profile) (facts : List Fact) (name : Name) (p : Said) (m : WaterMarks) (s : Saying) → m ≡ widest profile
-    → Says p (Estimates Lenient m ∷ []) → AreBounded (Estimates Lenient m ∷ []) → s ≡ of_group name p → Tells facts s (a_group profile name)
-widest_told profile facts name p m s e says bounded s_is =
-    (tells_marks {selected = name} facts name p Lenient m s (a_group profile name) says bounded s_is (ap (λ m. ThereIs name ∷ Asks name (Estimates Lenient m) ∷ []) e)).tells
+pub widest_told : (profile : Profile) (facts : List Fact) (name : Name) (p : Said) (s : Saying) → Says p (Estimates Lenient (widest profile) ∷ [])
+    → AreBounded (Estimates Lenient (widest profile) ∷ []) → s ≡ of_group name p → Tells facts s (a_group profile name)
+widest_told profile facts name p s says bounded s_is = (tells_marks {selected = name} facts name p Lenient (widest profile) s (a_group profile name) says bounded s_is refl).tells
 
 -- nothing joins all
 pub nothing_added : (facts : List Fact) (k : Kept) → Together facts → IsKept facts k → AreAdded facts [] k k true

@@ -16,7 +16,7 @@ use crate::kept::Kept;
 use crate::numbers_part::NumbersPart;
 use crate::placed::Placed;
 use crate::saying::{Saying, numbers_listed};
-use nntp_wire::{GroupName, Limit, Marks, WaterMarks};
+use nntp_wire::{GroupName, Limit, Marks};
 use std::alloc::{AllocError, Allocator};
 
 impl<A: Allocator + Copy> Kept<A> {
@@ -70,12 +70,7 @@ impl<A: Allocator + Copy> Kept<A> {
         ensures { IfOk result (λ does. (profile : Profile) (facts : List Fact) → profile.limit ≡ greatest limit → IsKept facts self.old → Together facts
             → AreAdded facts (a_group profile name.now) self.old self.new does) }
     {
-        let widest = WaterMarks {
-            estimate: limit.value(),
-            low: 1,
-            high: limit.value(),
-        };
-        let numbers = NumbersPart::of_marks(Marks::Lenient, widest);
+        let numbers = NumbersPart::of_widest(limit);
         self.note(&Saying::selects(name, numbers))
     }
 

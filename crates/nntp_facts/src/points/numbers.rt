@@ -22,7 +22,7 @@ use crate::numbers_part::NumbersPart;
 use crate::point::Point;
 use crate::points::statement::Statement;
 use crate::saying::GroupPart;
-use nntp_wire::{ActiveLine, Block, Limit, Marks, WaterMarks};
+use nntp_wire::{ActiveLine, Block, Limit};
 use std::alloc::{AllocError, Allocator};
 
 /// Returns the group of whose numbers the answer says what can't be.
@@ -160,12 +160,7 @@ fn add_part<A: Allocator + Copy>(
     ensures { OnOk result ((profile : Profile) (asks more : List Ask) → profile.limit ≡ greatest limit → IsSummary numbers.old asks → Says (said part.now) more
         → IsSummary numbers.new (asks ++ Estimates Lenient (widest profile) ∷ more)) }
 {
-    let widest = WaterMarks {
-        estimate: limit.value(),
-        low: 1,
-        high: limit.value(),
-    };
-    numbers.add(&NumbersPart::of_marks(Marks::Lenient, widest))?;
+    numbers.add(&NumbersPart::of_widest(limit))?;
     numbers.add(part)
 }
 

@@ -1,5 +1,3 @@
-use Rattle.std.proofs.Common.{sym, ◌∙◌}
-use Rattle.std.proofs.Math.Path.{ap₂}
 use Rattle.nntp_facts.specs.Conflict.{a_group}
 use Rattle.nntp_facts.specs.SayingView.{saying_of}
 use Rattle.nntp_facts.proofs.OkResults.{if_ok}
@@ -9,7 +7,6 @@ use Rattle.nntp_facts.proofs.kept.Kept.note_group.Goals as goal
 pub returns : goal.returns
 returns g c = if_ok c.note.result (λ does adds profile facts limit kept together.
     let name = c.args.name.now in
-    let says = c.of_marks-numbers.ensures in
-    let widest = ap₂ (λ estimate high. record { estimate = estimate; low = 1; high = high }) (c.value.ensures ∙ sym limit) (c.value-2.ensures ∙ sym limit) in
+    let says = c.of_widest-numbers.ensures in
     adds facts (a_group profile name) kept together (c.selects.ensures.is_name, (tt, tt))
-    (widest_told profile facts name _ _ (saying_of c.selects.result) widest says.says says.bounded c.selects.ensures.says)) c.note.ensures
+    (widest_told profile facts name _ (saying_of c.selects.result) (says.says profile limit) (says.bounded profile limit) c.selects.ensures.says)) c.note.ensures
