@@ -13,6 +13,7 @@ use Rattle.nntp_facts.specs.Facts.{Fact}
 use Rattle.nntp_facts.specs.Given.{asks_of, first_given, id_in}
 use Rattle.nntp_facts.specs.Together.{number_in, GiveSame, JoinIds}
 use Rattle.nntp_facts.specs.Kept.{told, MayShow, id_of, place_of}
+use Rattle.nntp_facts.proofs.Together.TwoListsOfFacts.{none_if, both_if}
 
 pub same_self : (xs : List ℕ) → is_same xs xs ≡ true
 same_self xs = nat_list_eq_equiv.refl xs
@@ -73,14 +74,6 @@ id_joins facts more here n id is = (
 pub record GivesId (here : Name) (id : Option (ℕ × Id)) (more : List Fact) : Type 0 where
   pub ids : (name : Name) (m : ℕ) → first_given (id_in name m) more ≡ cond (is_same here name) (id_of id m) None
   pub places : (name : Name) (i : Id) → first_given (number_in name i) more ≡ cond (is_same here name) (place_of id i) None
-
-both_if : {A : Type 0} (a b : Bool) (x : A) → cond a (cond b (Some x) None) None ≡ cond (a && b) (Some x) None
-both_if true b x = refl
-both_if false b x = refl
-
-none_if : {A : Type 0} (b : Bool) → cond {A = Option A} b None None ≡ None
-none_if true = refl
-none_if false = refl
 
 -- it joins exactly if its number may have it
 pub gives_joins : (facts more : List Fact) (here : Name) (id : Option (ℕ × Id)) → GivesId here id more → JoinIds facts more ↔ MayShow (told facts here) id

@@ -1,5 +1,5 @@
 -- What the parts of an answer say, read off their facts.
-use Rattle.std.proofs.Common.{◌≡◌, ℕ, Bool, true, false, ◌||◌, ◌&&◌, ◌==◌, cond, List, [], ◌∷◌, ◌++◌, map, Option, None, Some, refl, ap, ◌∙◌, append-nil}
+use Rattle.std.proofs.Common.{◌≡◌, ℕ, Bool, true, false, ◌||◌, ◌==◌, cond, List, [], ◌∷◌, ◌++◌, map, Option, None, Some, refl, sym, ap, ◌∙◌, append-nil}
 use Rattle.std.specs.List.{list_any}
 use Rattle.std.specs.Option.{option_map_or, option_or}
 use Rattle.std.proofs.lemmas.List.Folds.{list_any-append}
@@ -13,7 +13,7 @@ use Rattle.nntp_facts.specs.Given.{asks_of, shows_group, is_shown_group, first_g
 use Rattle.nntp_facts.specs.Together.{denies_group, number_in}
 use Rattle.nntp_facts.specs.Saying.{OfGroup, OfArticle, Lacks, Exists, Sends, Saying, asked_id, sent_facts, lack_facts, id_facts, group_facts, there_facts, missing_facts, groups_facts, facts_in}
 use Rattle.nntp_facts.specs.Kept.{id_of, place_of}
-use Rattle.nntp_facts.proofs.Together.TwoListsOfFacts.{given_append, or_none}
+use Rattle.nntp_facts.proofs.Together.TwoListsOfFacts.{given_append, or_none, none_if, both_if}
 use Rattle.nntp_facts.proofs.Together.FactsJoin.{asks_append}
 
 -- the id at a number of a group
@@ -157,30 +157,12 @@ group_asks name g asks =
 -- ---- the id at a number
 
 id_given : (here name : Name) (id : Option (ℕ × Id)) (n : ℕ) → first_given (id_in name n) (id_facts here id) ≡ cond (is_same here name) (id_of id n) None
-id_given here name None n = by (is_same here name)
-  where
-    by : (b : Bool) → None ≡ cond {A = Option Id} b None None
-    by true = refl
-    by false = refl
-id_given here name (Some e) n = by (is_same here name) (e.0 == n)
-  where
-    by : (a b : Bool) → option_or (cond (a && b) (Some e.1) None) None ≡ cond a (cond b (Some e.1) None) None
-    by true true = refl
-    by true false = refl
-    by false b = refl
+id_given here name None n = sym (none_if (is_same here name))
+id_given here name (Some e) n = or_none _ ∙ sym (both_if (is_same here name) (e.0 == n) e.1)
 
 place_given : (here name : Name) (id : Option (ℕ × Id)) (other : Id) → first_given (number_in name other) (id_facts here id) ≡ cond (is_same here name) (place_of id other) None
-place_given here name None other = by (is_same here name)
-  where
-    by : (b : Bool) → None ≡ cond {A = Option ℕ} b None None
-    by true = refl
-    by false = refl
-place_given here name (Some e) other = by (is_same here name) (is_same e.1 other)
-  where
-    by : (a b : Bool) → option_or (cond (a && b) (Some e.0) None) None ≡ cond a (cond b (Some e.0) None) None
-    by true true = refl
-    by true false = refl
-    by false b = refl
+place_given here name None other = sym (none_if (is_same here name))
+place_given here name (Some e) other = or_none _ ∙ sym (both_if (is_same here name) (is_same e.1 other) e.0)
 
 -- the id that is given at a number of the group, and at none of another
 pub group_ids : (g : OfGroup) (asks : List Ask) (name : Name) (n : ℕ) → first_given (id_in name n) (group_facts (Some g) asks) ≡ cond (is_same g.name name) (id_of g.id n) None

@@ -25,6 +25,7 @@ use Rattle.nntp_facts.specs.Conflict.{widest, the_group}
 use Rattle.nntp_facts.specs.declared.points.articles.Part.{Part}
 use Rattle.nntp_facts.specs.declared.points.articles.Part.TheVariants.{Head, Body}
 use Rattle.nntp_facts.specs.Points.{Statement, TellsAlone, shows_name, denies_name, id_told, place_told, shows_id, denies_id, part_told, part_sent, bounds_of}
+use Rattle.nntp_facts.proofs.Together.TwoListsOfFacts.{or_none, none_if}
 use Rattle.nntp_facts.proofs.Together.FactsJoin.{asks_append}
 use Rattle.nntp_facts.proofs.Keeping.FactsOfParts.{shown_group, denied_group}
 use Rattle.nntp_facts.proofs.Keeping.PartsJoin.{same_articles, group_is, no_group_is}
@@ -227,54 +228,38 @@ module _ (profile : Profile) (t : Statement) (facts : List Fact) (h : TellsAlone
   pub part_given : (part : Part) (id : Id) → first_given (part_in part id) facts ≡ part_told part id t.saying.article
   part_given Head id = past_group (head_in id) (λ name. refl) (λ name ask. refl) ∙ by t.saying.groups refl
     where
-      none : (o : Bool) → None ≡ cond {A = Option (List Line)} o None None
-      none true = refl
-      none false = refl
-
-      alike : (o : Option (List Line)) → option_or o None ≡ o
-      alike None = refl
-      alike (Some x) = refl
-
       one : (what : What) (lines : Option (List Line)) (other : Id) → head_in id (TextIs what other lines) ≡ cond (is_same other id) (part_sent Head what lines) None
       one whats.Article (Some lines) other = refl
       one whats.Head (Some lines) other = refl
-      one whats.Body lines other = none (is_same other id)
-      one whats.Stat lines other = none (is_same other id)
-      one whats.Article None other = none (is_same other id)
-      one whats.Head None other = none (is_same other id)
+      one whats.Body lines other = sym (none_if (is_same other id))
+      one whats.Stat lines other = sym (none_if (is_same other id))
+      one whats.Article None other = sym (none_if (is_same other id))
+      one whats.Head None other = sym (none_if (is_same other id))
 
       said : (a : Option (Id × OfArticle)) → first_given (head_in id) (article_facts [] 0 a) ≡ part_told Head id a
       said None = refl
       said (Some (other, Lacks)) = refl
       said (Some (other, Exists)) = refl
-      said (Some (other, Sends what lines)) = alike (head_in id (TextIs what other lines)) ∙ one what lines other
+      said (Some (other, Sends what lines)) = or_none (head_in id (TextIs what other lines)) ∙ one what lines other
 
       by : (o : Option (Option (List ℕ) × List ActiveValue)) → t.saying.groups ≡ o → first_given (head_in id) (facts_in t.saying h.tells.asks) ≡ part_told Head id t.saying.article
       by None none = (same_articles h.before t.saying h.tells.asks none h.tells.may).heads id ∙ said t.saying.article
       by (Some l) is = ap (first_given (head_in id)) (listed_facts t.saying h.tells.asks l (alone l is) is) ∙ ap (part_told Head id) (sym (alone l is).article)
   part_given Body id = past_group (body_in id) (λ name. refl) (λ name ask. refl) ∙ by t.saying.groups refl
     where
-      none : (o : Bool) → None ≡ cond {A = Option (List Line)} o None None
-      none true = refl
-      none false = refl
-
-      alike : (o : Option (List Line)) → option_or o None ≡ o
-      alike None = refl
-      alike (Some x) = refl
-
       one : (what : What) (lines : Option (List Line)) (other : Id) → body_in id (TextIs what other lines) ≡ cond (is_same other id) (part_sent Body what lines) None
       one whats.Article (Some lines) other = refl
       one whats.Body (Some lines) other = refl
-      one whats.Head lines other = none (is_same other id)
-      one whats.Stat lines other = none (is_same other id)
-      one whats.Article None other = none (is_same other id)
-      one whats.Body None other = none (is_same other id)
+      one whats.Head lines other = sym (none_if (is_same other id))
+      one whats.Stat lines other = sym (none_if (is_same other id))
+      one whats.Article None other = sym (none_if (is_same other id))
+      one whats.Body None other = sym (none_if (is_same other id))
 
       said : (a : Option (Id × OfArticle)) → first_given (body_in id) (article_facts [] 0 a) ≡ part_told Body id a
       said None = refl
       said (Some (other, Lacks)) = refl
       said (Some (other, Exists)) = refl
-      said (Some (other, Sends what lines)) = alike (body_in id (TextIs what other lines)) ∙ one what lines other
+      said (Some (other, Sends what lines)) = or_none (body_in id (TextIs what other lines)) ∙ one what lines other
 
       by : (o : Option (Option (List ℕ) × List ActiveValue)) → t.saying.groups ≡ o → first_given (body_in id) (facts_in t.saying h.tells.asks) ≡ part_told Body id t.saying.article
       by None none = (same_articles h.before t.saying h.tells.asks none h.tells.may).bodies id ∙ said t.saying.article

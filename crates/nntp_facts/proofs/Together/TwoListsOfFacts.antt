@@ -1,5 +1,5 @@
 -- What two lists of facts show, deny and give.
-use Rattle.std.proofs.Common.{◌≡◌, Bool, true, false, ◌||◌, IsTrue, List, [], ◌∷◌, ◌++◌, Option, None, Some, inl, inr, refl, sym, ap, ◌∙◌}
+use Rattle.std.proofs.Common.{◌≡◌, Bool, true, false, ◌||◌, ◌&&◌, cond, IsTrue, List, [], ◌∷◌, ◌++◌, Option, None, Some, inl, inr, refl, sym, ap, ◌∙◌}
 use Rattle.std.specs.Prelude.{IsFalse, IfSome}
 use Rattle.std.specs.List.{AllByRecursion, list_any}
 use Rattle.std.specs.Option.{option_or}
@@ -75,6 +75,16 @@ given_append {A} f (x ∷ xs) ys = by (f x) (given_append f xs ys)
 pub or_none : {A : Type 0} (o : Option A) → option_or o None ≡ o
 or_none None = refl
 or_none (Some x) = refl
+
+-- where nothing is given either way, nothing is
+pub none_if : {A : Type 0} (b : Bool) → cond {A = Option A} b None None ≡ None
+none_if true = refl
+none_if false = refl
+
+-- what is given under two tests is given under both
+pub both_if : {A : Type 0} (a b : Bool) (x : A) → cond a (cond b (Some x) None) None ≡ cond (a && b) (Some x) None
+both_if true b x = refl
+both_if false b x = refl
 
 -- where more facts give nothing, what is given is as before
 pub given_silent : {A : Type 0} (f : Fact → Option A) (facts more : List Fact) → first_given f more ≡ None → first_given f (facts ++ more) ≡ first_given f facts
