@@ -72,7 +72,7 @@ not_there k (x ∷ xs) i = by (x == k) refl (not_there k xs) i
 -- ---- what each conflict has
 
 module _ (profile : Profile) (bad : Placed) (answers : List Placed) (all places : List ℕ) (ascends : IsTrue (is_ascending places)) (many : 3 < length places)
-  (each : (some : List ℕ) → ((j : ℕ) → In j some → In j all) → (SomeHas profile (told_with profile bad answers some) → ⊥) → (k : ℕ) → In k places → In k some) where
+    (each : (some : List ℕ) → ((j : ℕ) → In j some → In j all) → (SomeHas profile (told_with profile bad answers some) → ⊥) → (k : ℕ) → In k places → In k some) where
   abbrev facts : List Fact
   facts = told_with profile bad answers all
 
@@ -81,11 +81,11 @@ module _ (profile : Profile) (bad : Placed) (answers : List Placed) (all places 
   from fact i = elim (in_cases fact (told profile bad) (flat_map (told_at profile answers) all) i) [
     | inl j ↦ ([], omega arith, (λ k none. absurd none), in_front fact (told profile bad) [] j)
     | inr j ↦ (let f = from_flat (told_at profile answers) fact all j in (
-        f.0 ∷ [],
-        omega arith,
-        (λ k one. elim one [ inl same ↦ subst (λ k. In k all) same f.1 | inr none ↦ absurd none ]),
-        in_back fact (told profile bad) (flat_map (told_at profile answers) (f.0 ∷ [])) (to_flat (told_at profile answers) f.0 fact (f.0 ∷ []) (inl refl) f.2),
-      ))
+      f.0 ∷ [],
+      omega arith,
+      (λ k one. elim one [ inl same ↦ subst (λ k. In k all) same f.1 | inr none ↦ absurd none ]),
+      in_back fact (told profile bad) (flat_map (told_at profile answers) (f.0 ∷ [])) (to_flat (told_at profile answers) f.0 fact (f.0 ∷ []) (inl refl) f.2),
+    ))
   ]
 
   -- no three facts conflict
@@ -98,9 +98,9 @@ module _ (profile : Profile) (bad : Placed) (answers : List Placed) (all places 
       let ps = a.0 ++ back in
       let few = told_with profile bad answers ps in
       let stands_not : SomeHas profile few → ⊥ = λ s. conflict few (stand profile.limit s.0 few s.1 s.2)
-          (told_more profile bad answers a.0 ps (λ q t. in_front q a.0 back t) f a.3)
-          (told_more profile bad answers b.0 ps (λ q t. in_back q a.0 back (in_front q b.0 c.0 t)) g b.3)
-          (told_more profile bad answers c.0 ps (λ q t. in_back q a.0 back (in_back q b.0 c.0 t)) h c.3) in
+      (told_more profile bad answers a.0 ps (λ q t. in_front q a.0 back t) f a.3)
+      (told_more profile bad answers b.0 ps (λ q t. in_back q a.0 back (in_front q b.0 c.0 t)) g b.3)
+      (told_more profile bad answers c.0 ps (λ q t. in_back q a.0 back (in_back q b.0 c.0 t)) h c.3) in
       let within : (q : ℕ) → In q ps → In q all = λ q t. elim (in_cases q a.0 back t) [
         | inl here ↦ a.2 q here
         | inr rest ↦ elim (in_cases q b.0 c.0 rest) [ inl here ↦ b.2 q here | inr here ↦ c.2 q here ]
@@ -163,9 +163,11 @@ module _ (profile : Profile) (bad : Placed) (answers : List Placed) (all places 
             let s = asked name says_some p.0 in
             let e = asked name (λ ask. is_end ask n) p.1 in
             three s.0 e.0 d.0 s.1 e.1 d.1
-            (λ few t i j k. at_point few (Number name n)
-            (or_right (is_shown (asks_of name few) n) (is_given_end (asks_of name few) n)
-            (and_from (list_any says_some (asks_of name few)) (list_any (λ ask. is_end ask n) (asks_of name few)) (s.2 few i) (e.2 few j)), d.2 few k) t))
+            (λ few t i j k. at_point few (Number name n) (
+              or_right (is_shown (asks_of name few) n) (is_given_end (asks_of name few) n)
+                  (and_from (list_any says_some (asks_of name few)) (list_any (λ ask. is_end ask n) (asks_of name few)) (s.2 few i) (e.2 few j)),
+              d.2 few k,
+            ) t))
       ])
   only_numbers (Count name) c = (name, inl refl)
   only_numbers (First name) c = (name, inr refl)
