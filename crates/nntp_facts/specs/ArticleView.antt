@@ -1,24 +1,19 @@
 -- What the code's values keep of articles.
-use Rattle.std.specs.Prelude.{ℕ, false, List, Vec, Option, option_map, map, refl}
+use Rattle.std.specs.Prelude.{ℕ, false, List, Vec, Option, map, refl}
 use Rattle.std.specs.Coded.{Coded, code_by, coded×, coded_ℕ, coded_list, coded_option, coded_bool}
 use Rattle.std.specs.Ordering.{nat_cmp, is_eq}
 use Rattle.std.specs.Cmp.Lexicographic.{slice_cmp}
 use Rattle.std.specs.Map.{lookup}
-use Rattle.nntp_wire.specs.Held.{held}
-use Rattle.nntp_article.specs.Article.Parts.{Id, Line}
+use Rattle.nntp_article.specs.Article.Parts.{Id}
 use Rattle.nntp_facts.specs.Kept.{KeptArticle}
 use Rattle.nntp_facts.specs.Articles.{denied}
 use Rattle.nntp_facts.specs.declared.articles.known.Known.{Known}
 use Rattle.nntp_facts.specs.declared.articles.known.Known.TheVariants.{Denied, There}
 use Rattle.nntp_facts.specs.declared.articles.known.KnownArticle.{KnownArticle}
 
--- the octets of lines, where they are held
-abbrev pub lines_held : {A : Type 0} → Option (Vec (Vec ℕ A) A) → Option (List Line)
-lines_held lines = option_map (λ v. held v.items) lines
-
 -- what is kept of an article
 abbrev pub known_article : {A : Type 0} → KnownArticle A → KeptArticle
-known_article s = record { is_denied = false; is_sent = s.is_sent; head = lines_held s.head; body = lines_held s.body }
+known_article s = record { is_denied = false; is_sent = s.is_sent; head = s.head; body = s.body }
 
 -- what is kept of an id
 abbrev pub known_value : {A : Type 0} → Known A → KeptArticle

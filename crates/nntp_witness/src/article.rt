@@ -7,13 +7,14 @@ ghost use Rattle.nntp_witness.specs.Making.{given_text};
 
 use nntp_facts::ShownArticle;
 use nntp_spool::Article;
+use nntp_wire::Block;
 use std::alloc::{AllocError, Allocator};
 
 /// Makes the article as it was sent. A head that wasn't sent says the message-id, and a body that
 /// wasn't sent has no lines.
 pub(crate) fn given_article<A: Allocator + Copy>(
     alloc: A,
-    shown: &ShownArticle<'_, A>,
+    shown: &ShownArticle<'_>,
 ) -> Result<Article<A>, AllocError>
     ensures { IfOk result (λ article. text_of_article article ≡ given_text shown.now) }
 {
@@ -55,12 +56,13 @@ fn plain_head<A: Allocator + Copy>(alloc: A, id: &[u8]) -> Result<Vec<Vec<u8, A>
 /// Copies the lines.
 fn copied<A: Allocator + Copy>(
     alloc: A,
-    lines: &[Vec<u8, A>],
+    block: &Block<'_>,
 ) -> Result<Vec<Vec<u8, A>, A>, AllocError>
-    ensures { IfOk result (λ copies. held copies.items ≡ held lines.now) }
+    ensures { IfOk result (λ copies. held copies.items ≡ block.now) }
 {
     let mut copies = Vec::new(alloc);
-    for line in lines {
+    let mut rest = block.lines();
+    while let Some(line) = rest.next() {
         copies.push(Vec::from_slice(alloc, line)?)?;
     }
     Ok(copies)

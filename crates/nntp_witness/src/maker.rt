@@ -141,7 +141,7 @@ impl<A: Allocator + Copy> SpoolMaker<A> {
     }
 
     /// Adds an article that is shown.
-    fn add_article(&mut self, shown: &ShownArticle<'_, A>) -> Result<(), SpoolFault>
+    fn add_article(&mut self, shown: &ShownArticle<'_>) -> Result<(), SpoolFault>
         ensures { (limit : Limit) (marks : Marks) (past : List Paired) (G : SpoolValue) (left : List ArticleValue)
             → IsWitness (profile_of limit marks) past G
             → ArticlesLeft limit (said_by marks past) G (shown.now ∷ left) self.old.builder

@@ -5,10 +5,10 @@ ghost use Rattle.nntp_article.specs.Article.Parts.{Id};
 ghost use Rattle.nntp_article.specs.Session.Machine.{head_fits};
 ghost use Rattle.nntp_facts.specs.Articles.{head_sent, body_sent, AreSame, MayBeSent, unsent, with_sent};
 ghost use Rattle.nntp_facts.specs.Kept.{IsAddedIf};
-ghost use Rattle.nntp_facts.specs.ArticleView.{lines_held, known_article, known_value};
+ghost use Rattle.nntp_facts.specs.ArticleView.{known_article, known_value};
 
 use nntp_article::Parts;
-use nntp_wire::{Block, What};
+use nntp_wire::{Block, OwnedBlock, What};
 use std::alloc::{AllocError, Allocator};
 
 /// What is known of a message-id that an answer mentions.
@@ -26,9 +26,9 @@ pub(crate) struct KnownArticle<A: Allocator> {
     /// Whether a success of ARTICLE, HEAD, BODY or STAT named the article.
     pub(crate) is_sent: bool,
     /// The lines of the article's head, if they were sent.
-    pub(crate) head: Option<Vec<Vec<u8, A>, A>>,
+    pub(crate) head: Option<OwnedBlock<A>>,
     /// The lines of the article's body, if they were sent.
-    pub(crate) body: Option<Vec<Vec<u8, A>, A>>,
+    pub(crate) body: Option<OwnedBlock<A>>,
 }
 
 /// The parts of an article that a success sends.
@@ -82,11 +82,11 @@ impl<'a> Sent<'a> {
 }
 
 /// Tells whether lines that are sent are those that are held, where there are both.
-fn are_same<A: Allocator>(sent: &Option<Block<'_>>, lines: &Option<Vec<Vec<u8, A>, A>>) -> bool
-    ensures { IsTrue result ↔ AreSame sent.now (lines_held lines.now) }
+fn are_same<A: Allocator>(sent: &Option<Block<'_>>, held: &Option<OwnedBlock<A>>) -> bool
+    ensures { IsTrue result ↔ AreSame sent.now held.now }
 {
-    match (sent, lines) {
-        (Some(sent), Some(lines)) => sent.is_same(lines),
+    match (sent, held) {
+        (Some(sent), Some(held)) => sent.is_same(&held.as_block()),
         _ => true,
     }
 }
@@ -94,13 +94,13 @@ fn are_same<A: Allocator>(sent: &Option<Block<'_>>, lines: &Option<Vec<Vec<u8, A
 /// Holds lines that are sent, where none are held yet.
 fn hold<A: Allocator + Copy>(
     alloc: A,
-    lines: &mut Option<Vec<Vec<u8, A>, A>>,
+    held: &mut Option<OwnedBlock<A>>,
     sent: &Option<Block<'_>>,
 ) -> Result<(), AllocError>
-    ensures { OnOk result (lines_held lines.new ≡ option_or (lines_held lines.old) sent.now) }
+    ensures { OnOk result (held.new ≡ option_or held.old sent.now) }
 {
-    if let (None, Some(sent)) = (&*lines, sent) {
-        *lines = Some(sent.to_vec(alloc)?);
+    if let (None, Some(sent)) = (&*held, sent) {
+        *held = Some(sent.to_owned(alloc)?);
     }
     Ok(())
 }

@@ -1,27 +1,25 @@
 //! The articles that answers show, one after the other.
-ghost use Rattle.std.specs.Prelude.{◌≡◌, ◌∷◌, [], MatchOption, option_map};
+ghost use Rattle.std.specs.Prelude.{◌≡◌, ◌∷◌, [], MatchOption};
 ghost use Rattle.std.specs.Iterator.{YieldsFirst, item_count};
-ghost use Rattle.nntp_wire.specs.Held.{held};
 ghost use Rattle.nntp_facts.specs.Readers.{shown_article, articles_shown_in};
-ghost use Rattle.nntp_facts.specs.ArticleView.{lines_held, known_article, entries_value};
+ghost use Rattle.nntp_facts.specs.ArticleView.{known_article, entries_value};
 
 use crate::articles::known::{Known, KnownArticle};
+use nntp_wire::{Block, OwnedBlock};
 use std::alloc::{Allocator, Global};
 use std::collections::btree_map;
 use std::marker::Model;
 
 /// An article that answers show, and so every spool has that permits them.
 #[derive(Drop)]
-pub struct ShownArticle<'a, A: Allocator = Global> {
+pub struct ShownArticle<'a> {
     id: &'a [u8],
     is_sent: bool,
-    head: Option<&'a [Vec<u8, A>]>,
-    body: Option<&'a [Vec<u8, A>]>,
+    head: Option<Block<'a>>,
+    body: Option<Block<'a>>,
 }
 
-impl<'a, A: Allocator> Model for ShownArticle<'a, A> {
-    ghost use Rattle.std.specs.Prelude.{option_map};
-    ghost use Rattle.nntp_wire.specs.Held.{held};
+impl<'a> Model for ShownArticle<'a> {
     ghost use Rattle.nntp_facts.specs.Readers.{ShownArticle as ArticleValue};
     ghost use Rattle.nntp_facts.specs.ReadersView.{coded_shown_article};
 
@@ -29,19 +27,19 @@ impl<'a, A: Allocator> Model for ShownArticle<'a, A> {
 
     ghost coded = { coded_shown_article };
 
-    ghost view = { λ a. record { id = a.id.now; is_sent = a.is_sent; head = option_map (λ lines. held lines.now) a.head; body = option_map (λ lines. held lines.now) a.body } };
+    ghost view = { λ a. record { id = a.id.now; is_sent = a.is_sent; head = a.head; body = a.body } };
 }
 
-impl<'a, A: Allocator> ShownArticle<'a, A> {
+impl<'a> ShownArticle<'a> {
     /// Puts the id together with what is known of its article.
-    fn new(id: &'a [u8], article: &'a KnownArticle<A>) -> ShownArticle<'a, A>
+    fn new<A: Allocator>(id: &'a [u8], article: &'a KnownArticle<A>) -> ShownArticle<'a>
         ensures { result ≡ shown_article id.now (known_article article.now) }
     {
         ShownArticle {
             id,
             is_sent: article.is_sent,
-            head: slice(&article.head),
-            body: slice(&article.body),
+            head: lent(&article.head),
+            body: lent(&article.body),
         }
     }
 
@@ -61,28 +59,27 @@ impl<'a, A: Allocator> ShownArticle<'a, A> {
         self.is_sent
     }
 
-    /// Returns the lines of the article's head, without CRLF, or `None` if no answer sent them.
-    pub fn head(&self) -> Option<&'a [Vec<u8, A>]>
-        ensures { option_map (λ lines. held lines.now) result ≡ self.now.head }
+    /// Returns the lines of the article's head, or `None` if no answer sent them.
+    pub fn head(&self) -> &Option<Block<'a>>
+        ensures { result.now ≡ self.now.head }
     {
-        self.head
+        &self.head
     }
 
-    /// Returns the lines of the article's body, without CRLF and without the dots that are put in
-    /// front to send them, or `None` if no answer sent them.
-    pub fn body(&self) -> Option<&'a [Vec<u8, A>]>
-        ensures { option_map (λ lines. held lines.now) result ≡ self.now.body }
+    /// Returns the lines of the article's body, or `None` if no answer sent them.
+    pub fn body(&self) -> &Option<Block<'a>>
+        ensures { result.now ≡ self.now.body }
     {
-        self.body
+        &self.body
     }
 }
 
-/// Borrows the lines, if there are any.
-fn slice<A: Allocator>(lines: &Option<Vec<Vec<u8, A>, A>>) -> Option<&[Vec<u8, A>]>
-    ensures { option_map (λ lines. held lines.now) result ≡ lines_held lines.now }
+/// Lends the lines that are held, if there are any.
+fn lent<A: Allocator>(held: &Option<OwnedBlock<A>>) -> Option<Block<'_>>
+    ensures { result ≡ held.now }
 {
-    match lines {
-        Some(lines) => Some(lines.as_slice()),
+    match held {
+        Some(held) => Some(held.as_block()),
         None => None,
     }
 }
@@ -117,13 +114,13 @@ impl<'a, A: Allocator> ShownArticles<'a, A> {
 }
 
 impl<'a, A: Allocator> Iterator for ShownArticles<'a, A> {
-    type Item = ShownArticle<'a, A>;
+    type Item = ShownArticle<'a>;
 
     ghost next_gives = { YieldsFirst (λ articles. articles) };
 
     ghost remaining = { item_count (λ articles. articles) };
 
-    fn next(&mut self) -> Option<ShownArticle<'a, A>> {
+    fn next(&mut self) -> Option<ShownArticle<'a>> {
         next_article(&mut self.rest)
     }
 }
@@ -131,7 +128,7 @@ impl<'a, A: Allocator> Iterator for ShownArticles<'a, A> {
 /// Returns the next article, and passes over the ids that have none.
 fn next_article<'a, A: Allocator>(
     rest: &mut btree_map::Iter<'a, Vec<u8, A>, Known<A>>,
-) -> Option<ShownArticle<'a, A>>
+) -> Option<ShownArticle<'a>>
     ensures { MatchOption result ((articles_shown_in (entries_value rest.old) ≡ []) × (articles_shown_in (entries_value rest.new) ≡ []))
         (λ a. articles_shown_in (entries_value rest.old) ≡ a ∷ articles_shown_in (entries_value rest.new)) }
 {

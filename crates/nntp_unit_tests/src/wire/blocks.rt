@@ -1,8 +1,9 @@
 //! Blocks and their lines.
 use super::{all_malformed, has_lines, is_malformed, reply};
-use nntp_wire::{Answer, active_line, listed_number};
+use nntp_wire::{Answer, Block, active_line, listed_number};
 use std::alloc::{AllocError, Global};
 use std::process::Abort;
+use std::test::Fail;
 
 #[test]
 fn lines_of_a_block(rt: HostRuntime) {
@@ -21,33 +22,34 @@ fn lines_of_a_block(rt: HostRuntime) {
     }
 }
 
+/// The block of an answer to BODY.
+fn block(answer: &[u8]) -> Option<Block<'_>> {
+    match reply(b"BODY <a@b>", answer)? {
+        Ok(Answer::Sent { block, .. }) => block,
+        _ => None,
+    }
+}
+
 #[test]
-fn lines_that_are_held(rt: HostRuntime) -> Result<(), AllocError> {
-    match reply(b"BODY <a@b>", b"222 0 <a@b>\r\n..\r\nx\r\n\r\n.\r\n") {
-        Some(
-            Ok(
-                Answer::Sent {
-                    block: Some(block),
-                    ..
-                },
-            ),
-        ) => {
-            let mut held = block.to_vec(rt.alloc())?;
-            assert!(rt; held.len() == 3);
-            assert!(rt; held[0].as_slice() == b".".as_slice());
-            assert!(rt; held[1].as_slice() == b"x".as_slice());
-            assert!(rt; held[2].is_empty());
-            assert!(rt; block.is_same(&held));
-            held[1].push(b'y')?;
-            assert!(rt; !block.is_same(&held));
-            held[1].pop();
-            held.pop();
-            assert!(rt; !block.is_same(&held));
-            held.push(Vec::new(rt.alloc()))?;
-            held.push(Vec::new(rt.alloc()))?;
-            assert!(rt; !block.is_same(&held));
-        }
-        _ => assert!(rt; false),
+fn blocks_that_are_owned(rt: HostRuntime) -> Result<(), Fail> {
+    let Some(sent) = block(b"222 0 <a@b>\r\n..\r\nx\r\n\r\n.\r\n") else {
+        return Err("no block".into());
+    };
+    let owned = sent.to_owned(rt.alloc())?;
+    let lent = owned.as_block();
+    has_lines(&rt, &lent, &[Some(b"."), Some(b"x"), Some(b""), None]);
+    assert!(rt; sent.is_same(&lent));
+    let others: &[&[u8]] = &[
+        b"222 0 <a@b>\r\n..\r\nxy\r\n\r\n.\r\n",
+        b"222 0 <a@b>\r\n..\r\nx\r\n.\r\n",
+        b"222 0 <a@b>\r\n..\r\nx\r\n\r\n\r\n.\r\n",
+        b"222 0 <a@b>\r\n.\r\n",
+    ];
+    for &answer in others {
+        let Some(other) = block(answer) else {
+            return Err("no block".into());
+        };
+        assert!(rt; !other.is_same(&lent), "{answer:?}");
     }
     Ok(())
 }

@@ -1,8 +1,8 @@
 use Rattle.std.proofs.Common.{◌≡◌, ℕ, ◌+◌, ◌<◌, length, ◌∷◌, List, Vec, drop, get_or, sym, ap, ◌∙◌, drop-cons, add-one}
 use Rattle.std.proofs.lemmas.Bool.{true≢false}
 use Rattle.nntp_wire.specs.Held.{held}
-use Rattle.nntp_wire.proofs.block.Block.is_same.Given.{Over}
-use Rattle.nntp_wire.proofs.block.Block.is_same.Goals as goal
+use Rattle.nntp_spool.proofs.verification.sent_lines.has_lines.Given.{Over}
+use Rattle.nntp_spool.proofs.verification.sent_lines.has_lines.Goals as goal
 
 -- what is left of the lines that are held, from this one on
 split : (g : Over) (lines : List (Vec ℕ g.row.A.Denot)) (i : ℕ) (line : Vec ℕ g.row.A.Denot) (octets : List ℕ) → i < length lines
