@@ -208,21 +208,23 @@ fn go_on<A: Allocator + Copy>(
     ensures { IfOk result (λ state. (limit : Limit) (marks : Marks) (client server : List ℕ) → Keeps (profile_of limit marks) judge.facts feed client server
         → StandsFor limit marks (of_state state) client server) }
 {
-    while let Peek::Whole(exchange) = feed.peek() {
+    loop {
+        let exchange = match feed.peek() {
+            Peek::Whole(exchange) => exchange,
+            Peek::Bad {
+                index,
+                class: PairClass::Malformed,
+            } => {
+                let verdict = judge.stopped(index, PairClass::Malformed, feed.ahead())?;
+                return Ok(decided(verdict, &feed));
+            }
+            _ => return Ok(State::Judging(Ongoing { judge, feed })),
+        };
         if let Some(verdict) = judge.note(&exchange)? {
             return Ok(decided(verdict, &feed));
         }
         feed.advance();
     }
-    if let Peek::Bad {
-        index,
-        class: PairClass::Malformed,
-    } = feed.peek()
-    {
-        let verdict = judge.stopped(index, PairClass::Malformed, feed.ahead())?;
-        return Ok(decided(verdict, &feed));
-    }
-    Ok(State::Judging(Ongoing { judge, feed }))
 }
 
 /// An answer is bad, whatever follows these octets.

@@ -5,6 +5,7 @@ use Rattle.nntp_verdict.proofs.JudgeLemmas.{passes, refuses}
 use Rattle.nntp_verdict.proofs.CheckerLemmas.{passed-now, passed-longer, next-due, keeps-one-more, all-passed, held, decides, no-next}
 use Rattle.nntp_verdict.proofs.FedLemmas.{next-longer, malformed-longer}
 use Rattle.nntp_verdict.proofs.checker.go_on.Goals as goal
+use Rattle.nntp_verdict.proofs.checker.go_on.Goals.{in_default-via-in-Bad+in_default, in_default-via-in_default}
 
 pub note-requires : goal.note-requires
 note-requires g c =
@@ -17,7 +18,7 @@ pub returns-in-Some : goal.returns-in-Some
 returns-in-Some g c = λ limit marks client server kept.
     let whole = c.in-Whole.ensures in
     let k = c.loop-exchange.invariant limit marks client server kept in
-    decides (profile_of limit marks) c.loop-exchange.judge.facts c.loop-exchange.feed client server k limit marks _ _ c.decided.ensures
+    decides (profile_of limit marks) c.loop-exchange.judge.facts c.loop-exchange.feed client server k limit marks _ _ c.decided-in-Some.ensures
     (refuses _ c.in-Some.verdict _ _ c.in-Some.is c.in_ok-verdict.ensures.for_good)
     (λ client_more server_more.
     let next = next-longer c.loop-exchange.feed client_more server_more c.in-Whole.exchange whole.1 whole.2 in
@@ -39,10 +40,10 @@ pub returns-in-Bad-default-Malformed : goal.returns-in-Bad-default-Malformed
 returns-in-Bad-default-Malformed g c = λ limit marks client server kept.
     let bad = c.in-Bad-default-Malformed.ensures in
     let k = c.loop-exchange.invariant limit marks client server kept in
-    decides (profile_of limit marks) c.loop-exchange.judge.facts c.loop-exchange.feed client server k limit marks _ _ c.decided-in-Bad-default-Malformed.ensures
-    c.in_ok-verdict-2.ensures.for_good
+    decides (profile_of limit marks) c.loop-exchange.judge.facts c.loop-exchange.feed client server k limit marks _ _ c.decided.ensures
+    c.in_ok-verdict-in-Bad-default-Malformed.ensures.for_good
     (λ client_more server_more.
-    c.in_ok-verdict-2.ensures.verdict limit marks (client ++ client_more) (server ++ server_more) (left_of (with_octets client_more server_more c.loop-exchange.feed))
+    c.in_ok-verdict-in-Bad-default-Malformed.ensures.verdict limit marks (client ++ client_more) (server ++ server_more) (left_of (with_octets client_more server_more c.loop-exchange.feed))
     (passed-longer (profile_of limit marks) c.loop-exchange.judge.facts c.loop-exchange.feed client server k client_more server_more)
     (malformed-longer c.loop-exchange.feed client_more server_more c.in-Bad-default-Malformed.index _ _
     (subst (λ class. EndsForGood class (left_of c.loop-exchange.feed)) c.in-Bad-default-Malformed.class-is bad.2)
@@ -51,12 +52,20 @@ returns-in-Bad-default-Malformed g c = λ limit marks client server kept.
 pub invariant_of-result : goal.invariant_of-result
 invariant_of-result g c =
     let k = c.loop-exchange.invariant c.requires.0 c.requires.1 c.requires.2 c.requires.3 c.requires.4 in
+    let none = no-next c.loop-exchange.feed c.peek.result c.peek.ensures k.is_whole in
     held (profile_of c.requires.0 c.requires.1) c.loop-exchange.judge.facts c.loop-exchange.feed c.requires.2 c.requires.3 k
     (all-passed (profile_of c.requires.0 c.requires.1) c.loop-exchange.judge.facts c.loop-exchange.feed c.requires.2 c.requires.3 k
-    (no-next c.loop-exchange.feed c.peek.result c.peek.ensures k.is_whole c.in_default.not-Whole))
+    (elim c.in_default.branch [
+      | in_default-via-in-Bad+in_default w ↦ none w.in_default.not-Whole
+      | in_default-via-in_default w ↦ none w.in_default.not-Whole
+    ]))
 
-pub returns : goal.returns
-returns g c = λ limit marks client server kept.
+pub returns-in_default : goal.returns-in_default
+returns-in_default g c = λ limit marks client server kept.
     let k = c.loop-exchange.invariant limit marks client server kept in
+    let none = no-next c.loop-exchange.feed c.peek.result c.peek.ensures k.is_whole in
     all-passed (profile_of limit marks) c.loop-exchange.judge.facts c.loop-exchange.feed client server k
-    (no-next c.loop-exchange.feed c.peek.result c.peek.ensures k.is_whole c.in_default.not-Whole)
+    (elim c.in_default.branch [
+      | in_default-via-in-Bad+in_default w ↦ none w.in_default.not-Whole
+      | in_default-via-in_default w ↦ none w.in_default.not-Whole
+    ])
