@@ -2,4 +2,3 @@ pub mod FactsOfASpoolStand
 pub mod TwoListsOfFacts
 pub mod FactsJoin
 pub mod WellFormed
-pub mod FrontsStand
