@@ -3,7 +3,8 @@ ghost use Rattle.std.specs.Prelude.{◌≡◌, ◌≢◌, ◌↔◌, ◌||◌, f
 ghost use Rattle.nntp_spool.specs.Watched.{inner_of, has_failed_of};
 ghost use Rattle.nntp_spool.specs.Writing.{Writes};
 ghost use Rattle.nntp_check.specs.Report.{is_permitted};
-ghost use Rattle.nntp_check.specs.Run.{read_by, written_by, CheckReports, VerifyReports, ShowReports, ExplainReports, TaskReports, IsReported, IsCheckFault, IsVerifyFault, IsShowFault, IsExplainFault, IsTaskFault};
+ghost use Rattle.nntp_check.specs.Run.{read_by, written_by, CheckReports, VerifyReports, ShowReports, ExplainReports};
+ghost use Rattle.nntp_check.specs.Run.{TaskReports, IsReported, IsCheckFault, IsVerifyFault, IsShowFault, IsExplainFault, IsTaskFault};
 
 use crate::command_line::Task;
 use crate::input::read_capture;

@@ -6,7 +6,8 @@ ghost use Rattle.nntp_wire.specs.Lines.{lines_of_stream};
 ghost use Rattle.nntp_article.specs.Session.MisfitView.{why};
 ghost use Rattle.nntp_facts.specs.PointView.{point_of};
 ghost use Rattle.nntp_printing.specs.Printing.{escaped};
-ghost use Rattle.nntp_explain.specs.Reasons.{about_line, current_text, standing_line, allowed_text, misfit_line, misspelling_line, cut_line, surplus_lines, due_word, fault_word, number_line, core_lines, rest_line, index_at, because_at, because_lines};
+ghost use Rattle.nntp_explain.specs.Reasons.{about_line, current_text, standing_line, allowed_text, misfit_line, misspelling_line, cut_line, surplus_lines};
+ghost use Rattle.nntp_explain.specs.Reasons.{due_word, fault_word, number_line, core_lines, rest_line, index_at, because_at, because_lines};
 ghost use Rattle.nntp_explain.specs.ExplainingView.{standing_of, cited_of};
 
 use crate::standing::{Cited, Standing};
