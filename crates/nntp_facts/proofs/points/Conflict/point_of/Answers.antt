@@ -10,7 +10,7 @@ use Rattle.nntp_facts.proofs.points.Conflict.point_of.Goals as goal
 pub returns-in-None : goal.returns-in-None
 returns-in-None g c = if_ok c.point.result (λ point told profile bad answers are fits found short many.
     whole_point profile bad answers c.args.core.now (sym c.rest.ensures ∙ c.in-None.is) c.args.self.now are fits found short point
-        (told profile bad answers (places_of c.args.core.now) are fits)) c.point.ensures
+    (told profile bad answers (places_of c.args.core.now) are fits)) c.point.ensures
 
 pub returns-in-Some : goal.returns-in-Some
 returns-in-Some g c = if_ok c.point_of_many.result (λ point told profile bad answers are fits found short many.
