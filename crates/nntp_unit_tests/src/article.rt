@@ -51,7 +51,7 @@ fn has_lines(block: &Block<'_>, want: &[&[u8]]) -> bool {
 
 #[test]
 fn heads(rt: HostRuntime) {
-    let rows: &[(&[u8], bool)] = &[
+    const ROWS: &[(&[u8], bool)] = &[
         (b"222 0 <a@b>\r\n.\r\n", false),
         (b"222 0 <a@b>\r\na: b\r\n.\r\n", true),
         (b"222 0 <a@b>\r\na:\r\n.\r\n", true),
@@ -70,7 +70,7 @@ fn heads(rt: HostRuntime) {
         (b"222 0 <a@b>\r\na: b\r\nc: d\r\n.\r\n", true),
         (b"222 0 <a@b>\r\nSubject: caf\xC3\xA9 \xFF\r\n.\r\n", true),
     ];
-    for &(answer, want) in rows {
+    for &(answer, want) in ROWS {
         assert!(rt; head(answer).is_some() == want, "{answer:?}");
     }
 }
@@ -155,7 +155,7 @@ fn id(answer: &[u8]) -> Option<&[u8]> {
 
 #[test]
 fn message_ids(rt: HostRuntime) {
-    let rows: &[(&[u8], Option<&[u8]>)] = &[
+    const ROWS: &[(&[u8], Option<&[u8]>)] = &[
         (b"222 0 <a@b>\r\nmessage-id:<a@b>\r\n.\r\n", Some(b"<a@b>")),
         (
             b"222 0 <a@b>\r\nFrom: x\r\nMESSAGE-ID: <a@b>\r\nDate: y\r\n z\r\n.\r\n",
@@ -193,7 +193,7 @@ fn message_ids(rt: HostRuntime) {
         (b"222 0 <a@b>\r\nMessage-ID: <>\r\n.\r\n", None),
         (b"222 0 <a@b>\r\nFrom: <a@b>\r\n.\r\n", None),
     ];
-    for &(answer, want) in rows {
+    for &(answer, want) in ROWS {
         assert!(rt; head(answer).is_some());
         assert!(rt; id(answer) == want, "{answer:?}");
     }
@@ -277,7 +277,7 @@ fn has_controls(alloc: Global, answer: &[u8], want: &[(&[u8], &[u8])]) -> Result
 
 #[test]
 fn control_messages(rt: HostRuntime) -> Result<(), AllocError> {
-    let rows: &[(&[u8], &[u8], &[u8])] = &[
+    const ROWS: &[(&[u8], &[u8], &[u8])] = &[
         (
             b"222 0 <a@b>\r\nControl: newgroup comp.x moderated\r\n.\r\n",
             b"moderated newgroup",
@@ -355,7 +355,7 @@ fn control_messages(rt: HostRuntime) -> Result<(), AllocError> {
         ),
         (b"222 0 <a@b>\r\nControl: \t\r\n.\r\n", b"other", b""),
     ];
-    for &(answer, kind, octets) in rows {
+    for &(answer, kind, octets) in ROWS {
         assert!(rt; has_controls(rt.alloc(), answer, &[(kind, octets)])?);
     }
     Ok(())
@@ -387,7 +387,7 @@ fn flags(answer: &[u8]) -> Option<[bool; 6]> {
 
 #[test]
 fn required_headers(rt: HostRuntime) {
-    let rows: &[(&[u8], [bool; 6])] = &[
+    const ROWS: &[(&[u8], [bool; 6])] = &[
         (b"222 0 <a@b>\r\nX: y\r\n.\r\n", [true; 6]),
         (
             b"222 0 <a@b>\r\nPath: p\r\nfrom: a\r\nDATE:\r\nNewsgroups: g\r\nsubject: s\r\nMessage-Id: x\r\n.\r\n",
@@ -402,7 +402,7 @@ fn required_headers(rt: HostRuntime) {
             [true, true, true, false, true, true],
         ),
     ];
-    for &(answer, want) in rows {
+    for &(answer, want) in ROWS {
         assert!(rt; flags(answer) == Some(want), "{answer:?}");
     }
 }

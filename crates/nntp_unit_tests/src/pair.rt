@@ -49,7 +49,7 @@ fn is_bad(rt: &impl Abort, name: &str, mut pairs: Pairs<'_>, want: (u64, PairCla
 
 #[test]
 fn pairings_that_end(rt: HostRuntime) {
-    let rows: &[(&str, (&[u8], &[u8]), &[(Option<&[u8]>, &[u8])], u64)] = &[
+    const ROWS: &[(&str, (&[u8], &[u8]), &[(Option<&[u8]>, &[u8])], u64)] = &[
         ("no octets", (b"", b""), &[], 0),
         ("no answer", (b"QUIT\r\n", b""), &[], 1),
         (
@@ -140,14 +140,14 @@ fn pairings_that_end(rt: HostRuntime) {
             0,
         ),
     ];
-    for &(name, streams, exchanges, unanswered) in rows {
+    for &(name, streams, exchanges, unanswered) in ROWS {
         ends(&rt, name, after(&rt, name, streams, exchanges), unanswered);
     }
 }
 
 #[test]
 fn pairings_that_break(rt: HostRuntime) {
-    let rows: &[(
+    const ROWS: &[(
         &str,
         (&[u8], &[u8]),
         &[(Option<&[u8]>, &[u8])],
@@ -226,7 +226,7 @@ fn pairings_that_break(rt: HostRuntime) {
             (0, PairClass::Malformed),
         ),
     ];
-    for &(name, streams, exchanges, want) in rows {
+    for &(name, streams, exchanges, want) in ROWS {
         is_bad(&rt, name, after(&rt, name, streams, exchanges), want);
     }
 }

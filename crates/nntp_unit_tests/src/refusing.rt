@@ -5,7 +5,7 @@ use std::test::Fail;
 
 #[test]
 fn requests_that_are_refused(rt: HostRuntime) {
-    let rows: &[(Refusal, [bool; 5])] = &[
+    const ROWS: &[(Refusal, [bool; 5])] = &[
         (Refusal::Never, [false; 5]),
         (Refusal::One(0), [false; 5]),
         (Refusal::One(1), [true, false, false, false, false]),
@@ -16,7 +16,7 @@ fn requests_that_are_refused(rt: HostRuntime) {
         (Refusal::From(6), [false; 5]),
         (Refusal::EverySecond, [false, true, false, true, false]),
     ];
-    for &(refusal, refused) in rows {
+    for &(refusal, refused) in ROWS {
         let heap = Refusing::new(rt.alloc(), refusal);
         let mut has_refused = false;
         for is_refused in refused {

@@ -31,7 +31,7 @@ fn state_within(rt: &HostRuntime, limit: Limit, rows: &[Row]) -> Result<Visible,
 
 #[test]
 fn a_group_is_selected(rt: HostRuntime) -> Result<(), Fail> {
-    let rows: &[Row] = &[
+    const ROWS: &[Row] = &[
         (b"", b"200 hi\r\n", true),
         (b"STAT", b"412 no\r\n", true),
         (b"STAT", b"420 no\r\n", false),
@@ -39,7 +39,7 @@ fn a_group_is_selected(rt: HostRuntime) -> Result<(), Fail> {
         (b"NEXT", b"223 4 <b@x>\r\n", true),
         (b"STAT", b"412 no\r\n", false),
     ];
-    let visible = state_after(&rt, rows)?;
+    let visible = state_after(&rt, ROWS)?;
     assert!(rt; visible.selected() == Some(b"g".as_slice()));
     assert!(rt; visible.selected_name() == b"g".as_slice());
     assert!(rt; visible.low(b"g") == Some(1));
@@ -49,21 +49,21 @@ fn a_group_is_selected(rt: HostRuntime) -> Result<(), Fail> {
 
 #[test]
 fn low_marks_do_not_fall(rt: HostRuntime) -> Result<(), Fail> {
-    let rows: &[Row] = &[
+    const ROWS: &[Row] = &[
         (b"GROUP g", b"211 2 5 6 g\r\n", true),
         (b"GROUP g", b"211 2 4 6 g\r\n", false),
         (b"GROUP g", b"211 0 0 0 g\r\n", true),
         (b"GROUP g", b"211 2 4 6 g\r\n", false),
         (b"GROUP h", b"211 2 4 6 h\r\n", true),
     ];
-    let visible = state_after(&rt, rows)?;
+    let visible = state_after(&rt, ROWS)?;
     assert!(rt; visible.low(b"g") == Some(5));
     Ok(())
 }
 
 #[test]
 fn lists_ascend_and_name_no_group_twice(rt: HostRuntime) -> Result<(), Fail> {
-    let rows: &[Row] = &[
+    const ROWS: &[Row] = &[
         (b"LISTGROUP g 2-4", b"211 3 1 5 g\r\n2\r\n4\r\n.\r\n", true),
         (b"LISTGROUP g 2-4", b"211 3 1 5 g\r\n4\r\n2\r\n.\r\n", false),
         (b"LISTGROUP g 2-4", b"211 3 1 5 g\r\n5\r\n.\r\n", false),
@@ -78,25 +78,25 @@ fn lists_ascend_and_name_no_group_twice(rt: HostRuntime) -> Result<(), Fail> {
             false,
         ),
     ];
-    state_after(&rt, rows)?;
+    state_after(&rt, ROWS)?;
     Ok(())
 }
 
 #[test]
 fn numbers_have_31_bits(rt: HostRuntime) -> Result<(), Fail> {
-    let rows: &[Row] = &[
+    const ROWS: &[Row] = &[
         (b"GROUP g", b"211 1 1 2147483648 g\r\n", false),
         (b"GROUP g", b"211 1 1 2147483647 g\r\n", true),
         (b"STAT", b"223 2147483648 <a@b>\r\n", false),
         (b"STAT", b"223 2147483647 <a@b>\r\n", true),
     ];
-    state_after(&rt, rows)?;
+    state_after(&rt, ROWS)?;
     Ok(())
 }
 
 #[test]
 fn numbers_have_16_digits(rt: HostRuntime) -> Result<(), Fail> {
-    let rows: &[Row] = &[
+    const ROWS: &[Row] = &[
         (b"GROUP g", b"211 1 1 9999999999999999 g\r\n", true),
         (b"STAT", b"223 0 <a@b>\r\n", false),
         (b"STAT", b"223 2147483648 <a@b>\r\n", true),
@@ -107,7 +107,7 @@ fn numbers_have_16_digits(rt: HostRuntime) -> Result<(), Fail> {
             true,
         ),
     ];
-    state_within(&rt, Limit::Wide, rows)?;
+    state_within(&rt, Limit::Wide, ROWS)?;
     Ok(())
 }
 
@@ -123,8 +123,8 @@ fn article_numbers_are_from_1_to_the_limit(rt: HostRuntime) {
 
 #[test]
 fn the_connection_is_closed(rt: HostRuntime) -> Result<(), Fail> {
-    let rows: &[Row] = &[(b"", b"200 hi\r\n", true), (b"QUIT", b"205 bye\r\n", true)];
-    let visible = state_after(&rt, rows)?;
+    const ROWS: &[Row] = &[(b"", b"200 hi\r\n", true), (b"QUIT", b"205 bye\r\n", true)];
+    let visible = state_after(&rt, ROWS)?;
     assert!(rt; visible.is_closed());
     assert!(rt; visible.selected().is_none());
     Ok(())

@@ -80,7 +80,7 @@ fn ends_alike(rt: &impl Abort, found: Ending, want: Step<'_>) {
 
 #[test]
 fn sessions_in_pieces(rt: HostRuntime) {
-    let sessions: &[Session<'_>] = &[
+    const SESSIONS: &[Session<'static>] = &[
         (b"", b""),
         (b"QUIT\r\nSTAT", b"200 hi\r\n205 bye\r\n"),
         (b"GROUP g\r\nNEXT\r\nQUIT\r\n", b"200 hi\r\n"),
@@ -106,7 +106,7 @@ fn sessions_in_pieces(rt: HostRuntime) {
         ),
         (b"GROUP g", b"200 hi\r\n411"),
     ];
-    for &streams in sessions {
+    for &streams in SESSIONS {
         for step in 1..6 {
             for order in [Order::Client, Order::Server, Order::Both] {
                 is_alike(&rt, rt.alloc(), streams, order, step);

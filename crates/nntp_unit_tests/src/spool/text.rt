@@ -74,264 +74,240 @@ fn wide_texts_are_read_and_written_again(rt: HostRuntime) -> Result<(), Fail> {
 
 #[test]
 fn lines_of_another_form(rt: HostRuntime) {
-    have_another_form(
-        &rt,
-        rt.alloc(),
-        &[
-            ("", 1),
-            ("spool 1", 1),
-            ("spool 3\nend\n", 1),
-            ("spool 0\nend\n", 1),
-            ("spool 1\n", 2),
-            ("spool 1\nend", 2),
-            ("spool 1\r\nend\r\n", 1),
-            ("spool 1\nend\r\n", 2),
-            ("spool 1\ngroup g 0\r\nend\n", 2),
-            ("spool 1\nend\nend\n", 3),
-            ("spool 1\nend\nx", 3),
-            ("spool 1\ngroup g 1\n01 <a@b>\nend\n", 3),
-            ("spool 1\ngroup g 1\n1  <a@b>\nend\n", 3),
-            ("spool 1\ngroup  0\nend\n", 2),
-            ("spool 1\ngroup g 00\nend\n", 2),
-        ],
-    );
+    const ROWS: &[(&str, u64)] = &[
+        ("", 1),
+        ("spool 1", 1),
+        ("spool 3\nend\n", 1),
+        ("spool 0\nend\n", 1),
+        ("spool 1\n", 2),
+        ("spool 1\nend", 2),
+        ("spool 1\r\nend\r\n", 1),
+        ("spool 1\nend\r\n", 2),
+        ("spool 1\ngroup g 0\r\nend\n", 2),
+        ("spool 1\nend\nend\n", 3),
+        ("spool 1\nend\nx", 3),
+        ("spool 1\ngroup g 1\n01 <a@b>\nend\n", 3),
+        ("spool 1\ngroup g 1\n1  <a@b>\nend\n", 3),
+        ("spool 1\ngroup  0\nend\n", 2),
+        ("spool 1\ngroup g 00\nend\n", 2),
+    ];
+    have_another_form(&rt, rt.alloc(), ROWS);
 }
 
 #[test]
 fn limits_of_another_form(rt: HostRuntime) {
-    have_another_form(
-        &rt,
-        rt.alloc(),
-        &[
-            ("spool 2", 1),
-            ("spool 2\n", 2),
-            ("spool 2\nend\n", 2),
-            ("spool 2\nlimit 2147483647\nend\n", 2),
-            ("spool 2\nlimit 9999999999999999", 2),
-            ("spool 2\nlimit 9999999999999999\r\nend\n", 2),
-            ("spool 2\nlimit 09999999999999999\nend\n", 2),
-            ("spool 2\nlimit 99999999999999999\nend\n", 2),
-            ("spool 2\n\nlimit 9999999999999999\nend\n", 2),
-            ("spool 2\nlimit 9999999999999999\n", 3),
-            (
-                "spool 2\nlimit 9999999999999999\nlimit 9999999999999999\nend\n",
-                3,
-            ),
-            ("spool 1\nlimit 2147483647\nend\n", 2),
-            ("spool 1\nlimit 9999999999999999\nend\n", 2),
-            ("limit 9999999999999999\nend\n", 1),
-        ],
-    );
+    const ROWS: &[(&str, u64)] = &[
+        ("spool 2", 1),
+        ("spool 2\n", 2),
+        ("spool 2\nend\n", 2),
+        ("spool 2\nlimit 2147483647\nend\n", 2),
+        ("spool 2\nlimit 9999999999999999", 2),
+        ("spool 2\nlimit 9999999999999999\r\nend\n", 2),
+        ("spool 2\nlimit 09999999999999999\nend\n", 2),
+        ("spool 2\nlimit 99999999999999999\nend\n", 2),
+        ("spool 2\n\nlimit 9999999999999999\nend\n", 2),
+        ("spool 2\nlimit 9999999999999999\n", 3),
+        (
+            "spool 2\nlimit 9999999999999999\nlimit 9999999999999999\nend\n",
+            3,
+        ),
+        ("spool 1\nlimit 2147483647\nend\n", 2),
+        ("spool 1\nlimit 9999999999999999\nend\n", 2),
+        ("limit 9999999999999999\nend\n", 1),
+    ];
+    have_another_form(&rt, rt.alloc(), ROWS);
 }
 
 #[test]
 fn numbers_of_wide_spools(rt: HostRuntime) {
-    are_refused(
-        &rt,
-        rt.alloc(),
-        &[
-            (
-                "above",
-                b"spool 2\nlimit 9999999999999999\ngroup g 1\n10000000000000000 <a@b>\n",
-                4,
-                Kind::Number,
-            ),
-            (
-                "zero",
-                b"spool 2\nlimit 9999999999999999\ngroup g 1\n0 <a@b>\n",
-                4,
-                Kind::Number,
-            ),
-            (
-                "long",
-                b"spool 2\nlimit 9999999999999999\ngroup g 1\n99999999999999999999999 <a@b>\n",
-                4,
-                Kind::Number,
-            ),
-            (
-                "unknown",
-                b"spool 2\nlimit 9999999999999999\ngroup g 1\n9999999999999999 <a@b>\nend\n",
-                5,
-                Kind::UnknownId,
-            ),
-        ],
-    );
+    const ROWS: &[(&str, &[u8], u64, Kind)] = &[
+        (
+            "above",
+            b"spool 2\nlimit 9999999999999999\ngroup g 1\n10000000000000000 <a@b>\n",
+            4,
+            Kind::Number,
+        ),
+        (
+            "zero",
+            b"spool 2\nlimit 9999999999999999\ngroup g 1\n0 <a@b>\n",
+            4,
+            Kind::Number,
+        ),
+        (
+            "long",
+            b"spool 2\nlimit 9999999999999999\ngroup g 1\n99999999999999999999999 <a@b>\n",
+            4,
+            Kind::Number,
+        ),
+        (
+            "unknown",
+            b"spool 2\nlimit 9999999999999999\ngroup g 1\n9999999999999999 <a@b>\nend\n",
+            5,
+            Kind::UnknownId,
+        ),
+    ];
+    are_refused(&rt, rt.alloc(), ROWS);
 }
 
 #[test]
 fn counts_that_the_text_does_not_hold(rt: HostRuntime) {
-    are_refused(
-        &rt,
-        rt.alloc(),
-        &[
-            (
-                "text",
-                b"spool 1\ngroup g 9223372036854775808\nend\n",
-                3,
-                Kind::Shape,
-            ),
-            (
-                "most",
-                b"spool 1\ngroup g 18446744073709551615\n1 <a@b>\nend\n",
-                4,
-                Kind::Shape,
-            ),
-            (
-                "more",
-                b"spool 1\ngroup g 18446744073709551616\nend\n",
-                2,
-                Kind::Shape,
-            ),
-            (
-                "digits",
-                b"spool 1\ngroup g 99999999999999999999\nend\n",
-                2,
-                Kind::Shape,
-            ),
-            (
-                "heads",
-                b"spool 1\narticle <a@b> 18446744073709551615 0\n|A: b\nend\n",
-                4,
-                Kind::Shape,
-            ),
-        ],
-    );
+    const ROWS: &[(&str, &[u8], u64, Kind)] = &[
+        (
+            "text",
+            b"spool 1\ngroup g 9223372036854775808\nend\n",
+            3,
+            Kind::Shape,
+        ),
+        (
+            "most",
+            b"spool 1\ngroup g 18446744073709551615\n1 <a@b>\nend\n",
+            4,
+            Kind::Shape,
+        ),
+        (
+            "more",
+            b"spool 1\ngroup g 18446744073709551616\nend\n",
+            2,
+            Kind::Shape,
+        ),
+        (
+            "digits",
+            b"spool 1\ngroup g 99999999999999999999\nend\n",
+            2,
+            Kind::Shape,
+        ),
+        (
+            "heads",
+            b"spool 1\narticle <a@b> 18446744073709551615 0\n|A: b\nend\n",
+            4,
+            Kind::Shape,
+        ),
+    ];
+    are_refused(&rt, rt.alloc(), ROWS);
 }
 
 #[test]
 fn lines_of_articles(rt: HostRuntime) {
-    are_refused(
-        &rt,
-        rt.alloc(),
-        &[
-            (
-                "nul",
-                b"spool 1\narticle <a@b> 1 1\n|Subject: s\n|a\0b\nend\n",
-                4,
-                Kind::Shape,
-            ),
-            (
-                "cr",
-                b"spool 1\narticle <a@b> 1 1\n|Subject: s\n|a\r\nend\n",
-                4,
-                Kind::Shape,
-            ),
-            (
-                "bare",
-                b"spool 1\narticle <a@b> 1 0\nSubject: s\nend\n",
-                3,
-                Kind::Shape,
-            ),
-            (
-                "behind",
-                b"spool 1\narticle <a@b> 1 0\n|Subject: s\ngroup g 0\nend\n",
-                4,
-                Kind::Shape,
-            ),
-        ],
-    );
+    const ROWS: &[(&str, &[u8], u64, Kind)] = &[
+        (
+            "nul",
+            b"spool 1\narticle <a@b> 1 1\n|Subject: s\n|a\0b\nend\n",
+            4,
+            Kind::Shape,
+        ),
+        (
+            "cr",
+            b"spool 1\narticle <a@b> 1 1\n|Subject: s\n|a\r\nend\n",
+            4,
+            Kind::Shape,
+        ),
+        (
+            "bare",
+            b"spool 1\narticle <a@b> 1 0\nSubject: s\nend\n",
+            3,
+            Kind::Shape,
+        ),
+        (
+            "behind",
+            b"spool 1\narticle <a@b> 1 0\n|Subject: s\ngroup g 0\nend\n",
+            4,
+            Kind::Shape,
+        ),
+    ];
+    are_refused(&rt, rt.alloc(), ROWS);
 }
 
 #[test]
 fn names_numbers_and_ids(rt: HostRuntime) {
-    are_refused(
-        &rt,
-        rt.alloc(),
-        &[
-            ("name", b"spool 1\ngroup a,b 0\nend\n", 2, Kind::Name),
-            ("nul", b"spool 1\ngroup g\0h 0\nend\n", 2, Kind::Name),
-            ("zero", b"spool 1\ngroup g 1\n0 <a@b>\n", 3, Kind::Number),
-            (
-                "above",
-                b"spool 1\ngroup g 1\n2147483648 <a@b>\n",
-                3,
-                Kind::Number,
-            ),
-            (
-                "long",
-                b"spool 1\ngroup g 1\n99999999999999999999999 <a@b>\n",
-                3,
-                Kind::Number,
-            ),
-            ("id", b"spool 1\ngroup g 1\n1 a\n", 3, Kind::Id),
-            (
-                "with carriage return",
-                b"spool 1\ngroup g 1\n1 <a@b>\r\nend\n",
-                3,
-                Kind::Id,
-            ),
-            ("both", b"spool 1\ngroup g 1\n0 a\n", 3, Kind::Number),
-            ("of article", b"spool 1\narticle a 0 0\nend\n", 2, Kind::Id),
-        ],
-    );
+    const ROWS: &[(&str, &[u8], u64, Kind)] = &[
+        ("name", b"spool 1\ngroup a,b 0\nend\n", 2, Kind::Name),
+        ("nul", b"spool 1\ngroup g\0h 0\nend\n", 2, Kind::Name),
+        ("zero", b"spool 1\ngroup g 1\n0 <a@b>\n", 3, Kind::Number),
+        (
+            "above",
+            b"spool 1\ngroup g 1\n2147483648 <a@b>\n",
+            3,
+            Kind::Number,
+        ),
+        (
+            "long",
+            b"spool 1\ngroup g 1\n99999999999999999999999 <a@b>\n",
+            3,
+            Kind::Number,
+        ),
+        ("id", b"spool 1\ngroup g 1\n1 a\n", 3, Kind::Id),
+        (
+            "with carriage return",
+            b"spool 1\ngroup g 1\n1 <a@b>\r\nend\n",
+            3,
+            Kind::Id,
+        ),
+        ("both", b"spool 1\ngroup g 1\n0 a\n", 3, Kind::Number),
+        ("of article", b"spool 1\narticle a 0 0\nend\n", 2, Kind::Id),
+    ];
+    are_refused(&rt, rt.alloc(), ROWS);
 }
 
 #[test]
 fn the_order_of_lists(rt: HostRuntime) {
-    are_refused(
-        &rt,
-        rt.alloc(),
-        &[
-            (
-                "groups",
-                b"spool 1\ngroup h 0\ngroup g 0\nend\n",
-                3,
-                Kind::Order,
-            ),
-            (
-                "twice",
-                b"spool 1\ngroup g 0\ngroup g 0\nend\n",
-                3,
-                Kind::Order,
-            ),
-            (
-                "numbers",
-                b"spool 1\ngroup g 2\n2 <a@b>\n1 <c@d>\nend\n",
-                4,
-                Kind::Order,
-            ),
-            (
-                "same number",
-                b"spool 1\ngroup g 2\n1 <a@b>\n1 <a@b>\nend\n",
-                4,
-                Kind::Order,
-            ),
-            (
-                "articles",
-                b"spool 1\narticle <a@b> 1 0\n|A: b\narticle <a@b> 1 0\n|A: b\nend\n",
-                4,
-                Kind::Order,
-            ),
-            (
-                "prefix",
-                b"spool 1\ngroup ga 0\ngroup g 0\nend\n",
-                3,
-                Kind::Order,
-            ),
-        ],
-    );
+    const ROWS: &[(&str, &[u8], u64, Kind)] = &[
+        (
+            "groups",
+            b"spool 1\ngroup h 0\ngroup g 0\nend\n",
+            3,
+            Kind::Order,
+        ),
+        (
+            "twice",
+            b"spool 1\ngroup g 0\ngroup g 0\nend\n",
+            3,
+            Kind::Order,
+        ),
+        (
+            "numbers",
+            b"spool 1\ngroup g 2\n2 <a@b>\n1 <c@d>\nend\n",
+            4,
+            Kind::Order,
+        ),
+        (
+            "same number",
+            b"spool 1\ngroup g 2\n1 <a@b>\n1 <a@b>\nend\n",
+            4,
+            Kind::Order,
+        ),
+        (
+            "articles",
+            b"spool 1\narticle <a@b> 1 0\n|A: b\narticle <a@b> 1 0\n|A: b\nend\n",
+            4,
+            Kind::Order,
+        ),
+        (
+            "prefix",
+            b"spool 1\ngroup ga 0\ngroup g 0\nend\n",
+            3,
+            Kind::Order,
+        ),
+    ];
+    are_refused(&rt, rt.alloc(), ROWS);
 }
 
 #[test]
 fn ids_and_their_articles(rt: HostRuntime) {
-    are_refused(
-        &rt,
-        rt.alloc(),
-        &[
-            (
-                "twice",
-                b"spool 1\ngroup g 2\n1 <a@b>\n2 <a@b>\n",
-                4,
-                Kind::DuplicateId,
-            ),
-            (
-                "unknown",
-                b"spool 1\ngroup g 1\n1 <a@b>\nend\n",
-                4,
-                Kind::UnknownId,
-            ),
-        ],
-    );
+    const ROWS: &[(&str, &[u8], u64, Kind)] = &[
+        (
+            "twice",
+            b"spool 1\ngroup g 2\n1 <a@b>\n2 <a@b>\n",
+            4,
+            Kind::DuplicateId,
+        ),
+        (
+            "unknown",
+            b"spool 1\ngroup g 1\n1 <a@b>\nend\n",
+            4,
+            Kind::UnknownId,
+        ),
+    ];
+    are_refused(&rt, rt.alloc(), ROWS);
     let two_groups =
         b"spool 1\ngroup g 1\n1 <a@b>\ngroup h 1\n1 <a@b>\narticle <a@b> 1 0\n|A: b\nend\n";
     assert!(rt; fault_of(rt.alloc(), two_groups).is_none());
@@ -339,23 +315,20 @@ fn ids_and_their_articles(rt: HostRuntime) {
 
 #[test]
 fn heads_of_articles(rt: HostRuntime) {
-    are_refused(
-        &rt,
-        rt.alloc(),
-        &[
-            ("none", b"spool 1\narticle <a@b> 0 0\nend\n", 2, Kind::Head),
-            (
-                "other",
-                b"spool 1\narticle <a@b> 1 1\n|Message-ID: <c@d>\n|x\nend\n",
-                2,
-                Kind::Head,
-            ),
-            (
-                "later",
-                b"spool 1\narticle <a@b> 0 1\nx\nend\n",
-                3,
-                Kind::Shape,
-            ),
-        ],
-    );
+    const ROWS: &[(&str, &[u8], u64, Kind)] = &[
+        ("none", b"spool 1\narticle <a@b> 0 0\nend\n", 2, Kind::Head),
+        (
+            "other",
+            b"spool 1\narticle <a@b> 1 1\n|Message-ID: <c@d>\n|x\nend\n",
+            2,
+            Kind::Head,
+        ),
+        (
+            "later",
+            b"spool 1\narticle <a@b> 0 1\nx\nend\n",
+            3,
+            Kind::Shape,
+        ),
+    ];
+    are_refused(&rt, rt.alloc(), ROWS);
 }

@@ -75,7 +75,7 @@ fn malformed_blocks(rt: HostRuntime) {
 
 #[test]
 fn versions(rt: HostRuntime) {
-    let rows: &[(&[u8], bool)] = &[
+    const ROWS: &[(&[u8], bool)] = &[
         (b"101\r\nVERSION 2\r\n.\r\n", true),
         (b"101\r\nVersion 2 10\r\nREADER\r\n.\r\n", true),
         (b"101\r\nVERSION 02\r\n.\r\n", false),
@@ -85,7 +85,7 @@ fn versions(rt: HostRuntime) {
         (b"101\r\nVERSION 2a\r\n.\r\n", false),
         (b"101\r\nREADER\r\nVERSION 2\r\n.\r\n", false),
     ];
-    for &(stream, want) in rows {
+    for &(stream, want) in ROWS {
         assert!(rt;
             (plain_code(b"CAPABILITIES", stream) == Some(101)) == want,
             "{stream:?}"

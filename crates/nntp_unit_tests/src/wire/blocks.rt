@@ -39,13 +39,13 @@ fn blocks_that_are_owned(rt: HostRuntime) -> Result<(), Fail> {
     let lent = owned.as_block();
     has_lines(&rt, &lent, &[Some(b"."), Some(b"x"), Some(b""), None]);
     assert!(rt; sent.is_same(&lent));
-    let others: &[&[u8]] = &[
+    const OTHERS: &[&[u8]] = &[
         b"222 0 <a@b>\r\n..\r\nxy\r\n\r\n.\r\n",
         b"222 0 <a@b>\r\n..\r\nx\r\n.\r\n",
         b"222 0 <a@b>\r\n..\r\nx\r\n\r\n\r\n.\r\n",
         b"222 0 <a@b>\r\n.\r\n",
     ];
-    for &answer in others {
+    for &answer in OTHERS {
         let Some(other) = block(answer) else {
             return Err("no block".into());
         };
@@ -109,7 +109,7 @@ fn are_malformed(
 
 #[test]
 fn octets_at_each_place_of_a_block(rt: HostRuntime) -> Result<(), AllocError> {
-    let rows: &[(&[u8], bool)] = &[
+    const ROWS: &[(&[u8], bool)] = &[
         (b"\0", true),
         (b"\r", true),
         (b"\n", true),
@@ -122,7 +122,7 @@ fn octets_at_each_place_of_a_block(rt: HostRuntime) -> Result<(), AllocError> {
         (b"\r\n\r\n", false),
         (b"a.", false),
     ];
-    for &(octets, want) in rows {
+    for &(octets, want) in ROWS {
         are_malformed(&rt, rt.alloc(), octets, want)?;
     }
     Ok(())
@@ -130,7 +130,7 @@ fn octets_at_each_place_of_a_block(rt: HostRuntime) -> Result<(), AllocError> {
 
 #[test]
 fn octets_at_the_end_of_a_block(rt: HostRuntime) -> Result<(), AllocError> {
-    let rows: &[(&[u8], bool)] = &[
+    const ROWS: &[(&[u8], bool)] = &[
         (b"\0", true),
         (b"\r", true),
         (b"\n", true),
@@ -138,7 +138,7 @@ fn octets_at_the_end_of_a_block(rt: HostRuntime) -> Result<(), AllocError> {
         (b"\r\n..", false),
         (b"\r\n", false),
     ];
-    for &(octets, want) in rows {
+    for &(octets, want) in ROWS {
         for front in 0..67usize {
             let stream = help_with(rt.alloc(), front, octets, 0)?;
             assert!(rt;
@@ -152,7 +152,7 @@ fn octets_at_the_end_of_a_block(rt: HostRuntime) -> Result<(), AllocError> {
 
 #[test]
 fn listed_numbers(rt: HostRuntime) {
-    let rows: &[(&[u8], Option<u64>)] = &[
+    const ROWS: &[(&[u8], Option<u64>)] = &[
         (b"007", Some(7)),
         (b" 7\t", Some(7)),
         (b"0000000000000007", Some(7)),
@@ -160,7 +160,7 @@ fn listed_numbers(rt: HostRuntime) {
         (b"7 a", None),
         (b"", None),
     ];
-    for &(line, want) in rows {
+    for &(line, want) in ROWS {
         assert!(rt; listed_number(line) == want, "{line:?}");
     }
 }
@@ -176,8 +176,8 @@ fn active_lines(rt: HostRuntime) {
         }
         None => assert!(rt; false),
     }
-    let rows: &[&[u8]] = &[b"", b"g 5 1", b"g 5 1 y z", b"a,b 5 1 y", b"g 5 x y"];
-    for &line in rows {
+    const ROWS: &[&[u8]] = &[b"", b"g 5 1", b"g 5 1 y z", b"a,b 5 1 y", b"g 5 x y"];
+    for &line in ROWS {
         assert!(rt; active_line(line).is_none(), "{line:?}");
     }
 }

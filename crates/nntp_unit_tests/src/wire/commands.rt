@@ -14,7 +14,7 @@ fn all_ill_formed(rt: &impl Abort, lines: &[&[u8]]) {
 
 #[test]
 fn opaque_lines(rt: HostRuntime) {
-    let rows: &[&[u8]] = &[
+    const ROWS: &[&[u8]] = &[
         b"MODE STREAM",
         b"MODE STREAM x",
         b"MODE",
@@ -24,38 +24,36 @@ fn opaque_lines(rt: HostRuntime) {
         b"XOVER 1-5",
         b"abc",
     ];
-    for &line in rows {
+    for &line in ROWS {
         assert!(rt; matches!(Command::parse(line), Command::Opaque), "{line:?}");
     }
 }
 
 #[test]
 fn ill_formed_lines(rt: HostRuntime) {
-    all_ill_formed(
-        &rt,
-        &[
-            b"",
-            b" ",
-            b"ab",
-            b"1ab",
-            b"GR_UP g",
-            b"GROUP a\rb",
-            b"GROUP a\nb",
-            b"GROUP a\0b",
-            b"XOVER a\0b",
-            b"GROUP",
-            b"GROUP a b",
-            b"QUIT now",
-            b"NEXT 1",
-            b"LAST 1",
-            b"STAT 1x",
-            b"STAT 1 2",
-            b"MODE READER x",
-            b"LIST ACTIVE a b",
-            b"LISTGROUP g 1 2",
-            b"CAPABILITIES a b",
-        ],
-    );
+    const ROWS: &[&[u8]] = &[
+        b"",
+        b" ",
+        b"ab",
+        b"1ab",
+        b"GR_UP g",
+        b"GROUP a\rb",
+        b"GROUP a\nb",
+        b"GROUP a\0b",
+        b"XOVER a\0b",
+        b"GROUP",
+        b"GROUP a b",
+        b"QUIT now",
+        b"NEXT 1",
+        b"LAST 1",
+        b"STAT 1x",
+        b"STAT 1 2",
+        b"MODE READER x",
+        b"LIST ACTIVE a b",
+        b"LISTGROUP g 1 2",
+        b"CAPABILITIES a b",
+    ];
+    all_ill_formed(&rt, ROWS);
 }
 
 #[test]
@@ -91,7 +89,7 @@ fn listed(line: &[u8]) -> Option<(Option<&[u8]>, Range)> {
 
 #[test]
 fn ranges(rt: HostRuntime) {
-    let rows: &[(&[u8], u64, Option<u64>)] = &[
+    const ROWS: &[(&[u8], u64, Option<u64>)] = &[
         (b"LISTGROUP", 1, None),
         (b"LISTGROUP g", 1, None),
         (b"listgroup g 05-", 5, None),
@@ -104,7 +102,7 @@ fn ranges(rt: HostRuntime) {
             Some(1_234_567_890_123_456),
         ),
     ];
-    for &(line, first, last) in rows {
+    for &(line, first, last) in ROWS {
         match listed(line) {
             Some((group, range)) => {
                 assert!(rt; range.first == first, "{line:?}");
@@ -118,18 +116,16 @@ fn ranges(rt: HostRuntime) {
 
 #[test]
 fn no_ranges(rt: HostRuntime) {
-    all_ill_formed(
-        &rt,
-        &[
-            b"LISTGROUP g 12345678901234567",
-            b"LISTGROUP g 1-12345678901234567",
-            b"LISTGROUP g -1",
-            b"LISTGROUP g -",
-            b"LISTGROUP g 1-2-3",
-            b"LISTGROUP g 1,2",
-            b"LISTGROUP g x",
-        ],
-    );
+    const ROWS: &[&[u8]] = &[
+        b"LISTGROUP g 12345678901234567",
+        b"LISTGROUP g 1-12345678901234567",
+        b"LISTGROUP g -1",
+        b"LISTGROUP g -",
+        b"LISTGROUP g 1-2-3",
+        b"LISTGROUP g 1,2",
+        b"LISTGROUP g x",
+    ];
+    all_ill_formed(&rt, ROWS);
 }
 
 /// What a line asks for of which article.

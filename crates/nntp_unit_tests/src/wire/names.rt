@@ -3,7 +3,7 @@ use nntp_wire::{GroupName, MessageId};
 
 #[test]
 fn message_ids(rt: HostRuntime) {
-    let rows: &[(&[u8], bool)] = &[
+    const ROWS: &[(&[u8], bool)] = &[
         (b"<a>", true),
         (b"<<>", true),
         (b"<>", false),
@@ -13,7 +13,7 @@ fn message_ids(rt: HostRuntime) {
         (b"a>", false),
         (b"<a", false),
     ];
-    for &(bytes, want) in rows {
+    for &(bytes, want) in ROWS {
         assert!(rt; MessageId::parse(bytes).is_some() == want, "{bytes:?}");
     }
 }

@@ -61,7 +61,7 @@ fn is_same(rt: &impl Abort, count: usize, found: Option<Frame<'_>>, want: Option
 
 #[test]
 fn lines_in_pieces(rt: HostRuntime) {
-    let streams: &[&[u8]] = &[
+    const STREAMS: &[&[u8]] = &[
         b"QUIT\r\nSTAT",
         b"\r\nGROUP g\r\n",
         b"a\r\r\nb",
@@ -69,14 +69,14 @@ fn lines_in_pieces(rt: HostRuntime) {
         b"STAT\r",
         b"",
     ];
-    for &stream in streams {
+    for &stream in STREAMS {
         line_is_found(&rt, stream);
     }
 }
 
 #[test]
 fn frames_in_pieces(rt: HostRuntime) {
-    let rows: &[(&[u8], &[u8])] = &[
+    const ROWS: &[(&[u8], &[u8])] = &[
         (b"HELP", b"100\r\n.\r\nmore"),
         (b"HELP", b"100\r\na\r\n.\r\n.\r\n"),
         (b"HELP", b"100 help\r\n..\r\n.\n.\r\n\r\n.\r\n"),
@@ -86,7 +86,7 @@ fn frames_in_pieces(rt: HostRuntime) {
         (b"LISTGROUP g", b"411 no\r\n.\r\n"),
         (b"ARTICLE <a@b>", b"220 0 <a@b>\r\nSubject: one\r\n\r\n.\r"),
     ];
-    for &(line, stream) in rows {
+    for &(line, stream) in ROWS {
         frame_is_found(&rt, line, stream);
         for count in 0..stream.len() + 1 {
             frame_is_found_in_two(&rt, line, stream, count);
@@ -96,7 +96,7 @@ fn frames_in_pieces(rt: HostRuntime) {
 
 #[test]
 fn kinds_of_prompts(rt: HostRuntime) {
-    let rows: &[(&[u8], PromptKind)] = &[
+    const ROWS: &[(&[u8], PromptKind)] = &[
         (b"LISTGROUP", PromptKind::ListGroup),
         (b"listgroup g 1-", PromptKind::ListGroup),
         (b"MODE READER", PromptKind::ModeReader),
@@ -104,7 +104,7 @@ fn kinds_of_prompts(rt: HostRuntime) {
         (b"QUIT", PromptKind::Quit),
         (b"GROUP g", PromptKind::Other),
     ];
-    for &(line, want) in rows {
+    for &(line, want) in ROWS {
         assert!(rt; Prompt::To(Command::parse(line)).kind() == want, "{line:?}");
     }
     assert!(rt; Prompt::Greeting.kind() == PromptKind::Greeting);
@@ -112,7 +112,7 @@ fn kinds_of_prompts(rt: HostRuntime) {
 
 #[test]
 fn frames_that_close(rt: HostRuntime) {
-    let rows: &[(&[u8], &[u8], bool)] = &[
+    const ROWS: &[(&[u8], &[u8], bool)] = &[
         (b"QUIT", b"205 bye\r\n", true),
         (b"GROUP g", b"205 bye\r\n", false),
         (b"GROUP g", b"400 bye\r\n", true),
@@ -120,7 +120,7 @@ fn frames_that_close(rt: HostRuntime) {
         (b"HELP", b"502 no\r\n", false),
         (b"HELP", b"100 help\r\n.\r\n", false),
     ];
-    for &(line, stream, want) in rows {
+    for &(line, stream, want) in ROWS {
         let prompt = Prompt::To(Command::parse(line));
         let Some(frame) = frame(&prompt, stream) else {
             panic!(rt; "no frame");

@@ -3,7 +3,7 @@ use nntp_wire::{Answer, Command, Prompt, split_first_line};
 
 #[test]
 fn first_lines(rt: HostRuntime) {
-    let rows: &[(&[u8], Option<(&[u8], &[u8])>)] = &[
+    const ROWS: &[(&[u8], Option<(&[u8], &[u8])>)] = &[
         (b"QUIT\r\nSTAT", Some((b"QUIT", b"STAT"))),
         (b"\r\nGROUP g\r\n", Some((b"", b"GROUP g\r\n"))),
         (b"a\r\r\nb", Some((b"a\r", b"b"))),
@@ -11,14 +11,14 @@ fn first_lines(rt: HostRuntime) {
         (b"STAT\r", None),
         (b"", None),
     ];
-    for &(stream, want) in rows {
+    for &(stream, want) in ROWS {
         assert!(rt; split_first_line(stream) == want, "{stream:?}");
     }
 }
 
 #[test]
 fn closing_answers(rt: HostRuntime) {
-    let rows: &[(&[u8], u64, bool)] = &[
+    const ROWS: &[(&[u8], u64, bool)] = &[
         (b"GROUP g", 400, true),
         (b"QUIT", 400, true),
         (b"QUIT", 205, true),
@@ -29,7 +29,7 @@ fn closing_answers(rt: HostRuntime) {
         (b"MODE STREAM", 502, false),
         (b"GROUP g", 502, false),
     ];
-    for &(line, code, want) in rows {
+    for &(line, code, want) in ROWS {
         let prompt = Prompt::To(Command::parse(line));
         assert!(rt; Answer::Plain { code }.closes(&prompt) == want, "{line:?}");
     }

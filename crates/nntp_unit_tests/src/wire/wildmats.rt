@@ -31,7 +31,7 @@ fn matched_names(rt: HostRuntime) {
 
 #[test]
 fn no_wildmats(rt: HostRuntime) {
-    let rows: &[&[u8]] = &[
+    const ROWS: &[&[u8]] = &[
         b"!g",
         b"a,,b",
         b"a[b",
@@ -42,7 +42,7 @@ fn no_wildmats(rt: HostRuntime) {
         b"a\\b",
         b"\xED\xA0\x80",
     ];
-    for &wildmat in rows {
+    for &wildmat in ROWS {
         assert!(rt; Wildmat::parse(wildmat).is_none(), "{wildmat:?}");
     }
 }
