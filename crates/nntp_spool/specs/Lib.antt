@@ -9,6 +9,7 @@ pub mod Reading
 pub mod ReadingView
 pub mod Ascending
 pub mod Content
+pub mod ContentView
 pub mod Numbers
 pub mod Counts
 pub mod Faults

@@ -1,12 +1,12 @@
 -- The first lines of a block, and those behind them.
-use Rattle.std.proofs.Common.{◌≡◌, ℕ, zero, suc, ◌+◌, ◌-◌, ◌≤◌, List, [], ◌∷◌, ◌++◌, length, take, drop, refl, sym, ◌∙◌, ap, subst, arith, append_assoc, append-nil, length-append}
+use Rattle.std.proofs.Common.{◌≡◌, ℕ, zero, suc, ◌+◌, ◌-◌, ◌≤◌, List, [], ◌∷◌, ◌++◌, length, take, drop, refl, sym, ◌∙◌, ap, subst, arith, append_assoc, append-nil, length-append, IsTrue}
 use Rattle.std.proofs.lemmas.List.{take_at, drop_at, take_all, drop_all}
-use Rattle.nntp_wire.specs.Octets.{crlf}
+use Rattle.nntp_wire.specs.Octets.{crlf, is_clean}
 use Rattle.nntp_wire.specs.Lines.{HasNoCrlf}
 use Rattle.nntp_wire.specs.Block.{stuffed, sent, received, AreClean, Sends, IsSent}
 use Rattle.nntp_wire.proofs.FrameLemmas.{one_line, occurs-behind}
 use Rattle.nntp_wire.proofs.SpellLemmas.{stuffed-line}
-use Rattle.nntp_wire.proofs.BlockLemmas.{received-sent}
+use Rattle.nntp_wire.proofs.BlockLemmas.{received-sent, sends-received}
 
 clean-append : (xs ys : List (List ℕ)) → AreClean xs → AreClean ys → AreClean (xs ++ ys)
 clean-append [] ys a b = b
@@ -108,3 +108,12 @@ received-of bytes lines s = ap received s.whole ∙ received-sent lines s.clean
 pub length-lines : (lines : List (List ℕ)) → length lines ≤ length (sent lines)
 length-lines [] = omega arith
 length-lines (l ∷ ls) = omega (arith, length-lines ls, length-append (stuffed l ++ crlf) (sent ls), length-append (stuffed l) crlf)
+
+-- octets that send lines, and those of one line more
+pub sends-snoc : (bytes more line : List ℕ) → IsSent bytes → IsTrue (is_clean line) → more ≡ bytes ++ (stuffed line ++ crlf) → Sends more (received bytes ++ line ∷ [])
+sends-snoc bytes more line is_sent clean is =
+    let sends = sends-received bytes is_sent in
+    record {
+      clean = clean-append (received bytes) (line ∷ []) sends.clean (clean, tt);
+      whole = is ∙ ap (λ t. t ++ (stuffed line ++ crlf)) sends.whole ∙ ap (λ t. sent (received bytes) ++ t) (sym (append-nil (stuffed line ++ crlf))) ∙ sym (sent-append (received bytes) (line ∷ []));
+    }

@@ -1,5 +1,7 @@
 //! Blocks that own their octets.
-ghost use Rattle.std.specs.Prelude.{◌≡◌, ◌↔◌, IsTrue, IfOk};
+ghost use Rattle.std.specs.Prelude.{◌≡◌, ◌<◌, ◌^◌, ◌↔◌, ◌++◌, ◌∷◌, [], List, ℕ, length, IsTrue, IfOk, OnOk, OnErr};
+ghost use Rattle.nntp_wire.specs.Octets.{crlf, is_clean};
+ghost use Rattle.nntp_wire.specs.Block.{AreClean, stuffed};
 
 use crate::block::Block;
 use std::alloc::{AllocError, Allocator, Global};
@@ -27,12 +29,57 @@ impl<A: Allocator> Model for OwnedBlock<A> {
 impl<A: Allocator> OwnedBlock<A> {
     /// Lends the block. It copies no octet.
     pub fn as_block(&self) -> Block<'_>
-        ensures { result ≡ self.now }
+        ensures same { result ≡ self.now }
+        ensures clean { AreClean self.now }
+        ensures short { length self.now < 2 ^ 64 }
     {
         Block {
             sent: self.sent.as_slice(),
         }
     }
+}
+
+impl<A: Allocator + Copy> OwnedBlock<A> {
+    /// Creates a block of no lines. It takes no memory.
+    pub fn new(alloc: A) -> OwnedBlock<A>
+        ensures { result ≡ [] }
+    {
+        OwnedBlock {
+            sent: Vec::new(alloc),
+        }
+    }
+
+    /// Adds a line behind the others. It has neither NUL, CR nor LF.
+    ///
+    /// # Errors
+    ///
+    /// [`AllocError`], if memory is refused. The block stays as it was.
+    pub fn push(&mut self, line: &[u8]) -> Result<(), AllocError>
+        requires { IsTrue (is_clean line.now) }
+        ensures ok { OnOk result (self.new ≡ self.old ++ line.now ∷ []) }
+        ensures err { OnErr result (self.new ≡ self.old) }
+    {
+        let length = self.sent.len();
+        match put_line(&mut self.sent, line) {
+            Ok(()) => Ok(()),
+            Err(error) => {
+                self.sent.truncate(length);
+                Err(error)
+            }
+        }
+    }
+}
+
+/// Adds a line as it is sent: with one more dot where it begins with one, and with CRLF.
+fn put_line<A: Allocator + Copy>(sent: &mut Vec<u8, A>, line: &[u8]) -> Result<(), AllocError>
+    ensures ok { OnOk result (sent.new.items ≡ sent.old.items ++ (stuffed line.now ++ crlf)) }
+    ensures err { OnErr result ((more : List ℕ) × (sent.new.items ≡ sent.old.items ++ more)) }
+{
+    if line.first() == Some(&b'.') {
+        sent.push(b'.')?;
+    }
+    sent.extend_from_slice(line)?;
+    sent.extend_from_slice(b"\r\n")
 }
 
 impl<'a> Block<'a> {

@@ -3,7 +3,6 @@ ghost use Rattle.std.specs.Prelude.{◌≡◌, false, IfOk, IfErr};
 ghost use Rattle.nntp_spool.specs.Reading.{Gives, barred_line_at, barred_lines_at, number_in, number_at, numbers_at, group_at};
 ghost use Rattle.nntp_spool.specs.Reading.{article_at, item_at, items_at, end_at, content_at, wide_at, limit_at, spool_at};
 ghost use Rattle.nntp_spool.specs.ReadingView.{place_shown, turn_shown};
-ghost use Rattle.nntp_wire.specs.Held.{held};
 ghost use Rattle.nntp_spool.specs.Limited.{LimitedSpool, IsWithinLimit};
 ghost use Rattle.nntp_spool.specs.Text.{spool_text};
 ghost use Rattle.nntp_spool.specs.Faults.{IsFault};
@@ -12,27 +11,26 @@ use crate::text::fields::{article_number, fault, next_line, number_and_id, openi
 use crate::text::place::{Opening, Place, Turn};
 use crate::text::read_fault::{Kind, ReadError, ReadFault};
 use crate::value::Spool;
-use crate::value::article::Article;
+use crate::value::article::StoredArticle;
 use crate::value::content::Content;
 use crate::value::numbers::Numbers;
-use crate::value::well_formed::{is_head_of, is_id, is_name};
-use nntp_wire::Limit;
+use crate::value::well_formed::{is_block_head_of, is_id, is_name};
+use nntp_wire::{Limit, OwnedBlock};
 use std::alloc::Allocator;
 
 /// Reads one more line of an article.
 #[tactic(auto, unfolding(crate::specs::Reading::barred_line_at))]
 fn barred_line_at<'a, A: Allocator + Copy>(
-    alloc: A,
-    lines: &mut Vec<Vec<u8, A>, A>,
+    lines: &mut OwnedBlock<A>,
     place: Place<'a>,
 ) -> Result<Place<'a>, ReadError>
-    ensures { Gives (λ next. (held lines.new.items, place_shown next)) result (barred_line_at (held lines.old.items, place_shown place.entry)) }
+    ensures { Gives (λ next. (lines.new, place_shown next)) result (barred_line_at (lines.old, place_shown place.entry)) }
 {
     let (line, next) = next_line(place)?;
     let Some(content) = unbarred(line) else {
         return Err(fault(place.line, Kind::Shape));
     };
-    lines.push(Vec::from_slice(alloc, content)?)?;
+    lines.push(content)?;
     Ok(next)
 }
 
@@ -41,13 +39,13 @@ fn barred_lines_at<A: Allocator + Copy>(
     alloc: A,
     count: u64,
     place: Place<'_>,
-) -> Result<(Vec<Vec<u8, A>, A>, Place<'_>), ReadError>
-    ensures { Gives (λ x. (held x.0.items, place_shown x.1)) result (barred_lines_at count (place_shown place.entry)) }
+) -> Result<(OwnedBlock<A>, Place<'_>), ReadError>
+    ensures { Gives (λ x. (x.0, place_shown x.1)) result (barred_lines_at count (place_shown place.entry)) }
 {
-    let mut lines = Vec::new(alloc);
+    let mut lines = OwnedBlock::new(alloc);
     let mut rest = place;
     for _ in 0..count {
-        rest = barred_line_at(alloc, &mut lines, rest)?;
+        rest = barred_line_at(&mut lines, rest)?;
     }
     Ok((lines, rest))
 }
@@ -152,10 +150,11 @@ fn article_at<'a, A: Allocator + Copy>(
     }
     let (head, next) = barred_lines_at(alloc, heads, place)?;
     let (body, next) = barred_lines_at(alloc, bodies, next)?;
-    if !is_head_of(id, &head) {
+    if !is_block_head_of(id, &head) {
         return Err(fault(line, Kind::Head));
     }
-    content.put_article(Vec::from_slice(alloc, id)?, Article { head, body })?;
+    let article = StoredArticle::new(alloc, &head, &body)?;
+    content.put_article(Vec::from_slice(alloc, id)?, article)?;
     Ok(next)
 }
 

@@ -3,19 +3,18 @@ ghost use Rattle.std.specs.Prelude.{◌≡◌, ◌∷◌, [], ◌||◌, is_err, 
 ghost use Rattle.std.specs.List.{flat_map};
 ghost use Rattle.std.specs.FinMap as map;
 ghost use Rattle.nntp_spool.specs.Text.{with_line_ends, number_line, group_line, article_line, barred, group_lines, article_lines, limit_lines, content_lines, spool_text};
-ghost use Rattle.nntp_wire.specs.Held.{held};
-ghost use Rattle.nntp_spool.specs.ArticleLines.{text_of_article};
+ghost use Rattle.nntp_spool.specs.ArticleLines.{text_stored};
 ghost use Rattle.nntp_spool.specs.Watched.{inner_of, has_failed_of};
 ghost use Rattle.nntp_spool.specs.Writing.{Writes};
 
 use crate::output::{WriteFault, put, put_pieces};
 use crate::value::Spool;
-use crate::value::article::Article;
+use crate::value::article::{StoredArticle, line_count};
 use crate::value::content::Content;
 use crate::value::numbers::Numbers;
 use crate::watched::Watched;
 use itoa::Buffer;
-use nntp_wire::Limit;
+use nntp_wire::{Block, Limit};
 use std::alloc::Allocator;
 use std::io::Write;
 
@@ -56,15 +55,13 @@ fn put_article_line<W: Write>(
 }
 
 /// Writes the lines of a head or a body.
-fn put_barred_lines<W: Write, A: Allocator>(
-    w: &mut Watched<W>,
-    lines: &[Vec<u8, A>],
-) -> Result<(), WriteFault>
-    ensures text { Writes result (W.contents (inner_of w.old)) (W.contents (inner_of w.new)) (with_line_ends (barred (held lines.now))) }
+fn put_barred_lines<W: Write>(w: &mut Watched<W>, lines: &Block<'_>) -> Result<(), WriteFault>
+    ensures text { Writes result (W.contents (inner_of w.old)) (W.contents (inner_of w.new)) (with_line_ends (barred lines.now)) }
     ensures failed { has_failed_of w.new ≡ (has_failed_of w.old || is_err result) }
 {
-    for line in lines {
-        put_pieces(w, &[b"|", line.as_slice(), b"\n"])?;
+    let mut rest = lines.lines();
+    while let Some(line) = rest.next() {
+        put_pieces(w, &[b"|", line, b"\n"])?;
     }
     Ok(())
 }
@@ -100,14 +97,15 @@ fn put_group<W: Write, A: Allocator>(
 fn put_article<W: Write, A: Allocator>(
     w: &mut Watched<W>,
     id: &[u8],
-    article: &Article<A>,
+    article: &StoredArticle<A>,
 ) -> Result<(), WriteFault>
-    ensures text { Writes result (W.contents (inner_of w.old)) (W.contents (inner_of w.new)) (with_line_ends (article_lines (id.now, text_of_article article.now))) }
+    ensures text { Writes result (W.contents (inner_of w.old)) (W.contents (inner_of w.new)) (with_line_ends (article_lines (id.now, text_stored article.now))) }
     ensures failed { has_failed_of w.new ≡ (has_failed_of w.old || is_err result) }
 {
-    put_article_line(w, id, article.head.len() as u64, article.body.len() as u64)?;
-    put_barred_lines(w, &article.head)?;
-    put_barred_lines(w, &article.body)
+    let (head, body) = (article.head.as_block(), article.body.as_block());
+    put_article_line(w, id, line_count(&head) as u64, line_count(&body) as u64)?;
+    put_barred_lines(w, &head)?;
+    put_barred_lines(w, &body)
 }
 
 /// Writes the lines that say the limit.

@@ -1,5 +1,12 @@
 //! The lines of an article.
-use std::alloc::{Allocator, Global};
+ghost use Rattle.std.specs.Prelude.{◌≡◌, IfOk, IsTrue, length};
+ghost use Rattle.std.specs.List.{list_all};
+ghost use Rattle.nntp_article.specs.Session.Spool.{is_line};
+ghost use Rattle.nntp_spool.specs.ArticleLines.{text_of_article, text_stored, AreLines, HasLineCount};
+ghost use Rattle.nntp_wire.specs.Held.{held};
+
+use nntp_wire::{Block, OwnedBlock};
+use std::alloc::{AllocError, Allocator, Global};
 
 /// An article, which is the lines of its head and those of its body (RFC 3977, section 3.6). No
 /// line has a CRLF at its end.
@@ -10,4 +17,60 @@ pub struct Article<A: Allocator = Global> {
     /// The lines behind the empty line that ends the head, first to last. They are without the dots
     /// that are put in front to send them (RFC 3977, section 3.1.1).
     pub body: Vec<Vec<u8, A>, A>,
+}
+
+/// An article as a spool stores it, with each part in one piece of memory.
+#[derive(Drop)]
+pub(crate) struct StoredArticle<A: Allocator> {
+    /// The lines of the headers.
+    pub(crate) head: OwnedBlock<A>,
+    /// The lines behind the empty line that ends the head.
+    pub(crate) body: OwnedBlock<A>,
+}
+
+impl<A: Allocator + Copy> StoredArticle<A> {
+    /// Copies a head and a body, each into as much memory as it needs.
+    pub(crate) fn new(
+        alloc: A,
+        head: &OwnedBlock<A>,
+        body: &OwnedBlock<A>,
+    ) -> Result<StoredArticle<A>, AllocError>
+        ensures text { IfOk result (λ stored. text_stored stored ≡ record { head = head.now; body = body.now }) }
+        ensures line_count { IfOk result (λ stored. HasLineCount (text_stored stored)) }
+    {
+        Ok(StoredArticle {
+            head: head.as_block().to_owned(alloc)?,
+            body: body.as_block().to_owned(alloc)?,
+        })
+    }
+
+    /// Copies an article whose lines have no NUL, CR or LF.
+    pub(crate) fn of(alloc: A, article: &Article<A>) -> Result<StoredArticle<A>, AllocError>
+        requires { AreLines (text_of_article article.now) }
+        ensures text { IfOk result (λ stored. text_stored stored ≡ text_of_article article.now) }
+        ensures line_count { IfOk result (λ stored. HasLineCount (text_stored stored)) }
+    {
+        let head = joined(alloc, &article.head)?;
+        let body = joined(alloc, &article.body)?;
+        StoredArticle::new(alloc, &head, &body)
+    }
+}
+
+/// Copies lines that have no NUL, CR or LF into one piece of memory.
+fn joined<A: Allocator + Copy>(alloc: A, lines: &[Vec<u8, A>]) -> Result<OwnedBlock<A>, AllocError>
+    requires { IsTrue (list_all is_line (held lines.now)) }
+    ensures { IfOk result (λ block. block ≡ held lines.now) }
+{
+    let mut block = OwnedBlock::new(alloc);
+    for line in lines {
+        block.push(line.as_slice())?;
+    }
+    Ok(block)
+}
+
+/// Returns how many lines a head or a body has.
+pub(crate) fn line_count(lines: &Block<'_>) -> usize
+    ensures { result ≡ length lines.now }
+{
+    lines.lines().count()
 }

@@ -9,7 +9,7 @@ ghost use Rattle.nntp_spool.specs.ArticleLines.{text_of_article};
 ghost use Rattle.nntp_spool.specs.Text.{IsWritten};
 
 use crate::value::Spool;
-use crate::value::article::Article;
+use crate::value::article::{Article, StoredArticle};
 use crate::value::content::Content;
 use crate::value::numbers::Numbers;
 use crate::value::spool_fault::SpoolFault;
@@ -209,6 +209,10 @@ impl<A: Allocator + Copy> SpoolBuilder<A> {
             return Err(fault);
         }
         let Ok(id) = Vec::from_slice(self.alloc, id) else {
+            self.failed = true;
+            return Err(SpoolFault::Memory);
+        };
+        let Ok(article) = StoredArticle::of(self.alloc, &article) else {
             self.failed = true;
             return Err(SpoolFault::Memory);
         };

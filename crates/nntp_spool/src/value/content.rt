@@ -6,10 +6,10 @@ ghost use Rattle.nntp_spool.specs.Counts.{numbers_in};
 ghost use Rattle.nntp_spool.specs.Ascending.{is_last};
 ghost use Rattle.nntp_spool.specs.Content.{with_group, with_article, all_known, ids_have_articles, no_spool};
 ghost use Rattle.nntp_spool.specs.Numbers.{has_id};
-ghost use Rattle.nntp_spool.specs.ArticleLines.{text_of_article};
+ghost use Rattle.nntp_spool.specs.ArticleLines.{text_stored, HasLineCount};
 ghost use Rattle.nntp_spool.specs.Text.{HasLineCounts};
 
-use crate::value::article::Article;
+use crate::value::article::StoredArticle;
 use crate::value::numbers::Numbers;
 use std::alloc::{AllocError, Allocator, Global};
 use std::collections::BTreeMap;
@@ -21,12 +21,10 @@ pub struct Content<A: Allocator = Global> {
     /// The numbers of each group, by the octets of its name.
     pub(crate) groups: BTreeMap<Vec<u8, A>, Numbers<A>, A>,
     /// The articles, each by the octets of its message-id.
-    pub(crate) articles: BTreeMap<Vec<u8, A>, Article<A>, A>,
+    pub(crate) articles: BTreeMap<Vec<u8, A>, StoredArticle<A>, A>,
 }
 
 impl<A: Allocator> Model for Content<A> {
-    ghost use Rattle.std.specs.Prelude.{map};
-    ghost use Rattle.std.specs.FinMap.{from_entries};
     ghost use Rattle.nntp_article.specs.Session.Spool.{Spool as SpoolValue};
     ghost use Rattle.nntp_spool.specs.Codes.{coded_spool};
 
@@ -34,9 +32,12 @@ impl<A: Allocator> Model for Content<A> {
 
     ghost coded = { coded_spool };
 
-    ghost use Rattle.nntp_spool.specs.ArticleLines.{text_of_article};
+    ghost use Rattle.nntp_spool.specs.ContentView.{spool_stored};
+    ghost use Rattle.nntp_spool.specs.Text.{HasLineCounts};
 
-    ghost view = { λ a. record { groups = from_entries (map (λ e. (e.0.items, e.1)) a.groups.entries); articles = from_entries (map (λ e. (e.0.items, text_of_article e.1)) a.articles.entries) } };
+    ghost view = { λ a. spool_stored a.groups.entries a.articles.entries };
+
+    ghost invariant = { λ a. HasLineCounts (spool_stored a.groups.entries a.articles.entries) };
 }
 
 impl<A: Allocator + Copy> Content<A> {
@@ -85,9 +86,10 @@ impl<A: Allocator + Copy> Content<A> {
     pub(crate) fn put_article(
         &mut self,
         id: Vec<u8, A>,
-        article: Article<A>,
+        article: StoredArticle<A>,
     ) -> Result<(), AllocError>
-        ensures ok { OnOk result (self.new ≡ with_article self.old id.items (text_of_article article)) }
+        requires { HasLineCount (text_stored article) }
+        ensures ok { OnOk result (self.new ≡ with_article self.old id.items (text_stored article)) }
         ensures err { OnErr result (self.new ≡ self.old) }
     {
         self.articles.insert(id, article)?;
@@ -104,8 +106,8 @@ impl<A: Allocator> Content<A> {
     }
 
     /// Returns the article of an id.
-    pub(crate) fn article(&self, id: &[u8]) -> Option<&Article<A>>
-        ensures { option_map (λ a. text_of_article a.now) result ≡ map.get self.now.articles id.now }
+    pub(crate) fn article(&self, id: &[u8]) -> Option<&StoredArticle<A>>
+        ensures { option_map (λ a. text_stored a.now) result ≡ map.get self.now.articles id.now }
     {
         self.articles.get(id)
     }

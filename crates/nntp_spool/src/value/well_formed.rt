@@ -6,9 +6,9 @@ ghost use Rattle.nntp_article.specs.Session.Spool.{is_line};
 ghost use Rattle.nntp_spool.specs.Content.{is_head_of};
 ghost use Rattle.nntp_wire.specs.Held.{held};
 
-use nntp_article::lines_say;
+use nntp_article::{Head, lines_say};
 use nntp_wire::laws::{group_names_are_decided, message_ids_are_decided};
-use nntp_wire::{GroupName, MessageId};
+use nntp_wire::{GroupName, MessageId, OwnedBlock};
 use std::alloc::Allocator;
 
 /// Tells whether the octets are a group name.
@@ -50,5 +50,18 @@ pub(crate) fn is_head_of<A: Allocator>(id: &[u8], lines: &[Vec<u8, A>]) -> bool
         Some(Some(said)) => said.as_slice() == id,
         Some(None) => true,
         None => false,
+    }
+}
+
+/// Tells whether the lines of a block are a head that says this id or none.
+pub(crate) fn is_block_head_of<A: Allocator>(id: &[u8], lines: &OwnedBlock<A>) -> bool
+    ensures { result ≡ is_head_of id.now lines.now }
+{
+    let Some(head) = Head::parse(&lines.as_block()) else {
+        return false;
+    };
+    match head.message_id() {
+        Some(said) => said.as_slice() == id,
+        None => true,
     }
 }

@@ -1,6 +1,6 @@
 //! Blocks and their lines.
 use super::{all_malformed, has_lines, is_malformed, reply};
-use nntp_wire::{Answer, Block, active_line, listed_number};
+use nntp_wire::{Answer, Block, OwnedBlock, active_line, listed_number};
 use std::alloc::{AllocError, Global};
 use std::process::Abort;
 use std::test::Fail;
@@ -39,6 +39,11 @@ fn blocks_that_are_owned(rt: HostRuntime) -> Result<(), Fail> {
     let lent = owned.as_block();
     has_lines(&rt, &lent, &[Some(b"."), Some(b"x"), Some(b""), None]);
     assert!(rt; sent.is_same(&lent));
+    let mut made = OwnedBlock::new(rt.alloc());
+    made.push(b".")?;
+    made.push(b"x")?;
+    made.push(b"")?;
+    assert!(rt; sent.is_same(&made.as_block()));
     const OTHERS: &[&[u8]] = &[
         b"222 0 <a@b>\r\n..\r\nxy\r\n\r\n.\r\n",
         b"222 0 <a@b>\r\n..\r\nx\r\n.\r\n",

@@ -1,17 +1,17 @@
-use Rattle.std.proofs.Common.{sym, ap, ◌∙◌}
+use Rattle.std.proofs.Common.{sym, ap, subst, ◌∙◌}
 use Rattle.std.specs.Ordering.{nat_cmp}
 use Rattle.std.specs.Cmp.Lexicographic.{slice_cmp, nat_list_cmp_total}
 use Rattle.std.specs.FinMap as map
-use Rattle.nntp_spool.specs.ArticleLines.{text_of_article}
+use Rattle.nntp_spool.specs.ArticleLines.{text_stored}
+use Rattle.nntp_spool.specs.Text.{HasLineCounts}
 use Rattle.nntp_wire.proofs.ShownMaps.{len-shown}
-use Rattle.nntp_spool.proofs.ShownMaps.{line_counts}
 use Rattle.nntp_spool.proofs.value.content.Content.count_articles.Goals as goal
 
 pub returns-clause-len : goal.returns-clause-len
 returns-clause-len g c =
-    c.len.ensures.len ∙ sym (len-shown (slice_cmp nat_cmp) (λ k. k.items) text_of_article nat_list_cmp_total
+    c.len.ensures.len ∙ sym (len-shown (slice_cmp nat_cmp) (λ k. k.items) text_stored nat_list_cmp_total
     (map.slice_cmp-IsAntisymmetric map.nat_cmp-IsAntisymmetric) _ c.len.ensures.ordered)
     ∙ ap (λ s. map.len s.articles) c.self.view_is
 
 pub returns-clause-line_counts : goal.returns-clause-line_counts
-returns-clause-line_counts g c = line_counts c.self.inside.articles.entries c.args.self.now (ap (λ s. s.articles) c.self.view_is)
+returns-clause-line_counts g c = subst HasLineCounts c.self.view_is c.self.invariant

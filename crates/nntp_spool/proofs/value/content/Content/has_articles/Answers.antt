@@ -1,12 +1,13 @@
-use Rattle.std.proofs.Common.{sym, ap, ◌∙◌, rules}
+use Rattle.std.proofs.Common.{sym, ap, subst, ◌∙◌, rules}
 use Rattle.std.specs.List.{list_all}
 use Rattle.std.proofs.lemmas.Iterator.Search.{all_from_yields_List}
 use Rattle.std.proofs.lemmas.Iterator.Consumers.{YieldsList-from_rest}
 use borrow.Author.Tests.{tests}
 use Rattle.nntp_article.specs.Session.Spool.{Name, Numbers}
 use Rattle.nntp_spool.specs.Content.{all_known}
+use Rattle.nntp_spool.specs.Text.{HasLineCounts}
 use Rattle.nntp_wire.proofs.ShownMaps.{list_all-map}
-use Rattle.nntp_spool.proofs.ShownMaps.{group_entries, line_counts}
+use Rattle.nntp_spool.proofs.ShownMaps.{group_entries}
 use Rattle.nntp_spool.proofs.value.content.Content.has_articles.Goals as goal
 
 pub returns-clause-value : goal.returns-clause-value
@@ -17,4 +18,4 @@ returns-clause-value g c =
     all ∙ sym (list_all-map known (λ e. (e.0.items, e.1)) es) ∙ ap (list_all known) (group_entries es c.args.self.now.groups (ap (λ s. s.groups) c.self.view_is) c.iter.ensures.ordered)
 
 pub returns-clause-line_counts : goal.returns-clause-line_counts
-returns-clause-line_counts g c = line_counts c.self.inside.articles.entries c.args.self.now (ap (λ s. s.articles) c.self.view_is)
+returns-clause-line_counts g c = subst HasLineCounts c.self.view_is c.self.invariant

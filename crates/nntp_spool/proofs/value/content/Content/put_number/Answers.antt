@@ -18,6 +18,12 @@ put-requires g c =
     ∙ ap (option_map (λ v. v)) (sym c.in-Some.ensures.value) in
     subst (λ o. (map.get (unwrap_or o map.empty) c.args.number ≡ None) × (has_id (unwrap_or o map.empty) c.args.id.now ≡ false)) here (c.requires.1, c.requires.2)
 
+pub invariant_of-self-2 : goal.invariant_of-self-2
+invariant_of-self-2 g c = elim c.match-get_mut.branch [
+  | in-Some+in_ok-put w ↦ rw w.self-inside-is c.self.invariant
+  | in_default w ↦ rw w.self-inside-is c.self.invariant
+]
+
 pub returns-in_err-put-clause-err : goal.returns-in_err-put-clause-err
 returns-in_err-put-clause-err g c =
     let same = map.slice_cmp-IsAntisymmetric map.nat_cmp-IsAntisymmetric in

@@ -1,0 +1,33 @@
+use Rattle.std.proofs.Common.{◌≡◌, true, List, [], ◌∷◌, Option, None, Some, refl, sym, ap, ◌∙◌}
+use Rattle.std.specs.List.{list_all}
+use Rattle.std.specs.Option.{option_map_or}
+use Rattle.std.proofs.lemmas.Bool.{and_from}
+use Rattle.nntp_wire.specs.Octets.{is_clean}
+use Rattle.nntp_wire.specs.Block.{AreClean}
+use Rattle.nntp_article.specs.Article.Parts.{Id, Line, is_head, said_id}
+use Rattle.nntp_article.specs.Session.Machine.{is_same}
+use Rattle.nntp_spool.specs.Content.{is_head_of}
+use Rattle.nntp_spool.proofs.value.well_formed.is_block_head_of.Goals as goal
+
+clean_all : (lines : List Line) → AreClean lines → list_all is_clean lines ≡ true
+clean_all [] clean = refl
+clean_all (l ∷ ls) clean = and_from (is_clean l) (list_all is_clean ls) clean.0 (clean_all ls clean.1)
+
+-- clean lines that are a head say this id, or none
+head_says : (id : Id) (lines : List Line) (said : Option Id) → AreClean lines → is_head lines ≡ true → said_id lines ≡ said → is_head_of id lines ≡ option_map_or (λ s. is_same s id) said true
+head_says id lines said clean head e = rw (clean_all lines clean, head, e) refl
+
+pub returns-in-Some-message_id : goal.returns-in-Some-message_id
+returns-in-Some-message_id g c =
+    let same = c.as_block.ensures.same in
+    let is = ap is_head (sym same) ∙ c.in-Some.ensures.0 in
+    let said = ap said_id (sym (c.in-Some.ensures.1 ∙ same)) ∙ sym c.message_id.ensures ∙ c.in-Some-message_id.is in
+    c.eq.ensures ∙ ap (λ s. is_same s c.args.id.now) c.as_slice.ensures.value
+    ∙ sym (head_says c.args.id.now c.args.lines.now (Some c.in-Some-message_id.said) c.as_block.ensures.clean is said)
+
+pub returns-in-None : goal.returns-in-None
+returns-in-None g c =
+    let same = c.as_block.ensures.same in
+    let is = ap is_head (sym same) ∙ c.in-Some.ensures.0 in
+    let said = ap said_id (sym (c.in-Some.ensures.1 ∙ same)) ∙ sym c.message_id.ensures ∙ c.in-None.is in
+    sym (head_says c.args.id.now c.args.lines.now None c.as_block.ensures.clean is said)

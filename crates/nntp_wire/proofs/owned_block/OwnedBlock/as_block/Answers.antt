@@ -1,0 +1,12 @@
+use Rattle.std.proofs.Common.{ap, length, arith, subst}
+use Rattle.nntp_wire.specs.Block.{AreClean, received}
+use Rattle.nntp_wire.proofs.SubBlockLemmas.{length-lines}
+use Rattle.nntp_wire.proofs.owned_block.OwnedBlock.as_block.Goals as goal
+
+pub returns-clause-clean : goal.returns-clause-clean
+returns-clause-clean g c = subst AreClean c.self.view_is c.self.invariant.clean
+
+pub returns-clause-short : goal.returns-clause-short
+returns-clause-short g c =
+    let sent = c.self.inside.sent in
+    omega (arith, length-lines (received sent.items), ap length c.self.invariant.whole, ap length c.self.view_is, sent.ok.0, sent.ok.1, sent.small)

@@ -1,0 +1,16 @@
+use Rattle.std.proofs.Common.{◌++◌, ◌∷◌, [], ap, ◌∙◌}
+use Rattle.nntp_wire.specs.Block.{received}
+use Rattle.nntp_wire.proofs.BlockLemmas.{sends-received}
+use Rattle.nntp_wire.proofs.SubBlockLemmas.{received-of, sends-snoc}
+use Rattle.nntp_wire.proofs.owned_block.OwnedBlock.push.Goals as goal
+
+pub invariant_of-self : goal.invariant_of-self
+invariant_of-self g c =
+    let old = c.self.inside.sent.items in
+    sends-received c.put_line.new.sent.items (_, sends-snoc old c.put_line.new.sent.items c.args.line.now (_, c.self.invariant) c.requires c.in-Ok.ensures.ok)
+
+pub returns-in-Ok-clause-ok : goal.returns-in-Ok-clause-ok
+returns-in-Ok-clause-ok g c =
+    let old = c.self.inside.sent.items in
+    received-of c.put_line.new.sent.items (received old ++ c.args.line.now ∷ []) (sends-snoc old c.put_line.new.sent.items c.args.line.now (_, c.self.invariant) c.requires c.in-Ok.ensures.ok)
+    ∙ ap (λ t. t ++ c.args.line.now ∷ []) c.self.view_is
