@@ -18,20 +18,22 @@ use crate::shown::find;
 use std::alloc::{AllocError, Allocator, Global};
 use std::collections::{BTreeMap, BTreeSet};
 use std::marker::Model;
+use std::rc::RcStr;
 
 /// What is kept of one group.
 #[derive(Drop)]
 pub(crate) struct Group<A: Allocator = Global> {
     numbers: Numbers<A>,
     /// The ids that are shown, each by its number.
-    ids: BTreeMap<u64, Vec<u8, A>, A>,
+    ids: BTreeMap<u64, RcStr<A>, A>,
     /// The numbers at which ids are shown, each by its id.
-    places: BTreeMap<Vec<u8, A>, u64, A>,
+    places: BTreeMap<RcStr<A>, u64, A>,
 }
 
 impl<A: Allocator> Model for Group<A> {
     ghost use Rattle.std.specs.Prelude.{map};
     ghost use Rattle.std.specs.FinMap.{from_entries};
+    ghost use Rattle.std.specs.Rc.{rc_str_bytes};
     ghost use Rattle.nntp_facts.specs.Kept.{KeptGroup};
     ghost use Rattle.nntp_facts.specs.GroupView.{coded_group};
 
@@ -39,7 +41,7 @@ impl<A: Allocator> Model for Group<A> {
 
     ghost coded = { coded_group };
 
-    ghost view = { λ g. record { numbers = g.numbers; ids = from_entries (map (λ e. (e.0, e.1.items)) g.ids.entries); places = from_entries (map (λ e. (e.0.items, e.1)) g.places.entries) } };
+    ghost view = { λ g. record { numbers = g.numbers; ids = from_entries (map (λ e. (e.0, rc_str_bytes e.1)) g.ids.entries); places = from_entries (map (λ e. (rc_str_bytes e.0, e.1)) g.places.entries) } };
 }
 
 impl<A: Allocator + Copy> Group<A> {
@@ -96,9 +98,9 @@ impl<A: Allocator + Copy> Group<A> {
         ensures numbers { self.new.numbers ≡ self.old.numbers }
         ensures ids { OnOk result ((self.new.ids ≡ insert self.old.ids at.entry.number at.entry.id.now) × (self.new.places ≡ insert self.old.places at.entry.id.now at.entry.number)) }
     {
-        self.ids.insert(at.number, Vec::from_slice(alloc, at.id)?)?;
-        self.places
-            .insert(Vec::from_slice(alloc, at.id)?, at.number)?;
+        let id = RcStr::from_str(alloc, at.id)?;
+        self.ids.insert(at.number, id.clone()?)?;
+        self.places.insert(id, at.number)?;
         Ok(())
     }
 }
@@ -190,17 +192,27 @@ impl<A: Allocator> Group<A> {
     }
 
     /// Returns the id at the number, if one is shown.
-    pub(crate) fn id(&self, number: u64) -> Option<&[u8]>
+    fn id(&self, number: u64) -> Option<&str>
         ensures { option_copied result ≡ get self.now.ids number }
     {
         match find(&self.ids, number) {
-            Some(id) => Some(id.as_slice()),
+            Some(id) => Some(id.as_str()),
+            None => None,
+        }
+    }
+
+    /// Returns the octets of the id at the number, if one is shown.
+    pub(crate) fn id_octets(&self, number: u64) -> Option<&[u8]>
+        ensures { option_copied result ≡ get self.now.ids number }
+    {
+        match self.id(number) {
+            Some(id) => Some(id.as_bytes()),
             None => None,
         }
     }
 
     /// Returns the number of the id, if one is shown.
-    fn place(&self, id: &[u8]) -> Option<u64>
+    fn place(&self, id: &str) -> Option<u64>
         ensures { result ≡ get self.now.places id.now }
     {
         self.places.get(id).copied()

@@ -30,8 +30,8 @@ use std::alloc::{AllocError, Allocator};
 pub(crate) struct IdAt<'s> {
     /// The article number.
     pub(crate) number: u64,
-    /// The octets of the message-id.
-    pub(crate) id: &'s [u8],
+    /// The message-id.
+    pub(crate) id: &'s str,
 }
 
 /// The part of a saying that is about one group.
@@ -74,7 +74,7 @@ impl<'s> GroupPart<'s> {
             numbers,
             id: Some(IdAt {
                 number,
-                id: id.as_slice(),
+                id: id.as_str(),
             }),
         }
     }

@@ -58,7 +58,7 @@ impl<'a, A: Allocator> Iterator for ShownNumbers<'a, A> {
         match self.rest.next() {
             Some(number) => Some(ShownNumber {
                 number: *number,
-                id: self.group.id(*number),
+                id: self.group.id_octets(*number),
             }),
             None => None,
         }

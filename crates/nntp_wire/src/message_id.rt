@@ -4,11 +4,12 @@ ghost use Rattle.std.specs.Option.{SomeIff};
 ghost use Rattle.nntp_wire.specs.Name.{IsMessageId, IsIdOctet};
 
 use std::marker::Model;
+use std::str;
 
 /// A message-id, which names an article (RFC 3977, section 3.6). Its angle brackets are part of it.
 #[derive(Drop)]
 pub struct MessageId<'a> {
-    bytes: &'a [u8],
+    text: &'a str,
 }
 
 impl<'a> Model for MessageId<'a> {
@@ -17,9 +18,9 @@ impl<'a> Model for MessageId<'a> {
 
     ghost Value = { List ℕ };
 
-    ghost view = { λ s. s.bytes.now };
+    ghost view = { λ s. s.text.now };
 
-    ghost invariant = { λ s. IsMessageId s.bytes.now };
+    ghost invariant = { λ s. IsMessageId s.text.now };
 }
 
 impl<'a> MessageId<'a> {
@@ -41,7 +42,8 @@ impl<'a> MessageId<'a> {
         if !are_id_octets(inside) {
             return None;
         }
-        Some(MessageId { bytes })
+        let text = id_text(bytes);
+        Some(MessageId { text })
     }
 
     /// Returns the octets of the message-id, with the angle brackets.
@@ -49,7 +51,15 @@ impl<'a> MessageId<'a> {
         ensures value { result.now ≡ self.now }
         ensures is_id { IsMessageId self.now }
     {
-        self.bytes
+        self.text.as_bytes()
+    }
+
+    /// Returns the message-id as text, with the angle brackets.
+    pub fn as_str(&self) -> &'a str
+        ensures value { result.now ≡ self.now }
+        ensures is_id { IsMessageId self.now }
+    {
+        self.text
     }
 }
 
@@ -60,4 +70,13 @@ fn are_id_octets(inside: &[u8]) -> bool
     inside
         .iter()
         .all(|b| *b >= 0x21 && *b <= 0x7E && *b != b'>')
+}
+
+/// Returns the octets of a message-id as text.
+fn id_text(bytes: &[u8]) -> &str
+    requires { IsMessageId bytes.now }
+    ensures value { result.now ≡ bytes.now }
+    ensures is_id { IsMessageId result.now }
+{
+    str::from_utf8(bytes).unwrap()
 }

@@ -44,7 +44,7 @@ pub(crate) fn other_place<'s>(told: &Statement<'s>, all: &[Statement<'s>]) -> Op
     }
     Some(Point::PlaceOf {
         name: group.name,
-        id: at.id,
+        id: at.id.as_bytes(),
     })
 }
 
@@ -69,7 +69,7 @@ fn is_first_place(all: &[Statement<'_>], name: &[u8], at: IdAt<'_>) -> bool
 }
 
 /// Returns the id that is shown first at the number of the group.
-fn first_id<'s>(all: &[Statement<'s>], name: &[u8], number: u64) -> Option<&'s [u8]>
+fn first_id<'s>(all: &[Statement<'s>], name: &[u8], number: u64) -> Option<&'s str>
     ensures { option_map (λ id. id.now) result ≡ first_in (id_told name.now number) (map statement_of all.now) }
 {
     for told in all {
@@ -81,7 +81,7 @@ fn first_id<'s>(all: &[Statement<'s>], name: &[u8], number: u64) -> Option<&'s [
 }
 
 /// Returns the id that the answer shows at the number of the group.
-fn id_in<'s>(told: &Statement<'s>, name: &[u8], number: u64) -> Option<&'s [u8]>
+fn id_in<'s>(told: &Statement<'s>, name: &[u8], number: u64) -> Option<&'s str>
     ensures { option_map (λ id. id.now) result ≡ id_told name.now number (statement_of told.now) }
 {
     match &told.saying.group {
@@ -94,7 +94,7 @@ fn id_in<'s>(told: &Statement<'s>, name: &[u8], number: u64) -> Option<&'s [u8]>
 }
 
 /// Returns the number that is shown first for the id in the group.
-fn first_place(all: &[Statement<'_>], name: &[u8], id: &[u8]) -> Option<u64>
+fn first_place(all: &[Statement<'_>], name: &[u8], id: &str) -> Option<u64>
     ensures { result ≡ first_in (place_told name.now id.now) (map statement_of all.now) }
 {
     for told in all {
@@ -106,7 +106,7 @@ fn first_place(all: &[Statement<'_>], name: &[u8], id: &[u8]) -> Option<u64>
 }
 
 /// Returns the number at which the answer shows the id in the group.
-fn place_in(told: &Statement<'_>, name: &[u8], id: &[u8]) -> Option<u64>
+fn place_in(told: &Statement<'_>, name: &[u8], id: &str) -> Option<u64>
     ensures { result ≡ place_told name.now id.now (statement_of told.now) }
 {
     match &told.saying.group {
@@ -119,7 +119,7 @@ fn place_in(told: &Statement<'_>, name: &[u8], id: &[u8]) -> Option<u64>
 }
 
 /// Returns the number, if the id at it is this one.
-fn if_same(at: IdAt<'_>, id: &[u8]) -> Option<u64>
+fn if_same(at: IdAt<'_>, id: &str) -> Option<u64>
     ensures { result ≡ place_of (id_at (Some at.entry)) id.now }
 {
     if at.id == id { Some(at.number) } else { None }

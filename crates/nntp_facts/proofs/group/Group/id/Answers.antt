@@ -2,15 +2,16 @@ use Rattle.std.proofs.Common.{Some, option_map, ap, sym, ◌∙◌}
 use Rattle.std.specs.Ordering.{nat_cmp}
 use Rattle.std.specs.Cmp.{nat_cmp_total}
 use Rattle.std.specs.FinMap as map
+use Rattle.std.specs.Rc.{rc_str_bytes}
 use Rattle.nntp_wire.proofs.ShownMaps.{get-shown}
 use Rattle.nntp_facts.proofs.group.Group.id.Goals as goal
 
 pub returns-in-Some : goal.returns-in-Some
 returns-in-Some g c =
-    ap Some c.as_slice.ensures.value ∙ ap (option_map (λ v. v.items)) c.in-Some.ensures
-    ∙ sym (get-shown nat_cmp (λ k. k) (λ v. v.items) nat_cmp_total c.self.inside.ids.entries c.args.number) ∙ ap (λ g. map.get g.ids c.args.number) c.self.view_is
+    ap Some c.as_str.ensures.value ∙ ap (option_map (λ v. rc_str_bytes v)) c.in-Some.ensures
+    ∙ sym (get-shown nat_cmp (λ k. k) (λ v. rc_str_bytes v) nat_cmp_total c.self.inside.ids.entries c.args.number) ∙ ap (λ g. map.get g.ids c.args.number) c.self.view_is
 
 pub returns-in-None : goal.returns-in-None
 returns-in-None g c =
-    ap (option_map (λ v. v.items)) c.in-None.ensures
-    ∙ sym (get-shown nat_cmp (λ k. k) (λ v. v.items) nat_cmp_total c.self.inside.ids.entries c.args.number) ∙ ap (λ g. map.get g.ids c.args.number) c.self.view_is
+    ap (option_map (λ v. rc_str_bytes v)) c.in-None.ensures
+    ∙ sym (get-shown nat_cmp (λ k. k) (λ v. rc_str_bytes v) nat_cmp_total c.self.inside.ids.entries c.args.number) ∙ ap (λ g. map.get g.ids c.args.number) c.self.view_is

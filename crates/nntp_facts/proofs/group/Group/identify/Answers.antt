@@ -3,17 +3,18 @@ use Rattle.std.specs.Ordering.{nat_cmp}
 use Rattle.std.specs.Cmp.{nat_cmp_total}
 use Rattle.std.specs.Cmp.Lexicographic.{slice_cmp, nat_list_cmp_total}
 use Rattle.std.specs.FinMap as map
+use Rattle.std.specs.Rc.{rc_str_bytes}
 use Rattle.nntp_wire.proofs.ShownMaps.{insert-shown}
 use Rattle.nntp_facts.proofs.group.Group.identify.Goals as goal
 
 pub returns-clause-ids : goal.returns-clause-ids
 returns-clause-ids g c =
     let ids = insert-shown nat_cmp (λ k. k)
-    (λ v. v.items) nat_cmp_total map.nat_cmp-IsAntisymmetric c.self.inside.ids.entries _ c.args.at.number
-    c.in_ok-from_slice.field-0 c.in_ok-insert.ensures.entries in
-    let places = insert-shown (slice_cmp nat_cmp) (λ k. k.items) (λ v. v) nat_list_cmp_total
-    (map.slice_cmp-IsAntisymmetric map.nat_cmp-IsAntisymmetric) c.self.inside.places.entries _ c.in_ok-from_slice-2.field-0
+    (λ v. rc_str_bytes v) nat_cmp_total map.nat_cmp-IsAntisymmetric c.self.inside.ids.entries _ c.args.at.number
+    c.in_ok-clone.field-0 c.in_ok-insert.ensures.entries in
+    let places = insert-shown (slice_cmp nat_cmp) (λ k. rc_str_bytes k) (λ v. v) nat_list_cmp_total
+    (map.slice_cmp-IsAntisymmetric map.nat_cmp-IsAntisymmetric) c.self.inside.places.entries _ c.in_ok-id.id
     c.args.at.number c.in_ok-insert-2.ensures.entries in (
-      ids ∙ (λ i. map.insert (c.self.view_is i).ids c.args.at.number (c.in_ok-from_slice.ensures.items i)),
-      places ∙ (λ i. map.insert (c.self.view_is i).places (c.in_ok-from_slice-2.ensures.items i) c.args.at.number),
+      ids ∙ (λ i. map.insert (c.self.view_is i).ids c.args.at.number ((c.in_ok-clone.ensures.cases ∙ c.in_ok-id.ensures.ok) i)),
+      places ∙ (λ i. map.insert (c.self.view_is i).places (c.in_ok-id.ensures.ok i) c.args.at.number),
     )
