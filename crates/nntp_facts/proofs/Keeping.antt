@@ -9,7 +9,6 @@ pub mod ListedGroups
 pub mod ListedAgain
 pub mod KeptNames
 pub mod KeptGroups
-pub mod AddedIfTested
 pub mod KeptNamesAndGroups
 pub mod NotedParts
 pub mod SayingRows
@@ -23,6 +22,7 @@ pub mod FirstFreeOfAPart
 pub mod SaidInARange
 pub mod SaidOfArticles
 pub mod KeptArticles
+pub mod KeptIds
 pub mod NotedArticles
 pub mod NotedExchange
 pub mod ShownNames

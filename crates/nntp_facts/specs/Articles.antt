@@ -1,7 +1,10 @@
 -- How one more fact fits in with what is kept of articles.
-use Rattle.std.specs.Prelude.{◌≡◌, true, false, not, List, Option, None, Some, IfSome}
+use Rattle.std.specs.Prelude.{◌≡◌, Bool, true, false, not, if◌then◌else◌, List, [], ◌∷◌, Option, None, Some, IfSome, MatchOption, is_some}
 use Rattle.std.specs.List.{filter}
-use Rattle.std.specs.Option.{option_or}
+use Rattle.std.specs.Option.{option_or, option_map_or}
+use Rattle.std.specs.Ordering.{nat_cmp}
+use Rattle.std.specs.Cmp.Lexicographic.{slice_cmp}
+use Rattle.std.specs.FinMap.{FinMap, get, insert}
 use Rattle.nntp_wire.specs.declared.command.What.{What}
 use Rattle.nntp_wire.specs.declared.command.What.TheVariants.{Article, Head, Body}
 use Rattle.nntp_article.specs.Article.Parts.{head_part, body_part, Id, Line}
@@ -42,6 +45,24 @@ unsent = record { is_denied = false; is_sent = false; head = None; body = None }
 -- what is kept of an article after a success: of each part what was sent first
 abbrev pub with_sent : KeptArticle → Option (List Line) → Option (List Line) → KeptArticle
 with_sent a head body = record { is_denied = a.is_denied; is_sent = true; head = option_or a.head head; body = option_or a.body body }
+
+-- an id of which o is kept has an article
+abbrev pub is_there : Option KeptArticle → Bool
+is_there o = option_map_or (λ a. not a.is_denied) o false
+
+-- a is kept of the id, if nothing is kept of it yet
+abbrev pub with_new : FinMap (slice_cmp nat_cmp) KeptArticle → Id → KeptArticle → FinMap (slice_cmp nat_cmp) KeptArticle
+with_new articles id a = if is_some (get articles id) then articles else insert articles id a
+
+-- each of the ids is denied, if nothing is kept of it yet
+abbrev pub with_denied : FinMap (slice_cmp nat_cmp) KeptArticle → List Id → FinMap (slice_cmp nat_cmp) KeptArticle
+with_denied articles [] = articles
+with_denied articles (id ∷ ids) = with_new (with_denied articles ids) id denied
+
+-- of an id that has no article, a is kept from now on, if the id may have one: if it isn't denied
+abbrev pub IsKeptUnlessDenied : FinMap (slice_cmp nat_cmp) KeptArticle → FinMap (slice_cmp nat_cmp) KeptArticle → Id → KeptArticle → Bool → Type 0
+IsKeptUnlessDenied old new id a may =
+    is_there (get old id) ≡ false → MatchOption (get old id) ((may ≡ true) × (new ≡ insert old id a)) (λ b. (may ≡ false) × (new ≡ old))
 
 -- the ids that have articles, of all that are kept
 abbrev pub articles_in : List (Id × KeptArticle) → List (Id × KeptArticle)

@@ -6,9 +6,8 @@ use Rattle.nntp_facts.specs.PartView.{said}
 use Rattle.nntp_facts.specs.Saying as said_of
 use Rattle.nntp_facts.specs.declared.saying.IdAt.{IdAt}
 use Rattle.nntp_facts.specs.declared.saying.GroupPart.{GroupPart}
-use Rattle.nntp_facts.specs.declared.saying.OfArticle.{OfArticle}
-use Rattle.nntp_facts.specs.declared.saying.OfArticle.TheVariants.{Lacks, Exists, Sends}
 use Rattle.nntp_facts.specs.declared.saying.ArticlePart.{ArticlePart}
+use Rattle.nntp_facts.specs.declared.saying.ArticlePart.TheVariants.{Lacks, Exists, Sends}
 use Rattle.nntp_facts.specs.declared.saying.ActivePart.{ActivePart}
 use Rattle.nntp_facts.specs.declared.saying.Saying.{Saying}
 
@@ -20,15 +19,11 @@ id_at id = option_map (λ e. (e.number, e.id.now)) id
 abbrev pub of_group : GroupPart → said_of.OfGroup
 of_group g = record { name = g.name.now; numbers = said g.numbers; id = id_at g.id }
 
--- what is said of an id
-abbrev pub of_article : OfArticle → said_of.OfArticle
-of_article Lacks = said_of.Lacks
-of_article Exists = said_of.Exists
-of_article (Sends what block) = said_of.Sends what block.now
-
 -- the id, and what is said of it
 abbrev pub article_said : ArticlePart → Id × said_of.OfArticle
-article_said a = (a.id.now, of_article a.said)
+article_said (Lacks id) = (id.now, said_of.Lacks)
+article_said (Exists id) = (id.now, said_of.Exists)
+article_said (Sends id what block) = (id.now, said_of.Sends what block.now)
 
 -- the groups that match
 abbrev pub active_said : ActivePart → Option (List ℕ) × List ActiveValue

@@ -80,29 +80,22 @@ impl<'s> GroupPart<'s> {
     }
 }
 
-/// What is said of a message-id.
+/// The part of a saying that is about one message-id.
 #[derive(Drop)]
-pub(crate) enum OfArticle<'s> {
-    /// The id has no article.
-    Lacks,
+pub(crate) enum ArticlePart<'s> {
+    /// The id of these octets, which need be no text, has no article.
+    Lacks(&'s [u8]),
     /// The id has an article.
-    Exists,
+    Exists(&'s str),
     /// A success names the id, and sends this block of its article.
     Sends {
+        /// The message-id.
+        id: &'s str,
         /// The parts of the article that the command asks for.
         what: What,
         /// The lines that are sent, if any are.
         block: &'s Option<Block<'s>>,
     },
-}
-
-/// The part of a saying that is about one message-id.
-#[derive(Drop)]
-pub(crate) struct ArticlePart<'s> {
-    /// The octets of the message-id.
-    pub(crate) id: &'s [u8],
-    /// What is said of the id.
-    pub(crate) said: OfArticle<'s>,
 }
 
 /// The part of a saying that lists all groups that match.
@@ -247,10 +240,7 @@ impl<'s> Saying<'s> {
     {
         match (which, code) {
             (Which::Id(word), 430) => Saying {
-                article: Some(ArticlePart {
-                    id: *word,
-                    said: OfArticle::Lacks,
-                }),
+                article: Some(ArticlePart::Lacks(*word)),
                 ..NOTHING
             },
             (Which::Number(Some(n)), 423) => Saying::asks(selected, NumbersPart::lacks(*n)),
@@ -353,10 +343,7 @@ impl<'s> Saying<'s> {
     {
         Saying {
             group: Some(GroupPart::with_id(name, numbers, number, id)),
-            article: Some(ArticlePart {
-                id: id.as_slice(),
-                said: OfArticle::Exists,
-            }),
+            article: Some(ArticlePart::Exists(id.as_str())),
             ..NOTHING
         }
     }
@@ -372,9 +359,10 @@ impl<'s> Saying<'s> {
     {
         Saying {
             group,
-            article: Some(ArticlePart {
-                id: id.as_slice(),
-                said: OfArticle::Sends { what, block },
+            article: Some(ArticlePart::Sends {
+                id: id.as_str(),
+                what,
+                block,
             }),
             ..NOTHING
         }

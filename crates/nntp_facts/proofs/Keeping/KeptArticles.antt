@@ -7,7 +7,7 @@ use Rattle.std.specs.Cmp.Lexicographic.{slice_cmp, same_text, nat_list_cmp_total
 use Rattle.std.specs.Ordering.{nat_cmp, eq_by_cmp}
 use Rattle.std.specs.Cmp.{eq_by_cmp_equiv}
 use Rattle.std.specs.FinMap.{FinMap, get, entries, IsAntisymmetric, insert, get-insert, slice_cmp-IsAntisymmetric, nat_cmp-IsAntisymmetric}
-use Rattle.std.proofs.lemmas.Bool.{true≢false, or_left, or_right, false_from_ne_true, not-true, not-false}
+use Rattle.std.proofs.lemmas.Bool.{true≢false, or_left, or_right, false_from_ne_true, not-false}
 use Rattle.nntp_wire.specs.declared.command.What.{What}
 use Rattle.nntp_article.specs.Article.Parts.{Id, Line}
 use Rattle.nntp_article.specs.Session.Spool.{Name}
@@ -16,7 +16,7 @@ use Rattle.nntp_facts.specs.Facts.{Fact, IdAt, TextIs, NoArticle}
 use Rattle.nntp_facts.specs.Given.{mentions, is_mentioned, gives_article, first_given, head_in, body_in}
 use Rattle.nntp_facts.specs.Together.{shows_article, denies_article, GiveSame, JoinArticles}
 use Rattle.nntp_facts.specs.Kept.{KeptArticle, AreKeptArticles}
-use Rattle.nntp_facts.specs.Articles.{head_sent, body_sent, AreSame, MayBeSent, denied, unsent, with_sent, articles_in}
+use Rattle.nntp_facts.specs.Articles.{head_sent, body_sent, AreSame, MayBeSent, denied, unsent, is_there, with_new, with_sent, articles_in}
 use Rattle.nntp_wire.proofs.ShownMaps.{equal_is}
 use Rattle.nntp_facts.proofs.Maps.{get_in, in_get}
 use Rattle.nntp_facts.proofs.Members.{In}
@@ -40,19 +40,15 @@ get_elsewhere articles id q a e = get-insert nat_list_cmp_total articles id a q 
 get_there : (articles : FinMap (slice_cmp nat_cmp) KeptArticle) (id : Id) (a : KeptArticle) → get (insert articles id a) id ≡ Some a
 get_there articles id a = get-insert nat_list_cmp_total articles id a id ∙ ap (λ b. cond b (Some a) (get articles id)) ((eq_by_cmp_equiv nat_list_cmp_total).refl id)
 
--- a is kept of the id, if nothing is kept of it yet
-abbrev pub with_new : FinMap (slice_cmp nat_cmp) KeptArticle → Id → KeptArticle → FinMap (slice_cmp nat_cmp) KeptArticle
-with_new articles id a = cond (is_some (get articles id)) articles (insert articles id a)
-
 -- the same, where it is put in if it wasn't there
-new_elsewhere : (articles : FinMap (slice_cmp nat_cmp) KeptArticle) (id q : Id) (a : KeptArticle) → is_same id q ≡ false → get (with_new articles id a) q ≡ get articles q
+pub new_elsewhere : (articles : FinMap (slice_cmp nat_cmp) KeptArticle) (id q : Id) (a : KeptArticle) → is_same id q ≡ false → get (with_new articles id a) q ≡ get articles q
 new_elsewhere articles id q a e = by (is_some (get articles id))
   where
     by : (b : Bool) → get (cond b articles (insert articles id a)) q ≡ get articles q
     by true = refl
     by false = get_elsewhere articles id q a e
 
-new_there : (articles : FinMap (slice_cmp nat_cmp) KeptArticle) (id : Id) (a : KeptArticle) → get (with_new articles id a) id ≡ Some (unwrap_or (get articles id) a)
+pub new_there : (articles : FinMap (slice_cmp nat_cmp) KeptArticle) (id : Id) (a : KeptArticle) → get (with_new articles id a) id ≡ Some (unwrap_or (get articles id) a)
 new_there articles id a = by (get articles id) refl
   where
     by : (o : Option KeptArticle) → get articles id ≡ o → get (cond (is_some o) articles (insert articles id a)) id ≡ Some (unwrap_or o a)
@@ -80,19 +76,6 @@ may_stand facts articles name n id kept =
     let s = says facts articles id kept in
     let j = stand_joins facts name n id in
     (λ h. sym s.denied ∙ j.0 h, λ e. j.1 (s.denied ∙ e))
-
--- the test of an id of which something is known
-pub may_stand_known : (facts : List Fact) (articles : FinMap (slice_cmp nat_cmp) KeptArticle) (name : Name) (n : ℕ) (id : Id) (a : KeptArticle) (b : Bool) → AreKeptArticles facts articles
-    → Some a ≡ get articles id → b ≡ a.is_denied → IsTrue (not b) ↔ JoinArticles facts (IdAt name n id ∷ [])
-may_stand_known facts articles name n id a b kept known is =
-    let iff = may_stand facts articles name n id kept in
-    let same : option_map_or (λ a. a.is_denied) (get articles id) false ≡ b = ap (λ o. option_map_or (λ a. a.is_denied) o false) (sym known) ∙ sym is in
-    (λ t. iff.1 (same ∙ not-true b t), λ j. ap not (sym same ∙ iff.0 j))
-
--- and of an unknown one
-pub may_stand_unknown : (facts : List Fact) (articles : FinMap (slice_cmp nat_cmp) KeptArticle) (name : Name) (n : ℕ) (id : Id) → AreKeptArticles facts articles
-    → None ≡ get articles id → JoinArticles facts (IdAt name n id ∷ [])
-may_stand_unknown facts articles name n id kept unknown = (may_stand facts articles name n id kept).1 (ap (λ o. option_map_or (λ a. a.is_denied) o false) (sym unknown))
 
 -- what is said then of an id that isn't denied
 says_more : (facts : List Fact) (fact : Fact) (id : Id) (o : Option KeptArticle) (a : KeptArticle) → IsSaidOf facts id o
@@ -141,24 +124,11 @@ lack_joins facts id = (
 )
 
 pub may_lack : (facts : List Fact) (articles : FinMap (slice_cmp nat_cmp) KeptArticle) (id : Id) → AreKeptArticles facts articles
-    → JoinArticles facts (NoArticle id ∷ []) ↔ (option_map_or (λ a. not a.is_denied) (get articles id) false ≡ false)
+    → JoinArticles facts (NoArticle id ∷ []) ↔ (is_there (get articles id) ≡ false)
 may_lack facts articles id kept =
     let s = says facts articles id kept in
     let j = lack_joins facts id in
     (λ h. sym s.shown ∙ j.0 h, λ e. j.1 (s.shown ∙ e))
-
--- the test of an id of which something is known
-pub may_lack_known : (facts : List Fact) (articles : FinMap (slice_cmp nat_cmp) KeptArticle) (id : Id) (a : KeptArticle) (b : Bool) → AreKeptArticles facts articles
-    → Some a ≡ get articles id → b ≡ a.is_denied → IsTrue b ↔ JoinArticles facts (NoArticle id ∷ [])
-may_lack_known facts articles id a b kept known is =
-    let iff = may_lack facts articles id kept in
-    let same : option_map_or (λ a. not a.is_denied) (get articles id) false ≡ not b = ap (λ o. option_map_or (λ a. not a.is_denied) o false) (sym known) ∙ ap not (sym is) in
-    (λ t. iff.1 (same ∙ ap not t), λ j. not-false b (sym same ∙ iff.0 j))
-
--- and of an unknown one
-pub may_lack_unknown : (facts : List Fact) (articles : FinMap (slice_cmp nat_cmp) KeptArticle) (id : Id) → AreKeptArticles facts articles
-    → None ≡ get articles id → JoinArticles facts (NoArticle id ∷ [])
-may_lack_unknown facts articles id kept unknown = (may_lack facts articles id kept).1 (ap (λ o. option_map_or (λ a. not a.is_denied) o false) (sym unknown))
 
 -- what is said then of an id that isn't shown
 says_denied : (facts : List Fact) (id : Id) (o : Option KeptArticle) (a : KeptArticle) → IsSaidOf facts id o → option_map_or (λ a. not a.is_denied) o false ≡ false → a.is_denied ≡ true

@@ -1,24 +1,15 @@
-//! What is known of one message-id.
-ghost use Rattle.std.specs.Prelude.{◌≡◌, ◌↔◌, false, IsTrue, IfOk, OnOk, option_map};
+//! What is known of one article.
+ghost use Rattle.std.specs.Prelude.{◌≡◌, ◌↔◌, IsTrue, IfOk, OnOk, option_map};
 ghost use Rattle.std.specs.Option.{option_or};
 ghost use Rattle.nntp_article.specs.Article.Parts.{Id};
 ghost use Rattle.nntp_article.specs.Session.Machine.{head_fits};
 ghost use Rattle.nntp_facts.specs.Articles.{head_sent, body_sent, AreSame, MayBeSent, unsent, with_sent};
 ghost use Rattle.nntp_facts.specs.Kept.{IsAddedIf};
-ghost use Rattle.nntp_facts.specs.ArticleView.{known_article, known_value};
+ghost use Rattle.nntp_facts.specs.ArticleView.{known_article};
 
 use nntp_article::Parts;
 use nntp_wire::{Block, OwnedBlock, What};
 use std::alloc::{AllocError, Allocator};
-
-/// What is known of a message-id that an answer mentions.
-#[derive(Drop)]
-pub(crate) enum Known<A: Allocator> {
-    /// The id has no article.
-    Denied,
-    /// The id has an article, of which this is known.
-    There(KnownArticle<A>),
-}
 
 /// What is known of an article.
 #[derive(Drop)]
@@ -105,18 +96,6 @@ fn hold<A: Allocator + Copy>(
     Ok(())
 }
 
-impl<A: Allocator + Copy> KnownArticle<A> {
-    /// Holds the parts that a success sends.
-    fn send(&mut self, alloc: A, sent: &Sent<'_>) -> Result<(), AllocError>
-        ensures { OnOk result (known_article self.new ≡ with_sent (known_article self.old) sent.now.head sent.now.body) }
-    {
-        hold(alloc, &mut self.head, &sent.head)?;
-        hold(alloc, &mut self.body, &sent.body)?;
-        self.is_sent = true;
-        Ok(())
-    }
-}
-
 impl<A: Allocator> KnownArticle<A> {
     /// Returns what is known of an article that no success named.
     pub(crate) fn unsent() -> KnownArticle<A>
@@ -128,46 +107,29 @@ impl<A: Allocator> KnownArticle<A> {
             body: None,
         }
     }
-}
 
-impl<A: Allocator> Known<A> {
-    /// Tells whether the id has no article.
-    pub(crate) fn is_denied(&self) -> bool
-        ensures { result ≡ (known_value self.now).is_denied }
-    {
-        match self {
-            Known::Denied => true,
-            Known::There(_) => false,
-        }
-    }
-
-    /// Tells whether these parts may be sent of the id's article.
+    /// Tells whether these parts may be sent of the article.
     fn may_send(&self, sent: &Sent<'_>) -> bool
-        ensures { IsTrue result ↔ MayBeSent (known_value self.now) sent.now.head sent.now.body }
+        ensures { IsTrue result ↔ MayBeSent (known_article self.now) sent.now.head sent.now.body }
     {
-        match self {
-            Known::There(article) => {
-                are_same(&sent.head, &article.head) && are_same(&sent.body, &article.body)
-            }
-            Known::Denied => false,
-        }
+        are_same(&sent.head, &self.head) && are_same(&sent.body, &self.body)
     }
 }
 
-impl<A: Allocator + Copy> Known<A> {
+impl<A: Allocator + Copy> KnownArticle<A> {
     /// Returns what is known of an article once these parts of it were sent first.
-    pub(crate) fn of_sent(alloc: A, sent: &Sent<'_>) -> Result<Known<A>, AllocError>
-        ensures { IfOk result (λ known. known_value known ≡ with_sent unsent sent.now.head sent.now.body) }
+    pub(crate) fn of_sent(alloc: A, sent: &Sent<'_>) -> Result<KnownArticle<A>, AllocError>
+        ensures { IfOk result (λ article. known_article article ≡ with_sent unsent sent.now.head sent.now.body) }
     {
         let mut article = KnownArticle::unsent();
         article.send(alloc, sent)?;
-        Ok(Known::There(article))
+        Ok(article)
     }
 
     /// Holds the parts that a success sends, if they may be sent, and tells whether they may.
     pub(crate) fn note(&mut self, alloc: A, sent: &Sent<'_>) -> Result<bool, AllocError>
-        ensures { IfOk result (λ may. IsAddedIf (MayBeSent (known_value self.old) sent.now.head sent.now.body)
-            (λ known. known ≡ with_sent (known_value self.old) sent.now.head sent.now.body) (known_value self.old) (known_value self.new) may) }
+        ensures { IfOk result (λ may. IsAddedIf (MayBeSent (known_article self.old) sent.now.head sent.now.body)
+            (λ article. article ≡ with_sent (known_article self.old) sent.now.head sent.now.body) (known_article self.old) (known_article self.new) may) }
     {
         if !self.may_send(sent) {
             return Ok(false);
@@ -176,13 +138,13 @@ impl<A: Allocator + Copy> Known<A> {
         Ok(true)
     }
 
-    /// Holds the parts that a success sends, where the id has an article.
+    /// Holds the parts that a success sends.
     fn send(&mut self, alloc: A, sent: &Sent<'_>) -> Result<(), AllocError>
-        ensures { OnOk result ((known_value self.old).is_denied ≡ false → known_value self.new ≡ with_sent (known_value self.old) sent.now.head sent.now.body) }
+        ensures { OnOk result (known_article self.new ≡ with_sent (known_article self.old) sent.now.head sent.now.body) }
     {
-        match self {
-            Known::There(article) => article.send(alloc, sent),
-            Known::Denied => Ok(()),
-        }
+        hold(alloc, &mut self.head, &sent.head)?;
+        hold(alloc, &mut self.body, &sent.body)?;
+        self.is_sent = true;
+        Ok(())
     }
 }

@@ -1,14 +1,15 @@
 //! The articles that answers show, one after the other.
-ghost use Rattle.std.specs.Prelude.{◌≡◌, ◌∷◌, [], MatchOption};
+ghost use Rattle.std.specs.Prelude.{◌≡◌};
 ghost use Rattle.std.specs.Iterator.{YieldsFirst, item_count};
 ghost use Rattle.nntp_facts.specs.Readers.{shown_article, articles_shown_in};
 ghost use Rattle.nntp_facts.specs.ArticleView.{known_article, entries_value};
 
-use crate::articles::known::{Known, KnownArticle};
+use crate::articles::known::KnownArticle;
 use nntp_wire::{Block, OwnedBlock};
 use std::alloc::{Allocator, Global};
 use std::collections::btree_map;
 use std::marker::Model;
+use std::rc::RcStr;
 
 /// An article that answers show, and so every spool has that permits them.
 #[derive(Drop)]
@@ -87,7 +88,7 @@ fn lent<A: Allocator>(held: &Option<OwnedBlock<A>>) -> Option<Block<'_>>
 /// An iterator over the articles that answers show, in byte order of their message-ids.
 #[derive(Drop)]
 pub struct ShownArticles<'a, A: Allocator = Global> {
-    rest: btree_map::Iter<'a, Vec<u8, A>, Known<A>>,
+    rest: btree_map::Iter<'a, RcStr<A>, KnownArticle<A>>,
 }
 
 impl<'a, A: Allocator> Model for ShownArticles<'a, A> {
@@ -106,7 +107,7 @@ impl<'a, A: Allocator> Model for ShownArticles<'a, A> {
 
 impl<'a, A: Allocator> ShownArticles<'a, A> {
     /// Begins with the first of these ids.
-    pub(crate) fn new(rest: btree_map::Iter<'a, Vec<u8, A>, Known<A>>) -> ShownArticles<'a, A>
+    pub(crate) fn new(rest: btree_map::Iter<'a, RcStr<A>, KnownArticle<A>>) -> ShownArticles<'a, A>
         ensures { result ≡ articles_shown_in (entries_value rest.entry) }
     {
         ShownArticles { rest }
@@ -121,21 +122,7 @@ impl<'a, A: Allocator> Iterator for ShownArticles<'a, A> {
     ghost remaining = { item_count (λ articles. articles) };
 
     fn next(&mut self) -> Option<ShownArticle<'a>> {
-        next_article(&mut self.rest)
+        let (id, article) = self.rest.next()?;
+        Some(ShownArticle::new(id.as_str().as_bytes(), article))
     }
-}
-
-/// Returns the next article, and passes over the ids that have none.
-fn next_article<'a, A: Allocator>(
-    rest: &mut btree_map::Iter<'a, Vec<u8, A>, Known<A>>,
-) -> Option<ShownArticle<'a>>
-    ensures { MatchOption result ((articles_shown_in (entries_value rest.old) ≡ []) × (articles_shown_in (entries_value rest.new) ≡ []))
-        (λ a. articles_shown_in (entries_value rest.old) ≡ a ∷ articles_shown_in (entries_value rest.new)) }
-{
-    while let Some((id, known)) = rest.next() {
-        if let Known::There(article) = known {
-            return Some(ShownArticle::new(id.as_slice(), article));
-        }
-    }
-    None
 }

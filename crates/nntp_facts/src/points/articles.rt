@@ -15,7 +15,7 @@ ghost use Rattle.nntp_facts.specs.StatementView.{statement_of};
 use crate::articles::Sent;
 use crate::point::Point;
 use crate::points::statement::Statement;
-use crate::saying::{ArticlePart, OfArticle};
+use crate::saying::ArticlePart;
 use nntp_wire::Block;
 
 /// Returns the id that the answer denies, if one of all shows that it has an article.
@@ -36,11 +36,8 @@ fn denied_in<'s>(article: &Option<ArticlePart<'s>>) -> Option<&'s [u8]>
     ensures { (id : Id) → denies_id id (option_map article_said article.now) ≡ option_map_or (λ other. is_same other.now id) result false }
 {
     match article {
-        Some(article) => match article.said {
-            OfArticle::Lacks => Some(article.id),
-            _ => None,
-        },
-        None => None,
+        Some(ArticlePart::Lacks(id)) => Some(*id),
+        _ => None,
     }
 }
 
@@ -56,9 +53,18 @@ fn shows(article: &Option<ArticlePart<'_>>, id: &[u8]) -> bool
     ensures { result ≡ shows_id id.now (option_map article_said article.now) }
 {
     match article {
-        Some(article) => !matches!(article.said, OfArticle::Lacks) && article.id == id,
-        None => false,
+        Some(ArticlePart::Exists(other) | ArticlePart::Sends { id: other, .. }) => {
+            is_same(*other, id)
+        }
+        _ => false,
     }
+}
+
+/// Tells whether the octets are those of the id.
+fn is_same(id: &str, octets: &[u8]) -> bool
+    ensures { result ≡ is_same id.now octets.now }
+{
+    id.as_bytes() == octets
 }
 
 /// A part of an article.
@@ -79,16 +85,17 @@ pub(crate) fn sent_twice<'s>(
     ensures { (profile : Profile) (facts : List Fact) → AllTell profile (map statement_of all.now) facts
         → Contains (map statement_of all.now) (statement_of told.now) → IsPointWith facts (statement_of told.now) (rank_of_part part) (option_map point_of result) }
 {
-    let Some(article) = &told.saying.article else {
+    let Some(ArticlePart::Sends { id, .. }) = &told.saying.article else {
         return None;
     };
-    let Some(lines) = sent(&told.saying.article, part, article.id) else {
+    let id = id.as_bytes();
+    let Some(lines) = sent(&told.saying.article, part, id) else {
         return None;
     };
-    if is_first_sent(all, part, article.id, &lines) {
+    if is_first_sent(all, part, id, &lines) {
         return None;
     }
-    Some(point(part, article.id))
+    Some(point(part, id))
 }
 
 /// Tells whether these are the lines of the part that are sent first of the id's article.
@@ -129,11 +136,17 @@ fn first_sent<'s>(all: &[Statement<'s>], part: Part, id: &[u8]) -> Option<Block<
 fn sent<'s>(article: &Option<ArticlePart<'s>>, part: Part, id: &[u8]) -> Option<Block<'s>>
     ensures { (group : Option OfGroup) → IfSome (option_map article_said article.now) (MayBeOf group) → result ≡ part_told part id.now (option_map article_said article.now) }
 {
-    let article = article.as_ref()?;
-    let OfArticle::Sends { what, block } = &article.said else {
+    let Some(
+        ArticlePart::Sends {
+            id: other,
+            what,
+            block,
+        },
+    ) = article
+    else {
         return None;
     };
-    if article.id != id {
+    if !is_same(*other, id) {
         return None;
     }
     let sent = Sent::of(*what, *block);

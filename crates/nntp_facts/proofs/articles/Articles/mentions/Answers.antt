@@ -1,18 +1,18 @@
-use Rattle.std.proofs.Common.{is_some, ap, sym, ◌∙◌}
-use Rattle.std.specs.Ordering.{nat_cmp}
-use Rattle.std.specs.Cmp.Lexicographic.{slice_cmp, nat_list_cmp_total}
-use Rattle.std.specs.FinMap as map
-use Rattle.nntp_wire.proofs.ShownMaps.{get-shown, is_some-option_map}
-use Rattle.nntp_facts.specs.ArticleView.{known_value}
+use Rattle.std.proofs.Common.{sym, ◌∙◌}
 use Rattle.nntp_facts.proofs.Keeping.SaidOfArticles.{says}
+use Rattle.nntp_facts.proofs.Keeping.KeptIds.{kept_if_there, kept_if_denied}
 use Rattle.nntp_facts.proofs.articles.Articles.mentions.Goals as goal
 
-pub returns-clause-is : goal.returns-clause-is
-returns-clause-is g c =
-    c.contains_key.ensures ∙ sym (is_some-option_map known_value _)
-    ∙ sym (ap is_some (get-shown (slice_cmp nat_cmp)
-    (λ k. k.items) known_value nat_list_cmp_total c.self.inside.known.entries c.args.id.now))
-    ∙ ap (λ m. is_some (map.get m c.args.id.now)) c.self.view_is
+pub returns-then-has_octets-clause-is : goal.returns-then-has_octets-clause-is
+returns-then-has_octets-clause-is g c =
+    c.if-has_octets.true ∙ kept_if_there c.self.inside.known.entries c.self.inside.denied.keys c.args.self.now c.self.view_is c.args.id.now (sym c.has_octets.ensures ∙ c.if-has_octets.true)
 
-pub returns-clause-facts : goal.returns-clause-facts
-returns-clause-facts g c = λ facts kept. returns-clause-is g c ∙ sym (says facts c.args.self.now c.args.id.now kept).mentioned
+pub returns-else-has_octets-clause-is : goal.returns-else-has_octets-clause-is
+returns-else-has_octets-clause-is g c =
+    c.contains.ensures ∙ kept_if_denied c.self.inside.known.entries c.self.inside.denied.keys c.args.self.now c.self.view_is c.args.id.now (sym c.has_octets.ensures ∙ c.if-has_octets.false)
+
+pub returns-then-has_octets-clause-facts : goal.returns-then-has_octets-clause-facts
+returns-then-has_octets-clause-facts g c = λ facts kept. returns-then-has_octets-clause-is g c ∙ sym (says facts c.args.self.now c.args.id.now kept).mentioned
+
+pub returns-else-has_octets-clause-facts : goal.returns-else-has_octets-clause-facts
+returns-else-has_octets-clause-facts g c = λ facts kept. returns-else-has_octets-clause-is g c ∙ sym (says facts c.args.self.now c.args.id.now kept).mentioned

@@ -1,10 +1,9 @@
-use Rattle.std.proofs.Common.{option_map, sym, ap, ◌∙◌}
-use Rattle.nntp_facts.specs.ArticleView.{known_value}
-use Rattle.nntp_facts.proofs.Keeping.NotedArticles.{lack_known, lack_unknown}
+use Rattle.std.proofs.Common.{sym, ◌∙◌}
+use Rattle.nntp_facts.proofs.Keeping.NotedArticles.{lack_there, lack_new}
 use Rattle.nntp_facts.proofs.articles.Articles.note_lack.Goals as goal
 
-pub returns-in-Some : goal.returns-in-Some
-returns-in-Some g c = λ facts kept. lack_known facts c.args.self.now c.args.id.now _ c.is_denied.result kept c.in-Some.ensures c.is_denied.ensures
+pub returns-then-has_octets : goal.returns-then-has_octets
+returns-then-has_octets g c = λ facts kept. lack_there facts c.args.self.now c.args.id.now kept (sym c.has_octets.ensures ∙ c.if-has_octets.true)
 
 pub returns : goal.returns
-returns g c = λ facts kept. lack_unknown facts c.args.self.now c.put.new.self c.args.id.now kept (ap (option_map (λ k. known_value k.now)) (sym c.in_default.is) ∙ c.get.ensures) c.in_ok-put.ensures
+returns g c = λ facts kept. lack_new facts c.args.self.now c.deny.new.self c.args.id.now kept (sym c.has_octets.ensures ∙ c.if-has_octets.false) c.in_ok-deny.ensures

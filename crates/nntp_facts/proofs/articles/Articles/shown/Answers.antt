@@ -1,14 +1,19 @@
-use Rattle.std.proofs.Common.{ap, sym, ◌∙◌}
+use Rattle.std.proofs.Common.{map, ap, sym, ◌∙◌}
 use Rattle.std.specs.Ordering.{nat_cmp}
 use Rattle.std.specs.Cmp.Lexicographic.{slice_cmp, nat_list_cmp_total}
-use Rattle.std.specs.FinMap as map
+use Rattle.std.specs.FinMap as finite
+use Rattle.std.specs.Rc.{rc_str_bytes}
 use Rattle.nntp_wire.proofs.ShownMaps.{entries-shown}
-use Rattle.nntp_facts.specs.Readers.{articles_shown_in, shown_articles}
-use Rattle.nntp_facts.specs.ArticleView.{known_value, entries_value}
+use Rattle.nntp_facts.specs.Readers.{shown_article, articles_shown_in, shown_articles}
+use Rattle.nntp_facts.specs.ArticleView.{known_article, entries_value}
+use Rattle.nntp_facts.proofs.Keeping.KeptIds.{articles-with_denied}
 use Rattle.nntp_facts.proofs.articles.Articles.shown.Goals as goal
 
 pub returns : goal.returns
 returns g c =
-    let shown = entries-shown (slice_cmp nat_cmp) (λ k. k.items) known_value nat_list_cmp_total
-    (map.slice_cmp-IsAntisymmetric map.nat_cmp-IsAntisymmetric) c.self.inside.known.entries c.iter.ensures.ordered in
-    c.new.ensures ∙ ap (λ es. articles_shown_in (entries_value es)) c.iter.ensures.rest ∙ ap articles_shown_in (sym shown) ∙ ap shown_articles c.self.view_is
+    let es = c.self.inside.known.entries in
+    let listed = entries-shown (slice_cmp nat_cmp) (λ k. rc_str_bytes k) known_article nat_list_cmp_total
+    (finite.slice_cmp-IsAntisymmetric finite.nat_cmp-IsAntisymmetric) es c.iter.ensures.ordered in
+    let those = articles-with_denied (finite.from_entries (entries_value es)) (map (λ id. id.items) c.self.inside.denied.keys) in
+    c.new.ensures ∙ ap (λ es. articles_shown_in (entries_value es)) c.iter.ensures.rest ∙ ap articles_shown_in (sym listed)
+    ∙ ap (map (λ e. shown_article e.0 e.1)) (sym those) ∙ ap shown_articles c.self.view_is

@@ -1,9 +1,14 @@
-use Rattle.std.proofs.Common.{ℕ, List, Option, Bor, sym, subst}
+use Rattle.std.proofs.Common.{◌≡◌, ℕ, Bool, true, false, List, Option, Bor, refl, sym, subst, ◌∙◌}
 use Rattle.std.specs.Prelude.{◌↔◌, IfSome, IsTrue, IsFalse, not, option_map}
+use Rattle.std.proofs.lemmas.Bool.{true≢false}
 use Rattle.nntp_facts.specs.Given.{is_shown_group}
 use Rattle.nntp_facts.specs.Kept.{IsKept, told}
-use Rattle.nntp_facts.proofs.Keeping.AddedIfTested.{unless}
 use Rattle.nntp_facts.proofs.kept.Kept.may_be_missing.Goals as goal
+
+-- a test that has to fail
+unless : (a b : Bool) → a ≡ b → IsTrue (not a) ↔ IsFalse b
+unless true b e = (λ t. absurd (true≢false (sym t)), λ f. absurd (true≢false (e ∙ f)))
+unless false b e = (λ t. sym e, λ f. refl)
 
 pub returns-in-Some : goal.returns-in-Some
 returns-in-Some g c facts kept =

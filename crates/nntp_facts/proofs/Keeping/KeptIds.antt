@@ -1,0 +1,187 @@
+-- What is kept of ids: of those that have articles, and of those that are denied.
+use Rattle.std.proofs.Common.{◌≡◌, ℕ, Bool, true, false, cond, ◌||◌, not, List, [], ◌∷◌, map, Vec, Option, None, Some, is_some, option_map, refl, sym, ap, subst, ◌∙◌}
+use Rattle.std.specs.Prelude.{unwrap_or, MatchOption}
+use Rattle.std.specs.List.{list_any, filter}
+use Rattle.std.specs.Option.{option_or}
+use Rattle.std.specs.declared.cmp.Ordering.{Ordering}
+use Rattle.std.specs.declared.cmp.Ordering.TheVariants.{Less, Equal, Greater}
+use Rattle.std.specs.declared.rc.RcStr.{RcStr}
+use Rattle.std.specs.Ordering.{nat_cmp, is_eq, eq_by_cmp}
+use Rattle.std.specs.Cmp.Lexicographic.{slice_cmp, nat_list_cmp_total, same_text}
+use Rattle.std.specs.FinMap.{FinMap, get, insert, entries, find, put, from_entries, get-insert, get-entries, entries-insert, same_map, slice_cmp-IsAntisymmetric, nat_cmp-IsAntisymmetric}
+use Rattle.std.specs.FinMap.Entries.{by_order}
+use Rattle.std.specs.BTreeSet.{insert_key}
+use Rattle.std.specs.Map.{lookup, set_value}
+use Rattle.std.specs.Str.{IsUtf8}
+use Rattle.std.specs.Rc.{rc_str_bytes}
+use Rattle.std.proofs.lemmas.Bool.{true≢false}
+use Rattle.std.proofs.lemmas.Map.Text.{is_eq-slice_cmp}
+use Rattle.std.proofs.lemmas.Slice.Eq.{bytes_eq-Decides}
+use Rattle.std.proofs.lemmas.Str.{IsUtf8-string_bytes}
+use Rattle.nntp_wire.proofs.ShownMaps.{get-shown, replaced}
+use Rattle.nntp_article.specs.Article.Parts.{Id}
+use Rattle.nntp_article.specs.Session.Machine.{is_same}
+use Rattle.nntp_facts.specs.Kept.{KeptArticle}
+use Rattle.nntp_facts.specs.Articles.{denied, is_there, with_new, with_denied, articles_in}
+use Rattle.nntp_facts.specs.ArticleView.{known_article, entries_value}
+use Rattle.nntp_facts.specs.declared.articles.known.KnownArticle.{KnownArticle}
+use Rattle.nntp_facts.proofs.Together.TwoListsOfFacts.{or_none}
+use Rattle.nntp_facts.proofs.Keeping.KeptArticles.{new_elsewhere, new_there}
+use Rattle.nntp_facts.proofs.Keeping.KeptNames.{any_put, any-map, is_key}
+
+abbrev Articles : Type 0
+Articles = FinMap (slice_cmp nat_cmp) KeptArticle
+
+-- ---- denied ids beside articles
+
+-- what is kept of an id of which no article is known
+abbrev pub if_denied : Bool → Option KeptArticle
+if_denied b = cond b (Some denied) None
+
+or_some : (o : Option KeptArticle) (a : KeptArticle) → Some (unwrap_or o a) ≡ option_or o (Some a)
+or_some None a = refl
+or_some (Some b) a = refl
+
+or_either : (o : Option KeptArticle) (a b : Bool) → option_or (option_or o (if_denied b)) (if_denied a) ≡ option_or o (if_denied (a || b))
+or_either (Some x) a b = refl
+or_either None true true = refl
+or_either None true false = refl
+or_either None false b = or_none (if_denied b)
+
+or_put : (b : Bool) (a : KeptArticle) (o x : Option KeptArticle) → option_or (cond b (Some a) o) x ≡ cond b (Some a) (option_or o x)
+or_put true a o x = refl
+or_put false a o x = refl
+
+get-with_new : (articles : Articles) (id q : Id) (a : KeptArticle) → get (with_new articles id a) q ≡ option_or (get articles q) (cond (is_same id q) (Some a) None)
+get-with_new articles id q a = by (is_same id q) refl
+  where
+    by : (b : Bool) → is_same id q ≡ b → get (with_new articles id a) q ≡ option_or (get articles q) (cond b (Some a) None)
+    by true e = subst (λ q. get (with_new articles id a) q ≡ option_or (get articles q) (Some a)) (same_text id q (sym e)) (new_there articles id a ∙ or_some (get articles id) a)
+    by false e = new_elsewhere articles id q a e ∙ sym (or_none (get articles q))
+
+-- an id is denied where it is one of these, and has no article
+get-with_denied : (articles : Articles) (ids : List Id) (q : Id) → get (with_denied articles ids) q ≡ option_or (get articles q) (if_denied (list_any (λ id. is_same id q) ids))
+get-with_denied articles [] q = sym (or_none (get articles q))
+get-with_denied articles (id ∷ ids) q =
+    get-with_new (with_denied articles ids) id q denied ∙ ap (λ o. option_or o (if_denied (is_same id q))) (get-with_denied articles ids q)
+    ∙ or_either (get articles q) (is_same id q) (list_any (λ id. is_same id q) ids)
+
+same_articles : (a b : Articles) → ((q : Id) → get a q ≡ get b q) → a ≡ b
+same_articles = same_map nat_list_cmp_total (slice_cmp-IsAntisymmetric nat_cmp-IsAntisymmetric)
+
+-- an article is put in beside denied ids
+pub with_denied-insert : (articles : Articles) (ids : List Id) (id : Id) (a : KeptArticle) → with_denied (insert articles id a) ids ≡ insert (with_denied articles ids) id a
+with_denied-insert articles ids id a = same_articles _ _ (λ q.
+    let is = eq_by_cmp (slice_cmp nat_cmp) q id in
+    let others = if_denied (list_any (λ id. is_same id q) ids) in
+    get-with_denied (insert articles id a) ids q ∙ ap (λ o. option_or o others) (get-insert nat_list_cmp_total articles id a q) ∙ or_put is a (get articles q) others
+    ∙ sym (get-insert nat_list_cmp_total (with_denied articles ids) id a q ∙ ap (cond is (Some a)) (get-with_denied articles ids q)))
+
+-- one more id is denied
+pub one_more_denied : {A : Type 0} (articles : Articles) (ks : List (Vec ℕ A)) (k : Vec ℕ A)
+    → with_denied articles (map (λ k. k.items) (insert_key (λ a b. slice_cmp nat_cmp a.items b.items) ks k)) ≡ with_new (with_denied articles (map (λ k. k.items) ks)) k.items denied
+one_more_denied articles ks k = same_articles _ _ (λ q.
+    get-with_denied articles (map (λ k. k.items) (insert_key (λ a b. slice_cmp nat_cmp a.items b.items) ks k)) q
+    ∙ ap (λ b. option_or (get articles q) (if_denied b)) (any_put (λ k. k.items) (λ id. is_same id q) ks k)
+    ∙ sym (get-with_denied articles (k.items ∷ map (λ k. k.items) ks) q))
+
+-- what is put where nothing was, and doesn't pass, leaves those that pass
+filter-put : {K X : Type 0} (R : K → K → Ordering) (p : X → Bool) (k : K) (v : X) (es : List (K × X)) → p v ≡ false → find R k es ≡ None → filter (λ e. p e.1) (put R k v es) ≡ filter (λ e. p e.1) es
+filter-put R p k v [] fails none = rw fails refl
+filter-put {K = K} {X = X} R p k v (e ∷ es) fails none = by (R k e.0) none (filter-put R p k v es fails)
+  where
+    by : (r : Ordering) → cond (is_eq r) (Some e.1) (find R k es) ≡ None → (find R k es ≡ None → filter (λ e. p e.1) (put R k v es) ≡ filter (λ e. p e.1) es)
+        → filter (λ e. p e.1) (by_order r ((k, v) ∷ e ∷ es) ((e.0, v) ∷ es) (e ∷ put R k v es)) ≡ filter (λ e. p e.1) (e ∷ es)
+    by Less none more = rw fails refl
+    by Equal none more = cc
+    by Greater none more = ap (λ (fs : List (K × X)). cond (p e.1) (e ∷ fs) fs) (more none)
+
+-- the ids that have articles are those that have them without the denied ones
+pub articles-with_denied : (articles : Articles) (ids : List Id) → articles_in (entries (with_denied articles ids)) ≡ articles_in (entries articles)
+articles-with_denied articles [] = refl
+articles-with_denied articles (id ∷ ids) = by (get all id) refl ∙ articles-with_denied articles ids
+  where
+    all : Articles
+    all = with_denied articles ids
+
+    by : (o : Option KeptArticle) → get all id ≡ o → articles_in (entries (cond (is_some o) all (insert all id denied))) ≡ articles_in (entries all)
+    by None e =
+        ap articles_in (entries-insert nat_list_cmp_total all id denied)
+        ∙ filter-put (slice_cmp nat_cmp) (λ a. not a.is_denied) id denied (entries all) refl (sym (get-entries all id) ∙ e)
+    by (Some a) e = refl
+
+-- ---- what is found
+
+-- octets that aren't text are no key
+pub no_key : {A X : Type 0} (q : List ℕ) → (IsUtf8 q → ⊥) → (es : List (RcStr A × X)) → lookup (λ k. is_eq (slice_cmp nat_cmp q (rc_str_bytes k))) es ≡ None
+no_key q not_text [] = refl
+no_key {A} q not_text (e ∷ es) = rw (other e.0) (no_key q not_text es)
+  where
+    other : (k : RcStr A) → is_eq (slice_cmp nat_cmp q (rc_str_bytes k)) ≡ false
+    other k = by (is_eq (slice_cmp nat_cmp q (rc_str_bytes k))) refl
+      where
+        by : (b : Bool) → is_eq (slice_cmp nat_cmp q (rc_str_bytes k)) ≡ b → b ≡ false
+        by true e = absurd (not_text (subst IsUtf8 (sym ((bytes_eq-Decides q (rc_str_bytes k)).0 (sym (is_eq-slice_cmp q (rc_str_bytes k)) ∙ e))) (IsUtf8-string_bytes k.text.value)))
+        by false e = refl
+
+-- the ids as the code keeps them
+module _ {A : Type 0} (es : List (RcStr A × KnownArticle A)) (ks : List (Vec ℕ A)) (articles : Articles) (view : with_denied (from_entries (entries_value es)) (map (λ k. k.items) ks) ≡ articles) (id : Id) where
+  abbrev known : Option (KnownArticle A)
+  known = lookup (λ k. is_eq (slice_cmp nat_cmp id (rc_str_bytes k))) es
+
+  abbrev is_denied : Bool
+  is_denied = list_any (λ k. is_eq (slice_cmp nat_cmp id k.items)) ks
+
+  pub found : get articles id ≡ option_or (option_map known_article known) (if_denied is_denied)
+  found =
+      ap (λ m. get m id) (sym view) ∙ get-with_denied (from_entries (entries_value es)) (map (λ k. k.items) ks) id
+      ∙ (λ i. option_or (get-shown (slice_cmp nat_cmp) (λ k. rc_str_bytes k) known_article nat_list_cmp_total es id i) (if_denied (denied_key i)))
+    where
+      denied_key : list_any (λ k. is_same k id) (map (λ k. k.items) ks) ≡ is_denied
+      denied_key = any-map (λ k. is_same k id) (λ k. k.items) ks ∙ sym (is_key (λ k. k.items) id ks)
+
+  -- the id has an article exactly if one is known
+  pub there : is_some known ≡ is_there (get articles id)
+  there = by known is_denied ∙ ap is_there (sym found)
+    where
+      by : (o : Option (KnownArticle A)) (b : Bool) → is_some o ≡ is_there (option_or (option_map known_article o) (if_denied b))
+      by (Some a) b = refl
+      by None true = refl
+      by None false = refl
+
+  -- and is kept exactly if it has one, or is denied
+  mentioned : (is_there (get articles id) || is_denied) ≡ is_some (get articles id)
+  mentioned = ap (λ o. is_there o || is_denied) found ∙ by known is_denied ∙ ap is_some (sym found)
+    where
+      by : (o : Option (KnownArticle A)) (b : Bool) → (is_there (option_or (option_map known_article o) (if_denied b)) || b) ≡ is_some (option_or (option_map known_article o) (if_denied b))
+      by (Some a) b = refl
+      by None true = refl
+      by None false = refl
+
+  pub kept_if_there : is_there (get articles id) ≡ true → true ≡ is_some (get articles id)
+  kept_if_there e = sym (ap (λ b. b || is_denied) e) ∙ mentioned
+
+  pub kept_if_denied : is_there (get articles id) ≡ false → is_denied ≡ is_some (get articles id)
+  kept_if_denied e = sym (ap (λ b. b || is_denied) e) ∙ mentioned
+
+  -- an article that is known is another from now on
+  pub replaced_known : (fs : List (RcStr A × KnownArticle A)) (old new : KnownArticle A) → Some old ≡ known → fs ≡ set_value (λ k. is_eq (slice_cmp nat_cmp id (rc_str_bytes k))) es new
+      → (with_denied (from_entries (entries_value fs)) (map (λ k. k.items) ks) ≡ insert articles id (known_article new)) × (get articles id ≡ Some (known_article old))
+  replaced_known fs old new had is =
+      let articles_only : Articles = from_entries (entries_value es) in
+      let ids : List Id = map (λ k. k.items) ks in
+      let r = replaced (slice_cmp nat_cmp) (λ k. rc_str_bytes k) known_article nat_list_cmp_total
+      (slice_cmp-IsAntisymmetric nat_cmp-IsAntisymmetric) es fs articles_only id old new refl had is in (
+        ap (λ m. with_denied m ids) r.0 ∙ with_denied-insert articles_only ids id (known_article new) ∙ ap (λ m. insert m id (known_article new)) view,
+        found ∙ ap (λ o. option_or (option_map known_article o) (if_denied is_denied)) (sym had),
+      )
+
+-- ---- by whether an id is kept
+
+pub where_kept : (N : Type 0) {S : Type 0} (o : Option KeptArticle) → is_some o ≡ true → S → MatchOption o N (λ a. S)
+where_kept N None e s = absurd (true≢false (sym e))
+where_kept N (Some a) e s = s
+
+pub where_unknown : {N : Type 0} (S : Type 0) (o : Option KeptArticle) → is_some o ≡ false → N → MatchOption o N (λ a. S)
+where_unknown S None e n = n
+where_unknown S (Some a) e n = absurd (true≢false e)
