@@ -103,6 +103,16 @@ impl<A: Allocator + Copy> Articles<A> {
         }
     }
 
+    /// Returns a handle of the id's text: of the one that is held already, where the id has an article.
+    pub(crate) fn handle(&self, id: &str) -> Result<RcStr<A>, AllocError>
+        ensures { IfOk result (λ handle. rc_str_bytes handle ≡ id.now) }
+    {
+        match self.known.get_key_value(id) {
+            Some((text, _)) => Ok(text.clone()?),
+            None => RcStr::from_str(self.alloc, id),
+        }
+    }
+
     /// Adds what is said of an id, if it may be so, and tells whether it may. After an error the articles
     /// say nothing of use.
     pub(crate) fn note(&mut self, part: &ArticlePart<'_>) -> Result<bool, AllocError>

@@ -12,6 +12,7 @@ ghost use Rattle.nntp_facts.specs.Kept.{Agree, IsFree, MayHave, ids_with, places
 ghost use Rattle.nntp_facts.specs.KeptSaying.{HasSaid};
 ghost use Rattle.nntp_facts.specs.Readers.{unseen_in, unseen_high_in};
 
+use crate::articles::Articles;
 use crate::numbers::Numbers;
 use crate::saying::{GroupPart, IdAt};
 use crate::shown::find;
@@ -57,31 +58,36 @@ impl<A: Allocator + Copy> Group<A> {
         }
     }
 
-    /// Adds what is said of the group. After an error the value says nothing of use.
-    pub(crate) fn add(&mut self, alloc: A, part: &GroupPart<'_>) -> Result<(), AllocError>
+    /// Adds what is said of the group; the text of an id is that of the articles, where they have it. After
+    /// an error the value says nothing of use.
+    pub(crate) fn add(
+        &mut self,
+        part: &GroupPart<'_>,
+        articles: &Articles<A>,
+    ) -> Result<(), AllocError>
         ensures numbers { OnOk result ((asks more : List Ask) → IsSummary self.old.numbers asks → Says (said part.now.numbers) more → IsSummary self.new.numbers (asks ++ more)) }
         ensures ids { OnOk result (Agree (get self.old.ids) (get self.old.places) (id_at part.now.id) → MayHave self.old.ids self.old.places (id_at part.now.id)
             → (self.new.ids ≡ ids_with self.old.ids (id_at part.now.id)) × (self.new.places ≡ places_with self.old.places (id_at part.now.id))) }
     {
         self.numbers.add(&part.numbers)?;
-        self.add_id(alloc, part.id)
+        self.add_id(part.id, articles)
     }
 
     /// Adds that the number has the id, if it may have it. After an error the value says nothing of use.
-    fn add_id(&mut self, alloc: A, id: Option<IdAt<'_>>) -> Result<(), AllocError>
+    fn add_id(&mut self, id: Option<IdAt<'_>>, articles: &Articles<A>) -> Result<(), AllocError>
         ensures numbers { self.new.numbers ≡ self.old.numbers }
         ensures ids { OnOk result (Agree (get self.old.ids) (get self.old.places) (id_at id.entry) → MayHave self.old.ids self.old.places (id_at id.entry)
             → (self.new.ids ≡ ids_with self.old.ids (id_at id.entry)) × (self.new.places ≡ places_with self.old.places (id_at id.entry))) }
     {
         match id {
-            Some(at) => self.add_id_at(alloc, at),
+            Some(at) => self.add_id_at(at, articles),
             None => Ok(()),
         }
     }
 
     /// Adds that the number has the id, if it may have it. Nothing is added where an id is shown at
     /// the number already. After an error the value says nothing of use.
-    fn add_id_at(&mut self, alloc: A, at: IdAt<'_>) -> Result<(), AllocError>
+    fn add_id_at(&mut self, at: IdAt<'_>, articles: &Articles<A>) -> Result<(), AllocError>
         ensures numbers { self.new.numbers ≡ self.old.numbers }
         ensures ids { OnOk result (Agree (get self.old.ids) (get self.old.places) (Some (at.entry.number, at.entry.id.now))
             → IsFree (get self.old.ids at.entry.number) (get self.old.places at.entry.id.now) (at.entry.number, at.entry.id.now)
@@ -90,15 +96,15 @@ impl<A: Allocator + Copy> Group<A> {
         if self.id(at.number).is_some() {
             return Ok(());
         }
-        self.identify(alloc, at)
+        self.identify(at, articles)
     }
 
     /// Adds that the number has the id. After an error the value says nothing of use.
-    fn identify(&mut self, alloc: A, at: IdAt<'_>) -> Result<(), AllocError>
+    fn identify(&mut self, at: IdAt<'_>, articles: &Articles<A>) -> Result<(), AllocError>
         ensures numbers { self.new.numbers ≡ self.old.numbers }
         ensures ids { OnOk result ((self.new.ids ≡ insert self.old.ids at.entry.number at.entry.id.now) × (self.new.places ≡ insert self.old.places at.entry.id.now at.entry.number)) }
     {
-        let id = RcStr::from_str(alloc, at.id)?;
+        let id = articles.handle(at.id)?;
         self.ids.insert(at.number, id.clone()?)?;
         self.places.insert(id, at.number)?;
         Ok(())

@@ -14,6 +14,7 @@ ghost use Rattle.nntp_facts.specs.Readers.{shown_groups};
 
 mod listed;
 
+use crate::articles::Articles;
 use crate::group::Group;
 use crate::joins::Joins;
 use crate::saying::GroupPart;
@@ -56,19 +57,23 @@ impl<A: Allocator + Copy> Groups<A> {
         }
     }
 
-    /// Adds what is said of a group, which is shown from now on. After an error the value says
-    /// nothing of use.
-    pub(crate) fn add(&mut self, part: &GroupPart<'_>) -> Result<(), AllocError>
+    /// Adds what is said of a group, which is shown from now on; the text of an id is that of the articles,
+    /// where they have it. After an error the value says nothing of use.
+    pub(crate) fn add(
+        &mut self,
+        part: &GroupPart<'_>,
+        articles: &Articles<A>,
+    ) -> Result<(), AllocError>
         ensures { OnOk result ((before : Name → Told) (asks : List Ask) → AreKept before self.old → Says (said part.now.numbers) asks → ((before part.now.name.now).is_shown ≡ false → AreBounded asks)
             → Agree (before part.now.name.now).ids (before part.now.name.now).places (id_at part.now.id)
             → MayShow (before part.now.name.now) (id_at part.now.id)
             → AreKeptWith before part.now.name.now asks (id_at part.now.id) self.new) }
     {
         if let Some(group) = self.groups.get_mut(part.name) {
-            return group.add(self.alloc, part);
+            return group.add(part, articles);
         }
         let mut group = Group::new(self.alloc);
-        group.add(self.alloc, part)?;
+        group.add(part, articles)?;
         self.put(part.name, group)
     }
 

@@ -142,7 +142,7 @@ impl<A: Allocator + Copy> Kept<A> {
             → IfSome s.group (GroupJoins facts asks) → AreKeptGroups facts self.old.groups → AreKeptGroups (facts ++ facts_in s asks) self.new.groups) }
     {
         match group {
-            Some(group) => self.groups.add(group),
+            Some(group) => self.groups.add(group, &self.articles),
             None => Ok(()),
         }
     }

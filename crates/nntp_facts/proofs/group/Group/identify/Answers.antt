@@ -15,6 +15,6 @@ returns-clause-ids g c =
     let places = insert-shown (slice_cmp nat_cmp) (λ k. rc_str_bytes k) (λ v. v) nat_list_cmp_total
     (map.slice_cmp-IsAntisymmetric map.nat_cmp-IsAntisymmetric) c.self.inside.places.entries _ c.in_ok-id.id
     c.args.at.number c.in_ok-insert-2.ensures.entries in (
-      ids ∙ (λ i. map.insert (c.self.view_is i).ids c.args.at.number ((c.in_ok-clone.ensures.cases ∙ c.in_ok-id.ensures.ok) i)),
-      places ∙ (λ i. map.insert (c.self.view_is i).places (c.in_ok-id.ensures.ok i) c.args.at.number),
+      ids ∙ (λ i. map.insert (c.self.view_is i).ids c.args.at.number ((c.in_ok-clone.ensures.cases ∙ c.in_ok-id.ensures) i)),
+      places ∙ (λ i. map.insert (c.self.view_is i).places (c.in_ok-id.ensures i) c.args.at.number),
     )
