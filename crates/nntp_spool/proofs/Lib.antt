@@ -1,6 +1,7 @@
 pub mod Written
 pub mod WrittenLines
 pub mod ShownMaps
+pub mod TextKeys
 pub mod ShownNumbers
 pub mod SplitLines
 pub mod Decimals

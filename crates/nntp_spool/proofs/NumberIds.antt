@@ -2,11 +2,13 @@
 use Rattle.std.proofs.Common.{◌≡◌, ℕ, Bool, true, false, cond, List, [], ◌∷◌, Option, None, Some, is_some, option_map, refl, sym, ap, ◌∙◌}
 use Rattle.std.specs.declared.cmp.Ordering.{Ordering}
 use Rattle.std.specs.declared.cmp.Ordering.TheVariants.{Less, Equal, Greater}
-use Rattle.std.specs.Prelude.{◌||◌, ◌&&◌, not, is_none, Vec, bytes_eq}
+use Rattle.std.specs.Prelude.{◌||◌, ◌&&◌, not, is_none, bytes_eq}
 use Rattle.std.specs.Ordering.{nat_cmp, is_eq, is_lt, match_ordering}
 use Rattle.std.specs.Cmp.Lexicographic.{slice_cmp}
 use Rattle.std.specs.List.{list_any}
 use Rattle.std.specs.Set.{remove_key}
+use Rattle.std.specs.declared.rc.RcStr.{RcStr}
+use Rattle.std.specs.Rc.{rc_str_bytes}
 use Rattle.std.specs.BTreeSet.{insert_key}
 use Rattle.std.specs.FinMap.{get, insert, empty, entries, find, put, entries-insert, get-entries, nat_cmp-IsAntisymmetric}
 use Rattle.std.specs.FinMap.Entries.{by_order}
@@ -63,54 +65,54 @@ id_in_the_way N n id last taken = by (get N n) (has_id N id) refl taken
 pub free_number : (N : Numbers) (n : ℕ) (id : List ℕ) → get N n ≡ None → has_id N id ≡ false → with_number N n id ≡ insert N n id
 free_number N n id absent fresh = rw (absent, fresh) refl
 
-pub same_ids : {A : Type 0} (ids new : List (Vec ℕ A)) (N M : Numbers) → new ≡ ids → N ≡ M → AreIdsOf ids M → AreIdsOf new N
-same_ids ids new N M e d are id = ap (list_any (λ known. bytes_eq id known.items)) e ∙ are id ∙ sym (ap (λ m. has_id m id) d)
+pub same_ids : {A : Type 0} (ids new : List (RcStr A)) (N M : Numbers) → new ≡ ids → N ≡ M → AreIdsOf ids M → AreIdsOf new N
+same_ids ids new N M e d are id = ap (list_any (λ known. bytes_eq id (rc_str_bytes known))) e ∙ are id ∙ sym (ap (λ m. has_id m id) d)
 
-pub no_ids : {A : Type 0} (ids : List (Vec ℕ A)) (N : Numbers) → ids ≡ [] → N ≡ empty → AreIdsOf ids N
-no_ids ids N e d id = ap (list_any (λ known. bytes_eq id known.items)) e ∙ sym (ap (list_any (λ e. bytes_eq e.1 id)) (entries-empty N d))
+pub no_ids : {A : Type 0} (ids : List (RcStr A)) (N : Numbers) → ids ≡ [] → N ≡ empty → AreIdsOf ids N
+no_ids ids N e d id = ap (list_any (λ known. bytes_eq id (rc_str_bytes known))) e ∙ sym (ap (list_any (λ e. bytes_eq e.1 id)) (entries-empty N d))
 
 either_way : (a b : List ℕ) → bytes_eq a b ≡ bytes_eq b a
 either_way a b = let back = bytes_eq-Decides b a in same_from_decides (bytes_eq a b) (bytes_eq b a) (bytes_eq-Decides a b) (λ t. sym (back.0 t), λ e. back.1 (sym e))
 
 module _ {A : Type 0} where
-  abbrev octets_cmp : Vec ℕ A → Vec ℕ A → Ordering
-  octets_cmp a b = slice_cmp nat_cmp a.items b.items
+  abbrev octets_cmp : RcStr A → RcStr A → Ordering
+  octets_cmp a b = slice_cmp nat_cmp (rc_str_bytes a) (rc_str_bytes b)
 
-  abbrev is_of : List ℕ → Vec ℕ A → Bool
-  is_of id known = is_eq (slice_cmp nat_cmp id known.items)
+  abbrev is_of : List ℕ → RcStr A → Bool
+  is_of id known = is_eq (slice_cmp nat_cmp id (rc_str_bytes known))
 
   -- what a set answers of an id
-  pub any_known : (id : List ℕ) (ids : List (Vec ℕ A)) → list_any (is_of id) ids ≡ list_any (λ known. bytes_eq id known.items) ids
+  pub any_known : (id : List ℕ) (ids : List (RcStr A)) → list_any (is_of id) ids ≡ list_any (λ known. bytes_eq id (rc_str_bytes known)) ids
   any_known id [] = refl
-  any_known id (k ∷ ids) = rw (is_eq-slice_cmp id k.items) (ap (λ b. bytes_eq id k.items || b) (any_known id ids))
+  any_known id (k ∷ ids) = rw (is_eq-slice_cmp id (rc_str_bytes k)) (ap (λ b. bytes_eq id (rc_str_bytes k) || b) (any_known id ids))
 
-  is_of_itself : (id : List ℕ) (k : Vec ℕ A) → k.items ≡ id → is_of id k ≡ true
-  is_of_itself id k is = is_eq-slice_cmp id k.items ∙ (bytes_eq-Decides id k.items).1 (sym is)
+  is_of_itself : (id : List ℕ) (k : RcStr A) → rc_str_bytes k ≡ id → is_of id k ≡ true
+  is_of_itself id k is = is_eq-slice_cmp id (rc_str_bytes k) ∙ (bytes_eq-Decides id (rc_str_bytes k)).1 (sym is)
 
   -- what was put among keys is taken out again
-  remove-insert : (id : List ℕ) (k : Vec ℕ A) (ks : List (Vec ℕ A)) → k.items ≡ id → list_any (λ known. bytes_eq id known.items) ks ≡ false → remove_key (is_of id) (insert_key octets_cmp ks k) ≡ ks
+  remove-insert : (id : List ℕ) (k : RcStr A) (ks : List (RcStr A)) → rc_str_bytes k ≡ id → list_any (λ known. bytes_eq id (rc_str_bytes known)) ks ≡ false → remove_key (is_of id) (insert_key octets_cmp ks k) ≡ ks
   remove-insert id k [] is absent = rw (is_of_itself id k is) refl
   remove-insert id k (x ∷ ks) is absent =
-      let both = either_false (bytes_eq id x.items) (list_any (λ known. bytes_eq id known.items) ks) absent in
-      by (slice_cmp nat_cmp k.items x.items) (ap (λ (i : List ℕ). slice_cmp nat_cmp i x.items) is) (is_eq-slice_cmp id x.items ∙ both.0) (remove-insert id k ks is both.1)
+      let both = either_false (bytes_eq id (rc_str_bytes x)) (list_any (λ known. bytes_eq id (rc_str_bytes known)) ks) absent in
+      by (slice_cmp nat_cmp (rc_str_bytes k) (rc_str_bytes x)) (ap (λ (i : List ℕ). slice_cmp nat_cmp i (rc_str_bytes x)) is) (is_eq-slice_cmp id (rc_str_bytes x) ∙ both.0) (remove-insert id k ks is both.1)
     where
-      by : (r : Ordering) → r ≡ slice_cmp nat_cmp id x.items → is_of id x ≡ false → remove_key (is_of id) (insert_key octets_cmp ks k) ≡ ks
+      by : (r : Ordering) → r ≡ slice_cmp nat_cmp id (rc_str_bytes x) → is_of id x ≡ false → remove_key (is_of id) (insert_key octets_cmp ks k) ≡ ks
           → remove_key (is_of id) (match_ordering r (k ∷ x ∷ ks) (x ∷ ks) (x ∷ insert_key octets_cmp ks k)) ≡ x ∷ ks
       by Less e other more = rw (is_of_itself id k is) refl
       by Equal e other more = absurd (true≢false (ap is_eq e ∙ other))
-      by Greater e other more = rw other (ap (λ (rest : List (Vec ℕ A)). x ∷ rest) more)
+      by Greater e other more = rw other (ap (λ (rest : List (RcStr A)). x ∷ rest) more)
 
   -- an id more, at a number that was not there
-  pub one_id_more : (ids new : List (Vec ℕ A)) (N : Numbers) (n : ℕ) (id : List ℕ) (k : Vec ℕ A) → AreIdsOf ids N
-      → get N n ≡ None → k.items ≡ id → new ≡ insert_key octets_cmp ids k → AreIdsOf new (insert N n id)
+  pub one_id_more : (ids new : List (RcStr A)) (N : Numbers) (n : ℕ) (id : List ℕ) (k : RcStr A) → AreIdsOf ids N
+      → get N n ≡ None → rc_str_bytes k ≡ id → new ≡ insert_key octets_cmp ids k → AreIdsOf new (insert N n id)
   one_id_more ids new N n id k are absent is e q =
-      ap (list_any (λ known. bytes_eq q known.items)) e
-      ∙ any-insert_key octets_cmp (λ known. bytes_eq q known.items) k ids (λ x tied. ap (bytes_eq q) (sym (octet_keys k.items x.items tied)))
-      ∙ ap (λ b. bytes_eq q k.items || b) (are q) ∙ ap (λ b. b || has_id N q) (either_way q k.items ∙ ap (λ i. bytes_eq i q) is)
+      ap (list_any (λ known. bytes_eq q (rc_str_bytes known))) e
+      ∙ any-insert_key octets_cmp (λ known. bytes_eq q (rc_str_bytes known)) k ids (λ x tied. ap (bytes_eq q) (sym (octet_keys (rc_str_bytes k) (rc_str_bytes x) tied)))
+      ∙ ap (λ b. bytes_eq q (rc_str_bytes k) || b) (are q) ∙ ap (λ b. b || has_id N q) (either_way q (rc_str_bytes k) ∙ ap (λ i. bytes_eq i q) is)
       ∙ sym (has_id-insert N n id q absent)
 
   -- an id that was put among others, and taken out again
-  pub id_taken_back : (ids more new : List (Vec ℕ A)) (N M : Numbers) (id : List ℕ) (k : Vec ℕ A) → AreIdsOf ids N
-      → has_id N id ≡ false → k.items ≡ id → more ≡ insert_key octets_cmp ids k → new ≡ remove_key (is_of id) more → M ≡ N
+  pub id_taken_back : (ids more new : List (RcStr A)) (N M : Numbers) (id : List ℕ) (k : RcStr A) → AreIdsOf ids N
+      → has_id N id ≡ false → rc_str_bytes k ≡ id → more ≡ insert_key octets_cmp ids k → new ≡ remove_key (is_of id) more → M ≡ N
       → AreIdsOf new M
   id_taken_back ids more new N M id k are fresh is put taken same = same_ids ids new M N (taken ∙ ap (remove_key (is_of id)) put ∙ remove-insert id k ids is (are id ∙ fresh)) same are

@@ -1,7 +1,8 @@
 -- What a builder's calls do to its content: the first fault, or the content with what was handed in.
-use Rattle.std.specs.Prelude.{◌≡◌, ℕ, Bool, true, false, not, ◌&&◌, if◌then◌else◌, Option, None, Some, is_some, is_none, Result, Ok, Err, refl}
+use Rattle.std.specs.Prelude.{◌≡◌, ℕ, Bool, true, false, not, ◌&&◌, if◌then◌else◌, List, Option, None, Some, is_some, is_none, Result, Ok, Err, refl}
 use Rattle.std.specs.List.{list_all}
 use Rattle.std.specs.Coded.{Coded, code_by, coded×, coded_bool}
+use Rattle.std.specs.Borrow.{Bor}
 use Rattle.std.specs.FinMap.{get}
 use Rattle.nntp_wire.specs.Decided.{is_group_name, is_message_id}
 use Rattle.nntp_wire.specs.declared.limit.Limit.{Limit}
@@ -44,6 +45,11 @@ article_fault S id text =
     else (if not (list_all is_line text.head && is_head_of id text.head) then Some faults.BadHead
     else (if not (list_all is_line text.body) then Some faults.BadBody
     else (if is_some (get S.articles id) then Some faults.DuplicateId else None)))
+
+-- the id as text, where there is no fault, and else the fault
+abbrev pub Admits : Option SpoolFault → Id → Result (Bor (List ℕ)) SpoolFault → Type 0
+Admits fault id (Ok text) = (fault ≡ None) × (text.now ≡ id)
+Admits fault id (Err f) = fault ≡ Some f
 
 -- what a builder gives when it is given up: its spool, or the fault that it has
 abbrev pub finished : Building → Result LimitedSpool SpoolFault

@@ -1,7 +1,9 @@
 -- The ids of a group, each at one number.
-use Rattle.std.specs.Prelude.{◌≡◌, ℕ, Bool, not, ◌&&◌, if◌then◌else◌, List, Vec, is_none, bytes_eq}
+use Rattle.std.specs.Prelude.{◌≡◌, ℕ, Bool, not, ◌&&◌, if◌then◌else◌, List, is_none, bytes_eq}
 use Rattle.std.specs.List.{list_any}
 use Rattle.std.specs.FinMap.{get, insert, entries}
+use Rattle.std.specs.declared.rc.RcStr.{RcStr}
+use Rattle.std.specs.Rc.{rc_str_bytes}
 use Rattle.nntp_article.specs.Article.Parts.{Id}
 use Rattle.nntp_article.specs.Session.Spool.{Numbers}
 
@@ -18,5 +20,5 @@ abbrev pub with_number : Numbers → ℕ → Id → Numbers
 with_number N n id = if is_free N n id then insert N n id else N
 
 -- these are the ids of the numbers
-abbrev pub AreIdsOf : {A : Type 0} → List (Vec ℕ A) → Numbers → Type 0
-AreIdsOf ids N = (id : Id) → list_any (λ known. bytes_eq id known.items) ids ≡ has_id N id
+abbrev pub AreIdsOf : {A : Type 0} → List (RcStr A) → Numbers → Type 0
+AreIdsOf ids N = (id : Id) → list_any (λ known. bytes_eq id (rc_str_bytes known)) ids ≡ has_id N id

@@ -14,9 +14,10 @@ use crate::value::Spool;
 use crate::value::article::StoredArticle;
 use crate::value::content::Content;
 use crate::value::numbers::Numbers;
-use crate::value::well_formed::{is_block_head_of, is_id, is_name};
+use crate::value::well_formed::{id_of, is_block_head_of, is_name};
 use nntp_wire::{Limit, OwnedBlock};
 use std::alloc::Allocator;
+use std::rc::RcStr;
 
 /// Reads one more line of an article.
 #[tactic(auto, unfolding(crate::specs::Reading::barred_line_at))]
@@ -52,7 +53,7 @@ fn barred_lines_at<A: Allocator + Copy>(
 
 /// Reads the number and the id of a line.
 #[tactic(auto, unfolding(crate::specs::Reading::number_in))]
-fn number_in(limit: u64, at: u64, line: &[u8]) -> Result<(u64, &[u8]), ReadError>
+fn number_in(limit: u64, at: u64, line: &[u8]) -> Result<(u64, &str), ReadError>
     ensures { Gives (λ x. (x.0, x.1.now)) result (number_in limit at line.now) }
 {
     let Some(line) = number_and_id(line) else {
@@ -61,10 +62,10 @@ fn number_in(limit: u64, at: u64, line: &[u8]) -> Result<(u64, &[u8]), ReadError
     let Some(number) = article_number(limit, line) else {
         return Err(fault(at, Kind::Number));
     };
-    if !is_id(line.id) {
+    let Some(id) = id_of(line.id) else {
         return Err(fault(at, Kind::Id));
-    }
-    Ok((number, line.id))
+    };
+    Ok((number, id))
 }
 
 /// Reads one more number of a group.
@@ -142,9 +143,9 @@ fn article_at<'a, A: Allocator + Copy>(
 ) -> Result<Place<'a>, ReadError>
     ensures { Gives (λ next. (content.new, place_shown next)) result (article_at line id.now heads bodies content.old (place_shown place.entry)) }
 {
-    if !is_id(id) {
+    let Some(id) = id_of(id) else {
         return Err(fault(line, Kind::Id));
-    }
+    };
     if !content.is_after_articles(id) {
         return Err(fault(line, Kind::Order));
     }
@@ -154,7 +155,7 @@ fn article_at<'a, A: Allocator + Copy>(
         return Err(fault(line, Kind::Head));
     }
     let article = StoredArticle::new(alloc, &head, &body)?;
-    content.put_article(Vec::from_slice(alloc, id)?, article)?;
+    content.put_article(RcStr::from_str(alloc, id)?, article)?;
     Ok(next)
 }
 

@@ -74,7 +74,7 @@ impl<A: Allocator> Numbers<A> {
     {
         let mut entries = self.ids.iter();
         while let Some((number, id)) = entries.next() {
-            put_number_line(w, *number, id.as_slice())?;
+            put_number_line(w, *number, id.as_str().as_bytes())?;
         }
         Ok(())
     }
@@ -139,7 +139,7 @@ impl<A: Allocator> Content<A> {
     {
         let mut entries = self.articles.iter();
         while let Some((id, article)) = entries.next() {
-            put_article(w, id.as_slice(), article)?;
+            put_article(w, id.as_str().as_bytes(), article)?;
         }
         Ok(())
     }

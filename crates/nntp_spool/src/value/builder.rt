@@ -3,7 +3,7 @@ ghost use Rattle.std.specs.Prelude.{◌≡◌, false, IfOk};
 ghost use Rattle.std.specs.FinMap as map;
 ghost use Rattle.nntp_article.specs.Session.Spool.{numbers as numbers_of};
 ghost use Rattle.nntp_wire.specs.Limit.{greatest};
-ghost use Rattle.nntp_spool.specs.Building.{Builds, group_fault, number_fault, article_fault, finished};
+ghost use Rattle.nntp_spool.specs.Building.{Builds, Admits, group_fault, number_fault, article_fault, finished};
 ghost use Rattle.nntp_spool.specs.Content.{with_group, with_article, no_spool};
 ghost use Rattle.nntp_spool.specs.ArticleLines.{text_of_article};
 ghost use Rattle.nntp_spool.specs.Text.{IsWritten};
@@ -13,11 +13,12 @@ use crate::value::article::{Article, StoredArticle};
 use crate::value::content::Content;
 use crate::value::numbers::Numbers;
 use crate::value::spool_fault::SpoolFault;
-use crate::value::well_formed::{are_lines, is_head_of, is_id, is_name};
+use crate::value::well_formed::{are_lines, id_of, is_head_of, is_name};
 use nntp_article::is_article_number;
 use nntp_wire::Limit;
 use std::alloc::{AllocError, Allocator, Global};
 use std::marker::Model;
+use std::rc::RcStr;
 
 /// A builder of a spool, which takes groups, article numbers and articles call by call.
 ///
@@ -58,55 +59,55 @@ fn group_fault<A: Allocator>(content: &Content<A>, name: &[u8]) -> Option<SpoolF
     None
 }
 
-/// Returns why a number can't be added, if it can't.
-fn number_fault<A: Allocator>(
+/// Returns the id of a number as text, or why the number can't be added with it.
+fn number_id<'i, A: Allocator>(
     limit: u64,
     content: &Content<A>,
     name: &[u8],
     number: u64,
-    id: &[u8],
-) -> Option<SpoolFault>
-    ensures { result ≡ number_fault limit content.now name.now number id.now }
+    id: &'i [u8],
+) -> Result<&'i str, SpoolFault>
+    ensures { Admits (number_fault limit content.now name.now number id.now) id.now result }
 {
     let Some(numbers) = content.group(name) else {
-        return Some(SpoolFault::UnknownGroup);
+        return Err(SpoolFault::UnknownGroup);
     };
     if !is_article_number(limit, number) {
-        return Some(SpoolFault::BadNumber);
+        return Err(SpoolFault::BadNumber);
     }
-    if !is_id(id) {
-        return Some(SpoolFault::BadId);
-    }
+    let Some(id) = id_of(id) else {
+        return Err(SpoolFault::BadId);
+    };
     if numbers.id(number).is_some() {
-        return Some(SpoolFault::DuplicateNumber);
+        return Err(SpoolFault::DuplicateNumber);
     }
     if numbers.has_some_id(id) {
-        return Some(SpoolFault::DuplicateId);
+        return Err(SpoolFault::DuplicateId);
     }
-    None
+    Ok(id)
 }
 
-/// Returns why an article can't be added, if it can't.
-fn article_fault<A: Allocator>(
+/// Returns the id of an article as text, or why the article can't be added by it.
+fn article_id<'i, A: Allocator>(
     content: &Content<A>,
-    id: &[u8],
+    id: &'i [u8],
     article: &Article<A>,
-) -> Option<SpoolFault>
-    ensures { result ≡ article_fault content.now id.now (text_of_article article.now) }
+) -> Result<&'i str, SpoolFault>
+    ensures { Admits (article_fault content.now id.now (text_of_article article.now)) id.now result }
 {
-    if !is_id(id) {
-        return Some(SpoolFault::BadId);
-    }
+    let Some(id) = id_of(id) else {
+        return Err(SpoolFault::BadId);
+    };
     if !are_lines(&article.head) || !is_head_of(id, &article.head) {
-        return Some(SpoolFault::BadHead);
+        return Err(SpoolFault::BadHead);
     }
     if !are_lines(&article.body) {
-        return Some(SpoolFault::BadBody);
+        return Err(SpoolFault::BadBody);
     }
     if content.has_article(id) {
-        return Some(SpoolFault::DuplicateId);
+        return Err(SpoolFault::DuplicateId);
     }
-    None
+    Ok(id)
 }
 
 impl<A: Allocator + Copy> SpoolBuilder<A> {
@@ -175,10 +176,12 @@ impl<A: Allocator + Copy> SpoolBuilder<A> {
         if self.failed {
             return Err(SpoolFault::Failed);
         }
-        if let Some(fault) = number_fault(self.limit.value(), &self.content, name, number, id) {
-            return Err(fault);
-        }
-        let Ok(_) = self.content.put_number(self.alloc, name, number, id) else {
+        let id = number_id(self.limit.value(), &self.content, name, number, id)?;
+        let Ok(id) = RcStr::from_str(self.alloc, id) else {
+            self.failed = true;
+            return Err(SpoolFault::Memory);
+        };
+        let Ok(_) = self.content.put_number(name, number, &id) else {
             self.failed = true;
             return Err(SpoolFault::Memory);
         };
@@ -205,10 +208,8 @@ impl<A: Allocator + Copy> SpoolBuilder<A> {
         if self.failed {
             return Err(SpoolFault::Failed);
         }
-        if let Some(fault) = article_fault(&self.content, id, &article) {
-            return Err(fault);
-        }
-        let Ok(id) = Vec::from_slice(self.alloc, id) else {
+        let id = article_id(&self.content, id, &article)?;
+        let Ok(id) = RcStr::from_str(self.alloc, id) else {
             self.failed = true;
             return Err(SpoolFault::Memory);
         };

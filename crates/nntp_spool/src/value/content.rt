@@ -1,6 +1,7 @@
 //! Groups and articles, as they are taken in before all of a spool is there.
 ghost use Rattle.std.specs.Prelude.{◌≡◌, None, false, OnOk, OnErr, option_map, option_copied, is_some};
 ghost use Rattle.std.specs.FinMap as map;
+ghost use Rattle.std.specs.Rc.{rc_str_bytes};
 ghost use Rattle.nntp_article.specs.Session.Spool.{IsGroup, numbers as numbers_of};
 ghost use Rattle.nntp_spool.specs.Counts.{numbers_in};
 ghost use Rattle.nntp_spool.specs.Ascending.{is_last};
@@ -14,14 +15,16 @@ use crate::value::numbers::Numbers;
 use std::alloc::{AllocError, Allocator, Global};
 use std::collections::BTreeMap;
 use std::marker::Model;
+use std::rc::RcStr;
+use std::str;
 
 /// The groups of a spool by their names, and its articles by their ids.
 #[derive(Drop)]
 pub struct Content<A: Allocator = Global> {
     /// The numbers of each group, by the octets of its name.
     pub(crate) groups: BTreeMap<Vec<u8, A>, Numbers<A>, A>,
-    /// The articles, each by the octets of its message-id.
-    pub(crate) articles: BTreeMap<Vec<u8, A>, StoredArticle<A>, A>,
+    /// The articles, each by its message-id.
+    pub(crate) articles: BTreeMap<RcStr<A>, StoredArticle<A>, A>,
 }
 
 impl<A: Allocator> Model for Content<A> {
@@ -67,17 +70,16 @@ impl<A: Allocator + Copy> Content<A> {
     /// Adds a number, with its id, to a group that is there and has neither.
     pub(crate) fn put_number(
         &mut self,
-        alloc: A,
         name: &[u8],
         number: u64,
-        id: &[u8],
+        id: &RcStr<A>,
     ) -> Result<(), AllocError>
-        requires { IsGroup self.old name.now × (map.get (numbers_of self.old name.now) number ≡ None) × (has_id (numbers_of self.old name.now) id.now ≡ false) }
-        ensures ok { OnOk result (self.new ≡ with_group self.old name.now (map.insert (numbers_of self.old name.now) number id.now)) }
+        requires { IsGroup self.old name.now × (map.get (numbers_of self.old name.now) number ≡ None) × (has_id (numbers_of self.old name.now) (rc_str_bytes id.now) ≡ false) }
+        ensures ok { OnOk result (self.new ≡ with_group self.old name.now (map.insert (numbers_of self.old name.now) number (rc_str_bytes id.now))) }
         ensures err { OnErr result (self.new ≡ self.old) }
     {
         if let Some(group) = self.groups.get_mut(name) {
-            group.put(alloc, number, id)?;
+            group.put(number, id)?;
         }
         Ok(())
     }
@@ -85,11 +87,11 @@ impl<A: Allocator + Copy> Content<A> {
     /// Adds an article, or puts it in the place of the one of its id.
     pub(crate) fn put_article(
         &mut self,
-        id: Vec<u8, A>,
+        id: RcStr<A>,
         article: StoredArticle<A>,
     ) -> Result<(), AllocError>
         requires { HasLineCount (text_stored article) }
-        ensures ok { OnOk result (self.new ≡ with_article self.old id.items (text_stored article)) }
+        ensures ok { OnOk result (self.new ≡ with_article self.old (rc_str_bytes id) (text_stored article)) }
         ensures err { OnErr result (self.new ≡ self.old) }
     {
         self.articles.insert(id, article)?;
@@ -106,17 +108,27 @@ impl<A: Allocator> Content<A> {
     }
 
     /// Returns the article of an id.
-    pub(crate) fn article(&self, id: &[u8]) -> Option<&StoredArticle<A>>
+    pub(crate) fn article(&self, id: &str) -> Option<&StoredArticle<A>>
         ensures { option_map (λ a. text_stored a.now) result ≡ map.get self.now.articles id.now }
     {
         self.articles.get(id)
     }
 
     /// Tells whether the id has an article.
-    pub(crate) fn has_article(&self, id: &[u8]) -> bool
+    pub(crate) fn has_article(&self, id: &str) -> bool
         ensures { result ≡ is_some (map.get self.now.articles id.now) }
     {
         self.articles.contains_key(id)
+    }
+
+    /// Tells whether the word is an id that has an article. A word that is no text is none.
+    pub(crate) fn knows(&self, word: &[u8]) -> bool
+        ensures { result ≡ is_some (map.get self.now.articles word.now) }
+    {
+        match str::from_utf8(word) {
+            Ok(id) => self.articles.contains_key(id),
+            Err(_) => false,
+        }
     }
 
     /// Returns how many groups there are.
@@ -157,11 +169,11 @@ impl<A: Allocator> Content<A> {
     }
 
     /// Tells whether the id is greater than each article's.
-    pub(crate) fn is_after_articles(&self, id: &[u8]) -> bool
+    pub(crate) fn is_after_articles(&self, id: &str) -> bool
         ensures { result ≡ is_last self.now.articles id.now }
     {
         match self.articles.last_key_value() {
-            Some((greatest, _)) => greatest.as_slice().cmp(id).is_lt(),
+            Some((greatest, _)) => greatest.as_str().cmp(id).is_lt(),
             None => true,
         }
     }
@@ -173,7 +185,7 @@ impl<A: Allocator> Content<A> {
         numbers
             .ids
             .iter()
-            .all(|(_, id)| self.has_article(id.as_slice()))
+            .all(|(_, id)| self.has_article(id.as_str()))
     }
 
     /// Tells whether each id of a number has an article.

@@ -1,6 +1,7 @@
 //! The numbers of one group, with the id at each.
-ghost use Rattle.std.specs.Prelude.{◌≡◌, ℕ, None, false, OnOk, OnErr, IfOk, option_map, MatchOption, ◌≤◌};
+ghost use Rattle.std.specs.Prelude.{◌≡◌, ℕ, None, false, OnOk, OnErr, IfOk, option_copied, MatchOption, ◌≤◌};
 ghost use Rattle.std.specs.FinMap as map;
+ghost use Rattle.std.specs.Rc.{rc_str_bytes};
 ghost use Rattle.nntp_article.specs.Session.Spool.{IsFirst, IsNextAbove, IsNextBelow, NoneAbove, NoneBelow, IsNumber};
 ghost use Rattle.nntp_spool.specs.Ascending.{is_last};
 ghost use Rattle.nntp_spool.specs.Numbers.{has_id};
@@ -10,14 +11,15 @@ use std::alloc::{AllocError, Allocator, Global};
 use std::collections::{BTreeMap, BTreeSet};
 use std::marker::Model;
 use std::ops::Bound;
+use std::rc::RcStr;
 
 /// The numbers of a group, ascending, and the message-id at each.
 #[derive(Drop)]
 pub struct Numbers<A: Allocator = Global> {
-    /// The octets of the message-id at each number.
-    pub(crate) ids: BTreeMap<u64, Vec<u8, A>, A>,
-    /// The ids once more, to look one up by its octets.
-    known: BTreeSet<Vec<u8, A>, A>,
+    /// The message-id at each number.
+    pub(crate) ids: BTreeMap<u64, RcStr<A>, A>,
+    /// The ids once more, each the same text, to look one up.
+    known: BTreeSet<RcStr<A>, A>,
 }
 
 impl<A: Allocator> Model for Numbers<A> {
@@ -25,16 +27,17 @@ impl<A: Allocator> Model for Numbers<A> {
     ghost use Rattle.std.specs.Ordering.{nat_cmp};
     ghost use Rattle.std.specs.Coded.{coded_ℕ, coded_list};
     ghost use Rattle.std.specs.FinMap as map;
+    ghost use Rattle.std.specs.Rc.{rc_str_bytes};
 
     ghost Value = { map.FinMap nat_cmp (List ℕ) };
 
     ghost coded = { map.code coded_ℕ (coded_list coded_ℕ) };
 
-    ghost view = { λ a. map.from_entries (list_map (λ e. (e.0, e.1.items)) a.ids.entries) };
+    ghost view = { λ a. map.from_entries (list_map (λ e. (e.0, rc_str_bytes e.1)) a.ids.entries) };
 
     ghost use Rattle.nntp_spool.specs.Numbers.{AreIdsOf};
 
-    ghost invariant = { λ a. AreIdsOf a.known.keys (map.from_entries (list_map (λ e. (e.0, e.1.items)) a.ids.entries)) };
+    ghost invariant = { λ a. AreIdsOf a.known.keys (map.from_entries (list_map (λ e. (e.0, rc_str_bytes e.1)) a.ids.entries)) };
 }
 
 impl<A: Allocator + Copy> Numbers<A> {
@@ -50,7 +53,7 @@ impl<A: Allocator + Copy> Numbers<A> {
 
     /// Adds a number with its id, and answers true. Where the number or the id is there already, it
     /// answers false and adds nothing.
-    pub(crate) fn insert(&mut self, alloc: A, number: u64, id: &[u8]) -> Result<bool, AllocError>
+    pub(crate) fn insert(&mut self, alloc: A, number: u64, id: &str) -> Result<bool, AllocError>
         ensures added { IfOk result (λ added. added ≡ is_free self.old number id.now) }
         ensures ok { OnOk result (self.new ≡ with_number self.old number id.now) }
         ensures err { OnErr result (self.new ≡ self.old) }
@@ -58,22 +61,23 @@ impl<A: Allocator + Copy> Numbers<A> {
         if self.id(number).is_some() || self.has_some_id(id) {
             return Ok(false);
         }
-        self.put(alloc, number, id)?;
+        let id = RcStr::from_str(alloc, id)?;
+        self.put(number, &id)?;
         Ok(true)
     }
 
     /// Adds a number with its id, of which neither is there.
-    pub(crate) fn put(&mut self, alloc: A, number: u64, id: &[u8]) -> Result<(), AllocError>
-        requires { (map.get self.old number ≡ None) × (has_id self.old id.now ≡ false) }
-        ensures ok { OnOk result (self.new ≡ map.insert self.old number id.now) }
+    pub(crate) fn put(&mut self, number: u64, id: &RcStr<A>) -> Result<(), AllocError>
+        requires { (map.get self.old number ≡ None) × (has_id self.old (rc_str_bytes id.now) ≡ false) }
+        ensures ok { OnOk result (self.new ≡ map.insert self.old number (rc_str_bytes id.now)) }
         ensures err { OnErr result (self.new ≡ self.old) }
     {
-        let held = Vec::from_slice(alloc, id)?;
-        self.known.insert(Vec::from_slice(alloc, id)?)?;
+        let held = id.clone()?;
+        self.known.insert(id.clone()?)?;
         match self.ids.insert(number, held) {
             Ok(_) => Ok(()),
             Err(_) => {
-                self.known.remove(id);
+                self.known.remove(id.as_str());
                 Err(AllocError)
             }
         }
@@ -89,10 +93,13 @@ impl<A: Allocator> Numbers<A> {
     }
 
     /// Returns the id at a number.
-    pub(crate) fn id(&self, number: u64) -> Option<&Vec<u8, A>>
-        ensures { option_map (λ id. id.now.items) result ≡ map.get self.now number }
+    pub(crate) fn id(&self, number: u64) -> Option<&str>
+        ensures { option_copied result ≡ map.get self.now number }
     {
-        self.ids.get(&number)
+        match self.ids.get(&number) {
+            Some(id) => Some(id.as_str()),
+            None => None,
+        }
     }
 
     /// Returns the least number.
@@ -154,7 +161,7 @@ impl<A: Allocator> Numbers<A> {
     }
 
     /// Tells whether some number has the id.
-    pub(crate) fn has_some_id(&self, id: &[u8]) -> bool
+    pub(crate) fn has_some_id(&self, id: &str) -> bool
         ensures { result ≡ has_id self.now id.now }
     {
         self.known.contains(id)

@@ -1,5 +1,5 @@
 //! The forms that names, ids and lines have to have.
-ghost use Rattle.std.specs.Prelude.{◌≡◌};
+ghost use Rattle.std.specs.Prelude.{◌≡◌, true, false, MatchOption};
 ghost use Rattle.std.specs.List.{list_all};
 ghost use Rattle.nntp_wire.specs.Decided.{is_group_name, is_message_id};
 ghost use Rattle.nntp_article.specs.Session.Spool.{is_line};
@@ -19,12 +19,15 @@ pub(crate) fn is_name(name: &[u8]) -> bool
     GroupName::parse(name).is_some()
 }
 
-/// Tells whether the octets are a message-id.
-pub(crate) fn is_id(id: &[u8]) -> bool
-    ensures { result ≡ is_message_id id.now }
+/// Returns the message-id that the octets are, as text.
+pub(crate) fn id_of(octets: &[u8]) -> Option<&str>
+    ensures { MatchOption result (is_message_id octets.now ≡ false) (λ id. (is_message_id octets.now ≡ true) × (id.now ≡ octets.now)) }
 {
     message_ids_are_decided();
-    MessageId::parse(id).is_some()
+    match MessageId::parse(octets) {
+        Some(id) => Some(id.as_str()),
+        None => None,
+    }
 }
 
 /// Tells whether the octets have no NUL, CR or LF.
@@ -43,25 +46,25 @@ pub(crate) fn are_lines<A: Allocator>(lines: &[Vec<u8, A>]) -> bool
 }
 
 /// Tells whether the lines are a head that says this id or none.
-pub(crate) fn is_head_of<A: Allocator>(id: &[u8], lines: &[Vec<u8, A>]) -> bool
+pub(crate) fn is_head_of<A: Allocator>(id: &str, lines: &[Vec<u8, A>]) -> bool
     ensures { result ≡ is_head_of id.now (held lines.now) }
 {
     match lines_say(lines) {
-        Some(Some(said)) => said.as_slice() == id,
+        Some(Some(said)) => said.as_str() == id,
         Some(None) => true,
         None => false,
     }
 }
 
 /// Tells whether the lines of a block are a head that says this id or none.
-pub(crate) fn is_block_head_of<A: Allocator>(id: &[u8], lines: &OwnedBlock<A>) -> bool
+pub(crate) fn is_block_head_of<A: Allocator>(id: &str, lines: &OwnedBlock<A>) -> bool
     ensures { result ≡ is_head_of id.now lines.now }
 {
     let Some(head) = Head::parse(&lines.as_block()) else {
         return false;
     };
     match head.message_id() {
-        Some(said) => said.as_slice() == id,
+        Some(said) => said.as_str() == id,
         None => true,
     }
 }

@@ -49,7 +49,7 @@ impl<A: Allocator + Copy> Session<A> {
                 number,
                 id,
                 block,
-            } => self.agrees_sent(spool, prompt, *code, *number, id.as_slice(), block),
+            } => self.agrees_sent(spool, prompt, *code, *number, id.as_str(), block),
             Answer::Active(block) => self.agrees_active(spool, counts, prompt, block)?,
         })
     }
@@ -91,7 +91,7 @@ impl<A: Allocator + Copy> Session<A> {
                 _ => numbers.is_at_bottom(current),
             },
             Command::Retrieve { which, .. } => match which {
-                Which::Id(word) => !spool.has_article(*word),
+                Which::Id(word) => !spool.knows(*word),
                 Which::Number(Some(number)) => code == 412 || numbers.id(*number).is_none(),
                 Which::Number(None) => true,
                 Which::Current => code == 412 || current.is_none(),
@@ -146,7 +146,7 @@ impl<A: Allocator + Copy> Session<A> {
         prompt: &Prompt<'_>,
         code: u64,
         number: u64,
-        id: &[u8],
+        id: &str,
         block: &Option<Block<'_>>,
     ) -> bool
         ensures { (how : Marks) → IsTrue result ↔ Agrees how spool.now self.now (asked prompt.now) (sends (record { code = code; number = number; id = id.now; block = block.now })) }
@@ -164,7 +164,7 @@ impl<A: Allocator + Copy> Session<A> {
     }
 
     /// Tells whether the number of a success agrees, by what was asked for.
-    fn agrees_number(&self, spool: &Content<A>, which: &Which<'_>, number: u64, id: &[u8]) -> bool
+    fn agrees_number(&self, spool: &Content<A>, which: &Which<'_>, number: u64, id: &str) -> bool
         ensures { (code : ℕ) (block : Option (List (List ℕ)))
             → IsTrue result ↔ NumberAgrees spool.now self.now (target which.now) (record { code = code; number = number; id = id.now; block = block }) }
     {
@@ -239,7 +239,7 @@ fn agrees_listed<A: Allocator>(
 fn agrees_text<A: Allocator>(
     spool: &Content<A>,
     what: What,
-    id: &[u8],
+    id: &str,
     block: &Option<Block<'_>>,
 ) -> bool
     ensures { IsTrue result ↔ HasText spool.now what id.now block.now }

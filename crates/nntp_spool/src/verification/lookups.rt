@@ -12,17 +12,17 @@ use std::alloc::Allocator;
 
 impl<A: Allocator> Numbers<A> {
     /// Tells whether the number has this id.
-    pub(crate) fn has_id(&self, number: u64, id: &[u8]) -> bool
+    pub(crate) fn has_id(&self, number: u64, id: &str) -> bool
         ensures { IsTrue result ↔ (map.get self.now number ≡ Some id.now) }
     {
         match self.id(number) {
-            Some(found) => found.as_slice() == id,
+            Some(found) => found == id,
             None => false,
         }
     }
 
     /// Tells whether a step up from the current article leads to this number with this id.
-    pub(crate) fn steps_up(&self, current: Option<u64>, number: u64, id: &[u8]) -> bool
+    pub(crate) fn steps_up(&self, current: Option<u64>, number: u64, id: &str) -> bool
         ensures { IsTrue result ↔ (MatchOption current ⊥ (λ c. IsNextAbove self.now c number) × (map.get self.now number ≡ Some id.now)) }
     {
         match current {
@@ -32,7 +32,7 @@ impl<A: Allocator> Numbers<A> {
     }
 
     /// Tells whether a step down from the current article leads to this number with this id.
-    pub(crate) fn steps_down(&self, current: Option<u64>, number: u64, id: &[u8]) -> bool
+    pub(crate) fn steps_down(&self, current: Option<u64>, number: u64, id: &str) -> bool
         ensures { IsTrue result ↔ (MatchOption current ⊥ (λ c. IsNextBelow self.now c number) × (map.get self.now number ≡ Some id.now)) }
     {
         match current {

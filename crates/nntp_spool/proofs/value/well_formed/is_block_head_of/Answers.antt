@@ -22,7 +22,7 @@ returns-in-Some-message_id g c =
     let same = c.as_block.ensures.same in
     let is = ap is_head (sym same) ∙ c.in-Some.ensures.0 in
     let said = ap said_id (sym (c.in-Some.ensures.1 ∙ same)) ∙ sym c.message_id.ensures ∙ c.in-Some-message_id.is in
-    c.eq.ensures ∙ ap (λ s. is_same s c.args.id.now) c.as_slice.ensures.value
+    c.eq.ensures ∙ ap (λ s. is_same s c.args.id.now) c.as_str.ensures.value
     ∙ sym (head_says c.args.id.now c.args.lines.now (Some c.in-Some-message_id.said) c.as_block.ensures.clean is said)
 
 pub returns-in-None : goal.returns-in-None

@@ -6,6 +6,7 @@ use Rattle.std.specs.Cmp.Lexicographic.{slice_cmp, nat_list_cmp_total}
 use Rattle.std.specs.FinMap as map
 use Rattle.std.proofs.lemmas.Bool.{true≢false}
 use Rattle.std.proofs.lemmas.Result.{err_from_is_err_and}
+use Rattle.std.specs.Rc.{rc_str_bytes}
 use Rattle.nntp_wire.proofs.ShownMaps.{get-shown, replaced, missing, insert-same}
 use Rattle.nntp_spool.specs.Numbers.{has_id}
 use Rattle.nntp_spool.proofs.ShownMaps.{spool_is}
@@ -16,7 +17,7 @@ pub put-requires : goal.put-requires
 put-requires g c =
     let here = ap (λ s. map.get s.groups c.args.name.now) (sym c.self.view_is) ∙ get-shown (slice_cmp nat_cmp) (λ k. k.items) (λ v. v) nat_list_cmp_total c.self.inside.groups.entries c.args.name.now
     ∙ ap (option_map (λ v. v)) (sym c.in-Some.ensures.value) in
-    subst (λ o. (map.get (unwrap_or o map.empty) c.args.number ≡ None) × (has_id (unwrap_or o map.empty) c.args.id.now ≡ false)) here (c.requires.1, c.requires.2)
+    subst (λ o. (map.get (unwrap_or o map.empty) c.args.number ≡ None) × (has_id (unwrap_or o map.empty) (rc_str_bytes c.args.id.now) ≡ false)) here (c.requires.1, c.requires.2)
 
 pub invariant_of-self-2 : goal.invariant_of-self-2
 invariant_of-self-2 g c = elim c.match-get_mut.branch [
@@ -41,7 +42,7 @@ returns-clause-ok g c =
           let r = replaced (slice_cmp nat_cmp) (λ k. k.items) (λ v. v) nat_list_cmp_total same c.self.inside.groups.entries _ c.args.self.now.groups c.args.name.now w.in-Some.group.now w.put.new.self
           (ap (λ s. s.groups) c.self.view_is) w.in-Some.ensures.value (c.get_mut.follows.holds w.put.new.self).0 in
           rw w.self-inside-is (spool_is _ _ (r.0 ∙ ap (map.insert c.args.self.now.groups c.args.name.now)
-          (w.in_ok-put.ensures.ok ∙ ap (λ o. map.insert (unwrap_or o map.empty) c.args.number c.args.id.now) (sym r.1)))
+          (w.in_ok-put.ensures.ok ∙ ap (λ o. map.insert (unwrap_or o map.empty) c.args.number (rc_str_bytes c.args.id.now)) (sym r.1)))
           (ap (λ s. s.articles) c.self.view_is))
       | in_default w ↦
           absurd (true≢false (sym c.requires.0 ∙ ap is_some

@@ -1,6 +1,7 @@
 use Rattle.std.proofs.Common.{arith, refl, sym, ◌∙◌, [], ap, map as list_map}
 use Rattle.std.specs.List.{flat_map}
 use Rattle.std.proofs.lemmas.Result.{err_from_is_err_and}
+use Rattle.std.specs.Rc.{rc_str_bytes}
 use Rattle.nntp_spool.specs.Text.{with_line_ends, article_lines}
 use Rattle.nntp_spool.specs.ArticleLines.{text_stored}
 use Rattle.nntp_spool.proofs.ShownMaps.{article_entries}
@@ -14,20 +15,20 @@ returns-in_err-put_article-clause-text g c =
     let w = c.in_err-put_article.ensures.text in
     rw p.1 (
       _,
-      Wrote-head (λ es. with_line_ends (flat_map article_lines (list_map (λ e. (e.0.items, text_stored e.1)) es)))
-          (λ x. with_line_ends (article_lines (x.0.items, text_stored x.1)))
-          (λ x xs. with_line_ends-append (article_lines (x.0.items, text_stored x.1)) _) _ _ _ _ _ _ _ _ w.0
+      Wrote-head (λ es. with_line_ends (flat_map article_lines (list_map (λ e. (rc_str_bytes e.0, text_stored e.1)) es)))
+          (λ x. with_line_ends (article_lines (rc_str_bytes x.0, text_stored x.1)))
+          (λ x xs. with_line_ends-append (article_lines (rc_str_bytes x.0, text_stored x.1)) _) _ _ _ _ _ _ _ _ w.0
           c.in-Some.ensures.steps (ap (λ s. with_line_ends (article_lines (s, (text_stored c.in-Some.article.now))))
-          c.as_slice.ensures.value) c.loop-id.invariant.wrote w.1,
+          (c.as_bytes.ensures.value ∙ c.as_str.ensures.value)) c.loop-id.invariant.wrote w.1,
     )
 
 pub loop-id-preserved : goal.loop-id-preserved
 loop-id-preserved g c = record {
-  wrote = Wrote-head (λ es. with_line_ends (flat_map article_lines (list_map (λ e. (e.0.items, text_stored e.1)) es)))
-      (λ x. with_line_ends (article_lines (x.0.items, text_stored x.1)))
-      (λ x xs. with_line_ends-append (article_lines (x.0.items, text_stored x.1)) _) _ _ _ _ _ _ _ _ []
+  wrote = Wrote-head (λ es. with_line_ends (flat_map article_lines (list_map (λ e. (rc_str_bytes e.0, text_stored e.1)) es)))
+      (λ x. with_line_ends (article_lines (rc_str_bytes x.0, text_stored x.1)))
+      (λ x xs. with_line_ends-append (article_lines (rc_str_bytes x.0, text_stored x.1)) _) _ _ _ _ _ _ _ _ []
       c.in-Some.ensures.steps (ap (λ s. with_line_ends (article_lines (s, (text_stored c.in-Some.article.now))))
-      c.as_slice.ensures.value) c.loop-id.invariant.wrote c.in_ok-put_article.ensures.text;
+      (c.as_bytes.ensures.value ∙ c.as_str.ensures.value)) c.loop-id.invariant.wrote c.in_ok-put_article.ensures.text;
   same = grind (arith, c.in_ok-put_article.ensures.failed);
 }
 
@@ -35,5 +36,5 @@ pub loop-id-init : goal.loop-id-init
 loop-id-init g c =
     let es = c.self.inside.articles.entries in
     let shown = article_entries es c.args.self.now.articles (ap (λ s. s.articles) c.self.view_is) c.iter-entries.ensures.ordered in
-    let all = sym shown ∙ ap (list_map (λ e. (e.0.items, text_stored e.1))) (sym c.iter-entries.ensures.rest) in
+    let all = sym shown ∙ ap (list_map (λ e. (rc_str_bytes e.0, text_stored e.1))) (sym c.iter-entries.ensures.rest) in
     record { wrote = Wrote-all _ _ _ (ap (λ es. with_line_ends (flat_map article_lines es)) all); same = refl }

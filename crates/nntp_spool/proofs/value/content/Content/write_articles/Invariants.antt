@@ -1,6 +1,7 @@
 use Rattle.std.proofs.Common.{◌≡◌, map as list_map}
 use Rattle.std.specs.List.{flat_map}
 use Rattle.std.specs.FinMap.{entries}
+use Rattle.std.specs.Rc.{rc_str_bytes}
 use Rattle.nntp_spool.specs.Text.{with_line_ends, article_lines}
 use Rattle.nntp_spool.specs.ArticleLines.{text_stored}
 use Rattle.nntp_spool.specs.Writing.{Wrote}
@@ -10,6 +11,6 @@ abbrev pub invariant-loop-id : goal.invariant-loop-id
 invariant-loop-id g l = record {
   wrote : Wrote (g.W.Write.contents l.fn.w.inner) (g.W.Write.contents l.w.inner)
       (with_line_ends (flat_map article_lines (entries l.self.articles)))
-      (with_line_ends (flat_map article_lines (list_map (λ e. (e.0.items, text_stored e.1)) l.entries)));
+      (with_line_ends (flat_map article_lines (list_map (λ e. (rc_str_bytes e.0, text_stored e.1)) l.entries)));
   same : l.w.has_failed ≡ l.fn.w.has_failed;
 }

@@ -1,4 +1,5 @@
 use Rattle.std.proofs.Common.{◌<◌, length, subst, sym, Some, None, arith}
+use Rattle.std.specs.Rc.{rc_str_bytes}
 use Rattle.nntp_article.specs.Session.Spool.{IsFirst}
 use Rattle.std.proofs.lemmas.List.{nil_from_length}
 use Rattle.std.proofs.lemmas.Bool.{true≢false}
@@ -6,9 +7,9 @@ use Rattle.nntp_spool.proofs.ShownNumbers.{first_from_bound, first_from_none}
 use Rattle.nntp_spool.proofs.value.numbers.Numbers.least.Goals as goal
 
 pub returns-in-Some : goal.returns-in-Some
-returns-in-Some g c = subst (λ N. IsFirst N (Some c.in-Some.number.now)) c.self.view_is (first_from_bound (λ v. v.items) c.self.inside.ids _ _ c.in-Some.ensures.value c.in-Some.ensures.least)
+returns-in-Some g c = subst (λ N. IsFirst N (Some c.in-Some.number.now)) c.self.view_is (first_from_bound (λ v. rc_str_bytes v) c.self.inside.ids _ _ c.in-Some.ensures.value c.in-Some.ensures.least)
 
 pub returns-in-None : goal.returns-in-None
 returns-in-None g c =
     let none : 0 < length c.self.inside.ids.entries → ⊥ = λ p. true≢false (sym (c.in-None.ensures.variant.1 p)) in
-    subst (λ N. IsFirst N None) c.self.view_is (first_from_none (λ v. v.items) c.self.inside.ids (nil_from_length _ (omega (arith, none))))
+    subst (λ N. IsFirst N None) c.self.view_is (first_from_none (λ v. rc_str_bytes v) c.self.inside.ids (nil_from_length _ (omega (arith, none))))

@@ -2,8 +2,9 @@ use Rattle.std.proofs.Common.{ap, sym, ◌∙◌}
 use Rattle.std.specs.Ordering.{nat_cmp}
 use Rattle.std.specs.Cmp.{nat_cmp_total}
 use Rattle.std.specs.FinMap as map
+use Rattle.std.specs.Rc.{rc_str_bytes}
 use Rattle.nntp_wire.proofs.ShownMaps.{len-shown}
 use Rattle.nntp_spool.proofs.value.numbers.Numbers.len.Goals as goal
 
 pub returns : goal.returns
-returns g c = c.len.ensures.len ∙ sym (len-shown nat_cmp (λ k. k) (λ v. v.items) nat_cmp_total map.nat_cmp-IsAntisymmetric _ c.len.ensures.ordered) ∙ ap map.len c.self.view_is
+returns g c = c.len.ensures.len ∙ sym (len-shown nat_cmp (λ k. k) (λ v. rc_str_bytes v) nat_cmp_total map.nat_cmp-IsAntisymmetric _ c.len.ensures.ordered) ∙ ap map.len c.self.view_is

@@ -1,11 +1,12 @@
 use Rattle.std.proofs.Common.{subst}
+use Rattle.std.specs.Rc.{rc_str_bytes}
 use Rattle.nntp_article.specs.Session.Spool.{IsNextBelow, NoneBelow}
 use Rattle.nntp_spool.proofs.ShownNumbers.{next_below_from_range, none_below_from_range}
 use Rattle.nntp_spool.proofs.value.numbers.Numbers.next_below.Goals as goal
 
 pub returns-in-Some : goal.returns-in-Some
 returns-in-Some g c = subst (λ N. IsNextBelow N c.args.number c.in-Some.next.now) c.self.view_is
-    (next_below_from_range (λ v. v.items) c.self.inside.ids _ _ _ _ _ (c.range.ensures.in_range tt) c.in-Some.ensures.steps)
+    (next_below_from_range (λ v. rc_str_bytes v) c.self.inside.ids _ _ _ _ _ (c.range.ensures.in_range tt) c.in-Some.ensures.steps)
 
 pub returns-in-None : goal.returns-in-None
-returns-in-None g c = subst (λ N. NoneBelow N c.args.number) c.self.view_is (none_below_from_range (λ v. v.items) c.self.inside.ids _ _ (c.range.ensures.in_range tt) c.in-None.ensures.steps.0)
+returns-in-None g c = subst (λ N. NoneBelow N c.args.number) c.self.view_is (none_below_from_range (λ v. rc_str_bytes v) c.self.inside.ids _ _ (c.range.ensures.in_range tt) c.in-None.ensures.steps.0)

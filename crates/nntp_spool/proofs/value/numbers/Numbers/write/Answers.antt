@@ -1,6 +1,7 @@
 use Rattle.std.proofs.Common.{arith, refl, sym, ◌∙◌, [], ◌∷◌, ap, map as list_map}
 use Rattle.std.proofs.lemmas.Simd.{map-map}
 use Rattle.std.proofs.lemmas.Result.{err_from_is_err_and}
+use Rattle.std.specs.Rc.{rc_str_bytes}
 use Rattle.nntp_spool.specs.Text.{with_line_ends, number_line}
 use Rattle.nntp_spool.proofs.ShownMaps.{number_entries}
 use Rattle.nntp_spool.proofs.Written.{Wrote-head, Wrote-all}
@@ -13,19 +14,19 @@ returns-in_err-put_number_line-clause-text g c =
     let w = c.in_err-put_number_line.ensures.text in
     rw p.1 (
       _,
-      Wrote-head (λ es. with_line_ends (list_map (λ e. number_line e.0 e.1.items) es))
-          (λ e. with_line_ends (number_line e.0 e.1.items ∷ []))
-          (λ x xs. with_line_ends-cons (number_line x.0 x.1.items) (list_map (λ e. number_line e.0 e.1.items) xs)) _ _ _ _ _ _ _
+      Wrote-head (λ es. with_line_ends (list_map (λ e. number_line e.0 (rc_str_bytes e.1)) es))
+          (λ e. with_line_ends (number_line e.0 (rc_str_bytes e.1) ∷ []))
+          (λ x xs. with_line_ends-cons (number_line x.0 (rc_str_bytes x.1)) (list_map (λ e. number_line e.0 (rc_str_bytes e.1)) xs)) _ _ _ _ _ _ _
           _ w.0 c.in-Some.ensures.steps (ap (λ s. with_line_ends
-          (number_line c.in-Some.number.now s ∷ [])) c.as_slice.ensures.value) c.loop-number.invariant.wrote w.1,
+          (number_line c.in-Some.number.now s ∷ [])) (c.as_bytes.ensures.value ∙ c.as_str.ensures.value)) c.loop-number.invariant.wrote w.1,
     )
 
 pub loop-number-preserved : goal.loop-number-preserved
 loop-number-preserved g c = record {
-  wrote = Wrote-head (λ es. with_line_ends (list_map (λ e. number_line e.0 e.1.items) es))
-      (λ e. with_line_ends (number_line e.0 e.1.items ∷ []))
-      (λ x xs. with_line_ends-cons (number_line x.0 x.1.items) (list_map (λ e. number_line e.0 e.1.items) xs)) _ _ _ _ _ _ _ _ []
-      c.in-Some.ensures.steps (ap (λ s. with_line_ends (number_line c.in-Some.number.now s ∷ [])) c.as_slice.ensures.value)
+  wrote = Wrote-head (λ es. with_line_ends (list_map (λ e. number_line e.0 (rc_str_bytes e.1)) es))
+      (λ e. with_line_ends (number_line e.0 (rc_str_bytes e.1) ∷ []))
+      (λ x xs. with_line_ends-cons (number_line x.0 (rc_str_bytes x.1)) (list_map (λ e. number_line e.0 (rc_str_bytes e.1)) xs)) _ _ _ _ _ _ _ _ []
+      c.in-Some.ensures.steps (ap (λ s. with_line_ends (number_line c.in-Some.number.now s ∷ [])) (c.as_bytes.ensures.value ∙ c.as_str.ensures.value))
       c.loop-number.invariant.wrote c.in_ok-put_number_line.ensures.text;
   same = grind (arith, c.in_ok-put_number_line.ensures.failed);
 }
@@ -35,6 +36,6 @@ loop-number-init g c =
     let es = c.self.inside.ids.entries in
     let shown = number_entries es c.args.self.now c.self.view_is c.iter-entries.ensures.ordered in
     let lines = sym (ap (list_map (λ e. number_line e.0 e.1)) shown)
-    ∙ map-map (λ e. number_line e.0 e.1) (λ e. (e.0, e.1.items)) es
-    ∙ ap (list_map (λ e. number_line e.0 e.1.items)) (sym c.iter-entries.ensures.rest) in
+    ∙ map-map (λ e. number_line e.0 e.1) (λ e. (e.0, rc_str_bytes e.1)) es
+    ∙ ap (list_map (λ e. number_line e.0 (rc_str_bytes e.1))) (sym c.iter-entries.ensures.rest) in
     record { wrote = Wrote-all _ _ _ (ap with_line_ends lines); same = refl }
