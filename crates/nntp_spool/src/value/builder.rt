@@ -1,6 +1,7 @@
 //! The builder of a spool.
-ghost use Rattle.std.specs.Prelude.{◌≡◌, false, IfOk};
+ghost use Rattle.std.specs.Prelude.{◌≡◌, None, false, IfOk};
 ghost use Rattle.std.specs.FinMap as map;
+ghost use Rattle.std.specs.Rc.{rc_str_bytes};
 ghost use Rattle.nntp_article.specs.Session.Spool.{numbers as numbers_of};
 ghost use Rattle.nntp_wire.specs.Limit.{greatest};
 ghost use Rattle.nntp_spool.specs.Building.{Builds, Admits, group_fault, number_fault, article_fault, finished};
@@ -181,7 +182,39 @@ impl<A: Allocator + Copy> SpoolBuilder<A> {
             self.failed = true;
             return Err(SpoolFault::Memory);
         };
-        let Ok(_) = self.content.put_number(name, number, &id) else {
+        self.put_number(name, number, &id)
+    }
+
+    /// Adds an article number as [`SpoolBuilder::number`] does, and shares the text of its id.
+    ///
+    /// # Errors
+    ///
+    /// Those of [`SpoolBuilder::number`].
+    pub fn number_sharing(
+        &mut self,
+        name: &[u8],
+        number: u64,
+        id: &RcStr<A>,
+    ) -> Result<(), SpoolFault>
+        ensures { Builds (number_fault (greatest self.old.limit) self.old.spool name.now number (rc_str_bytes id.now))
+            (with_group self.old.spool name.now (map.insert (numbers_of self.old.spool name.now) number (rc_str_bytes id.now))) result self.old
+            self.new }
+    {
+        if self.failed {
+            return Err(SpoolFault::Failed);
+        }
+        let octets = id.as_str().as_bytes();
+        number_id(self.limit.value(), &self.content, name, number, octets)?;
+        self.put_number(name, number, id)
+    }
+
+    /// Adds a number with its id, where there is no fault.
+    fn put_number(&mut self, name: &[u8], number: u64, id: &RcStr<A>) -> Result<(), SpoolFault>
+        requires faultless { number_fault (greatest self.old.limit) self.old.spool name.now number (rc_str_bytes id.now) ≡ None }
+        requires failed { self.old.failed ≡ false }
+        ensures { Builds None (with_group self.old.spool name.now (map.insert (numbers_of self.old.spool name.now) number (rc_str_bytes id.now))) result self.old self.new }
+    {
+        let Ok(_) = self.content.put_number(name, number, id) else {
             self.failed = true;
             return Err(SpoolFault::Memory);
         };
@@ -213,7 +246,36 @@ impl<A: Allocator + Copy> SpoolBuilder<A> {
             self.failed = true;
             return Err(SpoolFault::Memory);
         };
-        let Ok(article) = StoredArticle::of(self.alloc, &article) else {
+        self.put_article(id, &article)
+    }
+
+    /// Adds an article as [`SpoolBuilder::article`] does, and shares the text of its id.
+    ///
+    /// # Errors
+    ///
+    /// Those of [`SpoolBuilder::article`].
+    pub fn article_sharing(&mut self, id: &RcStr<A>, article: Article<A>) -> Result<(), SpoolFault>
+        ensures { Builds (article_fault self.old.spool (rc_str_bytes id.now) (text_of_article article))
+            (with_article self.old.spool (rc_str_bytes id.now) (text_of_article article)) result self.old self.new }
+    {
+        if self.failed {
+            return Err(SpoolFault::Failed);
+        }
+        article_id(&self.content, id.as_str().as_bytes(), &article)?;
+        let Ok(id) = id.clone() else {
+            self.failed = true;
+            return Err(SpoolFault::Memory);
+        };
+        self.put_article(id, &article)
+    }
+
+    /// Adds an article by its id, where there is no fault.
+    fn put_article(&mut self, id: RcStr<A>, article: &Article<A>) -> Result<(), SpoolFault>
+        requires faultless { article_fault self.old.spool (rc_str_bytes id) (text_of_article article.now) ≡ None }
+        requires failed { self.old.failed ≡ false }
+        ensures { Builds None (with_article self.old.spool (rc_str_bytes id) (text_of_article article.now)) result self.old self.new }
+    {
+        let Ok(article) = StoredArticle::of(self.alloc, article) else {
             self.failed = true;
             return Err(SpoolFault::Memory);
         };
