@@ -12,7 +12,7 @@ text_of_article a = record { head = held a.head.items; body = held a.body.items 
 
 -- the lines of an article that is stored
 abbrev pub text_stored : {A : Type 0} → StoredArticle A → Text
-text_stored a = record { head = a.head; body = a.body }
+text_stored a = record { head = a.head.value; body = a.body.value }
 
 -- no line holds NUL, CR or LF
 abbrev pub AreLines : Text → Type 0

@@ -39,12 +39,17 @@ number_fault limit S name n id =
     else (if is_some (get (numbers S name) n) then Some faults.DuplicateNumber
     else (if has_id (numbers S name) id then Some faults.DuplicateId else None))))
 
+-- by whether the head and the body of an article are such as the id may have
+abbrev pub parts_fault : Spool → Id → Bool → Bool → Option SpoolFault
+parts_fault S id is_head is_body =
+    if not is_head then Some faults.BadHead
+    else (if not is_body then Some faults.BadBody
+    else (if is_some (get S.articles id) then Some faults.DuplicateId else None))
+
 abbrev pub article_fault : Spool → Id → Text → Option SpoolFault
 article_fault S id text =
     if not (is_message_id id) then Some faults.BadId
-    else (if not (list_all is_line text.head && is_head_of id text.head) then Some faults.BadHead
-    else (if not (list_all is_line text.body) then Some faults.BadBody
-    else (if is_some (get S.articles id) then Some faults.DuplicateId else None)))
+    else parts_fault S id (list_all is_line text.head && is_head_of id text.head) (list_all is_line text.body)
 
 -- the id as text, where there is no fault, and else the fault
 abbrev pub Admits : Option SpoolFault → Id → Result (Bor (List ℕ)) SpoolFault → Type 0

@@ -102,7 +102,10 @@ fn put_article<W: Write, A: Allocator>(
     ensures text { Writes result (W.contents (inner_of w.old)) (W.contents (inner_of w.new)) (with_line_ends (article_lines (id.now, text_stored article.now))) }
     ensures failed { has_failed_of w.new ≡ (has_failed_of w.old || is_err result) }
 {
-    let (head, body) = (article.head.as_block(), article.body.as_block());
+    let (head, body) = (
+        article.head.as_ref().as_block(),
+        article.body.as_ref().as_block(),
+    );
     put_article_line(w, id, line_count(&head) as u64, line_count(&body) as u64)?;
     put_barred_lines(w, &head)?;
     put_barred_lines(w, &body)

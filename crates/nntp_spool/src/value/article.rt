@@ -7,6 +7,7 @@ ghost use Rattle.nntp_wire.specs.Held.{held};
 
 use nntp_wire::{Block, OwnedBlock};
 use std::alloc::{AllocError, Allocator, Global};
+use std::rc::Rc;
 
 /// An article, which is the lines of its head and those of its body (RFC 3977, section 3.6). No
 /// line has a CRLF at its end.
@@ -19,13 +20,13 @@ pub struct Article<A: Allocator = Global> {
     pub body: Vec<Vec<u8, A>, A>,
 }
 
-/// An article as a spool stores it, with each part in one piece of memory.
+/// An article as a spool stores it, with each part in one piece of memory, which may be shared.
 #[derive(Drop)]
 pub(crate) struct StoredArticle<A: Allocator> {
     /// The lines of the headers.
-    pub(crate) head: OwnedBlock<A>,
+    pub(crate) head: Rc<OwnedBlock<A>, A>,
     /// The lines behind the empty line that ends the head.
-    pub(crate) body: OwnedBlock<A>,
+    pub(crate) body: Rc<OwnedBlock<A>, A>,
 }
 
 impl<A: Allocator + Copy> StoredArticle<A> {
@@ -39,8 +40,8 @@ impl<A: Allocator + Copy> StoredArticle<A> {
         ensures line_count { IfOk result (λ stored. HasLineCount (text_stored stored)) }
     {
         Ok(StoredArticle {
-            head: head.as_block().to_owned(alloc)?,
-            body: body.as_block().to_owned(alloc)?,
+            head: Rc::new(alloc, head.as_block().to_owned(alloc)?)?,
+            body: Rc::new(alloc, body.as_block().to_owned(alloc)?)?,
         })
     }
 
@@ -53,6 +54,21 @@ impl<A: Allocator + Copy> StoredArticle<A> {
         let head = joined(alloc, &article.head)?;
         let body = joined(alloc, &article.body)?;
         StoredArticle::new(alloc, &head, &body)
+    }
+}
+
+impl<A: Allocator> StoredArticle<A> {
+    /// Shares a head and a body. It copies no octet.
+    pub(crate) fn sharing(
+        head: &Rc<OwnedBlock<A>, A>,
+        body: &Rc<OwnedBlock<A>, A>,
+    ) -> Result<StoredArticle<A>, AllocError>
+        ensures { IfOk result (λ stored. text_stored stored ≡ record { head = head.now.value; body = body.now.value }) }
+    {
+        Ok(StoredArticle {
+            head: head.clone()?,
+            body: body.clone()?,
+        })
     }
 }
 

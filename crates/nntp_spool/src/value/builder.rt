@@ -1,12 +1,12 @@
 //! The builder of a spool.
-ghost use Rattle.std.specs.Prelude.{◌≡◌, None, false, IfOk};
+ghost use Rattle.std.specs.Prelude.{◌≡◌, None, false, IfOk, IsNone};
 ghost use Rattle.std.specs.FinMap as map;
 ghost use Rattle.std.specs.Rc.{rc_str_bytes};
 ghost use Rattle.nntp_article.specs.Session.Spool.{numbers as numbers_of};
 ghost use Rattle.nntp_wire.specs.Limit.{greatest};
-ghost use Rattle.nntp_spool.specs.Building.{Builds, Admits, group_fault, number_fault, article_fault, finished};
+ghost use Rattle.nntp_spool.specs.Building.{Builds, Admits, group_fault, number_fault, article_fault, parts_fault, finished};
 ghost use Rattle.nntp_spool.specs.Content.{with_group, with_article, no_spool};
-ghost use Rattle.nntp_spool.specs.ArticleLines.{text_of_article};
+ghost use Rattle.nntp_spool.specs.ArticleLines.{text_of_article, text_stored, HasLineCount};
 ghost use Rattle.nntp_spool.specs.Text.{IsWritten};
 
 use crate::value::Spool;
@@ -14,12 +14,14 @@ use crate::value::article::{Article, StoredArticle};
 use crate::value::content::Content;
 use crate::value::numbers::Numbers;
 use crate::value::spool_fault::SpoolFault;
-use crate::value::well_formed::{are_lines, id_of, is_head_of, is_name};
+use crate::value::well_formed::{
+    are_block_lines, are_lines, id_of, is_block_head_of, is_head_of, is_name,
+};
 use nntp_article::is_article_number;
-use nntp_wire::Limit;
+use nntp_wire::{Limit, OwnedBlock};
 use std::alloc::{AllocError, Allocator, Global};
 use std::marker::Model;
-use std::rc::RcStr;
+use std::rc::{Rc, RcStr};
 
 /// A builder of a spool, which takes groups, article numbers and articles call by call.
 ///
@@ -99,16 +101,50 @@ fn article_id<'i, A: Allocator>(
     let Some(id) = id_of(id) else {
         return Err(SpoolFault::BadId);
     };
-    if !are_lines(&article.head) || !is_head_of(id, &article.head) {
-        return Err(SpoolFault::BadHead);
+    let is_head = are_lines(&article.head) && is_head_of(id, &article.head);
+    match parts_fault(content, id, is_head, are_lines(&article.body)) {
+        Some(fault) => Err(fault),
+        None => Ok(id),
     }
-    if !are_lines(&article.body) {
-        return Err(SpoolFault::BadBody);
+}
+
+/// Returns why an article of these blocks can't be added by the id, if it can't.
+fn blocks_fault<A: Allocator>(
+    content: &Content<A>,
+    id: &[u8],
+    head: &OwnedBlock<A>,
+    body: &OwnedBlock<A>,
+) -> Option<SpoolFault>
+    ensures fault { result ≡ article_fault content.now id.now (record { head = head.now; body = body.now }) }
+    ensures line_count { IsNone result → HasLineCount (record { head = head.now; body = body.now }) }
+{
+    let Some(id) = id_of(id) else {
+        return Some(SpoolFault::BadId);
+    };
+    let is_head = are_block_lines(head) && is_block_head_of(id, head);
+    parts_fault(content, id, is_head, are_block_lines(body))
+}
+
+/// Returns why an article can't be added by a message-id, if it can't. `is_head` says whether its
+/// head is one that the id may have, and `is_body` whether no line of its body has a NUL, CR or LF.
+fn parts_fault<A: Allocator>(
+    content: &Content<A>,
+    id: &str,
+    is_head: bool,
+    is_body: bool,
+) -> Option<SpoolFault>
+    ensures { result ≡ parts_fault content.now id.now is_head is_body }
+{
+    if !is_head {
+        return Some(SpoolFault::BadHead);
+    }
+    if !is_body {
+        return Some(SpoolFault::BadBody);
     }
     if content.has_article(id) {
-        return Err(SpoolFault::DuplicateId);
+        return Some(SpoolFault::DuplicateId);
     }
-    Ok(id)
+    None
 }
 
 impl<A: Allocator + Copy> SpoolBuilder<A> {
@@ -246,39 +282,53 @@ impl<A: Allocator + Copy> SpoolBuilder<A> {
             self.failed = true;
             return Err(SpoolFault::Memory);
         };
-        self.put_article(id, &article)
+        let Ok(article) = StoredArticle::of(self.alloc, &article) else {
+            self.failed = true;
+            return Err(SpoolFault::Memory);
+        };
+        self.put_article(id, article)
     }
 
-    /// Adds an article as [`SpoolBuilder::article`] does, and shares the text of its id.
+    /// Adds the article of these lines as [`SpoolBuilder::article`] does, and shares the text of its
+    /// id and the blocks. It copies no octet.
     ///
     /// # Errors
     ///
     /// Those of [`SpoolBuilder::article`].
-    pub fn article_sharing(&mut self, id: &RcStr<A>, article: Article<A>) -> Result<(), SpoolFault>
-        ensures { Builds (article_fault self.old.spool (rc_str_bytes id.now) (text_of_article article))
-            (with_article self.old.spool (rc_str_bytes id.now) (text_of_article article)) result self.old self.new }
+    pub fn article_sharing(
+        &mut self,
+        id: &RcStr<A>,
+        head: &Rc<OwnedBlock<A>, A>,
+        body: &Rc<OwnedBlock<A>, A>,
+    ) -> Result<(), SpoolFault>
+        ensures { Builds (article_fault self.old.spool (rc_str_bytes id.now) (record { head = head.now.value; body = body.now.value }))
+            (with_article self.old.spool (rc_str_bytes id.now) (record { head = head.now.value; body = body.now.value })) result self.old self.new }
     {
         if self.failed {
             return Err(SpoolFault::Failed);
         }
-        article_id(&self.content, id.as_str().as_bytes(), &article)?;
+        let octets = id.as_str().as_bytes();
+        if let Some(fault) = blocks_fault(&self.content, octets, head.as_ref(), body.as_ref()) {
+            return Err(fault);
+        }
         let Ok(id) = id.clone() else {
             self.failed = true;
             return Err(SpoolFault::Memory);
         };
-        self.put_article(id, &article)
-    }
-
-    /// Adds an article by its id, where there is no fault.
-    fn put_article(&mut self, id: RcStr<A>, article: &Article<A>) -> Result<(), SpoolFault>
-        requires faultless { article_fault self.old.spool (rc_str_bytes id) (text_of_article article.now) ≡ None }
-        requires failed { self.old.failed ≡ false }
-        ensures { Builds None (with_article self.old.spool (rc_str_bytes id) (text_of_article article.now)) result self.old self.new }
-    {
-        let Ok(article) = StoredArticle::of(self.alloc, article) else {
+        let Ok(article) = StoredArticle::sharing(head, body) else {
             self.failed = true;
             return Err(SpoolFault::Memory);
         };
+        self.put_article(id, article)
+    }
+
+    /// Adds an article by its id, where there is no fault.
+    fn put_article(&mut self, id: RcStr<A>, article: StoredArticle<A>) -> Result<(), SpoolFault>
+        requires faultless { article_fault self.old.spool (rc_str_bytes id) (text_stored article) ≡ None }
+        requires line_count { HasLineCount (text_stored article) }
+        requires failed { self.old.failed ≡ false }
+        ensures { Builds None (with_article self.old.spool (rc_str_bytes id) (text_stored article)) result self.old self.new }
+    {
         let Ok(_) = self.content.put_article(id, article) else {
             self.failed = true;
             return Err(SpoolFault::Memory);

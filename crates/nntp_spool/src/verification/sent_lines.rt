@@ -19,9 +19,12 @@ fn begins_empty(lines: &Block<'_>) -> bool
 
 /// Tells whether the lines are the head, an empty line and the body.
 fn is_whole<A: Allocator>(sent: &Block<'_>, article: &StoredArticle<A>) -> bool
-    ensures { IsTrue result ↔ (sent.now ≡ article.now.head ++ [] ∷ article.now.body) }
+    ensures { IsTrue result ↔ (sent.now ≡ article.now.head.value ++ [] ∷ article.now.body.value) }
 {
-    let (head, body) = (article.head.as_block(), article.body.as_block());
+    let (head, body) = (
+        article.head.as_ref().as_block(),
+        article.body.as_ref().as_block(),
+    );
     let (front, rest) = sent.split_at_line(line_count(&head));
     let (_, back) = rest.split_at_line(1);
     front.is_same(&head) && begins_empty(&rest) && back.is_same(&body)
@@ -37,8 +40,8 @@ pub(crate) fn has_text<A: Allocator>(
 {
     match (what, block) {
         (What::Article, Some(sent)) => is_whole(sent, article),
-        (What::Head, Some(sent)) => sent.is_same(&article.head.as_block()),
-        (What::Body, Some(sent)) => sent.is_same(&article.body.as_block()),
+        (What::Head, Some(sent)) => sent.is_same(&article.head.as_ref().as_block()),
+        (What::Body, Some(sent)) => sent.is_same(&article.body.as_ref().as_block()),
         (What::Stat, None) => true,
         _ => false,
     }

@@ -10,36 +10,36 @@ pub returns-in_err-put_article_line-clause-text : goal.returns-in_err-put_articl
 returns-in_err-put_article_line-clause-text g c =
     let p = err_from_is_err_and c.from_residual.result c.from_residual.ensures.1 in
     let w = c.in_err-put_article_line.ensures.text in
-    let heads = c.line_count.ensures ∙ ap length c.as_block-head.ensures.same in
-    let bodies = c.line_count-2.ensures ∙ ap length c.as_block-body.ensures.same in
+    let heads = c.line_count.ensures ∙ ap length (c.as_block-head.ensures.same ∙ c.as_ref.ensures) in
+    let bodies = c.line_count-2.ensures ∙ ap length (c.as_block-body.ensures.same ∙ c.as_ref-2.ensures) in
     rw p.1 (_, Article-first _ _ c.args.id.now c.line_count.result _ c.line_count-2.result _ _ w.0 heads bodies w.1)
 
 pub returns-in_err-put_barred_lines-clause-text : goal.returns-in_err-put_barred_lines-clause-text
 returns-in_err-put_barred_lines-clause-text g c =
     let p = err_from_is_err_and c.from_residual-in_err-put_barred_lines.result c.from_residual-in_err-put_barred_lines.ensures.1 in
     let a = c.args.article.now in
-    let heads = c.line_count.ensures ∙ ap length c.as_block-head.ensures.same in
-    let bodies = c.line_count-2.ensures ∙ ap length c.as_block-body.ensures.same in
+    let heads = c.line_count.ensures ∙ ap length (c.as_block-head.ensures.same ∙ c.as_ref.ensures) in
+    let bodies = c.line_count-2.ensures ∙ ap length (c.as_block-body.ensures.same ∙ c.as_ref-2.ensures) in
     let w = c.in_err-put_barred_lines.ensures.text in
     let first = Article-first _ _ c.args.id.now c.line_count.result _ c.line_count-2.result _ _ [] heads bodies c.in_ok-put_article_line.ensures.text in
     rw p.1 (
       _,
-      Lines-next _ _ _ _ (barred a.head) _ w.0 first
+      Lines-next _ _ _ _ (barred a.head.value) _ w.0 first
           (subst (λ ls. Wrote (g.W.Write.contents c.put_article_line.new.w.inner)
-          (g.W.Write.contents c.put_barred_lines.new.w.inner) (with_line_ends (barred ls)) w.0) c.as_block-head.ensures.same w.1),
+          (g.W.Write.contents c.put_barred_lines.new.w.inner) (with_line_ends (barred ls)) w.0) (c.as_block-head.ensures.same ∙ c.as_ref.ensures) w.1),
     )
 
 pub returns-clause-text : goal.returns-clause-text
 returns-clause-text g c =
     let a = c.args.article.now in
-    let heads = c.line_count.ensures ∙ ap length c.as_block-head.ensures.same in
-    let bodies = c.line_count-2.ensures ∙ ap length c.as_block-body.ensures.same in
+    let heads = c.line_count.ensures ∙ ap length (c.as_block-head.ensures.same ∙ c.as_ref.ensures) in
+    let bodies = c.line_count-2.ensures ∙ ap length (c.as_block-body.ensures.same ∙ c.as_ref-2.ensures) in
     let first = Article-first _ _ c.args.id.now c.line_count.result _ c.line_count-2.result _ _ [] heads bodies c.in_ok-put_article_line.ensures.text in
-    let second = Lines-next _ _ _ _ (barred a.head) (barred a.body) [] first
+    let second = Lines-next _ _ _ _ (barred a.head.value) (barred a.body.value) [] first
     (subst (λ ls. Wrote (g.W.Write.contents c.put_article_line.new.w.inner)
-    (g.W.Write.contents c.put_barred_lines.new.w.inner) (with_line_ends (barred ls)) []) c.as_block-head.ensures.same
+    (g.W.Write.contents c.put_barred_lines.new.w.inner) (with_line_ends (barred ls)) []) (c.as_block-head.ensures.same ∙ c.as_ref.ensures)
     c.in_ok-put_barred_lines.ensures.text) in
     Writes-last c.put_barred_lines-2.result _ _ _ _ _ second
     (subst (λ ls. Writes c.put_barred_lines-2.result (g.W.Write.contents c.put_barred_lines.new.w.inner)
-    (g.W.Write.contents c.put_barred_lines-2.new.w.inner) (with_line_ends (barred ls))) c.as_block-body.ensures.same
+    (g.W.Write.contents c.put_barred_lines-2.new.w.inner) (with_line_ends (barred ls))) (c.as_block-body.ensures.same ∙ c.as_ref-2.ensures)
     c.put_barred_lines-2.ensures.text)

@@ -1,18 +1,17 @@
 use Rattle.std.proofs.Common.{subst, sym, ap, ◌∙◌}
 use Rattle.std.specs.Rc.{rc_str_bytes}
 use Rattle.nntp_wire.specs.Limit.{greatest}
-use Rattle.nntp_spool.specs.Content.{IsContent, with_article}
-use Rattle.nntp_spool.specs.ArticleLines.{text_of_article}
+use Rattle.nntp_spool.specs.Content.{IsContent}
+use Rattle.nntp_spool.specs.ArticleLines.{text_stored}
 use Rattle.nntp_spool.specs.Building.{article_fault}
 use Rattle.nntp_spool.proofs.BuiltContent.{article_added}
 use Rattle.nntp_spool.proofs.value.builder.SpoolBuilder.put_article.Goals as goal
 
-pub invariant_of-self-in-Ok-put_article : goal.invariant_of-self-in-Ok-put_article
-invariant_of-self-in-Ok-put_article g c =
+pub invariant_of-self : goal.invariant_of-self
+invariant_of-self g c =
     let S = c.self.inside.content in
     let limit = greatest c.self.inside.limit in
     let id = rc_str_bytes c.args.id in
-    let text = text_of_article c.args.article.now in
+    let text = text_stored c.args.article in
     let faultless = ap (λ b. article_fault b.spool id text) c.self.view_is ∙ c.requires.faultless in
-    let is = c.in-Ok-put_article.ensures.ok ∙ ap (with_article S id) c.in-Ok.ensures.text in
-    subst (IsContent limit) (sym is) (article_added limit S c.self.invariant id text faultless)
+    subst (IsContent limit) (sym c.in-Ok.ensures.ok) (article_added limit S c.self.invariant id text faultless)
