@@ -1,12 +1,12 @@
 -- What a writer took of lines.
-use Rattle.std.proofs.Common.{◌≡◌, ℕ, List, [], ◌∷◌, ◌++◌, Option, Result, subst, sym, ap}
+use Rattle.std.proofs.Common.{◌≡◌, ℕ, List, [], ◌∷◌, ◌++◌, Option, subst, sym, ap}
 use Rattle.std.proofs.lemmas.List.{append-nil}
 use Rattle.std.proofs.lemmas.List.Concat.{flat_map-append}
 use Rattle.nntp_wire.specs.declared.limit.Limit.{Limit}
 use Rattle.nntp_article.specs.Session.Spool.{Spool}
 use Rattle.nntp_spool.specs.Limited.{LimitedSpool}
 use Rattle.nntp_spool.specs.Text.{with_line_ends, group_line, article_line, limit_lines, content_lines, spool_text}
-use Rattle.nntp_spool.specs.Writing.{Wrote, Writes}
+use Rattle.nntp_spool.specs.Writing.{Wrote}
 use Rattle.nntp_spool.proofs.Written.{Wrote-on, Wrote-first}
 
 pub with_line_ends-cons : (line : List ℕ) (lines : List (List ℕ)) → with_line_ends (line ∷ lines) ≡ with_line_ends (line ∷ []) ++ with_line_ends lines
@@ -16,31 +16,43 @@ pub with_line_ends-append : (xs ys : List (List ℕ)) → with_line_ends (xs ++ 
 with_line_ends-append xs ys = flat_map-append (λ line. line ++ 10 ∷ []) xs ys
 
 -- the same for lines
-pub Lines-first : (a b : Option (List ℕ)) (xs ys : List (List ℕ)) (rest : List ℕ) → Wrote a b (with_line_ends xs) rest → Wrote a b (with_line_ends (xs ++ ys)) (rest ++ with_line_ends ys)
-Lines-first a b xs ys rest g = subst (λ (t : List ℕ). Wrote a b t (rest ++ with_line_ends ys)) (sym (with_line_ends-append xs ys)) (Wrote-first a b (with_line_ends xs) (with_line_ends ys) rest g)
+pub Lines-first : (a b : Option (List ℕ)) (waiting : List ℕ) (xs ys : List (List ℕ)) (rest : List ℕ)
+    → Wrote a b (waiting ++ with_line_ends xs) rest → Wrote a b (waiting ++ with_line_ends (xs ++ ys)) (rest ++ with_line_ends ys)
+Lines-first a b waiting xs ys rest g =
+    subst (λ (t : List ℕ). Wrote a b (waiting ++ t) (rest ++ with_line_ends ys)) (sym (with_line_ends-append xs ys))
+    (Wrote-first a b waiting (with_line_ends xs) (with_line_ends ys) rest g)
 
-pub Lines-next : (a b c : Option (List ℕ)) (whole : List ℕ) (xs ys : List (List ℕ)) (rest : List ℕ)
-    → Wrote a b whole (with_line_ends (xs ++ ys)) → Wrote b c (with_line_ends xs) rest
+pub Lines-next : (a b c : Option (List ℕ)) (whole waiting : List ℕ) (xs ys : List (List ℕ)) (rest : List ℕ)
+    → Wrote a b whole (waiting ++ with_line_ends (xs ++ ys)) → Wrote b c (waiting ++ with_line_ends xs) rest
     → Wrote a c whole (rest ++ with_line_ends ys)
-Lines-next a b c whole xs ys rest h g = Wrote-on a b c whole (with_line_ends xs) (with_line_ends ys) rest (subst (Wrote a b whole) (with_line_ends-append xs ys) h) g
+Lines-next a b c whole waiting xs ys rest h g =
+    Wrote-on a b c whole waiting (with_line_ends xs) (with_line_ends ys) rest
+    (subst (λ (t : List ℕ). Wrote a b whole (waiting ++ t)) (with_line_ends-append xs ys) h) g
 
 -- the first line of a group, and of an article
-pub Group-first : (a b : Option (List ℕ)) (name : List ℕ) (n count : ℕ) (more : List (List ℕ)) (rest : List ℕ) → n ≡ count
-    → Wrote a b (with_line_ends (group_line name n ∷ [])) rest → Wrote a b (with_line_ends (group_line name count ∷ more)) (rest ++ with_line_ends more)
-Group-first a b name n count more rest e g = Lines-first a b (group_line name count ∷ []) more rest (subst (λ (k : ℕ). Wrote a b (with_line_ends (group_line name k ∷ [])) rest) e g)
+pub Group-first : (a b : Option (List ℕ)) (waiting name : List ℕ) (n count : ℕ) (more : List (List ℕ)) (rest : List ℕ) → n ≡ count
+    → Wrote a b (waiting ++ with_line_ends (group_line name n ∷ [])) rest
+    → Wrote a b (waiting ++ with_line_ends (group_line name count ∷ more)) (rest ++ with_line_ends more)
+Group-first a b waiting name n count more rest e g =
+    Lines-first a b waiting (group_line name count ∷ []) more rest
+    (subst (λ (k : ℕ). Wrote a b (waiting ++ with_line_ends (group_line name k ∷ [])) rest) e g)
 
-pub Article-first : (a b : Option (List ℕ)) (id : List ℕ) (m heads n bodies : ℕ) (more : List (List ℕ)) (rest : List ℕ) → m ≡ heads → n ≡ bodies
-    → Wrote a b (with_line_ends (article_line id m n ∷ [])) rest → Wrote a b (with_line_ends (article_line id heads bodies ∷ more)) (rest ++ with_line_ends more)
-Article-first a b id m heads n bodies more rest e f g =
-    Lines-first a b (article_line id heads bodies ∷ []) more rest
-    (subst (λ (k : ℕ). Wrote a b (with_line_ends (article_line id k bodies ∷ [])) rest) e
-    (subst (λ (k : ℕ). Wrote a b (with_line_ends (article_line id m k ∷ [])) rest) f g))
+pub Article-first : (a b : Option (List ℕ)) (waiting id : List ℕ) (m heads n bodies : ℕ) (more : List (List ℕ)) (rest : List ℕ) → m ≡ heads → n ≡ bodies
+    → Wrote a b (waiting ++ with_line_ends (article_line id m n ∷ [])) rest
+    → Wrote a b (waiting ++ with_line_ends (article_line id heads bodies ∷ more)) (rest ++ with_line_ends more)
+Article-first a b waiting id m heads n bodies more rest e f g =
+    Lines-first a b waiting (article_line id heads bodies ∷ []) more rest
+    (subst (λ (k : ℕ). Wrote a b (waiting ++ with_line_ends (article_line id k bodies ∷ [])) rest) e
+    (subst (λ (k : ℕ). Wrote a b (waiting ++ with_line_ends (article_line id m k ∷ [])) rest) f g))
 
--- the lines of a spool's limit, and its groups and articles
-pub Limit-first : (a b : Option (List ℕ)) (limit : Limit) (L : LimitedSpool) (rest : List ℕ) → limit ≡ L.limit
-    → Wrote a b (with_line_ends (limit_lines limit)) rest → Wrote a b (spool_text L) (rest ++ with_line_ends (content_lines L.spool))
-Limit-first a b limit L rest e g = Lines-first a b (limit_lines L.limit) (content_lines L.spool) rest (subst (λ (l : Limit). Wrote a b (with_line_ends (limit_lines l)) rest) e g)
-
-pub Content-written : {A E : Type 0} (r : Result A E) (a b : Option (List ℕ)) (S : Spool) (L : LimitedSpool) → S ≡ L.spool
-    → Writes r a b (with_line_ends (content_lines S)) → Writes r a b (with_line_ends (content_lines L.spool))
-Content-written r a b S L e g = subst (λ (T : Spool). Writes r a b (with_line_ends (content_lines T))) e g
+-- the lines of a spool's limit, where nothing waits before them
+pub Limit-first : (start a b : Option (List ℕ)) (waiting : List ℕ) (limit : Limit) (L : LimitedSpool) (S : Spool) (rest : List ℕ)
+    → a ≡ start → waiting ≡ [] → limit ≡ L.limit → S ≡ L.spool
+    → Wrote a b (waiting ++ with_line_ends (limit_lines limit)) rest → Wrote start b (spool_text L) (rest ++ with_line_ends (content_lines S))
+Limit-first start a b waiting limit L S rest same none e f g =
+    let left = rest ++ with_line_ends (content_lines S) in
+    let first = subst (λ (l : Limit). Wrote a b (waiting ++ with_line_ends (limit_lines l)) rest) e g in
+    let all = Lines-first a b waiting (limit_lines L.limit) (content_lines S) rest first in
+    subst (λ (t : Option (List ℕ)). Wrote t b (spool_text L) left) same
+    (subst (λ (t : List ℕ). Wrote a b (t ++ spool_text L) left) none
+    (subst (λ (T : Spool). Wrote a b (waiting ++ with_line_ends (limit_lines L.limit ++ content_lines T)) left) f all))

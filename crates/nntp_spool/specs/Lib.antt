@@ -1,5 +1,6 @@
 pub mod Watched
 pub mod Writing
+pub mod Buffering
 pub mod Codes
 pub mod Limited
 pub mod ArticleLines

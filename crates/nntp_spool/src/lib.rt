@@ -2,6 +2,7 @@
 //! call by call, written as text, read back, and put to the streams of a session.
 #![tactic(auto)]
 
+mod buffered_output;
 pub mod laws;
 mod output;
 mod text;

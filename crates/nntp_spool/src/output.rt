@@ -1,6 +1,5 @@
 //! Octets that are handed to a writer.
 ghost use Rattle.std.specs.Prelude.{◌≡◌, ◌||◌, is_err};
-ghost use Rattle.std.specs.List.{flat_map};
 ghost use Rattle.nntp_spool.specs.Watched.{inner_of, has_failed_of};
 ghost use Rattle.nntp_spool.specs.Writing.{Writes};
 
@@ -30,17 +29,6 @@ pub fn put<W: Write>(w: &mut Watched<W>, octets: &[u8]) -> Result<(), WriteFault
             Ok(count) => rest = rest.split_at(count).1,
             Err(_) => return Err(WriteFault),
         }
-    }
-    Ok(())
-}
-
-/// Hands the pieces to the writer, one after the other. After a fault it took a front of them.
-pub(crate) fn put_pieces<W: Write>(w: &mut Watched<W>, pieces: &[&[u8]]) -> Result<(), WriteFault>
-    ensures text { Writes result (W.contents (inner_of w.old)) (W.contents (inner_of w.new)) (flat_map (λ piece. piece.now) pieces.now) }
-    ensures failed { has_failed_of w.new ≡ (has_failed_of w.old || is_err result) }
-{
-    for piece in pieces {
-        put(w, *piece)?;
     }
     Ok(())
 }

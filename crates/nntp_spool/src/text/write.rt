@@ -6,8 +6,10 @@ ghost use Rattle.nntp_spool.specs.Text.{with_line_ends, number_line, group_line,
 ghost use Rattle.nntp_spool.specs.ArticleLines.{text_stored};
 ghost use Rattle.nntp_spool.specs.Watched.{inner_of, has_failed_of};
 ghost use Rattle.nntp_spool.specs.Writing.{Writes};
+ghost use Rattle.nntp_spool.specs.Buffering.{writer_failed, IsSameWriter, Buffers};
 
-use crate::output::{WriteFault, put, put_pieces};
+use crate::buffered_output::BufferedOutput;
+use crate::output::WriteFault;
 use crate::value::Spool;
 use crate::value::article::{StoredArticle, line_count};
 use crate::value::content::Content;
@@ -19,62 +21,78 @@ use std::alloc::Allocator;
 use std::io::Write;
 
 /// Writes the line of a number.
-fn put_number_line<W: Write>(w: &mut Watched<W>, number: u64, id: &[u8]) -> Result<(), WriteFault>
-    ensures text { Writes result (W.contents (inner_of w.old)) (W.contents (inner_of w.new)) (with_line_ends (number_line number id.now ∷ [])) }
-    ensures failed { has_failed_of w.new ≡ (has_failed_of w.old || is_err result) }
+fn put_number_line<W: Write>(
+    output: &mut BufferedOutput<'_, W>,
+    number: u64,
+    id: &[u8],
+) -> Result<(), WriteFault>
+    ensures text { Buffers W.contents result output.old output.new (with_line_ends (number_line number id.now ∷ [])) }
+    ensures failed { writer_failed output.new ≡ (writer_failed output.old || is_err result) }
+    ensures same_writer { IsSameWriter output.old output.new }
 {
     let mut buffer = Buffer::new();
-    put_pieces(w, &[buffer.format(number).as_bytes(), b" ", id, b"\n"])
+    output.put_pieces(&[buffer.format(number).as_bytes(), b" ", id, b"\n"])
 }
 
 /// Writes the first line of a group.
-fn put_group_line<W: Write>(w: &mut Watched<W>, name: &[u8], count: u64) -> Result<(), WriteFault>
-    ensures text { Writes result (W.contents (inner_of w.old)) (W.contents (inner_of w.new)) (with_line_ends (group_line name.now count ∷ [])) }
-    ensures failed { has_failed_of w.new ≡ (has_failed_of w.old || is_err result) }
+fn put_group_line<W: Write>(
+    output: &mut BufferedOutput<'_, W>,
+    name: &[u8],
+    count: u64,
+) -> Result<(), WriteFault>
+    ensures text { Buffers W.contents result output.old output.new (with_line_ends (group_line name.now count ∷ [])) }
+    ensures failed { writer_failed output.new ≡ (writer_failed output.old || is_err result) }
+    ensures same_writer { IsSameWriter output.old output.new }
 {
     let mut buffer = Buffer::new();
     let count = buffer.format(count).as_bytes();
-    put_pieces(w, &[b"group ", name, b" ", count, b"\n"])
+    output.put_pieces(&[b"group ", name, b" ", count, b"\n"])
 }
 
 /// Writes the first line of an article.
 fn put_article_line<W: Write>(
-    w: &mut Watched<W>,
+    output: &mut BufferedOutput<'_, W>,
     id: &[u8],
     heads: u64,
     bodies: u64,
 ) -> Result<(), WriteFault>
-    ensures text { Writes result (W.contents (inner_of w.old)) (W.contents (inner_of w.new)) (with_line_ends (article_line id.now heads bodies ∷ [])) }
-    ensures failed { has_failed_of w.new ≡ (has_failed_of w.old || is_err result) }
+    ensures text { Buffers W.contents result output.old output.new (with_line_ends (article_line id.now heads bodies ∷ [])) }
+    ensures failed { writer_failed output.new ≡ (writer_failed output.old || is_err result) }
+    ensures same_writer { IsSameWriter output.old output.new }
 {
     let mut head_count = Buffer::new();
     let mut body_count = Buffer::new();
     let heads = head_count.format(heads).as_bytes();
     let bodies = body_count.format(bodies).as_bytes();
-    put_pieces(w, &[b"article ", id, b" ", heads, b" ", bodies, b"\n"])
+    output.put_pieces(&[b"article ", id, b" ", heads, b" ", bodies, b"\n"])
 }
 
 /// Writes the lines of a head or a body.
-fn put_barred_lines<W: Write>(w: &mut Watched<W>, lines: &Block<'_>) -> Result<(), WriteFault>
-    ensures text { Writes result (W.contents (inner_of w.old)) (W.contents (inner_of w.new)) (with_line_ends (barred lines.now)) }
-    ensures failed { has_failed_of w.new ≡ (has_failed_of w.old || is_err result) }
+fn put_barred_lines<W: Write>(
+    output: &mut BufferedOutput<'_, W>,
+    lines: &Block<'_>,
+) -> Result<(), WriteFault>
+    ensures text { Buffers W.contents result output.old output.new (with_line_ends (barred lines.now)) }
+    ensures failed { writer_failed output.new ≡ (writer_failed output.old || is_err result) }
+    ensures same_writer { IsSameWriter output.old output.new }
 {
     let mut rest = lines.lines();
     while let Some(line) = rest.next() {
-        put_pieces(w, &[b"|", line, b"\n"])?;
+        output.put_pieces(&[b"|", line, b"\n"])?;
     }
     Ok(())
 }
 
 impl<A: Allocator> Numbers<A> {
     /// Writes the lines of the numbers.
-    fn write<W: Write>(&self, w: &mut Watched<W>) -> Result<(), WriteFault>
-        ensures text { Writes result (W.contents (inner_of w.old)) (W.contents (inner_of w.new)) (with_line_ends (list_map (λ e. number_line e.0 e.1) (map.entries self.now))) }
-        ensures failed { has_failed_of w.new ≡ (has_failed_of w.old || is_err result) }
+    fn write<W: Write>(&self, output: &mut BufferedOutput<'_, W>) -> Result<(), WriteFault>
+        ensures text { Buffers W.contents result output.old output.new (with_line_ends (list_map (λ e. number_line e.0 e.1) (map.entries self.now))) }
+        ensures failed { writer_failed output.new ≡ (writer_failed output.old || is_err result) }
+        ensures same_writer { IsSameWriter output.old output.new }
     {
         let mut entries = self.ids.iter();
         while let Some((number, id)) = entries.next() {
-            put_number_line(w, *number, id.as_str().as_bytes())?;
+            put_number_line(output, *number, id.as_str().as_bytes())?;
         }
         Ok(())
     }
@@ -82,84 +100,95 @@ impl<A: Allocator> Numbers<A> {
 
 /// Writes all lines of a group.
 fn put_group<W: Write, A: Allocator>(
-    w: &mut Watched<W>,
+    output: &mut BufferedOutput<'_, W>,
     name: &[u8],
     numbers: &Numbers<A>,
 ) -> Result<(), WriteFault>
-    ensures text { Writes result (W.contents (inner_of w.old)) (W.contents (inner_of w.new)) (with_line_ends (group_lines (name.now, numbers.now))) }
-    ensures failed { has_failed_of w.new ≡ (has_failed_of w.old || is_err result) }
+    ensures text { Buffers W.contents result output.old output.new (with_line_ends (group_lines (name.now, numbers.now))) }
+    ensures failed { writer_failed output.new ≡ (writer_failed output.old || is_err result) }
+    ensures same_writer { IsSameWriter output.old output.new }
 {
-    put_group_line(w, name, numbers.len() as u64)?;
-    numbers.write(w)
+    put_group_line(output, name, numbers.len() as u64)?;
+    numbers.write(output)
 }
 
 /// Writes all lines of an article.
 fn put_article<W: Write, A: Allocator>(
-    w: &mut Watched<W>,
+    output: &mut BufferedOutput<'_, W>,
     id: &[u8],
     article: &StoredArticle<A>,
 ) -> Result<(), WriteFault>
-    ensures text { Writes result (W.contents (inner_of w.old)) (W.contents (inner_of w.new)) (with_line_ends (article_lines (id.now, text_stored article.now))) }
-    ensures failed { has_failed_of w.new ≡ (has_failed_of w.old || is_err result) }
+    ensures text { Buffers W.contents result output.old output.new (with_line_ends (article_lines (id.now, text_stored article.now))) }
+    ensures failed { writer_failed output.new ≡ (writer_failed output.old || is_err result) }
+    ensures same_writer { IsSameWriter output.old output.new }
 {
     let (head, body) = (
         article.head.as_ref().as_block(),
         article.body.as_ref().as_block(),
     );
-    put_article_line(w, id, line_count(&head) as u64, line_count(&body) as u64)?;
-    put_barred_lines(w, &head)?;
-    put_barred_lines(w, &body)
+    put_article_line(
+        output,
+        id,
+        line_count(&head) as u64,
+        line_count(&body) as u64,
+    )?;
+    put_barred_lines(output, &head)?;
+    put_barred_lines(output, &body)
 }
 
 /// Writes the lines that say the limit.
-fn put_limit<W: Write>(w: &mut Watched<W>, limit: Limit) -> Result<(), WriteFault>
-    ensures text { Writes result (W.contents (inner_of w.old)) (W.contents (inner_of w.new)) (with_line_ends (limit_lines limit)) }
-    ensures failed { has_failed_of w.new ≡ (has_failed_of w.old || is_err result) }
+fn put_limit<W: Write>(output: &mut BufferedOutput<'_, W>, limit: Limit) -> Result<(), WriteFault>
+    ensures text { Buffers W.contents result output.old output.new (with_line_ends (limit_lines limit)) }
+    ensures failed { writer_failed output.new ≡ (writer_failed output.old || is_err result) }
+    ensures same_writer { IsSameWriter output.old output.new }
 {
     match limit {
-        Limit::Narrow => put(w, b"spool 1\n"),
-        Limit::Wide => put(w, b"spool 2\nlimit 9999999999999999\n"),
+        Limit::Narrow => output.put(b"spool 1\n"),
+        Limit::Wide => output.put(b"spool 2\nlimit 9999999999999999\n"),
     }
 }
 
 impl<A: Allocator> Content<A> {
     /// Writes the lines of all groups.
-    fn write_groups<W: Write>(&self, w: &mut Watched<W>) -> Result<(), WriteFault>
-        ensures text { Writes result (W.contents (inner_of w.old)) (W.contents (inner_of w.new)) (with_line_ends (flat_map group_lines (map.entries self.now.groups))) }
-        ensures failed { has_failed_of w.new ≡ (has_failed_of w.old || is_err result) }
+    fn write_groups<W: Write>(&self, output: &mut BufferedOutput<'_, W>) -> Result<(), WriteFault>
+        ensures text { Buffers W.contents result output.old output.new (with_line_ends (flat_map group_lines (map.entries self.now.groups))) }
+        ensures failed { writer_failed output.new ≡ (writer_failed output.old || is_err result) }
+        ensures same_writer { IsSameWriter output.old output.new }
     {
         let mut entries = self.groups.iter();
         while let Some((name, numbers)) = entries.next() {
-            put_group(w, name.as_slice(), numbers)?;
+            put_group(output, name.as_slice(), numbers)?;
         }
         Ok(())
     }
 
     /// Writes the lines of all articles.
-    fn write_articles<W: Write>(&self, w: &mut Watched<W>) -> Result<(), WriteFault>
-        ensures text { Writes result (W.contents (inner_of w.old)) (W.contents (inner_of w.new)) (with_line_ends (flat_map article_lines (map.entries self.now.articles))) }
-        ensures failed { has_failed_of w.new ≡ (has_failed_of w.old || is_err result) }
+    fn write_articles<W: Write>(&self, output: &mut BufferedOutput<'_, W>) -> Result<(), WriteFault>
+        ensures text { Buffers W.contents result output.old output.new (with_line_ends (flat_map article_lines (map.entries self.now.articles))) }
+        ensures failed { writer_failed output.new ≡ (writer_failed output.old || is_err result) }
+        ensures same_writer { IsSameWriter output.old output.new }
     {
         let mut entries = self.articles.iter();
         while let Some((id, article)) = entries.next() {
-            put_article(w, id.as_str().as_bytes(), article)?;
+            put_article(output, id.as_str().as_bytes(), article)?;
         }
         Ok(())
     }
 
     /// Writes all groups and all articles, and the end.
-    fn write<W: Write>(&self, w: &mut Watched<W>) -> Result<(), WriteFault>
-        ensures text { Writes result (W.contents (inner_of w.old)) (W.contents (inner_of w.new)) (with_line_ends (content_lines self.now)) }
-        ensures failed { has_failed_of w.new ≡ (has_failed_of w.old || is_err result) }
+    fn write<W: Write>(&self, output: &mut BufferedOutput<'_, W>) -> Result<(), WriteFault>
+        ensures text { Buffers W.contents result output.old output.new (with_line_ends (content_lines self.now)) }
+        ensures failed { writer_failed output.new ≡ (writer_failed output.old || is_err result) }
+        ensures same_writer { IsSameWriter output.old output.new }
     {
-        self.write_groups(w)?;
-        self.write_articles(w)?;
-        put(w, b"end\n")
+        self.write_groups(output)?;
+        self.write_articles(output)?;
+        output.put(b"end\n")
     }
 }
 
 impl<A: Allocator> Spool<A> {
-    /// Writes the text of the spool. The writer isn't flushed.
+    /// Writes the text of the spool, many lines in one call of the writer. It isn't flushed. No memory is asked for.
     ///
     /// # Errors
     ///
@@ -169,7 +198,9 @@ impl<A: Allocator> Spool<A> {
         ensures text { Writes result (W.contents (inner_of w.old)) (W.contents (inner_of w.new)) (spool_text self.now) }
         ensures failed { has_failed_of w.new ≡ (has_failed_of w.old || is_err result) }
     {
-        put_limit(w, self.limit())?;
-        self.content().write(w)
+        let mut output = BufferedOutput::new(w);
+        put_limit(&mut output, self.limit())?;
+        self.content().write(&mut output)?;
+        output.hand_on()
     }
 }

@@ -1,7 +1,8 @@
-use Rattle.std.proofs.Common.{[], length, ap, ◌∙◌, subst}
+use Rattle.std.proofs.Common.{length, ap, ◌++◌, ◌∙◌, subst}
 use Rattle.std.proofs.lemmas.Result.{err_from_is_err_and}
 use Rattle.nntp_spool.specs.Text.{with_line_ends, barred}
-use Rattle.nntp_spool.specs.Writing.{Wrote, Writes}
+use Rattle.nntp_spool.specs.Writing.{Wrote, WritesBut}
+use Rattle.nntp_spool.specs.Buffering.{taken, waiting}
 use Rattle.nntp_spool.proofs.Written.{Writes-last}
 use Rattle.nntp_spool.proofs.WrittenLines.{Article-first, Lines-next}
 use Rattle.nntp_spool.proofs.text.write.put_article.Goals as goal
@@ -12,7 +13,7 @@ returns-in_err-put_article_line-clause-text g c =
     let w = c.in_err-put_article_line.ensures.text in
     let heads = c.line_count.ensures ∙ ap length (c.as_block-head.ensures.same ∙ c.as_ref.ensures) in
     let bodies = c.line_count-2.ensures ∙ ap length (c.as_block-body.ensures.same ∙ c.as_ref-2.ensures) in
-    rw p.1 (_, Article-first _ _ c.args.id.now c.line_count.result _ c.line_count-2.result _ _ w.0 heads bodies w.1)
+    rw p.1 (_, Article-first _ _ (waiting c.args.output.now) c.args.id.now c.line_count.result _ c.line_count-2.result _ _ w.0 heads bodies w.1)
 
 pub returns-in_err-put_barred_lines-clause-text : goal.returns-in_err-put_barred_lines-clause-text
 returns-in_err-put_barred_lines-clause-text g c =
@@ -21,12 +22,12 @@ returns-in_err-put_barred_lines-clause-text g c =
     let heads = c.line_count.ensures ∙ ap length (c.as_block-head.ensures.same ∙ c.as_ref.ensures) in
     let bodies = c.line_count-2.ensures ∙ ap length (c.as_block-body.ensures.same ∙ c.as_ref-2.ensures) in
     let w = c.in_err-put_barred_lines.ensures.text in
-    let first = Article-first _ _ c.args.id.now c.line_count.result _ c.line_count-2.result _ _ [] heads bodies c.in_ok-put_article_line.ensures.text in
+    let first = Article-first _ _ (waiting c.args.output.now) c.args.id.now c.line_count.result _ c.line_count-2.result _ _ _ heads bodies c.in_ok-put_article_line.ensures.text in
     rw p.1 (
       _,
-      Lines-next _ _ _ _ (barred a.head.value) _ w.0 first
-          (subst (λ ls. Wrote (g.W.Write.contents c.put_article_line.new.w.inner)
-          (g.W.Write.contents c.put_barred_lines.new.w.inner) (with_line_ends (barred ls)) w.0) (c.as_block-head.ensures.same ∙ c.as_ref.ensures) w.1),
+      Lines-next _ _ _ _ _ (barred a.head.value) _ w.0 first
+          (subst (λ ls. Wrote (taken g.W.Write.contents c.put_article_line.new.output)
+          (taken g.W.Write.contents c.put_barred_lines.new.output) (waiting c.put_article_line.new.output ++ with_line_ends (barred ls)) w.0) (c.as_block-head.ensures.same ∙ c.as_ref.ensures) w.1),
     )
 
 pub returns-clause-text : goal.returns-clause-text
@@ -34,12 +35,12 @@ returns-clause-text g c =
     let a = c.args.article.now in
     let heads = c.line_count.ensures ∙ ap length (c.as_block-head.ensures.same ∙ c.as_ref.ensures) in
     let bodies = c.line_count-2.ensures ∙ ap length (c.as_block-body.ensures.same ∙ c.as_ref-2.ensures) in
-    let first = Article-first _ _ c.args.id.now c.line_count.result _ c.line_count-2.result _ _ [] heads bodies c.in_ok-put_article_line.ensures.text in
-    let second = Lines-next _ _ _ _ (barred a.head.value) (barred a.body.value) [] first
-    (subst (λ ls. Wrote (g.W.Write.contents c.put_article_line.new.w.inner)
-    (g.W.Write.contents c.put_barred_lines.new.w.inner) (with_line_ends (barred ls)) []) (c.as_block-head.ensures.same ∙ c.as_ref.ensures)
+    let first = Article-first _ _ (waiting c.args.output.now) c.args.id.now c.line_count.result _ c.line_count-2.result _ _ _ heads bodies c.in_ok-put_article_line.ensures.text in
+    let second = Lines-next _ _ _ _ _ (barred a.head.value) (barred a.body.value) _ first
+    (subst (λ ls. Wrote (taken g.W.Write.contents c.put_article_line.new.output)
+    (taken g.W.Write.contents c.put_barred_lines.new.output) (waiting c.put_article_line.new.output ++ with_line_ends (barred ls)) (waiting c.put_barred_lines.new.output)) (c.as_block-head.ensures.same ∙ c.as_ref.ensures)
     c.in_ok-put_barred_lines.ensures.text) in
-    Writes-last c.put_barred_lines-2.result _ _ _ _ _ second
-    (subst (λ ls. Writes c.put_barred_lines-2.result (g.W.Write.contents c.put_barred_lines.new.w.inner)
-    (g.W.Write.contents c.put_barred_lines-2.new.w.inner) (with_line_ends (barred ls))) (c.as_block-body.ensures.same ∙ c.as_ref-2.ensures)
+    Writes-last c.put_barred_lines-2.result _ _ _ _ _ _ second
+    (subst (λ ls. WritesBut c.put_barred_lines-2.result (taken g.W.Write.contents c.put_barred_lines.new.output)
+    (taken g.W.Write.contents c.put_barred_lines-2.new.output) (waiting c.put_barred_lines.new.output ++ with_line_ends (barred ls)) (waiting c.put_barred_lines-2.new.output)) (c.as_block-body.ensures.same ∙ c.as_ref-2.ensures)
     c.put_barred_lines-2.ensures.text)

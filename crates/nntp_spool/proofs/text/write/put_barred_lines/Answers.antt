@@ -1,4 +1,4 @@
-use Rattle.std.proofs.Common.{arith, [], ◌∷◌, ◌++◌, refl}
+use Rattle.std.proofs.Common.{arith, [], ◌∷◌, ◌++◌, ◌∙◌, refl}
 use Rattle.std.proofs.lemmas.Result.{err_from_is_err_and}
 use Rattle.nntp_spool.specs.Text.{with_line_ends, barred}
 use Rattle.nntp_spool.proofs.Written.{Wrote-head}
@@ -10,13 +10,14 @@ returns-in_err-put_pieces-clause-text g c =
     let w = c.in_err-put_pieces.ensures.text in
     rw p.1 (
       _,
-      Wrote-head (λ lines. with_line_ends (barred lines)) (λ line. 124 ∷ line ++ 10 ∷ []) (λ x xs. refl) _ _ _ _ _
+      Wrote-head (λ lines. with_line_ends (barred lines)) (λ line. 124 ∷ line ++ 10 ∷ []) (λ x xs. refl) _ _ _ _ _ _
           c.in-Some.line.now _ _ w.0 c.in-Some.ensures.steps refl c.loop-line.invariant.wrote w.1,
     )
 
 pub loop-line-preserved : goal.loop-line-preserved
 loop-line-preserved g c = record {
-  wrote = Wrote-head (λ lines. with_line_ends (barred lines)) (λ line. 124 ∷ line ++ 10 ∷ []) (λ x xs. refl) _ _ _ _ _
-      c.in-Some.line.now _ _ [] c.in-Some.ensures.steps refl c.loop-line.invariant.wrote c.in_ok-put_pieces.ensures.text;
+  wrote = Wrote-head (λ lines. with_line_ends (barred lines)) (λ line. 124 ∷ line ++ 10 ∷ []) (λ x xs. refl) _ _ _ _ _ _
+      c.in-Some.line.now _ _ _ c.in-Some.ensures.steps refl c.loop-line.invariant.wrote c.in_ok-put_pieces.ensures.text;
   same = grind (arith, c.in_ok-put_pieces.ensures.failed);
+  writer = c.in_ok-put_pieces.ensures.same_writer ∙ c.loop-line.invariant.writer;
 }

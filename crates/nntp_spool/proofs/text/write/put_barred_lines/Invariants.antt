@@ -1,10 +1,14 @@
-use Rattle.std.proofs.Common.{◌≡◌}
+use Rattle.std.proofs.Common.{◌≡◌, ◌++◌}
 use Rattle.nntp_spool.specs.Text.{with_line_ends, barred}
 use Rattle.nntp_spool.specs.Writing.{Wrote}
+use Rattle.nntp_spool.specs.Buffering.{taken, waiting, writer_failed, IsSameWriter}
 use Rattle.nntp_spool.proofs.text.write.put_barred_lines.Given as goal
 
 abbrev pub invariant-loop-line : goal.invariant-loop-line
 invariant-loop-line g l = record {
-  wrote : Wrote (g.W.Write.contents l.fn.w.inner) (g.W.Write.contents l.w.inner) (with_line_ends (barred l.lines)) (with_line_ends (barred l.rest));
-  same : l.w.has_failed ≡ l.fn.w.has_failed;
+  wrote : Wrote (taken g.W.Write.contents l.fn.output) (taken g.W.Write.contents l.output)
+      (waiting l.fn.output ++ with_line_ends (barred l.lines))
+      (waiting l.output ++ with_line_ends (barred l.rest));
+  same : writer_failed l.output ≡ writer_failed l.fn.output;
+  writer : IsSameWriter l.fn.output l.output;
 }

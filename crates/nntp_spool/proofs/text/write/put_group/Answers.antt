@@ -1,5 +1,5 @@
-use Rattle.std.proofs.Common.{[]}
 use Rattle.std.proofs.lemmas.Result.{err_from_is_err_and}
+use Rattle.nntp_spool.specs.Buffering.{waiting}
 use Rattle.nntp_spool.proofs.Written.{Writes-last}
 use Rattle.nntp_spool.proofs.WrittenLines.{Group-first}
 use Rattle.nntp_spool.proofs.text.write.put_group.Goals as goal
@@ -8,8 +8,8 @@ pub returns-in_err-put_group_line-clause-text : goal.returns-in_err-put_group_li
 returns-in_err-put_group_line-clause-text g c =
     let p = err_from_is_err_and c.from_residual.result c.from_residual.ensures.1 in
     let w = c.in_err-put_group_line.ensures.text in
-    rw p.1 (_, Group-first _ _ c.args.name.now c.len.result _ _ w.0 c.len.ensures w.1)
+    rw p.1 (_, Group-first _ _ (waiting c.args.output.now) c.args.name.now c.len.result _ _ w.0 c.len.ensures w.1)
 
 pub returns-clause-text : goal.returns-clause-text
 returns-clause-text g c =
-    Writes-last c.write.result _ _ _ _ _ (Group-first _ _ c.args.name.now c.len.result _ _ [] c.len.ensures c.in_ok-put_group_line.ensures.text) c.write.ensures.text
+    Writes-last c.write.result _ _ _ _ _ _ (Group-first _ _ (waiting c.args.output.now) c.args.name.now c.len.result _ _ _ c.len.ensures c.in_ok-put_group_line.ensures.text) c.write.ensures.text

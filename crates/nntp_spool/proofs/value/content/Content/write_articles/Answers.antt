@@ -1,4 +1,4 @@
-use Rattle.std.proofs.Common.{arith, refl, sym, ◌∙◌, [], ap, map as list_map}
+use Rattle.std.proofs.Common.{arith, refl, sym, ◌∙◌, ap, map as list_map}
 use Rattle.std.specs.List.{flat_map}
 use Rattle.std.proofs.lemmas.Result.{err_from_is_err_and}
 use Rattle.std.specs.Rc.{rc_str_bytes}
@@ -17,7 +17,7 @@ returns-in_err-put_article-clause-text g c =
       _,
       Wrote-head (λ es. with_line_ends (flat_map article_lines (list_map (λ e. (rc_str_bytes e.0, text_stored e.1)) es)))
           (λ x. with_line_ends (article_lines (rc_str_bytes x.0, text_stored x.1)))
-          (λ x xs. with_line_ends-append (article_lines (rc_str_bytes x.0, text_stored x.1)) _) _ _ _ _ _ _ _ _ w.0
+          (λ x xs. with_line_ends-append (article_lines (rc_str_bytes x.0, text_stored x.1)) _) _ _ _ _ _ _ _ _ _ w.0
           c.in-Some.ensures.steps (ap (λ s. with_line_ends (article_lines (s, (text_stored c.in-Some.article.now))))
           (c.as_bytes.ensures.value ∙ c.as_str.ensures.value)) c.loop-id.invariant.wrote w.1,
     )
@@ -26,10 +26,11 @@ pub loop-id-preserved : goal.loop-id-preserved
 loop-id-preserved g c = record {
   wrote = Wrote-head (λ es. with_line_ends (flat_map article_lines (list_map (λ e. (rc_str_bytes e.0, text_stored e.1)) es)))
       (λ x. with_line_ends (article_lines (rc_str_bytes x.0, text_stored x.1)))
-      (λ x xs. with_line_ends-append (article_lines (rc_str_bytes x.0, text_stored x.1)) _) _ _ _ _ _ _ _ _ []
+      (λ x xs. with_line_ends-append (article_lines (rc_str_bytes x.0, text_stored x.1)) _) _ _ _ _ _ _ _ _ _ _
       c.in-Some.ensures.steps (ap (λ s. with_line_ends (article_lines (s, (text_stored c.in-Some.article.now))))
       (c.as_bytes.ensures.value ∙ c.as_str.ensures.value)) c.loop-id.invariant.wrote c.in_ok-put_article.ensures.text;
   same = grind (arith, c.in_ok-put_article.ensures.failed);
+  writer = c.in_ok-put_article.ensures.same_writer ∙ c.loop-id.invariant.writer;
 }
 
 pub loop-id-init : goal.loop-id-init
@@ -37,4 +38,4 @@ loop-id-init g c =
     let es = c.self.inside.articles.entries in
     let shown = article_entries es c.args.self.now.articles (ap (λ s. s.articles) c.self.view_is) c.iter-entries.ensures.ordered in
     let all = sym shown ∙ ap (list_map (λ e. (rc_str_bytes e.0, text_stored e.1))) (sym c.iter-entries.ensures.rest) in
-    record { wrote = Wrote-all _ _ _ (ap (λ es. with_line_ends (flat_map article_lines es)) all); same = refl }
+    record { wrote = Wrote-all _ _ _ _ (ap (λ es. with_line_ends (flat_map article_lines es)) all); same = refl; writer = refl }

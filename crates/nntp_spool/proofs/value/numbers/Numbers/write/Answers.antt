@@ -16,7 +16,7 @@ returns-in_err-put_number_line-clause-text g c =
       _,
       Wrote-head (λ es. with_line_ends (list_map (λ e. number_line e.0 (rc_str_bytes e.1)) es))
           (λ e. with_line_ends (number_line e.0 (rc_str_bytes e.1) ∷ []))
-          (λ x xs. with_line_ends-cons (number_line x.0 (rc_str_bytes x.1)) (list_map (λ e. number_line e.0 (rc_str_bytes e.1)) xs)) _ _ _ _ _ _ _
+          (λ x xs. with_line_ends-cons (number_line x.0 (rc_str_bytes x.1)) (list_map (λ e. number_line e.0 (rc_str_bytes e.1)) xs)) _ _ _ _ _ _ _ _
           _ w.0 c.in-Some.ensures.steps (ap (λ s. with_line_ends
           (number_line c.in-Some.number.now s ∷ [])) (c.as_bytes.ensures.value ∙ c.as_str.ensures.value)) c.loop-number.invariant.wrote w.1,
     )
@@ -25,10 +25,11 @@ pub loop-number-preserved : goal.loop-number-preserved
 loop-number-preserved g c = record {
   wrote = Wrote-head (λ es. with_line_ends (list_map (λ e. number_line e.0 (rc_str_bytes e.1)) es))
       (λ e. with_line_ends (number_line e.0 (rc_str_bytes e.1) ∷ []))
-      (λ x xs. with_line_ends-cons (number_line x.0 (rc_str_bytes x.1)) (list_map (λ e. number_line e.0 (rc_str_bytes e.1)) xs)) _ _ _ _ _ _ _ _ []
+      (λ x xs. with_line_ends-cons (number_line x.0 (rc_str_bytes x.1)) (list_map (λ e. number_line e.0 (rc_str_bytes e.1)) xs)) _ _ _ _ _ _ _ _ _ _
       c.in-Some.ensures.steps (ap (λ s. with_line_ends (number_line c.in-Some.number.now s ∷ [])) (c.as_bytes.ensures.value ∙ c.as_str.ensures.value))
       c.loop-number.invariant.wrote c.in_ok-put_number_line.ensures.text;
   same = grind (arith, c.in_ok-put_number_line.ensures.failed);
+  writer = c.in_ok-put_number_line.ensures.same_writer ∙ c.loop-number.invariant.writer;
 }
 
 pub loop-number-init : goal.loop-number-init
@@ -38,4 +39,4 @@ loop-number-init g c =
     let lines = sym (ap (list_map (λ e. number_line e.0 e.1)) shown)
     ∙ map-map (λ e. number_line e.0 e.1) (λ e. (e.0, rc_str_bytes e.1)) es
     ∙ ap (list_map (λ e. number_line e.0 (rc_str_bytes e.1))) (sym c.iter-entries.ensures.rest) in
-    record { wrote = Wrote-all _ _ _ (ap with_line_ends lines); same = refl }
+    record { wrote = Wrote-all _ _ _ _ (ap with_line_ends lines); same = refl; writer = refl }

@@ -1,14 +1,16 @@
-use Rattle.std.proofs.Common.{◌≡◌, map as list_map}
+use Rattle.std.proofs.Common.{◌≡◌, ◌++◌, map as list_map}
 use Rattle.std.specs.FinMap.{entries}
 use Rattle.std.specs.Rc.{rc_str_bytes}
 use Rattle.nntp_spool.specs.Text.{with_line_ends, number_line}
 use Rattle.nntp_spool.specs.Writing.{Wrote}
+use Rattle.nntp_spool.specs.Buffering.{taken, waiting, writer_failed, IsSameWriter}
 use Rattle.nntp_spool.proofs.value.numbers.Numbers.write.Given as goal
 
 abbrev pub invariant-loop-number : goal.invariant-loop-number
 invariant-loop-number g l = record {
-  wrote : Wrote (g.W.Write.contents l.fn.w.inner) (g.W.Write.contents l.w.inner)
-      (with_line_ends (list_map (λ e. number_line e.0 e.1) (entries l.self)))
-      (with_line_ends (list_map (λ e. number_line e.0 (rc_str_bytes e.1)) l.entries));
-  same : l.w.has_failed ≡ l.fn.w.has_failed;
+  wrote : Wrote (taken g.W.Write.contents l.fn.output) (taken g.W.Write.contents l.output)
+      (waiting l.fn.output ++ with_line_ends (list_map (λ e. number_line e.0 e.1) (entries l.self)))
+      (waiting l.output ++ with_line_ends (list_map (λ e. number_line e.0 (rc_str_bytes e.1)) l.entries));
+  same : writer_failed l.output ≡ writer_failed l.fn.output;
+  writer : IsSameWriter l.fn.output l.output;
 }

@@ -1,16 +1,45 @@
-use Rattle.std.proofs.Common.{[]}
+use Rattle.std.proofs.Common.{rules, [], ap, refl}
 use Rattle.std.proofs.lemmas.Result.{err_from_is_err_and}
-use Rattle.nntp_spool.proofs.Written.{Writes-last}
-use Rattle.nntp_spool.proofs.WrittenLines.{Limit-first, Content-written}
+use Rattle.nntp_spool.specs.Watched.{inner_of}
+use Rattle.nntp_spool.specs.Text.{spool_text}
+use Rattle.nntp_spool.specs.Buffering.{waiting}
+use Rattle.nntp_spool.proofs.Written.{Wrote-last, Writes-last, Writes-at}
+use Rattle.nntp_spool.proofs.WrittenLines.{Limit-first}
 use Rattle.nntp_spool.proofs.value.spool.Spool.write.Goals as goal
 
 pub returns-in_err-put_limit-clause-text : goal.returns-in_err-put_limit-clause-text
 returns-in_err-put_limit-clause-text g c =
     let p = err_from_is_err_and c.from_residual.result c.from_residual.ensures.1 in
+    let L = c.args.self.now in
+    let start = g.W.Write.contents (inner_of c.args.w.now) in
+    let same = ap (λ w. g.W.Write.contents (inner_of w)) c.new-output.ensures.writer in
     let w = c.in_err-put_limit.ensures.text in
-    rw p.1 (_, Limit-first _ _ c.limit.result c.args.self.now w.0 c.limit.ensures w.1)
+    let left = Limit-first start _ _ (waiting c.new-output.result) c.limit.result L L.spool w.0 same c.new-output.ensures.empty c.limit.ensures refl w.1 in
+    let at = Writes-at g.W.Write.contents c.from_residual.result start c.put_limit.new.output.writer.now (spool_text L) [] (rw p.1 (_, left)) in
+    search (rules, at)
+
+pub returns-in_err-write-clause-text : goal.returns-in_err-write-clause-text
+returns-in_err-write-clause-text g c =
+    let r = c.from_residual-in_err-write in
+    let p = err_from_is_err_and r.result r.ensures.1 in
+    let L = c.args.self.now in
+    let start = g.W.Write.contents (inner_of c.args.w.now) in
+    let same = ap (λ w. g.W.Write.contents (inner_of w)) c.new-output.ensures.writer in
+    let first = Limit-first start _ _ (waiting c.new-output.result) c.limit.result L c.content.result.now _
+    same c.new-output.ensures.empty c.limit.ensures c.content.ensures.value c.in_ok-put_limit.ensures.text in
+    let w = c.in_err-write.ensures.text in
+    let left = Wrote-last start _ _ (spool_text L) _ w.0 first w.1 in
+    let at = Writes-at g.W.Write.contents r.result start c.write.new.output.writer.now (spool_text L) [] (rw p.1 (_, left)) in
+    search (rules, at)
 
 pub returns-clause-text : goal.returns-clause-text
 returns-clause-text g c =
-    let first = Limit-first _ _ c.limit.result c.args.self.now [] c.limit.ensures c.in_ok-put_limit.ensures.text in
-    Writes-last c.write.result _ _ _ _ _ first (Content-written c.write.result _ _ c.content.result.now c.args.self.now c.content.ensures.value c.write.ensures.text)
+    let L = c.args.self.now in
+    let start = g.W.Write.contents (inner_of c.args.w.now) in
+    let same = ap (λ w. g.W.Write.contents (inner_of w)) c.new-output.ensures.writer in
+    let first = Limit-first start _ _ (waiting c.new-output.result) c.limit.result L c.content.result.now _
+    same c.new-output.ensures.empty c.limit.ensures c.content.ensures.value c.in_ok-put_limit.ensures.text in
+    let all = Wrote-last start _ _ (spool_text L) _ _ first c.in_ok-write.ensures.text in
+    let at = Writes-at g.W.Write.contents c.hand_on.result start c.hand_on.new.self.writer.now (spool_text L) []
+    (Writes-last c.hand_on.result _ _ _ _ _ [] all c.hand_on.ensures.text) in
+    search (rules, at)
