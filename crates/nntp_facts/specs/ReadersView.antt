@@ -1,6 +1,6 @@
 -- What the code's readers show, and the codes of it.
-use Rattle.std.specs.Prelude.{ℕ, List, Vec, Option, map, refl}
-use Rattle.std.specs.Option.{option_copied}
+use Rattle.std.specs.Prelude.{ℕ, List, Vec, Option, option_map, map, refl}
+use Rattle.std.specs.Rc.{rc_str_bytes}
 use Rattle.std.specs.Coded.{Coded, code_by, coded×, coded_ℕ, coded_list, coded_option, coded_bool}
 use Rattle.nntp_article.specs.Article.Parts.{Id}
 use Rattle.nntp_article.specs.Session.Spool.{Name}
@@ -9,8 +9,8 @@ use Rattle.nntp_facts.specs.Readers.{ShownGroup, ShownArticle}
 use Rattle.nntp_facts.specs.declared.shown_numbers.ShownNumber.{ShownNumber}
 
 -- the number, and its id
-abbrev pub number_value : ShownNumber → ℕ × Option Id
-number_value n = (n.number, option_copied n.id)
+abbrev pub number_value : {A : Type 0} → ShownNumber A → ℕ × Option Id
+number_value n = (n.number, option_map (λ id. rc_str_bytes id.now) n.id)
 
 -- groups by their names, one after the other
 abbrev pub named : {A : Type 0} → List (Vec ℕ A × KeptGroup) → List (Name × KeptGroup)

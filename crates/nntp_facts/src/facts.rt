@@ -201,7 +201,7 @@ impl<A: Allocator> Facts<A> {
     /// Returns the article at the index, which counts from 0 in the order of
     /// [`articles`](Facts::articles), or `None` if there are no more articles than that. It takes
     /// time in the order of the ids that are passed over.
-    pub fn article(&self, index: usize) -> Option<ShownArticle<'_>>
+    pub fn article(&self, index: usize) -> Option<ShownArticle<'_, A>>
         ensures { (profile : Profile) (past : List Paired) → HasNoted profile self.now past → (articles : List ArticleValue)
             × AreShownArticles (said_by profile.marks past) articles × (result ≡ slice_get articles index) }
     {

@@ -1,6 +1,7 @@
 //! What is kept of one group: its numbers, and the ids that are shown at numbers.
-ghost use Rattle.std.specs.Prelude.{◌≡◌, ◌↔◌, List, [], ◌++◌, IsTrue, IfSome, OnOk, Some};
+ghost use Rattle.std.specs.Prelude.{◌≡◌, ◌↔◌, List, [], ◌++◌, IsTrue, IfSome, OnOk, Some, option_map};
 ghost use Rattle.std.specs.Option.{option_copied};
+ghost use Rattle.std.specs.Rc.{rc_str_bytes};
 ghost use Rattle.std.specs.FinMap.{get, insert, empty};
 ghost use Rattle.nntp_facts.specs.Asks.{Ask};
 ghost use Rattle.nntp_facts.specs.Together.{AsksStand};
@@ -201,20 +202,17 @@ impl<A: Allocator> Group<A> {
     fn id(&self, number: u64) -> Option<&str>
         ensures { option_copied result ≡ get self.now.ids number }
     {
-        match find(&self.ids, number) {
+        match self.id_text(number) {
             Some(id) => Some(id.as_str()),
             None => None,
         }
     }
 
-    /// Returns the octets of the id at the number, if one is shown.
-    pub(crate) fn id_octets(&self, number: u64) -> Option<&[u8]>
-        ensures { option_copied result ≡ get self.now.ids number }
+    /// Returns the text of the id at the number, if one is shown.
+    pub(crate) fn id_text(&self, number: u64) -> Option<&RcStr<A>>
+        ensures { option_map (λ id. rc_str_bytes id.now) result ≡ get self.now.ids number }
     {
-        match self.id(number) {
-            Some(id) => Some(id.as_bytes()),
-            None => None,
-        }
+        find(&self.ids, number)
     }
 
     /// Returns the number of the id, if one is shown.

@@ -45,7 +45,7 @@ impl<'a, A: Allocator> ShownGroup<'a, A> {
 
     /// Returns the number at the index, which counts from 0 in the order of
     /// [`numbers`](ShownGroup::numbers), or `None` if there are no more numbers than that.
-    pub fn number(&self, index: usize) -> Option<ShownNumber<'a>>
+    pub fn number(&self, index: usize) -> Option<ShownNumber<'a, A>>
         ensures { option_map number_value result ≡ slice_get self.now.numbers index }
     {
         self.numbers().nth(index)

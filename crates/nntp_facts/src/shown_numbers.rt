@@ -8,14 +8,15 @@ use crate::group::Group;
 use std::alloc::{Allocator, Global};
 use std::collections::btree_set;
 use std::marker::Model;
+use std::rc::RcStr;
 
 /// A number that answers show in a group.
-#[derive(Clone, Copy)]
-pub struct ShownNumber<'a> {
+#[derive(Drop)]
+pub struct ShownNumber<'a, A: Allocator = Global> {
     /// The article number.
     pub number: u64,
-    /// The octets of the message-id at the number, or `None` if no answer shows it.
-    pub id: Option<&'a [u8]>,
+    /// The message-id at the number, with the angle brackets, or `None` if no answer shows it.
+    pub id: Option<&'a RcStr<A>>,
 }
 
 /// An iterator over the numbers that answers show in a group, ascending.
@@ -48,17 +49,17 @@ impl<'a, A: Allocator> ShownNumbers<'a, A> {
 }
 
 impl<'a, A: Allocator> Iterator for ShownNumbers<'a, A> {
-    type Item = ShownNumber<'a>;
+    type Item = ShownNumber<'a, A>;
 
     ghost next_gives = { YieldsFirstBy number_value (λ numbers. numbers) };
 
     ghost remaining = { item_count (λ numbers. numbers) };
 
-    fn next(&mut self) -> Option<ShownNumber<'a>> {
+    fn next(&mut self) -> Option<ShownNumber<'a, A>> {
         match self.rest.next() {
             Some(number) => Some(ShownNumber {
                 number: *number,
-                id: self.group.id_octets(*number),
+                id: self.group.id_text(*number),
             }),
             None => None,
         }

@@ -1,6 +1,7 @@
 //! The articles that answers show, one after the other.
 ghost use Rattle.std.specs.Prelude.{◌≡◌};
 ghost use Rattle.std.specs.Iterator.{YieldsFirst, item_count};
+ghost use Rattle.std.specs.Rc.{rc_str_bytes};
 ghost use Rattle.nntp_facts.specs.Readers.{shown_article, articles_shown_in};
 ghost use Rattle.nntp_facts.specs.ArticleView.{known_article, entries_value};
 
@@ -13,28 +14,29 @@ use std::rc::RcStr;
 
 /// An article that answers show, and so every spool has that permits them.
 #[derive(Drop)]
-pub struct ShownArticle<'a> {
-    id: &'a [u8],
+pub struct ShownArticle<'a, A: Allocator = Global> {
+    id: &'a RcStr<A>,
     is_sent: bool,
     head: Option<Block<'a>>,
     body: Option<Block<'a>>,
 }
 
-impl<'a> Model for ShownArticle<'a> {
+impl<'a, A: Allocator> Model for ShownArticle<'a, A> {
     ghost use Rattle.nntp_facts.specs.Readers.{ShownArticle as ArticleValue};
     ghost use Rattle.nntp_facts.specs.ReadersView.{coded_shown_article};
+    ghost use Rattle.std.specs.Rc.{rc_str_bytes};
 
     ghost Value = { ArticleValue };
 
     ghost coded = { coded_shown_article };
 
-    ghost view = { λ a. record { id = a.id.now; is_sent = a.is_sent; head = a.head; body = a.body } };
+    ghost view = { λ a. record { id = rc_str_bytes a.id.now; is_sent = a.is_sent; head = a.head; body = a.body } };
 }
 
-impl<'a> ShownArticle<'a> {
+impl<'a, A: Allocator> ShownArticle<'a, A> {
     /// Puts the id together with what is known of its article.
-    fn new<A: Allocator>(id: &'a [u8], article: &'a KnownArticle<A>) -> ShownArticle<'a>
-        ensures { result ≡ shown_article id.now (known_article article.now) }
+    fn new(id: &'a RcStr<A>, article: &'a KnownArticle<A>) -> ShownArticle<'a, A>
+        ensures { result ≡ shown_article (rc_str_bytes id.now) (known_article article.now) }
     {
         ShownArticle {
             id,
@@ -44,10 +46,9 @@ impl<'a> ShownArticle<'a> {
         }
     }
 
-    /// Returns the octets of the article's message-id, with the angle brackets (RFC 3977,
-    /// section 3.6).
-    pub fn id(&self) -> &'a [u8]
-        ensures { result.now ≡ self.now.id }
+    /// Returns the article's message-id, with the angle brackets (RFC 3977, section 3.6).
+    pub fn id(&self) -> &'a RcStr<A>
+        ensures { rc_str_bytes result.now ≡ self.now.id }
     {
         self.id
     }
@@ -115,14 +116,14 @@ impl<'a, A: Allocator> ShownArticles<'a, A> {
 }
 
 impl<'a, A: Allocator> Iterator for ShownArticles<'a, A> {
-    type Item = ShownArticle<'a>;
+    type Item = ShownArticle<'a, A>;
 
     ghost next_gives = { YieldsFirst (λ articles. articles) };
 
     ghost remaining = { item_count (λ articles. articles) };
 
-    fn next(&mut self) -> Option<ShownArticle<'a>> {
+    fn next(&mut self) -> Option<ShownArticle<'a, A>> {
         let (id, article) = self.rest.next()?;
-        Some(ShownArticle::new(id.as_str().as_bytes(), article))
+        Some(ShownArticle::new(id, article))
     }
 }
