@@ -1,15 +1,20 @@
 -- What the code's values keep of articles.
-use Rattle.std.specs.Prelude.{false, List, map, refl}
+use Rattle.std.specs.Prelude.{false, List, Option, option_map, map, refl}
 use Rattle.std.specs.Coded.{Coded, code_by, coded×, coded_ℕ, coded_list, coded_option, coded_bool}
+use Rattle.std.specs.declared.rc.Rc.{Rc}
 use Rattle.std.specs.declared.rc.RcStr.{RcStr}
 use Rattle.std.specs.Rc.{rc_str_bytes}
-use Rattle.nntp_article.specs.Article.Parts.{Id}
+use Rattle.nntp_article.specs.Article.Parts.{Id, Line}
 use Rattle.nntp_facts.specs.Kept.{KeptArticle}
 use Rattle.nntp_facts.specs.declared.articles.known.KnownArticle.{KnownArticle}
 
+-- the lines of a block that is held, if there is one
+abbrev pub lines_held : {A : Type 0} → Option (Rc (List Line) A) → Option (List Line)
+lines_held held = option_map (λ block. block.value) held
+
 -- what is kept of an article
 abbrev pub known_article : {A : Type 0} → KnownArticle A → KeptArticle
-known_article s = record { is_denied = false; is_sent = s.is_sent; head = s.head; body = s.body }
+known_article s = record { is_denied = false; is_sent = s.is_sent; head = lines_held s.head; body = lines_held s.body }
 
 -- what is kept of articles, one after the other
 abbrev pub entries_value : {A : Type 0} → List (RcStr A × KnownArticle A) → List (Id × KeptArticle)

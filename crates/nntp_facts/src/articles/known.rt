@@ -5,11 +5,12 @@ ghost use Rattle.nntp_article.specs.Article.Parts.{Id};
 ghost use Rattle.nntp_article.specs.Session.Machine.{head_fits};
 ghost use Rattle.nntp_facts.specs.Articles.{head_sent, body_sent, AreSame, MayBeSent, unsent, with_sent};
 ghost use Rattle.nntp_facts.specs.Kept.{IsAddedIf};
-ghost use Rattle.nntp_facts.specs.ArticleView.{known_article};
+ghost use Rattle.nntp_facts.specs.ArticleView.{known_article, lines_held};
 
 use nntp_article::Parts;
 use nntp_wire::{Block, OwnedBlock, What};
 use std::alloc::{AllocError, Allocator};
+use std::rc::Rc;
 
 /// What is known of an article.
 #[derive(Drop)]
@@ -17,9 +18,9 @@ pub(crate) struct KnownArticle<A: Allocator> {
     /// Whether a success of ARTICLE, HEAD, BODY or STAT named the article.
     pub(crate) is_sent: bool,
     /// The lines of the article's head, if they were sent.
-    pub(crate) head: Option<OwnedBlock<A>>,
+    pub(crate) head: Option<Rc<OwnedBlock<A>, A>>,
     /// The lines of the article's body, if they were sent.
-    pub(crate) body: Option<OwnedBlock<A>>,
+    pub(crate) body: Option<Rc<OwnedBlock<A>, A>>,
 }
 
 /// The parts of an article that a success sends.
@@ -73,11 +74,11 @@ impl<'a> Sent<'a> {
 }
 
 /// Tells whether lines that are sent are those that are held, where there are both.
-fn are_same<A: Allocator>(sent: &Option<Block<'_>>, held: &Option<OwnedBlock<A>>) -> bool
-    ensures { IsTrue result ↔ AreSame sent.now held.now }
+fn are_same<A: Allocator>(sent: &Option<Block<'_>>, held: &Option<Rc<OwnedBlock<A>, A>>) -> bool
+    ensures { IsTrue result ↔ AreSame sent.now (lines_held held.now) }
 {
     match (sent, held) {
-        (Some(sent), Some(held)) => sent.is_same(&held.as_block()),
+        (Some(sent), Some(held)) => sent.is_same(&held.as_ref().as_block()),
         _ => true,
     }
 }
@@ -85,13 +86,13 @@ fn are_same<A: Allocator>(sent: &Option<Block<'_>>, held: &Option<OwnedBlock<A>>
 /// Holds lines that are sent, where none are held yet.
 fn hold<A: Allocator + Copy>(
     alloc: A,
-    held: &mut Option<OwnedBlock<A>>,
+    held: &mut Option<Rc<OwnedBlock<A>, A>>,
     sent: &Option<Block<'_>>,
 ) -> Result<(), AllocError>
-    ensures { OnOk result (held.new ≡ option_or held.old sent.now) }
+    ensures { OnOk result (lines_held held.new ≡ option_or (lines_held held.old) sent.now) }
 {
     if let (None, Some(sent)) = (&*held, sent) {
-        *held = Some(sent.to_owned(alloc)?);
+        *held = Some(Rc::new(alloc, sent.to_owned(alloc)?)?);
     }
     Ok(())
 }

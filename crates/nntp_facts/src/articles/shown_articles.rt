@@ -1,51 +1,38 @@
 //! The articles that answers show, one after the other.
-ghost use Rattle.std.specs.Prelude.{◌≡◌};
+ghost use Rattle.std.specs.Prelude.{◌≡◌, option_map};
 ghost use Rattle.std.specs.Iterator.{YieldsFirst, item_count};
 ghost use Rattle.std.specs.Rc.{rc_str_bytes};
-ghost use Rattle.nntp_facts.specs.Readers.{shown_article, articles_shown_in};
-ghost use Rattle.nntp_facts.specs.ArticleView.{known_article, entries_value};
+ghost use Rattle.nntp_facts.specs.Readers.{articles_shown_in};
+ghost use Rattle.nntp_facts.specs.ArticleView.{entries_value};
 
 use crate::articles::known::KnownArticle;
-use nntp_wire::{Block, OwnedBlock};
+use nntp_wire::OwnedBlock;
 use std::alloc::{Allocator, Global};
 use std::collections::btree_map;
 use std::marker::Model;
-use std::rc::RcStr;
+use std::rc::{Rc, RcStr};
 
 /// An article that answers show, and so every spool has that permits them.
 #[derive(Drop)]
 pub struct ShownArticle<'a, A: Allocator = Global> {
     id: &'a RcStr<A>,
-    is_sent: bool,
-    head: Option<Block<'a>>,
-    body: Option<Block<'a>>,
+    article: &'a KnownArticle<A>,
 }
 
 impl<'a, A: Allocator> Model for ShownArticle<'a, A> {
-    ghost use Rattle.nntp_facts.specs.Readers.{ShownArticle as ArticleValue};
-    ghost use Rattle.nntp_facts.specs.ReadersView.{coded_shown_article};
     ghost use Rattle.std.specs.Rc.{rc_str_bytes};
+    ghost use Rattle.nntp_facts.specs.Readers.{ShownArticle as ArticleValue, shown_article};
+    ghost use Rattle.nntp_facts.specs.ReadersView.{coded_shown_article};
+    ghost use Rattle.nntp_facts.specs.ArticleView.{known_article};
 
     ghost Value = { ArticleValue };
 
     ghost coded = { coded_shown_article };
 
-    ghost view = { λ a. record { id = rc_str_bytes a.id.now; is_sent = a.is_sent; head = a.head; body = a.body } };
+    ghost view = { λ a. shown_article (rc_str_bytes a.id.now) (known_article a.article.now) };
 }
 
 impl<'a, A: Allocator> ShownArticle<'a, A> {
-    /// Puts the id together with what is known of its article.
-    fn new(id: &'a RcStr<A>, article: &'a KnownArticle<A>) -> ShownArticle<'a, A>
-        ensures { result ≡ shown_article (rc_str_bytes id.now) (known_article article.now) }
-    {
-        ShownArticle {
-            id,
-            is_sent: article.is_sent,
-            head: lent(&article.head),
-            body: lent(&article.body),
-        }
-    }
-
     /// Returns the article's message-id, with the angle brackets (RFC 3977, section 3.6).
     pub fn id(&self) -> &'a RcStr<A>
         ensures { rc_str_bytes result.now ≡ self.now.id }
@@ -58,31 +45,21 @@ impl<'a, A: Allocator> ShownArticle<'a, A> {
     pub fn is_sent(&self) -> bool
         ensures { result ≡ self.now.is_sent }
     {
-        self.is_sent
+        self.article.is_sent
     }
 
     /// Returns the lines of the article's head, or `None` if no answer sent them.
-    pub fn head(&self) -> &Option<Block<'a>>
-        ensures { result.now ≡ self.now.head }
+    pub fn head(&self) -> Option<&'a Rc<OwnedBlock<A>, A>>
+        ensures { option_map (λ head. head.now.value) result ≡ self.now.head }
     {
-        &self.head
+        self.article.head.as_ref()
     }
 
     /// Returns the lines of the article's body, or `None` if no answer sent them.
-    pub fn body(&self) -> &Option<Block<'a>>
-        ensures { result.now ≡ self.now.body }
+    pub fn body(&self) -> Option<&'a Rc<OwnedBlock<A>, A>>
+        ensures { option_map (λ body. body.now.value) result ≡ self.now.body }
     {
-        &self.body
-    }
-}
-
-/// Lends the lines that are held, if there are any.
-fn lent<A: Allocator>(held: &Option<OwnedBlock<A>>) -> Option<Block<'_>>
-    ensures { result ≡ held.now }
-{
-    match held {
-        Some(held) => Some(held.as_block()),
-        None => None,
+        self.article.body.as_ref()
     }
 }
 
@@ -124,6 +101,6 @@ impl<'a, A: Allocator> Iterator for ShownArticles<'a, A> {
 
     fn next(&mut self) -> Option<ShownArticle<'a, A>> {
         let (id, article) = self.rest.next()?;
-        Some(ShownArticle::new(id, article))
+        Some(ShownArticle { id, article })
     }
 }
