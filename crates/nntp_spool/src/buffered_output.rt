@@ -1,7 +1,6 @@
 //! Octets that are gathered for a writer.
 ghost use Rattle.std.specs.Prelude.{◌≡◌, [], ◌||◌, is_err, OnOk};
 ghost use Rattle.std.specs.List.{flat_map};
-ghost use Rattle.nntp_spool.specs.Watched.{inner_of, has_failed_of};
 ghost use Rattle.nntp_spool.specs.Writing.{Writes};
 ghost use Rattle.nntp_spool.specs.Buffering.{taken, waiting, writer_failed, IsSameWriter, Buffers};
 

@@ -12,6 +12,7 @@ use Rattle.std.specs.Cmp.Lexicographic.{slice_cmp, nat_list_cmp_total}
 use Rattle.std.specs.FinMap.{FinMap, get, insert, nat_cmp-IsAntisymmetric}
 use Rattle.std.proofs.lemmas.Bool.{or_cases, eqb-true}
 use Rattle.nntp_wire.specs.Limit.{greatest}
+use Rattle.nntp_wire.specs.Name.{IsMessageId}
 use Rattle.nntp_wire.specs.declared.limit.Limit.{Limit}
 use Rattle.nntp_article.specs.Article.Parts.{Id}
 use Rattle.nntp_article.specs.Session.Spool.{Spool, Name, Numbers, Text, IsNumber, IsSpool, numbers}
@@ -200,36 +201,34 @@ module _ (limit : Limit) (facts : List Fact) (G before : Spool) (given : IsGiven
           small = omega arith;
         }) (subst (λ k. AreInvented facts (k + 1) (unshown_at (numbers G name) left ++ behind)) same_number l.to_invent.3)
 
-  -- what the call of the number gives, with the id as the code has it
-  abbrev Numbered : Id → Result (Unit {0}) SpoolFault → Building → Type 0
-  Numbered id r new = Builds (number_fault (greatest b.limit) b.spool name n id) (with_group b.spool name (insert (numbers b.spool name) n id)) r b new
+    -- what the call of the number gives, with the id as the code has it
+    abbrev Numbered : Id → Result (Unit {0}) SpoolFault → Building → Type 0
+    Numbered id r new = Builds (number_fault (greatest b.limit) b.spool name n id) (with_group b.spool name (insert (numbers b.spool name) n id)) r b new
 
-  -- a refusal of the number is want of memory
-  pub unshown_refused : (o : Option Id) (id : Id) (j : ℕ) (x : SpoolFault) (new : Building) → o ≡ None → NumbersLeft limit facts G before name behind ((n, o) ∷ left) b next
-      → id ≡ invented j → IsFirstFree (λ k. is_mentioned facts (invented k)) next j → j < 2 ^ 64 - 1 → Numbered id (Err x) new → x ≡ Memory
-  unshown_refused o id j x new none was is first small h =
-      let l = subst (λ o. NumbersLeft limit facts G before name behind ((n, o) ∷ left) b next) none was in
-      call_refused (number_fault (greatest b.limit) b.spool name n (invented j))
-      (with_group b.spool name (insert (numbers b.spool name) n (invented j))) x b new l.begun.is_whole
-      (invented_fits l j first small)
-      (subst (λ id. Numbered id (Err x) new) is h)
+    module _ (id : Id) (is : id ≡ invented j) where
+      -- the id is a message-id, since the spool has it
+      pub invented_is_id : IsMessageId id
+      invented_is_id = subst IsMessageId (sym is) (is_spool.ids (invented j) (ap is_some plain_there))
 
-  -- the two calls make the number and the article
-  pub unshown_makes : (o : Option Id) (id other : Id) (t : Text) (j : ℕ) (x : Unit {0}) (r : Result (Unit {0}) SpoolFault)
-      (mid new : Building) → o ≡ None → NumbersLeft limit facts G before name behind ((n, o) ∷ left) b next
-      → id ≡ invented j → other ≡ invented j → t ≡ record { head = plain_head other; body = [] } → IsFirstFree (λ k. is_mentioned facts (invented k)) next j → j < 2 ^ 64 - 1
-      → Numbered id (Ok x) mid → Builds (article_fault mid.spool other t) (with_article mid.spool other t) r mid new → Makes r (λ _. NumbersLeft limit facts G before name behind left new (j + 1))
-  unshown_makes o id other t j x r mid new none was is also text first small h g =
-      let l = subst (λ o. NumbersLeft limit facts G before name behind ((n, o) ∷ left) b next) none was in
-      let S : Spool = with_group b.spool name (insert (numbers b.spool name) n (invented j)) in
-      let middle : mid ≡ record { limit = b.limit; spool = S; failed = false } = call_done
-      (number_fault (greatest b.limit) b.spool name n (invented j)) S x b mid l.begun.is_whole
-      (invented_fits l j first small) (subst (λ id. Numbered id (Ok x) mid) is h) in
-      let plain_is : t ≡ plain l j first small = text ∙ (λ i. record { head = plain_head (also i); body = [] }) in
-      called (λ c. NumbersLeft limit facts G before name behind left c (j + 1))
-      (article_fault S (invented j) (plain l j first small)) (with_article S (invented j) (plain l j first small)) r
-      (record { limit = b.limit; spool = S; failed = false }) new
-      refl (plain_fits l j first small) (invented_made l j first small)
-      (subst (λ m. Builds (article_fault m.spool (invented j) (plain l j first small)) (with_article m.spool (invented j) (plain l j first small)) r m new) middle
-      (subst (λ u. Builds (article_fault mid.spool (invented j) u) (with_article mid.spool (invented j) u) r mid new) plain_is
-      (subst (λ q. Builds (article_fault mid.spool q t) (with_article mid.spool q t) r mid new) also g)))
+      -- a refusal of the number is want of memory
+      pub invented_refused : (x : SpoolFault) (new : Building) → Numbered id (Err x) new → x ≡ Memory
+      invented_refused x new h =
+          call_refused (number_fault (greatest b.limit) b.spool name n (invented j)) (with_group b.spool name (insert (numbers b.spool name) n (invented j))) x b new
+          l.begun.is_whole invented_fits (subst (λ id. Numbered id (Err x) new) is h)
+
+      -- the two calls make the number and the article
+      pub invented_makes : (t : Text) → t ≡ record { head = plain_head id; body = [] } → (x : Unit {0}) (r : Result (Unit {0}) SpoolFault) (mid new : Building)
+          → Numbered id (Ok x) mid → Builds (article_fault mid.spool id t) (with_article mid.spool id t) r mid new → Makes r (λ _. NumbersLeft limit facts G before name behind left new (j + 1))
+      invented_makes t text x r mid new h g =
+          let S : Spool = with_group b.spool name (insert (numbers b.spool name) n (invented j)) in
+          let middle : mid ≡ record { limit = b.limit; spool = S; failed = false } = call_done
+          (number_fault (greatest b.limit) b.spool name n (invented j)) S x b mid l.begun.is_whole
+          invented_fits (subst (λ id. Numbered id (Ok x) mid) is h) in
+          let plain_is : t ≡ plain = text ∙ (λ i. record { head = plain_head (is i); body = [] }) in
+          called (λ c. NumbersLeft limit facts G before name behind left c (j + 1))
+          (article_fault S (invented j) plain) (with_article S (invented j) plain) r
+          (record { limit = b.limit; spool = S; failed = false }) new
+          refl plain_fits invented_made
+          (subst (λ m. Builds (article_fault m.spool (invented j) plain) (with_article m.spool (invented j) plain) r m new) middle
+          (subst (λ u. Builds (article_fault mid.spool (invented j) u) (with_article mid.spool (invented j) u) r mid new) plain_is
+          (subst (λ q. Builds (article_fault mid.spool q t) (with_article mid.spool q t) r mid new) is g)))

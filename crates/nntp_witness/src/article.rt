@@ -1,69 +1,88 @@
-//! The articles of the given spool, of which less may be shown than they have.
-ghost use Rattle.std.specs.Prelude.{◌≡◌, [], IfOk, unwrap_or, option_map};
-ghost use Rattle.nntp_wire.specs.Held.{held};
+//! The parts of the articles of the given spool, of which less may be shown than they have.
+ghost use Rattle.std.specs.Prelude.{◌≡◌, [], IfOk, unwrap_or};
+ghost use Rattle.std.specs.Rc.{rc_str_bytes};
+ghost use Rattle.nntp_wire.specs.Name.{IsMessageId};
 ghost use Rattle.nntp_facts.specs.Given.{plain_head};
-ghost use Rattle.nntp_spool.specs.ArticleLines.{text_of_article};
-ghost use Rattle.nntp_witness.specs.Making.{given_text};
+ghost use Rattle.nntp_witness.specs.Making.{Makes};
 
 use nntp_facts::ShownArticle;
-use nntp_spool::Article;
-use nntp_wire::Block;
+use nntp_spool::SpoolFault;
+use nntp_wire::{MessageId, OwnedBlock};
 use std::alloc::{AllocError, Allocator};
+use std::rc::{Rc, RcStr};
 
-/// Makes the article as it was sent. A head that wasn't sent says the message-id, and a body that
-/// wasn't sent has no lines.
-pub(crate) fn given_article<A: Allocator + Copy>(
+/// Returns the head as it was sent, or one that says the message-id and nothing else.
+pub(crate) fn given_head<A: Allocator + Copy>(
     alloc: A,
-    shown: &ShownArticle<'_>,
-) -> Result<Article<A>, AllocError>
-    ensures { IfOk result (λ article. text_of_article article ≡ given_text shown.now) }
+    shown: &ShownArticle<'_, A>,
+) -> Result<Rc<OwnedBlock<A>, A>, SpoolFault>
+    ensures { IsMessageId shown.now.id → Makes result (λ head. head.value ≡ unwrap_or shown.now.head (plain_head shown.now.id)) }
 {
-    let head = match shown.head() {
-        Some(lines) => copied(alloc, lines)?,
-        None => plain_head(alloc, shown.id())?,
-    };
-    let body = match shown.body() {
-        Some(lines) => copied(alloc, lines)?,
-        None => Vec::new(alloc),
-    };
-    Ok(Article { head, body })
+    match shown.head() {
+        Some(head) => shared(head),
+        None => plain_head(alloc, shown.id()),
+    }
 }
 
-/// Makes an article of which nothing was sent.
-pub(crate) fn plain_article<A: Allocator + Copy>(
+/// Returns the body as it was sent, or one of no lines.
+pub(crate) fn given_body<A: Allocator + Copy>(
     alloc: A,
-    id: &[u8],
-) -> Result<Article<A>, AllocError>
-    ensures { IfOk result (λ article. text_of_article article ≡ record { head = plain_head id.now; body = [] }) }
+    shown: &ShownArticle<'_, A>,
+) -> Result<Rc<OwnedBlock<A>, A>, SpoolFault>
+    ensures { Makes result (λ body. body.value ≡ unwrap_or shown.now.body []) }
 {
-    Ok(Article {
-        head: plain_head(alloc, id)?,
-        body: Vec::new(alloc),
-    })
+    match shown.body() {
+        Some(body) => shared(body),
+        None => no_lines(alloc),
+    }
 }
 
-/// Makes a head that says the id and nothing else.
-fn plain_head<A: Allocator + Copy>(alloc: A, id: &[u8]) -> Result<Vec<Vec<u8, A>, A>, AllocError>
-    ensures { IfOk result (λ head. held head.items ≡ plain_head id.now) }
+/// Returns one more handle of a block.
+fn shared<A: Allocator>(block: &Rc<OwnedBlock<A>, A>) -> Result<Rc<OwnedBlock<A>, A>, SpoolFault>
+    ensures { Makes result (λ handle. handle.value ≡ block.now.value) }
+{
+    match block.clone() {
+        Ok(handle) => Ok(handle),
+        Err(_) => Err(SpoolFault::Memory),
+    }
+}
+
+/// Makes a block of no lines.
+pub(crate) fn no_lines<A: Allocator + Copy>(alloc: A) -> Result<Rc<OwnedBlock<A>, A>, SpoolFault>
+    ensures { Makes result (λ block. block.value ≡ []) }
+{
+    match Rc::new(alloc, OwnedBlock::new(alloc)) {
+        Ok(block) => Ok(block),
+        Err(_) => Err(SpoolFault::Memory),
+    }
+}
+
+/// Makes a head that says the message-id and nothing else.
+pub(crate) fn plain_head<A: Allocator + Copy>(
+    alloc: A,
+    id: &RcStr<A>,
+) -> Result<Rc<OwnedBlock<A>, A>, SpoolFault>
+    ensures { IsMessageId (rc_str_bytes id.now) → Makes result (λ head. head.value ≡ plain_head (rc_str_bytes id.now)) }
+{
+    let Some(id) = MessageId::parse(id.as_str().as_bytes()) else {
+        return Err(SpoolFault::BadId);
+    };
+    match head_line(alloc, &id) {
+        Ok(head) => Ok(head),
+        Err(_) => Err(SpoolFault::Memory),
+    }
+}
+
+/// Makes a block of the one line that says the message-id, in as much memory as it needs.
+fn head_line<A: Allocator + Copy>(
+    alloc: A,
+    id: &MessageId<'_>,
+) -> Result<Rc<OwnedBlock<A>, A>, AllocError>
+    ensures { IfOk result (λ head. head.value ≡ plain_head id.now) }
 {
     let mut line = Vec::from_slice(alloc, b"Message-ID: ")?;
-    line.extend_from_slice(id)?;
-    let mut head = Vec::new(alloc);
-    head.push(line)?;
-    Ok(head)
-}
-
-/// Copies the lines.
-fn copied<A: Allocator + Copy>(
-    alloc: A,
-    block: &Block<'_>,
-) -> Result<Vec<Vec<u8, A>, A>, AllocError>
-    ensures { IfOk result (λ copies. held copies.items ≡ block.now) }
-{
-    let mut copies = Vec::new(alloc);
-    let mut rest = block.lines();
-    while let Some(line) = rest.next() {
-        copies.push(Vec::from_slice(alloc, line)?)?;
-    }
-    Ok(copies)
+    line.extend_from_slice(id.as_slice())?;
+    let mut head = OwnedBlock::new(alloc);
+    head.push(&line)?;
+    Ok(Rc::new(alloc, head.as_block().to_owned(alloc)?)?)
 }

@@ -1,5 +1,6 @@
 //! The message-ids that are invented.
-ghost use Rattle.std.specs.Prelude.{◌≡◌, ◌-◌, ◌<◌, ◌^◌, ℕ, List, IfOk};
+ghost use Rattle.std.specs.Prelude.{◌≡◌, ◌-◌, ◌<◌, ◌^◌, List, IfOk};
+ghost use Rattle.std.specs.Rc.{rc_str_bytes};
 ghost use Rattle.nntp_pair.specs.Pairing.{Paired};
 ghost use Rattle.nntp_article.specs.declared.session.profile.Profile.{Profile};
 ghost use Rattle.nntp_facts.specs.Given.{invented, is_mentioned, IsFirstFree};
@@ -8,14 +9,15 @@ ghost use Rattle.nntp_facts.specs.Noted.{HasNoted, said_by};
 use itoa::Buffer;
 use nntp_facts::Facts;
 use std::alloc::{AllocError, Allocator};
+use std::rc::RcStr;
 
 /// A message-id that is invented, and its number.
 #[derive(Drop)]
 pub(crate) struct Invented<A: Allocator> {
     /// The number that the id has in it.
     pub(crate) number: u64,
-    /// The octets of the id, with the angle brackets.
-    pub(crate) id: Vec<u8, A>,
+    /// The id, with the angle brackets.
+    pub(crate) id: RcStr<A>,
 }
 
 /// Makes the first id that no answer mentions, of those that are invented with numbers from `from`
@@ -25,14 +27,14 @@ pub(crate) fn invent<A: Allocator + Copy>(
     facts: &Facts<A>,
     from: u64,
 ) -> Result<Invented<A>, AllocError>
-    ensures is { IfOk result (λ i. i.id.items ≡ invented i.number) }
+    ensures is { IfOk result (λ i. rc_str_bytes i.id ≡ invented i.number) }
     ensures small { IfOk result (λ i. i.number < 2 ^ 64 - 1) }
     ensures first { IfOk result (λ i. (profile : Profile) (past : List Paired) → HasNoted profile facts.now past
         → IsFirstFree (λ k. is_mentioned (said_by profile.marks past) (invented k)) from i.number) }
 {
     for number in from..u64::MAX {
         let id = made_id(alloc, number)?;
-        if !facts.mentions(&id) {
+        if !facts.mentions(id.as_str().as_bytes()) {
             return Ok(Invented { number, id });
         }
     }
@@ -40,12 +42,12 @@ pub(crate) fn invent<A: Allocator + Copy>(
 }
 
 /// Makes the id that is invented with the number.
-fn made_id<A: Allocator + Copy>(alloc: A, number: u64) -> Result<Vec<u8, A>, AllocError>
-    ensures { IfOk result (λ id. id.items ≡ invented number) }
+fn made_id<A: Allocator + Copy>(alloc: A, number: u64) -> Result<RcStr<A>, AllocError>
+    ensures { IfOk result (λ id. rc_str_bytes id ≡ invented number) }
 {
     let mut buffer = Buffer::new();
-    let mut id = Vec::from_slice(alloc, b"<w")?;
-    id.extend_from_slice(buffer.format(number).as_bytes())?;
-    id.extend_from_slice(b"@invented.invalid>")?;
-    Ok(id)
+    let mut id = String::from_str(alloc, "<w")?;
+    id.push_str(buffer.format(number))?;
+    id.push_str("@invented.invalid>")?;
+    RcStr::from_str(alloc, id.as_str())
 }

@@ -1,6 +1,5 @@
 //! The maker of the given spool.
-ghost use Rattle.std.specs.Prelude.{◌≡◌, ℕ, List, [], ◌∷◌, ◌++◌, Option, IfOk};
-ghost use Rattle.std.specs.Option.{option_copied};
+ghost use Rattle.std.specs.Prelude.{◌≡◌, ℕ, List, [], ◌∷◌, ◌++◌, Option, None, IfOk};
 ghost use Rattle.nntp_wire.specs.declared.limit.Limit.{Limit};
 ghost use Rattle.nntp_wire.specs.declared.marks.Marks.{Marks};
 ghost use Rattle.nntp_article.specs.Article.Parts.{Id};
@@ -9,13 +8,14 @@ ghost use Rattle.nntp_article.specs.Session.Spool.{Spool as SpoolValue};
 ghost use Rattle.nntp_pair.specs.Pairing.{Paired};
 ghost use Rattle.nntp_facts.specs.Noted.{HasNoted, profile_kept, said_by};
 ghost use Rattle.nntp_facts.specs.Readers.{ShownGroup as GroupValue, ShownArticle as ArticleValue};
+ghost use Rattle.nntp_facts.specs.ReadersView.{number_value};
 ghost use Rattle.nntp_spool.specs.Text.{IsWritten};
 ghost use Rattle.nntp_witness.specs.Witness.{IsWitness};
 ghost use Rattle.nntp_witness.specs.Making.{Makes, unseen_number, GroupsLeft, NumbersLeft, ArticlesLeft};
 
-use crate::article::{given_article, plain_article};
+use crate::article::{given_body, given_head, no_lines, plain_head};
 use crate::invented::invent;
-use nntp_facts::{Facts, ShownArticle, ShownGroup, ShownNumbers};
+use nntp_facts::{Facts, ShownArticle, ShownGroup, ShownNumber, ShownNumbers};
 use nntp_spool::{Spool, SpoolBuilder, SpoolFault};
 use std::alloc::Allocator;
 
@@ -75,7 +75,7 @@ impl<A: Allocator + Copy> SpoolMaker<A> {
             → Makes result (λ _. NumbersLeft facts.now.limit (said_by facts.now.marks past) G before name.now behind left self.new.builder self.new.next) }
     {
         match unseen {
-            Some(number) => self.add_number(facts, name, number, None),
+            Some(number) => self.add_invented(facts, name, number),
             None => Ok(()),
         }
     }
@@ -93,37 +93,44 @@ impl<A: Allocator + Copy> SpoolMaker<A> {
             → Makes result (λ _. NumbersLeft facts.now.limit (said_by facts.now.marks past) G before name.now behind left self.new.builder self.new.next) }
     {
         while let Some(shown) = numbers.next() {
-            self.add_number(facts, name, shown.number, shown.id)?;
+            self.add_number(facts, name, &shown)?;
         }
         Ok(())
     }
 
-    /// Adds a number with its id. Where none is shown, it has one that is invented, whose article
-    /// is added too.
+    /// Adds a number that is shown, with its id, or with one that is invented where none is shown.
     fn add_number(
         &mut self,
         facts: &Facts<A>,
         name: &[u8],
-        number: u64,
-        id: Option<&[u8]>,
+        shown: &ShownNumber<'_, A>,
     ) -> Result<(), SpoolFault>
         ensures { (past : List Paired) (G before : SpoolValue) (behind : List Id) (left : List (ℕ × Option Id))
             → HasNoted (profile_kept facts.now) facts.now past → IsWitness (profile_kept facts.now) past G
-            → NumbersLeft facts.now.limit (said_by facts.now.marks past) G before name.now behind ((number, option_copied id.entry) ∷ left) self.old.builder self.old.next
+            → NumbersLeft facts.now.limit (said_by facts.now.marks past) G before name.now behind (number_value shown.now ∷ left) self.old.builder self.old.next
             → Makes result (λ _. NumbersLeft facts.now.limit (said_by facts.now.marks past) G before name.now behind left self.new.builder self.new.next) }
     {
-        if let Some(id) = id {
-            return self.builder.number(name, number, id);
+        match shown.id {
+            Some(id) => self.builder.number_sharing(name, shown.number, id),
+            None => self.add_invented(facts, name, shown.number),
         }
+    }
+
+    /// Adds a number with an id that is invented, and the article of that id.
+    fn add_invented(&mut self, facts: &Facts<A>, name: &[u8], number: u64) -> Result<(), SpoolFault>
+        ensures { (past : List Paired) (G before : SpoolValue) (behind : List Id) (left : List (ℕ × Option Id))
+            → HasNoted (profile_kept facts.now) facts.now past → IsWitness (profile_kept facts.now) past G
+            → NumbersLeft facts.now.limit (said_by facts.now.marks past) G before name.now behind ((number, None) ∷ left) self.old.builder self.old.next
+            → Makes result (λ _. NumbersLeft facts.now.limit (said_by facts.now.marks past) G before name.now behind left self.new.builder self.new.next) }
+    {
         let Ok(invented) = invent(self.alloc, facts, self.next) else {
             return Err(SpoolFault::Memory);
         };
         self.next = invented.number + 1;
-        self.builder.number(name, number, &invented.id)?;
-        let Ok(article) = plain_article(self.alloc, &invented.id) else {
-            return Err(SpoolFault::Memory);
-        };
-        self.builder.article(&invented.id, article)
+        self.builder.number_sharing(name, number, &invented.id)?;
+        let head = plain_head(self.alloc, &invented.id)?;
+        let body = no_lines(self.alloc)?;
+        self.builder.article_sharing(&invented.id, &head, &body)
     }
 
     /// Adds the articles that are shown.
@@ -141,16 +148,15 @@ impl<A: Allocator + Copy> SpoolMaker<A> {
     }
 
     /// Adds an article that is shown.
-    fn add_article(&mut self, shown: &ShownArticle<'_>) -> Result<(), SpoolFault>
+    fn add_article(&mut self, shown: &ShownArticle<'_, A>) -> Result<(), SpoolFault>
         ensures { (limit : Limit) (marks : Marks) (past : List Paired) (G : SpoolValue) (left : List ArticleValue)
             → IsWitness (profile_of limit marks) past G
             → ArticlesLeft limit (said_by marks past) G (shown.now ∷ left) self.old.builder
             → Makes result (λ _. ArticlesLeft limit (said_by marks past) G left self.new.builder) }
     {
-        let Ok(article) = given_article(self.alloc, shown) else {
-            return Err(SpoolFault::Memory);
-        };
-        self.builder.article(shown.id(), article)
+        let head = given_head(self.alloc, shown)?;
+        let body = given_body(self.alloc, shown)?;
+        self.builder.article_sharing(shown.id(), &head, &body)
     }
 
     /// Returns the spool that is made.

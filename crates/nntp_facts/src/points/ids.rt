@@ -1,5 +1,5 @@
 //! Ids and numbers of which answers say two things.
-ghost use Rattle.std.specs.Prelude.{◌≡◌, ◌↔◌, ℕ, map, List, Some, IsTrue, Contains, option_map};
+ghost use Rattle.std.specs.Prelude.{◌≡◌, ◌↔◌, map, List, Some, IsTrue, Contains, option_map};
 ghost use Rattle.nntp_article.specs.declared.session.profile.Profile.{Profile};
 ghost use Rattle.nntp_facts.specs.Facts.{Fact};
 ghost use Rattle.nntp_facts.specs.Points.{AllTell, IsPointWith, first_in, id_told, place_told};

@@ -19,7 +19,7 @@ use crate::value::well_formed::{
 };
 use nntp_article::is_article_number;
 use nntp_wire::{Limit, OwnedBlock};
-use std::alloc::{AllocError, Allocator, Global};
+use std::alloc::{Allocator, Global};
 use std::marker::Model;
 use std::rc::{Rc, RcStr};
 

@@ -1,8 +1,24 @@
-use Rattle.nntp_spool.specs.ArticleLines.{text_of_article}
+use Rattle.std.proofs.Common.{◌∙◌}
+use Rattle.std.specs.Rc.{rc_str_bytes}
+use Rattle.std.proofs.lemmas.Result.{err_from_is_err_and}
+use Rattle.nntp_article.specs.Session.Spool.{Text}
 use Rattle.nntp_witness.proofs.ArticleSteps.{article_added}
 use Rattle.nntp_witness.proofs.maker.SpoolMaker.add_article.Goals as goal
 
+pub returns-in_err-head : goal.returns-in_err-head
+returns-in_err-head g c limit marks past G left witness articles =
+    let p = err_from_is_err_and c.from_residual.result c.from_residual.ensures.1 in
+    rw p.1 (p.2 ∙ c.in_err-head.ensures (witness.is_spool.ids c.args.shown.now.id articles.of_spool.0))
+
+pub returns-in_err-body : goal.returns-in_err-body
+returns-in_err-body g c limit marks past G left witness articles =
+    let p = err_from_is_err_and c.from_residual-in_err-body.result c.from_residual-in_err-body.ensures.1 in
+    rw p.1 (p.2 ∙ c.in_err-body.ensures)
+
 pub returns : goal.returns
 returns g c limit marks past G left witness articles =
-    article_added limit marks past G c.args.shown.now left c.args.self.now.builder c.article.new.self c.id.result.now
-    (text_of_article c.in-Ok.article) c.article.result witness articles c.id.ensures c.in-Ok.ensures c.article.ensures
+    let given : Text = record { head = c.in_ok-head.head.value; body = c.in_ok-body.body.value } in
+    article_added limit marks past G c.args.shown.now left c.args.self.now.builder c.article_sharing.new.self (rc_str_bytes c.id.result.now)
+    given c.article_sharing.result witness articles c.id.ensures
+    (λ i. record { head = c.in_ok-head.ensures (witness.is_spool.ids c.args.shown.now.id articles.of_spool.0) i; body = c.in_ok-body.ensures i })
+    c.article_sharing.ensures

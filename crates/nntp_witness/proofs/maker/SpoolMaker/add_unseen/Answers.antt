@@ -5,7 +5,7 @@ use Rattle.nntp_witness.proofs.maker.SpoolMaker.add_unseen.Goals as goal
 
 pub returns-in-Some : goal.returns-in-Some
 returns-in-Some g c past G before behind left stands w l =
-    c.add_number.ensures past G before behind left stands w
+    c.add_invented.ensures past G before behind left stands w
     (subst (λ o. NumbersLeft c.args.facts.now.limit (said_by c.args.facts.now.marks past) G before c.args.name.now behind
     (unseen_number o ++ left) c.args.self.now.builder c.args.self.now.next) c.in-Some.is l)
 
