@@ -1,24 +1,35 @@
 -- What a run writes, and reports on streams that are borrowed.
-use Rattle.std.proofs.Common.{◌≡◌, ◌∙◌, sym, subst, ℕ, Bool, List, [], Option, inl, inr}
+use Rattle.std.proofs.Common.{◌≡◌, ◌∙◌, refl, sym, subst, ℕ, Bool, List, [], Option, None, Some, Result, Ok, Err, inl, inr}
 use Rattle.std.proofs.lemmas.List.{append-nil}
-use Rattle.std.specs.Io.KnownBytes.{Appends}
+use Rattle.std.specs.Io.KnownBytes.{Appends, Keeps}
 use Rattle.nntp_wire.specs.declared.marks.Marks.{Marks}
 use Rattle.nntp_article.specs.Session.Limit.{profile_of}
 use Rattle.nntp_spool.specs.Limited.{LimitedSpool, IsWithinLimit}
 use Rattle.nntp_spool.specs.Faults.{IsFault, IsFirstFault}
 use Rattle.nntp_spool.specs.Text.{spool_text}
 use Rattle.nntp_spool.specs.Verifying.{IsVerified}
-use Rattle.nntp_spool.specs.Writing.{Wrote}
+use Rattle.nntp_spool.specs.Writing.{Wrote, Writes}
 use Rattle.nntp_spool.specs.declared.text.read_fault.Kind.{Kind}
 use Rattle.nntp_spool.specs.declared.text.read_fault.Kind.TheVariants as kinds
 use Rattle.nntp_spool.specs.declared.text.read_fault.ReadFault.{ReadFault}
 use Rattle.nntp_spool.specs.declared.verification.verified.Verified.{Verified}
+use Rattle.nntp_spool.proofs.Written.{Wrote-last}
 use Rattle.nntp_check.specs.Faults.{of_kind, of_text}
 use Rattle.nntp_check.specs.Report.{verified_report, is_permitted}
 use Rattle.nntp_check.specs.Run.{Input, Output, ReadsCapture, ReadsNoSpool, VerifyReports, IsCutShort, IsVerifyFault}
 
 pub wrote-all : (old new : Option (List ℕ)) (octets lent : List ℕ) → lent ≡ octets → Wrote old new lent [] → Appends old new octets
 wrote-all old new octets lent is w = subst (λ (front : List ℕ). Appends old new front) (sym (append-nil w.0) ∙ sym w.1 ∙ is) w.2
+
+-- a flush behind all of the octets
+Keeps-appends : (a b : Option (List ℕ)) → Keeps a b → Appends a b []
+Keeps-appends None b kept = tt
+Keeps-appends (Some xs) None kept = absurd kept
+Keeps-appends (Some xs) (Some ys) kept = kept ∙ sym (append-nil xs)
+
+pub Writes-kept : {A E : Type 0} (r : Result A E) (a b c : Option (List ℕ)) (octets : List ℕ) → Wrote a b octets [] → Keeps b c → Writes r a c octets
+Writes-kept (Ok x) a b c octets wrote kept = Wrote-last a b c octets [] [] wrote ([], refl, Keeps-appends b c kept)
+Writes-kept (Err e) a b c octets wrote kept = ([], Wrote-last a b c octets [] [] wrote ([], refl, Keeps-appends b c kept))
 
 pub verify-reports : (marks : Marks) (L : LimitedSpool) → IsWithinLimit L
     → (client server spool lent_client lent_server lent_spool : List ℕ) → lent_client ≡ client → lent_server ≡ server

@@ -1,5 +1,5 @@
 -- What is printed: of a verdict, and of what `verify` answers.
-use Rattle.std.specs.Prelude.{ℕ, Bool, true, false, List, ◌++◌, codes, decimal}
+use Rattle.std.specs.Prelude.{ℕ, Bool, true, false, List, [], ◌++◌, codes, decimal}
 use Rattle.std.specs.FinMap.{len}
 use Rattle.nntp_spool.specs.Counts.{numbers_in}
 use Rattle.nntp_spool.specs.Text.{spool_text}
@@ -16,6 +16,11 @@ report_of (consistent L answers) =
     ++ spool_text L
 report_of (bad answer class command reply) =
     bad_lines answer class command reply
+
+-- what of it stands behind its first lines: the spool's text
+abbrev pub text_behind : Judgement → List ℕ
+text_behind (consistent L answers) = spool_text L
+text_behind (bad answer class command reply) = []
 
 -- the report on a given spool
 abbrev pub verified_report : Verified → List ℕ

@@ -1,27 +1,26 @@
 //! The reports of `check` and `verify`.
-ghost use Rattle.std.specs.Prelude.{◌≡◌, ◌++◌, IfOk, codes, decimal};
-ghost use Rattle.nntp_spool.specs.Text.{spool_text};
-ghost use Rattle.nntp_check.specs.Report.{report_of, verified_report};
+ghost use Rattle.std.specs.Prelude.{◌≡◌, ◌++◌, ◌||◌, is_err, IfOk, codes, decimal};
+ghost use Rattle.nntp_spool.specs.Watched.{inner_of, has_failed_of};
+ghost use Rattle.nntp_spool.specs.Writing.{Writes};
+ghost use Rattle.nntp_check.specs.Report.{report_of, text_behind, verified_report};
 ghost use Rattle.nntp_verdict.specs.Verdict.{verdict_shown};
 
 use itoa::Buffer;
 use nntp_printing::{put_bad_answer, put_number};
-use nntp_spool::{Counts, Spool, Verified, Watched, WriteFault};
+use nntp_spool::{Counts, Verified, Watched, WriteFault};
 use nntp_verdict::Verdict;
 use std::alloc::{AllocError, Allocator};
+use std::io::Write;
 
-/// The report on a verdict, whole.
-pub(crate) fn report<A: Allocator + Copy>(
+/// The lines of the report on a verdict that stand before the spool's text, or all of them where there is none.
+pub(crate) fn first_lines<A: Allocator + Copy>(
     alloc: A,
     verdict: &Verdict<A>,
 ) -> Result<Vec<u8, A>, AllocError>
-    ensures { IfOk result (λ text. text.items ≡ report_of (verdict_shown verdict.now)) }
+    ensures { IfOk result (λ first. first.items ++ text_behind (verdict_shown verdict.now) ≡ report_of (verdict_shown verdict.now)) }
 {
     match verdict {
-        Verdict::Consistent { spool, answers } => {
-            let line = consistent_line(alloc, *answers, spool.counts())?;
-            with_spool(line, spool)
-        }
+        Verdict::Consistent { spool, answers } => consistent_line(alloc, *answers, spool.counts()),
         Verdict::Bad {
             answer,
             class,
@@ -39,15 +38,17 @@ pub(crate) fn report<A: Allocator + Copy>(
     }
 }
 
-/// The line, and then the spool's text.
-fn with_spool<A: Allocator>(line: Vec<u8, A>, spool: &Spool<A>) -> Result<Vec<u8, A>, AllocError>
-    ensures { IfOk result (λ text. text.items ≡ line.items ++ spool_text spool.now) }
+/// Writes what of the report on a verdict stands behind its first lines: the text of the spool, where there is one.
+pub(crate) fn put_text_behind<A: Allocator, W: Write>(
+    verdict: &Verdict<A>,
+    output: &mut Watched<W>,
+) -> Result<(), WriteFault>
+    ensures text { Writes result (W.contents (inner_of output.old)) (W.contents (inner_of output.new)) (text_behind (verdict_shown verdict.now)) }
+    ensures failed { has_failed_of output.new ≡ (has_failed_of output.old || is_err result) }
 {
-    let mut text = Watched::new(line);
-    match spool.write(&mut text) {
-        Ok(()) => Ok(text.into_inner()),
-        // A vector takes all octets, but where memory is refused.
-        Err(WriteFault) => Err(AllocError),
+    match verdict {
+        Verdict::Consistent { spool, .. } => spool.write(output),
+        Verdict::Bad { .. } => Ok(()),
     }
 }
 

@@ -1,23 +1,36 @@
 //! Runs: what one reads is a capture, and what it writes is the report on it.
-ghost use Rattle.std.specs.Prelude.{◌≡◌, ◌≢◌, ◌↔◌, ◌||◌, false, true, is_err, IfOk, IfErr, IsErrOf};
+ghost use Rattle.std.specs.Prelude.{◌≡◌, ◌≢◌, ◌↔◌, ◌||◌, ◌++◌, false, true, is_err, IfOk, IfErr, IsErrOf};
+ghost use Rattle.std.specs.Io.KnownBytes.{Keeps};
 ghost use Rattle.nntp_spool.specs.Watched.{inner_of, has_failed_of};
 ghost use Rattle.nntp_spool.specs.Writing.{Writes};
-ghost use Rattle.nntp_check.specs.Report.{is_permitted};
+ghost use Rattle.nntp_check.specs.Report.{is_permitted, text_behind};
+ghost use Rattle.nntp_verdict.specs.Verdict.{verdict_shown};
 ghost use Rattle.nntp_check.specs.Run.{read_by, written_by, CheckReports, VerifyReports, ShowReports, ExplainReports};
 ghost use Rattle.nntp_check.specs.Run.{TaskReports, IsReported, IsCheckFault, IsVerifyFault, IsShowFault, IsExplainFault, IsTaskFault};
 
 use crate::command_line::Task;
 use crate::input::read_capture;
-use crate::report::{report, verified_report};
+use crate::report::{first_lines, put_text_behind, verified_report};
 use crate::run_fault::RunFault;
 use crate::session_printer::SessionPrinter;
 use crate::streams::Streams;
 use nntp_explain::explain;
 use nntp_spool::{Spool, Verified, Watched, WriteFault, put, verify};
-use nntp_verdict::Checker;
+use nntp_verdict::{Checker, Verdict};
 use nntp_wire::{Limit, Marks};
 use std::alloc::Allocator;
 use std::io::{Read, Write};
+
+/// Flushes once.
+fn flush<W: Write>(output: &mut Watched<W>) -> Result<(), WriteFault>
+    ensures text { Keeps (W.contents (inner_of output.old)) (W.contents (inner_of output.new)) }
+    ensures failed { has_failed_of output.new ≡ (has_failed_of output.old || is_err result) }
+{
+    match output.flush() {
+        Ok(()) => Ok(()),
+        Err(_) => Err(WriteFault),
+    }
+}
 
 /// Writes the text, and then flushes once.
 fn print<W: Write>(text: &[u8], output: &mut Watched<W>) -> Result<(), WriteFault>
@@ -25,10 +38,22 @@ fn print<W: Write>(text: &[u8], output: &mut Watched<W>) -> Result<(), WriteFaul
     ensures failed { has_failed_of output.new ≡ (has_failed_of output.old || is_err result) }
 {
     put(output, text)?;
-    match output.flush() {
-        Ok(()) => Ok(()),
-        Err(_) => Err(WriteFault),
-    }
+    flush(output)
+}
+
+/// Writes the first lines of the report on a verdict and what stands behind them, and then flushes once. It takes no
+/// memory.
+fn print_report<A: Allocator, W: Write>(
+    first: &[u8],
+    verdict: &Verdict<A>,
+    output: &mut Watched<W>,
+) -> Result<(), WriteFault>
+    ensures text { Writes result (W.contents (inner_of output.old)) (W.contents (inner_of output.new)) (first.now ++ text_behind (verdict_shown verdict.now)) }
+    ensures failed { has_failed_of output.new ≡ (has_failed_of output.old || is_err result) }
+{
+    put(output, first)?;
+    put_text_behind(verdict, output)?;
+    flush(output)
 }
 
 /// Whether the spool permits all answers.
@@ -43,8 +68,8 @@ fn is_permitted(verified: Verified) -> bool
 
 /// Judges the session of the capture that the input has, as it comes, by the limit and the marks, and writes the report
 /// on it: the answer is whether the session is consistent. It reads at most `most` octets, up to the input's end, behind
-/// a bad answer too, and passes over spool pieces; at the first fault it ends. The whole report is made before its first
-/// octet is written; one flush follows the last.
+/// a bad answer too, and passes over spool pieces; at the first fault it ends. What memory the report needs
+/// is taken before its first octet is written; one flush follows the last.
 ///
 /// # Errors
 ///
@@ -63,7 +88,7 @@ pub fn run_check<A: Allocator + Copy, R: Read, W: Write>(
     ensures ok { IfOk result (IsReported (CheckReports limit marks) (read_by R.remaining input.old input.new most) (written_by W.contents output.old output.new)) }
     // Which fault it is, by what was read and written.
     ensures err { IfErr result (IsCheckFault limit marks (read_by R.remaining input.old input.new most) (written_by W.contents output.old output.new)) }
-    // Before the report is whole, the writer isn't touched.
+    // After any fault but `Write` the writer isn't touched.
     ensures unwritten { IfErr result (λ e. e ≢ RunFault.Write → output.new ≡ output.old) }
 
     ensures read_failed { has_failed_of input.old ≡ false → (IsErrOf result RunFault.Read ↔ (has_failed_of input.new ≡ true)) }
@@ -72,8 +97,8 @@ pub fn run_check<A: Allocator + Copy, R: Read, W: Write>(
     let mut checker = Checker::new(alloc, limit, marks);
     read_capture(input, &mut checker, most)?;
     let verdict = checker.finish()?;
-    let text = report(alloc, &verdict)?;
-    print(&text, output)?;
+    let first = first_lines(alloc, &verdict)?;
+    print_report(&first, &verdict, output)?;
     Ok(verdict.is_consistent())
 }
 
@@ -96,7 +121,7 @@ pub fn run_verify<A: Allocator + Copy, R: Read, W: Write>(
     ensures ok { IfOk result (IsReported (VerifyReports marks) (read_by R.remaining input.old input.new most) (written_by W.contents output.old output.new)) }
     // Which fault it is, by what was read and written.
     ensures err { IfErr result (IsVerifyFault marks (read_by R.remaining input.old input.new most) (written_by W.contents output.old output.new)) }
-    // Before the report is whole, the writer isn't touched.
+    // After any fault but `Write` the writer isn't touched.
     ensures unwritten { IfErr result (λ e. e ≢ RunFault.Write → output.new ≡ output.old) }
 
     ensures read_failed { has_failed_of input.old ≡ false → (IsErrOf result RunFault.Read ↔ (has_failed_of input.new ≡ true)) }
@@ -127,7 +152,7 @@ pub fn run_show<A: Allocator + Copy, R: Read, W: Write>(
     ensures ok { IfOk result (IsReported ShowReports (read_by R.remaining input.old input.new most) (written_by W.contents output.old output.new)) }
     // Which fault it is, by what was read and written.
     ensures err { IfErr result (IsShowFault (read_by R.remaining input.old input.new most) (written_by W.contents output.old output.new)) }
-    // Before the report is whole, the writer isn't touched.
+    // After any fault but `Write` the writer isn't touched.
     ensures unwritten { IfErr result (λ e. e ≢ RunFault.Write → output.new ≡ output.old) }
 
     ensures read_failed { has_failed_of input.old ≡ false → (IsErrOf result RunFault.Read ↔ (has_failed_of input.new ≡ true)) }
@@ -160,7 +185,7 @@ pub fn run_explain<A: Allocator + Copy, R: Read, W: Write>(
     ensures ok { IfOk result (IsReported (ExplainReports limit marks) (read_by R.remaining input.old input.new most) (written_by W.contents output.old output.new)) }
     // Which fault it is, by what was read and written.
     ensures err { IfErr result (IsExplainFault limit marks (read_by R.remaining input.old input.new most) (written_by W.contents output.old output.new)) }
-    // Before the report is whole, the writer isn't touched.
+    // After any fault but `Write` the writer isn't touched.
     ensures unwritten { IfErr result (λ e. e ≢ RunFault.Write → output.new ≡ output.old) }
 
     ensures read_failed { has_failed_of input.old ≡ false → (IsErrOf result RunFault.Read ↔ (has_failed_of input.new ≡ true)) }
@@ -189,7 +214,7 @@ pub fn run_task<A: Allocator + Copy, R: Read, W: Write>(
     ensures ok { IfOk result (IsReported (TaskReports task) (read_by R.remaining input.old input.new most) (written_by W.contents output.old output.new)) }
     // Which fault it is, by what was read and written.
     ensures err { IfErr result (IsTaskFault task (read_by R.remaining input.old input.new most) (written_by W.contents output.old output.new)) }
-    // Before the report is whole, the writer isn't touched.
+    // After any fault but `Write` the writer isn't touched.
     ensures unwritten { IfErr result (λ e. e ≢ RunFault.Write → output.new ≡ output.old) }
 
     ensures read_failed { has_failed_of input.old ≡ false → (IsErrOf result RunFault.Read ↔ (has_failed_of input.new ≡ true)) }
