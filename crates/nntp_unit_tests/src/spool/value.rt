@@ -1,6 +1,7 @@
 //! What a builder takes and refuses, and what it builds.
 use nntp_spool::{Article, Counts, Spool, SpoolBuilder, SpoolFault, Watched};
-use nntp_wire::Limit;
+use nntp_wire::{Limit, OwnedBlock};
+use std::rc::{Rc, RcStr};
 use std::test::*;
 
 #[test]
@@ -96,6 +97,27 @@ fn a_spool_is_built(rt: HostRuntime) -> Result<(), Fail> {
     spool.write(&mut out)?;
     let text = b"spool 1\ngroup g 1\n1 <a@b>\narticle <a@b> 1 0\n|Subject: s\nend\n";
     assert!(rt; out.into_inner().as_slice() == text.as_slice());
+    Ok(())
+}
+
+#[test]
+fn a_spool_shares_ids_and_blocks(rt: HostRuntime) -> Result<(), Fail> {
+    let mut builder = SpoolBuilder::new(rt.alloc(), Limit::Narrow);
+    builder.group(b"g")?;
+    let id = RcStr::from_str(rt.alloc(), "<a@b>")?;
+    builder.number_sharing(b"g", 1, &id)?;
+    assert!(rt; builder.number_sharing(b"g", 2, &id) == Err(SpoolFault::DuplicateId));
+    let mut head = OwnedBlock::new(rt.alloc());
+    head.push(b"Subject: s")?;
+    let head = Rc::new(rt.alloc(), head)?;
+    let mut body = OwnedBlock::new(rt.alloc());
+    body.push(b".")?;
+    let body = Rc::new(rt.alloc(), body)?;
+    assert!(rt; builder.article_sharing(&id, &body, &head) == Err(SpoolFault::BadHead));
+    builder.article_sharing(&id, &head, &body)?;
+    let text = text_of(&rt, &builder.finish()?)?;
+    let expected = b"spool 1\ngroup g 1\n1 <a@b>\narticle <a@b> 1 1\n|Subject: s\n|.\nend\n";
+    assert!(rt; text.as_slice() == expected.as_slice());
     Ok(())
 }
 
