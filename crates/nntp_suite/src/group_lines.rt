@@ -24,7 +24,11 @@ fn push_numbers<A: Allocator>(
     group: &ShownGroup<'_, A>,
 ) -> Result<(), AllocError> {
     for seen in group.numbers() {
-        push_number(alloc, text, seen.number, seen.id)?;
+        let id = match seen.id {
+            Some(id) => Some(id.as_str().as_bytes()),
+            None => None,
+        };
+        push_number(alloc, text, seen.number, id)?;
     }
     Ok(())
 }
