@@ -3,12 +3,13 @@ ghost use Rattle.std.specs.Prelude.{◌≡◌, ◌<◌, ◌^◌, drop, MatchResu
 ghost use Rattle.std.specs.Option.{option_copied};
 ghost use Rattle.nntp_wire.specs.AnswerView.{response};
 ghost use Rattle.nntp_wire.specs.Frame.{HasFrame};
+ghost use Rattle.nntp_wire.specs.Prompts.{prompt_kind};
 ghost use Rattle.nntp_wire.specs.Session.{closes};
 ghost use Rattle.nntp_wire.specs.View.{asked};
 ghost use Rattle.nntp_pair.specs.Pairing.{IsAnswered, IsUnanswered, IsMalformed, IsSpelled, asked_at, lines_in};
 
 use crate::class::PairClass;
-use nntp_wire::{Answer, Command, Frame, Malformed, Prompt, frame};
+use nntp_wire::{Answer, Command, Frame, Malformed, Prompt, PromptKind, frame};
 use std::marker::Model;
 
 /// A response of the server with what it answers. Only `Pairs::next` and `Feed::peek` make one.
@@ -43,6 +44,16 @@ pub(crate) fn prompt_at<'a>(line: Option<&'a [u8]>) -> Prompt<'a>
     match line {
         Some(line) => Prompt::To(Command::parse(line)),
         None => Prompt::Greeting,
+    }
+}
+
+/// The kind of what is answered at a place.
+pub(crate) fn kind_at(line: Option<&[u8]>) -> PromptKind
+    ensures { result ≡ prompt_kind (asked_at (option_copied line.entry)) }
+{
+    match line {
+        Some(line) => PromptKind::of_line(line),
+        None => PromptKind::Greeting,
     }
 }
 

@@ -5,7 +5,7 @@ ghost use Rattle.nntp_wire.specs.Search.{IsLineSearched, IsLineThrough};
 ghost use Rattle.nntp_pair.specs.Pairing.{places_from};
 ghost use Rattle.nntp_pair.specs.Searching.{AreSearched, AreThrough, BeginsWithPlace, IsForNext, left_from};
 
-use crate::exchange::prompt_at;
+use crate::exchange::kind_at;
 use nntp_wire::{FrameSearch, LineSearch};
 
 /// How far the searches have come in both streams, from the next place on.
@@ -56,7 +56,7 @@ impl Searches {
         ensures { (server : List ℕ) → MatchOption result (places_from (nat_lt 0 index) client.now ≡ []) (IsForNext (left_from index false client.now server)) }
     {
         let (line, _) = self.split_place(index, client)?;
-        Some(FrameSearch::new(prompt_at(line).kind()))
+        Some(FrameSearch::new(kind_at(line)))
     }
 
     /// The line of the next place, none at the greeting's, and the client's octets behind it. None: the next line has

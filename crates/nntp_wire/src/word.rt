@@ -59,7 +59,7 @@ fn split_word(line: &[u8]) -> Option<(&[u8], &[u8])>
 }
 
 /// Returns the octets from the first on that is no SP and no TAB.
-fn skip_blanks(line: &[u8]) -> &[u8]
+pub(crate) fn skip_blanks(line: &[u8]) -> &[u8]
     ensures words { words_of result.now ≡ words_of line.now }
     ensures first { 0 < length result.now → is_blank (slice_index result.now 0) ≡ false }
 {

@@ -102,10 +102,15 @@ fn kinds_of_prompts(rt: HostRuntime) {
         (b"MODE READER", PromptKind::ModeReader),
         (b"MODE STREAM", PromptKind::Other),
         (b"QUIT", PromptKind::Quit),
+        (b" \tquit", PromptKind::Quit),
+        (b"QUIT now", PromptKind::Other),
         (b"GROUP g", PromptKind::Other),
+        (b"LAST", PromptKind::Other),
+        (b"", PromptKind::Other),
     ];
     for &(line, want) in ROWS {
         assert!(rt; Prompt::To(Command::parse(line)).kind() == want, "{line:?}");
+        assert!(rt; PromptKind::of_line(line) == want, "{line:?}");
     }
     assert!(rt; Prompt::Greeting.kind() == PromptKind::Greeting);
 }
