@@ -1,8 +1,10 @@
 //! The search for some octets in a stream that grows.
 ghost use Rattle.std.specs.Prelude.{◌<◌, ℕ, List, length};
+ghost use Rattle.memchr.specs.Find.{FindsNeedle};
+ghost use Rattle.nntp_wire.specs.Octets.{crlf};
 ghost use Rattle.nntp_wire.specs.Search.{IsSearched, IsThrough};
 
-use memchr::memmem;
+use memchr::{memchr, memmem};
 
 /// A search for some octets, its needle, in a stream that grows. No octet that can't begin or end
 /// the needle any more is looked at again.
@@ -33,9 +35,30 @@ impl Search {
             return;
         };
         let (_, ahead) = stream.split_at(passed);
-        *self = match memmem::find(ahead, needle) {
+        *self = match find(ahead, needle) {
             Some(end) => Search::Found(passed + end),
             None => Search::Passed((stream.len() + 1).saturating_sub(needle.len())),
         };
     }
+}
+
+/// Returns where the needle begins first in the octets.
+fn find(octets: &[u8], needle: &[u8]) -> Option<usize>
+    ensures { FindsNeedle octets.now needle.now 0 result }
+{
+    if needle == b"\r\n".as_slice() {
+        return find_crlf(octets);
+    }
+    memmem::find(octets, needle)
+}
+
+/// Returns where the first CRLF begins in the octets, which mostly is at the first CR.
+fn find_crlf(octets: &[u8]) -> Option<usize>
+    ensures { FindsNeedle octets.now crlf 0 result }
+{
+    let at = memchr(b'\r', octets)?;
+    if octets.get(at + 1) == Some(&b'\n') {
+        return Some(at);
+    }
+    memmem::find(octets, b"\r\n")
 }
