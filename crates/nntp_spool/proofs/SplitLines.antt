@@ -3,6 +3,8 @@ use Rattle.std.proofs.Common.{◌≡◌, ℕ, zero, suc, ◌+◌, true, false, c
 use Rattle.std.specs.Prelude.{position}
 use Rattle.std.specs.List.{slice_split, onto_first, position_or_len}
 use Rattle.std.proofs.lemmas.Bool.{cases_lt, le-ltb, lt-ltb}
+use Rattle.memchr.specs.Find.{IsFirstByte, is_byte}
+use Rattle.nntp_wire.proofs.ArgumentLemmas.{position-found}
 use Rattle.nntp_spool.specs.declared.text.read_fault.Kind.TheVariants as kinds
 use Rattle.nntp_spool.specs.Reading.{next_line, segments_of, fault, is_end}
 use Rattle.nntp_article.specs.Article.Parts.{is_empty}
@@ -31,6 +33,16 @@ some_is m n e = cc
 
 some_is_none : (m : ℕ) → some m ≡ None → ⊥
 some_is_none m e = cc
+
+-- what a search for an octet found is its first place
+pub first_place : (c : ℕ) (bytes : List ℕ) (r : Option ℕ) → IsFirstByte (is_byte c) bytes r → position (λ x. eqb x c) bytes ≡ r
+first_place c bytes None none =
+    let len : position_or_len (λ x. eqb x c) bytes ≡ length bytes = position-found c bytes None none in
+    ap (λ b. cond b (Some (position_or_len (λ x. eqb x c) bytes)) None) (le-ltb _ _ (omega arith))
+first_place c bytes (Some n) found =
+    let at : position_or_len (λ x. eqb x c) bytes ≡ n = position-found c bytes (Some n) found in
+    let high = found.0.high in
+    ap (λ b. cond b (Some (position_or_len (λ x. eqb x c) bytes)) None) (lt-ltb _ _ (omega arith)) ∙ ap some at
 
 -- the first octet c is at this place
 pub segments_found : (c : ℕ) (bytes : List ℕ) (at : ℕ) → position (λ x. eqb x c) bytes ≡ Some at → segments_at c bytes ≡ take at bytes ∷ segments_at c (drop (at + 1) bytes)

@@ -1,5 +1,5 @@
 //! The lines of a text and their fields.
-ghost use Rattle.std.specs.Prelude.{◌≡◌, ◌≤◌, ◌^◌, ◌∷◌, [], Some, None, true, option_map, option_copied, position, ◌==◌, MatchOption, if◌then◌else◌};
+ghost use Rattle.std.specs.Prelude.{◌≡◌, ◌≤◌, ◌^◌, ◌∷◌, [], Some, None, true, option_map, option_copied, MatchOption, if◌then◌else◌};
 ghost use Rattle.nntp_spool.specs.Reading.{Gives, line_at};
 ghost use Rattle.nntp_spool.specs.Fields.{fields_of, are_digits, is_decimal, is_count, value_of, opening_of, number_and_id, unbarred};
 ghost use Rattle.nntp_article.specs.Session.Machine.{is_article_number};
@@ -8,6 +8,7 @@ ghost use Rattle.nntp_spool.specs.ReadingView.{place_shown, opening_shown, numbe
 use crate::text::place::{NumberLine, Opening, Place};
 use crate::text::read_fault::{Kind, ReadError, ReadFault};
 use crate::value::well_formed::is_line;
+use memchr::memchr;
 use nntp_article::is_article_number;
 
 /// Makes a fault of this kind, told of this line.
@@ -17,18 +18,11 @@ pub(crate) fn fault(line: u64, kind: Kind) -> ReadError
     ReadError::Fault(ReadFault { line, kind })
 }
 
-/// Returns where the octet stands first.
-fn first_place(octets: &[u8], octet: u8) -> Option<usize>
-    ensures { result ≡ position (λ c. c == octet) octets.now }
-{
-    octets.iter().position(|c| *c == octet)
-}
-
 /// Returns the next line, without its LF, and the place behind it.
 pub(crate) fn next_line(place: Place<'_>) -> Result<(&[u8], Place<'_>), ReadError>
     ensures { Gives (λ x. (x.0.now, place_shown x.1)) result (line_at (place_shown place.entry)) }
 {
-    match first_place(place.rest, b'\n') {
+    match memchr(b'\n', place.rest) {
         None => Err(fault(place.line, Kind::Shape)),
         Some(at) => {
             let (line, behind) = place.rest.split_at(at);
@@ -48,7 +42,7 @@ pub(crate) fn next_line(place: Place<'_>) -> Result<(&[u8], Place<'_>), ReadErro
 fn cut(line: &[u8]) -> (&[u8], Option<&[u8]>)
     ensures { fields_of line.now ≡ result.0.now ∷ words_from result.1 }
 {
-    match first_place(line, b' ') {
+    match memchr(b' ', line) {
         None => (line, None),
         Some(at) => {
             let (word, rest) = line.split_at(at);

@@ -6,6 +6,7 @@ ghost use Rattle.nntp_article.specs.Session.Spool.{is_line};
 ghost use Rattle.nntp_spool.specs.Content.{is_head_of};
 ghost use Rattle.nntp_wire.specs.Held.{held};
 
+use memchr::memchr3;
 use nntp_article::{Head, lines_say};
 use nntp_wire::laws::{group_names_are_decided, message_ids_are_decided};
 use nntp_wire::{GroupName, MessageId, OwnedBlock};
@@ -34,8 +35,7 @@ pub(crate) fn id_of(octets: &[u8]) -> Option<&str>
 pub(crate) fn is_line(line: &[u8]) -> bool
     ensures { result ≡ is_line line.now }
 {
-    line.iter()
-        .all(|c| !(*c == 0 || *c == b'\r' || *c == b'\n'))
+    memchr3(0, b'\r', b'\n', line).is_none()
 }
 
 /// Tells whether the lines have no NUL, CR or LF.
