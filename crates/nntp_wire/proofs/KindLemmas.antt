@@ -1,13 +1,13 @@
 -- Most lines have the kind Other by their first letter.
-use Rattle.std.proofs.Common.{◌≡◌, ℕ, ◌<◌, Bool, true, false, ◌⊎◌, inl, inr, ◌||◌, List, [], ◌∷◌, length, map, get_or, arith, refl, sym, ◌∙◌, ap, Option, None, Some}
+use Rattle.std.proofs.Common.{◌≡◌, ℕ, ◌<◌, Bool, true, false, ◌⊎◌, inl, inr, ◌||◌, List, [], ◌∷◌, length, get_or, arith, refl, sym, ◌∙◌, ap, Option, None, Some}
 use Rattle.std.proofs.lemmas.Bool.{false≢true, lt-ltb}
 use Rattle.std.specs.Prelude.{◌==◌, nat_le, ⊤}
 use Rattle.std.specs.List.{find, filter, onto_first, slice_split}
 use Rattle.std.proofs.lemmas.List.Splits.{slice_split-cons_no}
 use Rattle.std.specs.Option.{option_map}
 use Rattle.std.specs.Char.{to_ascii_lowercase}
-use Rattle.std.proofs.lemmas.Slice.Eq.{bytes_eq-Decides}
 use Rattle.nntp_wire.specs.Octets.{is_blank, is_clean}
+use Rattle.nntp_wire.proofs.KeywordLemmas.{lower_first, same_lower}
 use Rattle.nntp_wire.specs.Words.{words_of, is_some_octets, is_same_word}
 use Rattle.nntp_wire.specs.Answer.{to}
 use Rattle.nntp_wire.specs.Command.{Request, keywords, form_of, is_keyword, request_by, request_by_keyword, request_of_words, request_of, capabilities_of, group_of, alone, next, retrieve_of, retrieve_by, target_of}
@@ -76,14 +76,8 @@ keywords_other = (
 )
 
 -- words that are the same begin with the same letter
-lower_first : (word : List ℕ) → to_ascii_lowercase (get_or word 0 0) ≡ get_or (map to_ascii_lowercase word) 0 0
-lower_first [] = refl
-lower_first (b ∷ bs) = refl
-
 same_begin : (word other : List ℕ) → is_same_word word other ≡ true → begins_kind word ≡ begins_kind other
-same_begin word other is =
-    let same : map to_ascii_lowercase word ≡ map to_ascii_lowercase other = (bytes_eq-Decides (map to_ascii_lowercase word) (map to_ascii_lowercase other)).0 is in
-    ap (λ b. b == 108 || b == 109 || b == 113) (lower_first word ∙ ap (λ bs. get_or bs 0 0) same ∙ sym (lower_first other))
+same_begin word other is = ap (λ b. b == 108 || b == 109 || b == 113) (lower_first word ∙ ap (λ bs. get_or bs 0 0) (same_lower word other is) ∙ sym (lower_first other))
 
 -- a keyword that is looked up among these
 found_other : (word : List ℕ) (rows : List (List ℕ × (List (List ℕ) → Request))) (is_short : Bool) (arguments : List (List ℕ)) → AllMakeOther rows → begins_kind word ≡ false
