@@ -1,11 +1,13 @@
 -- Octets that aren't text are no key.
 use Rattle.std.proofs.Common.{◌≡◌, true, false, ℕ, List, [], ◌∷◌, None, refl, sym, subst, ◌∙◌}
+use Rattle.std.specs.Prelude.{String}
 use Rattle.std.specs.Ordering.{nat_cmp, is_eq}
 use Rattle.std.specs.Cmp.Lexicographic.{slice_cmp}
 use Rattle.std.specs.Map.{lookup}
 use Rattle.std.specs.Str.{IsUtf8}
 use Rattle.std.specs.declared.rc.RcStr.{RcStr}
 use Rattle.std.specs.Rc.{rc_str_bytes}
+use Rattle.std.specs.String.{string_bytes}
 use Rattle.std.proofs.lemmas.Str.{IsUtf8-string_bytes}
 use Rattle.std.proofs.lemmas.Map.Text.{is_eq-slice_cmp}
 use Rattle.std.proofs.lemmas.Slice.Eq.{bytes_eq-Decides}
@@ -13,14 +15,21 @@ use Rattle.std.proofs.lemmas.Slice.Eq.{bytes_eq-Decides}
 key_is_text : {A : Type 0} (k : RcStr A) → IsUtf8 (rc_str_bytes k)
 key_is_text k = IsUtf8-string_bytes k.text.value
 
-module _ {A : Type 0} (q : List ℕ) (not_text : IsUtf8 q → ⊥) where
-  other : (k : RcStr A) → is_eq (slice_cmp nat_cmp q (rc_str_bytes k)) ≡ false
+module _ {L : Type 0} (key : L → List ℕ) (text : (k : L) → IsUtf8 (key k)) (q : List ℕ) (not_text : IsUtf8 q → ⊥) where
+  other : (k : L) → is_eq (slice_cmp nat_cmp q (key k)) ≡ false
   other k =
-      elim (is_eq (slice_cmp nat_cmp q (rc_str_bytes k))) as (λ b. is_eq (slice_cmp nat_cmp q (rc_str_bytes k)) ≡ b → b ≡ false) [
-        | true ↦ λ t. absurd (not_text (subst IsUtf8 (sym ((bytes_eq-Decides q (rc_str_bytes k)).0 (sym (is_eq-slice_cmp q (rc_str_bytes k)) ∙ t))) (key_is_text k)))
+      elim (is_eq (slice_cmp nat_cmp q (key k))) as (λ b. is_eq (slice_cmp nat_cmp q (key k)) ≡ b → b ≡ false) [
+        | true ↦ λ t. absurd (not_text (subst IsUtf8 (sym ((bytes_eq-Decides q (key k)).0 (sym (is_eq-slice_cmp q (key k)) ∙ t))) (text k)))
         | false ↦ λ t. refl
       ] refl
 
-  pub no_key : {X : Type 0} (es : List (RcStr A × X)) → lookup (λ k. is_eq (slice_cmp nat_cmp q (rc_str_bytes k))) es ≡ None
-  no_key [] = refl
-  no_key (e ∷ es) = rw (other e.0) (no_key es)
+  none_tied : {X : Type 0} (es : List (L × X)) → lookup (λ k. is_eq (slice_cmp nat_cmp q (key k))) es ≡ None
+  none_tied [] = refl
+  none_tied (e ∷ es) = rw (other e.0) (none_tied es)
+
+module _ {A X : Type 0} (q : List ℕ) (not_text : IsUtf8 q → ⊥) where
+  pub no_key : (es : List (RcStr A × X)) → lookup (λ k. is_eq (slice_cmp nat_cmp q (rc_str_bytes k))) es ≡ None
+  no_key es = none_tied (λ k. rc_str_bytes k) key_is_text q not_text es
+
+  pub no_name : (es : List (String A × X)) → lookup (λ k. is_eq (slice_cmp nat_cmp q (string_bytes k))) es ≡ None
+  no_name es = none_tied (λ k. string_bytes k) IsUtf8-string_bytes q not_text es

@@ -56,6 +56,11 @@ abbrev pub Admits : Option SpoolFault → Id → Result (Bor (List ℕ)) SpoolFa
 Admits fault id (Ok text) = (fault ≡ None) × (text.now ≡ id)
 Admits fault id (Err f) = fault ≡ Some f
 
+-- the name and the id as text, where there is no fault, and else the fault
+abbrev pub AdmitsBoth : Option SpoolFault → Name → Id → Result (Bor (List ℕ) × Bor (List ℕ)) SpoolFault → Type 0
+AdmitsBoth fault name id (Ok texts) = (fault ≡ None) × (texts.0.now ≡ name) × (texts.1.now ≡ id)
+AdmitsBoth fault name id (Err f) = fault ≡ Some f
+
 -- what a builder gives when it is given up: its spool, or the fault that it has
 abbrev pub finished : Building → Result LimitedSpool SpoolFault
 finished b =

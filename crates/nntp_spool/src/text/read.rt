@@ -14,10 +14,11 @@ use crate::value::Spool;
 use crate::value::article::StoredArticle;
 use crate::value::content::Content;
 use crate::value::numbers::Numbers;
-use crate::value::well_formed::{id_of, is_block_head_of, is_name};
+use crate::value::well_formed::{id_of, is_block_head_of, name_of};
 use nntp_wire::{Limit, OwnedBlock};
 use std::alloc::Allocator;
 use std::rc::RcStr;
+use std::string::String;
 
 /// Reads one more line of an article.
 #[tactic(auto, unfolding(crate::specs::Reading::barred_line_at))]
@@ -119,14 +120,14 @@ fn group_at<'a, A: Allocator + Copy>(
 ) -> Result<Place<'a>, ReadError>
     ensures { Gives (λ next. (content.new, place_shown next)) result (group_at limit line name.now count content.old (place_shown place.entry)) }
 {
-    if !is_name(name) {
+    let Some(name) = name_of(name) else {
         return Err(fault(line, Kind::Name));
-    }
+    };
     if !content.is_after_groups(name) {
         return Err(fault(line, Kind::Order));
     }
     let (numbers, next) = numbers_at(alloc, limit, count, place)?;
-    content.put_group(Vec::from_slice(alloc, name)?, numbers)?;
+    content.put_group(String::from_str(alloc, name)?, numbers)?;
     Ok(next)
 }
 

@@ -157,7 +157,7 @@ impl<A: Allocator> Content<A> {
     {
         let mut entries = self.groups.iter();
         while let Some((name, numbers)) = entries.next() {
-            put_group(output, name.as_slice(), numbers)?;
+            put_group(output, name.as_bytes(), numbers)?;
         }
         Ok(())
     }

@@ -4,7 +4,7 @@ ghost use Rattle.std.specs.FinMap as map;
 ghost use Rattle.std.specs.Rc.{rc_str_bytes};
 ghost use Rattle.nntp_article.specs.Session.Spool.{numbers as numbers_of};
 ghost use Rattle.nntp_wire.specs.Limit.{greatest};
-ghost use Rattle.nntp_spool.specs.Building.{Builds, Admits, group_fault, number_fault, article_fault, parts_fault, finished};
+ghost use Rattle.nntp_spool.specs.Building.{Builds, Admits, AdmitsBoth, group_fault, number_fault, article_fault, parts_fault, finished};
 ghost use Rattle.nntp_spool.specs.Content.{with_group, with_article, no_spool};
 ghost use Rattle.nntp_spool.specs.ArticleLines.{text_of_article, text_stored, HasLineCount};
 ghost use Rattle.nntp_spool.specs.Text.{IsWritten};
@@ -15,13 +15,14 @@ use crate::value::content::Content;
 use crate::value::numbers::Numbers;
 use crate::value::spool_fault::SpoolFault;
 use crate::value::well_formed::{
-    are_block_lines, are_lines, id_of, is_block_head_of, is_head_of, is_name,
+    are_block_lines, are_lines, id_of, is_block_head_of, is_head_of, name_of,
 };
 use nntp_article::is_article_number;
 use nntp_wire::{Limit, OwnedBlock};
 use std::alloc::{Allocator, Global};
 use std::marker::Model;
 use std::rc::{Rc, RcStr};
+use std::string::String;
 
 /// A builder of a spool, which takes groups, article numbers and articles call by call.
 ///
@@ -49,30 +50,30 @@ impl<A: Allocator> Model for SpoolBuilder<A> {
     ghost invariant = { λ b. IsContent (greatest b.limit) b.content };
 }
 
-/// Returns why a group can't be added, if it can't.
-fn group_fault<A: Allocator>(content: &Content<A>, name: &[u8]) -> Option<SpoolFault>
-    ensures { result ≡ group_fault content.now name.now }
+/// Returns the name of a group as text, or why the group can't be added.
+fn group_name<'n, A: Allocator>(content: &Content<A>, name: &'n [u8]) -> Result<&'n str, SpoolFault>
+    ensures { Admits (group_fault content.now name.now) name.now result }
 {
-    if !is_name(name) {
-        return Some(SpoolFault::BadName);
-    }
+    let Some(name) = name_of(name) else {
+        return Err(SpoolFault::BadName);
+    };
     if content.group(name).is_some() {
-        return Some(SpoolFault::DuplicateGroup);
+        return Err(SpoolFault::DuplicateGroup);
     }
-    None
+    Ok(name)
 }
 
-/// Returns the id of a number as text, or why the number can't be added with it.
-fn number_id<'i, A: Allocator>(
+/// Returns the group's name and the number's id as text, or why the number can't be added.
+fn number_texts<'n, 'i, A: Allocator>(
     limit: u64,
     content: &Content<A>,
-    name: &[u8],
+    name: &'n [u8],
     number: u64,
     id: &'i [u8],
-) -> Result<&'i str, SpoolFault>
-    ensures { Admits (number_fault limit content.now name.now number id.now) id.now result }
+) -> Result<(&'n str, &'i str), SpoolFault>
+    ensures { AdmitsBoth (number_fault limit content.now name.now number id.now) name.now id.now result }
 {
-    let Some(numbers) = content.group(name) else {
+    let Some((name, numbers)) = content.group_named(name) else {
         return Err(SpoolFault::UnknownGroup);
     };
     if !is_article_number(limit, number) {
@@ -87,7 +88,7 @@ fn number_id<'i, A: Allocator>(
     if numbers.has_some_id(id) {
         return Err(SpoolFault::DuplicateId);
     }
-    Ok(id)
+    Ok((name, id))
 }
 
 /// Returns the id of an article as text, or why the article can't be added by it.
@@ -177,10 +178,8 @@ impl<A: Allocator + Copy> SpoolBuilder<A> {
         if self.failed {
             return Err(SpoolFault::Failed);
         }
-        if let Some(fault) = group_fault(&self.content, name) {
-            return Err(fault);
-        }
-        let Ok(name) = Vec::from_slice(self.alloc, name) else {
+        let name = group_name(&self.content, name)?;
+        let Ok(name) = String::from_str(self.alloc, name) else {
             self.failed = true;
             return Err(SpoolFault::Memory);
         };
@@ -213,7 +212,7 @@ impl<A: Allocator + Copy> SpoolBuilder<A> {
         if self.failed {
             return Err(SpoolFault::Failed);
         }
-        let id = number_id(self.limit.value(), &self.content, name, number, id)?;
+        let (name, id) = number_texts(self.limit.value(), &self.content, name, number, id)?;
         let Ok(id) = RcStr::from_str(self.alloc, id) else {
             self.failed = true;
             return Err(SpoolFault::Memory);
@@ -240,12 +239,12 @@ impl<A: Allocator + Copy> SpoolBuilder<A> {
             return Err(SpoolFault::Failed);
         }
         let octets = id.as_str().as_bytes();
-        number_id(self.limit.value(), &self.content, name, number, octets)?;
+        let (name, _) = number_texts(self.limit.value(), &self.content, name, number, octets)?;
         self.put_number(name, number, id)
     }
 
     /// Adds a number with its id, where there is no fault.
-    fn put_number(&mut self, name: &[u8], number: u64, id: &RcStr<A>) -> Result<(), SpoolFault>
+    fn put_number(&mut self, name: &str, number: u64, id: &RcStr<A>) -> Result<(), SpoolFault>
         requires faultless { number_fault (greatest self.old.limit) self.old.spool name.now number (rc_str_bytes id.now) ≡ None }
         requires failed { self.old.failed ≡ false }
         ensures { Builds None (with_group self.old.spool name.now (map.insert (numbers_of self.old.spool name.now) number (rc_str_bytes id.now))) result self.old self.new }

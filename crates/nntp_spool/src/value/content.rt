@@ -1,7 +1,8 @@
 //! Groups and articles, as they are taken in before all of a spool is there.
-ghost use Rattle.std.specs.Prelude.{◌≡◌, None, false, OnOk, OnErr, option_map, option_copied, is_some};
+ghost use Rattle.std.specs.Prelude.{◌≡◌, None, false, OnOk, OnErr, IfSome, option_map, option_copied, is_some};
 ghost use Rattle.std.specs.FinMap as map;
 ghost use Rattle.std.specs.Rc.{rc_str_bytes};
+ghost use Rattle.std.specs.String.{string_bytes};
 ghost use Rattle.nntp_article.specs.Session.Spool.{IsGroup, numbers as numbers_of};
 ghost use Rattle.nntp_spool.specs.Counts.{numbers_in};
 ghost use Rattle.nntp_spool.specs.Ascending.{is_last};
@@ -17,12 +18,13 @@ use std::collections::BTreeMap;
 use std::marker::Model;
 use std::rc::RcStr;
 use std::str;
+use std::string::String;
 
 /// The groups of a spool by their names, and its articles by their ids.
 #[derive(Drop)]
 pub struct Content<A: Allocator = Global> {
-    /// The numbers of each group, by the octets of its name.
-    pub(crate) groups: BTreeMap<Vec<u8, A>, Numbers<A>, A>,
+    /// The numbers of each group, by its name.
+    pub(crate) groups: BTreeMap<String<A>, Numbers<A>, A>,
     /// The articles, each by its message-id.
     pub(crate) articles: BTreeMap<RcStr<A>, StoredArticle<A>, A>,
 }
@@ -57,10 +59,10 @@ impl<A: Allocator + Copy> Content<A> {
     /// Adds a group, or puts it in the place of the one of its name.
     pub(crate) fn put_group(
         &mut self,
-        name: Vec<u8, A>,
+        name: String<A>,
         numbers: Numbers<A>,
     ) -> Result<(), AllocError>
-        ensures ok { OnOk result (self.new ≡ with_group self.old name.items numbers) }
+        ensures ok { OnOk result (self.new ≡ with_group self.old (string_bytes name) numbers) }
         ensures err { OnErr result (self.new ≡ self.old) }
     {
         self.groups.insert(name, numbers)?;
@@ -70,7 +72,7 @@ impl<A: Allocator + Copy> Content<A> {
     /// Adds a number, with its id, to a group that is there and has neither.
     pub(crate) fn put_number(
         &mut self,
-        name: &[u8],
+        name: &str,
         number: u64,
         id: &RcStr<A>,
     ) -> Result<(), AllocError>
@@ -101,10 +103,25 @@ impl<A: Allocator + Copy> Content<A> {
 
 impl<A: Allocator> Content<A> {
     /// Returns the numbers of a group.
-    pub(crate) fn group(&self, name: &[u8]) -> Option<&Numbers<A>>
+    pub(crate) fn group(&self, name: &str) -> Option<&Numbers<A>>
         ensures { option_copied result ≡ map.get self.now.groups name.now }
     {
         self.groups.get(name)
+    }
+
+    /// Returns the name and the numbers of the group that the word names. A word that is no text
+    /// names none.
+    pub(crate) fn group_named<'w>(&self, word: &'w [u8]) -> Option<(&'w str, &Numbers<A>)>
+        ensures numbers { option_map (λ group. group.1.now) result ≡ map.get self.now.groups word.now }
+        ensures name { IfSome result (λ group. group.0.now ≡ word.now) }
+    {
+        match str::from_utf8(word) {
+            Ok(name) => match self.groups.get(name) {
+                Some(numbers) => Some((name, numbers)),
+                None => None,
+            },
+            Err(_) => None,
+        }
     }
 
     /// Returns the article of an id.
@@ -159,11 +176,11 @@ impl<A: Allocator> Content<A> {
     }
 
     /// Tells whether the name is greater than each group's.
-    pub(crate) fn is_after_groups(&self, name: &[u8]) -> bool
+    pub(crate) fn is_after_groups(&self, name: &str) -> bool
         ensures { result ≡ is_last self.now.groups name.now }
     {
         match self.groups.last_key_value() {
-            Some((greatest, _)) => greatest.as_slice().cmp(name).is_lt(),
+            Some((greatest, _)) => greatest.as_str().cmp(name).is_lt(),
             None => true,
         }
     }

@@ -12,12 +12,15 @@ use nntp_wire::laws::{group_names_are_decided, message_ids_are_decided};
 use nntp_wire::{GroupName, MessageId, OwnedBlock};
 use std::alloc::Allocator;
 
-/// Tells whether the octets are a group name.
-pub(crate) fn is_name(name: &[u8]) -> bool
-    ensures { result ≡ is_group_name name.now }
+/// Returns the group name that the octets are, as text.
+pub(crate) fn name_of(octets: &[u8]) -> Option<&str>
+    ensures { MatchOption result (is_group_name octets.now ≡ false) (λ name. (is_group_name octets.now ≡ true) × (name.now ≡ octets.now)) }
 {
     group_names_are_decided();
-    GroupName::parse(name).is_some()
+    match GroupName::parse(octets) {
+        Some(name) => Some(name.as_str()),
+        None => None,
+    }
 }
 
 /// Returns the message-id that the octets are, as text.

@@ -39,10 +39,10 @@ impl<A: Allocator + Copy> Session<A> {
         Ok(match answer {
             Answer::Plain { code } => self.agrees_plain(spool, prompt, *code),
             Answer::Group { marks, name } => {
-                self.agrees_group(how, spool, prompt, *marks, name.as_slice())
+                self.agrees_group(how, spool, prompt, *marks, name.as_str())
             }
             Answer::Numbers { marks, name, block } => {
-                self.agrees_numbers(how, spool, prompt, *marks, name.as_slice(), block)
+                self.agrees_numbers(how, spool, prompt, *marks, name.as_str(), block)
             }
             Answer::Sent {
                 code,
@@ -72,27 +72,28 @@ impl<A: Allocator + Copy> Session<A> {
         ensures { IsTrue result ↔ CodeAgrees spool.now self.now (request command.now) code }
     {
         let none = self.no_numbers();
-        let numbers = self.selected_numbers(spool, &none);
         let current = self.current();
         match command {
-            Command::Group(word) => spool.group(*word).is_none(),
+            Command::Group(word) => spool.group_named(*word).is_none(),
             Command::ListGroup { group, .. } => match group {
-                Some(word) => spool.group(*word).is_none(),
+                Some(word) => spool.group_named(*word).is_none(),
                 None => true,
             },
             Command::Next => match code {
                 412 => true,
                 420 => current.is_none(),
-                _ => numbers.is_at_top(current),
+                _ => self.selected_numbers(spool, &none).is_at_top(current),
             },
             Command::Last => match code {
                 412 => true,
                 420 => current.is_none(),
-                _ => numbers.is_at_bottom(current),
+                _ => self.selected_numbers(spool, &none).is_at_bottom(current),
             },
             Command::Retrieve { which, .. } => match which {
                 Which::Id(word) => !spool.knows(*word),
-                Which::Number(Some(number)) => code == 412 || numbers.id(*number).is_none(),
+                Which::Number(Some(number)) => {
+                    code == 412 || self.selected_numbers(spool, &none).id(*number).is_none()
+                }
                 Which::Number(None) => true,
                 Which::Current => code == 412 || current.is_none(),
             },
@@ -108,7 +109,7 @@ impl<A: Allocator + Copy> Session<A> {
         spool: &Content<A>,
         prompt: &Prompt<'_>,
         marks: WaterMarks,
-        name: &[u8],
+        name: &str,
     ) -> bool
         ensures { IsTrue result ↔ Agrees how spool.now self.now (asked prompt.now) (group_is marks name.now) }
     {
@@ -125,7 +126,7 @@ impl<A: Allocator + Copy> Session<A> {
         spool: &Content<A>,
         prompt: &Prompt<'_>,
         marks: WaterMarks,
-        name: &[u8],
+        name: &str,
         block: &Block<'_>,
     ) -> bool
         requires { is_ascending (listed_numbers block.now) ≡ true }
@@ -152,10 +153,16 @@ impl<A: Allocator + Copy> Session<A> {
         ensures { (how : Marks) → IsTrue result ↔ Agrees how spool.now self.now (asked prompt.now) (sends (record { code = code; number = number; id = id.now; block = block.now })) }
     {
         let none = self.no_numbers();
-        let numbers = self.selected_numbers(spool, &none);
+        let current = self.current();
         match prompt {
-            Prompt::To(Command::Next) => numbers.steps_up(self.current(), number, id),
-            Prompt::To(Command::Last) => numbers.steps_down(self.current(), number, id),
+            Prompt::To(Command::Next) => {
+                let numbers = self.selected_numbers(spool, &none);
+                numbers.steps_up(current, number, id)
+            }
+            Prompt::To(Command::Last) => {
+                let numbers = self.selected_numbers(spool, &none);
+                numbers.steps_down(current, number, id)
+            }
             Prompt::To(Command::Retrieve { what, which }) => {
                 agrees_text(spool, *what, id, block) && self.agrees_number(spool, which, number, id)
             }
@@ -202,12 +209,7 @@ impl<A: Allocator + Copy> Session<A> {
 }
 
 /// Tells whether the name is a group, and its numbers agree with the estimate and the marks.
-fn agrees_marks<A: Allocator>(
-    how: Marks,
-    spool: &Content<A>,
-    name: &[u8],
-    marks: WaterMarks,
-) -> bool
+fn agrees_marks<A: Allocator>(how: Marks, spool: &Content<A>, name: &str, marks: WaterMarks) -> bool
     ensures { IsTrue result ↔ (IsGroup spool.now name.now × Bound how (numbers_of spool.now name.now) marks) }
 {
     match spool.group(name) {
@@ -221,7 +223,7 @@ fn agrees_marks<A: Allocator>(
 fn agrees_listed<A: Allocator>(
     how: Marks,
     spool: &Content<A>,
-    name: &[u8],
+    name: &str,
     marks: WaterMarks,
     range: Range,
     block: &Block<'_>,

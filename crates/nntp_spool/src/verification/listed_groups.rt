@@ -26,11 +26,11 @@ fn agrees_line<A: Allocator>(
     ensures { IsTrue result ↔ LineAgrees spool.now wildmat.now (active_value group.now) }
 {
     matches_if_given(wildmat, &group.name)
-        && agrees_bounds(spool, group.name.as_slice(), group.low, group.high)
+        && agrees_bounds(spool, group.name.as_str(), group.low, group.high)
 }
 
 /// Tells whether the name is a group whose numbers are between the marks.
-fn agrees_bounds<A: Allocator>(spool: &Content<A>, name: &[u8], low: u64, high: u64) -> bool
+fn agrees_bounds<A: Allocator>(spool: &Content<A>, name: &str, low: u64, high: u64) -> bool
     ensures { IsTrue result ↔ (IsGroup spool.now name.now × ((n : ℕ) → IsNumber (numbers_of spool.now name.now) n → (low ≤ n) × (n ≤ high))) }
 {
     match spool.group(name) {
@@ -74,7 +74,7 @@ impl<A: Allocator> Content<A> {
     {
         self.groups
             .iter()
-            .filter(|(name, _)| is_asked(wildmat, name.as_slice()))
+            .filter(|(name, _)| is_asked(wildmat, name.as_bytes()))
             .count()
     }
 }

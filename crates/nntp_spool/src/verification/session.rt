@@ -95,8 +95,8 @@ impl<A: Allocator + Copy> Session<A> {
         requires { none.now ≡ map.empty }
         ensures { result.now ≡ selected_numbers spool.now self.now.visible }
     {
-        match spool.group(self.visible.selected_name()) {
-            Some(numbers) => numbers,
+        match spool.group_named(self.visible.selected_name()) {
+            Some((_, numbers)) => numbers,
             None => none,
         }
     }
@@ -128,8 +128,8 @@ impl<A: Allocator> Session<A> {
         ensures { result ≡ current_after spool.now self.now (asked prompt.now) (response answer.now) }
     {
         match answer {
-            Answer::Group { name, .. } => first_of(spool, name.as_slice()),
-            Answer::Numbers { name, .. } => first_of(spool, name.as_slice()),
+            Answer::Group { name, .. } => first_of(spool, name.as_str()),
+            Answer::Numbers { name, .. } => first_of(spool, name.as_str()),
             Answer::Sent { number, .. } => match prompt {
                 Prompt::To(Command::Next) | Prompt::To(Command::Last) => Some(*number),
                 Prompt::To(Command::Retrieve { which, .. }) => match which {
@@ -144,7 +144,7 @@ impl<A: Allocator> Session<A> {
 }
 
 /// Returns the least number of a group.
-fn first_of<A: Allocator>(spool: &Content<A>, name: &[u8]) -> Option<u64>
+fn first_of<A: Allocator>(spool: &Content<A>, name: &str) -> Option<u64>
     ensures { result ≡ least (numbers_of spool.now name.now) }
 {
     first_is_least();

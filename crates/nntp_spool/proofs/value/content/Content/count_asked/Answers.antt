@@ -1,5 +1,6 @@
 use Rattle.std.proofs.Common.{◌+◌, cond, sym, ap, ◌∙◌, rules}
 use Rattle.std.specs.List.{count_by}
+use Rattle.std.specs.String.{string_bytes}
 use Rattle.std.proofs.lemmas.Iterator.Consumers.{YieldsList-at, YieldsList-from_rest, YieldsList-from_filter, count_from_yields_List}
 use Rattle.std.proofs.lemmas.List.Folds.{fold-map}
 use Rattle.std.proofs.lemmas.List.Sums.{length-filter}
@@ -14,8 +15,8 @@ returns g c =
     let es = c.self.inside.groups.entries in
     let asked = λ (e : Name × Numbers). is_asked c.args.wildmat.now e.0 in
     let counted = count_from_yields_List c.filter.result c.count.result c.count.ensures.ran
-    (YieldsList-from_filter _ (λ e. asked (e.0.items, e.1))
+    (YieldsList-from_filter _ (λ e. asked (string_bytes e.0, e.1))
     (YieldsList-at c.filter.ensures.source (YieldsList-from_rest es c.iter.ensures.rest)) c.filter.ensures.closure
     (λ x b q k. search (rules, tests))) in
-    counted ∙ length-filter (λ e. asked (e.0.items, e.1)) es ∙ sym (fold-map (λ n e. n + cond (asked e) 1 0) (λ e. (e.0.items, e.1)) 0 es)
+    counted ∙ length-filter (λ e. asked (string_bytes e.0, e.1)) es ∙ sym (fold-map (λ n e. n + cond (asked e) 1 0) (λ e. (string_bytes e.0, e.1)) 0 es)
     ∙ ap (count_by asked) (group_entries es c.args.self.now.groups (ap (λ s. s.groups) c.self.view_is) c.iter.ensures.ordered)

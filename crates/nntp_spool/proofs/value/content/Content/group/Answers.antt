@@ -1,11 +1,6 @@
-use Rattle.std.proofs.Common.{ap, sym, ◌∙◌}
-use Rattle.std.specs.Ordering.{nat_cmp}
-use Rattle.std.specs.Cmp.Lexicographic.{slice_cmp, nat_list_cmp_total}
-use Rattle.std.specs.FinMap as map
-use Rattle.nntp_wire.proofs.ShownMaps.{get-shown, option_map_id}
+use Rattle.std.proofs.Common.{ap, ◌∙◌}
+use Rattle.nntp_spool.proofs.ShownMaps.{group_got}
 use Rattle.nntp_spool.proofs.value.content.Content.group.Goals as goal
 
 pub returns : goal.returns
-returns g c =
-    c.get.ensures.value ∙ sym (option_map_id _)
-    ∙ sym (get-shown (slice_cmp nat_cmp) (λ k. k.items) (λ v. v) nat_list_cmp_total c.self.inside.groups.entries c.args.name.now) ∙ ap (λ s. map.get s.groups c.args.name.now) c.self.view_is
+returns g c = c.get.ensures.value ∙ group_got c.self.inside.groups.entries c.args.self.now.groups c.args.name.now (ap (λ s. s.groups) c.self.view_is)

@@ -1,5 +1,6 @@
 use Rattle.std.proofs.Common.{sym, ap, subst, ◌∙◌, rules}
 use Rattle.std.specs.List.{list_all}
+use Rattle.std.specs.String.{string_bytes}
 use Rattle.std.proofs.lemmas.Iterator.Search.{all_from_yields_List}
 use Rattle.std.proofs.lemmas.Iterator.Consumers.{YieldsList-from_rest}
 use borrow.Author.Tests.{tests}
@@ -14,8 +15,8 @@ pub returns-clause-value : goal.returns-clause-value
 returns-clause-value g c =
     let es = c.self.inside.groups.entries in
     let known = λ (e : Name × Numbers). all_known c.args.self.now e.1 in
-    let all = all_from_yields_List (λ e. known (e.0.items, e.1)) _ _ c.all.result c.all.ensures.ran (YieldsList-from_rest es c.iter.ensures.rest) (λ x b q k. search (rules, tests)) in
-    all ∙ sym (list_all-map known (λ e. (e.0.items, e.1)) es) ∙ ap (list_all known) (group_entries es c.args.self.now.groups (ap (λ s. s.groups) c.self.view_is) c.iter.ensures.ordered)
+    let all = all_from_yields_List (λ e. known (string_bytes e.0, e.1)) _ _ c.all.result c.all.ensures.ran (YieldsList-from_rest es c.iter.ensures.rest) (λ x b q k. search (rules, tests)) in
+    all ∙ sym (list_all-map known (λ e. (string_bytes e.0, e.1)) es) ∙ ap (list_all known) (group_entries es c.args.self.now.groups (ap (λ s. s.groups) c.self.view_is) c.iter.ensures.ordered)
 
 pub returns-clause-line_counts : goal.returns-clause-line_counts
 returns-clause-line_counts g c = subst HasLineCounts c.self.view_is c.self.invariant

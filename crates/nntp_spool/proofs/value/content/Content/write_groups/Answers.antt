@@ -1,5 +1,6 @@
 use Rattle.std.proofs.Common.{arith, refl, sym, ◌∙◌, ap, map as list_map}
 use Rattle.std.specs.List.{flat_map}
+use Rattle.std.specs.String.{string_bytes}
 use Rattle.std.proofs.lemmas.Result.{err_from_is_err_and}
 use Rattle.nntp_spool.specs.Text.{with_line_ends, group_lines}
 use Rattle.nntp_spool.proofs.ShownMaps.{group_entries}
@@ -13,19 +14,19 @@ returns-in_err-put_group-clause-text g c =
     let w = c.in_err-put_group.ensures.text in
     rw p.1 (
       _,
-      Wrote-head (λ es. with_line_ends (flat_map group_lines (list_map (λ e. (e.0.items, e.1)) es)))
-          (λ x. with_line_ends (group_lines (x.0.items, x.1)))
-          (λ x xs. with_line_ends-append (group_lines (x.0.items, x.1)) _) _ _ _ _ _ _ _ _ _ w.0 c.in-Some.ensures.steps
-          (ap (λ s. with_line_ends (group_lines (s, c.in-Some.numbers.now))) c.as_slice.ensures.value)
+      Wrote-head (λ es. with_line_ends (flat_map group_lines (list_map (λ e. (string_bytes e.0, e.1)) es)))
+          (λ x. with_line_ends (group_lines (string_bytes x.0, x.1)))
+          (λ x xs. with_line_ends-append (group_lines (string_bytes x.0, x.1)) _) _ _ _ _ _ _ _ _ _ w.0 c.in-Some.ensures.steps
+          (ap (λ s. with_line_ends (group_lines (s, c.in-Some.numbers.now))) c.as_bytes.ensures.value)
           c.loop-name.invariant.wrote w.1,
     )
 
 pub loop-name-preserved : goal.loop-name-preserved
 loop-name-preserved g c = record {
-  wrote = Wrote-head (λ es. with_line_ends (flat_map group_lines (list_map (λ e. (e.0.items, e.1)) es)))
-      (λ x. with_line_ends (group_lines (x.0.items, x.1)))
-      (λ x xs. with_line_ends-append (group_lines (x.0.items, x.1)) _) _ _ _ _ _ _ _ _ _ _ c.in-Some.ensures.steps
-      (ap (λ s. with_line_ends (group_lines (s, c.in-Some.numbers.now))) c.as_slice.ensures.value) c.loop-name.invariant.wrote
+  wrote = Wrote-head (λ es. with_line_ends (flat_map group_lines (list_map (λ e. (string_bytes e.0, e.1)) es)))
+      (λ x. with_line_ends (group_lines (string_bytes x.0, x.1)))
+      (λ x xs. with_line_ends-append (group_lines (string_bytes x.0, x.1)) _) _ _ _ _ _ _ _ _ _ _ c.in-Some.ensures.steps
+      (ap (λ s. with_line_ends (group_lines (s, c.in-Some.numbers.now))) c.as_bytes.ensures.value) c.loop-name.invariant.wrote
       c.in_ok-put_group.ensures.text;
   same = grind (arith, c.in_ok-put_group.ensures.failed);
   writer = c.in_ok-put_group.ensures.same_writer ∙ c.loop-name.invariant.writer;
@@ -35,5 +36,5 @@ pub loop-name-init : goal.loop-name-init
 loop-name-init g c =
     let es = c.self.inside.groups.entries in
     let shown = group_entries es c.args.self.now.groups (ap (λ s. s.groups) c.self.view_is) c.iter-entries.ensures.ordered in
-    let all = sym shown ∙ ap (list_map (λ e. (e.0.items, e.1))) (sym c.iter-entries.ensures.rest) in
+    let all = sym shown ∙ ap (list_map (λ e. (string_bytes e.0, e.1))) (sym c.iter-entries.ensures.rest) in
     record { wrote = Wrote-all _ _ _ _ (ap (λ es. with_line_ends (flat_map group_lines es)) all); same = refl; writer = refl }

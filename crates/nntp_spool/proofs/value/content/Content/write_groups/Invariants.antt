@@ -1,6 +1,7 @@
 use Rattle.std.proofs.Common.{◌≡◌, ◌++◌, map as list_map}
 use Rattle.std.specs.List.{flat_map}
 use Rattle.std.specs.FinMap.{entries}
+use Rattle.std.specs.String.{string_bytes}
 use Rattle.nntp_spool.specs.Text.{with_line_ends, group_lines}
 use Rattle.nntp_spool.specs.Writing.{Wrote}
 use Rattle.nntp_spool.specs.Buffering.{taken, waiting, writer_failed, IsSameWriter}
@@ -10,7 +11,7 @@ abbrev pub invariant-loop-name : goal.invariant-loop-name
 invariant-loop-name g l = record {
   wrote : Wrote (taken g.W.Write.contents l.fn.output) (taken g.W.Write.contents l.output)
       (waiting l.fn.output ++ with_line_ends (flat_map group_lines (entries l.self.groups)))
-      (waiting l.output ++ with_line_ends (flat_map group_lines (list_map (λ e. (e.0.items, e.1)) l.entries)));
+      (waiting l.output ++ with_line_ends (flat_map group_lines (list_map (λ e. (string_bytes e.0, e.1)) l.entries)));
   same : writer_failed l.output ≡ writer_failed l.fn.output;
   writer : IsSameWriter l.fn.output l.output;
 }
