@@ -1,5 +1,5 @@
 -- What a builder adds leaves groups and articles that a spool may hold.
-use Rattle.std.proofs.Common.{◌≡◌, ◌⊎◌, inl, inr, ℕ, Bool, true, false, cond, not, Option, None, Some, is_some, is_none, refl, sym, ap, subst, ◌∙◌}
+use Rattle.std.proofs.Common.{◌≡◌, ◌⊎◌, inl, inr, ℕ, Bool, true, false, cond, not, Option, None, Some, is_none, refl, sym, ap, subst, ◌∙◌}
 use Rattle.std.specs.Prelude.{◌&&◌, unwrap_or}
 use Rattle.std.specs.List.{list_all}
 use Rattle.std.specs.Ordering.{nat_cmp}
@@ -11,13 +11,14 @@ use Rattle.nntp_article.specs.Article.Parts.{Id}
 use Rattle.nntp_article.specs.Session.Machine.{is_article_number}
 use Rattle.nntp_article.specs.Session.Spool.{Name, Spool, Numbers, Text, numbers, is_line}
 use Rattle.nntp_spool.specs.declared.value.spool_fault.SpoolFault.TheVariants as faults
-use Rattle.nntp_spool.specs.Numbers.{has_id}
-use Rattle.nntp_spool.specs.Content.{is_head_of, with_group, with_article, no_spool}
-use Rattle.nntp_spool.specs.Building.{group_fault, number_fault, article_fault}
+use Rattle.nntp_spool.specs.Numbers.{has_id, with_number}
+use Rattle.nntp_spool.specs.Content.{is_head_of, with_group, with_number_in, with_article, no_spool}
+use Rattle.nntp_spool.specs.Building.{group_fault, place_fault, article_fault}
 use Rattle.nntp_spool.specs.Content.{AreNumbers, IsNamed, IsArticle, IsContent}
 use Rattle.nntp_spool.proofs.MapEntries.{got_more}
 use Rattle.nntp_spool.proofs.NumbersInOrder.{no_numbers, one_more}
-use Rattle.nntp_spool.proofs.ShownMaps.{octet_keys}
+use Rattle.nntp_wire.proofs.ShownMaps.{insert-same}
+use Rattle.nntp_spool.proofs.ShownMaps.{octet_keys, spool_is}
 
 -- a test that found no fault
 no_fault : {A : Type 0} (b : Bool) (x : A) (o : Option A) → cond b (Some x) o ≡ None → (b ≡ false) × (o ≡ None)
@@ -33,6 +34,16 @@ nothing limit = record {
   articles = λ id t g. absurd (none t (sym (get-empty (slice_cmp nat_cmp) id) ∙ g));
 }
 
+-- a group with the numbers that it had, or with one more, by whether the id is new
+pub number_in_group : (S T : Spool) (name : Name) (N : Numbers) (n : ℕ) (id : Id) → get S.groups name ≡ Some N
+    → T.groups ≡ insert S.groups name (with_number N n id) → T.articles ≡ S.articles → T ≡ with_number_in S name n id
+number_in_group S T name N n id here groups articles =
+    by (has_id N id) groups ∙ ap (λ M. cond (has_id M id) S (with_group S name (insert M n id))) (sym (ap (λ o. unwrap_or o empty) here))
+  where
+    by : (b : Bool) → T.groups ≡ insert S.groups name (cond b N (insert N n id)) → T ≡ cond b S (with_group S name (insert N n id))
+    by true e = spool_is T S (e ∙ insert-same nat_list_cmp_total octet_keys S.groups name N here) articles
+    by false e = spool_is T (with_group S name (insert N n id)) e articles
+
 module _ (limit : ℕ) (S : Spool) (content : IsContent limit S) where
   with_named : (name : Name) (N : Numbers) → IsNamed limit name N → IsContent limit (with_group S name N)
   with_named name N named = record { groups = λ q M g. by q M (got_more nat_list_cmp_total octet_keys S.groups name N q M g); articles = content.articles }
@@ -46,14 +57,12 @@ module _ (limit : ℕ) (S : Spool) (content : IsContent limit S) where
       let a = no_fault (not (is_group_name name)) faults.BadName _ e in
       with_named name empty (record { is_name = not-false (is_group_name name) a.0; numbers = no_numbers limit })
 
-  pub number_added : (name : Name) (n : ℕ) (id : Id) → number_fault limit S name n id ≡ None → IsContent limit (with_group S name (insert (numbers S name) n id))
-  number_added name n id e =
+  new_number : (name : Name) (n : ℕ) (id : Id) → place_fault limit S name n id ≡ None → has_id (numbers S name) id ≡ false → IsContent limit (with_group S name (insert (numbers S name) n id))
+  new_number name n id e fresh =
       let a = no_fault (is_none (get S.groups name)) faults.UnknownGroup _ e in
       let b = no_fault (not (is_article_number limit n)) faults.BadNumber _ a.1 in
       let c = no_fault (not (is_message_id id)) faults.BadId _ b.1 in
-      let d = no_fault (is_some (get (numbers S name) n)) faults.DuplicateNumber _ c.1 in
-      let f = no_fault (has_id (numbers S name) id) faults.DuplicateId None d.1 in
-      by (get S.groups name) refl a.0 (not-false (is_article_number limit n) b.0) (not-false (is_message_id id) c.0) f.0
+      by (get S.groups name) refl a.0 (not-false (is_article_number limit n) b.0) (not-false (is_message_id id) c.0) fresh
     where
       by : (o : Option Numbers) → get S.groups name ≡ o → is_none (get S.groups name) ≡ false → is_article_number limit n ≡ true → is_message_id id ≡ true → has_id (numbers S name) id ≡ false
           → IsContent limit (with_group S name (insert (numbers S name) n id))
@@ -67,6 +76,14 @@ module _ (limit : ℕ) (S : Spool) (content : IsContent limit S) where
             numbers = one_more limit (numbers S name) n id
                 (subst (AreNumbers limit) (sym same) named.numbers) num is_id fresh;
           })
+
+  pub number_added : (name : Name) (n : ℕ) (id : Id) → place_fault limit S name n id ≡ None → IsContent limit (with_number_in S name n id)
+  number_added name n id e = by (has_id (numbers S name) id) (new_number name n id e)
+    where
+      by : (b : Bool) → (b ≡ false → IsContent limit (with_group S name (insert (numbers S name) n id)))
+          → IsContent limit (cond b S (with_group S name (insert (numbers S name) n id)))
+      by true new = content
+      by false new = new refl
 
   pub article_added : (id : Id) (t : Text) → article_fault S id t ≡ None → IsContent limit (with_article S id t)
   article_added id t e =

@@ -14,7 +14,7 @@ use Rattle.std.proofs.lemmas.Bool.Decides.{nat_tests}
 use Rattle.std.proofs.lemmas.List.Elements.{recursion_from_All}
 use Rattle.nntp_article.specs.Session.Spool.{Numbers, IsNumber}
 use Rattle.nntp_spool.specs.Ascending.{is_last}
-use Rattle.nntp_spool.proofs.MapEntries.{less_is, got_all, all_got, all_found}
+use Rattle.nntp_spool.proofs.MapEntries.{less_is, got_all, all_got, all_found, tied_itself, apart}
 use Rattle.nntp_spool.proofs.NumbersInOrder.{all_passed}
 use Rattle.nntp_spool.proofs.WholeSpools.{passed_all}
 use Rattle.nntp_wire.proofs.ShownMaps.{shown, shown_entry, get-shown}
@@ -34,6 +34,16 @@ module _ {K X : Type 0} {R : K → K → Ordering} (o : IsTotalOrder R) (same : 
   last_is m g k x here most = both_ways (is_lt (R g k)) (is_last m k)
       (λ less. passed_all (λ e. is_lt (R e.0 k)) (entries m) (got_all o same (λ q y. is_lt (R q k) ≡ true) m (λ q y f. below o g q k (most q y f) less)))
       (λ all. all_got o same (λ q y. is_lt (R q k) ≡ true) m (all_passed (λ e. is_lt (R e.0 k)) (entries m) all) g x here)
+
+  -- a key above all others is not there
+  pub absent_above : (m : FinMap R X) (k : K) → is_last m k ≡ true → get m k ≡ None
+  absent_above m k last = by (get m k) refl
+    where
+      by : (v : Option X) → get m k ≡ v → get m k ≡ None
+      by None g = g
+      by (Some x) g =
+          let below = all_got o same (λ q w. is_lt (R q k) ≡ true) m (all_passed (λ f. is_lt (R f.0 k)) (entries m) last) k x g in
+          absurd (true≢false (sym (tied_itself o k) ∙ apart o k k below))
 
   pub none_last : (m : FinMap R X) (k : K) → ((q : K) → get m q ≡ None) → true ≡ is_last m k
   none_last m k none = sym (passed_all (λ e. is_lt (R e.0 k)) (entries m) (got_all o same (λ q y. is_lt (R q k) ≡ true) m (λ q y f. absurd (none_is y (sym (none q) ∙ f)))))

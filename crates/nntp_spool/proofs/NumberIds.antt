@@ -2,15 +2,15 @@
 use Rattle.std.proofs.Common.{◌≡◌, ℕ, Bool, true, false, cond, List, [], ◌∷◌, Option, None, Some, is_some, option_map, refl, sym, ap, ◌∙◌}
 use Rattle.std.specs.declared.cmp.Ordering.{Ordering}
 use Rattle.std.specs.declared.cmp.Ordering.TheVariants.{Less, Equal, Greater}
-use Rattle.std.specs.Prelude.{◌||◌, ◌&&◌, not, is_none, bytes_eq}
-use Rattle.std.specs.Ordering.{nat_cmp, is_eq, is_lt, match_ordering}
+use Rattle.std.specs.Prelude.{◌||◌, not, bytes_eq}
+use Rattle.std.specs.Ordering.{nat_cmp, is_eq, match_ordering}
 use Rattle.std.specs.Cmp.Lexicographic.{slice_cmp}
 use Rattle.std.specs.List.{list_any}
 use Rattle.std.specs.Set.{remove_key}
 use Rattle.std.specs.declared.rc.RcStr.{RcStr}
 use Rattle.std.specs.Rc.{rc_str_bytes}
 use Rattle.std.specs.BTreeSet.{insert_key}
-use Rattle.std.specs.FinMap.{get, insert, empty, entries, find, put, entries-insert, get-entries, nat_cmp-IsAntisymmetric}
+use Rattle.std.specs.FinMap.{get, insert, empty, entries, find, put, entries-insert, get-entries}
 use Rattle.std.specs.FinMap.Entries.{by_order}
 use Rattle.std.specs.Cmp.{nat_cmp_total}
 use Rattle.std.proofs.lemmas.Bool.{true≢false}
@@ -18,12 +18,10 @@ use Rattle.std.proofs.lemmas.Bool.Decides.{same_from_decides}
 use Rattle.std.proofs.lemmas.Map.Text.{is_eq-slice_cmp}
 use Rattle.std.proofs.lemmas.Slice.Eq.{bytes_eq-Decides}
 use Rattle.nntp_article.specs.Session.Spool.{Numbers}
-use Rattle.nntp_spool.specs.Ascending.{is_last}
 use Rattle.nntp_spool.specs.Numbers.{has_id}
-use Rattle.nntp_spool.specs.Numbers.{is_free, with_number, AreIdsOf}
+use Rattle.nntp_spool.specs.Numbers.{AreIdsOf}
 use Rattle.nntp_article.proofs.SessionLemmas.SetKeys.{or_swap, any-insert_key}
-use Rattle.nntp_spool.proofs.MapEntries.{tied_itself, apart, all_got}
-use Rattle.nntp_spool.proofs.NumbersInOrder.{either_false, all_passed, entries-empty}
+use Rattle.nntp_spool.proofs.NumbersInOrder.{either_false, entries-empty}
 use Rattle.nntp_spool.proofs.ShownMaps.{octet_keys}
 
 some_none : {A : Type 0} (x : A) → Some x ≡ None → ⊥
@@ -50,21 +48,6 @@ has_id-insert N n new id absent =
     ap (list_any (λ e. bytes_eq e.1 id)) (entries-insert nat_cmp_total N n new)
     ∙ any-put nat_cmp (λ e. bytes_eq e.1 id) n new (entries N) (sym (get-entries N n) ∙ absent)
 
--- a number above all others is not there, so an id stands in the way of it
-pub id_in_the_way : (N : Numbers) (n : ℕ) (id : List ℕ) → is_last N n ≡ true → is_free N n id ≡ false → has_id N id ≡ true
-id_in_the_way N n id last taken = by (get N n) (has_id N id) refl taken
-  where
-    by : (o : Option (List ℕ)) (b : Bool) → get N n ≡ o → (is_none o && not b) ≡ false → b ≡ true
-    by None true g e = refl
-    by None false g e = absurd (true≢false e)
-    by (Some v) b g e =
-        let below = all_got nat_cmp_total nat_cmp-IsAntisymmetric (λ k w. is_lt (nat_cmp k n) ≡ true) N (all_passed (λ f. is_lt (nat_cmp f.0 n)) (entries N) last) n v g in
-        absurd (true≢false (sym (tied_itself nat_cmp_total n) ∙ apart nat_cmp_total n n below))
-
--- a number that may be added is added
-pub free_number : (N : Numbers) (n : ℕ) (id : List ℕ) → get N n ≡ None → has_id N id ≡ false → with_number N n id ≡ insert N n id
-free_number N n id absent fresh = rw (absent, fresh) refl
-
 pub same_ids : {A : Type 0} (ids new : List (RcStr A)) (N M : Numbers) → new ≡ ids → N ≡ M → AreIdsOf ids M → AreIdsOf new N
 same_ids ids new N M e d are id = ap (list_any (λ known. bytes_eq id (rc_str_bytes known))) e ∙ are id ∙ sym (ap (λ m. has_id m id) d)
 
@@ -85,6 +68,13 @@ module _ {A : Type 0} where
   pub any_known : (id : List ℕ) (ids : List (RcStr A)) → list_any (is_of id) ids ≡ list_any (λ known. bytes_eq id (rc_str_bytes known)) ids
   any_known id [] = refl
   any_known id (k ∷ ids) = rw (is_eq-slice_cmp id (rc_str_bytes k)) (ap (λ b. bytes_eq id (rc_str_bytes k) || b) (any_known id ids))
+
+  -- what a set of the ids answers where one more is put into it
+  pub is_added : (ids : List (RcStr A)) (M N : Numbers) (id : List ℕ) (k : RcStr A) (added : Bool) → AreIdsOf ids M
+      → M ≡ N → rc_str_bytes k ≡ id → added ≡ not (list_any (is_of (rc_str_bytes k)) ids) → added ≡ not (has_id N id)
+  is_added ids M N id k added are same is e =
+      let of : list_any (is_of (rc_str_bytes k)) ids ≡ has_id M (rc_str_bytes k) = any_known (rc_str_bytes k) ids ∙ are (rc_str_bytes k) in
+      e ∙ ap not (of ∙ ap (λ m. has_id m (rc_str_bytes k)) same ∙ ap (has_id N) is)
 
   is_of_itself : (id : List ℕ) (k : RcStr A) → rc_str_bytes k ≡ id → is_of id k ≡ true
   is_of_itself id k is = is_eq-slice_cmp id (rc_str_bytes k) ∙ (bytes_eq-Decides id (rc_str_bytes k)).1 (sym is)

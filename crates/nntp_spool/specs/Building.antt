@@ -39,6 +39,14 @@ number_fault limit S name n id =
     else (if is_some (get (numbers S name) n) then Some faults.DuplicateNumber
     else (if has_id (numbers S name) id then Some faults.DuplicateId else None))))
 
+-- what keeps a number out of a group with any id
+abbrev pub place_fault : ℕ → Spool → Name → ℕ → Id → Option SpoolFault
+place_fault limit S name n id =
+    if is_none (get S.groups name) then Some faults.UnknownGroup
+    else (if not (is_article_number limit n) then Some faults.BadNumber
+    else (if not (is_message_id id) then Some faults.BadId
+    else (if is_some (get (numbers S name) n) then Some faults.DuplicateNumber else None)))
+
 -- by whether the head and the body of an article are such as the id may have
 abbrev pub parts_fault : Spool → Id → Bool → Bool → Option SpoolFault
 parts_fault S id is_head is_body =

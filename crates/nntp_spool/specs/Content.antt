@@ -1,11 +1,12 @@
 -- Groups and articles that a spool may hold, whether each id has its article or not.
-use Rattle.std.specs.Prelude.{◌≡◌, ℕ, Bool, true, ◌&&◌, List, Some, is_some}
+use Rattle.std.specs.Prelude.{◌≡◌, ℕ, Bool, true, ◌&&◌, if◌then◌else◌, List, Some, is_some}
 use Rattle.std.specs.List.{list_all}
 use Rattle.std.specs.FinMap.{get, insert, empty, entries}
 use Rattle.nntp_wire.specs.Decided.{is_group_name, is_message_id}
 use Rattle.nntp_article.specs.Article.Parts.{Line, Id, is_clean_head}
-use Rattle.nntp_article.specs.Session.Spool.{Name, Spool, Numbers, Text, is_line}
+use Rattle.nntp_article.specs.Session.Spool.{Name, Spool, Numbers, Text, numbers, is_line}
 use Rattle.nntp_article.specs.Session.Machine.{is_article_number, says_own_id}
+use Rattle.nntp_spool.specs.Numbers.{has_id}
 
 -- no group and no article
 abbrev pub no_spool : Spool
@@ -13,6 +14,10 @@ no_spool = record { groups = empty; articles = empty }
 
 abbrev pub with_group : Spool → Name → Numbers → Spool
 with_group S name N = record S { groups = insert S.groups name N }
+
+-- a group's numbers with one more, if its id is not among theirs
+abbrev pub with_number_in : Spool → Name → ℕ → Id → Spool
+with_number_in S name n id = if has_id (numbers S name) id then S else with_group S name (insert (numbers S name) n id)
 
 abbrev pub with_article : Spool → Id → Text → Spool
 with_article S id text = record S { articles = insert S.articles id text }

@@ -1,7 +1,7 @@
 -- The ids of a group, each at one number.
-use Rattle.std.specs.Prelude.{◌≡◌, ℕ, Bool, not, ◌&&◌, if◌then◌else◌, List, is_none, bytes_eq}
+use Rattle.std.specs.Prelude.{◌≡◌, ℕ, Bool, if◌then◌else◌, List, bytes_eq}
 use Rattle.std.specs.List.{list_any}
-use Rattle.std.specs.FinMap.{get, insert, entries}
+use Rattle.std.specs.FinMap.{insert, entries}
 use Rattle.std.specs.declared.rc.RcStr.{RcStr}
 use Rattle.std.specs.Rc.{rc_str_bytes}
 use Rattle.nntp_article.specs.Article.Parts.{Id}
@@ -11,13 +11,9 @@ use Rattle.nntp_article.specs.Session.Spool.{Numbers}
 abbrev pub has_id : Numbers → Id → Bool
 has_id N id = list_any (λ e. bytes_eq e.1 id) (entries N)
 
--- neither the number nor the id is there
-abbrev pub is_free : Numbers → ℕ → Id → Bool
-is_free N n id = is_none (get N n) && not (has_id N id)
-
--- the numbers with one more, if neither it nor the id is there
+-- the numbers with one more, if its id is not there
 abbrev pub with_number : Numbers → ℕ → Id → Numbers
-with_number N n id = if is_free N n id then insert N n id else N
+with_number N n id = if has_id N id then N else insert N n id
 
 -- these are the ids of the numbers
 abbrev pub AreIdsOf : {A : Type 0} → List (RcStr A) → Numbers → Type 0

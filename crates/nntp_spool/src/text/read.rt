@@ -70,7 +70,7 @@ fn number_in(limit: u64, at: u64, line: &[u8]) -> Result<(u64, &str), ReadError>
 }
 
 /// Reads one more number of a group.
-#[tactic(auto, using(crate::proofs::NumberIds::id_in_the_way), unfolding(crate::specs::Reading::number_at))]
+#[tactic(auto, unfolding(crate::specs::Reading::number_at))]
 fn number_at<'a, A: Allocator + Copy>(
     alloc: A,
     limit: u64,

@@ -4,7 +4,7 @@ ghost use Rattle.std.specs.FinMap as map;
 ghost use Rattle.std.specs.Rc.{rc_str_bytes};
 ghost use Rattle.nntp_article.specs.Session.Spool.{numbers as numbers_of};
 ghost use Rattle.nntp_wire.specs.Limit.{greatest};
-ghost use Rattle.nntp_spool.specs.Building.{Builds, Admits, AdmitsBoth, group_fault, number_fault, article_fault, parts_fault, finished};
+ghost use Rattle.nntp_spool.specs.Building.{Builds, Admits, AdmitsBoth, group_fault, number_fault, place_fault, article_fault, parts_fault, finished};
 ghost use Rattle.nntp_spool.specs.Content.{with_group, with_article, no_spool};
 ghost use Rattle.nntp_spool.specs.ArticleLines.{text_of_article, text_stored, HasLineCount};
 ghost use Rattle.nntp_spool.specs.Text.{IsWritten};
@@ -63,7 +63,8 @@ fn group_name<'n, A: Allocator>(content: &Content<A>, name: &'n [u8]) -> Result<
     Ok(name)
 }
 
-/// Returns the group's name and the number's id as text, or why the number can't be added.
+/// Returns the group's name and the number's id as text, or why the number can't be added with any
+/// id.
 fn number_texts<'n, 'i, A: Allocator>(
     limit: u64,
     content: &Content<A>,
@@ -71,7 +72,7 @@ fn number_texts<'n, 'i, A: Allocator>(
     number: u64,
     id: &'i [u8],
 ) -> Result<(&'n str, &'i str), SpoolFault>
-    ensures { AdmitsBoth (number_fault limit content.now name.now number id.now) name.now id.now result }
+    ensures { AdmitsBoth (place_fault limit content.now name.now number id.now) name.now id.now result }
 {
     let Some((name, numbers)) = content.group_named(name) else {
         return Err(SpoolFault::UnknownGroup);
@@ -82,11 +83,8 @@ fn number_texts<'n, 'i, A: Allocator>(
     let Some(id) = id_of(id) else {
         return Err(SpoolFault::BadId);
     };
-    if numbers.id(number).is_some() {
+    if numbers.has_number(number) {
         return Err(SpoolFault::DuplicateNumber);
-    }
-    if numbers.has_some_id(id) {
-        return Err(SpoolFault::DuplicateId);
     }
     Ok((name, id))
 }
@@ -142,7 +140,7 @@ fn parts_fault<A: Allocator>(
     if !is_body {
         return Some(SpoolFault::BadBody);
     }
-    if content.has_article(id) {
+    if !content.is_new_article(id) {
         return Some(SpoolFault::DuplicateId);
     }
     None
@@ -213,6 +211,9 @@ impl<A: Allocator + Copy> SpoolBuilder<A> {
             return Err(SpoolFault::Failed);
         }
         let (name, id) = number_texts(self.limit.value(), &self.content, name, number, id)?;
+        if self.content.has_id(name, id) {
+            return Err(SpoolFault::DuplicateId);
+        }
         let Ok(id) = RcStr::from_str(self.alloc, id) else {
             self.failed = true;
             return Err(SpoolFault::Memory);
@@ -243,17 +244,22 @@ impl<A: Allocator + Copy> SpoolBuilder<A> {
         self.put_number(name, number, id)
     }
 
-    /// Adds a number with its id, where there is no fault.
+    /// Adds a number with its id, where no other number of the group has it.
     fn put_number(&mut self, name: &str, number: u64, id: &RcStr<A>) -> Result<(), SpoolFault>
-        requires faultless { number_fault (greatest self.old.limit) self.old.spool name.now number (rc_str_bytes id.now) ≡ None }
+        requires faultless { place_fault (greatest self.old.limit) self.old.spool name.now number (rc_str_bytes id.now) ≡ None }
         requires failed { self.old.failed ≡ false }
-        ensures { Builds None (with_group self.old.spool name.now (map.insert (numbers_of self.old.spool name.now) number (rc_str_bytes id.now))) result self.old self.new }
+        ensures { Builds (number_fault (greatest self.old.limit) self.old.spool name.now number (rc_str_bytes id.now))
+            (with_group self.old.spool name.now (map.insert (numbers_of self.old.spool name.now) number (rc_str_bytes id.now))) result self.old
+            self.new }
     {
-        let Ok(_) = self.content.put_number(name, number, id) else {
-            self.failed = true;
-            return Err(SpoolFault::Memory);
-        };
-        Ok(())
+        match self.content.put_number(name, number, id) {
+            Ok(true) => Ok(()),
+            Ok(false) => Err(SpoolFault::DuplicateId),
+            Err(_) => {
+                self.failed = true;
+                Err(SpoolFault::Memory)
+            }
+        }
     }
 
     /// Adds the article that a message-id names. It need not be in any group.

@@ -1,12 +1,12 @@
 //! Groups and articles, as they are taken in before all of a spool is there.
-ghost use Rattle.std.specs.Prelude.{◌≡◌, None, false, OnOk, OnErr, IfSome, option_map, option_copied, is_some};
+ghost use Rattle.std.specs.Prelude.{◌≡◌, None, false, not, OnOk, OnErr, IfOk, IfErr, IfSome, option_map, option_copied, is_some, is_none};
 ghost use Rattle.std.specs.FinMap as map;
 ghost use Rattle.std.specs.Rc.{rc_str_bytes};
 ghost use Rattle.std.specs.String.{string_bytes};
 ghost use Rattle.nntp_article.specs.Session.Spool.{IsGroup, numbers as numbers_of};
 ghost use Rattle.nntp_spool.specs.Counts.{numbers_in};
 ghost use Rattle.nntp_spool.specs.Ascending.{is_last};
-ghost use Rattle.nntp_spool.specs.Content.{with_group, with_article, all_known, ids_have_articles, no_spool};
+ghost use Rattle.nntp_spool.specs.Content.{with_group, with_number_in, with_article, all_known, ids_have_articles, no_spool};
 ghost use Rattle.nntp_spool.specs.Numbers.{has_id};
 ghost use Rattle.nntp_spool.specs.ArticleLines.{text_stored, HasLineCount};
 ghost use Rattle.nntp_spool.specs.Text.{HasLineCounts};
@@ -69,21 +69,24 @@ impl<A: Allocator + Copy> Content<A> {
         Ok(())
     }
 
-    /// Adds a number, with its id, to a group that is there and has neither.
+    /// Adds a number with its id to a group that is there and doesn't have the number, and answers
+    /// true. Where the group has the id already, it answers false and adds nothing.
     pub(crate) fn put_number(
         &mut self,
         name: &str,
         number: u64,
         id: &RcStr<A>,
-    ) -> Result<(), AllocError>
-        requires { IsGroup self.old name.now × (map.get (numbers_of self.old name.now) number ≡ None) × (has_id (numbers_of self.old name.now) (rc_str_bytes id.now) ≡ false) }
-        ensures ok { OnOk result (self.new ≡ with_group self.old name.now (map.insert (numbers_of self.old name.now) number (rc_str_bytes id.now))) }
+    ) -> Result<bool, AllocError>
+        requires { IsGroup self.old name.now × (map.get (numbers_of self.old name.now) number ≡ None) }
+        ensures added { IfOk result (λ added. added ≡ not (has_id (numbers_of self.old name.now) (rc_str_bytes id.now))) }
+        ensures ok { OnOk result (self.new ≡ with_number_in self.old name.now number (rc_str_bytes id.now)) }
+        ensures absent { IfErr result (λ e. has_id (numbers_of self.old name.now) (rc_str_bytes id.now) ≡ false) }
         ensures err { OnErr result (self.new ≡ self.old) }
     {
-        if let Some(group) = self.groups.get_mut(name) {
-            group.put(number, id)?;
-        }
-        Ok(())
+        let Some(group) = self.groups.get_mut(name) else {
+            return Ok(false);
+        };
+        group.put(number, id)
     }
 
     /// Adds an article, or puts it in the place of the one of its id.
@@ -136,6 +139,23 @@ impl<A: Allocator> Content<A> {
         ensures { result ≡ is_some (map.get self.now.articles id.now) }
     {
         self.articles.contains_key(id)
+    }
+
+    /// Tells whether the id has no article. One above all others isn't looked for.
+    pub(crate) fn is_new_article(&self, id: &str) -> bool
+        ensures { result ≡ is_none (map.get self.now.articles id.now) }
+    {
+        self.is_after_articles(id) || !self.has_article(id)
+    }
+
+    /// Tells whether a number of the group has the id.
+    pub(crate) fn has_id(&self, name: &str, id: &str) -> bool
+        ensures { result ≡ has_id (numbers_of self.now name.now) id.now }
+    {
+        match self.group(name) {
+            Some(numbers) => numbers.has_some_id(id),
+            None => false,
+        }
     }
 
     /// Tells whether the word is an id that has an article. A word that is no text is none.

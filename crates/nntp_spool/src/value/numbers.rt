@@ -1,11 +1,10 @@
 //! The numbers of one group, with the id at each.
-ghost use Rattle.std.specs.Prelude.{◌≡◌, ℕ, None, false, OnOk, OnErr, IfOk, option_copied, MatchOption, ◌≤◌};
+ghost use Rattle.std.specs.Prelude.{◌≡◌, ℕ, None, true, false, not, is_some, OnOk, OnErr, IfOk, IfErr, option_copied, MatchOption, ◌≤◌};
 ghost use Rattle.std.specs.FinMap as map;
 ghost use Rattle.std.specs.Rc.{rc_str_bytes};
 ghost use Rattle.nntp_article.specs.Session.Spool.{IsFirst, IsNextAbove, IsNextBelow, NoneAbove, NoneBelow, IsNumber};
 ghost use Rattle.nntp_spool.specs.Ascending.{is_last};
-ghost use Rattle.nntp_spool.specs.Numbers.{has_id};
-ghost use Rattle.nntp_spool.specs.Numbers.{is_free, with_number};
+ghost use Rattle.nntp_spool.specs.Numbers.{has_id, with_number};
 
 use std::alloc::{AllocError, Allocator, Global};
 use std::collections::{BTreeMap, BTreeSet};
@@ -51,37 +50,51 @@ impl<A: Allocator + Copy> Numbers<A> {
         }
     }
 
-    /// Adds a number with its id, and answers true. Where the number or the id is there already, it
-    /// answers false and adds nothing.
+    /// Adds a number above all others with its id, and answers true. Where the id is there already,
+    /// it answers false and adds nothing.
     pub(crate) fn insert(&mut self, alloc: A, number: u64, id: &str) -> Result<bool, AllocError>
-        ensures added { IfOk result (λ added. added ≡ is_free self.old number id.now) }
+        requires { is_last self.old number ≡ true }
+        ensures added { IfOk result (λ added. added ≡ not (has_id self.old id.now)) }
         ensures ok { OnOk result (self.new ≡ with_number self.old number id.now) }
-        ensures err { OnErr result (self.new ≡ self.old) }
     {
-        if self.id(number).is_some() || self.has_some_id(id) {
-            return Ok(false);
-        }
         let id = RcStr::from_str(alloc, id)?;
-        self.put(number, &id)?;
-        Ok(true)
+        self.put(number, &id)
     }
 
-    /// Adds a number with its id, of which neither is there.
-    pub(crate) fn put(&mut self, number: u64, id: &RcStr<A>) -> Result<(), AllocError>
-        requires { (map.get self.old number ≡ None) × (has_id self.old (rc_str_bytes id.now) ≡ false) }
-        ensures ok { OnOk result (self.new ≡ map.insert self.old number (rc_str_bytes id.now)) }
+    /// Adds a number that isn't there with its id, and answers true. Where the id is there already,
+    /// it answers false and adds nothing. Memory is refused to ids alone that aren't there.
+    pub(crate) fn put(&mut self, number: u64, id: &RcStr<A>) -> Result<bool, AllocError>
+        requires { map.get self.old number ≡ None }
+        ensures added { IfOk result (λ added. added ≡ not (has_id self.old (rc_str_bytes id.now))) }
+        ensures ok { OnOk result (self.new ≡ with_number self.old number (rc_str_bytes id.now)) }
+        ensures absent { IfErr result (λ e. has_id self.old (rc_str_bytes id.now) ≡ false) }
         ensures err { OnErr result (self.new ≡ self.old) }
     {
-        let held = id.clone()?;
-        self.known.insert(id.clone()?)?;
+        let Ok((held, known)) = handles(id) else {
+            return if self.has_some_id(id.as_str()) {
+                Ok(false)
+            } else {
+                Err(AllocError)
+            };
+        };
+        if !self.known.insert(known)? {
+            return Ok(false);
+        }
         match self.ids.insert(number, held) {
-            Ok(_) => Ok(()),
+            Ok(_) => Ok(true),
             Err(_) => {
                 self.known.remove(id.as_str());
                 Err(AllocError)
             }
         }
     }
+}
+
+/// Makes two handles of an id.
+fn handles<A: Allocator>(id: &RcStr<A>) -> Result<(RcStr<A>, RcStr<A>), AllocError>
+    ensures { IfOk result (λ h. (rc_str_bytes h.0 ≡ rc_str_bytes id.now) × (rc_str_bytes h.1 ≡ rc_str_bytes id.now)) }
+{
+    Ok((id.clone()?, id.clone()?))
 }
 
 impl<A: Allocator> Numbers<A> {
@@ -100,6 +113,13 @@ impl<A: Allocator> Numbers<A> {
             Some(id) => Some(id.as_str()),
             None => None,
         }
+    }
+
+    /// Tells whether there is the number. One above all others isn't looked for.
+    pub(crate) fn has_number(&self, number: u64) -> bool
+        ensures { result ≡ is_some (map.get self.now number) }
+    {
+        !self.is_after(number) && self.id(number).is_some()
     }
 
     /// Returns the least number.

@@ -2,7 +2,7 @@ use Rattle.std.proofs.Common.{subst, sym, ap, ◌∙◌}
 use Rattle.std.specs.Rc.{rc_str_bytes}
 use Rattle.nntp_wire.specs.Limit.{greatest}
 use Rattle.nntp_spool.specs.Content.{IsContent}
-use Rattle.nntp_spool.specs.Building.{number_fault}
+use Rattle.nntp_spool.specs.Building.{place_fault}
 use Rattle.nntp_spool.proofs.BuiltContent.{number_added}
 use Rattle.nntp_spool.proofs.value.builder.SpoolBuilder.put_number.Goals as goal
 
@@ -11,5 +11,13 @@ invariant_of-self g c =
     let S = c.self.inside.content in
     let limit = greatest c.self.inside.limit in
     let id = rc_str_bytes c.args.id.now in
-    let faultless = ap (λ b. number_fault (greatest b.limit) b.spool c.args.name.now c.args.number id) c.self.view_is ∙ c.requires.faultless in
-    subst (IsContent limit) (sym c.in-Ok.ensures.ok) (number_added limit S c.self.invariant c.args.name.now c.args.number id faultless)
+    let faultless = ap (λ b. place_fault (greatest b.limit) b.spool c.args.name.now c.args.number id) c.self.view_is ∙ c.requires.faultless in
+    subst (IsContent limit) (sym c.in-Ok-true.ensures.ok) (number_added limit S c.self.invariant c.args.name.now c.args.number id faultless)
+
+pub invariant_of-self-in-Ok-false : goal.invariant_of-self-in-Ok-false
+invariant_of-self-in-Ok-false g c =
+    let S = c.self.inside.content in
+    let limit = greatest c.self.inside.limit in
+    let id = rc_str_bytes c.args.id.now in
+    let faultless = ap (λ b. place_fault (greatest b.limit) b.spool c.args.name.now c.args.number id) c.self.view_is ∙ c.requires.faultless in
+    subst (IsContent limit) (sym c.in-Ok-false.ensures.ok) (number_added limit S c.self.invariant c.args.name.now c.args.number id faultless)

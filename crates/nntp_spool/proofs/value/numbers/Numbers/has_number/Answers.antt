@@ -1,0 +1,10 @@
+use Rattle.std.proofs.Common.{not, is_some, ap, sym, ◌∙◌}
+use Rattle.std.specs.Cmp.{nat_cmp_total}
+use Rattle.std.specs.FinMap as map
+use Rattle.nntp_spool.proofs.GreatestKeys.{absent_above}
+use Rattle.nntp_spool.proofs.value.numbers.Numbers.has_number.Goals as goal
+
+pub returns-else-not-is_after : goal.returns-else-not-is_after
+returns-else-not-is_after g c =
+    let after = c.if-not-is_after.false in
+    ap not after ∙ sym (ap is_some (absent_above nat_cmp_total map.nat_cmp-IsAntisymmetric c.args.self.now c.args.number (sym c.is_after.ensures ∙ after)))
