@@ -37,6 +37,13 @@ impl<A: Allocator> OwnedBlock<A> {
             sent: self.sent.as_slice(),
         }
     }
+
+    /// Takes all lines out. Their memory is kept for those that follow.
+    pub fn clear(&mut self)
+        ensures { self.new ≡ [] }
+    {
+        self.sent.clear();
+    }
 }
 
 impl<A: Allocator + Copy> OwnedBlock<A> {

@@ -20,6 +20,13 @@ use std::alloc::Allocator;
 use std::rc::RcStr;
 use std::string::String;
 
+/// The lines of the article that is read, in memory that is kept from one to the next.
+#[derive(Drop)]
+struct ArticleLines<A: Allocator> {
+    head: OwnedBlock<A>,
+    body: OwnedBlock<A>,
+}
+
 /// Reads one more line of an article.
 #[tactic(auto, unfolding(crate::specs::Reading::barred_line_at))]
 fn barred_line_at<'a, A: Allocator + Copy>(
@@ -36,20 +43,20 @@ fn barred_line_at<'a, A: Allocator + Copy>(
     Ok(next)
 }
 
-/// Reads so many lines of an article.
-fn barred_lines_at<A: Allocator + Copy>(
-    alloc: A,
+/// Reads so many lines of an article, in the place of those that were read before.
+fn barred_lines_at<'a, A: Allocator + Copy>(
+    lines: &mut OwnedBlock<A>,
     count: u64,
-    place: Place<'_>,
-) -> Result<(OwnedBlock<A>, Place<'_>), ReadError>
-    ensures { Gives (λ x. (x.0, place_shown x.1)) result (barred_lines_at count (place_shown place.entry)) }
+    place: Place<'a>,
+) -> Result<Place<'a>, ReadError>
+    ensures { Gives (λ next. (lines.new, place_shown next)) result (barred_lines_at count (place_shown place.entry)) }
 {
-    let mut lines = OwnedBlock::new(alloc);
+    lines.clear();
     let mut rest = place;
     for _ in 0..count {
-        rest = barred_line_at(&mut lines, rest)?;
+        rest = barred_line_at(lines, rest)?;
     }
-    Ok((lines, rest))
+    Ok(rest)
 }
 
 /// Reads the number and the id of a line.
@@ -140,6 +147,7 @@ fn article_at<'a, A: Allocator + Copy>(
     heads: u64,
     bodies: u64,
     content: &mut Content<A>,
+    lines: &mut ArticleLines<A>,
     place: Place<'a>,
 ) -> Result<Place<'a>, ReadError>
     ensures { Gives (λ next. (content.new, place_shown next)) result (article_at line id.now heads bodies content.old (place_shown place.entry)) }
@@ -150,12 +158,12 @@ fn article_at<'a, A: Allocator + Copy>(
     if !content.is_after_articles(id) {
         return Err(fault(line, Kind::Order));
     }
-    let (head, next) = barred_lines_at(alloc, heads, place)?;
-    let (body, next) = barred_lines_at(alloc, bodies, next)?;
-    if !is_block_head_of(id, &head) {
+    let next = barred_lines_at(&mut lines.head, heads, place)?;
+    let next = barred_lines_at(&mut lines.body, bodies, next)?;
+    if !is_block_head_of(id, &lines.head) {
         return Err(fault(line, Kind::Head));
     }
-    let article = StoredArticle::new(alloc, &head, &body)?;
+    let article = StoredArticle::new(alloc, &lines.head, &lines.body)?;
     content.put_article(RcStr::from_str(alloc, id)?, article)?;
     Ok(next)
 }
@@ -182,6 +190,7 @@ fn item_at<'a, A: Allocator + Copy>(
     limit: u64,
     articles: bool,
     content: &mut Content<A>,
+    lines: &mut ArticleLines<A>,
     place: Place<'a>,
 ) -> Result<Turn<'a>, ReadError>
     ensures { Gives (turn_shown content.new) result (item_at limit articles content.old (place_shown place.entry)) }
@@ -202,7 +211,7 @@ fn item_at<'a, A: Allocator + Copy>(
             })
         }
         Opening::Article { id, heads, bodies } => {
-            let place = article_at(alloc, place.line, id, heads, bodies, content, next)?;
+            let place = article_at(alloc, place.line, id, heads, bodies, content, lines, next)?;
             Ok(Turn::On {
                 articles: true,
                 place,
@@ -218,6 +227,7 @@ fn items_at<'a, A: Allocator + Copy>(
     limit: u64,
     most: u64,
     content: &mut Content<A>,
+    lines: &mut ArticleLines<A>,
     place: Place<'a>,
 ) -> Result<Place<'a>, ReadError>
     ensures { Gives (λ next. (content.new, place_shown next)) result (items_at limit most false content.old (place_shown place.entry)) }
@@ -225,7 +235,7 @@ fn items_at<'a, A: Allocator + Copy>(
     let mut articles = false;
     let mut rest = place;
     for _ in 0..most {
-        match item_at(alloc, limit, articles, content, rest)? {
+        match item_at(alloc, limit, articles, content, lines, rest)? {
             Turn::On {
                 articles: behind,
                 place,
@@ -250,7 +260,11 @@ fn content_at<A: Allocator + Copy>(
     ensures { Gives (λ content. content) result (content_at limit most (place_shown place.entry)) }
 {
     let mut content = Content::new(alloc);
-    let end = items_at(alloc, limit, most, &mut content, place)?;
+    let mut lines = ArticleLines {
+        head: OwnedBlock::new(alloc),
+        body: OwnedBlock::new(alloc),
+    };
+    let end = items_at(alloc, limit, most, &mut content, &mut lines, place)?;
     if !end.rest.is_empty() {
         return Err(fault(end.line, Kind::Shape));
     }
