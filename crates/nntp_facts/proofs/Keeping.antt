@@ -24,6 +24,7 @@ pub mod SaidOfArticles
 pub mod KeptArticles
 pub mod KeptIds
 pub mod NotedArticles
+pub mod NamedArticles
 pub mod NotedExchange
 pub mod ShownNames
 pub mod ListedNames

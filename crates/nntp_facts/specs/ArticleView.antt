@@ -1,5 +1,5 @@
 -- What the code's values keep of articles.
-use Rattle.std.specs.Prelude.{false, List, Option, option_map, map, refl}
+use Rattle.std.specs.Prelude.{Bool, true, false, List, Option, None, Some, option_map, map, refl}
 use Rattle.std.specs.Coded.{Coded, code_by, coded×, coded_ℕ, coded_list, coded_option, coded_bool}
 use Rattle.std.specs.declared.rc.Rc.{Rc}
 use Rattle.std.specs.declared.rc.RcStr.{RcStr}
@@ -7,6 +7,8 @@ use Rattle.std.specs.Rc.{rc_str_bytes}
 use Rattle.nntp_article.specs.Article.Parts.{Id, Line}
 use Rattle.nntp_facts.specs.Kept.{KeptArticle}
 use Rattle.nntp_facts.specs.declared.articles.known.KnownArticle.{KnownArticle}
+use Rattle.nntp_facts.specs.declared.articles.added.Added.{Added}
+use Rattle.nntp_facts.specs.declared.articles.added.Added.TheVariants.{Never, Unnamed, Named}
 
 -- the lines of a block that is held, if there is one
 abbrev pub lines_held : {A : Type 0} → Option (Rc (List Line) A) → Option (List Line)
@@ -19,6 +21,16 @@ known_article s = record { is_denied = false; is_sent = s.is_sent; head = lines_
 -- what is kept of articles, one after the other
 abbrev pub entries_value : {A : Type 0} → List (RcStr A × KnownArticle A) → List (Id × KeptArticle)
 entries_value entries = map (λ e. (rc_str_bytes e.0, known_article e.1)) entries
+
+-- what is said of an id is added
+abbrev pub is_added : {A : Type 0} → Added A → Bool
+is_added Never = false
+is_added added = true
+
+-- the octets of the text that is handed back
+abbrev pub text_of : {A : Type 0} → Added A → Option Id
+text_of (Named text) = Some (rc_str_bytes text)
+text_of added = None
 
 abbrev pub coded_kept : Coded KeptArticle
 coded_kept =

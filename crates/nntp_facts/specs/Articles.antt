@@ -1,5 +1,5 @@
 -- How one more fact fits in with what is kept of articles.
-use Rattle.std.specs.Prelude.{◌≡◌, Bool, true, false, not, if◌then◌else◌, List, [], ◌∷◌, Option, None, Some, IfSome, MatchOption, is_some}
+use Rattle.std.specs.Prelude.{◌≡◌, Bool, true, false, not, if◌then◌else◌, List, [], ◌∷◌, Option, None, Some, IfSome, is_some}
 use Rattle.std.specs.List.{filter}
 use Rattle.std.specs.Option.{option_or, option_map_or}
 use Rattle.std.specs.Ordering.{nat_cmp}
@@ -58,11 +58,6 @@ with_new articles id a = if is_some (get articles id) then articles else insert 
 abbrev pub with_denied : FinMap (slice_cmp nat_cmp) KeptArticle → List Id → FinMap (slice_cmp nat_cmp) KeptArticle
 with_denied articles [] = articles
 with_denied articles (id ∷ ids) = with_new (with_denied articles ids) id denied
-
--- of an id that has no article, a is kept from now on, if the id may have one: if it isn't denied
-abbrev pub IsKeptUnlessDenied : FinMap (slice_cmp nat_cmp) KeptArticle → FinMap (slice_cmp nat_cmp) KeptArticle → Id → KeptArticle → Bool → Type 0
-IsKeptUnlessDenied old new id a may =
-    is_there (get old id) ≡ false → MatchOption (get old id) ((may ≡ true) × (new ≡ insert old id a)) (λ b. (may ≡ false) × (new ≡ old))
 
 -- the ids that have articles, of all that are kept
 abbrev pub articles_in : List (Id × KeptArticle) → List (Id × KeptArticle)

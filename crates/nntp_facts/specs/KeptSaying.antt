@@ -8,7 +8,7 @@ use Rattle.nntp_article.specs.Session.Machine.{head_fits}
 use Rattle.nntp_facts.specs.Asks.{Ask}
 use Rattle.nntp_facts.specs.Facts.{Fact, IdAt, TextIs, NoArticle}
 use Rattle.nntp_facts.specs.Given.{asks_of, is_shown_group}
-use Rattle.nntp_facts.specs.Together.{AsksStand, denies_group}
+use Rattle.nntp_facts.specs.Together.{AsksStand, denies_group, shows_article}
 use Rattle.nntp_facts.specs.Part.{only_has}
 use Rattle.nntp_facts.specs.Saying.{OfGroup, OfArticle, Lacks, Exists, Sends, Saying, asked_id}
 use Rattle.nntp_facts.specs.Kept.{KeptGroup, told, MayShow}
@@ -30,6 +30,15 @@ pub record JoinGroups (facts : List Fact) (s : Saying) (asks : List Ask) : Type 
   pub group : IfSome s.group (GroupJoins facts asks)
 
 -- ---- of an id
+
+-- the text is that of the id, where a number is said to have one
+abbrev pub IsTextOf : Option Id → Option (ℕ × Id) → Type 0
+IsTextOf text id = IfSome id (λ e. text ≡ Some e.1)
+
+-- where no more is said of an id than that it has an article, it was said before that it has
+abbrev pub IsThereAlready : List Fact → Option (Id × OfArticle) → Type 0
+IsThereAlready facts (Some (id, Exists)) = IsTrue (list_any (shows_article id) facts)
+IsThereAlready facts article = ⊤
 
 -- the lines are a head, where a head is sent
 abbrev pub MayBeSaid : Id × OfArticle → Type 0

@@ -1,28 +1,34 @@
 //! What answers say of articles.
-ghost use Rattle.std.specs.Prelude.{◌≡◌, ℕ, IsTrue, List, IfOk, OnOk, is_some};
+ghost use Rattle.std.specs.Prelude.{◌≡◌, ◌≢◌, ℕ, false, Some, IsTrue, List, Option, IfOk, OnOk, is_some};
+ghost use Rattle.std.specs.Option.{option_map_or};
 ghost use Rattle.std.specs.FinMap as map;
 ghost use Rattle.std.specs.BTreeMap.{get_by};
 ghost use Rattle.std.specs.Ordering.{nat_cmp};
 ghost use Rattle.std.specs.Cmp.Lexicographic.{slice_cmp};
 ghost use Rattle.std.specs.Rc.{rc_str_bytes};
+ghost use Rattle.nntp_wire.specs.declared.command.What.{What};
+ghost use Rattle.nntp_article.specs.Article.Parts.{Id, Line};
 ghost use Rattle.nntp_article.specs.Session.Spool.{Name};
-ghost use Rattle.nntp_article.specs.Session.Machine.{head_fits};
 ghost use Rattle.nntp_facts.specs.Facts.{Fact, IdAt, TextIs, NoArticle};
 ghost use Rattle.nntp_facts.specs.Given.{is_mentioned};
-ghost use Rattle.nntp_facts.specs.Articles.{is_there, denied, with_new, IsKeptUnlessDenied};
+ghost use Rattle.nntp_facts.specs.Articles.{head_sent, body_sent, is_there, denied, with_new};
 ghost use Rattle.nntp_facts.specs.Kept.{AreKeptArticles, IsFactAdded};
 ghost use Rattle.nntp_facts.specs.KeptSaying.{MayBeSaid, article_fact};
+ghost use Rattle.nntp_facts.specs.Saying.{IsToExist};
 ghost use Rattle.nntp_facts.specs.SayingView.{article_said};
 ghost use Rattle.nntp_facts.specs.Readers.{shown_articles};
-ghost use Rattle.nntp_facts.specs.ArticleView.{known_article};
+ghost use Rattle.nntp_facts.specs.ArticleView.{is_added, text_of};
+ghost use Rattle.nntp_facts.specs.declared.joins.Joins.TheVariants.{Again};
 
+mod added;
 mod known;
 mod shown_articles;
 
+use crate::joins::Joins;
 use crate::saying::ArticlePart;
+pub(crate) use added::Added;
 use known::KnownArticle;
 pub(crate) use known::Sent;
-use nntp_wire::{Block, What};
 pub use shown_articles::{ShownArticle, ShownArticles};
 use std::alloc::{AllocError, Allocator, Global};
 use std::collections::{BTreeMap, BTreeSet};
@@ -74,6 +80,13 @@ impl<A: Allocator> Articles<A> {
         has_key(&self.known, id)
     }
 
+    /// Tells whether the id is said to have no article.
+    fn is_denied(&self, id: &str) -> bool
+        ensures { result ≡ option_map_or (λ a. a.is_denied) (map.get self.now id.now) false }
+    {
+        self.denied.contains(id.as_bytes()) && !self.has(id)
+    }
+
     /// Tells whether the id has an article.
     fn has(&self, id: &str) -> bool
         ensures { result ≡ is_there (map.get self.now id.now) }
@@ -103,58 +116,89 @@ impl<A: Allocator + Copy> Articles<A> {
         }
     }
 
-    /// Returns a handle of the id's text: of the one that is held already, where the id has an article.
-    pub(crate) fn handle(&self, id: &str) -> Result<RcStr<A>, AllocError>
-        ensures { IfOk result (λ handle. rc_str_bytes handle ≡ id.now) }
-    {
-        match self.known.get_key_value(id) {
-            Some((text, _)) => Ok(text.clone()?),
-            None => RcStr::from_str(self.alloc, id),
-        }
-    }
-
-    /// Adds what is said of an id, if it may be so, and tells whether it may. After an error the articles
-    /// say nothing of use.
-    pub(crate) fn note(&mut self, part: &ArticlePart<'_>) -> Result<bool, AllocError>
-        ensures { IfOk result (λ does. (facts : List Fact) (name : Name) (n : ℕ) → AreKeptArticles facts self.old → MayBeSaid (article_said part.now)
-            → IsFactAdded facts (article_fact name n (article_said part.now)) self.old self.new does) }
+    /// Adds what is said of an id, if it may be so. The text of an id that has an article is handed back,
+    /// but where what is said of its number is kept already. After an error the articles say nothing of use.
+    pub(crate) fn note(
+        &mut self,
+        joins: Joins,
+        part: &ArticlePart<'_>,
+    ) -> Result<Added<A>, AllocError>
+        ensures added { IfOk result (λ added. (facts : List Fact) (name : Name) (n : ℕ) → AreKeptArticles facts self.old → MayBeSaid (article_said part.now)
+            → IsFactAdded facts (article_fact name n (article_said part.now)) self.old self.new (is_added added)) }
+        ensures text { IfOk result (λ added. joins ≢ Again → IsTrue (is_added added) → (id : Id) → IsToExist (Some (article_said part.now)) id → text_of added ≡ Some id) }
     {
         match part {
-            ArticlePart::Lacks(id) => self.note_lack(*id),
+            ArticlePart::Lacks(id) => Ok(Added::unnamed_if(self.note_lack(*id)?)),
             ArticlePart::Exists(id) => self.note_there(*id),
-            ArticlePart::Sends { id, what, block } => self.note_sent(*what, *id, *block),
+            ArticlePart::Sends { id, what, block } => {
+                self.note_sent(joins, *id, &Sent::of(*what, *block))
+            }
         }
     }
 
-    /// Adds that this is sent of the id's article, if it may be so, and tells whether it may. After an
-    /// error the articles say nothing of use.
+    /// Adds that this is sent of the id's article, if it may be so: to what is known of the article, which
+    /// is looked up first where the number of the id isn't new. After an error the articles say nothing of use.
     fn note_sent(
         &mut self,
-        what: What,
+        joins: Joins,
         id: &str,
-        block: &Option<Block<'_>>,
-    ) -> Result<bool, AllocError>
-        ensures { IfOk result (λ does. (facts : List Fact) → AreKeptArticles facts self.old → IsTrue (head_fits what id.now block.now)
-            → IsFactAdded facts (TextIs what id.now block.now) self.old self.new does) }
+        sent: &Sent<'_>,
+    ) -> Result<Added<A>, AllocError>
+        ensures added { IfOk result (λ added. (facts : List Fact) (what : What) (lines : Option (List Line)) → AreKeptArticles facts self.old
+            → sent.now.head ≡ head_sent what lines → sent.now.body ≡ body_sent what lines
+            → IsFactAdded facts (TextIs what id.now lines) self.old self.new (is_added added)) }
+        ensures text { IfOk result (λ added. joins ≢ Again → IsTrue (is_added added) → text_of added ≡ Some id.now) }
     {
-        let sent = Sent::of(what, block);
-        if let Some(article) = self.known.get_mut(id) {
-            return article.note(self.alloc, &sent);
+        match joins {
+            Joins::Again => self.send_again(id, sent),
+            _ => self.send(id, sent),
         }
-        let article = KnownArticle::of_sent(self.alloc, &sent)?;
-        self.add(id, article)
     }
 
-    /// Adds that the id has an article, if it may be so, and tells whether it may. After an error the
-    /// articles say nothing of use.
-    fn note_there(&mut self, id: &str) -> Result<bool, AllocError>
-        ensures { IfOk result (λ does. (facts : List Fact) (name : Name) (n : ℕ) → AreKeptArticles facts self.old
-            → IsFactAdded facts (IdAt name n id.now) self.old self.new does) }
+    /// Adds that this is sent of the id's article, which is likely to be known, if it may be so. After an
+    /// error the articles say nothing of use.
+    fn send_again(&mut self, id: &str, sent: &Sent<'_>) -> Result<Added<A>, AllocError>
+        ensures { IfOk result (λ added. (facts : List Fact) (what : What) (lines : Option (List Line)) → AreKeptArticles facts self.old
+            → sent.now.head ≡ head_sent what lines → sent.now.body ≡ body_sent what lines
+            → IsFactAdded facts (TextIs what id.now lines) self.old self.new (is_added added)) }
     {
-        if self.has(id) {
-            return Ok(true);
+        if let Some(article) = self.known.get_mut(id) {
+            return Ok(Added::unnamed_if(article.note(self.alloc, sent)?));
         }
-        self.add(id, KnownArticle::unsent())
+        self.send(id, sent)
+    }
+
+    /// Adds that this is sent of the id's article, if it may be so, and hands back the id's text. After an
+    /// error the articles say nothing of use.
+    fn send(&mut self, id: &str, sent: &Sent<'_>) -> Result<Added<A>, AllocError>
+        ensures added { IfOk result (λ added. (facts : List Fact) (what : What) (lines : Option (List Line)) → AreKeptArticles facts self.old
+            → sent.now.head ≡ head_sent what lines → sent.now.body ≡ body_sent what lines
+            → IsFactAdded facts (TextIs what id.now lines) self.old self.new (is_added added)) }
+        ensures text { IfOk result (λ added. IsTrue (is_added added) → text_of added ≡ Some id.now) }
+    {
+        if self.is_denied(id) {
+            return Ok(Added::Never);
+        }
+        let entry = self.known.entry(RcStr::from_str(self.alloc, id)?)?;
+        let text = entry.key().clone()?;
+        let article = entry.or_insert(KnownArticle::unsent());
+        Ok(Added::named_if(article.note(self.alloc, sent)?, text))
+    }
+
+    /// Adds that the id has an article, if it may be so, and hands back the id's text. After an error the
+    /// articles say nothing of use.
+    fn note_there(&mut self, id: &str) -> Result<Added<A>, AllocError>
+        ensures added { IfOk result (λ added. (facts : List Fact) (name : Name) (n : ℕ) → AreKeptArticles facts self.old
+            → IsFactAdded facts (IdAt name n id.now) self.old self.new (is_added added)) }
+        ensures text { IfOk result (λ added. IsTrue (is_added added) → text_of added ≡ Some id.now) }
+    {
+        if self.is_denied(id) {
+            return Ok(Added::Never);
+        }
+        let entry = self.known.entry(RcStr::from_str(self.alloc, id)?)?;
+        let text = entry.key().clone()?;
+        entry.or_insert(KnownArticle::unsent());
+        Ok(Added::Named(text))
     }
 
     /// Adds that the id has no article, if it may be so, and tells whether it may. After an error the
@@ -166,18 +210,6 @@ impl<A: Allocator + Copy> Articles<A> {
             return Ok(false);
         }
         self.deny(id)?;
-        Ok(true)
-    }
-
-    /// Adds the first that is known of an id's article, if the id isn't denied, and tells whether it isn't.
-    fn add(&mut self, id: &str, article: KnownArticle<A>) -> Result<bool, AllocError>
-        ensures { IfOk result (λ may. IsKeptUnlessDenied self.old self.new id.now (known_article article) may) }
-    {
-        if self.denied.contains(id.as_bytes()) {
-            return Ok(false);
-        }
-        self.known
-            .insert(RcStr::from_str(self.alloc, id)?, article)?;
         Ok(true)
     }
 

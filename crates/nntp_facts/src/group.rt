@@ -10,10 +10,9 @@ ghost use Rattle.nntp_facts.specs.PartView.{said};
 ghost use Rattle.nntp_facts.specs.SayingView.{id_at, of_group};
 ghost use Rattle.nntp_facts.specs.Summary.{IsSummary, AreBounded};
 ghost use Rattle.nntp_facts.specs.Kept.{Agree, IsFree, MayHave, ids_with, places_with};
-ghost use Rattle.nntp_facts.specs.KeptSaying.{HasSaid};
+ghost use Rattle.nntp_facts.specs.KeptSaying.{HasSaid, IsTextOf};
 ghost use Rattle.nntp_facts.specs.Readers.{unseen_in, unseen_high_in};
 
-use crate::articles::Articles;
 use crate::numbers::Numbers;
 use crate::saying::{GroupPart, IdAt};
 use crate::shown::find;
@@ -59,55 +58,55 @@ impl<A: Allocator + Copy> Group<A> {
         }
     }
 
-    /// Adds what is said of the group; the text of an id is that of the articles, where they have it. After
-    /// an error the value says nothing of use.
+    /// Adds what is said of the group, with the text of the id that a number has. After an error the
+    /// value says nothing of use.
     pub(crate) fn add(
         &mut self,
         part: &GroupPart<'_>,
-        articles: &Articles<A>,
+        text: Option<RcStr<A>>,
     ) -> Result<(), AllocError>
         ensures numbers { OnOk result ((asks more : List Ask) → IsSummary self.old.numbers asks → Says (said part.now.numbers) more → IsSummary self.new.numbers (asks ++ more)) }
-        ensures ids { OnOk result (Agree (get self.old.ids) (get self.old.places) (id_at part.now.id) → MayHave self.old.ids self.old.places (id_at part.now.id)
+        ensures ids { OnOk result (IsTextOf (option_map (λ text. rc_str_bytes text) text) (id_at part.now.id) → Agree (get self.old.ids) (get self.old.places) (id_at part.now.id) → MayHave self.old.ids self.old.places (id_at part.now.id)
             → (self.new.ids ≡ ids_with self.old.ids (id_at part.now.id)) × (self.new.places ≡ places_with self.old.places (id_at part.now.id))) }
     {
         self.numbers.add(&part.numbers)?;
-        self.add_id(part.id, articles)
+        self.add_id(part.id, text)
     }
 
-    /// Adds that the number has the id, if it may have it. After an error the value says nothing of use.
-    fn add_id(&mut self, id: Option<IdAt<'_>>, articles: &Articles<A>) -> Result<(), AllocError>
+    /// Adds that the number has the id of this text, if it may have it. After an error the value says
+    /// nothing of use.
+    fn add_id(&mut self, id: Option<IdAt<'_>>, text: Option<RcStr<A>>) -> Result<(), AllocError>
         ensures numbers { self.new.numbers ≡ self.old.numbers }
-        ensures ids { OnOk result (Agree (get self.old.ids) (get self.old.places) (id_at id.entry) → MayHave self.old.ids self.old.places (id_at id.entry)
+        ensures ids { OnOk result (IsTextOf (option_map (λ text. rc_str_bytes text) text) (id_at id.entry) → Agree (get self.old.ids) (get self.old.places) (id_at id.entry) → MayHave self.old.ids self.old.places (id_at id.entry)
             → (self.new.ids ≡ ids_with self.old.ids (id_at id.entry)) × (self.new.places ≡ places_with self.old.places (id_at id.entry))) }
     {
-        match id {
-            Some(at) => self.add_id_at(at, articles),
-            None => Ok(()),
+        match (id, text) {
+            (Some(at), Some(text)) => self.add_id_at(at.number, text),
+            _ => Ok(()),
         }
     }
 
-    /// Adds that the number has the id, if it may have it. Nothing is added where an id is shown at
-    /// the number already. After an error the value says nothing of use.
-    fn add_id_at(&mut self, at: IdAt<'_>, articles: &Articles<A>) -> Result<(), AllocError>
+    /// Adds that the number has the id of this text, if it may have it. Nothing is added where an id is
+    /// shown at the number already. After an error the value says nothing of use.
+    fn add_id_at(&mut self, number: u64, id: RcStr<A>) -> Result<(), AllocError>
         ensures numbers { self.new.numbers ≡ self.old.numbers }
-        ensures ids { OnOk result (Agree (get self.old.ids) (get self.old.places) (Some (at.entry.number, at.entry.id.now))
-            → IsFree (get self.old.ids at.entry.number) (get self.old.places at.entry.id.now) (at.entry.number, at.entry.id.now)
-            → (self.new.ids ≡ insert self.old.ids at.entry.number at.entry.id.now) × (self.new.places ≡ insert self.old.places at.entry.id.now at.entry.number)) }
+        ensures ids { OnOk result (Agree (get self.old.ids) (get self.old.places) (Some (number, rc_str_bytes id))
+            → IsFree (get self.old.ids number) (get self.old.places (rc_str_bytes id)) (number, rc_str_bytes id)
+            → (self.new.ids ≡ insert self.old.ids number (rc_str_bytes id)) × (self.new.places ≡ insert self.old.places (rc_str_bytes id) number)) }
     {
-        if self.id(at.number).is_some() {
+        if self.id(number).is_some() {
             return Ok(());
         }
-        self.identify(at, articles)
+        self.identify(number, id)
     }
 
     /// Adds that the number has the id. After an error the value says nothing of use.
-    fn identify(&mut self, at: IdAt<'_>, articles: &Articles<A>) -> Result<(), AllocError>
+    fn identify(&mut self, number: u64, id: RcStr<A>) -> Result<(), AllocError>
         ensures numbers { self.new.numbers ≡ self.old.numbers }
-        ensures ids { OnOk result ((self.new.ids ≡ insert self.old.ids at.entry.number at.entry.id.now) × (self.new.places ≡ insert self.old.places at.entry.id.now at.entry.number)) }
+        ensures ids { OnOk result ((self.new.ids ≡ insert self.old.ids number (rc_str_bytes id)) × (self.new.places ≡ insert self.old.places (rc_str_bytes id) number)) }
     {
-        let id = articles.handle(at.id)?;
-        self.ids.insert(at.number, id.clone()?)?;
-        self.places.insert(id, at.number)?;
+        self.ids.insert(number, id.clone()?)?;
+        self.places.insert(id, number)?;
         Ok(())
     }
 }

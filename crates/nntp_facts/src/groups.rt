@@ -1,20 +1,21 @@
 //! What answers say of groups.
-ghost use Rattle.std.specs.Prelude.{◌≡◌, ◌↔◌, false, List, ◌++◌, IsTrue, OnOk, option_copied};
+ghost use Rattle.std.specs.Prelude.{◌≡◌, ◌↔◌, false, List, ◌++◌, IsTrue, MatchOption, OnOk, option_copied, option_map};
 ghost use Rattle.std.specs.FinMap as map;
+ghost use Rattle.std.specs.Rc.{rc_str_bytes};
 ghost use Rattle.nntp_article.specs.Session.Spool.{Name};
 ghost use Rattle.nntp_facts.specs.Asks.{Ask};
 ghost use Rattle.nntp_facts.specs.Together.{AsksStand};
 ghost use Rattle.nntp_facts.specs.Part.{Says};
 ghost use Rattle.nntp_facts.specs.PartView.{said};
-ghost use Rattle.nntp_facts.specs.SayingView.{id_at};
+ghost use Rattle.nntp_facts.specs.SayingView.{id_at, of_group};
 ghost use Rattle.nntp_facts.specs.Summary.{AreBounded};
 ghost use Rattle.nntp_facts.specs.Kept.{joins_at_all, Told, AreKept, Agree, IsShownAt, MayShow, AreKeptWith};
+ghost use Rattle.nntp_facts.specs.KeptSaying.{IsTextOf, HasSaid};
 ghost use Rattle.nntp_facts.specs.declared.joins.Joins.TheVariants.{Again};
 ghost use Rattle.nntp_facts.specs.Readers.{shown_groups};
 
 mod listed;
 
-use crate::articles::Articles;
 use crate::group::Group;
 use crate::joins::Joins;
 use crate::saying::GroupPart;
@@ -23,6 +24,7 @@ pub(crate) use listed::{is_unlisted, names_of};
 use std::alloc::{AllocError, Allocator, Global};
 use std::collections::BTreeMap;
 use std::marker::Model;
+use std::rc::RcStr;
 
 /// The groups that are shown, by their names, with what is kept of each.
 #[derive(Drop)]
@@ -57,23 +59,23 @@ impl<A: Allocator + Copy> Groups<A> {
         }
     }
 
-    /// Adds what is said of a group, which is shown from now on; the text of an id is that of the articles,
-    /// where they have it. After an error the value says nothing of use.
+    /// Adds what is said of a group, which is shown from now on, with the text of the id that a number has.
+    /// After an error the value says nothing of use.
     pub(crate) fn add(
         &mut self,
         part: &GroupPart<'_>,
-        articles: &Articles<A>,
+        text: Option<RcStr<A>>,
     ) -> Result<(), AllocError>
-        ensures { OnOk result ((before : Name → Told) (asks : List Ask) → AreKept before self.old → Says (said part.now.numbers) asks → ((before part.now.name.now).is_shown ≡ false → AreBounded asks)
+        ensures { OnOk result ((before : Name → Told) (asks : List Ask) → IsTextOf (option_map (λ text. rc_str_bytes text) text) (id_at part.now.id) → AreKept before self.old → Says (said part.now.numbers) asks → ((before part.now.name.now).is_shown ≡ false → AreBounded asks)
             → Agree (before part.now.name.now).ids (before part.now.name.now).places (id_at part.now.id)
             → MayShow (before part.now.name.now) (id_at part.now.id)
             → AreKeptWith before part.now.name.now asks (id_at part.now.id) self.new) }
     {
         if let Some(group) = self.groups.get_mut(part.name) {
-            return group.add(part, articles);
+            return group.add(part, text);
         }
         let mut group = Group::new(self.alloc);
-        group.add(part, articles)?;
+        group.add(part, text)?;
         self.put(part.name, group)
     }
 
@@ -96,6 +98,7 @@ impl<A: Allocator + Copy> Groups<A> {
         ensures again { result ≡ Again → (tells : Name → Told) (asks : List Ask) → AreKept tells self.now → Says (said part.now.numbers) asks
             → Agree (tells part.now.name.now).ids (tells part.now.name.now).places (id_at part.now.id) → IsShownAt (tells part.now.name.now) (id_at part.now.id)
             → AreKeptWith tells part.now.name.now asks (id_at part.now.id) self.now }
+        ensures said { result ≡ Again → MatchOption (map.get self.now part.now.name.now) ⊥ (λ group. HasSaid group (of_group part.now)) }
     {
         match self.get(part.name) {
             Some(group) if group.has_said(part) => Joins::Again,

@@ -1,24 +1,27 @@
 //! What is kept of all answers of a session.
-ghost use Rattle.std.specs.Prelude.{◌≡◌, ◌↔◌, ◌++◌, [], false, None, List, ℕ, IsTrue, IsFalse, IfSome, IfOk, OnOk, option_map};
+ghost use Rattle.std.specs.Prelude.{◌≡◌, ◌≢◌, ◌↔◌, ◌++◌, [], false, None, Some, List, ℕ, IsTrue, IsFalse, IfSome, IfOk, OnOk, option_map};
 ghost use Rattle.std.specs.List.{AllByRecursion, list_any};
 ghost use Rattle.std.specs.Option.{option_map_or};
+ghost use Rattle.std.specs.Rc.{rc_str_bytes};
+ghost use Rattle.nntp_article.specs.Article.Parts.{Id};
 ghost use Rattle.nntp_article.specs.Session.Spool.{Name};
 ghost use Rattle.nntp_article.specs.Session.Machine.{is_same};
 ghost use Rattle.nntp_facts.specs.Asks.{Ask};
 ghost use Rattle.nntp_facts.specs.Facts.{Fact};
 ghost use Rattle.nntp_facts.specs.Given.{is_shown_group, is_mentioned};
 ghost use Rattle.nntp_facts.specs.Together.{IsWellFormed, denies_group, Together, JoinArticles};
-ghost use Rattle.nntp_facts.specs.Saying.{Saying as SayingValue, facts_in, MaySay, Tells};
+ghost use Rattle.nntp_facts.specs.Saying.{Saying as SayingValue, facts_in, IsToExist, MaySay, Tells};
 ghost use Rattle.nntp_facts.specs.SayingView.{of_group, article_said, saying_of};
+ghost use Rattle.nntp_facts.specs.ArticleView.{is_added, text_of};
 ghost use Rattle.nntp_facts.specs.Kept.{joins_at_all, IsKept, IsAddedIf, AreKeptGroups, AreKeptNames, AreKeptArticles, AreAdded};
 ghost use Rattle.nntp_facts.specs.declared.joins.Joins.TheVariants.{Again};
 ghost use Rattle.nntp_facts.specs.Readers.{shown_groups, shown_articles};
-ghost use Rattle.nntp_facts.specs.KeptSaying.{GroupJoins, JoinGroups, MayBeSaid, article_facts};
+ghost use Rattle.nntp_facts.specs.KeptSaying.{GroupJoins, JoinGroups, IsTextOf, IsThereAlready, MayBeSaid, article_facts};
 
 mod listed_groups;
 mod told;
 
-use crate::articles::{Articles, ShownArticles};
+use crate::articles::{Added, Articles, ShownArticles};
 use crate::groups::Groups;
 use crate::joins::Joins;
 use crate::names::Names;
@@ -27,6 +30,7 @@ use crate::shown_groups::ShownGroups;
 use nntp_wire::GroupName;
 use std::alloc::{AllocError, Allocator, Global};
 use std::marker::Model;
+use std::rc::RcStr;
 
 /// What is kept of all that the answers so far say of the spool.
 #[derive(Drop)]
@@ -83,25 +87,33 @@ impl<A: Allocator + Copy> Kept<A> {
         if !joins.at_all() {
             return Ok(false);
         }
-        if !self.note_article(&saying.article)? {
+        let added = self.note_article(joins, &saying.article)?;
+        if !added.at_all() {
             return Ok(false);
         }
         self.deny(saying.there_is_no)?;
-        self.add_new_group(joins, &saying.group)?;
+        self.add_new_group(joins, &saying.group, added.text())?;
         Ok(true)
     }
 
-    /// Adds what is said of an id, if it may be so, and tells whether it may. After an error the
-    /// value says nothing of use.
-    fn note_article(&mut self, article: &Option<ArticlePart<'_>>) -> Result<bool, AllocError>
+    /// Adds what is said of an id, if it may be so: nothing, where the id is said to be at a number and is
+    /// kept there. After an error the value says nothing of use.
+    fn note_article(
+        &mut self,
+        joins: Joins,
+        article: &Option<ArticlePart<'_>>,
+    ) -> Result<Added<A>, AllocError>
         ensures rest { (self.new.groups ≡ self.old.groups) × (self.new.names ≡ self.old.names) }
-        ensures added { IfOk result (λ does. (facts : List Fact) (name : Name) (n : ℕ) → AreKeptArticles facts self.old.articles → IfSome (option_map article_said article.now) MayBeSaid
+        ensures added { IfOk result (λ added. (facts : List Fact) (name : Name) (n : ℕ) → AreKeptArticles facts self.old.articles → IfSome (option_map article_said article.now) MayBeSaid
+            → (joins ≡ Again → IsThereAlready facts (option_map article_said article.now))
             → IsAddedIf (JoinArticles facts (article_facts name n (option_map article_said article.now)))
-            (AreKeptArticles (facts ++ article_facts name n (option_map article_said article.now))) self.old.articles self.new.articles does) }
+            (AreKeptArticles (facts ++ article_facts name n (option_map article_said article.now))) self.old.articles self.new.articles (is_added added)) }
+        ensures text { IfOk result (λ added. joins ≢ Again → IsTrue (is_added added) → (id : Id) → IsToExist (option_map article_said article.now) id → text_of added ≡ Some id) }
     {
-        match article {
-            Some(article) => self.articles.note(article),
-            None => Ok(true),
+        match (joins, article) {
+            (_, None) => Ok(Added::Unnamed),
+            (Joins::Again, Some(ArticlePart::Exists(_))) => Ok(Added::Unnamed),
+            (joins, Some(article)) => self.articles.note(joins, article),
         }
     }
 
@@ -123,26 +135,34 @@ impl<A: Allocator + Copy> Kept<A> {
         &mut self,
         joins: Joins,
         group: &Option<GroupPart<'_>>,
+        text: Option<RcStr<A>>,
     ) -> Result<(), AllocError>
         ensures rest { (self.new.names ≡ self.old.names) × (self.new.articles ≡ self.old.articles) }
         ensures groups { OnOk result ((facts : List Fact) (s : SayingValue) (asks : List Ask) → s.group ≡ option_map of_group group.now → s.groups ≡ None → Together facts → MaySay facts s asks
             → IfSome s.group (GroupJoins facts asks) → AreKeptGroups facts self.old.groups → (joins ≡ Again → AreKeptGroups (facts ++ facts_in s asks) self.old.groups)
+            → (joins ≢ Again → IfSome s.group (λ g. IsTextOf (option_map (λ text. rc_str_bytes text) text) g.id))
             → AreKeptGroups (facts ++ facts_in s asks) self.new.groups) }
     {
         match joins {
             Joins::Again => Ok(()),
-            _ => self.add_group(group),
+            _ => self.add_group(group, text),
         }
     }
 
-    /// Adds what is said of a group. After an error the value says nothing of use.
-    fn add_group(&mut self, group: &Option<GroupPart<'_>>) -> Result<(), AllocError>
+    /// Adds what is said of a group, with the text of the id that a number has. After an error the value
+    /// says nothing of use.
+    fn add_group(
+        &mut self,
+        group: &Option<GroupPart<'_>>,
+        text: Option<RcStr<A>>,
+    ) -> Result<(), AllocError>
         ensures rest { (self.new.names ≡ self.old.names) × (self.new.articles ≡ self.old.articles) }
         ensures groups { OnOk result ((facts : List Fact) (s : SayingValue) (asks : List Ask) → s.group ≡ option_map of_group group.now → s.groups ≡ None → Together facts → MaySay facts s asks
-            → IfSome s.group (GroupJoins facts asks) → AreKeptGroups facts self.old.groups → AreKeptGroups (facts ++ facts_in s asks) self.new.groups) }
+            → IfSome s.group (GroupJoins facts asks) → AreKeptGroups facts self.old.groups → IfSome s.group (λ g. IsTextOf (option_map (λ text. rc_str_bytes text) text) g.id)
+            → AreKeptGroups (facts ++ facts_in s asks) self.new.groups) }
     {
         match group {
-            Some(group) => self.groups.add(group, &self.articles),
+            Some(group) => self.groups.add(group, text),
             None => Ok(()),
         }
     }
@@ -154,6 +174,8 @@ impl<A: Allocator + Copy> Kept<A> {
         ensures again { result ≡ Again → (facts : List Fact) (asks : List Ask) → (saying_of saying.now).groups ≡ None
             → IsKept facts self.now → Together facts → MaySay facts (saying_of saying.now) asks
             → AreKeptGroups (facts ++ facts_in (saying_of saying.now) asks) self.now.groups }
+        ensures there { result ≡ Again → (facts : List Fact) (asks : List Ask) → IsKept facts self.now → MaySay facts (saying_of saying.now) asks
+            → IsThereAlready facts (saying_of saying.now).article }
     {
         if self.may_be_there(saying.there_is) && self.may_be_missing(saying.there_is_no) {
             self.group_joins(&saying.group)
@@ -191,6 +213,8 @@ impl<A: Allocator + Copy> Kept<A> {
             → s.group ≡ option_map of_group group.now → s.groups ≡ None → IsKept facts self.now → Together facts
             → MaySay facts s asks
             → AreKeptGroups (facts ++ facts_in s asks) self.now.groups }
+        ensures there { result ≡ Again → (facts : List Fact) (s : SayingValue) (asks : List Ask)
+            → s.group ≡ option_map of_group group.now → IsKept facts self.now → MaySay facts s asks → IsThereAlready facts s.article }
     {
         match group {
             Some(group) => self.groups.joins(group),

@@ -1,8 +1,8 @@
 -- What is kept of ids: of those that have articles, and of those that are denied.
-use Rattle.std.proofs.Common.{◌≡◌, ℕ, Bool, true, false, cond, ◌||◌, not, List, [], ◌∷◌, map, Vec, Option, None, Some, is_some, option_map, refl, sym, ap, subst, ◌∙◌}
-use Rattle.std.specs.Prelude.{unwrap_or, MatchOption}
+use Rattle.std.proofs.Common.{◌≡◌, ℕ, Bool, true, false, cond, ◌&&◌, ◌||◌, not, List, [], ◌∷◌, map, Vec, Option, None, Some, is_some, option_map, refl, sym, ap, subst, ◌∙◌}
+use Rattle.std.specs.Prelude.{unwrap_or}
 use Rattle.std.specs.List.{list_any, filter}
-use Rattle.std.specs.Option.{option_or}
+use Rattle.std.specs.Option.{option_or, option_map_or}
 use Rattle.std.specs.declared.cmp.Ordering.{Ordering}
 use Rattle.std.specs.declared.cmp.Ordering.TheVariants.{Less, Equal, Greater}
 use Rattle.std.specs.declared.rc.RcStr.{RcStr}
@@ -29,7 +29,7 @@ use Rattle.nntp_facts.proofs.Together.TwoListsOfFacts.{or_none}
 use Rattle.nntp_facts.proofs.Keeping.KeptArticles.{new_elsewhere, new_there}
 use Rattle.nntp_facts.proofs.Keeping.KeptNames.{any_put, any-map, is_key}
 
-abbrev Articles : Type 0
+abbrev pub Articles : Type 0
 Articles = FinMap (slice_cmp nat_cmp) KeptArticle
 
 -- ---- denied ids beside articles
@@ -132,7 +132,7 @@ module _ {A : Type 0} (es : List (RcStr A × KnownArticle A)) (ks : List (Vec �
   abbrev is_denied : Bool
   is_denied = list_any (λ k. is_eq (slice_cmp nat_cmp id k.items)) ks
 
-  pub found : get articles id ≡ option_or (option_map known_article known) (if_denied is_denied)
+  found : get articles id ≡ option_or (option_map known_article known) (if_denied is_denied)
   found =
       ap (λ m. get m id) (sym view) ∙ get-with_denied (from_entries (entries_value es)) (map (λ k. k.items) ks) id
       ∙ (λ i. option_or (get-shown (slice_cmp nat_cmp) (λ k. rc_str_bytes k) known_article nat_list_cmp_total es id i) (if_denied (denied_key i)))
@@ -164,6 +164,26 @@ module _ {A : Type 0} (es : List (RcStr A × KnownArticle A)) (ks : List (Vec �
   pub kept_if_denied : is_there (get articles id) ≡ false → is_denied ≡ is_some (get articles id)
   kept_if_denied e = sym (ap (λ b. b || is_denied) e) ∙ mentioned
 
+  -- the id is denied exactly if it is one of those that are, and no article of it is known
+  pub denied_there : (is_denied && not (is_there (get articles id))) ≡ option_map_or (λ a. a.is_denied) (get articles id) false
+  denied_there = ap (λ o. is_denied && not (is_there o)) found ∙ by known is_denied ∙ ap (λ o. option_map_or (λ a. a.is_denied) o false) (sym found)
+    where
+      by : (o : Option (KnownArticle A)) (b : Bool) → (b && not (is_there (option_or (option_map known_article o) (if_denied b)))) ≡ option_map_or (λ a. a.is_denied) (option_or (option_map known_article o) (if_denied b)) false
+      by (Some a) true = refl
+      by (Some a) false = refl
+      by None true = refl
+      by None false = refl
+
+  -- where it isn't, an article of it is known or nothing is kept
+  pub kept_known : option_map_or (λ a. a.is_denied) (get articles id) false ≡ false → get articles id ≡ option_map known_article known
+  kept_known free = found ∙ by known is_denied (ap (λ o. option_map_or (λ a. a.is_denied) o false) (sym found) ∙ free)
+    where
+      by : (o : Option (KnownArticle A)) (b : Bool) → option_map_or (λ a. a.is_denied) (option_or (option_map known_article o) (if_denied b)) false ≡ false
+          → option_or (option_map known_article o) (if_denied b) ≡ option_map known_article o
+      by (Some a) b e = refl
+      by None true e = absurd (true≢false e)
+      by None false e = refl
+
   -- an article that is known is another from now on
   pub replaced_known : (fs : List (RcStr A × KnownArticle A)) (old new : KnownArticle A) → Some old ≡ known → fs ≡ set_value (λ k. is_eq (slice_cmp nat_cmp id (rc_str_bytes k))) es new
       → (with_denied (from_entries (entries_value fs)) (map (λ k. k.items) ks) ≡ insert articles id (known_article new)) × (get articles id ≡ Some (known_article old))
@@ -175,13 +195,3 @@ module _ {A : Type 0} (es : List (RcStr A × KnownArticle A)) (ks : List (Vec �
         ap (λ m. with_denied m ids) r.0 ∙ with_denied-insert articles_only ids id (known_article new) ∙ ap (λ m. insert m id (known_article new)) view,
         found ∙ ap (λ o. option_or (option_map known_article o) (if_denied is_denied)) (sym had),
       )
-
--- ---- by whether an id is kept
-
-pub where_kept : (N : Type 0) {S : Type 0} (o : Option KeptArticle) → is_some o ≡ true → S → MatchOption o N (λ a. S)
-where_kept N None e s = absurd (true≢false (sym e))
-where_kept N (Some a) e s = s
-
-pub where_unknown : {N : Type 0} (S : Type 0) (o : Option KeptArticle) → is_some o ≡ false → N → MatchOption o N (λ a. S)
-where_unknown S None e n = n
-where_unknown S (Some a) e n = absurd (true≢false e)

@@ -118,15 +118,6 @@ impl<A: Allocator> KnownArticle<A> {
 }
 
 impl<A: Allocator + Copy> KnownArticle<A> {
-    /// Returns what is known of an article once these parts of it were sent first.
-    pub(crate) fn of_sent(alloc: A, sent: &Sent<'_>) -> Result<KnownArticle<A>, AllocError>
-        ensures { IfOk result (λ article. known_article article ≡ with_sent unsent sent.now.head sent.now.body) }
-    {
-        let mut article = KnownArticle::unsent();
-        article.send(alloc, sent)?;
-        Ok(article)
-    }
-
     /// Holds the parts that a success sends, if they may be sent, and tells whether they may.
     pub(crate) fn note(&mut self, alloc: A, sent: &Sent<'_>) -> Result<bool, AllocError>
         ensures { IfOk result (λ may. IsAddedIf (MayBeSent (known_article self.old) sent.now.head sent.now.body)

@@ -12,7 +12,6 @@ ghost use Rattle.nntp_facts.specs.Together.{Together};
 ghost use Rattle.nntp_facts.specs.Kept.{AreKeptGroups};
 ghost use Rattle.nntp_facts.specs.ListedGroups.{is_listed, is_missing, NoneIsMissing};
 
-use crate::articles::Articles;
 use crate::group::Group;
 use crate::groups::Groups;
 use crate::saying::GroupPart;
@@ -37,15 +36,11 @@ impl<A: Allocator + Copy> Groups<A> {
 
     /// Adds that the listed groups are there, with their numbers between the marks. After an error the
     /// value says nothing of use.
-    pub(crate) fn bound_all(
-        &mut self,
-        block: &Block<'_>,
-        articles: &Articles<A>,
-    ) -> Result<(), AllocError>
+    pub(crate) fn bound_all(&mut self, block: &Block<'_>) -> Result<(), AllocError>
         ensures { OnOk result ((facts : List Fact) (wildmat : Option (List ℕ)) → AreKeptGroups facts self.old → AreKeptGroups (facts ++ GroupsAre wildmat (active_groups block.now) ∷ []) self.new) }
     {
         for group in block.groups() {
-            self.add(&GroupPart::of_bounds(&group), articles)?;
+            self.add(&GroupPart::of_bounds(&group), None)?;
         }
         Ok(())
     }

@@ -75,7 +75,7 @@ impl<A: Allocator + Copy> Kept<A> {
         ensures { OnOk result ((facts : List Fact) → IsKept facts self.old → MayList wildmat.now (active_groups block.now) → Join facts (GroupsAre wildmat.now (active_groups block.now) ∷ [])
             → IsKept (facts ++ GroupsAre wildmat.now (active_groups block.now) ∷ []) self.new) }
     {
-        self.groups.bound_all(block, &self.articles)?;
+        self.groups.bound_all(block)?;
         self.names.list(self.alloc, wildmat, count_of(block))?;
         Ok(())
     }

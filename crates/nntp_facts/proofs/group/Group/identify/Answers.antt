@@ -1,4 +1,4 @@
-use Rattle.std.proofs.Common.{◌∙◌}
+use Rattle.std.proofs.Common.{ap, ◌∙◌}
 use Rattle.std.specs.Ordering.{nat_cmp}
 use Rattle.std.specs.Cmp.{nat_cmp_total}
 use Rattle.std.specs.Cmp.Lexicographic.{slice_cmp, nat_list_cmp_total}
@@ -10,11 +10,11 @@ use Rattle.nntp_facts.proofs.group.Group.identify.Goals as goal
 pub returns-clause-ids : goal.returns-clause-ids
 returns-clause-ids g c =
     let ids = insert-shown nat_cmp (λ k. k)
-    (λ v. rc_str_bytes v) nat_cmp_total map.nat_cmp-IsAntisymmetric c.self.inside.ids.entries _ c.args.at.number
+    (λ v. rc_str_bytes v) nat_cmp_total map.nat_cmp-IsAntisymmetric c.self.inside.ids.entries _ c.args.number
     c.in_ok-clone.field-0 c.in_ok-insert.ensures.entries in
     let places = insert-shown (slice_cmp nat_cmp) (λ k. rc_str_bytes k) (λ v. v) nat_list_cmp_total
-    (map.slice_cmp-IsAntisymmetric map.nat_cmp-IsAntisymmetric) c.self.inside.places.entries _ c.in_ok-id.id
-    c.args.at.number c.in_ok-insert-2.ensures.entries in (
-      ids ∙ (λ i. map.insert (c.self.view_is i).ids c.args.at.number ((c.in_ok-clone.ensures.cases ∙ c.in_ok-id.ensures) i)),
-      places ∙ (λ i. map.insert (c.self.view_is i).places (c.in_ok-id.ensures i) c.args.at.number),
+    (map.slice_cmp-IsAntisymmetric map.nat_cmp-IsAntisymmetric) c.self.inside.places.entries _ c.args.id
+    c.args.number c.in_ok-insert-2.ensures.entries in (
+      ids ∙ (λ i. map.insert (c.self.view_is i).ids c.args.number (c.in_ok-clone.ensures.cases i)),
+      places ∙ ap (λ g. map.insert g.places (rc_str_bytes c.args.id) c.args.number) c.self.view_is,
     )

@@ -22,9 +22,9 @@ returns-in-Some g c =
     let r = replaced (slice_cmp nat_cmp) (λ k. k.items)
     (λ v. v) nat_list_cmp_total same c.self.inside.groups.entries _ M name old new c.self.view_is c.in-Some.ensures.value
     (c.get_mut.follows.holds new).0 in
-    on_both c.add.result (λ numbers ids before asks kept says bounded each free after changes.
+    on_both c.add.result (λ numbers ids before asks text kept says bounded each free after changes.
     let was = kept_of before M name (Some old) r.1 kept in
-    let grown = ids (agree_kept (before name) old id was each) ((may_have_told (before name) old id was.ids was.places).1 free) in
+    let grown = ids text (agree_kept (before name) old id was each) ((may_have_told (before name) old id was.ids was.places).1 free) in
     subst (AreKept after) (sym r.0) (part_kept before after M name old new asks id kept r.1 free changes
     (numbers (before name).asks asks was.numbers says) grown.0 grown.1)) c.add.ensures.numbers c.add.ensures.ids
 
@@ -39,9 +39,9 @@ returns g c =
     (λ v. v) nat_list_cmp_total same c.self.inside.groups.entries M name c.self.view_is
     (ap option_copied_mut (sym c.in_default.is) ∙ c.get_mut.ensures.value) in
     let begun = c.new-group.ensures.ids in
-    on_ok c.put.result (λ is before asks kept says bounded each free after changes.
+    on_ok c.put.result (λ is before asks text kept says bounded each free after changes.
     let was = kept_of before M name _ none kept in
-    let grown = c.in_ok-add.ensures.ids (empty_agree c.new-group.result id begun.0)
+    let grown = c.in_ok-add.ensures.ids text (empty_agree c.new-group.result id begun.0)
     (subst (λ ids. MayHave ids c.new-group.result.places id) (sym begun.0)
     (subst (λ places. MayHave map.empty places id) (sym begun.1) (empty_may_have id))) in
     let whole : c.put.new.self ≡ map.insert M name group = is

@@ -3,6 +3,7 @@ use Rattle.nntp_wire.specs.Listing.{ActiveValue}
 use Rattle.nntp_wire.specs.View.{active_value}
 use Rattle.nntp_facts.specs.Asks.{Bounds}
 use Rattle.nntp_facts.specs.Kept.{told, with_part, Changes, Agree, MayShow}
+use Rattle.nntp_facts.specs.KeptSaying.{IsTextOf}
 use Rattle.nntp_facts.proofs.Keeping.BoundGroups.{none_bound, one_more_bound, listing}
 use Rattle.nntp_facts.proofs.groups.Groups.bound_all.Goals as goal
 
@@ -28,7 +29,7 @@ loop-group-preserved g c =
           let after = told (listing facts wildmat (so_far ++ line ∷ [])) in
           let part = c.of_bounds.result in
           let none = c.of_bounds.ensures.id in
-          c.in_ok-add.ensures before (Bounds line.low line.high ∷ []) (c.loop-group.invariant.4 facts wildmat kept) c.of_bounds.ensures.numbers (λ _. c.of_bounds.ensures.bounded)
+          c.in_ok-add.ensures before (Bounds line.low line.high ∷ []) (subst (IsTextOf None) (sym none) tt) (c.loop-group.invariant.4 facts wildmat kept) c.of_bounds.ensures.numbers (λ _. c.of_bounds.ensures.bounded)
           (subst (λ id. Agree (before part.name.now).ids (before part.name.now).places id) (sym none) tt) (subst (MayShow (before part.name.now)) (sym none) tt) after
           (subst (λ id. Changes before after part.name.now (with_part (before part.name.now) (Bounds line.low line.high ∷ []) id)) (sym none)
           (subst (λ name. Changes before after name (with_part (before name) (Bounds line.low line.high ∷ []) None)) (sym c.of_bounds.ensures.name) (one_more_bound facts wildmat so_far line))),
