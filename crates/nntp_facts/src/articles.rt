@@ -1,5 +1,6 @@
 //! What answers say of articles.
 ghost use Rattle.std.specs.Prelude.{◌≡◌, ◌≢◌, ℕ, false, Some, IsTrue, List, Option, IfOk, OnOk, is_some};
+ghost use Rattle.std.specs.List.{list_any};
 ghost use Rattle.std.specs.Option.{option_map_or};
 ghost use Rattle.std.specs.FinMap as map;
 ghost use Rattle.std.specs.BTreeMap.{get_by};
@@ -11,9 +12,10 @@ ghost use Rattle.nntp_article.specs.Article.Parts.{Id, Line};
 ghost use Rattle.nntp_article.specs.Session.Spool.{Name};
 ghost use Rattle.nntp_facts.specs.Facts.{Fact, IdAt, TextIs, NoArticle};
 ghost use Rattle.nntp_facts.specs.Given.{is_mentioned};
+ghost use Rattle.nntp_facts.specs.Together.{shows_article};
 ghost use Rattle.nntp_facts.specs.Articles.{head_sent, body_sent, is_there, denied, with_new};
 ghost use Rattle.nntp_facts.specs.Kept.{AreKeptArticles, IsFactAdded};
-ghost use Rattle.nntp_facts.specs.KeptSaying.{MayBeSaid, article_fact};
+ghost use Rattle.nntp_facts.specs.KeptSaying.{IsThereAlready, MayBeSaid, article_fact};
 ghost use Rattle.nntp_facts.specs.Saying.{IsToExist};
 ghost use Rattle.nntp_facts.specs.SayingView.{article_said};
 ghost use Rattle.nntp_facts.specs.Readers.{shown_articles};
@@ -116,28 +118,44 @@ impl<A: Allocator + Copy> Articles<A> {
         }
     }
 
-    /// Adds what is said of an id, if it may be so. The text of an id that has an article is handed back,
-    /// but where what is said of its number is kept already. After an error the articles say nothing of use.
+    /// Adds what is said of an id, if it may be so; that an id at a number has an article is said
+    /// already, where the number is. The text of an id that has an article is handed back for a
+    /// number of which more is said. After an error the articles say nothing of use.
     pub(crate) fn note(
         &mut self,
         joins: Joins,
         part: &ArticlePart<'_>,
     ) -> Result<Added<A>, AllocError>
         ensures added { IfOk result (λ added. (facts : List Fact) (name : Name) (n : ℕ) → AreKeptArticles facts self.old → MayBeSaid (article_said part.now)
+            → (joins ≡ Again → IsThereAlready facts (Some (article_said part.now)))
             → IsFactAdded facts (article_fact name n (article_said part.now)) self.old self.new (is_added added)) }
         ensures text { IfOk result (λ added. joins ≢ Again → IsTrue (is_added added) → (id : Id) → IsToExist (Some (article_said part.now)) id → text_of added ≡ Some id) }
     {
         match part {
             ArticlePart::Lacks(id) => Ok(Added::unnamed_if(self.note_lack(*id)?)),
-            ArticlePart::Exists(id) => self.note_there(*id),
+            ArticlePart::Exists(id) => self.note_there(joins, *id),
             ArticlePart::Sends { id, what, block } => {
                 self.note_sent(joins, *id, &Sent::of(*what, *block))
             }
         }
     }
 
-    /// Adds that this is sent of the id's article, if it may be so: to what is known of the article, which
-    /// is looked up first where the number of the id isn't new. After an error the articles say nothing of use.
+    /// Adds that the id at a number has an article, if it may be so. After an error the articles say
+    /// nothing of use.
+    fn note_there(&mut self, joins: Joins, id: &str) -> Result<Added<A>, AllocError>
+        ensures added { IfOk result (λ added. (facts : List Fact) (name : Name) (n : ℕ) → AreKeptArticles facts self.old
+            → (joins ≡ Again → IsTrue (list_any (shows_article id.now) facts))
+            → IsFactAdded facts (IdAt name n id.now) self.old self.new (is_added added)) }
+        ensures text { IfOk result (λ added. joins ≢ Again → IsTrue (is_added added) → text_of added ≡ Some id.now) }
+    {
+        match joins {
+            Joins::Again => Ok(Added::Unnamed),
+            _ => self.stand(id),
+        }
+    }
+
+    /// Adds that this is sent of the id's article, if it may be so. After an error the articles say
+    /// nothing of use.
     fn note_sent(
         &mut self,
         joins: Joins,
@@ -155,8 +173,8 @@ impl<A: Allocator + Copy> Articles<A> {
         }
     }
 
-    /// Adds that this is sent of the id's article, which is likely to be known, if it may be so. After an
-    /// error the articles say nothing of use.
+    /// Adds that this is sent of the id's article, of which something is likely to be known, if it
+    /// may be so. After an error the articles say nothing of use.
     fn send_again(&mut self, id: &str, sent: &Sent<'_>) -> Result<Added<A>, AllocError>
         ensures { IfOk result (λ added. (facts : List Fact) (what : What) (lines : Option (List Line)) → AreKeptArticles facts self.old
             → sent.now.head ≡ head_sent what lines → sent.now.body ≡ body_sent what lines
@@ -187,7 +205,7 @@ impl<A: Allocator + Copy> Articles<A> {
 
     /// Adds that the id has an article, if it may be so, and hands back the id's text. After an error the
     /// articles say nothing of use.
-    fn note_there(&mut self, id: &str) -> Result<Added<A>, AllocError>
+    fn stand(&mut self, id: &str) -> Result<Added<A>, AllocError>
         ensures added { IfOk result (λ added. (facts : List Fact) (name : Name) (n : ℕ) → AreKeptArticles facts self.old
             → IsFactAdded facts (IdAt name n id.now) self.old self.new (is_added added)) }
         ensures text { IfOk result (λ added. IsTrue (is_added added) → text_of added ≡ Some id.now) }

@@ -96,8 +96,7 @@ impl<A: Allocator + Copy> Kept<A> {
         Ok(true)
     }
 
-    /// Adds what is said of an id, if it may be so: nothing, where the id is said to be at a number and is
-    /// kept there. After an error the value says nothing of use.
+    /// Adds what is said of an id, if it may be so. After an error the value says nothing of use.
     fn note_article(
         &mut self,
         joins: Joins,
@@ -110,10 +109,9 @@ impl<A: Allocator + Copy> Kept<A> {
             (AreKeptArticles (facts ++ article_facts name n (option_map article_said article.now))) self.old.articles self.new.articles (is_added added)) }
         ensures text { IfOk result (λ added. joins ≢ Again → IsTrue (is_added added) → (id : Id) → IsToExist (option_map article_said article.now) id → text_of added ≡ Some id) }
     {
-        match (joins, article) {
-            (_, None) => Ok(Added::Unnamed),
-            (Joins::Again, Some(ArticlePart::Exists(_))) => Ok(Added::Unnamed),
-            (joins, Some(article)) => self.articles.note(joins, article),
+        match article {
+            Some(article) => self.articles.note(joins, article),
+            None => Ok(Added::Unnamed),
         }
     }
 

@@ -1,6 +1,7 @@
 -- What is added of articles, once an id is noted.
-use Rattle.std.proofs.Common.{◌≡◌, ℕ, Bool, true, false, cond, List, [], ◌∷◌, Option, None, Some, is_some, refl, sym, ap, subst, ◌∙◌}
+use Rattle.std.proofs.Common.{◌≡◌, ℕ, Bool, true, false, cond, IsTrue, List, [], ◌∷◌, Option, None, Some, is_some, refl, sym, ap, subst, ◌∙◌}
 use Rattle.std.specs.Prelude.{unwrap_or}
+use Rattle.std.specs.List.{list_any}
 use Rattle.std.specs.Option.{option_map_or}
 use Rattle.std.specs.Ordering.{nat_cmp}
 use Rattle.std.specs.Cmp.Lexicographic.{slice_cmp, nat_list_cmp_total}
@@ -11,9 +12,10 @@ use Rattle.nntp_wire.proofs.ShownMaps.{insert-same}
 use Rattle.nntp_article.specs.Article.Parts.{Id, Line}
 use Rattle.nntp_article.specs.Session.Spool.{Name}
 use Rattle.nntp_facts.specs.Facts.{Fact, IdAt, TextIs, NoArticle}
-use Rattle.nntp_facts.specs.Together.{JoinArticles}
+use Rattle.nntp_facts.specs.Together.{JoinArticles, shows_article}
 use Rattle.nntp_facts.specs.Kept.{KeptArticle, AreKeptArticles, IsAddedIf, IsFactAdded}
 use Rattle.nntp_facts.specs.Articles.{head_sent, body_sent, AreSame, MayBeSent, denied, unsent, with_sent, is_there, with_new}
+use Rattle.nntp_facts.proofs.Keeping.SaidOfArticles.{says}
 use Rattle.nntp_facts.proofs.Keeping.KeptArticles.{may_stand, stands, may_lack, lacks, may_send_known, may_send_unknown, sends}
 
 abbrev Articles : Type 0
@@ -41,6 +43,11 @@ there_again facts articles name n id kept there =
     by : (o : Option KeptArticle) → is_there o ≡ true → option_map_or (λ a. a.is_denied) o false ≡ false
     by None t = refl
     by (Some a) t = not-true a.is_denied t
+
+-- nor of one of which this was said
+pub there_already : (facts : List Fact) (articles : Articles) (name : Name) (n : ℕ) (id : Id) → AreKeptArticles facts articles → IsTrue (list_any (shows_article id) facts)
+    → IsFactAdded facts (IdAt name n id) articles articles true
+there_already facts articles name n id kept shown = there_again facts articles name n id kept (sym (says facts articles id kept).shown ∙ shown)
 
 -- one that isn't denied is kept, if it wasn't before
 pub there_noted : (facts : List Fact) (old new : Articles) (name : Name) (n : ℕ) (id : Id) → AreKeptArticles facts old → option_map_or (λ a. a.is_denied) (get old id) false ≡ false

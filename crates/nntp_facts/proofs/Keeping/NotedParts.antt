@@ -1,14 +1,14 @@
 -- What is kept in all, where the parts of an answer are noted.
-use Rattle.std.proofs.Common.{◌≡◌, Bool, true, false, IsTrue, List, [], ◌++◌, Option, None, Some, sym, subst, ◌∙◌}
+use Rattle.std.proofs.Common.{◌≡◌, ℕ, Bool, true, false, IsTrue, List, [], ◌++◌, Option, None, Some, sym, subst, ◌∙◌}
 use Rattle.std.specs.Prelude.{◌↔◌, IfSome}
 use Rattle.std.specs.List.{AllByRecursion}
 use Rattle.std.proofs.lemmas.Bool.{true≢false}
 use Rattle.nntp_article.specs.Article.Parts.{Id}
 use Rattle.nntp_facts.specs.Facts.{Fact}
 use Rattle.nntp_facts.specs.Together.{IsWellFormed, Together, JoinArticles, Join}
-use Rattle.nntp_facts.specs.Saying.{OfGroup, OfArticle, Lacks, Exists, Sends, Saying, facts_in, MayBeOf, Tells}
+use Rattle.nntp_facts.specs.Saying.{OfGroup, OfArticle, Lacks, Exists, Sends, Saying, facts_in, IsToExist, MayBeOf, Tells}
 use Rattle.nntp_facts.specs.Kept.{Kept, IsKept, AreKeptNames, AreKeptGroups, AreKeptArticles, IsAddedIf}
-use Rattle.nntp_facts.specs.KeptSaying.{JoinGroups, MayBeSaid, article_facts}
+use Rattle.nntp_facts.specs.KeptSaying.{IsTextOf, JoinGroups, MayBeSaid, article_facts}
 use Rattle.nntp_facts.proofs.Keeping.PartsJoin.{parts_join, same_articles}
 use Rattle.nntp_facts.proofs.Keeping.SameOfArticles.{kept_alike}
 
@@ -22,6 +22,16 @@ may_be_said group None may = tt
 may_be_said group (Some (id, Lacks)) may = tt
 may_be_said group (Some (id, Exists)) may = tt
 may_be_said group (Some (id, Sends what lines)) may = may
+
+-- the text of the id that a number has is that of the id that has an article
+pub texts_of : (text : Option Id) (article : Option (Id × OfArticle)) (group : Option OfGroup) → ((id : Id) → IsToExist article id → text ≡ Some id)
+    → IfSome group (λ g. IfSome g.id (λ e. IsToExist article e.1)) → IfSome group (λ g. IsTextOf text g.id)
+texts_of text article None is placed = tt
+texts_of text article (Some g) is placed = by g.id placed
+  where
+    by : (id : Option (ℕ × Id)) → IfSome id (λ e. IsToExist article e.1) → IsTextOf text id
+    by None p = tt
+    by (Some e) p = is e.1 p
 
 module _ (facts more : List Fact) (s : Saying) (no_list : s.groups ≡ None) (t : Tells facts s more) (together : Together facts) (formed : AllByRecursion IsWellFormed more) where
   -- all joins exactly if the groups do and the article does

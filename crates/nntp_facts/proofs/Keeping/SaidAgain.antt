@@ -1,5 +1,5 @@
 -- A number that is there is said to be there again: all stands together as before, and what is kept is right still.
-use Rattle.std.proofs.Common.{◌≡◌, ℕ, ◌-◌, ◌^◌, ◌<◌, Bool, true, false, not, ◌&&◌, ◌||◌, ◌==◌, IsTrue, List, ◌++◌, Option, None, Some, is_some, MatchOption, inl, inr, refl, sym, ap, subst, ◌∙◌, arith}
+use Rattle.std.proofs.Common.{◌≡◌, ℕ, ◌-◌, ◌^◌, ◌<◌, Bool, true, false, not, ◌&&◌, ◌||◌, ◌==◌, cond, IsTrue, List, ◌++◌, Option, None, Some, is_some, MatchOption, inl, inr, refl, sym, ap, subst, ◌∙◌, arith}
 use Rattle.std.specs.Prelude.{nat_lt, nat_le, IfSome}
 use Rattle.std.specs.List.{list_any}
 use Rattle.std.specs.Cmp.Lexicographic.{nat_list_cmp_total}
@@ -11,23 +11,26 @@ use Rattle.nntp_wire.proofs.ShownMaps.{insert-same}
 use Rattle.nntp_intervals.specs.Intervals.{is_between}
 use Rattle.nntp_article.specs.Article.Parts.{Id}
 use Rattle.nntp_article.specs.Session.Spool.{Name}
+use Rattle.nntp_article.specs.Session.Machine.{is_same}
 use Rattle.nntp_facts.specs.Asks.{Ask}
-use Rattle.nntp_facts.specs.Given.{shows, denies, is_shown, is_denied, says_some, is_end, is_known, wants, demand, join, IsGivenNumber}
+use Rattle.nntp_facts.specs.Facts.{Fact, IdAt}
+use Rattle.nntp_facts.specs.Given.{id_in, first_given, shows, denies, is_shown, is_denied, says_some, is_end, is_known, wants, demand, join, IsGivenNumber}
 use Rattle.nntp_facts.specs.declared.demand.Demand.{Demand}
 use Rattle.nntp_facts.specs.declared.demand.Demand.TheVariants.{NoDemand, NotEmpty, OnlyOne, SecondIs, Impossible}
 use Rattle.nntp_facts.specs.declared.ends.Ends.{Ends}
-use Rattle.nntp_facts.specs.Together.{MeetsDemand, IsFewFor, AsksStand, is_possible}
+use Rattle.nntp_facts.specs.Together.{shows_article, MeetsDemand, IsFewFor, AsksStand, is_possible}
 use Rattle.nntp_facts.specs.Part.{Says, only_has, part_denies, estimate_in, is_within, is_within_all, ends_of, join_ends}
 use Rattle.nntp_facts.specs.Summary.{Summary, IsSummary, AreBounded}
-use Rattle.nntp_facts.specs.Saying.{OfGroup}
-use Rattle.nntp_facts.specs.Kept.{KeptGroup, Told, IsKeptGroup, AreKept, Agree, IsShownAt, MayShow, AreKeptWith}
-use Rattle.nntp_facts.specs.KeptSaying.{HasSaid}
+use Rattle.nntp_facts.specs.Saying.{OfGroup, OfArticle, Lacks, Exists, Sends, Saying, MayBeOf, MaySay}
+use Rattle.nntp_facts.specs.Kept.{KeptGroup, Told, told, IsKeptGroup, AreKept, Agree, IsShownAt, MayShow, AreKeptWith}
+use Rattle.nntp_facts.specs.KeptSaying.{HasSaid, IsThereAlready}
 use Rattle.nntp_facts.proofs.Keeping.MoreAsks.{are_possible}
 use Rattle.nntp_facts.proofs.GivenNumbers.JoinedDemands.{demand_append}
 use Rattle.nntp_facts.proofs.GivenNumbers.GivenNumbersMeet.{same_demand}
 use Rattle.nntp_facts.proofs.Keeping.HullOfMarks.{ends_append, no_hull, shown_says}
 use Rattle.nntp_facts.proofs.Keeping.KeptGroups.{Groups, kept_of, part_kept, agree_kept, same_id}
-use Rattle.nntp_facts.proofs.Members.{all_both}
+use Rattle.nntp_facts.proofs.Members.{all_both, any_in, first_found}
+use Rattle.nntp_facts.proofs.Together.FactsOfASpoolStand.{same_itself}
 use Rattle.nntp_facts.proofs.Keeping.AsksSettled.{few_for}
 
 -- who says only that a number is there denies none below 2^64
@@ -131,6 +134,49 @@ module _ (asks more : List Ask) (k : ℕ) (says : Says (only_has k) more) (there
       few = λ N given.
           all_both (IsFewFor N) asks more (stand.few N (λ n. (λ i. given_before n ((given n).0 i), λ g. (given n).1 (given_still n g)))) (few_for N more (sym (says.estimating (len N))));
     }
+
+-- ---- of an id
+
+-- an id that is shown at a number has an article
+shown_there : (facts : List Fact) (name : Name) (n : ℕ) (id : Id) → first_given (id_in name n) facts ≡ Some id → IsTrue (list_any (shows_article id) facts)
+shown_there facts name n id given = let f = first_found (id_in name n) facts id given in any_in (shows_article id) f.0 facts f.1 (by f.0 f.2)
+  where
+    by : (fact : Fact) → id_in name n fact ≡ Some id → IsTrue (shows_article id fact)
+    by (IdAt g m other) is = at (is_same g name && m == n) is
+      where
+        at : (b : Bool) → cond b (Some other) None ≡ Some id → IsTrue (is_same other id)
+        at true e = let same : other ≡ id = cc in subst (λ other. IsTrue (is_same other id)) (sym same) (same_itself id)
+        at false e = cc
+    by fact is = cc
+
+-- so does one that is said to be at the number at which it is kept
+pub there_before : (facts : List Fact) (s : Saying) (asks : List Ask) (groups : Groups) (g : OfGroup) → s.group ≡ Some g → AreKept (told facts) groups → MaySay facts s asks
+    → MatchOption (get groups g.name) ⊥ (λ k. HasSaid k g) → IsThereAlready facts s.article
+there_before facts s asks groups g is kept may said = by s.article (subst (λ group. IfSome s.article (MayBeOf group)) is may.article)
+  where
+    at : (o : Option KeptGroup) (id : Id) → get groups g.name ≡ o → MatchOption o ⊥ (λ k. HasSaid k g) → MatchOption g.id ⊥ (λ e. e.1 ≡ id) → IsTrue (list_any (shows_article id) facts)
+    at None id e h i = absurd h
+    at (Some k) id e h i = here g.id h i
+      where
+        here : (o : Option (ℕ × Id)) → MatchOption o ⊥ (λ e. (g.numbers ≡ only_has e.0) × (get k.ids e.0 ≡ Some e.1)) → MatchOption o ⊥ (λ e. e.1 ≡ id) → IsTrue (list_any (shows_article id) facts)
+        here None h i = absurd h
+        here (Some (n, other)) h i = shown_there facts g.name n id (sym ((kept_of (told facts) groups g.name (Some k) e kept).ids n) ∙ h.1 ∙ ap Some i)
+
+    by : (a : Option (Id × OfArticle)) → IfSome a (MayBeOf (Some g)) → IsThereAlready facts a
+    by (Some (id, Exists)) m = at (get groups g.name) id refl said m
+    by (Some (id, Lacks)) m = tt
+    by (Some (id, Sends what lines)) m = tt
+    by None m = tt
+
+-- none is said to be at a number where nothing is said of a group
+pub none_there : (facts : List Fact) (s : Saying) (asks : List Ask) → s.group ≡ None → MaySay facts s asks → IsThereAlready facts s.article
+none_there facts s asks is may = by s.article (subst (λ group. IfSome s.article (MayBeOf group)) is may.article)
+  where
+    by : (a : Option (Id × OfArticle)) → IfSome a (MayBeOf None) → IsThereAlready facts a
+    by (Some (id, Exists)) m = absurd m
+    by (Some (id, Lacks)) m = tt
+    by (Some (id, Sends what lines)) m = tt
+    by None m = tt
 
 -- ---- of a group
 

@@ -5,6 +5,7 @@ use Rattle.nntp_facts.specs.Saying.{asked_id, facts_in}
 use Rattle.nntp_facts.specs.Kept.{joins_at_all, IsKept, AreKeptGroups, told}
 use Rattle.nntp_facts.specs.KeptSaying.{GroupJoins}
 use Rattle.nntp_facts.proofs.Keeping.PartsJoin.{agree_told, shown_told, says_then, bounded_then, group_changes, groups_alike}
+use Rattle.nntp_facts.proofs.Keeping.SaidAgain.{there_before, none_there}
 use Rattle.nntp_facts.proofs.kept.Kept.group_joins.Goals as goal
 
 pub returns-in-Some-clause-at_all : goal.returns-in-Some-clause-at_all
@@ -25,6 +26,15 @@ returns-in-Some-clause-again g c again facts s asks is no_list kept together may
     (c.joins.ensures.again again (told facts) (asks ++ asked_id part.id) k.groups (says_then facts s asks may part same)
     (agree_told facts together part.name part.id) (shown_told facts part.name part.id)
     (told (facts ++ facts_in s asks)) (group_changes facts s asks no_list may part same))
+
+pub returns-in-Some-clause-there : goal.returns-in-Some-clause-there
+returns-in-Some-clause-there g c again facts s asks is kept may =
+    let k = subst (IsKept facts) (sym c.self.view_is) kept in
+    let part = of_group c.in-Some.group in
+    there_before facts s asks c.self.inside.groups part (is ∙ ap (option_map of_group) c.in-Some.is) k.groups may (c.joins.ensures.said again)
+
+pub returns-in-None-clause-there : goal.returns-in-None-clause-there
+returns-in-None-clause-there g c again facts s asks is kept may = none_there facts s asks (is ∙ ap (option_map of_group) c.in-None.is) may
 
 pub returns-in-None-clause-at_all : goal.returns-in-None-clause-at_all
 returns-in-None-clause-at_all g c facts s asks is kept together may =

@@ -1,10 +1,12 @@
 use Rattle.std.proofs.Common.{[], ◌++◌, refl, sym, subst, ◌∙◌}
+use Rattle.std.specs.Prelude.{IfSome}
+use Rattle.nntp_facts.specs.ArticleView.{is_added}
 use Rattle.nntp_facts.specs.SayingView.{saying_of}
 use Rattle.nntp_facts.specs.Kept.{joins_at_all, AreKeptNames, AreKeptGroups, AreKeptArticles, IsAddedIf}
 use Rattle.nntp_facts.specs.Saying.{facts_in}
 use Rattle.nntp_facts.specs.Together.{JoinArticles}
-use Rattle.nntp_facts.specs.KeptSaying.{article_facts}
-use Rattle.nntp_facts.proofs.Keeping.NotedParts.{kept_is, may_be_said, no_groups_join, no_article_joins, parts_kept}
+use Rattle.nntp_facts.specs.KeptSaying.{IsTextOf, article_facts}
+use Rattle.nntp_facts.proofs.Keeping.NotedParts.{kept_is, may_be_said, texts_of, no_groups_join, no_article_joins, parts_kept}
 use Rattle.nntp_facts.proofs.Keeping.PartsJoin.{denied_only}
 use Rattle.nntp_facts.proofs.kept.Kept.note_parts.Goals as goal
 
@@ -15,11 +17,13 @@ returns-then-not-at_all g c no_list facts more kept together formed t = (
   refl,
 )
 
-pub returns-then-not-branch : goal.returns-then-not-branch
-returns-then-not-branch g c no_list facts more kept together formed t =
+pub returns-then-not-at_all-2 : goal.returns-then-not-at_all-2
+returns-then-not-at_all-2 g c no_list facts more kept together formed t =
     let s = saying_of c.args.saying.now in
-    let article = c.in_ok-note_article.ensures.added facts [] 0 kept.articles (may_be_said s.group s.article t.may.article) in
-    let refused = no_article_joins facts more s no_list t together formed c.in_ok-note_article.field-0 _ (AreKeptArticles (facts ++ article_facts [] 0 s.article)) _ _ c.if-not-branch.true article in
+    let article = c.in_ok-added.ensures.added facts [] 0 kept.articles (may_be_said s.group s.article t.may.article)
+    (λ again. c.groups_join-joins.ensures.there again facts t.asks kept t.may) in
+    let refused = no_article_joins facts more s no_list t together formed (is_added c.in_ok-added.added) _ (AreKeptArticles (facts ++ article_facts [] 0 s.article)) _ _
+    (sym c.at_all-2.ensures ∙ c.if-not-at_all-2.true) article in
     (refused.0, kept_is _ _ c.note_article.ensures.rest.0 c.note_article.ensures.rest.1 refused.1)
 
 pub returns : goal.returns
@@ -29,13 +33,16 @@ returns g c no_list facts more kept together formed t =
     let joins = c.groups_join-joins in
     let test = joins.ensures.at_all facts t.asks kept together t.may in
     let passed = sym c.at_all.ensures ∙ c.if-not-at_all.false in
+    let added = is_added c.in_ok-added.added in
+    let does = sym c.at_all-2.ensures ∙ c.if-not-at_all-2.false in
     let same = c.deny.ensures.rest.0 ∙ c.note_article.ensures.rest.0 in
-    let article = c.in_ok-note_article.ensures.added facts [] 0 kept.articles (may_be_said s.group s.article t.may.article) in
+    let article = c.in_ok-added.ensures.added facts [] 0 kept.articles (may_be_said s.group s.article t.may.article) (λ again. joins.ensures.there again facts t.asks kept t.may) in
     let names = c.in_ok-deny.ensures.names facts (facts_in s t.asks) (subst (AreKeptNames facts) (sym c.note_article.ensures.rest.1) kept.names) (denied_only facts s t.asks no_list t.may) in
     let groups = c.in_ok-add_new_group.ensures.groups facts s t.asks refl no_list together t.may (test.0 passed).group (subst (AreKeptGroups facts) (sym same) kept.groups)
-    (λ again. subst (AreKeptGroups all) (sym same) (joins.ensures.again again facts t.asks no_list kept together t.may)) in
-    parts_kept facts more s no_list t together formed c.in_ok-note_article.field-0 (joins_at_all joins.result) c.add_new_group.new.self c.if-not-branch.false passed test c.args.self.now
+    (λ again. subst (AreKeptGroups all) (sym same) (joins.ensures.again again facts t.asks no_list kept together t.may))
+    (λ other. subst (λ text. IfSome s.group (λ g. IsTextOf text g.id)) (sym c.text.ensures) (texts_of _ s.article s.group (c.in_ok-added.ensures.text other does) t.may.placed)) in
+    parts_kept facts more s no_list t together formed added (joins_at_all joins.result) c.add_new_group.new.self does passed test c.args.self.now
     (subst (λ articles. IsAddedIf (JoinArticles facts (article_facts [] 0 s.article))
-    (AreKeptArticles (facts ++ article_facts [] 0 s.article)) c.args.self.now.articles articles c.in_ok-note_article.field-0)
+    (AreKeptArticles (facts ++ article_facts [] 0 s.article)) c.args.self.now.articles articles added)
     (sym (c.add_new_group.ensures.rest.1 ∙ c.deny.ensures.rest.1)) article)
     (subst (AreKeptNames all) (sym c.add_new_group.ensures.rest.0) names) groups
