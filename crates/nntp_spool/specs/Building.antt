@@ -39,7 +39,7 @@ number_fault limit S name n id =
     else (if is_some (get (numbers S name) n) then Some faults.DuplicateNumber
     else (if has_id (numbers S name) id then Some faults.DuplicateId else None))))
 
--- what keeps a number out of a group with any id
+-- why a number can't be added to a group, whatever ids it has
 abbrev pub place_fault : ℕ → Spool → Name → ℕ → Id → Option SpoolFault
 place_fault limit S name n id =
     if is_none (get S.groups name) then Some faults.UnknownGroup

@@ -63,8 +63,8 @@ fn group_name<'n, A: Allocator>(content: &Content<A>, name: &'n [u8]) -> Result<
     Ok(name)
 }
 
-/// Returns the group's name and the number's id as text, or why the number can't be added with any
-/// id.
+/// Returns the group's name and the number's id as text, or why the number can't be added, whatever
+/// ids the group has.
 fn number_texts<'n, 'i, A: Allocator>(
     limit: u64,
     content: &Content<A>,
