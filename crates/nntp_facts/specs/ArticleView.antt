@@ -8,7 +8,7 @@ use Rattle.nntp_article.specs.Article.Parts.{Id, Line}
 use Rattle.nntp_facts.specs.Kept.{KeptArticle}
 use Rattle.nntp_facts.specs.declared.articles.known.KnownArticle.{KnownArticle}
 use Rattle.nntp_facts.specs.declared.articles.added.Added.{Added}
-use Rattle.nntp_facts.specs.declared.articles.added.Added.TheVariants.{Never, Unnamed, Named}
+use Rattle.nntp_facts.specs.declared.articles.added.Added.TheVariants.{Never, Named}
 
 -- the lines of a block that is held, if there is one
 abbrev pub lines_held : {A : Type 0} → Option (Rc (List Line) A) → Option (List Line)

@@ -118,9 +118,9 @@ impl<A: Allocator + Copy> Articles<A> {
         }
     }
 
-    /// Adds what is said of an id, if it may be so; that an id at a number has an article is said
-    /// already, where the number is. The text of an id that has an article is handed back for a
-    /// number of which more is said. After an error the articles say nothing of use.
+    /// Adds what is said of an id, if it may be so. Where what is said of a group is kept already, so
+    /// is that an id at a number of it has an article; else the text of an id that has one is handed
+    /// back. After an error the articles say nothing of use.
     pub(crate) fn note(
         &mut self,
         joins: Joins,
@@ -156,12 +156,7 @@ impl<A: Allocator + Copy> Articles<A> {
 
     /// Adds that this is sent of the id's article, if it may be so. After an error the articles say
     /// nothing of use.
-    fn note_sent(
-        &mut self,
-        joins: Joins,
-        id: &str,
-        sent: &Sent<'_>,
-    ) -> Result<Added<A>, AllocError>
+    fn note_sent(&mut self, joins: Joins, id: &str, sent: &Sent<'_>) -> Result<Added<A>, AllocError>
         ensures added { IfOk result (λ added. (facts : List Fact) (what : What) (lines : Option (List Line)) → AreKeptArticles facts self.old
             → sent.now.head ≡ head_sent what lines → sent.now.body ≡ body_sent what lines
             → IsFactAdded facts (TextIs what id.now lines) self.old self.new (is_added added)) }

@@ -1,5 +1,5 @@
 -- What is kept of an id, once its entry among the articles is found or made.
-use Rattle.std.proofs.Common.{◌≡◌, ℕ, true, false, cond, List, map, Vec, Option, None, Some, is_some, option_map, refl, sym, ap, ◌∙◌}
+use Rattle.std.proofs.Common.{◌≡◌, ℕ, false, cond, List, map, Vec, Option, None, Some, is_some, option_map, refl, sym, ap, ◌∙◌}
 use Rattle.std.specs.Prelude.{unwrap_or}
 use Rattle.std.specs.Option.{option_map_or}
 use Rattle.std.specs.declared.cmp.Ordering.{Ordering}

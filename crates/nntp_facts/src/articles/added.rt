@@ -38,7 +38,11 @@ impl<A: Allocator> Added<A> {
         ensures added { is_added result ≡ does }
         ensures text { IsTrue does → text_of result ≡ Some (rc_str_bytes text) }
     {
-        if does { Added::Named(text) } else { Added::Never }
+        if does {
+            Added::Named(text)
+        } else {
+            Added::Never
+        }
     }
 
     /// Returns the text of the id, where it is handed back.
