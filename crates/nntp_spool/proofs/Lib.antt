@@ -27,5 +27,6 @@ pub mod ListedGroups
 pub mod AskedCounts
 pub mod VerifiedPairs
 pub mod NumberIds
+pub mod GatheredEntries
 pub mod GreatestKeys
 pub mod MatchingGroups

@@ -4,7 +4,7 @@ use Rattle.nntp_spool.specs.declared.text.read_fault.ReadFault.{ReadFault}
 use Rattle.nntp_spool.specs.declared.text.read_fault.ReadError.{ReadError}
 use Rattle.nntp_spool.specs.declared.text.read_fault.ReadError.TheVariants as errors
 use Rattle.nntp_article.specs.Session.Spool.{Spool}
-use Rattle.nntp_spool.specs.Reading.{Fails, repeat, Place, On, item_at, items_at}
+use Rattle.nntp_spool.specs.Reading.{Fails, repeat, Place, On, Done, item_at, items_at}
 
 module _ {S : Type 0} (step : S → Result S ReadFault) where
   pub goes_on : (count i : ℕ) (s t : S) (total : Result S ReadFault) → i < count → step s ≡ Ok t → repeat step (count - i) s ≡ total → repeat step (count - (i + 1)) t ≡ total
@@ -29,3 +29,9 @@ module _ (limit most i : ℕ) (articles : Bool) (S : Spool) (p : Place) (total :
       let k : most - i ≡ suc (most - (i + 1)) = omega arith in
       let more : items_at limit (most - i) articles S p ≡ items_at limit (most - (i + 1)) behind next q = rw (k, one) refl in
       sym more ∙ so_far
+
+  pub item_ends : (next : Spool) (q : Place) → i < most → item_at limit articles S p ≡ Ok (Done next q) → items_at limit (most - i) articles S p ≡ total → total ≡ Ok (next, q)
+  item_ends next q lt one so_far =
+      let k : most - i ≡ suc (most - (i + 1)) = omega arith in
+      let more : items_at limit (most - i) articles S p ≡ Ok (next, q) = rw (k, one) refl in
+      sym so_far ∙ more

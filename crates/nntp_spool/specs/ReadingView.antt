@@ -32,6 +32,6 @@ abbrev pub number_line_shown : NumberLine → ℕ × Id
 number_line_shown l = (value_of l.digits.now, l.id.now)
 
 -- where an item leads, with the groups and articles so far
-abbrev pub turn_shown : Spool → TurnInCode → Turn
+abbrev pub turn_shown : {A : Type 0} → Spool → TurnInCode A → Turn
 turn_shown S (turns.On articles place) = On articles S (place_shown place)
-turn_shown S (turns.Done place) = Done S (place_shown place)
+turn_shown S (turns.Done content place) = Done content (place_shown place)

@@ -2,6 +2,9 @@
 ghost use Rattle.std.specs.Prelude.{◌≡◌, ◌<◌, ◌+◌, ◌-◌, ◌^◌, true, length};
 ghost use Rattle.nntp_spool.specs.Fields.{is_decimal};
 
+use crate::value::content::Content;
+use std::alloc::Allocator;
+
 /// The place of the reader: the next line's number, and the octets from there on.
 #[derive(Clone, Copy)]
 pub(crate) struct Place<'a> {
@@ -45,9 +48,16 @@ pub(crate) struct NumberLine<'a> {
 }
 
 /// The way on from an item: to the next one, or to the end.
-pub(crate) enum Turn<'a> {
+#[derive(Drop)]
+pub(crate) enum Turn<'a, A: Allocator> {
     /// The text goes on at the place, behind an article or not.
-    On { articles: bool, place: Place<'a> },
-    /// The text is done at the place.
-    Done { place: Place<'a> },
+    On {
+        articles: bool,
+        place: Place<'a>,
+    },
+    /// The text is done at the place, and has this content.
+    Done {
+        content: Content<A>,
+        place: Place<'a>,
+    },
 }

@@ -8,6 +8,7 @@ ghost use Rattle.nntp_spool.specs.Text.{spool_text};
 ghost use Rattle.nntp_spool.specs.Faults.{IsFault};
 
 use crate::text::fields::{article_number, fault, next_line, number_and_id, opening_of, unbarred};
+use crate::text::gathered::Gathered;
 use crate::text::place::{Opening, Place, Turn};
 use crate::text::read_fault::{Kind, ReadError, ReadFault};
 use crate::value::Spool;
@@ -17,6 +18,7 @@ use crate::value::numbers::Numbers;
 use crate::value::well_formed::{id_of, is_block_head_of, name_of};
 use nntp_wire::{Limit, OwnedBlock};
 use std::alloc::Allocator;
+use std::mem;
 use std::rc::RcStr;
 use std::string::String;
 
@@ -122,19 +124,19 @@ fn group_at<'a, A: Allocator + Copy>(
     line: u64,
     name: &[u8],
     count: u64,
-    content: &mut Content<A>,
+    gathered: &mut Gathered<A>,
     place: Place<'a>,
 ) -> Result<Place<'a>, ReadError>
-    ensures { Gives (λ next. (content.new, place_shown next)) result (group_at limit line name.now count content.old (place_shown place.entry)) }
+    ensures { Gives (λ next. (gathered.new, place_shown next)) result (group_at limit line name.now count gathered.old (place_shown place.entry)) }
 {
     let Some(name) = name_of(name) else {
         return Err(fault(line, Kind::Name));
     };
-    if !content.is_after_groups(name) {
+    if !gathered.is_after_groups(name) {
         return Err(fault(line, Kind::Order));
     }
     let (numbers, next) = numbers_at(alloc, limit, count, place)?;
-    content.put_group(String::from_str(alloc, name)?, numbers)?;
+    gathered.push_group(String::from_str(alloc, name)?, numbers)?;
     Ok(next)
 }
 
@@ -146,16 +148,16 @@ fn article_at<'a, A: Allocator + Copy>(
     id: &[u8],
     heads: u64,
     bodies: u64,
-    content: &mut Content<A>,
+    gathered: &mut Gathered<A>,
     lines: &mut ArticleLines<A>,
     place: Place<'a>,
 ) -> Result<Place<'a>, ReadError>
-    ensures { Gives (λ next. (content.new, place_shown next)) result (article_at line id.now heads bodies content.old (place_shown place.entry)) }
+    ensures { Gives (λ next. (gathered.new, place_shown next)) result (article_at line id.now heads bodies gathered.old (place_shown place.entry)) }
 {
     let Some(id) = id_of(id) else {
         return Err(fault(line, Kind::Id));
     };
-    if !content.is_after_articles(id) {
+    if !gathered.is_after_articles(id) {
         return Err(fault(line, Kind::Order));
     }
     let next = barred_lines_at(&mut lines.head, heads, place)?;
@@ -164,20 +166,22 @@ fn article_at<'a, A: Allocator + Copy>(
         return Err(fault(line, Kind::Head));
     }
     let article = StoredArticle::new(alloc, &lines.head, &lines.body)?;
-    content.put_article(RcStr::from_str(alloc, id)?, article)?;
+    gathered.push_article(RcStr::from_str(alloc, id)?, article)?;
     Ok(next)
 }
 
-/// Reads the end, behind its line.
-fn ends_at<'a, A: Allocator>(
+/// Reads the end, behind its line. What was gathered is taken.
+fn ends_at<'a, A: Allocator + Copy>(
+    alloc: A,
     line: u64,
-    content: &Content<A>,
+    gathered: &mut Gathered<A>,
     place: Place<'a>,
-) -> Result<Turn<'a>, ReadError>
-    ensures { Gives (turn_shown content.now) result (end_at line content.now (place_shown place.entry)) }
+) -> Result<Turn<'a, A>, ReadError>
+    ensures { Gives (turn_shown gathered.new) result (end_at line gathered.old (place_shown place.entry)) }
 {
+    let content = mem::replace(gathered, Gathered::new(alloc)).into_content(alloc)?;
     if content.has_articles() {
-        Ok(Turn::Done { place })
+        Ok(Turn::Done { content, place })
     } else {
         Err(fault(line, Kind::UnknownId))
     }
@@ -189,11 +193,11 @@ fn item_at<'a, A: Allocator + Copy>(
     alloc: A,
     limit: u64,
     articles: bool,
-    content: &mut Content<A>,
+    gathered: &mut Gathered<A>,
     lines: &mut ArticleLines<A>,
     place: Place<'a>,
-) -> Result<Turn<'a>, ReadError>
-    ensures { Gives (turn_shown content.new) result (item_at limit articles content.old (place_shown place.entry)) }
+) -> Result<Turn<'a, A>, ReadError>
+    ensures { Gives (turn_shown gathered.new) result (item_at limit articles gathered.old (place_shown place.entry)) }
 {
     let (line, next) = next_line(place)?;
     let Some(opening) = opening_of(line) else {
@@ -204,20 +208,20 @@ fn item_at<'a, A: Allocator + Copy>(
             if articles {
                 return Err(fault(place.line, Kind::Shape));
             }
-            let place = group_at(alloc, limit, place.line, name, count, content, next)?;
+            let place = group_at(alloc, limit, place.line, name, count, gathered, next)?;
             Ok(Turn::On {
                 articles: false,
                 place,
             })
         }
         Opening::Article { id, heads, bodies } => {
-            let place = article_at(alloc, place.line, id, heads, bodies, content, lines, next)?;
+            let place = article_at(alloc, place.line, id, heads, bodies, gathered, lines, next)?;
             Ok(Turn::On {
                 articles: true,
                 place,
             })
         }
-        Opening::End => ends_at(place.line, content, next),
+        Opening::End => ends_at(alloc, place.line, gathered, next),
     }
 }
 
@@ -226,16 +230,16 @@ fn items_at<'a, A: Allocator + Copy>(
     alloc: A,
     limit: u64,
     most: u64,
-    content: &mut Content<A>,
+    gathered: &mut Gathered<A>,
     lines: &mut ArticleLines<A>,
     place: Place<'a>,
-) -> Result<Place<'a>, ReadError>
-    ensures { Gives (λ next. (content.new, place_shown next)) result (items_at limit most false content.old (place_shown place.entry)) }
+) -> Result<(Content<A>, Place<'a>), ReadError>
+    ensures { Gives (λ x. (x.0, place_shown x.1)) result (items_at limit most false gathered.old (place_shown place.entry)) }
 {
     let mut articles = false;
     let mut rest = place;
     for _ in 0..most {
-        match item_at(alloc, limit, articles, content, lines, rest)? {
+        match item_at(alloc, limit, articles, gathered, lines, rest)? {
             Turn::On {
                 articles: behind,
                 place,
@@ -243,7 +247,7 @@ fn items_at<'a, A: Allocator + Copy>(
                 articles = behind;
                 rest = place;
             }
-            Turn::Done { place } => return Ok(place),
+            Turn::Done { content, place } => return Ok((content, place)),
         }
     }
     Err(fault(rest.line, Kind::Shape))
@@ -259,12 +263,12 @@ fn content_at<A: Allocator + Copy>(
 ) -> Result<Content<A>, ReadError>
     ensures { Gives (λ content. content) result (content_at limit most (place_shown place.entry)) }
 {
-    let mut content = Content::new(alloc);
+    let mut gathered = Gathered::new(alloc);
     let mut lines = ArticleLines {
         head: OwnedBlock::new(alloc),
         body: OwnedBlock::new(alloc),
     };
-    let end = items_at(alloc, limit, most, &mut content, &mut lines, place)?;
+    let (content, end) = items_at(alloc, limit, most, &mut gathered, &mut lines, place)?;
     if !end.rest.is_empty() {
         return Err(fault(end.line, Kind::Shape));
     }

@@ -195,16 +195,6 @@ impl<A: Allocator> Content<A> {
         self.articles.len() as u64
     }
 
-    /// Tells whether the name is greater than each group's.
-    pub(crate) fn is_after_groups(&self, name: &str) -> bool
-        ensures { result ≡ is_last self.now.groups name.now }
-    {
-        match self.groups.last_key_value() {
-            Some((greatest, _)) => greatest.as_str().cmp(name).is_lt(),
-            None => true,
-        }
-    }
-
     /// Tells whether the id is greater than each article's.
     pub(crate) fn is_after_articles(&self, id: &str) -> bool
         ensures { result ≡ is_last self.now.articles id.now }

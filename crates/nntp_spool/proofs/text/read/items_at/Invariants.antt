@@ -4,4 +4,4 @@ use Rattle.nntp_spool.specs.ReadingView.{place_shown}
 use Rattle.nntp_spool.proofs.text.read.items_at.Given as goal
 
 abbrev pub invariant-loop : goal.invariant-loop
-invariant-loop g l = items_at l.limit (l.most - l.counter) l.articles l.content (place_shown l.rest) ≡ items_at l.limit l.most false l.fn.content (place_shown l.place)
+invariant-loop g l = items_at l.limit (l.most - l.counter) l.articles l.gathered (place_shown l.rest) ≡ items_at l.limit l.most false l.fn.gathered (place_shown l.place)
