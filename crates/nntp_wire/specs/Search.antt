@@ -40,8 +40,9 @@ pub record IsFrameSearched (stream : List ℕ) (search : FrameSearch) : Type 0 w
   pub line : IsLineSearched stream search.line
   pub block : IsSearched end_of_block stream search.block_end
 
--- both searches have gone through the whole stream, the one for the block's end where a block is due
+-- both searches have gone through the whole stream, the one for the block's end where a block is due, and the code of the initial line is read
 pub record IsFrameThrough (stream : List ℕ) (search : FrameSearch) : Type 0 where
   pub line : IsLineThrough stream search.line
+  pub code : (line rest : List ℕ) → HasNoCrlf line → stream ≡ (line ++ crlf) ++ rest → search.code ≡ code_of line
   pub block : (asked : Asked) (line rest : List ℕ) → prompt_kind asked ≡ search.kind → HasNoCrlf line → stream ≡ (line ++ crlf) ++ rest
       → is_due_by asked (code_of line) ≡ true → IsThrough end_of_block stream search.block_end

@@ -11,7 +11,6 @@ use crate::answer::Answer;
 use crate::command::Prompt;
 use crate::prompt_kind::PromptKind;
 use crate::response::Frame;
-use crate::status::code;
 
 impl<'a> Answer<'a> {
     /// Tells whether the server closes the connection after this answer (RFC 3977, sections 3.2.1,
@@ -31,11 +30,11 @@ impl<'a> Answer<'a> {
 impl<'a> Frame<'a> {
     /// Tells whether the server closes the connection after the answer that this frame spells,
     /// where `kind` is the kind of the frame's prompt (RFC 3977, sections 3.2.1, 5.1, 5.3 and 5.4).
-    /// Nothing but the code is looked at.
+    /// No octet is looked at.
     pub fn closes(&self, kind: PromptKind) -> bool
         ensures { (asked : Asked) (response : Response) → prompt_kind asked ≡ kind → Spells asked response (frame_octets self.now.initial self.now.block) → result ≡ closes asked response }
     {
-        match code(self.initial()) {
+        match self.code() {
             Some(code) => closes_by(kind, code),
             None => false,
         }

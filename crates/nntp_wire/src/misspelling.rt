@@ -17,7 +17,7 @@ use crate::line::{has_clean_octets, number, words};
 use crate::listed_numbers::listed_number;
 use crate::message_id::MessageId;
 use crate::response::Frame;
-use crate::status::{code, is_block_due, is_fitting};
+use crate::status::{is_block_due, is_fitting};
 use crate::stream::split_first_line;
 use crate::versions::gives_versions;
 
@@ -96,7 +96,7 @@ impl Misspelling {
         if !is_fitting(prompt, line.len()) {
             return Some(Misspelling::TooLong(line.len() + 2));
         }
-        let Some(code) = code(line) else {
+        let Some(code) = frame.code() else {
             return Some(Misspelling::NoCode);
         };
         let kind = Kind::of(prompt, code);

@@ -1,20 +1,37 @@
-use Rattle.std.proofs.Common.{◌∙◌, sym, ap}
+use Rattle.std.proofs.Common.{◌≡◌, ◌∙◌, ◌++◌, ℕ, List, Option, sym, ap}
 use Rattle.std.proofs.lemmas.Bool.{false≢true}
+use Rattle.nntp_wire.specs.Octets.{crlf}
+use Rattle.nntp_wire.specs.Lines.{HasNoCrlf}
 use Rattle.nntp_wire.specs.Answer.{code_of}
 use Rattle.nntp_wire.specs.Frame.{is_due_by}
 use Rattle.nntp_wire.proofs.FrameLemmas.{one_line, no_line_first}
 use Rattle.nntp_wire.proofs.framing.FrameSearch.go_on.Goals as goal
 
+-- what is read of the line that the search split off is read of each first line
+read-there : (s line rest other behind : List ℕ) (code : Option ℕ) → HasNoCrlf line × (s ≡ (line ++ crlf) ++ rest) → code ≡ code_of line
+    → HasNoCrlf other → s ≡ (other ++ crlf) ++ behind → code ≡ code_of other
+read-there s line rest other behind code parts reads is_line whole =
+    reads ∙ ap code_of (one_line line other rest behind parts.0 is_line (sym parts.1 ∙ whole)).0
+
 pub returns-in_default-clause-through : goal.returns-in_default-clause-through
 returns-in_default-clause-through c = record {
   line = c.go_on.ensures.through;
+  code = λ line rest is_line whole. absurd (no_line_first c.args.stream.now line rest c.in_default.ensures.parts whole);
   block = λ asked line rest same is_line whole due. absurd (no_line_first c.args.stream.now line rest c.in_default.ensures.parts whole);
+}
+
+pub returns-then-is_due-clause-through : goal.returns-then-is_due-clause-through
+returns-then-is_due-clause-through c = record {
+  line = c.go_on.ensures.through;
+  code = λ line rest is_line whole. read-there c.args.stream.now c.in-Some.line.now c.in-Some.field-0-1.now line rest c.code-self.result c.in-Some.ensures.parts c.code-self.ensures is_line whole;
+  block = λ asked line rest same is_line whole due. c.go_on-then-is_due.ensures.through;
 }
 
 pub returns-else-is_due-clause-through : goal.returns-else-is_due-clause-through
 returns-else-is_due-clause-through c = record {
   line = c.go_on.ensures.through;
+  code = λ line rest is_line whole. read-there c.args.stream.now c.in-Some.line.now c.in-Some.field-0-1.now line rest c.code-self.result c.in-Some.ensures.parts c.code-self.ensures is_line whole;
   block = λ asked line rest same is_line whole due.
-      let first = one_line line c.in-Some.line.now rest c.in-Some.field-0-1.now is_line c.in-Some.ensures.parts.0 (sym whole ∙ c.in-Some.ensures.parts.1) in
-      absurd (false≢true (sym c.if-is_due.false ∙ c.is_due.ensures asked same ∙ ap (λ l. is_due_by asked (code_of l)) (sym first.0) ∙ due));
+      let reads = read-there c.args.stream.now c.in-Some.line.now c.in-Some.field-0-1.now line rest c.code-self.result c.in-Some.ensures.parts c.code-self.ensures is_line whole in
+      absurd (false≢true (sym c.if-is_due.false ∙ c.is_due.ensures asked same ∙ ap (is_due_by asked) reads ∙ due));
 }
