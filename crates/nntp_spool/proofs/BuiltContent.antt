@@ -12,7 +12,7 @@ use Rattle.nntp_article.specs.Session.Machine.{is_article_number}
 use Rattle.nntp_article.specs.Session.Spool.{Name, Spool, Numbers, Text, numbers, is_line}
 use Rattle.nntp_spool.specs.declared.value.spool_fault.SpoolFault.TheVariants as faults
 use Rattle.nntp_spool.specs.Numbers.{has_id, with_number}
-use Rattle.nntp_spool.specs.Content.{is_head_of, with_group, with_number_in, with_article, no_spool}
+use Rattle.nntp_spool.specs.Content.{is_head_of, with_group, with_number_in, with_article, without_articles, no_spool}
 use Rattle.nntp_spool.specs.Building.{group_fault, place_fault, article_fault}
 use Rattle.nntp_spool.specs.Content.{AreNumbers, IsNamed, IsArticle, IsContent}
 use Rattle.nntp_spool.proofs.MapEntries.{got_more}
@@ -45,6 +45,9 @@ number_in_group S T name N n id here groups articles =
     by false e = spool_is T (with_group S name (insert N n id)) e articles
 
 module _ (limit : ℕ) (S : Spool) (content : IsContent limit S) where
+  pub articles_dropped : IsContent limit (without_articles S)
+  articles_dropped = record { groups = content.groups; articles = (nothing limit).articles }
+
   with_named : (name : Name) (N : Numbers) → IsNamed limit name N → IsContent limit (with_group S name N)
   with_named name N named = record { groups = λ q M g. by q M (got_more nat_list_cmp_total octet_keys S.groups name N q M g); articles = content.articles }
     where

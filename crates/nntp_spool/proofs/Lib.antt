@@ -28,5 +28,6 @@ pub mod AskedCounts
 pub mod VerifiedPairs
 pub mod NumberIds
 pub mod GatheredEntries
+pub mod SearchedEntries
 pub mod GreatestKeys
 pub mod MatchingGroups

@@ -35,3 +35,10 @@ module _ (limit most i : ℕ) (articles : Bool) (S : Spool) (p : Place) (total :
       let k : most - i ≡ suc (most - (i + 1)) = omega arith in
       let more : items_at limit (most - i) articles S p ≡ Ok (next, q) = rw (k, one) refl in
       sym so_far ∙ more
+
+  pub item_fails : (e : ReadError) → i < most → Fails e (item_at limit articles S p) → items_at limit (most - i) articles S p ≡ total → Fails e total
+  item_fails errors.Memory lt h so_far = tt
+  item_fails (errors.Fault f) lt h so_far =
+      let k : most - i ≡ suc (most - (i + 1)) = omega arith in
+      let more : items_at limit (most - i) articles S p ≡ Err f = rw (k, h) refl in
+      sym so_far ∙ more

@@ -22,6 +22,9 @@ with_number_in S name n id = if has_id (numbers S name) id then S else with_grou
 abbrev pub with_article : Spool → Id → Text → Spool
 with_article S id text = record S { articles = insert S.articles id text }
 
+abbrev pub without_articles : Spool → Spool
+without_articles S = record S { articles = empty }
+
 -- the lines are a head, and the id that it says, if it says one, is this id
 abbrev pub is_head_of : Id → List Line → Bool
 is_head_of id lines = is_clean_head lines && says_own_id id lines

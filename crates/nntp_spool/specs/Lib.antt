@@ -10,6 +10,7 @@ pub mod Reading
 pub mod ReadingView
 pub mod Ascending
 pub mod Content
+pub mod ArticlesView
 pub mod ContentView
 pub mod Numbers
 pub mod Counts

@@ -1,5 +1,7 @@
 //! Groups, numbers and articles as they are held, and a spool that is built of them.
 pub(crate) mod article;
+pub(crate) mod articles;
+pub(crate) mod ascending;
 mod builder;
 pub(crate) mod content;
 pub(crate) mod numbers;

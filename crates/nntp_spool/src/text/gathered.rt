@@ -1,6 +1,5 @@
 //! The groups and articles of a text, gathered while it is read.
 ghost use Rattle.std.specs.Prelude.{◌≡◌, true, OnOk, IfOk};
-ghost use Rattle.std.specs.FinMap.{is_sorted};
 ghost use Rattle.std.specs.Rc.{rc_str_bytes};
 ghost use Rattle.std.specs.String.{string_bytes};
 ghost use Rattle.nntp_spool.specs.Ascending.{is_last};
@@ -8,10 +7,11 @@ ghost use Rattle.nntp_spool.specs.Content.{with_group, with_article, no_spool};
 ghost use Rattle.nntp_spool.specs.ArticleLines.{text_stored, HasLineCount};
 
 use crate::value::article::StoredArticle;
+use crate::value::articles::Articles;
+use crate::value::ascending::map_of;
 use crate::value::content::Content;
 use crate::value::numbers::Numbers;
 use std::alloc::{AllocError, Allocator};
-use std::collections::BTreeMap;
 use std::marker::Model;
 use std::rc::RcStr;
 use std::string::String;
@@ -22,7 +22,7 @@ pub(crate) struct Gathered<A: Allocator> {
     /// The groups, each with its name.
     groups: Vec<(String<A>, Numbers<A>), A>,
     /// The articles, each with its message-id.
-    articles: Vec<(RcStr<A>, StoredArticle<A>), A>,
+    articles: Articles<A>,
 }
 
 impl<A: Allocator> Model for Gathered<A> {
@@ -35,9 +35,9 @@ impl<A: Allocator> Model for Gathered<A> {
 
     ghost use Rattle.nntp_spool.specs.ContentView.{spool_stored, IsInOrder};
 
-    ghost view = { λ a. spool_stored a.groups.items a.articles.items };
+    ghost view = { λ a. spool_stored a.groups.items a.articles };
 
-    ghost invariant = { λ a. IsInOrder a.groups.items a.articles.items };
+    ghost invariant = { λ a. IsInOrder a.groups.items a.articles };
 }
 
 impl<A: Allocator + Copy> Gathered<A> {
@@ -47,7 +47,7 @@ impl<A: Allocator + Copy> Gathered<A> {
     {
         Gathered {
             groups: Vec::new(alloc),
-            articles: Vec::new(alloc),
+            articles: Articles::new(alloc),
         }
     }
 
@@ -65,10 +65,7 @@ impl<A: Allocator + Copy> Gathered<A> {
     pub(crate) fn is_after_articles(&self, id: &str) -> bool
         ensures { result ≡ is_last self.now.articles id.now }
     {
-        match self.articles.last() {
-            Some(greatest) => greatest.0.as_str().cmp(id).is_lt(),
-            None => true,
-        }
+        self.articles.is_after(id)
     }
 
     /// Adds a group whose name is greater than each other's.
@@ -94,34 +91,16 @@ impl<A: Allocator + Copy> Gathered<A> {
         requires line_count { HasLineCount (text_stored article) }
         ensures { OnOk result (self.new ≡ with_article self.old (rc_str_bytes id) (text_stored article)) }
     {
-        self.articles.push((id, article))?;
-        Ok(())
+        self.articles.push(id, article)
     }
 
-    /// Makes the maps of what was gathered.
+    /// Makes the map of the groups.
     pub(crate) fn into_content(self, alloc: A) -> Result<Content<A>, AllocError>
         ensures { IfOk result (λ content. content ≡ self) }
     {
         Ok(Content {
             groups: map_of(alloc, self.groups)?,
-            articles: map_of(alloc, self.articles)?,
+            articles: self.articles,
         })
     }
-}
-
-/// Makes a map of entries whose keys ascend. It is filled from the greatest key down: a map looks for
-/// a key from the front of each node, and so finds the place of a least one at once.
-fn map_of<K: Ord + Drop, V: Drop, A: Allocator + Copy>(
-    alloc: A,
-    entries: Vec<(K, V), A>,
-) -> Result<BTreeMap<K, V, A>, AllocError>
-    requires { is_sorted K.cmp entries.items ≡ true }
-    ensures { IfOk result (λ map. map.entries ≡ entries.items) }
-{
-    let mut map = BTreeMap::new(alloc);
-    let mut left = entries;
-    while let Some((key, value)) = left.pop() {
-        map.insert(key, value)?;
-    }
-    Ok(map)
 }

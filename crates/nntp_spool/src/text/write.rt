@@ -4,6 +4,7 @@ ghost use Rattle.std.specs.List.{flat_map};
 ghost use Rattle.std.specs.FinMap as map;
 ghost use Rattle.nntp_spool.specs.Text.{with_line_ends, number_line, group_line, article_line, barred, group_lines, article_lines, limit_lines, content_lines, spool_text};
 ghost use Rattle.nntp_spool.specs.ArticleLines.{text_stored};
+ghost use Rattle.nntp_spool.specs.ArticlesView.{articles_shown, Ascend};
 ghost use Rattle.nntp_spool.specs.Watched.{inner_of, has_failed_of};
 ghost use Rattle.nntp_spool.specs.Writing.{Writes};
 ghost use Rattle.nntp_spool.specs.Buffering.{writer_failed, IsSameWriter, Buffers};
@@ -12,13 +13,16 @@ use crate::buffered_output::BufferedOutput;
 use crate::output::WriteFault;
 use crate::value::Spool;
 use crate::value::article::{StoredArticle, line_count};
+use crate::value::articles::Held;
 use crate::value::content::Content;
 use crate::value::numbers::Numbers;
 use crate::watched::Watched;
 use itoa::Buffer;
 use nntp_wire::{Block, Limit};
 use std::alloc::Allocator;
+use std::collections::BTreeMap;
 use std::io::Write;
+use std::rc::RcStr;
 
 /// Writes the line of a number.
 fn put_number_line<W: Write>(
@@ -148,6 +152,38 @@ fn put_limit<W: Write>(output: &mut BufferedOutput<'_, W>, limit: Limit) -> Resu
     }
 }
 
+/// Writes the lines of articles whose ids ascend.
+fn put_articles<W: Write, A: Allocator>(
+    output: &mut BufferedOutput<'_, W>,
+    articles: &[(RcStr<A>, StoredArticle<A>)],
+) -> Result<(), WriteFault>
+    requires { Ascend articles.now }
+    ensures text { Buffers W.contents result output.old output.new (with_line_ends (flat_map article_lines (map.entries (articles_shown articles.now)))) }
+    ensures failed { writer_failed output.new ≡ (writer_failed output.old || is_err result) }
+    ensures same_writer { IsSameWriter output.old output.new }
+{
+    for article in articles {
+        put_article(output, article.0.as_str().as_bytes(), &article.1)?;
+    }
+    Ok(())
+}
+
+/// Writes the lines of the articles of a map.
+fn put_articles_of_map<W: Write, A: Allocator>(
+    output: &mut BufferedOutput<'_, W>,
+    articles: &BTreeMap<RcStr<A>, StoredArticle<A>, A>,
+) -> Result<(), WriteFault>
+    ensures text { Buffers W.contents result output.old output.new (with_line_ends (flat_map article_lines (map.entries (articles_shown articles.now.entries)))) }
+    ensures failed { writer_failed output.new ≡ (writer_failed output.old || is_err result) }
+    ensures same_writer { IsSameWriter output.old output.new }
+{
+    let mut entries = articles.iter();
+    while let Some((id, article)) = entries.next() {
+        put_article(output, id.as_str().as_bytes(), article)?;
+    }
+    Ok(())
+}
+
 impl<A: Allocator> Content<A> {
     /// Writes the lines of all groups.
     fn write_groups<W: Write>(&self, output: &mut BufferedOutput<'_, W>) -> Result<(), WriteFault>
@@ -168,11 +204,10 @@ impl<A: Allocator> Content<A> {
         ensures failed { writer_failed output.new ≡ (writer_failed output.old || is_err result) }
         ensures same_writer { IsSameWriter output.old output.new }
     {
-        let mut entries = self.articles.iter();
-        while let Some((id, article)) = entries.next() {
-            put_article(output, id.as_str().as_bytes(), article)?;
+        match &self.articles.held {
+            Held::InOrder(articles) => put_articles(output, articles.as_slice()),
+            Held::InAnyOrder(articles) => put_articles_of_map(output, articles),
         }
-        Ok(())
     }
 
     /// Writes all groups and all articles, and the end.

@@ -334,7 +334,7 @@ impl<A: Allocator + Copy> SpoolBuilder<A> {
         requires failed { self.old.failed ≡ false }
         ensures { Builds None (with_article self.old.spool (rc_str_bytes id) (text_stored article)) result self.old self.new }
     {
-        let Ok(_) = self.content.put_article(id, article) else {
+        let Ok(_) = self.content.put_article(self.alloc, id, article) else {
             self.failed = true;
             return Err(SpoolFault::Memory);
         };

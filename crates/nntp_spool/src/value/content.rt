@@ -1,17 +1,18 @@
 //! Groups and articles, as they are taken in before all of a spool is there.
-ghost use Rattle.std.specs.Prelude.{◌≡◌, None, false, not, OnOk, OnErr, IfOk, IfErr, IfSome, option_map, option_copied, is_some, is_none};
+ghost use Rattle.std.specs.Prelude.{◌≡◌, ◌⊎◌, None, false, not, OnOk, OnErr, IfOk, IfErr, IfSome, option_map, option_copied, is_some, is_none};
 ghost use Rattle.std.specs.FinMap as map;
 ghost use Rattle.std.specs.Rc.{rc_str_bytes};
 ghost use Rattle.std.specs.String.{string_bytes};
 ghost use Rattle.nntp_article.specs.Session.Spool.{IsGroup, numbers as numbers_of};
 ghost use Rattle.nntp_spool.specs.Counts.{numbers_in};
 ghost use Rattle.nntp_spool.specs.Ascending.{is_last};
-ghost use Rattle.nntp_spool.specs.Content.{with_group, with_number_in, with_article, all_known, ids_have_articles, no_spool};
+ghost use Rattle.nntp_spool.specs.Content.{with_group, with_number_in, with_article, without_articles, all_known, ids_have_articles, no_spool};
 ghost use Rattle.nntp_spool.specs.Numbers.{has_id};
 ghost use Rattle.nntp_spool.specs.ArticleLines.{text_stored, HasLineCount};
 ghost use Rattle.nntp_spool.specs.Text.{HasLineCounts};
 
 use crate::value::article::StoredArticle;
+use crate::value::articles::Articles;
 use crate::value::numbers::Numbers;
 use std::alloc::{AllocError, Allocator, Global};
 use std::collections::BTreeMap;
@@ -26,7 +27,7 @@ pub struct Content<A: Allocator = Global> {
     /// The numbers of each group, by its name.
     pub(crate) groups: BTreeMap<String<A>, Numbers<A>, A>,
     /// The articles, each by its message-id.
-    pub(crate) articles: BTreeMap<RcStr<A>, StoredArticle<A>, A>,
+    pub(crate) articles: Articles<A>,
 }
 
 impl<A: Allocator> Model for Content<A> {
@@ -40,9 +41,9 @@ impl<A: Allocator> Model for Content<A> {
     ghost use Rattle.nntp_spool.specs.ContentView.{spool_stored};
     ghost use Rattle.nntp_spool.specs.Text.{HasLineCounts};
 
-    ghost view = { λ a. spool_stored a.groups.entries a.articles.entries };
+    ghost view = { λ a. spool_stored a.groups.entries a.articles };
 
-    ghost invariant = { λ a. HasLineCounts (spool_stored a.groups.entries a.articles.entries) };
+    ghost invariant = { λ a. HasLineCounts (spool_stored a.groups.entries a.articles) };
 }
 
 impl<A: Allocator + Copy> Content<A> {
@@ -52,7 +53,7 @@ impl<A: Allocator + Copy> Content<A> {
     {
         Content {
             groups: BTreeMap::new(alloc),
-            articles: BTreeMap::new(alloc),
+            articles: Articles::new(alloc),
         }
     }
 
@@ -89,18 +90,19 @@ impl<A: Allocator + Copy> Content<A> {
         group.put(number, id)
     }
 
-    /// Adds an article, or puts it in the place of the one of its id.
+    /// Adds an article, or puts it in the place of the one of its id. Where memory is refused, all is as before, or no
+    /// article is left.
     pub(crate) fn put_article(
         &mut self,
+        alloc: A,
         id: RcStr<A>,
         article: StoredArticle<A>,
     ) -> Result<(), AllocError>
         requires { HasLineCount (text_stored article) }
         ensures ok { OnOk result (self.new ≡ with_article self.old (rc_str_bytes id) (text_stored article)) }
-        ensures err { OnErr result (self.new ≡ self.old) }
+        ensures err { OnErr result ((self.new ≡ self.old) ⊎ (self.new ≡ without_articles self.old)) }
     {
-        self.articles.insert(id, article)?;
-        Ok(())
+        self.articles.insert(alloc, id, article)
     }
 }
 
@@ -138,7 +140,7 @@ impl<A: Allocator> Content<A> {
     pub(crate) fn has_article(&self, id: &str) -> bool
         ensures { result ≡ is_some (map.get self.now.articles id.now) }
     {
-        self.articles.contains_key(id)
+        self.articles.get(id).is_some()
     }
 
     /// Tells whether the id has no article. One above all others isn't looked for.
@@ -162,10 +164,7 @@ impl<A: Allocator> Content<A> {
     pub(crate) fn knows(&self, word: &[u8]) -> bool
         ensures { result ≡ is_some (map.get self.now.articles word.now) }
     {
-        match str::from_utf8(word) {
-            Ok(id) => self.articles.contains_key(id),
-            Err(_) => false,
-        }
+        self.articles.knows(word)
     }
 
     /// Returns how many groups there are.
@@ -199,10 +198,7 @@ impl<A: Allocator> Content<A> {
     pub(crate) fn is_after_articles(&self, id: &str) -> bool
         ensures { result ≡ is_last self.now.articles id.now }
     {
-        match self.articles.last_key_value() {
-            Some((greatest, _)) => greatest.as_str().cmp(id).is_lt(),
-            None => true,
-        }
+        self.articles.is_after(id)
     }
 
     /// Tells whether each id of these numbers has an article.

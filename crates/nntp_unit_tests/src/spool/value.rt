@@ -101,6 +101,22 @@ fn a_spool_is_built(rt: HostRuntime) -> Result<(), Fail> {
 }
 
 #[test]
+fn articles_come_in_any_order(rt: HostRuntime) -> Result<(), Fail> {
+    let mut builder = SpoolBuilder::new(rt.alloc(), Limit::Narrow);
+    for id in [b"<b@x>", b"<d@x>", b"<a@x>", b"<c@x>", b"<e@x>"] {
+        builder.article(id, article(&rt, &[b"A: b"], &[])?)?;
+        let again = article(&rt, &[b"A: b"], &[])?;
+        assert!(rt; builder.article(id, again) == Err(SpoolFault::DuplicateId));
+    }
+    let mut out = Watched::new(Vec::new(rt.alloc()));
+    builder.finish()?.write(&mut out)?;
+    let text =
+        b"spool 1\narticle <a@x> 1 0\n|A: b\narticle <b@x> 1 0\n|A: b\narticle <c@x> 1 0\n|A: b\narticle <d@x> 1 0\n|A: b\narticle <e@x> 1 0\n|A: b\nend\n";
+    assert!(rt; out.into_inner().as_slice() == text.as_slice());
+    Ok(())
+}
+
+#[test]
 fn a_spool_shares_ids_and_blocks(rt: HostRuntime) -> Result<(), Fail> {
     let mut builder = SpoolBuilder::new(rt.alloc(), Limit::Narrow);
     builder.group(b"g")?;

@@ -4,10 +4,11 @@ use Rattle.std.proofs.lemmas.Result.{err_from_is_err_and}
 use Rattle.std.specs.Rc.{rc_str_bytes}
 use Rattle.nntp_spool.specs.Text.{with_line_ends, article_lines}
 use Rattle.nntp_spool.specs.ArticleLines.{text_stored}
+use Rattle.nntp_spool.specs.ArticlesView.{articles_shown}
 use Rattle.nntp_spool.proofs.ShownMaps.{article_entries}
 use Rattle.nntp_spool.proofs.Written.{Wrote-head, Wrote-all}
 use Rattle.nntp_spool.proofs.WrittenLines.{with_line_ends-append}
-use Rattle.nntp_spool.proofs.value.content.Content.write_articles.Goals as goal
+use Rattle.nntp_spool.proofs.text.write.put_articles_of_map.Goals as goal
 
 pub returns-in_err-put_article-clause-text : goal.returns-in_err-put_article-clause-text
 returns-in_err-put_article-clause-text g c =
@@ -35,7 +36,7 @@ loop-id-preserved g c = record {
 
 pub loop-id-init : goal.loop-id-init
 loop-id-init g c =
-    let es = c.self.inside.articles.entries in
-    let shown = article_entries es c.args.self.now.articles (ap (λ s. s.articles) c.self.view_is) c.iter-entries.ensures.ordered in
+    let es = c.args.articles.now.entries in
+    let shown = article_entries es (articles_shown es) refl c.iter-entries.ensures.ordered in
     let all = sym shown ∙ ap (list_map (λ e. (rc_str_bytes e.0, text_stored e.1))) (sym c.iter-entries.ensures.rest) in
     record { wrote = Wrote-all _ _ _ _ (ap (λ es. with_line_ends (flat_map article_lines es)) all); same = refl; writer = refl }

@@ -1,6 +1,6 @@
 use Rattle.std.proofs.Common.{◌≡◌, ◌++◌}
 use Rattle.std.specs.Vec.{vec_len}
-use Rattle.nntp_spool.proofs.text.gathered.map_of.Given as goal
+use Rattle.nntp_spool.proofs.value.ascending.map_of.Given as goal
 
 abbrev pub invariant-loop-key : goal.invariant-loop-key
 invariant-loop-key g l = l.left.items ++ l.map.entries ≡ l.fn.entries.items

@@ -4,10 +4,12 @@ use Rattle.std.specs.Cmp.Lexicographic.{slice_cmp, nat_list_cmp_total}
 use Rattle.std.specs.FinMap as map
 use Rattle.std.specs.Rc.{rc_str_bytes}
 use Rattle.nntp_spool.specs.ArticleLines.{text_stored}
+use Rattle.nntp_spool.specs.ArticlesView.{articles_shown, entries_held}
 use Rattle.nntp_wire.proofs.ShownMaps.{get-shown, option_map-option_map}
-use Rattle.nntp_spool.proofs.value.content.Content.article.Goals as goal
+use Rattle.nntp_spool.proofs.value.articles.Held.get.Goals as goal
 
-pub returns : goal.returns
-returns g c =
+pub returns-in-InAnyOrder : goal.returns-in-InAnyOrder
+returns-in-InAnyOrder g c =
     option_map-option_map (λ r. r.now) text_stored c.get.result ∙ ap (option_map text_stored) c.get.ensures.value
-    ∙ sym (get-shown (slice_cmp nat_cmp) (λ k. rc_str_bytes k) text_stored nat_list_cmp_total c.self.inside.articles.entries c.args.id.now) ∙ ap (λ s. map.get s.articles c.args.id.now) c.self.view_is
+    ∙ sym (get-shown (slice_cmp nat_cmp) (λ k. rc_str_bytes k) text_stored nat_list_cmp_total c.in-InAnyOrder.articles.entries c.args.id.now)
+    ∙ ap (λ h. map.get (articles_shown (entries_held h)) c.args.id.now) (sym c.in-InAnyOrder.is)

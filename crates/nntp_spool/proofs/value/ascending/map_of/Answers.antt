@@ -1,7 +1,7 @@
 use Rattle.std.proofs.Common.{◌++◌, ap, sym, ◌∙◌}
 use Rattle.std.proofs.lemmas.List.{append-nil, nil_from_length}
 use Rattle.nntp_spool.proofs.GatheredEntries.{one_down}
-use Rattle.nntp_spool.proofs.text.gathered.map_of.Goals as goal
+use Rattle.nntp_spool.proofs.value.ascending.map_of.Goals as goal
 
 pub loop-key-init : goal.loop-key-init
 loop-key-init g c = ap (λ es. c.args.entries.items ++ es) c.new-map.ensures.empty ∙ append-nil c.args.entries.items

@@ -1,0 +1,14 @@
+use Rattle.std.proofs.Common.{ap, ◌∙◌}
+use Rattle.std.specs.Ordering.{nat_cmp}
+use Rattle.std.specs.Cmp.Lexicographic.{slice_cmp, nat_list_cmp_total}
+use Rattle.std.specs.FinMap as map
+use Rattle.std.specs.Rc.{rc_str_bytes}
+use Rattle.nntp_spool.specs.ArticleLines.{text_stored}
+use Rattle.nntp_wire.proofs.ShownMaps.{insert-shown}
+use Rattle.nntp_spool.proofs.ShownMaps.{octet_keys}
+use Rattle.nntp_spool.proofs.value.articles.Articles.insert.Goals as goal
+
+pub returns-clause-ok : goal.returns-clause-ok
+returns-clause-ok g c =
+    insert-shown (slice_cmp nat_cmp) (λ k. rc_str_bytes k) text_stored nat_list_cmp_total octet_keys c.in_ok-articles.articles.entries _ c.args.id c.args.article c.in_ok-insert.ensures.entries
+    ∙ ap (λ m. map.insert m (rc_str_bytes c.args.id) (text_stored c.args.article)) (c.in_ok-articles.ensures ∙ c.replace.ensures.value)

@@ -1,0 +1,21 @@
+use Rattle.std.proofs.Common.{ap, subst, sym, ◌∙◌}
+use Rattle.std.specs.Ordering.{nat_cmp}
+use Rattle.std.specs.Cmp.Lexicographic.{slice_cmp, nat_list_cmp_total}
+use Rattle.std.specs.FinMap.{is_sorted}
+use Rattle.std.specs.Rc.{rc_str_bytes}
+use Rattle.std.proofs.lemmas.Result.{IfOk-weaker}
+use Rattle.nntp_spool.specs.ArticleLines.{text_stored}
+use Rattle.nntp_spool.specs.ArticlesView.{articles_shown, entries_held, AreInOrder}
+use Rattle.nntp_spool.proofs.GatheredEntries.{sorted_listed}
+use Rattle.nntp_spool.proofs.ShownMaps.{octet_keys}
+use Rattle.nntp_spool.proofs.value.articles.Articles.into_map.Goals as goal
+
+pub map_of-requires : goal.map_of-requires
+map_of-requires g c =
+    ap (λ v. is_sorted (λ a b. slice_cmp nat_cmp (rc_str_bytes a) (rc_str_bytes b)) v.items) c.in-InOrder.articles-is
+    ∙ sorted_listed (slice_cmp nat_cmp) (λ k. rc_str_bytes k) text_stored nat_list_cmp_total octet_keys c.in-InOrder.articles.items (subst AreInOrder c.in-InOrder.is c.self.invariant)
+
+pub returns-in-InOrder : goal.returns-in-InOrder
+returns-in-InOrder g c =
+    IfOk-weaker c.map_of.result _ _ (λ m h.
+    ap (λ es. articles_shown es) (h ∙ ap (λ v. v.items) c.in-InOrder.articles-is) ∙ ap (λ h. articles_shown (entries_held h)) (sym c.in-InOrder.is) ∙ c.self.view_is) c.map_of.ensures
