@@ -1,8 +1,9 @@
 -- How far a search has come stays true when more octets follow, and how it goes on.
 use Rattle.std.proofs.Common.{◌≡◌, ℕ, ◌+◌, ◌-◌, ◌<◌, ◌≤◌, List, [], ◌++◌, length, drop, sym, ◌∙◌, subst, arith, append_assoc, length-append, length-drop, get_or, ap, ◌⊎◌, inl, inr}
+use Rattle.std.specs.Prelude.{◌==◌}
 use Rattle.std.proofs.lemmas.List.{get_or_append_left, get_or-drop}
 use Rattle.std.proofs.lemmas.Bool.{cases_lt}
-use Rattle.memchr.specs.Find.{OccursAt, NoneBefore, Nowhere}
+use Rattle.memchr.specs.Find.{OccursAt, NoneBefore, Nowhere, Passes, is_byte}
 use Rattle.nntp_wire.specs.Octets.{crlf}
 use Rattle.nntp_wire.specs.Block.{end_of_block}
 use Rattle.nntp_wire.specs.Search.{IsPassed, IsSearched, IsLineSearched, IsFrameSearched}
@@ -87,3 +88,42 @@ nowhere-ahead p s n k passed none at = by (cases_lt k n) where
 -- so all octets are passed but the last ones, among which it may begin
 pub all-passed : (p s : List ℕ) (m : ℕ) → 0 < length p → m ≡ (length s + 1) - length p → ((k : ℕ) → ¬ (OccursAt s p k)) → IsPassed p s m
 all-passed p s m some is none = passed-fits p s m (omega arith) (λ k low. omega arith) (λ k low. none k)
+
+-- ---- dots one by one
+
+-- CRLF, a dot and CRLF begin at none of so many octets and the two before them
+abbrev pub NoEndBefore : List ℕ → ℕ → Type 0
+NoEndBefore s seen = (k : ℕ) → k + 2 < seen → ¬ (OccursAt s end_of_block k)
+
+-- a dot stands inside
+pub dot-inside : (s : List ℕ) (k : ℕ) → OccursAt s end_of_block k → (k + 2 < length s) × (get_or s (k + 2) 0 ≡ 46)
+dot-inside s k at = (let fits = at.fits in omega arith, at.reads 2 (omega arith))
+
+-- where no dot comes up to the next, the end of a block doesn't either
+pub no-end-before : (s : List ℕ) (seen e : ℕ) → NoEndBefore s seen → Nowhere (Passes (is_byte 46) (drop seen s)) 0 e → NoEndBefore s (seen + e)
+no-end-before s seen e none dots k low at = by (cases_lt (k + 2) seen) where
+  by : (k + 2 < seen) ⊎ (seen ≤ k + 2) → ⊥
+  by (inl less) = none k less at
+  by (inr more) = dots ((k + 2) - seen) (omega arith) (omega arith)
+      (ap (λ b. b == 46) (get_or-drop seen s ((k + 2) - seen) 0 ∙ ap (λ i. get_or s i 0) (let same : seen + ((k + 2) - seen) ≡ k + 2 = omega arith in same) ∙ (dot-inside s k at).1))
+
+-- behind a dot that ends no block
+pub no-end-at : (s : List ℕ) (dot : ℕ) → NoEndBefore s dot → ((k : ℕ) → k + 2 ≡ dot → ¬ (OccursAt s end_of_block k)) → NoEndBefore s (dot + 1)
+no-end-at s dot none apart k low at = by (cases_lt (k + 2) dot) where
+  by : (k + 2 < dot) ⊎ (dot ≤ k + 2) → ⊥
+  by (inl less) = none k less at
+  by (inr more) = apart k (omega arith) at
+
+-- no dot is left
+pub no-end-left : (s : List ℕ) (seen : ℕ) → seen ≤ length s → NoEndBefore s seen → Nowhere (Passes (is_byte 46) (drop seen s)) 0 (length (drop seen s))
+    → Nowhere (OccursAt s end_of_block) 0 (length s + 1)
+no-end-left s seen within none dots k low high at =
+    no-end-before s seen (length (drop seen s)) none dots k (let inside = (dot-inside s k at).0 in omega (arith, length-drop seen s)) at
+
+-- a dot that ends the block is the first that does
+pub first-end : (s : List ℕ) (dot : ℕ) → NoEndBefore s dot → 2 ≤ dot → OccursAt s end_of_block (dot - 2)
+    → NoneBefore (OccursAt s end_of_block) 0 (length s + 1) (dot - 2) × OccursAt s end_of_block (dot - 2)
+first-end s dot none long at = (
+  record { low = omega arith; high = let fits = at.fits in omega arith; before = λ k low high. none k (omega arith) },
+  at,
+)

@@ -1,10 +1,14 @@
 //! The search for some octets in a stream that grows.
-ghost use Rattle.std.specs.Prelude.{◌<◌, ℕ, List, length};
-ghost use Rattle.memchr.specs.Find.{FindsNeedle};
+ghost use Rattle.std.specs.Prelude.{◌≡◌, ◌<◌, ◌≤◌, ◌+◌, ◌-◌, ℕ, List, length, slice_index, IsTrue, IsFalse};
+ghost use Rattle.memchr.specs.Find.{FindsNeedle, OccursAt};
 ghost use Rattle.nntp_wire.specs.Octets.{crlf};
+ghost use Rattle.nntp_wire.specs.Block.{end_of_block};
 ghost use Rattle.nntp_wire.specs.Search.{IsSearched, IsThrough};
 
 use memchr::{memchr, memmem};
+
+/// How many dots are looked at one by one, before many octets are searched at once.
+const DOTS: usize = 8;
 
 /// A search for some octets, its needle, in a stream that grows. No octet that can't begin or end
 /// the needle any more is looked at again.
@@ -49,6 +53,9 @@ fn find(octets: &[u8], needle: &[u8]) -> Option<usize>
     if needle == b"\r\n".as_slice() {
         return find_crlf(octets);
     }
+    if needle == b"\r\n.\r\n".as_slice() {
+        return find_block_end(octets);
+    }
     memmem::find(octets, needle)
 }
 
@@ -61,4 +68,36 @@ fn find_crlf(octets: &[u8]) -> Option<usize>
         return Some(at);
     }
     memmem::find(octets, b"\r\n")
+}
+
+/// Returns where CRLF, a dot and CRLF begin first in the octets. In a short block that is at one of
+/// its first dots.
+fn find_block_end(octets: &[u8]) -> Option<usize>
+    ensures { FindsNeedle octets.now end_of_block 0 result }
+{
+    let mut seen = 0;
+    for _dot in 0..DOTS {
+        let (_, ahead) = octets.split_at(seen);
+        let dot = seen + memchr(b'.', ahead)?;
+        if is_dot_line(octets, dot) {
+            return Some(dot - 2);
+        }
+        seen = dot + 1;
+    }
+    memmem::find(octets, b"\r\n.\r\n")
+}
+
+/// Tells whether CRLF stands before a dot and behind it.
+fn is_dot_line(octets: &[u8], dot: usize) -> bool
+    requires is_dot { slice_index octets.now dot ≡ 46 }
+    requires within { dot < length octets.now }
+    ensures yes { IsTrue result → (2 ≤ dot) × OccursAt octets.now end_of_block (dot - 2) }
+    ensures no { IsFalse result → (k : ℕ) → k + 2 ≡ dot → ¬ (OccursAt octets.now end_of_block k) }
+{
+    dot >= 2
+        && octets.len() - dot >= 3
+        && octets[dot - 2] == b'\r'
+        && octets[dot - 1] == b'\n'
+        && octets[dot + 1] == b'\r'
+        && octets[dot + 2] == b'\n'
 }
