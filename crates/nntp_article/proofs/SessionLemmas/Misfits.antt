@@ -14,7 +14,7 @@ use Rattle.nntp_wire.specs.Listing.{ActiveValue, listed_numbers, active_groups}
 use Rattle.nntp_wire.specs.Decided.{matches_name}
 use Rattle.nntp_wire.specs.Command.{Target, by_id, by_number, current, group, list_group, next, last, retrieve, list_active}
 use Rattle.nntp_wire.specs.Reason.{unless}
-use Rattle.nntp_wire.proofs.Reasons.{none_unless, none_two, none_three, none_four, none_each, none_by_test, and_true, first_alone}
+use Rattle.nntp_wire.proofs.Reasons.{none_unless, none_two, none_three, none_four, none_each, none_by_test, and_true}
 use Rattle.nntp_article.specs.Article.Parts.{Line, Id, is_empty, is_head, said_id, head_part}
 use Rattle.nntp_article.specs.Session.Spool.{Name}
 use Rattle.nntp_article.specs.Session.Machine.{Visible, is_same, is_generic, is_greeting, is_article_number, are_zeros, is_in_range, code_fits}

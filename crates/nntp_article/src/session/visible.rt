@@ -1,5 +1,5 @@
 //! What a session shows of its state, whatever the spool.
-ghost use Rattle.std.specs.Prelude.{◌≡◌, OnOk, OnErr, unwrap_or, []};
+ghost use Rattle.std.specs.Prelude.{◌≡◌, IsTrue, OnOk, OnErr, unwrap_or, []};
 ghost use Rattle.std.specs.Option.{option_copied};
 ghost use Rattle.std.specs.FinMap.{get, insert};
 ghost use Rattle.nntp_wire.specs.View.{asked};
@@ -78,11 +78,15 @@ impl<A: Allocator + Copy> Visible<A> {
         }
     }
 
-    /// Selects the group, and keeps its low mark unless all three numbers are zero.
+    /// Selects the group, and keeps its low mark unless all three numbers are zero. Where neither
+    /// is new no memory is taken.
     fn select(&mut self, name: &[u8], marks: WaterMarks) -> Result<(), AllocError>
         ensures ok { OnOk result (self.new ≡ selects self.old marks name.now) }
         ensures err { OnErr result (self.new ≡ self.old) }
     {
+        if self.is_noted(name, marks) {
+            return Ok(());
+        }
         let selected = Vec::from_slice(self.alloc, name)?;
         if !are_zeros(marks) {
             self.note_low(name, marks.low)?;
@@ -101,6 +105,19 @@ impl<A: Allocator + Copy> Visible<A> {
 }
 
 impl<A: Allocator> Visible<A> {
+    /// Whether the group is selected already, and its low mark kept, so that to select it changes
+    /// nothing.
+    fn is_noted(&self, name: &[u8], marks: WaterMarks) -> bool
+        ensures { IsTrue result → selects self.now marks name.now ≡ self.now }
+    {
+        match self.selected() {
+            Some(selected) if selected == name => {
+                are_zeros(marks) || self.low(name) == Some(marks.low)
+            }
+            _ => false,
+        }
+    }
+
     /// Whether the server closed the connection.
     pub fn is_closed(&self) -> bool
         ensures { result ≡ self.now.closed }
