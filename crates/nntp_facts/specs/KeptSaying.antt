@@ -10,6 +10,7 @@ use Rattle.nntp_facts.specs.Facts.{Fact, IdAt, TextIs, NoArticle}
 use Rattle.nntp_facts.specs.Given.{asks_of, is_shown_group}
 use Rattle.nntp_facts.specs.Together.{AsksStand, denies_group, shows_article}
 use Rattle.nntp_facts.specs.Part.{only_has}
+use Rattle.nntp_facts.specs.Summary.{AddsNothing}
 use Rattle.nntp_facts.specs.Saying.{OfGroup, OfArticle, Lacks, Exists, Sends, Saying, asked_id}
 use Rattle.nntp_facts.specs.Kept.{KeptGroup, told, MayShow}
 
@@ -19,9 +20,9 @@ use Rattle.nntp_facts.specs.Kept.{KeptGroup, told, MayShow}
 abbrev pub GroupJoins : List Fact → List Ask → OfGroup → Type 0
 GroupJoins facts asks g = AsksStand (asks_of g.name facts ++ (asks ++ asked_id g.id)) × MayShow (told facts g.name) g.id
 
--- all that is said is that a number is there, with the id that is shown there
+-- all that is said was said before: of no id; or that a number is there, with the id that is shown there
 abbrev pub HasSaid : KeptGroup → OfGroup → Type 0
-HasSaid g p = MatchOption p.id ⊥ (λ e. (p.numbers ≡ only_has e.0) × (get g.ids e.0 ≡ Some e.1))
+HasSaid g p = MatchOption p.id (AddsNothing g.numbers p.numbers) (λ e. (p.numbers ≡ only_has e.0) × (get g.ids e.0 ≡ Some e.1))
 
 -- what is said of names and of a group joins what was said before
 pub record JoinGroups (facts : List Fact) (s : Saying) (asks : List Ask) : Type 0 where

@@ -137,6 +137,16 @@ pub record AgreesWith (shown : List ℕ) (denied : List (ℕ × ℕ)) (p : Said)
 abbrev pub AreOpen : List (ℕ × ℕ) → Said → Option Ends → Type 0
 AreOpen denied p ends = (n : ℕ) → is_end_of ends n ≡ true → denied_after denied p n ≡ false
 
+-- what is said was said before: it can be, says nothing of the numbers between its marks, and denies, estimates and demands no more than what is kept
+pub record AddsNothing (s : Summary) (p : Said) : Type 0 where
+  pub can_be : IsTrue p.possible
+  pub lists_none : p.numbers ≡ []
+  pub no_interval : p.last < p.first
+  pub estimate : (n : ℕ) → is_within s.estimate n ≡ true → is_within p.estimate n ≡ true
+  pub ends : join_ends s.ends p.ends ≡ s.ends
+  pub demand : join s.demand p.demand ≡ s.demand
+  pub outside : (n : ℕ) → n < 2 ^ 64 → (nat_lt n p.low || nat_lt p.high n) ≡ true → holds s.denied n ≡ true
+
 -- what is_settled looks at, after what is said
 pub record LooksAfter (s : Summary) (p : Said) (d : Demand) (w : HowMany) (f : Option ℕ) (c : ℕ) (e : Option ℕ) : Type 0 where
   pub demanded : d ≡ join s.demand p.demand

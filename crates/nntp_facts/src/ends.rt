@@ -7,7 +7,7 @@ use nntp_wire::{Marks, WaterMarks};
 
 /// The least and the greatest of all strict marks of a group (RFC 3977, section 6.1.1.2). If the
 /// group has any number, both are numbers of it.
-#[derive(Clone, Copy)]
+#[derive(Clone, Copy, PartialEq, Eq)]
 pub(crate) struct Ends {
     /// The least low water mark that was reported.
     pub(crate) low: u64,

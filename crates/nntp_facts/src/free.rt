@@ -1,5 +1,5 @@
 //! The first number that is free, which no answer denies.
-ghost use Rattle.std.specs.Prelude.{◌≡◌, ℕ, ◌<◌, ◌≤◌, ◌⊎◌, true, false, max, [], IsTrue};
+ghost use Rattle.std.specs.Prelude.{◌≡◌, ℕ, nat_lt, ◌^◌, ◌<◌, ◌≤◌, ◌⊎◌, ◌↔◌, ◌||◌, true, false, max, [], IsTrue};
 ghost use Rattle.std.specs.List.{list_all};
 ghost use Rattle.nntp_intervals.specs.Intervals.{holds};
 ghost use Rattle.nntp_facts.specs.Part.{IsRegular};
@@ -49,5 +49,32 @@ fn free_before<A: Allocator>(denied: &IntervalSet<A>, start: u64, first: u64, n:
     match denied.least_free_from(start) {
         Some(free) if free < first => free,
         _ => n,
+    }
+}
+
+/// Tells whether each number that isn't between the marks is denied.
+pub(crate) fn denies_outside<A: Allocator>(denied: &IntervalSet<A>, low: u64, high: u64) -> bool
+    ensures { IsTrue result ↔ ((n : ℕ) → n < 2 ^ 64 → (nat_lt n low || nat_lt high n) ≡ true → holds denied.now n ≡ true) }
+{
+    denies_below(denied, low) && denies_above(denied, high)
+}
+
+/// Tells whether each number below `low` is denied.
+fn denies_below<A: Allocator>(denied: &IntervalSet<A>, low: u64) -> bool
+    ensures { IsTrue result ↔ ((n : ℕ) → n < low → holds denied.now n ≡ true) }
+{
+    match denied.least_free_from(0) {
+        Some(free) => low <= free,
+        None => true,
+    }
+}
+
+/// Tells whether each number above `high` is denied.
+fn denies_above<A: Allocator>(denied: &IntervalSet<A>, high: u64) -> bool
+    ensures { IsTrue result ↔ ((n : ℕ) → n < 2 ^ 64 → high < n → holds denied.now n ≡ true) }
+{
+    match high.checked_add(1) {
+        Some(next) => denied.least_free_from(next).is_none(),
+        None => true,
     }
 }

@@ -122,14 +122,14 @@ impl<A: Allocator> Group<A> {
         self.numbers.joins(&part.numbers) && self.may_have(part.id)
     }
 
-    /// Tells whether nothing is said but that a number is there, with the id that is shown there
-    /// already.
+    /// Tells whether all that is said was said before: of no id, or only that a number is there,
+    /// with the id that is shown there already.
     pub(crate) fn has_said(&self, part: &GroupPart<'_>) -> bool
         ensures { IsTrue result ↔ HasSaid self.now (of_group part.now) }
     {
         match part.id {
             Some(at) => part.numbers.says_only(at.number) && self.has_id(at),
-            None => false,
+            None => self.numbers.has_said(&part.numbers),
         }
     }
 

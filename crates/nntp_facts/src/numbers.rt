@@ -1,5 +1,5 @@
 //! What all answers so far say of the numbers of one group.
-ghost use Rattle.std.specs.Prelude.{◌≡◌, ℕ, nat_lt, ◌^◌, ◌-◌, ◌<◌, ◌↔◌, ◌&&◌, ◌||◌, List, [], ◌++◌, Option, IsTrue, OnOk};
+ghost use Rattle.std.specs.Prelude.{◌≡◌, ℕ, true, nat_lt, ◌^◌, ◌-◌, ◌<◌, ◌↔◌, ◌&&◌, ◌||◌, List, [], ◌++◌, Option, IsTrue, OnOk};
 ghost use Rattle.std.specs.List.{list_all};
 ghost use Rattle.nntp_intervals.specs.Intervals.{holds};
 ghost use Rattle.nntp_facts.specs.Asks.{Ask};
@@ -8,12 +8,13 @@ ghost use Rattle.nntp_facts.specs.Part.{is_within, Says, IsRegular};
 ghost use Rattle.nntp_facts.specs.PartView.{said};
 ghost use Rattle.nntp_facts.specs.Given.{join};
 ghost use Rattle.nntp_facts.specs.Readers.{known_ends_in, unless_shown, one_more_in, unseen_in, unseen_high_in};
-ghost use Rattle.nntp_facts.specs.Summary.{IsSummary, AreBounded, ends_after, denied_after, is_open, FirstFreeBelow, has_room, is_settled};
+ghost use Rattle.nntp_facts.specs.Summary.{IsSummary, AreBounded, AddsNothing, ends_after, denied_after, is_open, FirstFreeBelow, has_room, is_settled};
 
 mod conflict;
 
 use crate::demand::Demand;
 use crate::ends::{self, Ends};
+use crate::free::denies_outside;
 use crate::gaps::deny_gaps;
 use crate::numbers_part::NumbersPart;
 use crate::shown::{HowMany, how_many_wanted, is_shown, show};
@@ -93,6 +94,18 @@ impl<A: Allocator> Numbers<A> {
                 part,
                 least(self.estimate, part.estimate),
             )
+    }
+
+    /// Tells whether all that the part says was said before: it says nothing of the numbers between
+    /// its marks, and denies, estimates and demands no more than what is kept.
+    pub(crate) fn has_said(&self, part: &NumbersPart<'_>) -> bool
+        ensures { IsTrue result ↔ AddsNothing self.now (said part.now) }
+    {
+        part.is_of_marks()
+            && is_implied(self.estimate, part.estimate)
+            && ends::join(self.ends, part.ends) == self.ends
+            && self.demand.join(part.demand) == self.demand
+            && denies_outside(&self.denied, part.low, part.high)
     }
 
     /// Returns the strict marks after the part, where it is said then that there is a number.
@@ -176,6 +189,17 @@ fn least(a: Option<u64>, b: Option<u64>) -> Option<u64>
         (None, e) => e,
         (e, None) => e,
         (Some(a), Some(b)) => Some(a.min(b)),
+    }
+}
+
+/// Tells whether each count within the first estimate is within the other.
+fn is_implied(estimate: Option<u64>, other: Option<u64>) -> bool
+    ensures { IsTrue result ↔ ((n : ℕ) → is_within estimate n ≡ true → is_within other n ≡ true) }
+{
+    match (estimate, other) {
+        (_, None) => true,
+        (None, Some(_)) => false,
+        (Some(estimate), Some(other)) => estimate <= other,
     }
 }
 

@@ -1,5 +1,5 @@
 //! What an answer says of the numbers of one group (RFC 3977, section 6.1).
-ghost use Rattle.std.specs.Prelude.{◌≡◌, ◌≤◌, [], ◌∷◌, ◌↔◌, IsTrue};
+ghost use Rattle.std.specs.Prelude.{◌≡◌, ◌<◌, ◌≤◌, [], ◌∷◌, ◌↔◌, IsTrue};
 ghost use Rattle.nntp_wire.specs.Limit.{greatest};
 ghost use Rattle.nntp_wire.specs.declared.marks.Marks.TheVariants.{Lenient};
 ghost use Rattle.nntp_article.specs.declared.session.profile.Profile.{Profile};
@@ -69,6 +69,13 @@ impl<'s> NumbersPart<'s> {
             && self.estimate.is_none()
             && self.ends.is_none()
             && !self.demand.is_some()
+    }
+
+    /// Tells whether the part can be, and says nothing of the numbers between its marks.
+    pub(crate) fn is_of_marks(&self) -> bool
+        ensures { IsTrue result ↔ (IsTrue self.now.is_possible × (self.now.numbers.now ≡ []) × (self.now.last < self.now.first)) }
+    {
+        self.is_possible && self.numbers.is_empty() && self.last < self.first
     }
 
     /// Says what a 211 to GROUP reports: there are at most so many numbers, between the marks.

@@ -1,37 +1,157 @@
--- A number that is there is said to be there again: all stands together as before, and what is kept is right still.
-use Rattle.std.proofs.Common.{◌≡◌, ℕ, ◌-◌, ◌^◌, ◌<◌, Bool, true, false, not, ◌&&◌, ◌||◌, ◌==◌, cond, IsTrue, List, ◌++◌, Option, None, Some, is_some, MatchOption, inl, inr, refl, sym, ap, subst, ◌∙◌, arith}
-use Rattle.std.specs.Prelude.{nat_lt, nat_le, IfSome}
+-- What was said before is said again: all stands together as before, and what is kept is right still.
+use Rattle.std.proofs.Common.{◌≡◌, ℕ, ◌+◌, ◌-◌, ◌^◌, ◌<◌, Bool, true, false, not, ◌&&◌, ◌||◌, ◌==◌, cond, IsTrue, List, ◌++◌, Option, None, Some, is_some, MatchOption, inl, inr, refl, sym, ap, subst, ◌∙◌, arith}
+use Rattle.std.specs.Prelude.{◌↔◌, nat_lt, nat_le, IfSome}
 use Rattle.std.specs.List.{list_any}
 use Rattle.std.specs.Cmp.Lexicographic.{nat_list_cmp_total}
-use Rattle.std.specs.FinMap.{len, get, slice_cmp-IsAntisymmetric, nat_cmp-IsAntisymmetric}
-use Rattle.std.proofs.Math.Bool.{or-false, and-true}
-use Rattle.std.proofs.lemmas.Bool.{true≢false, and_parts, or_left, or_from, eqb-true, eq-eqb, cases_lt, ltb-true, leb-true, false_from_ne_true}
-use Rattle.std.proofs.lemmas.List.Folds.{list_any-append, list_all-append}
+use Rattle.std.specs.FinMap.{len, get, insert, slice_cmp-IsAntisymmetric, nat_cmp-IsAntisymmetric}
+use Rattle.std.proofs.Math.Bool.{or-false}
+use Rattle.std.proofs.lemmas.Bool.{true≢false, and_parts, or_cases, or_from, eqb-true, eq-eqb, cases_lt, ltb-true, leb-true, le-leb, false_from_ne_true}
 use Rattle.nntp_wire.proofs.ShownMaps.{insert-same}
-use Rattle.nntp_intervals.specs.Intervals.{is_between}
+use Rattle.nntp_intervals.specs.Intervals.{holds, is_between}
 use Rattle.nntp_article.specs.Article.Parts.{Id}
 use Rattle.nntp_article.specs.Session.Spool.{Name}
 use Rattle.nntp_article.specs.Session.Machine.{is_same}
 use Rattle.nntp_facts.specs.Asks.{Ask}
 use Rattle.nntp_facts.specs.Facts.{Fact, IdAt}
-use Rattle.nntp_facts.specs.Given.{id_in, first_given, shows, denies, is_shown, is_denied, says_some, is_end, is_known, wants, demand, join, IsGivenNumber}
+use Rattle.nntp_facts.specs.Given.{id_in, first_given, is_shown, is_denied, says_some, is_known, wants, demand, join, IsGivenNumber}
 use Rattle.nntp_facts.specs.declared.demand.Demand.{Demand}
 use Rattle.nntp_facts.specs.declared.demand.Demand.TheVariants.{NoDemand, NotEmpty, OnlyOne, SecondIs, Impossible}
 use Rattle.nntp_facts.specs.declared.ends.Ends.{Ends}
-use Rattle.nntp_facts.specs.Together.{shows_article, MeetsDemand, IsFewFor, AsksStand, is_possible}
-use Rattle.nntp_facts.specs.Part.{Says, only_has, part_denies, estimate_in, is_within, is_within_all, ends_of, join_ends}
-use Rattle.nntp_facts.specs.Summary.{Summary, IsSummary, AreBounded}
+use Rattle.nntp_facts.specs.Together.{shows_article, MeetsDemand, AsksStand, is_possible}
+use Rattle.nntp_facts.specs.Part.{Said, Says, only_has, part_denies, is_one_of, is_within, ends_of, join_ends, is_end_of, is_demanding}
+use Rattle.nntp_facts.specs.Summary.{Summary, has, IsSummary, AreBounded, AddsNothing}
 use Rattle.nntp_facts.specs.Saying.{OfGroup, OfArticle, Lacks, Exists, Sends, Saying, MayBeOf, MaySay}
-use Rattle.nntp_facts.specs.Kept.{KeptGroup, Told, told, IsKeptGroup, AreKept, Agree, IsShownAt, MayShow, AreKeptWith}
+use Rattle.nntp_facts.specs.Kept.{KeptGroup, Told, told, IsKeptGroup, AreKept, Agree, IsShownAt, MayShow, ids_with, places_with, AreKeptWith}
 use Rattle.nntp_facts.specs.KeptSaying.{HasSaid, IsThereAlready}
-use Rattle.nntp_facts.proofs.Keeping.MoreAsks.{are_possible}
-use Rattle.nntp_facts.proofs.GivenNumbers.JoinedDemands.{demand_append}
+use Rattle.nntp_facts.proofs.Keeping.MoreAsks.{are_possible, added}
 use Rattle.nntp_facts.proofs.GivenNumbers.GivenNumbersMeet.{same_demand}
-use Rattle.nntp_facts.proofs.Keeping.HullOfMarks.{ends_append, no_hull, shown_says}
-use Rattle.nntp_facts.proofs.Keeping.KeptGroups.{Groups, kept_of, part_kept, agree_kept, same_id}
+use Rattle.nntp_facts.proofs.Keeping.HullOfMarks.{is_known_by, apart_by_hull, stands_by_hull, said_some, shown_says, demand_says, some_is}
+use Rattle.nntp_facts.proofs.Keeping.KeptGroups.{Groups, kept_of, part_kept, bounded_more, agree_kept, same_id}
 use Rattle.nntp_facts.proofs.Members.{all_both, any_in, first_found}
 use Rattle.nntp_facts.proofs.Together.FactsOfASpoolStand.{same_itself}
-use Rattle.nntp_facts.proofs.Keeping.AsksSettled.{few_for}
+use Rattle.nntp_facts.proofs.Keeping.AsksSettled.{ArePossible, few_for, within_all}
+
+-- ---- asks of which the same is kept
+
+module _ (s : Summary) (asks others : List Ask) (sum : IsSummary s asks) (same : IsSummary s others) where
+  same_shown : (n : ℕ) → is_shown others n ≡ is_shown asks n
+  same_shown n = sym (same.shown n) ∙ sum.shown n
+
+  same_ends : ends_of others ≡ ends_of asks
+  same_ends = sym same.ends ∙ sum.ends
+
+  demand_is : demand others ≡ demand asks
+  demand_is = sym same.demand ∙ sum.demand
+
+  same_some : list_any says_some others ≡ list_any says_some asks
+  same_some = sym (some_is others (list_any says_some asks)
+      (λ t. elim (said_some asks t) [ inl there ↦ inl (there.0, same_shown there.0 ∙ there.1) | inr d ↦ inr (ap is_demanding demand_is ∙ d) ])
+      (λ n t. shown_says asks n (sym (same_shown n) ∙ t))
+      (λ d. demand_says asks (sym (ap is_demanding demand_is) ∙ d)))
+
+  same_hull : (n : ℕ) → is_known_by others n ≡ is_known_by asks n
+  same_hull n = λ i. same_shown n i || (same_some i && is_end_of (same_ends i) n)
+
+  module _ (bounded : AreBounded asks) (others_bounded : AreBounded others) where
+    same_denied : (n : ℕ) → is_denied others n ≡ is_denied asks n
+    same_denied n = elim (cases_lt n (2 ^ 64)) [ inl lt ↦ sym (same.denied n lt) ∙ sum.denied n lt | inr ge ↦ others_bounded n ge ∙ sym (bounded n ge) ]
+
+    module _ (stand : AsksStand asks) where
+      same_known : (n : ℕ) → is_known others n ≡ is_known asks n
+      same_known n =
+          apart_by_hull others (λ m t. same_denied m ∙ stand.not_denied m (inl (stands_by_hull asks stand m ∙ sym (same_hull m) ∙ t))) n ∙ same_hull n ∙ sym (stands_by_hull asks stand n)
+
+      given_before : (n : ℕ) → IsGivenNumber others n → IsGivenNumber asks n
+      given_before n g = elim g [
+        | inl s ↦ inl (sym (same_known n) ∙ s)
+        | inr x ↦ inr (record {
+          needed = λ m s. ap (λ d. wants d m) (sym demand_is) ∙ x.needed m (same_known m ∙ s);
+          wanted = ap (λ d. wants d n) (sym demand_is) ∙ x.wanted;
+          first = (x.first.0, sym (same_denied n) ∙ x.first.1, λ m lo hi. sym (same_denied m) ∙ x.first.2 m lo hi);
+        })
+      ]
+
+      given_still : (n : ℕ) → IsGivenNumber asks n → IsGivenNumber others n
+      given_still n g = elim g [
+        | inl s ↦ inl (same_known n ∙ s)
+        | inr x ↦ inr (record {
+          needed = λ m s. ap (λ d. wants d m) demand_is ∙ x.needed m (sym (same_known m) ∙ s);
+          wanted = ap (λ d. wants d n) demand_is ∙ x.wanted;
+          first = (x.first.0, same_denied n ∙ x.first.1, λ m lo hi. same_denied m ∙ x.first.2 m lo hi);
+        })
+      ]
+
+      -- they stand together alike
+      stands_alike : ArePossible others → AsksStand others
+      stands_alike possible = record {
+        possible = possible;
+        not_denied = λ n g. same_denied n ∙ stand.not_denied n (given_before n g);
+        demand_met = subst (λ d. MeetsDemand d (IsGivenNumber others)) (sym demand_is)
+            (same_demand (IsGivenNumber asks) (IsGivenNumber others) given_still given_before
+            (demand asks) stand.demand_met);
+        few = λ N given.
+            few_for N others
+            (sym (same.estimate (len N)) ∙ sum.estimate (len N)
+            ∙ within_all N asks (stand.few N (λ n. (λ i. given_before n ((given n).0 i), λ g. (given n).1 (given_still n g)))));
+      }
+
+-- ---- estimates
+
+-- what is within the first is within the other
+abbrev Implies : Option ℕ → Option ℕ → Type 0
+Implies estimate other = (n : ℕ) → is_within estimate n ≡ true → is_within other n ≡ true
+
+-- where nothing is estimated, any count is within
+pub none_implies : (a b : Option ℕ) (e : ℕ) → a ≡ None → b ≡ Some e → IsTrue false ↔ Implies a b
+none_implies a b e is_a is_b =
+    subst (λ a. IsTrue false ↔ Implies a b) (sym is_a) (subst (λ b. IsTrue false ↔ Implies None b) (sym is_b)
+    (λ t. absurd (true≢false (sym t)), λ h. absurd (let more = leb-true (e + 1) e (h (e + 1) refl) in omega arith)))
+
+pub some_implies : (a b : Option ℕ) (d e : ℕ) → a ≡ Some d → b ≡ Some e → IsTrue (nat_le d e) ↔ Implies a b
+some_implies a b d e is_a is_b =
+    subst (λ a. IsTrue (nat_le d e) ↔ Implies a b) (sym is_a) (subst (λ b. IsTrue (nat_le d e) ↔ Implies (Some d) b) (sym is_b) (
+      λ t n within.
+          let above = leb-true d e t in
+          let below = leb-true n d within in
+          le-leb n e (omega arith),
+      λ h. h d (le-leb d d (omega arith)),
+    ))
+
+-- ---- what was said before
+
+-- what is said was said before, as it shows, denies, estimates and demands no more than what is kept
+record WasSaid (s : Summary) (p : Said) : Type 0 where
+  possible : p.possible ≡ true
+  shown : (n : ℕ) → is_one_of p.numbers n ≡ true → has s.shown n ≡ true
+  denied : (n : ℕ) → n < 2 ^ 64 → part_denies p n ≡ true → holds s.denied n ≡ true
+  estimate : Implies s.estimate p.estimate
+  ends : join_ends s.ends p.ends ≡ s.ends
+  demand : join s.demand p.demand ≡ s.demand
+
+or_same : (a b : Bool) → (b ≡ true → a ≡ true) → (a || b) ≡ a
+or_same true b h = refl
+or_same false true h = sym (h refl)
+or_same false false h = refl
+
+and_same : (a b : Bool) → (a ≡ true → b ≡ true) → (a && b) ≡ a
+and_same true b h = h refl
+and_same false b h = refl
+
+module _ (s : Summary) (p : Said) (asks more : List Ask) (was : WasSaid s p) (sum : IsSummary s asks) (says : Says p more) where
+  -- what is kept is right still
+  kept_still : IsSummary s (asks ++ more)
+  kept_still = added s s p s refl
+      (λ n. sym (or_same (has s.shown n) (is_one_of p.numbers n) (was.shown n)))
+      (λ up. up)
+      (λ regular n small. sym (or_same (holds s.denied n) (part_denies p n) (was.denied n small)))
+      (λ n. sym (and_same (is_within s.estimate n) (is_within p.estimate n) (was.estimate n)))
+      (sym was.ends) (sym was.demand) asks more sum says
+
+  -- all stands together still
+  stands_still : AreBounded asks → AsksStand asks → AsksStand (asks ++ more)
+  stands_still bounded stand =
+      stands_alike s asks (asks ++ more) sum kept_still bounded (bounded_more asks more bounded) stand
+      (all_both (λ ask. IsTrue (is_possible ask)) asks more stand.possible (are_possible more (sym says.possibly ∙ was.possible)))
 
 -- who says only that a number is there denies none below 2^64
 none_denied : (k n : ℕ) → n < 2 ^ 64 → part_denies (only_has k) n ≡ false
@@ -57,83 +177,35 @@ join_no_ends : (ends : Option Ends) → join_ends ends None ≡ ends
 join_no_ends None = refl
 join_no_ends (Some e) = refl
 
-module _ (asks more : List Ask) (k : ℕ) (says : Says (only_has k) more) (there : IsTrue (is_shown asks k)) where
-  same_shown : (n : ℕ) → is_shown (asks ++ more) n ≡ is_shown asks n
-  same_shown n = list_any-append (λ ask. shows ask n) asks more ∙ ap (λ b. is_shown asks n || b) (sym (says.showing n)) ∙ by (n == k) refl
-    where
-      by : (b : Bool) → (n == k) ≡ b → (is_shown asks n || (b || false)) ≡ is_shown asks n
-      by true e = let shown : is_shown asks n ≡ true = subst (λ m. is_shown asks m ≡ true) (sym (eqb-true n k e)) there in or_left (is_shown asks n) true shown ∙ sym shown
-      by false e = or-false (is_shown asks n)
+-- a number that is there is said to be there
+there_was : (s : Summary) (k : ℕ) → has s.shown k ≡ true → WasSaid s (only_has k)
+there_was s k there = record {
+  possible = refl;
+  shown = λ n t. subst (λ m. has s.shown m ≡ true) (sym (eqb-true n k (sym (or-false (n == k)) ∙ t))) there;
+  denied = λ n small t. absurd (true≢false (sym t ∙ none_denied k n small));
+  estimate = λ n t. refl;
+  ends = join_no_ends s.ends;
+  demand = join_none s.demand;
+}
 
-  same_denied : (n : ℕ) → n < 2 ^ 64 → is_denied (asks ++ more) n ≡ is_denied asks n
-  same_denied n small = list_any-append (λ ask. denies ask n) asks more ∙ ap (λ b. is_denied asks n || b) (sym (says.denying n small) ∙ none_denied k n small) ∙ or-false (is_denied asks n)
-
-  same_within : (n : ℕ) → is_within_all (asks ++ more) n ≡ is_within_all asks n
-  same_within n = list_all-append (λ ask. is_within (estimate_in ask) n) asks more ∙ ap (λ b. is_within_all asks n && b) (sym (says.estimating n)) ∙ and-true (is_within_all asks n)
-
-  same_ends : ends_of (asks ++ more) ≡ ends_of asks
-  same_ends = ends_append asks more ∙ ap (join_ends (ends_of asks)) (sym says.ending) ∙ join_no_ends (ends_of asks)
-
-  demand_is : demand (asks ++ more) ≡ demand asks
-  demand_is = demand_append asks more ∙ ap (join (demand asks)) (sym says.demanding) ∙ join_none (demand asks)
-
-  same_known : (n : ℕ) → is_known (asks ++ more) n ≡ is_known asks n
-  same_known n =
-      let said = shown_says asks k there in
-      let some : list_any says_some (asks ++ more) ≡ list_any says_some asks = list_any-append says_some asks more ∙ or_left (list_any says_some asks) (list_any says_some more) said ∙ sym said in
-      let end : list_any (λ ask. is_end ask n) (asks ++ more) ≡ list_any (λ ask. is_end ask n) asks =
-      list_any-append (λ ask. is_end ask n) asks more ∙ ap (λ b. list_any (λ ask. is_end ask n) asks || b) (no_hull more (sym says.ending) n) ∙ or-false (list_any (λ ask. is_end ask n) asks) in
-      λ i. same_shown n i || (some i && end i)
-
-  -- what is kept is right still
-  pub kept_still : (s : Summary) → IsSummary s asks → IsSummary s (asks ++ more)
-  kept_still s sum = record {
-    ascends = sum.ascends;
-    shown = λ n. sum.shown n ∙ sym (same_shown n);
-    denied = λ n small. sum.denied n small ∙ sym (same_denied n small);
-    estimate = λ n. sum.estimate n ∙ sym (same_within n);
-    ends = sum.ends ∙ sym same_ends;
-    demand = sum.demand ∙ sym demand_is;
-  }
-
-  module _ (bounded : AreBounded asks) where
-    never_denied : (n : ℕ) → is_denied (asks ++ more) n ≡ is_denied asks n
-    never_denied n = elim (cases_lt n (2 ^ 64)) [
-      | inl lt ↦ same_denied n lt
-      | inr ge ↦ list_any-append (λ ask. denies ask n) asks more ∙ or_left (is_denied asks n) (is_denied more n) (bounded n ge) ∙ sym (bounded n ge)
-    ]
-
-    given_before : (n : ℕ) → IsGivenNumber (asks ++ more) n → IsGivenNumber asks n
-    given_before n g = elim g [
-      | inl s ↦ inl (sym (same_known n) ∙ s)
-      | inr x ↦ inr (record {
-        needed = λ m s. ap (λ d. wants d m) (sym demand_is) ∙ x.needed m (same_known m ∙ s);
-        wanted = ap (λ d. wants d n) (sym demand_is) ∙ x.wanted;
-        first = (x.first.0, sym (never_denied n) ∙ x.first.1, λ m lo hi. sym (never_denied m) ∙ x.first.2 m lo hi);
-      })
-    ]
-
-    given_still : (n : ℕ) → IsGivenNumber asks n → IsGivenNumber (asks ++ more) n
-    given_still n g = elim g [
-      | inl s ↦ inl (same_known n ∙ s)
-      | inr x ↦ inr (record {
-        needed = λ m s. ap (λ d. wants d m) demand_is ∙ x.needed m (sym (same_known m) ∙ s);
-        wanted = ap (λ d. wants d n) demand_is ∙ x.wanted;
-        first = (x.first.0, never_denied n ∙ x.first.1, λ m lo hi. never_denied m ∙ x.first.2 m lo hi);
-      })
-    ]
-
-    -- all stands together still
-    pub stands_still : AsksStand asks → AsksStand (asks ++ more)
-    stands_still stand = record {
-      possible = all_both (λ ask. IsTrue (is_possible ask)) asks more stand.possible (are_possible more (sym says.possibly));
-      not_denied = λ n g. never_denied n ∙ stand.not_denied n (given_before n g);
-      demand_met = subst (λ d. MeetsDemand d (IsGivenNumber (asks ++ more))) (sym demand_is)
-          (same_demand (IsGivenNumber asks) (IsGivenNumber (asks ++ more)) given_still given_before
-          (demand asks) stand.demand_met);
-      few = λ N given.
-          all_both (IsFewFor N) asks more (stand.few N (λ n. (λ i. given_before n ((given n).0 i), λ g. (given n).1 (given_still n g)))) (few_for N more (sym (says.estimating (len N))));
-    }
+-- what adds nothing was said before
+nothing_was : (s : Summary) (p : Said) → AddsNothing s p → WasSaid s p
+nothing_was s p adds = record {
+  possible = adds.can_be;
+  shown = λ n t. absurd (true≢false (sym t ∙ ap (λ ns. is_one_of ns n) adds.lists_none));
+  denied = λ n small t. elim (or_cases (nat_lt n p.low || nat_lt p.high n) (is_between p.first p.last n && not (is_one_of p.numbers n)) t) [
+    | inl out ↦ adds.outside n small out
+    | inr within ↦ absurd (
+        let q = and_parts (nat_le p.first n) (nat_le n p.last) (and_parts (is_between p.first p.last n) (not (is_one_of p.numbers n)) within).0 in
+        let low = leb-true p.first n q.0 in
+        let high = leb-true n p.last q.1 in
+        let none = adds.no_interval in
+        omega arith)
+  ];
+  estimate = adds.estimate;
+  ends = adds.ends;
+  demand = adds.demand;
+}
 
 -- ---- of an id
 
@@ -158,8 +230,9 @@ there_before facts s asks groups g is kept may said = by s.article (subst (λ gr
     at None id e h i = absurd h
     at (Some k) id e h i = here g.id h i
       where
-        here : (o : Option (ℕ × Id)) → MatchOption o ⊥ (λ e. (g.numbers ≡ only_has e.0) × (get k.ids e.0 ≡ Some e.1)) → MatchOption o ⊥ (λ e. e.1 ≡ id) → IsTrue (list_any (shows_article id) facts)
-        here None h i = absurd h
+        here : (o : Option (ℕ × Id)) → MatchOption o (AddsNothing k.numbers g.numbers) (λ e. (g.numbers ≡ only_has e.0) × (get k.ids e.0 ≡ Some e.1)) → MatchOption o ⊥ (λ e. e.1 ≡ id)
+            → IsTrue (list_any (shows_article id) facts)
+        here None h i = absurd i
         here (Some (n, other)) h i = shown_there facts g.name n id (sym ((kept_of (told facts) groups g.name (Some k) e kept).ids n) ∙ h.1 ∙ ap Some i)
 
     by : (a : Option (Id × OfArticle)) → IfSome a (MayBeOf (Some g)) → IsThereAlready facts a
@@ -184,40 +257,52 @@ module _ (tells : Name → Told) (groups : Groups) (name : Name) (g : KeptGroup)
   was : IsKeptGroup (tells name) g
   was = kept_of tells groups name (Some g) is kept
 
-  -- the id is shown at the number, and no more is said than that
-  module _ (n : ℕ) (id : Id) (says : Says (only_has n) asks) (each : Agree (tells name).ids (tells name).places (Some (n, id)))
-      (shown : IsShownAt (tells name) (Some (n, id))) (at : get g.ids n ≡ Some id) where
+  -- the id, if one is said, is at the number already, and all that is said of the numbers was said before
+  module _ (p : Said) (id : Option (ℕ × Id)) (says : Says p asks) (before : WasSaid g.numbers p) (may : MayShow (tells name) id)
+      (same : (g.ids ≡ ids_with g.ids id) × (g.places ≡ places_with g.places id)) where
+    stand_again : AsksStand (tells name).asks → AsksStand ((tells name).asks ++ asks)
+    stand_again stand = stands_still g.numbers p (tells name).asks asks before was.numbers says was.bounded stand
+
+    keeps_again : AreKeptWith tells name asks id groups
+    keeps_again after changes =
+        subst (AreKept after) (insert-same nat_list_cmp_total (slice_cmp-IsAntisymmetric nat_cmp-IsAntisymmetric) groups name g is)
+        (part_kept tells after groups name g g asks id kept is may changes (kept_still g.numbers p (tells name).asks asks before was.numbers says) same.0 same.1)
+
+  -- the id is shown at the number
+  module _ (n : ℕ) (id : Id) (each : Agree (tells name).ids (tells name).places (Some (n, id))) (at : get g.ids n ≡ Some id) where
     told_at : (tells name).ids n ≡ Some id
     told_at = sym (was.ids n) ∙ at
 
     may_show_again : MayShow (tells name) (Some (n, id))
     may_show_again = (subst (λ o. IfSome o (λ other. id ≡ other)) (sym told_at) refl, subst (λ o. IfSome o (λ other. n ≡ other)) (sym (each told_at)) refl)
 
-    stand_again : AsksStand (tells name).asks → AsksStand ((tells name).asks ++ asks)
-    stand_again stand = stands_still (tells name).asks asks n says (shown told_at) was.bounded stand
+    same_ids : (g.ids ≡ insert g.ids n id) × (g.places ≡ insert g.places id n)
+    same_ids = same_id g n id true (ap is_some at) refl (subst (λ o. IfSome o (λ other. id ≡ other)) (sym at) refl) (agree_kept (tells name) g (Some (n, id)) was each)
 
-    keeps_again : AreKeptWith tells name asks (Some (n, id)) groups
-    keeps_again after changes =
-        let same = same_id g n id true (ap is_some at) refl (subst (λ o. IfSome o (λ other. id ≡ other)) (sym at) refl) (agree_kept (tells name) g (Some (n, id)) was each) in
-        subst (AreKept after) (insert-same nat_list_cmp_total (slice_cmp-IsAntisymmetric nat_cmp-IsAntisymmetric) groups name g is)
-        (part_kept tells after groups name g g asks (Some (n, id)) kept is may_show_again changes (kept_still (tells name).asks asks n says (shown told_at) g.numbers was.numbers) same.0 same.1)
+    was_there : (p : Said) → p ≡ only_has n → IsShownAt (tells name) (Some (n, id)) → WasSaid g.numbers p
+    was_there p only shown = subst (WasSaid g.numbers) (sym only) (there_was g.numbers n (was.numbers.shown n ∙ shown told_at))
 
   -- so of what is said of the group
-  pub joins_again : (p : OfGroup) → Says p.numbers asks → Agree (tells name).ids (tells name).places p.id → IsShownAt (tells name) p.id → HasSaid g p → AsksStand (tells name).asks
-      → AsksStand ((tells name).asks ++ asks) × MayShow (tells name) p.id
-  joins_again p says = by p.id
-    where
-      by : (id : Option (ℕ × Id)) → Agree (tells name).ids (tells name).places id → IsShownAt (tells name) id
-          → MatchOption id ⊥ (λ e. (p.numbers ≡ only_has e.0) × (get g.ids e.0 ≡ Some e.1)) → AsksStand (tells name).asks
-          → AsksStand ((tells name).asks ++ asks) × MayShow (tells name) id
-      by None each shown said stand = absurd said
-      by (Some (n, id)) each shown said stand = let only = subst (λ q. Says q asks) said.0 says in (stand_again n id only each shown said.1 stand, may_show_again n id only each shown said.1)
+  module _ (p : OfGroup) (says : Says p.numbers asks) where
+    -- what was said before, where this is the id
+    abbrev WasSaidOf : Option (ℕ × Id) → Type 0
+    WasSaidOf id = MatchOption id (AddsNothing g.numbers p.numbers) (λ e. (p.numbers ≡ only_has e.0) × (get g.ids e.0 ≡ Some e.1))
 
-  pub kept_again : (p : OfGroup) → Says p.numbers asks → Agree (tells name).ids (tells name).places p.id → IsShownAt (tells name) p.id → HasSaid g p → AreKeptWith tells name asks p.id groups
-  kept_again p says = by p.id
-    where
-      by : (id : Option (ℕ × Id)) → Agree (tells name).ids (tells name).places id → IsShownAt (tells name) id
-          → MatchOption id ⊥ (λ e. (p.numbers ≡ only_has e.0) × (get g.ids e.0 ≡ Some e.1))
-          → AreKeptWith tells name asks id groups
-      by None each shown said = absurd said
-      by (Some (n, id)) each shown said = keeps_again n id (subst (λ q. Says q asks) said.0 says) each shown said.1
+    pub joins_again : Agree (tells name).ids (tells name).places p.id → IsShownAt (tells name) p.id → HasSaid g p → AsksStand (tells name).asks
+        → AsksStand ((tells name).asks ++ asks) × MayShow (tells name) p.id
+    joins_again = by p.id
+      where
+        by : (id : Option (ℕ × Id)) → Agree (tells name).ids (tells name).places id → IsShownAt (tells name) id → WasSaidOf id → AsksStand (tells name).asks
+            → AsksStand ((tells name).asks ++ asks) × MayShow (tells name) id
+        by None each shown said stand = (stand_again p.numbers None says (nothing_was g.numbers p.numbers said) tt (refl, refl) stand, tt)
+        by (Some (n, id)) each shown said stand =
+            let may = may_show_again n id each said.1 in
+            (stand_again p.numbers (Some (n, id)) says (was_there n id each said.1 p.numbers said.0 shown) may (same_ids n id each said.1) stand, may)
+
+    pub kept_again : Agree (tells name).ids (tells name).places p.id → IsShownAt (tells name) p.id → HasSaid g p → AreKeptWith tells name asks p.id groups
+    kept_again = by p.id
+      where
+        by : (id : Option (ℕ × Id)) → Agree (tells name).ids (tells name).places id → IsShownAt (tells name) id → WasSaidOf id → AreKeptWith tells name asks id groups
+        by None each shown said = keeps_again p.numbers None says (nothing_was g.numbers p.numbers said) tt (refl, refl)
+        by (Some (n, id)) each shown said =
+            keeps_again p.numbers (Some (n, id)) says (was_there n id each said.1 p.numbers said.0 shown) (may_show_again n id each said.1) (same_ids n id each said.1)
