@@ -24,16 +24,17 @@ pub(crate) fn given_head<A: Allocator + Copy>(
     }
 }
 
-/// Returns the body as it was sent, or one of no lines.
-pub(crate) fn given_body<A: Allocator + Copy>(
-    alloc: A,
-    shown: &ShownArticle<'_, A>,
-) -> Result<Rc<OwnedBlock<A>, A>, SpoolFault>
-    ensures { Makes result (λ body. body.value ≡ unwrap_or shown.now.body []) }
+/// Returns the body as it was sent, or the one of no lines, which is at hand.
+pub(crate) fn given_body<'b, A: Allocator>(
+    shown: &'b ShownArticle<'_, A>,
+    no_lines: &'b Rc<OwnedBlock<A>, A>,
+) -> &'b Rc<OwnedBlock<A>, A>
+    requires { no_lines.now.value ≡ [] }
+    ensures { result.now.value ≡ unwrap_or shown.now.body [] }
 {
     match shown.body() {
-        Some(body) => shared(body),
-        None => no_lines(alloc),
+        Some(body) => body,
+        None => no_lines,
     }
 }
 

@@ -17,7 +17,9 @@ use crate::article::{given_body, given_head, no_lines, plain_head};
 use crate::invented::invent;
 use nntp_facts::{Facts, ShownArticle, ShownGroup, ShownNumber, ShownNumbers};
 use nntp_spool::{Spool, SpoolBuilder, SpoolFault};
+use nntp_wire::OwnedBlock;
 use std::alloc::Allocator;
+use std::rc::Rc;
 
 /// A maker of the given spool, which holds as much of it as is made.
 #[derive(Drop)]
@@ -26,6 +28,9 @@ pub(crate) struct SpoolMaker<A: Allocator> {
     builder: SpoolBuilder<A>,
     /// The least number that an id may be invented with.
     next: u64,
+    /// The body of no lines, which all articles share of which no body is shown.
+    no_lines: Rc<OwnedBlock<A>, A>,
+    ghost is_empty: { no_lines.value ≡ [] },
 }
 
 impl<A: Allocator + Copy> SpoolMaker<A> {
@@ -40,6 +45,7 @@ impl<A: Allocator + Copy> SpoolMaker<A> {
             alloc,
             builder: SpoolBuilder::new(alloc, facts.limit()),
             next: 0,
+            no_lines: no_lines(alloc)?,
         };
         let mut groups = facts.groups();
         while let Some(group) = groups.next() {
@@ -129,8 +135,8 @@ impl<A: Allocator + Copy> SpoolMaker<A> {
         self.next = invented.number + 1;
         self.builder.number_sharing(name, number, &invented.id)?;
         let head = plain_head(self.alloc, &invented.id)?;
-        let body = no_lines(self.alloc)?;
-        self.builder.article_sharing(&invented.id, &head, &body)
+        self.builder
+            .article_sharing(&invented.id, &head, &self.no_lines)
     }
 
     /// Adds the articles that are shown.
@@ -155,8 +161,8 @@ impl<A: Allocator + Copy> SpoolMaker<A> {
             → Makes result (λ _. ArticlesLeft limit (said_by marks past) G left self.new.builder) }
     {
         let head = given_head(self.alloc, shown)?;
-        let body = given_body(self.alloc, shown)?;
-        self.builder.article_sharing(shown.id(), &head, &body)
+        let body = given_body(shown, &self.no_lines);
+        self.builder.article_sharing(shown.id(), &head, body)
     }
 
     /// Returns the spool that is made.

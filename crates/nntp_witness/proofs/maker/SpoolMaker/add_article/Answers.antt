@@ -10,15 +10,10 @@ returns-in_err-head g c limit marks past G left witness articles =
     let p = err_from_is_err_and c.from_residual.result c.from_residual.ensures.1 in
     rw p.1 (p.2 ∙ c.in_err-head.ensures (witness.is_spool.ids c.args.shown.now.id articles.of_spool.0))
 
-pub returns-in_err-body : goal.returns-in_err-body
-returns-in_err-body g c limit marks past G left witness articles =
-    let p = err_from_is_err_and c.from_residual-in_err-body.result c.from_residual-in_err-body.ensures.1 in
-    rw p.1 (p.2 ∙ c.in_err-body.ensures)
-
 pub returns : goal.returns
 returns g c limit marks past G left witness articles =
-    let given : Text = record { head = c.in_ok-head.head.value; body = c.in_ok-body.body.value } in
+    let given : Text = record { head = c.in_ok-head.head.value; body = c.given_body-body.result.now.value } in
     article_added limit marks past G c.args.shown.now left c.args.self.now.builder c.article_sharing.new.self (rc_str_bytes c.id.result.now)
     given c.article_sharing.result witness articles c.id.ensures
-    (λ i. record { head = c.in_ok-head.ensures (witness.is_spool.ids c.args.shown.now.id articles.of_spool.0) i; body = c.in_ok-body.ensures i })
+    (λ i. record { head = c.in_ok-head.ensures (witness.is_spool.ids c.args.shown.now.id articles.of_spool.0) i; body = c.given_body-body.ensures i })
     c.article_sharing.ensures

@@ -21,19 +21,14 @@ returns-in_err-head g c past G before behind left stands w l =
     c.args.number left c.args.self.now.builder c.args.self.now.next l c.in-Ok.invented.number
     (c.in-Ok.ensures.first (profile_kept c.args.facts.now) past stands) c.in-Ok.ensures.small (rc_str_bytes c.in-Ok.invented.id) c.in-Ok.ensures.is))
 
-pub returns-in_err-body : goal.returns-in_err-body
-returns-in_err-body g c past G before behind left stands w l =
-    let p = err_from_is_err_and c.from_residual-in_err-body.result c.from_residual-in_err-body.ensures.1 in
-    rw p.1 (p.2 ∙ c.in_err-body.ensures)
-
 pub returns : goal.returns
 returns g c past G before behind left stands w l =
     let id = rc_str_bytes c.in-Ok.invented.id in
     let first = c.in-Ok.ensures.first (profile_kept c.args.facts.now) past stands in
     let is_id = invented_is_id c.args.facts.now.limit (said_by c.args.facts.now.marks past) G before w.given w.is_spool c.args.name.now behind
     c.args.number left c.args.self.now.builder c.args.self.now.next l c.in-Ok.invented.number first c.in-Ok.ensures.small id c.in-Ok.ensures.is in
-    let given : Text = record { head = c.in_ok-head.head.value; body = c.in_ok-body.body.value } in
+    let given : Text = record { head = c.in_ok-head.head.value; body = c.args.self.now.no_lines.value } in
     invented_makes c.args.facts.now.limit (said_by c.args.facts.now.marks past) G before w.given w.is_spool c.args.name.now behind
     c.args.number left c.args.self.now.builder c.args.self.now.next l c.in-Ok.invented.number first c.in-Ok.ensures.small id c.in-Ok.ensures.is
-    given (λ i. record { head = c.in_ok-head.ensures is_id i; body = c.in_ok-body.ensures i }) _ c.article_sharing.result c.number_sharing.new.self c.article_sharing.new.self
+    given (λ i. record { head = c.in_ok-head.ensures is_id i; body = c.args.self.now.is_empty i }) _ c.article_sharing.result c.number_sharing.new.self c.article_sharing.new.self
     c.in_ok-number_sharing.ensures c.article_sharing.ensures

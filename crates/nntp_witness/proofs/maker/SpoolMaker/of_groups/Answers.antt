@@ -30,7 +30,7 @@ returns-in_err-add_group g c past G stands witness =
     (said_by c.args.facts.now.marks past) G groups c.loop-group.maker.builder c.loop-group.maker.next)
     c.in-Some.ensures.steps (c.loop-group.invariant past G stands witness) in
     let memory = c.in_err-add_group.ensures past G c.next.new.self stands witness left in
-    memory_passed c.from_residual.result _ c.in_err-add_group.field-0.0 c.from_residual.ensures memory
+    memory_passed c.from_residual-in_err-add_group.result _ c.in_err-add_group.field-0.0 c.from_residual-in_err-add_group.ensures memory
 
 pub returns : goal.returns
 returns g c past G stands witness =
