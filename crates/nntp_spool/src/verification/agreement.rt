@@ -1,11 +1,14 @@
 //! The comparison of an answer with a spool, a row of the machine's table at a time.
-ghost use Rattle.std.specs.Prelude.{◌≡◌, ℕ, ◌↔◌, true, IsTrue, IfOk, List, Option};
+ghost use Rattle.std.specs.Prelude.{◌≡◌, ℕ, ◌==◌, ◌↔◌, true, IsTrue, IsFalse, IfOk, List, Option, None, Some, IsSome};
+ghost use Rattle.std.specs.FinMap as map;
 ghost use Rattle.nntp_wire.specs.View.{asked, request, target};
 ghost use Rattle.nntp_wire.specs.AnswerView.{response};
 ghost use Rattle.nntp_wire.specs.Answer.{plain, sends, group_is, numbers_are, active_are};
 ghost use Rattle.nntp_wire.specs.Listing.{listed_numbers, active_groups};
 ghost use Rattle.nntp_wire.specs.Name.{IsGroupName};
 ghost use Rattle.nntp_wire.specs.declared.marks.Marks.{Marks};
+ghost use Rattle.nntp_wire.specs.declared.command.What.TheVariants.{Stat};
+ghost use Rattle.nntp_article.specs.Article.Parts.{Id};
 ghost use Rattle.nntp_article.specs.Session.Machine.{is_ascending, names_differ, Agrees, Bound, CodeAgrees, NumberAgrees};
 ghost use Rattle.nntp_article.specs.Session.Spool.{Name, IsGroup, HasText, Lists, numbers as numbers_of};
 ghost use Rattle.nntp_spool.specs.AskedCounts.{AreCounted};
@@ -31,6 +34,7 @@ impl<A: Allocator + Copy> Session<A> {
         answer: &Answer<'_>,
     ) -> Result<bool, AllocError>
         requires names { (name : Name) → IsGroup spool.now name → IsGroupName name }
+        requires ids { (name : Name) (n : ℕ) (id : Id) → map.get (numbers_of spool.now name) n ≡ Some id → IsSome (map.get spool.now.articles id) }
         requires order { is_in_order (response answer.now) ≡ true }
         requires counted { AreCounted spool.now counts.old }
         ensures counted { IfOk result (λ _. AreCounted spool.now counts.new) }
@@ -150,6 +154,7 @@ impl<A: Allocator + Copy> Session<A> {
         id: &str,
         block: &Option<Block<'_>>,
     ) -> bool
+        requires ids { (name : Name) (n : ℕ) (id : Id) → map.get (numbers_of spool.now name) n ≡ Some id → IsSome (map.get spool.now.articles id) }
         ensures { (how : Marks) → IsTrue result ↔ Agrees how spool.now self.now (asked prompt.now) (sends (record { code = code; number = number; id = id.now; block = block.now })) }
     {
         let none = self.no_numbers();
@@ -164,7 +169,8 @@ impl<A: Allocator + Copy> Session<A> {
                 numbers.steps_down(current, number, id)
             }
             Prompt::To(Command::Retrieve { what, which }) => {
-                agrees_text(spool, *what, id, block) && self.agrees_number(spool, which, number, id)
+                self.agrees_number(spool, which, number, id)
+                    && agrees_text(spool, *what, number, id, block)
             }
             _ => false,
         }
@@ -237,15 +243,28 @@ fn agrees_listed<A: Allocator>(
     }
 }
 
-/// Tells whether the id has an article, and this is what is sent of it.
+/// Tells whether nothing is sent of an article that a number names.
+fn is_at_number(what: What, number: u64, block: &Option<Block<'_>>) -> bool
+    ensures { IsTrue result ↔ ((what ≡ Stat) × (block.now ≡ None) × IsFalse (number == 0)) }
+{
+    what == What::Stat && block.is_none() && number != 0
+}
+
+/// Tells whether the id has an article, and this is what is sent of it. The id of a number has one,
+/// which is looked for only where something of it is sent.
 fn agrees_text<A: Allocator>(
     spool: &Content<A>,
     what: What,
+    number: u64,
     id: &str,
     block: &Option<Block<'_>>,
 ) -> bool
+    requires { IsFalse (number == 0) → IsSome (map.get spool.now.articles id.now) }
     ensures { IsTrue result ↔ HasText spool.now what id.now block.now }
 {
+    if is_at_number(what, number, block) {
+        return true;
+    }
     match spool.article(id) {
         Some(article) => has_text(article, what, block),
         None => false,
