@@ -9,9 +9,7 @@ use Rattle.nntp_wire.specs.Answer.{Asked, Response, group_is, numbers_are, sends
 use Rattle.nntp_wire.specs.Frame.{HasFrame, frame_octets}
 use Rattle.nntp_wire.proofs.OctetLemmas.{octets-fit, octets-parts}
 use Rattle.nntp_wire.proofs.SpellsDecided.{spelling-long}
-use Rattle.nntp_pair.specs.declared.class.PairClass.{PairClass}
-use Rattle.nntp_pair.specs.declared.class.PairClass.TheVariants.{Surplus, Cut, Malformed}
-use Rattle.nntp_pair.specs.Pairing.{Unpaired, Awaits, IsBad, IsUnanswered, IsMalformed, IsSpelled, lines_in, asked_at, places_from}
+use Rattle.nntp_pair.specs.Pairing.{IsMalformed, IsSpelled, lines_in, asked_at, places_from}
 
 -- a spelling has three octets, and one for each line
 pub lines-few : (asked : Asked) (response : Response) (octets : List ℕ) → Spells asked response octets → lines_in response + 3 ≤ length octets
@@ -44,20 +42,6 @@ malformed place server initial block rest asked same has nothing =
       frame = subst (λ a. HasFrame a server initial block rest) same has;
       nothing = λ response. subst (λ a. ¬ (Spells a response (frame_octets initial block))) same (nothing response);
     }
-
--- octets that don't answer the next place are bad
-pub unanswered-bad : (class : PairClass) (place : Option (List ℕ)) (index : ℕ) (places behind : List (Option (List ℕ))) (server : List ℕ) (is_closed : Bool) (left : Unpaired)
-    → record { index = index; places = places; server = server; is_closed = is_closed } ≡ left
-    → is_closed ≡ false → places ≡ place ∷ behind → IsUnanswered class place server → IsBad class left
-unanswered-bad class place index places behind server is_closed left same is_open first why =
-    subst (IsBad class) same (at class why) where
-      awaits : Awaits (record { index = index; places = places; server = server; is_closed = is_closed }) place
-      awaits = record { is_open = is_open; places = behind; first = first }
-
-      at : (class : PairClass) → IsUnanswered class place server → IsBad class (record { index = index; places = places; server = server; is_closed = is_closed })
-      at Surplus why = absurd why
-      at Cut why = (place, awaits, why)
-      at Malformed why = (place, awaits, why)
 
 some-count : (lines : List (List ℕ)) → count_by is_some (map Some lines) ≡ length lines
 some-count [] = refl

@@ -41,12 +41,6 @@ pub record IsMalformed (asked : Asked) (server : List ℕ) : Type 0 where
   pub frame : HasFrame asked server initial block rest
   pub nothing : (response : Response) → ¬ (Spells asked response (frame_octets initial block))
 
--- why the server's octets don't answer what is asked at the place
-abbrev pub IsUnanswered : PairClass → Option (List ℕ) → List ℕ → Type 0
-IsUnanswered Surplus place server = ⊥
-IsUnanswered Cut place server = IsCut (asked_at place) server
-IsUnanswered Malformed place server = IsMalformed (asked_at place) server
-
 -- with some block the initial line spells the response to what is asked at the place, in octets
 pub record IsSpelled (place : Option (List ℕ)) (initial : List ℕ) (response : Response) : Type 0 where
   pub block : Option (List ℕ)

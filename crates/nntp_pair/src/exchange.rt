@@ -6,10 +6,9 @@ ghost use Rattle.nntp_wire.specs.Frame.{HasFrame};
 ghost use Rattle.nntp_wire.specs.Prompts.{prompt_kind};
 ghost use Rattle.nntp_wire.specs.Session.{closes};
 ghost use Rattle.nntp_wire.specs.View.{asked};
-ghost use Rattle.nntp_pair.specs.Pairing.{IsAnswered, IsUnanswered, IsMalformed, IsSpelled, asked_at, lines_in};
+ghost use Rattle.nntp_pair.specs.Pairing.{IsAnswered, IsMalformed, IsSpelled, asked_at, lines_in};
 
-use crate::class::PairClass;
-use nntp_wire::{Answer, Command, Frame, Malformed, Prompt, PromptKind, frame};
+use nntp_wire::{Answer, Command, Frame, Malformed, Prompt, PromptKind};
 use std::marker::Model;
 
 /// A response of the server with what it answers. Only `Pairs::next` and `Feed::peek` make one.
@@ -58,28 +57,6 @@ pub(crate) fn kind_at(line: Option<&[u8]>) -> PromptKind
 }
 
 impl<'a> Exchange<'a> {
-    /// The exchange at a place, which has this index, and the octets behind it.
-    pub(crate) fn read(
-        index: u64,
-        line: Option<&'a [u8]>,
-        server: &'a [u8],
-    ) -> Result<(Exchange<'a>, &'a [u8]), PairClass>
-        requires { index < 2 ^ 63 }
-        ensures { MatchResult result
-            (λ p. (p.0.index ≡ index) × (p.0.line ≡ option_copied line.entry) × IsAnswered (option_copied line.entry) server.now p.0.initial p.0.response p.1.now)
-            (λ class. IsUnanswered class (option_copied line.entry) server.now) }
-    {
-        let prompt = prompt_at(line);
-        let Some(frame) = frame(&prompt, server) else {
-            return Err(PairClass::Cut);
-        };
-        let (_, rest) = server.split_at(frame.len());
-        match Exchange::of_frame(index, line, prompt, &frame, server) {
-            Ok(exchange) => Ok((exchange, rest)),
-            Err(Malformed) => Err(PairClass::Malformed),
-        }
-    }
-
     /// The exchange at a place, of which the response has this frame, at the front of the server's octets.
     pub(crate) fn of_frame(
         index: u64,

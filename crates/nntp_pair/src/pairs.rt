@@ -1,10 +1,11 @@
 //! The pairing of both streams, one exchange at a time.
-ghost use Rattle.std.specs.Prelude.{◌≡◌, ◌<◌, ◌^◌, length, count_by, drop, is_some, MatchResult};
+ghost use Rattle.std.specs.Prelude.{◌≡◌, ◌<◌, ◌^◌, length, count_by, drop, is_some};
 ghost use Rattle.std.specs.Option.{option_copied};
 ghost use Rattle.nntp_wire.specs.View.{asked};
-ghost use Rattle.nntp_pair.specs.Pairing.{IsNext, IsBad, IsPassedOver, asked_at, streams, line_ahead};
+ghost use Rattle.nntp_pair.specs.Pairing.{IsBad, IsPassedOver, asked_at, streams, line_ahead};
 ghost use Rattle.nntp_pair.specs.Step.{IsStep, OnExchange};
 ghost use Rattle.nntp_pair.specs.declared.class.PairClass.TheVariants.{Malformed};
+ghost use Rattle.nntp_pair.specs.declared.step.Step.TheVariants.{Bad};
 
 use crate::class::PairClass;
 use crate::exchange::{Exchange, prompt_at};
@@ -77,37 +78,35 @@ impl<'a> Pairs<'a> {
             let unanswered = self.places.count_lines();
             return Step::End { unanswered };
         }
-        match self.split_first() {
-            Ok((exchange, behind)) => {
-                *self = behind;
-                Step::Exchange(exchange)
-            }
-            Err(class) => Step::Bad {
-                index: self.index,
-                class,
-            },
-        }
-    }
-
-    /// The next exchange, and the pairing behind it.
-    fn split_first(&self) -> Result<(Exchange<'a>, Pairs<'a>), PairClass>
-        ensures { MatchResult result (λ p. IsNext self.now p.0 p.1) (λ class. IsBad class self.now) }
-    {
         if self.is_closed {
-            return Err(PairClass::Surplus);
+            return self.bad(PairClass::Surplus);
         }
         let Some((line, places)) = self.places.split_first() else {
-            return Err(PairClass::Surplus);
+            return self.bad(PairClass::Surplus);
         };
-        let (exchange, server) = Exchange::read(self.index, line, self.server)?;
-        let is_closed = exchange.closes();
-        let behind = Pairs {
-            index: self.index + 1,
-            places,
-            server,
-            is_closed,
+        let prompt = prompt_at(line);
+        let Some(frame) = frame(&prompt, self.server) else {
+            return self.bad(PairClass::Cut);
         };
-        Ok((exchange, behind))
+        let Ok(exchange) = Exchange::of_frame(self.index, line, prompt, &frame, self.server) else {
+            return self.bad(PairClass::Malformed);
+        };
+        let (_, server) = self.server.split_at(frame.len());
+        self.index += 1;
+        self.places = places;
+        self.server = server;
+        self.is_closed = exchange.closes();
+        Step::Exchange(exchange)
+    }
+
+    /// The end at octets that answer nothing.
+    fn bad(&self, class: PairClass) -> Step<'a>
+        ensures { result ≡ Bad self.now.index class }
+    {
+        Step::Bad {
+            index: self.index,
+            class,
+        }
     }
 
     /// Goes behind the next frame, where it spells no response ([`PairClass::Malformed`]), and gives it back. It answers
