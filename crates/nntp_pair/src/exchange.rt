@@ -1,14 +1,15 @@
 //! A response with what it answers.
-ghost use Rattle.std.specs.Prelude.{◌≡◌, ◌<◌, ◌^◌, drop, MatchResult};
+ghost use Rattle.std.specs.Prelude.{◌≡◌, ◌<◌, ◌^◌, drop};
 ghost use Rattle.std.specs.Option.{option_copied};
 ghost use Rattle.nntp_wire.specs.AnswerView.{response};
-ghost use Rattle.nntp_wire.specs.Frame.{HasFrame};
+ghost use Rattle.nntp_wire.specs.Answer.{Spells};
+ghost use Rattle.nntp_wire.specs.Frame.{HasFrame, frame_octets};
 ghost use Rattle.nntp_wire.specs.Prompts.{prompt_kind};
 ghost use Rattle.nntp_wire.specs.Session.{closes};
 ghost use Rattle.nntp_wire.specs.View.{asked};
-ghost use Rattle.nntp_pair.specs.Pairing.{IsAnswered, IsMalformed, IsSpelled, asked_at, lines_in};
+ghost use Rattle.nntp_pair.specs.Pairing.{IsAnswered, IsSpelled, asked_at, lines_in};
 
-use nntp_wire::{Answer, Command, Frame, Malformed, Prompt, PromptKind};
+use nntp_wire::{Answer, Command, Frame, Prompt, PromptKind};
 use std::marker::Model;
 
 /// A response of the server with what it answers. Only `Pairs::next` and `Feed::peek` make one.
@@ -57,32 +58,30 @@ pub(crate) fn kind_at(line: Option<&[u8]>) -> PromptKind
 }
 
 impl<'a> Exchange<'a> {
-    /// The exchange at a place, of which the response has this frame, at the front of the server's octets.
-    pub(crate) fn of_frame(
+    /// The exchange at a place, of which the response says this by its frame, at the front of the server's octets.
+    pub(crate) fn new(
         index: u64,
         line: Option<&'a [u8]>,
         prompt: Prompt<'a>,
         frame: &Frame<'a>,
+        answer: Answer<'a>,
         server: &'a [u8],
-    ) -> Result<Exchange<'a>, Malformed>
+    ) -> Exchange<'a>
         requires index { index < 2 ^ 63 }
         requires prompt { asked prompt ≡ asked_at (option_copied line) }
         requires frame { HasFrame (asked_at (option_copied line)) server.now frame.now.initial frame.now.block (drop frame.now.len server.now) }
-        ensures { MatchResult result
-            (λ e. (e.index ≡ index) × (e.line ≡ option_copied line.entry) × IsAnswered (option_copied line.entry) server.now e.initial e.response (drop frame.now.len server.now))
-            (λ error. IsMalformed (asked_at (option_copied line.entry)) server.now) }
+        requires answer { Spells (asked prompt) (response answer) (frame_octets frame.now.initial frame.now.block) }
+        ensures index { result.index ≡ index }
+        ensures line { result.line ≡ option_copied line.entry }
+        ensures answered { IsAnswered (option_copied line.entry) server.now result.initial result.response (drop frame.now.len server.now) }
     {
-        let Ok(answer) = Answer::parse(&prompt, frame) else {
-            return Err(Malformed);
-        };
-        let initial = frame.initial();
-        Ok(Exchange {
+        Exchange {
             index,
             line,
-            initial,
+            initial: frame.initial(),
             prompt,
             answer,
-        })
+        }
     }
 
     /// The index of its place in the session: 0 is the greeting's, k that of the client's k-th line, counted from 1 (RFC

@@ -16,7 +16,7 @@ use crate::peek::Peek;
 use crate::places::count_lines;
 use crate::searches::Searches;
 use crate::side::Side;
-use nntp_wire::Malformed;
+use nntp_wire::Answer;
 use std::alloc::{Allocator, Global};
 use std::marker::Model;
 
@@ -139,13 +139,12 @@ impl<A: Allocator + Copy> Feed<A> {
         let Some(frame) = search.frame(server) else {
             return Peek::Nothing;
         };
-        match Exchange::of_frame(index, line, prompt_at(line), &frame, server) {
-            Ok(exchange) => Peek::Whole(exchange),
-            Err(Malformed) => {
-                let class = PairClass::Malformed;
-                Peek::Bad { index, class }
-            }
-        }
+        let prompt = prompt_at(line);
+        let Ok(answer) = Answer::parse(&prompt, &frame) else {
+            let class = PairClass::Malformed;
+            return Peek::Bad { index, class };
+        };
+        Peek::Whole(Exchange::new(index, line, prompt, &frame, answer, server))
     }
 
     /// Goes behind the exchange that waits, and gives its octets back. The caller has to know that one waits:

@@ -11,7 +11,7 @@ use crate::class::PairClass;
 use crate::exchange::{Exchange, prompt_at};
 use crate::places::Places;
 use crate::step::Step;
-use nntp_wire::{Frame, Prompt, frame};
+use nntp_wire::{Answer, Frame, Prompt, frame};
 use std::marker::Model;
 
 /// The pairing of both streams: what is left of it. It keeps nothing but slices of the streams, and takes no memory.
@@ -88,9 +88,10 @@ impl<'a> Pairs<'a> {
         let Some(frame) = frame(&prompt, self.server) else {
             return self.bad(PairClass::Cut);
         };
-        let Ok(exchange) = Exchange::of_frame(self.index, line, prompt, &frame, self.server) else {
+        let Ok(answer) = Answer::parse(&prompt, &frame) else {
             return self.bad(PairClass::Malformed);
         };
+        let exchange = Exchange::new(self.index, line, prompt, &frame, answer, self.server);
         let (_, server) = self.server.split_at(frame.len());
         self.index += 1;
         self.places = places;

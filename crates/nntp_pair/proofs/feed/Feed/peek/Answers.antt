@@ -1,4 +1,4 @@
-use Rattle.std.proofs.Common.{ℕ, List, Option, MatchOption, refl, sym, subst, arith, drop}
+use Rattle.std.proofs.Common.{ℕ, List, Option, MatchOption, refl, sym, subst, drop}
 use Rattle.std.specs.Prelude.{⊤}
 use Rattle.std.specs.Option.{option_copied}
 use Rattle.nntp_wire.specs.Frame.{HasFrame}
@@ -8,6 +8,7 @@ use Rattle.nntp_pair.specs.Feeding.{IsPeek}
 use Rattle.nntp_pair.specs.Searching.{left_from, IsForNext}
 use Rattle.nntp_pair.specs.declared.class.PairClass.TheVariants.{Malformed}
 use Rattle.nntp_pair.specs.declared.peek.Peek.TheVariants as peek
+use Rattle.nntp_pair.proofs.PairLemmas.{malformed}
 use Rattle.nntp_pair.proofs.FeedLemmas.{nothing, begins-awaits, for-next, next-of, malformed-for_good}
 use Rattle.nntp_pair.proofs.feed.Feed.peek.Goals as goal
 
@@ -27,11 +28,8 @@ returns-in_default-frame-2 g c =
     (subst (λ t. HasFrame (asked_at place) t initial block rest) (sym c.as_slice-server.ensures) has)) in
     subst (λ fed. IsPeek fed peek.Nothing) c.self.view_is (c.if-self.false, both.0, both.1)
 
-pub of_frame-requires-clause-index : goal.of_frame-requires-clause-index
-of_frame-requires-clause-index g c = let counted = c.self.invariant.counted in let small = c.self.invariant.small in omega arith
-
-pub of_frame-requires-clause-frame : goal.of_frame-requires-clause-frame
-of_frame-requires-clause-frame g c =
+pub new-requires-clause-frame : goal.new-requires-clause-frame
+new-requires-clause-frame g c =
     let left = left_from c.self.inside.index c.self.inside.is_closed c.self.inside.client c.self.inside.server in
     let place = option_copied c.in-Some.line in
     let is = subst (λ f. MatchOption f ⊤ (IsForNext left)) c.in-Some-frame.is c.self.invariant.searched.frame in
@@ -39,22 +37,27 @@ of_frame-requires-clause-frame g c =
     let awaits = begins-awaits c.self.inside.index c.self.inside.is_closed c.self.inside.client c.self.inside.server place c.in-Some.field-0-1.now c.if-self-2.false begins in
     c.in-Some-frame-2.ensures.found (asked_at place) (for-next left c.in-Some-frame.search place is awaits)
 
-pub returns-in-Ok : goal.returns-in-Ok
-returns-in-Ok g c =
+pub returns : goal.returns
+returns g c =
     let left = left_from c.self.inside.index c.self.inside.is_closed c.self.inside.client c.self.inside.server in
     let place = option_copied c.in-Some.line in
     let begins = rw c.as_slice-client.ensures at c.in-Some.ensures in
     let awaits = begins-awaits c.self.inside.index c.self.inside.is_closed c.self.inside.client c.self.inside.server place c.in-Some.field-0-1.now c.if-self-2.false begins in
     let rest = drop c.in-Some-frame-2.frame.len c.as_slice-server.result.now in
-    let answered = subst (λ t. IsAnswered place t c.in-Ok.exchange.initial c.in-Ok.exchange.response rest) c.as_slice-server.ensures c.in-Ok.ensures.2 in
-    let next = next-of left place c.in-Ok.exchange rest awaits c.in-Ok.ensures.0 c.in-Ok.ensures.1 answered in
-    subst (λ fed. IsPeek fed (peek.Whole c.in-Ok.exchange)) c.self.view_is (c.if-self.false, next.0, next.1)
+    let exchange = c.new.result in
+    let answered = subst (λ t. IsAnswered place t exchange.initial exchange.response rest) c.as_slice-server.ensures c.new.ensures.answered in
+    let next = next-of left place exchange rest awaits c.new.ensures.index c.new.ensures.line answered in
+    subst (λ fed. IsPeek fed (peek.Whole exchange)) c.self.view_is (c.if-self.false, next.0, next.1)
 
-pub returns-in-Err : goal.returns-in-Err
-returns-in-Err g c =
+pub returns-in_default-parse : goal.returns-in_default-parse
+returns-in_default-parse g c =
     let left = left_from c.self.inside.index c.self.inside.is_closed c.self.inside.client c.self.inside.server in
     let place = option_copied c.in-Some.line in
     let begins = rw c.as_slice-client.ensures at c.in-Some.ensures in
     let awaits = begins-awaits c.self.inside.index c.self.inside.is_closed c.self.inside.client c.self.inside.server place c.in-Some.field-0-1.now c.if-self-2.false begins in
-    let why = subst (λ t. IsMalformed (asked_at place) t) c.as_slice-server.ensures c.in-Err.ensures in
+    let frame = c.in-Some-frame-2.frame in
+    let is = subst (λ f. MatchOption f ⊤ (IsForNext left)) c.in-Some-frame.is c.self.invariant.searched.frame in
+    let has = c.in-Some-frame-2.ensures.found (asked_at place) (for-next left c.in-Some-frame.search place is awaits) in
+    let bad = malformed place c.as_slice-server.result.now frame.initial frame.block (drop frame.len c.as_slice-server.result.now) (asked_at place) refl has (λ r. rw (← c.prompt_at-prompt.ensures) (c.in_default-parse.ensures r)) in
+    let why = subst (λ t. IsMalformed (asked_at place) t) c.as_slice-server.ensures bad in
     subst (λ fed. IsPeek fed (peek.Bad c.self.inside.index Malformed)) c.self.view_is (c.if-self.false, refl, malformed-for_good left place awaits why)
