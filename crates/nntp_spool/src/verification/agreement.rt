@@ -75,7 +75,6 @@ impl<A: Allocator + Copy> Session<A> {
     fn agrees_code(&self, spool: &Content<A>, command: &Command<'_>, code: u64) -> bool
         ensures { IsTrue result ↔ CodeAgrees spool.now self.now (request command.now) code }
     {
-        let none = self.no_numbers();
         let current = self.current();
         match command {
             Command::Group(word) => spool.group_named(*word).is_none(),
@@ -86,17 +85,17 @@ impl<A: Allocator + Copy> Session<A> {
             Command::Next => match code {
                 412 => true,
                 420 => current.is_none(),
-                _ => self.selected_numbers(spool, &none).is_at_top(current),
+                _ => self.selected_numbers(spool).is_at_top(current),
             },
             Command::Last => match code {
                 412 => true,
                 420 => current.is_none(),
-                _ => self.selected_numbers(spool, &none).is_at_bottom(current),
+                _ => self.selected_numbers(spool).is_at_bottom(current),
             },
             Command::Retrieve { which, .. } => match which {
                 Which::Id(word) => !spool.knows(*word),
                 Which::Number(Some(number)) => {
-                    code == 412 || self.selected_numbers(spool, &none).id(*number).is_none()
+                    code == 412 || self.selected_numbers(spool).id(*number).is_none()
                 }
                 Which::Number(None) => true,
                 Which::Current => code == 412 || current.is_none(),
@@ -157,15 +156,14 @@ impl<A: Allocator + Copy> Session<A> {
         requires ids { (name : Name) (n : ℕ) (id : Id) → map.get (numbers_of spool.now name) n ≡ Some id → IsSome (map.get spool.now.articles id) }
         ensures { (how : Marks) → IsTrue result ↔ Agrees how spool.now self.now (asked prompt.now) (sends (record { code = code; number = number; id = id.now; block = block.now })) }
     {
-        let none = self.no_numbers();
         let current = self.current();
         match prompt {
             Prompt::To(Command::Next) => {
-                let numbers = self.selected_numbers(spool, &none);
+                let numbers = self.selected_numbers(spool);
                 numbers.steps_up(current, number, id)
             }
             Prompt::To(Command::Last) => {
-                let numbers = self.selected_numbers(spool, &none);
+                let numbers = self.selected_numbers(spool);
                 numbers.steps_down(current, number, id)
             }
             Prompt::To(Command::Retrieve { what, which }) => {
@@ -181,8 +179,7 @@ impl<A: Allocator + Copy> Session<A> {
         ensures { (code : ℕ) (block : Option (List (List ℕ)))
             → IsTrue result ↔ NumberAgrees spool.now self.now (target which.now) (record { code = code; number = number; id = id.now; block = block }) }
     {
-        let none = self.no_numbers();
-        let numbers = self.selected_numbers(spool, &none);
+        let numbers = self.selected_numbers(spool);
         match which {
             Which::Id(_) => number == 0 || numbers.has_id(number, id),
             Which::Number(_) => numbers.has_id(number, id),

@@ -6,7 +6,6 @@ ghost use Rattle.nntp_pair.specs.Pairing.{asked_at};
 ghost use Rattle.nntp_article.specs.Session.Machine.{start, MayAnswer, after, current_after, selected_numbers};
 ghost use Rattle.nntp_article.specs.Session.Spool.{IsSpool, least, numbers as numbers_of};
 ghost use Rattle.nntp_spool.specs.AskedCounts.{AreCounted};
-ghost use Rattle.std.specs.FinMap as map;
 
 use crate::value::content::Content;
 use crate::value::numbers::Numbers;
@@ -21,12 +20,15 @@ use std::marker::Model;
 /// The state of a session: what it shows, and the current article.
 #[derive(Drop)]
 pub(crate) struct Session<A: Allocator> {
-    alloc: A,
     visible: Visible<A>,
     current: Option<u64>,
+    /// No numbers, which are lent where no group is selected.
+    no_numbers: Numbers<A>,
 }
 
 impl<A: Allocator> Model for Session<A> {
+    ghost use Rattle.std.specs.Prelude.{◌≡◌};
+    ghost use Rattle.std.specs.FinMap.{empty};
     ghost use Rattle.nntp_article.specs.Session.Machine.{State};
     ghost use Rattle.nntp_spool.specs.Codes.{coded_state};
 
@@ -35,6 +37,8 @@ impl<A: Allocator> Model for Session<A> {
     ghost coded = { coded_state };
 
     ghost view = { λ a. record { visible = a.visible; current = a.current } };
+
+    ghost invariant = { λ a. a.no_numbers ≡ empty };
 }
 
 impl<A: Allocator + Copy> Session<A> {
@@ -43,9 +47,9 @@ impl<A: Allocator + Copy> Session<A> {
         ensures { result ≡ start }
     {
         Session {
-            alloc,
             visible: Visible::new(alloc),
             current: None,
+            no_numbers: Numbers::new(alloc),
         }
     }
 
@@ -85,28 +89,6 @@ impl<A: Allocator + Copy> Session<A> {
         self.current = current;
         Ok(())
     }
-
-    /// Returns the numbers of the selected group, or those of no group, which are `none`.
-    pub(crate) fn selected_numbers<'n>(
-        &self,
-        spool: &'n Content<A>,
-        none: &'n Numbers<A>,
-    ) -> &'n Numbers<A>
-        requires { none.now ≡ map.empty }
-        ensures { result.now ≡ selected_numbers spool.now self.now.visible }
-    {
-        match spool.group_named(self.visible.selected_name()) {
-            Some((_, numbers)) => numbers,
-            None => none,
-        }
-    }
-
-    /// Returns the numbers of no group, which are none.
-    pub(crate) fn no_numbers(&self) -> Numbers<A>
-        ensures { result ≡ map.empty }
-    {
-        Numbers::new(self.alloc)
-    }
 }
 
 impl<A: Allocator> Session<A> {
@@ -115,6 +97,16 @@ impl<A: Allocator> Session<A> {
         ensures { result ≡ self.now.current }
     {
         self.current
+    }
+
+    /// Returns the numbers of the selected group, or those of no group, which are none.
+    pub(crate) fn selected_numbers<'n>(&'n self, spool: &'n Content<A>) -> &'n Numbers<A>
+        ensures { result.now ≡ selected_numbers spool.now self.now.visible }
+    {
+        match spool.group_named(self.visible.selected_name()) {
+            Some((_, numbers)) => numbers,
+            None => &self.no_numbers,
+        }
     }
 
     /// Returns the number of the current article after the answer: the first of a group that was
