@@ -18,7 +18,7 @@ use Rattle.nntp_spool.proofs.LineFields.{list_all_weaken}
 use Rattle.nntp_article.specs.Article.Parts.{Line, Id, is_head, is_clean_head, said_id}
 use Rattle.nntp_article.specs.Session.Machine.{is_article_number, says_own_id, is_same}
 use Rattle.nntp_article.specs.Session.Spool.{Name, Spool, Numbers, numbers, IsSpool, is_line}
-use Rattle.nntp_spool.specs.Content.{all_known, ids_have_articles}
+use Rattle.nntp_spool.specs.Content.{all_known, IdsHaveArticles, ids_have_articles}
 use Rattle.nntp_spool.specs.Reading.{spool_at}
 use Rattle.nntp_spool.specs.declared.text.read_fault.ReadFault.{ReadFault}
 use Rattle.nntp_spool.specs.Limited.{LimitedSpool, IsWithinLimit}
@@ -61,7 +61,7 @@ module _ (limit : ℕ) (S : Spool) where
       by None e = no_numbers limit
       by (Some N) e = (groups name N e).numbers
 
-  known_ids : ids_have_articles S ≡ true → (name : Name) (n : ℕ) (id : Id) → get (numbers S name) n ≡ Some id → IsSome (get S.articles id)
+  known_ids : ids_have_articles S ≡ true → IdsHaveArticles S
   known_ids known name n id g = by (get S.groups name) refl g
     where
       by : (o : Option Numbers) → get S.groups name ≡ o → get (unwrap_or o empty) n ≡ Some id → IsSome (get S.articles id)

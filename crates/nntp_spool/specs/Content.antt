@@ -1,5 +1,5 @@
 -- Groups and articles that a spool may hold, whether each id has its article or not.
-use Rattle.std.specs.Prelude.{◌≡◌, ℕ, Bool, true, ◌&&◌, if◌then◌else◌, List, Some, is_some}
+use Rattle.std.specs.Prelude.{◌≡◌, ℕ, Bool, true, ◌&&◌, if◌then◌else◌, List, Some, IsSome, is_some}
 use Rattle.std.specs.List.{list_all}
 use Rattle.std.specs.FinMap.{get, insert, empty, entries}
 use Rattle.nntp_wire.specs.Decided.{is_group_name, is_message_id}
@@ -34,6 +34,10 @@ abbrev pub all_known : Spool → Numbers → Bool
 all_known S N = list_all (λ e. is_some (get S.articles e.1)) (entries N)
 
 -- each id of a number has an article
+abbrev pub IdsHaveArticles : Spool → Type 0
+IdsHaveArticles S = (name : Name) (n : ℕ) (id : Id) → get (numbers S name) n ≡ Some id → IsSome (get S.articles id)
+
+-- whether each id of a number has an article
 abbrev pub ids_have_articles : Spool → Bool
 ids_have_articles S = list_all (λ g. all_known S g.1) (entries S.groups)
 

@@ -1,5 +1,5 @@
 //! The comparison of an answer with a spool, a row of the machine's table at a time.
-ghost use Rattle.std.specs.Prelude.{◌≡◌, ℕ, ◌==◌, ◌↔◌, true, IsTrue, IsFalse, IfOk, List, Option, None, Some, IsSome};
+ghost use Rattle.std.specs.Prelude.{◌≡◌, ℕ, ◌==◌, ◌↔◌, true, IsTrue, IsFalse, IfOk, List, Option, None, IsSome};
 ghost use Rattle.std.specs.FinMap as map;
 ghost use Rattle.nntp_wire.specs.View.{asked, request, target};
 ghost use Rattle.nntp_wire.specs.AnswerView.{response};
@@ -8,10 +8,10 @@ ghost use Rattle.nntp_wire.specs.Listing.{listed_numbers, active_groups};
 ghost use Rattle.nntp_wire.specs.Name.{IsGroupName};
 ghost use Rattle.nntp_wire.specs.declared.marks.Marks.{Marks};
 ghost use Rattle.nntp_wire.specs.declared.command.What.TheVariants.{Stat};
-ghost use Rattle.nntp_article.specs.Article.Parts.{Id};
 ghost use Rattle.nntp_article.specs.Session.Machine.{is_ascending, names_differ, Agrees, Bound, CodeAgrees, NumberAgrees};
 ghost use Rattle.nntp_article.specs.Session.Spool.{Name, IsGroup, HasText, Lists, numbers as numbers_of};
 ghost use Rattle.nntp_spool.specs.AskedCounts.{AreCounted};
+ghost use Rattle.nntp_spool.specs.Content.{IdsHaveArticles};
 ghost use Rattle.nntp_spool.specs.Sessions.{is_in_order};
 
 use crate::value::content::Content;
@@ -34,7 +34,7 @@ impl<A: Allocator + Copy> Session<A> {
         answer: &Answer<'_>,
     ) -> Result<bool, AllocError>
         requires names { (name : Name) → IsGroup spool.now name → IsGroupName name }
-        requires ids { (name : Name) (n : ℕ) (id : Id) → map.get (numbers_of spool.now name) n ≡ Some id → IsSome (map.get spool.now.articles id) }
+        requires ids { IdsHaveArticles spool.now }
         requires order { is_in_order (response answer.now) ≡ true }
         requires counted { AreCounted spool.now counts.old }
         ensures counted { IfOk result (λ _. AreCounted spool.now counts.new) }
@@ -153,7 +153,7 @@ impl<A: Allocator + Copy> Session<A> {
         id: &str,
         block: &Option<Block<'_>>,
     ) -> bool
-        requires ids { (name : Name) (n : ℕ) (id : Id) → map.get (numbers_of spool.now name) n ≡ Some id → IsSome (map.get spool.now.articles id) }
+        requires ids { IdsHaveArticles spool.now }
         ensures { (how : Marks) → IsTrue result ↔ Agrees how spool.now self.now (asked prompt.now) (sends (record { code = code; number = number; id = id.now; block = block.now })) }
     {
         let current = self.current();
@@ -241,7 +241,7 @@ fn agrees_listed<A: Allocator>(
 }
 
 /// Tells whether nothing is sent of an article that a number names.
-fn is_at_number(what: What, number: u64, block: &Option<Block<'_>>) -> bool
+fn sends_nothing_at_number(what: What, number: u64, block: &Option<Block<'_>>) -> bool
     ensures { IsTrue result ↔ ((what ≡ Stat) × (block.now ≡ None) × IsFalse (number == 0)) }
 {
     what == What::Stat && block.is_none() && number != 0
@@ -259,7 +259,7 @@ fn agrees_text<A: Allocator>(
     requires { IsFalse (number == 0) → IsSome (map.get spool.now.articles id.now) }
     ensures { IsTrue result ↔ HasText spool.now what id.now block.now }
 {
-    if is_at_number(what, number, block) {
+    if sends_nothing_at_number(what, number, block) {
         return true;
     }
     match spool.article(id) {
