@@ -1,7 +1,8 @@
 //! Blocks that own their octets.
 ghost use Rattle.std.specs.Prelude.{◌≡◌, ◌<◌, ◌^◌, ◌↔◌, ◌++◌, ◌∷◌, [], List, ℕ, length, IsTrue, IfOk, OnOk, OnErr};
-ghost use Rattle.nntp_wire.specs.Octets.{crlf, is_clean};
-ghost use Rattle.nntp_wire.specs.Block.{AreClean, stuffed};
+ghost use Rattle.std.specs.List.{list_all};
+ghost use Rattle.nntp_wire.specs.Octets.{are_octets, crlf, is_clean};
+ghost use Rattle.nntp_wire.specs.Block.{AreClean, Sends, received, stuffed};
 
 use crate::block::Block;
 use std::alloc::{AllocError, Allocator, Global};
@@ -31,11 +32,10 @@ impl<A: Allocator> OwnedBlock<A> {
     pub fn as_block(&self) -> Block<'_>
         ensures same { result ≡ self.now }
         ensures clean { AreClean self.now }
+        ensures octets { IsTrue (list_all are_octets self.now) }
         ensures short { length self.now < 2 ^ 64 }
     {
-        Block {
-            sent: self.sent.as_slice(),
-        }
+        block_of(self.sent.as_slice())
     }
 
     /// Takes all lines out. Their memory is kept for those that follow.
@@ -75,6 +75,15 @@ impl<A: Allocator + Copy> OwnedBlock<A> {
             }
         }
     }
+}
+
+/// Lends the block whose lines these octets send.
+fn block_of(sent: &[u8]) -> Block<'_>
+    requires { Sends sent.now (received sent.now) }
+    ensures lines { result ≡ received sent.now }
+    ensures octets { IsTrue (list_all are_octets (received sent.now)) }
+{
+    Block { sent }
 }
 
 /// Adds a line as it is sent: with one more dot where it begins with one, and with CRLF.

@@ -1,10 +1,15 @@
-use Rattle.std.proofs.Common.{ap, length, arith, subst}
+use Rattle.std.proofs.Common.{IsTrue, ap, length, arith, subst, ◌∙◌}
+use Rattle.std.specs.List.{list_all}
+use Rattle.nntp_wire.specs.Octets.{are_octets}
 use Rattle.nntp_wire.specs.Block.{AreClean, received}
 use Rattle.nntp_wire.proofs.SubBlockLemmas.{length-lines}
 use Rattle.nntp_wire.proofs.owned_block.OwnedBlock.as_block.Goals as goal
 
 pub returns-clause-clean : goal.returns-clause-clean
 returns-clause-clean g c = subst AreClean c.self.view_is c.self.invariant.clean
+
+pub returns-clause-octets : goal.returns-clause-octets
+returns-clause-octets g c = subst (λ lines. IsTrue (list_all are_octets lines)) (ap received c.as_slice.ensures.value ∙ c.self.view_is) c.block_of.ensures.octets
 
 pub returns-clause-short : goal.returns-clause-short
 returns-clause-short g c =
