@@ -7,8 +7,9 @@ ghost use Rattle.nntp_wire.specs.Search.{IsSearched, IsThrough};
 
 use memchr::{memchr, memmem};
 
-/// How many dots are looked at one by one, before many octets are searched at once.
-const DOTS: usize = 8;
+/// How many of the first dots are looked at one by one, before many octets are searched at once:
+/// those of an article of some lines, its last among them.
+const FIRST_DOTS: usize = 16;
 
 /// A search for some octets, its needle, in a stream that grows. No octet that can't begin or end
 /// the needle any more is looked at again.
@@ -76,7 +77,7 @@ fn find_block_end(octets: &[u8]) -> Option<usize>
     ensures { FindsNeedle octets.now end_of_block 0 result }
 {
     let mut seen = 0;
-    for _dot in 0..DOTS {
+    for _dot in 0..FIRST_DOTS {
         let (_, ahead) = octets.split_at(seen);
         let dot = seen + memchr(b'.', ahead)?;
         if is_dot_line(octets, dot) {
