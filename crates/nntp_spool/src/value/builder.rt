@@ -15,7 +15,7 @@ use crate::value::content::Content;
 use crate::value::numbers::Numbers;
 use crate::value::spool_fault::SpoolFault;
 use crate::value::well_formed::{
-    are_block_lines, are_lines, id_of, is_block_head_of, is_head_of, name_of,
+    are_lines, block_has_lines, id_of, is_block_head_of, is_head_of, name_of,
 };
 use nntp_article::is_article_number;
 use nntp_wire::{Limit, OwnedBlock};
@@ -120,8 +120,9 @@ fn blocks_fault<A: Allocator>(
     let Some(id) = id_of(id) else {
         return Some(SpoolFault::BadId);
     };
-    let is_head = are_block_lines(head) && is_block_head_of(id, head);
-    parts_fault(content, id, is_head, are_block_lines(body))
+    block_has_lines(head);
+    block_has_lines(body);
+    parts_fault(content, id, is_block_head_of(id, head), true)
 }
 
 /// Returns why an article can't be added by a message-id, if it can't. `is_head` says whether its

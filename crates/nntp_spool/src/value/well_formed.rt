@@ -1,5 +1,5 @@
 //! The forms that names, ids and lines have to have.
-ghost use Rattle.std.specs.Prelude.{◌≡◌, ◌<◌, ◌^◌, true, false, length, MatchOption};
+ghost use Rattle.std.specs.Prelude.{◌≡◌, ◌<◌, ◌^◌, true, false, length, IsTrue, MatchOption};
 ghost use Rattle.std.specs.List.{list_all};
 ghost use Rattle.nntp_wire.specs.Decided.{is_group_name, is_message_id};
 ghost use Rattle.nntp_article.specs.Session.Spool.{is_line};
@@ -48,12 +48,12 @@ pub(crate) fn are_lines<A: Allocator>(lines: &[Vec<u8, A>]) -> bool
     lines.iter().all(|line| is_line(line.as_slice()))
 }
 
-/// Tells whether the lines of a block have no NUL, CR or LF.
-pub(crate) fn are_block_lines<A: Allocator>(lines: &OwnedBlock<A>) -> bool
-    ensures value { result ≡ list_all is_line lines.now }
-    ensures short { length lines.now < 2 ^ 64 }
+/// The law that no line of a block has a NUL, CR or LF, so that none is looked at again.
+pub(crate) fn block_has_lines<A: Allocator>(block: &OwnedBlock<A>)
+    ensures lines { IsTrue (list_all is_line block.now) }
+    ensures short { length block.now < 2 ^ 64 }
 {
-    lines.as_block().lines().all(|line| is_line(line))
+    let _lent = block.as_block();
 }
 
 /// Tells whether the lines are a head that says this id or none.

@@ -1,0 +1,18 @@
+use Rattle.std.proofs.Common.{◌≡◌, true, List, [], ◌∷◌, refl}
+use Rattle.std.specs.List.{list_all}
+use Rattle.std.proofs.lemmas.Bool.{and_from, and_parts}
+use Rattle.nntp_wire.specs.Octets.{are_octets, is_clean}
+use Rattle.nntp_wire.specs.Block.{AreClean}
+use Rattle.nntp_article.specs.Article.Parts.{Line}
+use Rattle.nntp_article.specs.Session.Spool.{is_line}
+use Rattle.nntp_spool.proofs.value.well_formed.block_has_lines.Goals as goal
+
+-- clean lines of octets are lines
+clean_octets : (lines : List Line) → AreClean lines → list_all are_octets lines ≡ true → list_all is_line lines ≡ true
+clean_octets [] clean octets = refl
+clean_octets (l ∷ ls) clean octets =
+    let both = and_parts (are_octets l) (list_all are_octets ls) octets in
+    and_from (is_line l) (list_all is_line ls) (and_from (is_clean l) (are_octets l) clean.0 both.0) (clean_octets ls clean.1 both.1)
+
+pub returns-clause-lines : goal.returns-clause-lines
+returns-clause-lines g c = clean_octets c.args.block.now c.as_block-lent.ensures.clean c.as_block-lent.ensures.octets
