@@ -1,10 +1,10 @@
 -- What octets spell is well formed.
 use Rattle.nntp_wire.specs.declared.marks.Marks.{Marks}
-use Rattle.std.proofs.Common.{◌≡◌, ℕ, Bool, true, false, cond, ◌==◌, IsTrue, List, [], ◌∷◌, ◌++◌, ◌⊎◌, inl, inr, Option, None, Some, refl, sym, ap, subst, ◌∙◌}
+use Rattle.std.proofs.Common.{◌≡◌, ℕ, Bool, true, false, cond, ◌==◌, IsTrue, List, [], ◌∷◌, ◌++◌, ◌⊎◌, inl, inr, Option, None, Some, sym, ap, subst, ◌∙◌}
 use Rattle.std.specs.Prelude.{IfSome, ⊤}
 use Rattle.std.specs.List.{AllByRecursion}
 use Rattle.std.proofs.lemmas.Bool.{and_from}
-use Rattle.nntp_wire.specs.Octets.{crlf, dot, is_clean, are_octets}
+use Rattle.nntp_wire.specs.Octets.{crlf, is_clean, are_octets}
 use Rattle.nntp_wire.specs.Name.{IsGroupName, IsMessageId}
 use Rattle.nntp_wire.specs.Block.{stuffed, sent, dot_line, AreClean}
 use Rattle.nntp_wire.specs.Listing.{active_groups}
@@ -13,7 +13,7 @@ use Rattle.nntp_wire.specs.Answer.{SaysGroup, SaysNumbers, SaysArticle, SaysActi
 use Rattle.nntp_wire.specs.Answer.{IsCleanBlock, kind_of}
 use Rattle.nntp_wire.specs.Command.{Request, by_id, by_number, current, group, list_group, next, last, retrieve, list_active}
 use Rattle.nntp_wire.proofs.AnswerLemmas.{says-ways}
-use Rattle.nntp_wire.proofs.OctetLemmas.{octets-parts}
+use Rattle.nntp_wire.proofs.OctetLemmas.{octets-parts, unstuffed-octets}
 use Rattle.nntp_article.specs.Session.Spool.{is_line}
 use Rattle.nntp_article.specs.Session.Machine.{Visible}
 use Rattle.nntp_wire.proofs.ListingLemmas.{active_groups-named}
@@ -22,21 +22,12 @@ use Rattle.nntp_facts.specs.Facts.{Fact, on, facts_of_code, facts_of}
 use Rattle.nntp_facts.specs.Together.{IsWellFormed}
 use Rattle.nntp_facts.proofs.Members.{all_both}
 
--- a line without the dot in front
-unstuffed_octets : (line : List ℕ) → are_octets (stuffed line) ≡ true → are_octets line ≡ true
-unstuffed_octets [] h = refl
-unstuffed_octets (b ∷ bs) h = by (b == dot) h
-  where
-    by : (c : Bool) → are_octets (cond c (dot ∷ b ∷ bs) (b ∷ bs)) ≡ true → are_octets (b ∷ bs) ≡ true
-    by true h = h
-    by false h = h
-
 -- the lines of octets that send them are lines
 sent_lines : (lines : List (List ℕ)) → AreClean lines → are_octets (sent lines) ≡ true → AllByRecursion (λ line. IsTrue (is_line line)) lines
 sent_lines [] clean h = tt
 sent_lines (line ∷ lines) clean h =
     let p = octets-parts (stuffed line ++ crlf) (sent lines) h in
-    (and_from (is_clean line) (are_octets line) clean.0 (unstuffed_octets line (octets-parts (stuffed line) crlf p.0).0), sent_lines lines clean.1 p.1)
+    (and_from (is_clean line) (are_octets line) clean.0 (unstuffed-octets line (octets-parts (stuffed line) crlf p.0).0), sent_lines lines clean.1 p.1)
 
 -- and so those of a block
 block_lines : (block : Option (List (List ℕ))) → IsCleanBlock block → are_octets (block_octets block) ≡ true → IfSome block (λ lines. AllByRecursion (λ line. IsTrue (is_line line)) lines)
