@@ -1,16 +1,17 @@
 -- The colon of a line, and blanks at its ends.
-use Rattle.std.proofs.Common.{◌≡◌, ℕ, ◌+◌, true, false, List, [], ◌∷◌, ◌++◌, None, Some, length, take, drop, refl, sym, ◌∙◌, ap, arith}
+use Rattle.std.proofs.Common.{◌≡◌, ℕ, ◌+◌, Bool, true, false, List, [], ◌∷◌, ◌++◌, Option, None, Some, length, drop, refl, sym, ◌∙◌, ap, arith}
 use Rattle.std.proofs.lemmas.List.Sums.{position_or_len_is}
-use Rattle.std.proofs.lemmas.List.Folds.{list_any_at, list_any_none, list_all-append}
-use Rattle.std.proofs.lemmas.List.Elements.{All-from_get_or}
+use Rattle.std.proofs.lemmas.List.Folds.{list_all-append}
 use Rattle.std.proofs.lemmas.List.{take_all, drop_all, drop-drop}
 use Rattle.std.proofs.lemmas.Bool.{false_from_ne_true}
 use Rattle.std.proofs.lemmas.Bool.Decides.{nat_tests}
-use Rattle.std.specs.Prelude.{◌&&◌, not}
-use Rattle.std.specs.List.{list_any, list_all, position_or_len, before_first, after_first}
+use Rattle.std.specs.Prelude.{◌&&◌, ◌||◌, ◌==◌, not, cond}
+use Rattle.std.specs.Option.{option_eq}
+use Rattle.std.specs.List.{list_any, list_all, find, prefix_len, position_or_len, before_first, after_first}
 use Rattle.memchr.specs.Find.{IsFirstByte, is_byte}
 use Rattle.nntp_wire.specs.Octets.{is_blank}
 use Rattle.nntp_article.specs.Article.Parts.{Line, is_colon, is_empty, is_name_octet, begins_header, skip_last_blanks}
+use Rattle.nntp_article.proofs.ArticleLemmas.HeadLemmas.{one-more}
 
 -- where a search for the colon found it
 pub colon-found : (line : Line) (n : ℕ) → IsFirstByte (is_byte 58) line (Some n) → position_or_len is_colon line ≡ n
@@ -19,9 +20,6 @@ colon-found line n found = position_or_len_is is_colon line n 0 (let h = found.0
 -- where it found none
 pub colon-none : (line : Line) → IsFirstByte (is_byte 58) line None → position_or_len is_colon line ≡ length line
 colon-none line none = position_or_len_is is_colon line (length line) 0 (omega arith) (λ k h. false_from_ne_true _ (none k (omega arith) h)) (λ h. absurd (omega arith))
-
-pub no_colon : (line : Line) → IsFirstByte (is_byte 58) line None → list_any is_colon line ≡ false
-no_colon line none = list_any_none is_colon line (All-from_get_or (λ c. is_colon c ≡ false) line 0 (λ k h. false_from_ne_true _ (none k (omega arith) h)))
 
 pub value-found : (line : Line) (n : ℕ) → IsFirstByte (is_byte 58) line (Some n) → drop 1 (drop n line) ≡ after_first is_colon line
 value-found line n found = drop-drop 1 n line ∙ ap (λ k. drop (k + 1) line) (sym (colon-found line n found))
@@ -32,15 +30,59 @@ value-none line none = sym (drop_all (position_or_len is_colon line + 1) line (l
 pub name-none : (line : Line) → IsFirstByte (is_byte 58) line None → line ≡ before_first is_colon line
 name-none line none = sym (take_all (position_or_len is_colon line) line (let e = colon-none line none in omega arith))
 
--- a line with a colon begins a header exactly if a name stands before it
-pub begins-found : (line : Line) (n : ℕ) → IsFirstByte (is_byte 58) line (Some n) → begins_header line ≡ (not (is_empty (take n line)) && list_all is_name_octet (take n line))
-begins-found line n found =
-    let any : list_any is_colon line ≡ true = list_any_at is_colon line n 0 (let h = found.0.high in omega arith) found.1 in
-    let name : before_first is_colon line ≡ take n line = ap (λ k. take k line) (colon-found line n found) in
-    rw (any, name) refl
+-- the first octet that may not stand in a name
+abbrev pub behind_name : List ℕ → Option ℕ
+behind_name octets = find (λ octet. not (is_name_octet octet)) octets
 
-pub begins-none : (line : Line) → IsFirstByte (is_byte 58) line None → begins_header line ≡ false
-begins-none line none = rw (no_colon line none) refl
+abbrev pub is_some_colon : Option ℕ → Bool
+is_some_colon octet = option_eq (λ a b. a == b) octet (Some 58)
+
+name-plain : (c : ℕ) (cs : List ℕ) → is_colon c ≡ false → before_first is_colon (c ∷ cs) ≡ c ∷ before_first is_colon cs
+name-plain c cs h = rw (h, one-more (prefix_len (λ c. not (is_colon c)) cs)) refl
+
+not_name : (c : ℕ) → is_colon c ≡ true → is_name_octet c ≡ false
+not_name c h = rw h (grind (arith, nat_tests))
+
+-- octets of a name and a colon behind them: the first other octet is the colon
+names-then_colon : (octets : List ℕ) → (list_any is_colon octets && list_all is_name_octet (before_first is_colon octets)) ≡ is_some_colon (behind_name octets)
+names-then_colon [] = refl
+names-then_colon (c ∷ cs) = at (is_colon c) refl (is_name_octet c) refl (names-then_colon cs) where
+  one : (k n any all r : Bool) → k ≡ false → n ≡ true → (any && all) ≡ r → ((k || any) && (n && all)) ≡ r
+  one k n any all r h e rest = grind (arith, nat_tests)
+
+  none : (k n any all : Bool) → n ≡ false → ((k || any) && (n && all)) ≡ false
+  none k n any all e = grind (arith, nat_tests)
+
+  other : is_name_octet c ≡ false → is_some_colon (behind_name (c ∷ cs)) ≡ is_colon c
+  other e = ap (λ t. is_some_colon (cond (not t) (Some c) (behind_name cs))) e
+
+  at : (k : Bool) → is_colon c ≡ k → (n : Bool) → is_name_octet c ≡ n
+      → (list_any is_colon cs && list_all is_name_octet (before_first is_colon cs)) ≡ is_some_colon (behind_name cs)
+      → (list_any is_colon (c ∷ cs) && list_all is_name_octet (before_first is_colon (c ∷ cs))) ≡ is_some_colon (behind_name (c ∷ cs))
+  at true h n e rest =
+      let found : true ≡ (list_any is_colon (c ∷ cs) && list_all is_name_octet (before_first is_colon (c ∷ cs))) = rw h refl in
+      sym found ∙ sym (other (not_name c h) ∙ h)
+  at false h true e rest =
+      ap (λ name. list_any is_colon (c ∷ cs) && list_all is_name_octet name) (name-plain c cs h)
+      ∙ one (is_colon c) (is_name_octet c) (list_any is_colon cs) (list_all is_name_octet (before_first is_colon cs)) _ h e rest
+      ∙ sym (ap (λ t. is_some_colon (cond (not t) (Some c) (behind_name cs))) e)
+  at false h false e rest =
+      ap (λ name. list_any is_colon (c ∷ cs) && list_all is_name_octet name) (name-plain c cs h)
+      ∙ none (is_colon c) (is_name_octet c) (list_any is_colon cs) (list_all is_name_octet (before_first is_colon cs)) e
+      ∙ sym (other e ∙ h)
+
+-- a line whose first octet may stand in a name
+pub begins_by_name : (c : ℕ) (cs : List ℕ) → is_name_octet c ≡ true → begins_header (c ∷ cs) ≡ is_some_colon (behind_name cs)
+begins_by_name c cs e =
+    ap (λ name. list_any is_colon (c ∷ cs) && not (is_empty name) && list_all is_name_octet name) (name-plain c cs (not_colon c e))
+    ∙ one (is_colon c) (is_name_octet c) (list_any is_colon cs) (list_all is_name_octet (before_first is_colon cs)) (not_colon c e) e
+    ∙ names-then_colon cs
+  where
+    not_colon : (c : ℕ) → is_name_octet c ≡ true → is_colon c ≡ false
+    not_colon c e = grind (arith, nat_tests)
+
+    one : (k n any all : Bool) → k ≡ false → n ≡ true → ((k || any) && true && (n && all)) ≡ (any && all)
+    one k n any all h e = grind (arith, nat_tests)
 
 -- a blank at the end is passed over
 pub skip_last-blank : (octets : List ℕ) (c : ℕ) → is_blank c ≡ true → skip_last_blanks (octets ++ c ∷ []) ≡ skip_last_blanks octets

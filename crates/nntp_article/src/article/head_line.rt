@@ -1,6 +1,6 @@
 //! Lines of a head (RFC 3977, section 3.6; RFC 1036, section 2).
-ghost use Rattle.std.specs.Prelude.{◌≡◌};
-ghost use Rattle.std.specs.List.{list_all, before_first, after_first};
+ghost use Rattle.std.specs.Prelude.{◌≡◌, not};
+ghost use Rattle.std.specs.List.{find, before_first, after_first};
 ghost use Rattle.nntp_wire.specs.Octets.{is_blank, is_clean};
 ghost use Rattle.nntp_article.specs.Article.Parts.{is_continuation, is_colon, is_name_octet, begins_header, is_head_line, skip_blanks, skip_last_blanks};
 
@@ -38,21 +38,21 @@ fn is_name_octet(octet: u8) -> bool
 }
 
 /// Whether the line begins a header: with a name and a colon.
+#[tactic(auto, using(crate::proofs::ArticleLemmas::LineLemmas::begins_by_name))]
 pub(crate) fn begins_header(line: &[u8]) -> bool
     ensures { result ≡ begins_header line.now }
 {
-    let Some(end) = memchr(b':', line) else {
+    let Some((first, more)) = line.split_first() else {
         return false;
     };
-    let (name, _) = line.split_at(end);
-    !name.is_empty() && are_name_octets(name)
+    is_name_octet(*first) && behind_name(more) == Some(b':')
 }
 
-/// Whether each octet may stand in the name of a header.
-fn are_name_octets(name: &[u8]) -> bool
-    ensures { result ≡ list_all is_name_octet name.now }
+/// The first of the octets that may not stand in the name of a header.
+fn behind_name(octets: &[u8]) -> Option<u8>
+    ensures { result ≡ find (λ octet. not (is_name_octet octet)) octets.now }
 {
-    name.iter().all(|octet| is_name_octet(*octet))
+    octets.iter().copied().find(|octet| !is_name_octet(*octet))
 }
 
 /// Whether the line begins a header or continues one.
