@@ -3,14 +3,14 @@ use Rattle.std.proofs.Common.{Bor, ◌≡◌, ◌≢◌, ℕ, Bool, true, false,
 use Rattle.std.proofs.lemmas.Bool.{false≢true, true≢false, or_cases, eqb-true}
 use Rattle.std.specs.Prelude.{◌==◌, not, if◌then◌else◌, codes}
 use Rattle.std.specs.Option.{SomeIff}
-use Rattle.std.specs.List.{filter, flat_map, concat, prefix_len, before_first, after_first}
+use Rattle.std.specs.List.{filter, flat_map, concat, prefix_len, after_first}
 use Rattle.nntp_wire.specs.Octets.{is_blank}
-use Rattle.nntp_wire.specs.Words.{words_of, is_same_word}
+use Rattle.nntp_wire.specs.Words.{words_of}
 use Rattle.nntp_wire.specs.Name.{IsMessageId}
 use Rattle.nntp_wire.specs.Decided.{is_message_id}
 use Rattle.nntp_wire.proofs.DecidedLemmas.{message_id-iff}
 use Rattle.nntp_article.specs.Article.Parts.{Line, Id, Header, is_continuation, is_colon, headers, is_named, only_id, said_id}
-use Rattle.nntp_article.specs.Article.SaidId.{id_of_words, id_alone, id_with, ids_behind}
+use Rattle.nntp_article.specs.Article.SaidId.{names_id, id_of_words, id_alone, id_with, ids_behind}
 use Rattle.nntp_article.specs.declared.article.said_id.Found.{Found}
 use Rattle.nntp_article.specs.declared.article.said_id.Found.TheVariants.{NoHeader, NoWord, Word, NoId}
 use Rattle.nntp_article.proofs.ArticleLemmas.HeadLemmas.{one-more, more, after, more-yes, more-no, more-all, after-yes, after-no, headers-cons}
@@ -25,9 +25,9 @@ abbrev pub words_behind : Bool → List Line → List (List ℕ)
 words_behind is_open lines = if is_open then flat_map words_of (more lines) else []
 
 -- no name begins with a blank
-blank_name : (b : ℕ) (bs : List ℕ) → is_blank b ≡ true → is_same_word (before_first is_colon (b ∷ bs)) (codes "Message-ID") ≡ false
+blank_name : (b : ℕ) (bs : List ℕ) → is_blank b ≡ true → names_id (b ∷ bs) ≡ false
 blank_name b bs h = at (or_cases (b == 32) (b == 9) h) where
-  at : (((b == 32) ≡ true) ⊎ ((b == 9) ≡ true)) → is_same_word (before_first is_colon (b ∷ bs)) (codes "Message-ID") ≡ false
+  at : (((b == 32) ≡ true) ⊎ ((b == 9) ≡ true)) → names_id (b ∷ bs) ≡ false
   at (inl is) = let e : b ≡ 32 = eqb-true b 32 is in rw (e, one-more (prefix_len (λ c. not (is_colon c)) bs)) refl
   at (inr is) = let e : b ≡ 9 = eqb-true b 9 is in rw (e, one-more (prefix_len (λ c. not (is_colon c)) bs)) refl
 
@@ -83,7 +83,7 @@ closed_words : (is_open : Bool) (line : Line) (lines : List Line) → is_continu
 closed_words false line lines h = refl
 closed_words true line lines h = ap (flat_map words_of) (more-no line lines h)
 
-pub begun-other : (found : Found) (is_open : Bool) (line : Line) (lines : List Line) → is_continuation line ≡ false → is_same_word (before_first is_colon line) (codes "Message-ID") ≡ false
+pub begun-other : (found : Found) (is_open : Bool) (line : Line) (lines : List Line) → is_continuation line ≡ false → names_id line ≡ false
     → id_with found [] (ids_behind lines) ≡ id_with found (words_behind is_open (line ∷ lines)) (ids_behind (line ∷ lines))
 begun-other found is_open line lines h other =
     ap (id_with found []) (sym (behind-other line lines h other)) ∙ ap (λ t. id_with found t (ids_behind (line ∷ lines))) (sym (closed_words is_open line lines h))
@@ -94,7 +94,7 @@ only-words line lines [] =
     content-id (after_first is_colon line ++ concat (more lines)) ∙ ap id_of_words (words-lines (after_first is_colon line) (more lines) (more-all lines))
 only-words line lines (id ∷ ids) = refl
 
-pub begun-first : (found new : Found) (is_open : Bool) (line value : Line) (lines : List Line) → is_continuation line ≡ false → is_same_word (before_first is_colon line) (codes "Message-ID") ≡ true
+pub begun-first : (found new : Found) (is_open : Bool) (line value : Line) (lines : List Line) → is_continuation line ≡ false → names_id line ≡ true
     → found ≡ NoHeader → value ≡ after_first is_colon line
     → ((words : List (List ℕ)) (ids : List Header) → id_with new words ids ≡ id_with NoWord (words_of value ++ words) ids)
     → id_with new (flat_map words_of (more lines)) (ids_behind lines) ≡ id_with found (words_behind is_open (line ∷ lines)) (ids_behind (line ∷ lines))
@@ -105,7 +105,7 @@ begun-first found new is_open line value lines h named none is by =
     ∙ ap only_id (sym (behind-named line lines h named))
     ∙ ap (λ f. id_with f (words_behind is_open (line ∷ lines)) (ids_behind (line ∷ lines))) (sym none)
 
-pub begun-again : (found : Found) (is_open : Bool) (line : Line) (lines : List Line) → is_continuation line ≡ false → is_same_word (before_first is_colon line) (codes "Message-ID") ≡ true
+pub begun-again : (found : Found) (is_open : Bool) (line : Line) (lines : List Line) → is_continuation line ≡ false → names_id line ≡ true
     → found ≢ NoHeader
     → None ≡ id_with found (words_behind is_open (line ∷ lines)) (ids_behind (line ∷ lines))
 begun-again found is_open line lines h named some =

@@ -1,12 +1,16 @@
 -- What the lines of a head so far leave to say of its id.
-use Rattle.std.specs.Prelude.{ℕ, if◌then◌else◌, List, [], ◌∷◌, Option, None, Some, codes, drop}
-use Rattle.std.specs.List.{filter, flat_map, take_while, prefix_len}
-use Rattle.nntp_wire.specs.Words.{words_of}
+use Rattle.std.specs.Prelude.{ℕ, Bool, if◌then◌else◌, List, [], ◌∷◌, Option, None, Some, codes, drop}
+use Rattle.std.specs.List.{filter, flat_map, take_while, prefix_len, before_first}
+use Rattle.nntp_wire.specs.Words.{words_of, is_same_word}
 use Rattle.nntp_wire.specs.Decided.{is_message_id}
-use Rattle.nntp_article.specs.Article.Parts.{Line, Id, Header, headers, is_continuation, is_named, only_id}
+use Rattle.nntp_article.specs.Article.Parts.{Line, Id, Header, headers, is_colon, is_continuation, is_named, only_id}
 use Rattle.nntp_article.specs.declared.article.said_id.Found.{Found}
 use Rattle.nntp_article.specs.declared.article.said_id.Found.TheVariants.{NoHeader, NoWord, Word, NoId}
 use Rattle.nntp_article.specs.declared.article.said_id.SaidId.{SaidId}
+
+-- a first line of a Message-ID header
+abbrev pub names_id : Line → Bool
+names_id line = is_same_word (before_first is_colon line) (codes "Message-ID")
 
 -- a content of these words is an id
 abbrev pub id_of_words : List (List ℕ) → Option Id

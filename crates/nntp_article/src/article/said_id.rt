@@ -3,13 +3,13 @@
 //! A message id has no blank inside and a continuation line begins with one, so the content of
 //! a header is a message id exactly if that is the only word of its lines behind the colon.
 ghost use Rattle.std.specs.Prelude.{◌≡◌, ◌++◌, ◌∷◌, false, IsTrue, List, [], ℕ};
-ghost use Rattle.std.specs.List.{list_all};
-ghost use Rattle.std.specs.Option.{SomeIff};
+ghost use Rattle.std.specs.List.{list_all, after_first};
+ghost use Rattle.std.specs.Option.{SomeIff, option_copied};
 ghost use Rattle.nntp_wire.specs.Held.{held};
 ghost use Rattle.nntp_wire.specs.Octets.{is_clean};
 ghost use Rattle.nntp_wire.specs.Words.{words_of};
-ghost use Rattle.nntp_article.specs.Article.Parts.{Line, Header, is_continuation, is_head, is_clean_head, is_head_line, said_id};
-ghost use Rattle.nntp_article.specs.Article.SaidId.{id_with, id_by};
+ghost use Rattle.nntp_article.specs.Article.Parts.{Line, Header, is_colon, is_continuation, is_head, is_clean_head, is_head_line, said_id};
+ghost use Rattle.nntp_article.specs.Article.SaidId.{names_id, id_with, id_by};
 
 use crate::article::head_line::{
     begins_header, is_clean, is_continuation, is_head_line, split_at_colon,
@@ -93,13 +93,12 @@ impl<'a> SaidId<'a> {
         requires { is_continuation line.now ≡ false }
         ensures { (lines : List Line) → id_by result lines ≡ id_by self.entry (line.now ∷ lines) }
     {
-        let (name, value) = split_at_colon(line);
-        if !is_same_word(name, b"Message-ID") {
+        let Some(value) = id_value(line) else {
             return SaidId {
                 found: self.found,
                 is_open: false,
             };
-        }
+        };
         let found = match self.found {
             Found::NoHeader => Found::NoWord.with(value),
             _ => Found::NoId,
@@ -119,6 +118,21 @@ impl<'a> SaidId<'a> {
             _ => None,
         }
     }
+}
+
+/// What stands behind the colon of a line that begins a Message-ID header.
+fn id_value(line: &[u8]) -> Option<&[u8]>
+    ensures { SomeIff (option_copied result) (IsTrue (names_id line.now)) (after_first is_colon line.now) }
+{
+    // Most names begin with another letter: no colon is searched for in their lines.
+    if !matches!(line, [b'M' | b'm', ..]) {
+        return None;
+    }
+    let (name, value) = split_at_colon(line);
+    if !is_same_word(name, b"Message-ID") {
+        return None;
+    }
+    Some(value)
 }
 
 /// The message id that these lines say, where they are a head: the same as `Head::message_id` (RFC
