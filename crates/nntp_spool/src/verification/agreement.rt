@@ -179,11 +179,12 @@ impl<A: Allocator + Copy> Session<A> {
         ensures { (code : ℕ) (block : Option (List (List ℕ)))
             → IsTrue result ↔ NumberAgrees spool.now self.now (target which.now) (record { code = code; number = number; id = id.now; block = block }) }
     {
-        let numbers = self.selected_numbers(spool);
         match which {
-            Which::Id(_) => number == 0 || numbers.has_id(number, id),
-            Which::Number(_) => numbers.has_id(number, id),
-            Which::Current => self.current() == Some(number) && numbers.has_id(number, id),
+            Which::Id(_) => number == 0 || self.selected_numbers(spool).has_id(number, id),
+            Which::Number(_) => self.selected_numbers(spool).has_id(number, id),
+            Which::Current => {
+                self.current() == Some(number) && self.selected_numbers(spool).has_id(number, id)
+            }
         }
     }
 
