@@ -1,5 +1,5 @@
 //! The numbers of one group, with the id at each.
-ghost use Rattle.std.specs.Prelude.{◌≡◌, ℕ, None, true, false, not, is_some, OnOk, OnErr, IfOk, IfErr, option_copied, MatchOption, ◌≤◌};
+ghost use Rattle.std.specs.Prelude.{◌≡◌, ℕ, None, Some, true, false, not, is_some, OnOk, OnErr, IfOk, IfErr, option_copied, MatchOption, ◌≤◌};
 ghost use Rattle.std.specs.FinMap as map;
 ghost use Rattle.std.specs.Rc.{rc_str_bytes};
 ghost use Rattle.nntp_article.specs.Session.Spool.{IsFirst, IsNextAbove, IsNextBelow, NoneAbove, NoneBelow, IsNumber};
@@ -142,30 +142,30 @@ impl<A: Allocator> Numbers<A> {
         }
     }
 
-    /// Returns the least number above this one.
-    pub(crate) fn next_above(&self, number: u64) -> Option<u64>
-        ensures { MatchOption result (NoneAbove self.now number) (IsNextAbove self.now number) }
+    /// Returns the least number above this one, with its id.
+    pub(crate) fn next_above(&self, number: u64) -> Option<(u64, &str)>
+        ensures { MatchOption result (NoneAbove self.now number) (λ next. IsNextAbove self.now number next.0 × (map.get self.now next.0 ≡ Some next.1.now)) }
     {
         match self
             .ids
             .range((Bound::Excluded(number), Bound::Unbounded))
             .next()
         {
-            Some((next, _)) => Some(*next),
+            Some((next, id)) => Some((*next, id.as_str())),
             None => None,
         }
     }
 
-    /// Returns the greatest number below this one.
-    pub(crate) fn next_below(&self, number: u64) -> Option<u64>
-        ensures { MatchOption result (NoneBelow self.now number) (IsNextBelow self.now number) }
+    /// Returns the greatest number below this one, with its id.
+    pub(crate) fn next_below(&self, number: u64) -> Option<(u64, &str)>
+        ensures { MatchOption result (NoneBelow self.now number) (λ next. IsNextBelow self.now number next.0 × (map.get self.now next.0 ≡ Some next.1.now)) }
     {
         match self
             .ids
             .range((Bound::Unbounded, Bound::Excluded(number)))
             .next_back()
         {
-            Some((next, _)) => Some(*next),
+            Some((next, id)) => Some((*next, id.as_str())),
             None => None,
         }
     }

@@ -26,7 +26,10 @@ impl<A: Allocator> Numbers<A> {
         ensures { IsTrue result ↔ (MatchOption current ⊥ (λ c. IsNextAbove self.now c number) × (map.get self.now number ≡ Some id.now)) }
     {
         match current {
-            Some(current) => self.next_above(current) == Some(number) && self.has_id(number, id),
+            Some(current) => match self.next_above(current) {
+                Some((above, found)) => above == number && found == id,
+                None => false,
+            },
             None => false,
         }
     }
@@ -36,7 +39,10 @@ impl<A: Allocator> Numbers<A> {
         ensures { IsTrue result ↔ (MatchOption current ⊥ (λ c. IsNextBelow self.now c number) × (map.get self.now number ≡ Some id.now)) }
     {
         match current {
-            Some(current) => self.next_below(current) == Some(number) && self.has_id(number, id),
+            Some(current) => match self.next_below(current) {
+                Some((below, found)) => below == number && found == id,
+                None => false,
+            },
             None => false,
         }
     }
@@ -106,7 +112,10 @@ impl<A: Allocator> Numbers<A> {
         ensures { IsNextFrom self.now before result }
     {
         match before {
-            Some(number) => self.next_above(number),
+            Some(number) => match self.next_above(number) {
+                Some((next, _)) => Some(next),
+                None => None,
+            },
             None => self.least(),
         }
     }
