@@ -1,6 +1,6 @@
 //! The comparison of the groups that LIST ACTIVE lists with those of a spool (RFC 3977,
 //! section 7.6.3).
-ghost use Rattle.std.specs.Prelude.{◌≡◌, ℕ, ◌≤◌, ◌↔◌, true, length, IsTrue, IfOk};
+ghost use Rattle.std.specs.Prelude.{◌≡◌, ℕ, ◌≤◌, ◌↔◌, true, length, IsTrue, IfOk, MatchOption};
 ghost use Rattle.std.specs.List.{AllByRecursion};
 ghost use Rattle.nntp_wire.specs.Name.{IsGroupName};
 ghost use Rattle.nntp_wire.specs.Listing.{active_groups};
@@ -39,21 +39,25 @@ fn agrees_bounds<A: Allocator>(spool: &Content<A>, name: &str, low: u64, high: u
     }
 }
 
-/// Tells whether each listed group is one of the spool, matches, and has its numbers between the
-/// marks.
-fn agree_lines<A: Allocator>(
+/// Returns how many groups are listed, if each is one of the spool, matches, and has its numbers
+/// between the marks.
+fn count_agreeing<A: Allocator>(
     spool: &Content<A>,
     wildmat: &Option<Wildmat<'_>>,
     block: &Block<'_>,
-) -> bool
-    ensures { IsTrue result ↔ AllByRecursion (LineAgrees spool.now wildmat.now) (active_groups block.now) }
+) -> Option<usize>
+    ensures { MatchOption result
+        (AllByRecursion (LineAgrees spool.now wildmat.now) (active_groups block.now) → ⊥)
+        (λ count. AllByRecursion (LineAgrees spool.now wildmat.now) (active_groups block.now) × (count ≡ length (active_groups block.now))) }
 {
+    let mut count = 0;
     for group in block.groups() {
         if !agrees_line(spool, wildmat, &group) {
-            return false;
+            return None;
         }
+        count += 1;
     }
-    true
+    Some(count)
 }
 
 /// Tells whether the name is that of a group that matches.
@@ -79,13 +83,6 @@ impl<A: Allocator> Content<A> {
     }
 }
 
-/// Returns how many groups are listed.
-fn count_listed(block: &Block<'_>) -> usize
-    ensures { result ≡ length (active_groups block.now) }
-{
-    block.groups().count()
-}
-
 /// Tells whether exactly the matching groups are listed, and the marks bound their numbers. No
 /// group is listed twice, so none is missing where as many are listed as match.
 pub(crate) fn lists_groups<A: Allocator + Copy>(
@@ -101,8 +98,8 @@ pub(crate) fn lists_groups<A: Allocator + Copy>(
     ensures lists { IfOk result (λ lists. IsTrue lists ↔ ActivesAgree spool.now wildmat.now (active_groups block.now)) }
 {
     matching_is_decided();
-    if !agree_lines(spool, wildmat, block) {
-        return Ok(false);
+    match count_agreeing(spool, wildmat, block) {
+        Some(listed) => Ok(counts.count(spool, wildmat)? == listed),
+        None => Ok(false),
     }
-    Ok(counts.count(spool, wildmat)? == count_listed(block))
 }
