@@ -3,9 +3,9 @@ ghost use Rattle.std.specs.Prelude.{◌≡◌, ◌≢◌, ◌↔◌, ◌||◌, �
 ghost use Rattle.std.specs.Io.KnownBytes.{Keeps};
 ghost use Rattle.nntp_spool.specs.Watched.{inner_of, has_failed_of};
 ghost use Rattle.nntp_spool.specs.Writing.{Writes};
-ghost use Rattle.nntp_check.specs.Report.{is_permitted, text_behind};
+ghost use Rattle.nntp_check.specs.Report.{is_permitted, text_behind, verified_report};
 ghost use Rattle.nntp_verdict.specs.Verdict.{verdict_shown};
-ghost use Rattle.nntp_check.specs.Run.{read_by, written_by, CheckReports, VerifyReports, ShowReports, ExplainReports};
+ghost use Rattle.nntp_check.specs.Run.{Input, Output, ReadsCapture, read_by, written_by, CheckReports, VerifyReports, ShowReports, ExplainReports};
 ghost use Rattle.nntp_check.specs.Run.{TaskReports, IsReported, IsCheckFault, IsVerifyFault, IsShowFault, IsExplainFault, IsTaskFault};
 
 use crate::command_line::Task;
@@ -14,6 +14,7 @@ use crate::report::{first_lines, put_text_behind, verified_report};
 use crate::run_fault::RunFault;
 use crate::session_printer::SessionPrinter;
 use crate::streams::Streams;
+use bumpalo::Bump;
 use nntp_explain::explain;
 use nntp_spool::{Spool, Verified, Watched, WriteFault, put, verify};
 use nntp_verdict::{Checker, Verdict};
@@ -102,6 +103,23 @@ pub fn run_check<A: Allocator + Copy, R: Read, W: Write>(
     Ok(verdict.is_consistent())
 }
 
+/// Verifies a session by the spool whose text this is. The spool stands in the arena.
+fn verify_by_text<A: Allocator + Copy, S: Allocator + Copy>(
+    alloc: A,
+    arena: S,
+    marks: Marks,
+    text: &[u8],
+    client: &[u8],
+    server: &[u8],
+) -> Result<Verified, RunFault>
+    ensures ok { IfOk result (λ verified. VerifyReports marks client.now server.now text.now (verified_report verified) (is_permitted verified)) }
+    ensures err { IfErr result (λ fault. (input : Input) (output : Output) → ReadsCapture input client.now server.now text.now → IsVerifyFault marks input output fault) }
+    ensures by_text { IfErr result (λ fault. (fault ≢ RunFault.Read) × (fault ≢ RunFault.Write)) }
+{
+    let spool = Spool::read_with(arena, alloc, text)?;
+    Ok(verify(alloc, marks, &spool, client, server)?)
+}
+
 /// Tells whether the spool of a capture explains its session, and writes the report on it: the answer is whether the
 /// spool permits all answers. The spool is the one whose text the joined spool pieces are; article numbers are judged by
 /// its limit, and the water marks of a 211 (RFC 3977, section 6.1.1) are read as `marks` tells. It reads and writes as
@@ -129,8 +147,15 @@ pub fn run_verify<A: Allocator + Copy, R: Read, W: Write>(
 {
     let mut streams = Streams::new(alloc);
     read_capture(input, &mut streams, most)?;
-    let spool = Spool::read(alloc, &streams.spool)?;
-    let verified = verify(alloc, marks, &spool, &streams.client, &streams.server)?;
+    let arena = Bump::new(alloc);
+    let verified = verify_by_text(
+        alloc,
+        &arena,
+        marks,
+        &streams.spool,
+        &streams.client,
+        &streams.server,
+    )?;
     let text = verified_report(alloc, verified)?;
     print(&text, output)?;
     Ok(is_permitted(verified))

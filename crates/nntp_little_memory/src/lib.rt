@@ -127,6 +127,41 @@ pub fn refuse_each<'a, F: Fn(&Refusing<Global>) -> Ended>(
     }
 }
 
+/// Refuses requests of a call as `refuse_rest_each` says.
+fn refuse_rest_in_turn<F: Fn(&Refusing<Global>) -> Ended>(
+    alloc: Global,
+    call: &F,
+) -> Result<u64, Wrong>
+    requires { F.IsAlwaysCallable call.now }
+{
+    for number in 1..BOUND {
+        let rest = refuse(alloc, Refusal::From(number), call)?;
+        if !rest.has_refused {
+            return Ok(number - 1);
+        }
+    }
+    Err(Wrong::GoesOn)
+}
+
+/// Refuses the first request of a call and all later ones, then the second and all later ones, and so on until it makes
+/// no more. Returns how many requests there are. It is for calls that ask for less where a request is refused.
+///
+/// # Errors
+///
+/// Those of `refuse_each`.
+pub fn refuse_rest_each<'a, F: Fn(&Refusing<Global>) -> Ended>(
+    alloc: Global,
+    name: &'a str,
+    call: F,
+) -> Result<u64, Fault<'a>>
+    requires { F.IsAlwaysCallable call }
+{
+    match refuse_rest_in_turn(alloc, &call) {
+        Ok(count) => Ok(count),
+        Err(wrong) => Err(Fault { name, wrong }),
+    }
+}
+
 /// Makes the call with so many octets of memory to have. It gives all of them back.
 fn give<F: Fn(&LocalHeap) -> Ended>(alloc: Global, size: usize, call: &F) -> Result<Ended, Wrong>
     requires { F.IsAlwaysCallable call.now }
@@ -145,17 +180,23 @@ fn give<F: Fn(&LocalHeap) -> Ended>(alloc: Global, size: usize, call: &F) -> Res
 }
 
 /// Gives octets to a call as `give_each` says.
-fn give_more<F: Fn(&LocalHeap) -> Ended>(alloc: Global, call: &F) -> Result<usize, Wrong>
+fn give_more<F: Fn(&LocalHeap) -> Ended>(
+    alloc: Global,
+    may_want_again: bool,
+    call: &F,
+) -> Result<usize, Wrong>
     requires { F.IsAlwaysCallable call.now }
 {
     let mut enough = 0;
     let mut size = 16;
     while size < AMPLE {
         let ended = give(alloc, size, call)?;
-        if enough != 0 && ended != Ended::Right {
-            return Err(Wrong::Given(size, ended));
-        }
-        if enough == 0 && ended == Ended::Right {
+        if ended != Ended::Right {
+            if enough != 0 && !may_want_again {
+                return Err(Wrong::Given(size, ended));
+            }
+            enough = 0;
+        } else if enough == 0 {
             enough = size;
         }
         size += size / 4 + 16;
@@ -179,7 +220,26 @@ pub fn give_each<'a, F: Fn(&LocalHeap) -> Ended>(
 ) -> Result<usize, Fault<'a>>
     requires { F.IsAlwaysCallable call }
 {
-    match give_more(alloc, &call) {
+    match give_more(alloc, false, &call) {
+        Ok(enough) => Ok(enough),
+        Err(wrong) => Err(Fault { name, wrong }),
+    }
+}
+
+/// Gives octets to a call as `give_each` does. It is for calls that ask for less where a request is refused: with some
+/// more octets such a call may want memory once more.
+///
+/// # Errors
+///
+/// Those of `give_each`.
+pub fn give_rest_each<'a, F: Fn(&LocalHeap) -> Ended>(
+    alloc: Global,
+    name: &'a str,
+    call: F,
+) -> Result<usize, Fault<'a>>
+    requires { F.IsAlwaysCallable call }
+{
+    match give_more(alloc, true, &call) {
         Ok(enough) => Ok(enough),
         Err(wrong) => Err(Fault { name, wrong }),
     }

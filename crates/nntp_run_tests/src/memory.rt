@@ -3,7 +3,9 @@ use crate::explanations::POINTS;
 use crate::runs::{CAPTURE, CHECK, REPORT, Run, VERIFY};
 use crate::trials::Trial;
 use nntp_check::{Failure, Kind, ReadFault, RunFault, Task, run_task, status};
-use nntp_little_memory::{Ended, Fault, give_each, refuse_each, right_if};
+use nntp_little_memory::{
+    Ended, Fault, give_each, give_rest_each, refuse_each, refuse_rest_each, right_if,
+};
 use nntp_sessions::{FakeWriter, Full, capture, reader, with_spool, writer};
 use std::alloc::{Allocator, Global};
 use std::process::Abort;
@@ -32,20 +34,27 @@ impl Run<'_> {
     }
 }
 
-/// Refuses each request of a run that makes some. Returns how many there are.
+/// Refuses each request of a run that makes some: alone and with all later ones, but in a run of `verify`, whose arena
+/// asks for less where a request is refused, with all later ones. Returns how many there are.
 pub(crate) fn refuse_run<'a>(
     rt: &impl Abort,
     alloc: Global,
     run: &Run<'a>,
 ) -> Result<u64, Fault<'a>> {
-    let refused = refuse_each(alloc, run.name, |heap| run.end(alloc, heap))?;
+    let refused = match run.task {
+        Task::Verify { .. } => refuse_rest_each(alloc, run.name, |heap| run.end(alloc, heap))?,
+        _ => refuse_each(alloc, run.name, |heap| run.end(alloc, heap))?,
+    };
     assert!(rt; refused > 0, "{refused}");
     Ok(refused)
 }
 
 /// Gives a run a few octets of memory, and then more.
 pub(crate) fn give_run<'a>(rt: &impl Abort, alloc: Global, run: &Run<'a>) -> Result<(), Fault<'a>> {
-    let enough = give_each(alloc, run.name, |heap| run.end(alloc, heap))?;
+    let enough = match run.task {
+        Task::Verify { .. } => give_rest_each(alloc, run.name, |heap| run.end(alloc, heap))?,
+        _ => give_each(alloc, run.name, |heap| run.end(alloc, heap))?,
+    };
     assert!(rt; enough > 16, "{enough}");
     Ok(())
 }

@@ -26,15 +26,15 @@ pub use verified::Verified;
 ///
 /// `client` and `server` are all octets of the two streams. The session is judged by the spool's
 /// limit of article numbers (RFC 3977, section 6), and with the water marks of a 211 read as
-/// `marks` tells (section 6.1.1.2).
+/// `marks` tells (section 6.1.1.2). What is taken of `alloc` is given back.
 ///
 /// # Errors
 ///
 /// [`AllocError`], if memory is refused.
-pub fn verify<A: Allocator + Copy>(
+pub fn verify<A: Allocator + Copy, S: Allocator>(
     alloc: A,
     marks: Marks,
-    spool: &Spool<A>,
+    spool: &Spool<S>,
     client: &[u8],
     server: &[u8],
 ) -> Result<Verified, AllocError>

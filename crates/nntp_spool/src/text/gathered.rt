@@ -18,14 +18,14 @@ use std::string::String;
 
 /// The groups and articles that were read, in the order in which they came, which ascends.
 #[derive(Drop)]
-pub(crate) struct Gathered<A: Allocator> {
-    /// The groups, each with its name.
-    groups: Vec<(String<A>, Numbers<A>), A>,
+pub(crate) struct Gathered<A: Allocator, T: Allocator> {
+    /// The groups, each with its name, in a list that is given back once their map is made.
+    groups: Vec<(String<A>, Numbers<A>), T>,
     /// The articles, each with its message-id.
     articles: Articles<A>,
 }
 
-impl<A: Allocator> Model for Gathered<A> {
+impl<A: Allocator, T: Allocator> Model for Gathered<A, T> {
     ghost use Rattle.nntp_article.specs.Session.Spool.{Spool as SpoolValue};
     ghost use Rattle.nntp_spool.specs.Codes.{coded_spool};
 
@@ -40,13 +40,13 @@ impl<A: Allocator> Model for Gathered<A> {
     ghost invariant = { λ a. IsInOrder a.groups.items a.articles };
 }
 
-impl<A: Allocator + Copy> Gathered<A> {
+impl<A: Allocator + Copy, T: Allocator> Gathered<A, T> {
     /// Begins with no group and no article.
-    pub(crate) fn new(alloc: A) -> Gathered<A>
+    pub(crate) fn new(alloc: A, scratch: T) -> Gathered<A, T>
         ensures { result ≡ no_spool }
     {
         Gathered {
-            groups: Vec::new(alloc),
+            groups: Vec::new(scratch),
             articles: Articles::new(alloc),
         }
     }
@@ -101,6 +101,7 @@ impl<A: Allocator + Copy> Gathered<A> {
         Ok(Content {
             groups: map_of(alloc, self.groups)?,
             articles: self.articles,
+            no_numbers: Numbers::new(alloc),
         })
     }
 }

@@ -24,15 +24,15 @@ use std::string::String;
 
 /// The lines of the article that is read, in memory that is kept from one to the next.
 #[derive(Drop)]
-struct ArticleLines<A: Allocator> {
-    head: OwnedBlock<A>,
-    body: OwnedBlock<A>,
+struct ArticleLines<T: Allocator> {
+    head: OwnedBlock<T>,
+    body: OwnedBlock<T>,
 }
 
 /// Reads one more line of an article.
 #[tactic(auto, unfolding(crate::specs::Reading::barred_line_at))]
-fn barred_line_at<'a, A: Allocator + Copy>(
-    lines: &mut OwnedBlock<A>,
+fn barred_line_at<'a, T: Allocator + Copy>(
+    lines: &mut OwnedBlock<T>,
     place: Place<'a>,
 ) -> Result<Place<'a>, ReadError>
     ensures { Gives (λ next. (lines.new, place_shown next)) result (barred_line_at (lines.old, place_shown place.entry)) }
@@ -46,8 +46,8 @@ fn barred_line_at<'a, A: Allocator + Copy>(
 }
 
 /// Reads so many lines of an article, in the place of those that were read before.
-fn barred_lines_at<'a, A: Allocator + Copy>(
-    lines: &mut OwnedBlock<A>,
+fn barred_lines_at<'a, T: Allocator + Copy>(
+    lines: &mut OwnedBlock<T>,
     count: u64,
     place: Place<'a>,
 ) -> Result<Place<'a>, ReadError>
@@ -118,13 +118,13 @@ fn numbers_at<A: Allocator + Copy>(
 
 /// Reads a group, behind its first line.
 #[tactic(auto, unfolding(crate::specs::Reading::group_at))]
-fn group_at<'a, A: Allocator + Copy>(
+fn group_at<'a, A: Allocator + Copy, T: Allocator + Copy>(
     alloc: A,
     limit: u64,
     line: u64,
     name: &[u8],
     count: u64,
-    gathered: &mut Gathered<A>,
+    gathered: &mut Gathered<A, T>,
     place: Place<'a>,
 ) -> Result<Place<'a>, ReadError>
     ensures { Gives (λ next. (gathered.new, place_shown next)) result (group_at limit line name.now count gathered.old (place_shown place.entry)) }
@@ -142,14 +142,14 @@ fn group_at<'a, A: Allocator + Copy>(
 
 /// Reads an article, behind its first line.
 #[tactic(auto, unfolding(crate::specs::Reading::article_at))]
-fn article_at<'a, A: Allocator + Copy>(
+fn article_at<'a, A: Allocator + Copy, T: Allocator + Copy>(
     alloc: A,
     line: u64,
     id: &[u8],
     heads: u64,
     bodies: u64,
-    gathered: &mut Gathered<A>,
-    lines: &mut ArticleLines<A>,
+    gathered: &mut Gathered<A, T>,
+    lines: &mut ArticleLines<T>,
     place: Place<'a>,
 ) -> Result<Place<'a>, ReadError>
     ensures { Gives (λ next. (gathered.new, place_shown next)) result (article_at line id.now heads bodies gathered.old (place_shown place.entry)) }
@@ -171,15 +171,16 @@ fn article_at<'a, A: Allocator + Copy>(
 }
 
 /// Reads the end, behind its line. What was gathered is taken.
-fn ends_at<'a, A: Allocator + Copy>(
+fn ends_at<'a, A: Allocator + Copy, T: Allocator + Copy>(
     alloc: A,
+    scratch: T,
     line: u64,
-    gathered: &mut Gathered<A>,
+    gathered: &mut Gathered<A, T>,
     place: Place<'a>,
 ) -> Result<Turn<'a, A>, ReadError>
     ensures { Gives (turn_shown gathered.new) result (end_at line gathered.old (place_shown place.entry)) }
 {
-    let content = mem::replace(gathered, Gathered::new(alloc)).into_content(alloc)?;
+    let content = mem::replace(gathered, Gathered::new(alloc, scratch)).into_content(alloc)?;
     if content.has_articles() {
         Ok(Turn::Done { content, place })
     } else {
@@ -189,12 +190,13 @@ fn ends_at<'a, A: Allocator + Copy>(
 
 /// Reads a group, an article or the end.
 #[tactic(auto, unfolding(crate::specs::Reading::item_at))]
-fn item_at<'a, A: Allocator + Copy>(
+fn item_at<'a, A: Allocator + Copy, T: Allocator + Copy>(
     alloc: A,
+    scratch: T,
     limit: u64,
     articles: bool,
-    gathered: &mut Gathered<A>,
-    lines: &mut ArticleLines<A>,
+    gathered: &mut Gathered<A, T>,
+    lines: &mut ArticleLines<T>,
     place: Place<'a>,
 ) -> Result<Turn<'a, A>, ReadError>
     ensures { Gives (turn_shown gathered.new) result (item_at limit articles gathered.old (place_shown place.entry)) }
@@ -221,17 +223,18 @@ fn item_at<'a, A: Allocator + Copy>(
                 place,
             })
         }
-        Opening::End => ends_at(alloc, place.line, gathered, next),
+        Opening::End => ends_at(alloc, scratch, place.line, gathered, next),
     }
 }
 
 /// Reads all groups and articles, up to the end.
-fn items_at<'a, A: Allocator + Copy>(
+fn items_at<'a, A: Allocator + Copy, T: Allocator + Copy>(
     alloc: A,
+    scratch: T,
     limit: u64,
     most: u64,
-    gathered: &mut Gathered<A>,
-    lines: &mut ArticleLines<A>,
+    gathered: &mut Gathered<A, T>,
+    lines: &mut ArticleLines<T>,
     place: Place<'a>,
 ) -> Result<(Content<A>, Place<'a>), ReadError>
     ensures { Gives (λ x. (x.0, place_shown x.1)) result (items_at limit most false gathered.old (place_shown place.entry)) }
@@ -239,7 +242,7 @@ fn items_at<'a, A: Allocator + Copy>(
     let mut articles = false;
     let mut rest = place;
     for _ in 0..most {
-        match item_at(alloc, limit, articles, gathered, lines, rest)? {
+        match item_at(alloc, scratch, limit, articles, gathered, lines, rest)? {
             Turn::On {
                 articles: behind,
                 place,
@@ -255,20 +258,29 @@ fn items_at<'a, A: Allocator + Copy>(
 
 /// Reads all groups and articles, behind the lines of the limit.
 #[tactic(auto, using(crate::proofs::SplitLines::ended), unfolding(crate::specs::Reading::content_at))]
-fn content_at<A: Allocator + Copy>(
+fn content_at<A: Allocator + Copy, T: Allocator + Copy>(
     alloc: A,
+    scratch: T,
     limit: u64,
     most: u64,
     place: Place<'_>,
 ) -> Result<Content<A>, ReadError>
     ensures { Gives (λ content. content) result (content_at limit most (place_shown place.entry)) }
 {
-    let mut gathered = Gathered::new(alloc);
+    let mut gathered = Gathered::new(alloc, scratch);
     let mut lines = ArticleLines {
-        head: OwnedBlock::new(alloc),
-        body: OwnedBlock::new(alloc),
+        head: OwnedBlock::new(scratch),
+        body: OwnedBlock::new(scratch),
     };
-    let (content, end) = items_at(alloc, limit, most, &mut gathered, &mut lines, place)?;
+    let (content, end) = items_at(
+        alloc,
+        scratch,
+        limit,
+        most,
+        &mut gathered,
+        &mut lines,
+        place,
+    )?;
     if !end.rest.is_empty() {
         return Err(fault(end.line, Kind::Shape));
     }
@@ -305,8 +317,9 @@ fn limit_at(place: Place<'_>) -> Result<(Limit, Place<'_>), ReadError>
 
 /// Reads a whole text: the limit, and all groups and articles.
 #[tactic(auto, unfolding(crate::specs::Reading::spool_at))]
-fn parts_of_text<A: Allocator + Copy>(
+fn parts_of_text<A: Allocator + Copy, T: Allocator + Copy>(
     alloc: A,
+    scratch: T,
     octets: &[u8],
 ) -> Result<(Limit, Content<A>), ReadError>
     ensures { Gives (λ x. record { limit = x.0; spool = x.1 }) result (spool_at octets.now) }
@@ -316,7 +329,7 @@ fn parts_of_text<A: Allocator + Copy>(
         rest: octets,
     };
     let (limit, rest) = limit_at(start)?;
-    let content = content_at(alloc, limit.value(), octets.len() as u64, rest)?;
+    let content = content_at(alloc, scratch, limit.value(), octets.len() as u64, rest)?;
     Ok((limit, content))
 }
 
@@ -332,7 +345,25 @@ impl<A: Allocator + Copy> Spool<A> {
         ensures same { (L : LimitedSpool) → IsWithinLimit L → octets.now ≡ spool_text L → IfOk result (λ spool. spool ≡ L) }
         ensures fault { IfErr result (λ fault. IsFault octets.now fault) }
     {
-        match parts_of_text(alloc, octets) {
+        Spool::read_with(alloc, alloc, octets)
+    }
+
+    /// Reads the spool whose text the octets are as [`Spool::read`] does. What isn't kept in the spool is taken of
+    /// `scratch`, and given back.
+    ///
+    /// # Errors
+    ///
+    /// Those of [`Spool::read`].
+    pub fn read_with<T: Allocator + Copy>(
+        alloc: A,
+        scratch: T,
+        octets: &[u8],
+    ) -> Result<Spool<A>, ReadFault>
+        ensures spool { IfOk result (λ spool. octets.now ≡ spool_text spool) }
+        ensures same { (L : LimitedSpool) → IsWithinLimit L → octets.now ≡ spool_text L → IfOk result (λ spool. spool ≡ L) }
+        ensures fault { IfErr result (λ fault. IsFault octets.now fault) }
+    {
+        match parts_of_text(alloc, scratch, octets) {
             Ok((limit, content)) => Ok(Spool::new(limit, content)),
             Err(ReadError::Fault(fault)) => Err(fault),
             Err(ReadError::Memory) => Err(ReadFault {

@@ -31,10 +31,10 @@ pub(crate) struct StoredArticle<A: Allocator> {
 
 impl<A: Allocator + Copy> StoredArticle<A> {
     /// Copies a head and a body, each into as much memory as it needs.
-    pub(crate) fn new(
+    pub(crate) fn new<T: Allocator>(
         alloc: A,
-        head: &OwnedBlock<A>,
-        body: &OwnedBlock<A>,
+        head: &OwnedBlock<T>,
+        body: &OwnedBlock<T>,
     ) -> Result<StoredArticle<A>, AllocError>
         ensures text { IfOk result (λ stored. text_stored stored ≡ record { head = head.now; body = body.now }) }
         ensures line_count { IfOk result (λ stored. HasLineCount (text_stored stored)) }

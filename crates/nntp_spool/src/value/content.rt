@@ -28,6 +28,8 @@ pub struct Content<A: Allocator = Global> {
     pub(crate) groups: BTreeMap<String<A>, Numbers<A>, A>,
     /// The articles, each by its message-id.
     pub(crate) articles: Articles<A>,
+    /// No numbers, which are lent where a word names no group.
+    pub(crate) no_numbers: Numbers<A>,
 }
 
 impl<A: Allocator> Model for Content<A> {
@@ -38,12 +40,14 @@ impl<A: Allocator> Model for Content<A> {
 
     ghost coded = { coded_spool };
 
+    ghost use Rattle.std.specs.Prelude.{◌≡◌};
+    ghost use Rattle.std.specs.FinMap.{empty};
     ghost use Rattle.nntp_spool.specs.ContentView.{spool_stored};
     ghost use Rattle.nntp_spool.specs.Text.{HasLineCounts};
 
     ghost view = { λ a. spool_stored a.groups.entries a.articles };
 
-    ghost invariant = { λ a. HasLineCounts (spool_stored a.groups.entries a.articles) };
+    ghost invariant = { λ a. HasLineCounts (spool_stored a.groups.entries a.articles) × (a.no_numbers ≡ empty) };
 }
 
 impl<A: Allocator + Copy> Content<A> {
@@ -54,6 +58,7 @@ impl<A: Allocator + Copy> Content<A> {
         Content {
             groups: BTreeMap::new(alloc),
             articles: Articles::new(alloc),
+            no_numbers: Numbers::new(alloc),
         }
     }
 
@@ -126,6 +131,16 @@ impl<A: Allocator> Content<A> {
                 None => None,
             },
             Err(_) => None,
+        }
+    }
+
+    /// Returns the numbers of the group that the word names. Where it names none there are none.
+    pub(crate) fn numbers_of(&self, word: &[u8]) -> &Numbers<A>
+        ensures { result.now ≡ numbers_of self.now word.now }
+    {
+        match self.group_named(word) {
+            Some((_, numbers)) => numbers,
+            None => &self.no_numbers,
         }
     }
 

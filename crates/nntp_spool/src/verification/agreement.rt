@@ -25,10 +25,10 @@ use std::alloc::{AllocError, Allocator};
 
 impl<A: Allocator + Copy> Session<A> {
     /// Tells whether an answer that fits agrees with the spool, where marks are read so.
-    pub(crate) fn agrees(
+    pub(crate) fn agrees<S: Allocator>(
         &self,
         how: Marks,
-        spool: &Content<A>,
+        spool: &Content<S>,
         counts: &mut AskedCounts<A>,
         prompt: &Prompt<'_>,
         answer: &Answer<'_>,
@@ -59,7 +59,7 @@ impl<A: Allocator + Copy> Session<A> {
     }
 
     /// Tells whether a code alone agrees.
-    fn agrees_plain(&self, spool: &Content<A>, prompt: &Prompt<'_>, code: u64) -> bool
+    fn agrees_plain<S: Allocator>(&self, spool: &Content<S>, prompt: &Prompt<'_>, code: u64) -> bool
         ensures { (how : Marks) → IsTrue result ↔ Agrees how spool.now self.now (asked prompt.now) (plain code) }
     {
         match prompt {
@@ -72,7 +72,12 @@ impl<A: Allocator + Copy> Session<A> {
 
     /// Tells whether what a code alone says of the spool, other than a generic failure, is so: by the
     /// command, and by the code where several fit.
-    fn agrees_code(&self, spool: &Content<A>, command: &Command<'_>, code: u64) -> bool
+    fn agrees_code<S: Allocator>(
+        &self,
+        spool: &Content<S>,
+        command: &Command<'_>,
+        code: u64,
+    ) -> bool
         ensures { IsTrue result ↔ CodeAgrees spool.now self.now (request command.now) code }
     {
         let current = self.current();
@@ -106,10 +111,10 @@ impl<A: Allocator + Copy> Session<A> {
     }
 
     /// Tells whether a 211 to GROUP agrees.
-    fn agrees_group(
+    fn agrees_group<S: Allocator>(
         &self,
         how: Marks,
-        spool: &Content<A>,
+        spool: &Content<S>,
         prompt: &Prompt<'_>,
         marks: WaterMarks,
         name: &str,
@@ -123,10 +128,10 @@ impl<A: Allocator + Copy> Session<A> {
     }
 
     /// Tells whether a 211 to LISTGROUP agrees.
-    fn agrees_numbers(
+    fn agrees_numbers<S: Allocator>(
         &self,
         how: Marks,
-        spool: &Content<A>,
+        spool: &Content<S>,
         prompt: &Prompt<'_>,
         marks: WaterMarks,
         name: &str,
@@ -144,9 +149,9 @@ impl<A: Allocator + Copy> Session<A> {
     }
 
     /// Tells whether a success with a number and an id agrees.
-    fn agrees_sent(
+    fn agrees_sent<S: Allocator>(
         &self,
-        spool: &Content<A>,
+        spool: &Content<S>,
         prompt: &Prompt<'_>,
         code: u64,
         number: u64,
@@ -175,7 +180,13 @@ impl<A: Allocator + Copy> Session<A> {
     }
 
     /// Tells whether the number of a success agrees, by what was asked for.
-    fn agrees_number(&self, spool: &Content<A>, which: &Which<'_>, number: u64, id: &str) -> bool
+    fn agrees_number<S: Allocator>(
+        &self,
+        spool: &Content<S>,
+        which: &Which<'_>,
+        number: u64,
+        id: &str,
+    ) -> bool
         ensures { (code : ℕ) (block : Option (List (List ℕ)))
             → IsTrue result ↔ NumberAgrees spool.now self.now (target which.now) (record { code = code; number = number; id = id.now; block = block }) }
     {
@@ -189,9 +200,9 @@ impl<A: Allocator + Copy> Session<A> {
     }
 
     /// Tells whether a 215 to LIST ACTIVE agrees.
-    fn agrees_active(
+    fn agrees_active<S: Allocator>(
         &self,
-        spool: &Content<A>,
+        spool: &Content<S>,
         counts: &mut AskedCounts<A>,
         prompt: &Prompt<'_>,
         block: &Block<'_>,

@@ -46,9 +46,9 @@ impl<A: Allocator + Copy> AskedCounts<A> {
 
     /// Returns how many groups match. The spool's groups are gone through at the first time alone
     /// that this is asked for.
-    pub(crate) fn count(
+    pub(crate) fn count<S: Allocator>(
         &mut self,
-        spool: &Content<A>,
+        spool: &Content<S>,
         wildmat: &Option<Wildmat<'_>>,
     ) -> Result<usize, AllocError>
         requires { AreCounted spool.now self.old }

@@ -85,8 +85,8 @@ impl<A: Allocator> Content<A> {
 
 /// Tells whether exactly the matching groups are listed, and the marks bound their numbers. No
 /// group is listed twice, so none is missing where as many are listed as match.
-pub(crate) fn lists_groups<A: Allocator + Copy>(
-    spool: &Content<A>,
+pub(crate) fn lists_groups<A: Allocator + Copy, S: Allocator>(
+    spool: &Content<S>,
     counts: &mut AskedCounts<A>,
     wildmat: &Option<Wildmat<'_>>,
     block: &Block<'_>,

@@ -22,13 +22,9 @@ use std::marker::Model;
 pub(crate) struct Session<A: Allocator> {
     visible: Visible<A>,
     current: Option<u64>,
-    /// No numbers, which are lent where no group is selected.
-    no_numbers: Numbers<A>,
 }
 
 impl<A: Allocator> Model for Session<A> {
-    ghost use Rattle.std.specs.Prelude.{◌≡◌};
-    ghost use Rattle.std.specs.FinMap.{empty};
     ghost use Rattle.nntp_article.specs.Session.Machine.{State};
     ghost use Rattle.nntp_spool.specs.Codes.{coded_state};
 
@@ -37,8 +33,6 @@ impl<A: Allocator> Model for Session<A> {
     ghost coded = { coded_state };
 
     ghost view = { λ a. record { visible = a.visible; current = a.current } };
-
-    ghost invariant = { λ a. a.no_numbers ≡ empty };
 }
 
 impl<A: Allocator + Copy> Session<A> {
@@ -49,15 +43,14 @@ impl<A: Allocator + Copy> Session<A> {
         Session {
             visible: Visible::new(alloc),
             current: None,
-            no_numbers: Numbers::new(alloc),
         }
     }
 
     /// Tells whether the spool permits the exchange in this state.
-    pub(crate) fn may_answer(
+    pub(crate) fn may_answer<S: Allocator>(
         &self,
         profile: Profile,
-        spool: &Content<A>,
+        spool: &Content<S>,
         counts: &mut AskedCounts<A>,
         exchange: &Exchange<'_>,
     ) -> Result<bool, AllocError>
@@ -75,9 +68,9 @@ impl<A: Allocator + Copy> Session<A> {
     }
 
     /// Goes on to the state that the exchange leaves.
-    pub(crate) fn advance(
+    pub(crate) fn advance<S: Allocator>(
         &mut self,
-        spool: &Content<A>,
+        spool: &Content<S>,
         exchange: &Exchange<'_>,
     ) -> Result<(), AllocError>
         ensures { OnOk result (self.new ≡ after spool.now self.old (asked_at exchange.now.line) exchange.now.response) }
@@ -100,20 +93,17 @@ impl<A: Allocator> Session<A> {
     }
 
     /// Returns the numbers of the selected group, or those of no group, which are none.
-    pub(crate) fn selected_numbers<'n>(&'n self, spool: &'n Content<A>) -> &'n Numbers<A>
+    pub(crate) fn selected_numbers<'n, S: Allocator>(&self, spool: &'n Content<S>) -> &'n Numbers<S>
         ensures { result.now ≡ selected_numbers spool.now self.now.visible }
     {
-        match spool.group_named(self.visible.selected_name()) {
-            Some((_, numbers)) => numbers,
-            None => &self.no_numbers,
-        }
+        spool.numbers_of(self.visible.selected_name())
     }
 
     /// Returns the number of the current article after the answer: the first of a group that was
     /// selected, or the one that a step or a number named.
-    fn current_after(
+    fn current_after<S: Allocator>(
         &self,
-        spool: &Content<A>,
+        spool: &Content<S>,
         prompt: &Prompt<'_>,
         answer: &Answer<'_>,
     ) -> Option<u64>

@@ -11,7 +11,7 @@ pub map_of-requires : goal.map_of-requires
 map_of-requires g c = sorted_listed (slice_cmp nat_cmp) (λ k. string_bytes k) (λ v. v) nat_list_cmp_total octet_keys c.self.inside.groups.items c.self.invariant.names
 
 pub invariant_of-result : goal.invariant_of-result
-invariant_of-result g c = c.self.invariant.line_counts
+invariant_of-result g c = (c.self.invariant.line_counts, c.new.ensures)
 
 pub returns : goal.returns
 returns g c = spool_is _ _

@@ -3,4 +3,4 @@ use Rattle.nntp_spool.specs.Text.{HasLineCounts}
 use Rattle.nntp_spool.proofs.value.content.Content.count_articles.Goals as goal
 
 pub returns-clause-line_counts : goal.returns-clause-line_counts
-returns-clause-line_counts g c = subst HasLineCounts c.self.view_is c.self.invariant
+returns-clause-line_counts g c = subst HasLineCounts c.self.view_is c.self.invariant.0

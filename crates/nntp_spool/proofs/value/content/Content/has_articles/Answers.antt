@@ -19,4 +19,4 @@ returns-clause-value g c =
     all ∙ sym (list_all-map known (λ e. (string_bytes e.0, e.1)) es) ∙ ap (list_all known) (group_entries es c.args.self.now.groups (ap (λ s. s.groups) c.self.view_is) c.iter.ensures.ordered)
 
 pub returns-clause-line_counts : goal.returns-clause-line_counts
-returns-clause-line_counts g c = subst HasLineCounts c.self.view_is c.self.invariant
+returns-clause-line_counts g c = subst HasLineCounts c.self.view_is c.self.invariant.0

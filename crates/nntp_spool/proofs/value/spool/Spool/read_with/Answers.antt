@@ -1,7 +1,7 @@
 use Rattle.std.proofs.Common.{inl, sym, ap, ◌∙◌, arith}
 use Rattle.nntp_spool.specs.Text.{spool_text}
 use Rattle.nntp_spool.proofs.WholeSpools.{read_is_text, read_is_same, fault_is_no_text}
-use Rattle.nntp_spool.proofs.value.spool.Spool.read.Goals as goal
+use Rattle.nntp_spool.proofs.value.spool.Spool.read_with.Goals as goal
 
 pub new-requires : goal.new-requires
 new-requires g c = (read_is_text c.args.octets.now (record { limit = c.in-Ok.limit; spool = c.in-Ok.content }) c.in-Ok.ensures).0
