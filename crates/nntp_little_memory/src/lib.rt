@@ -127,6 +127,21 @@ pub fn refuse_each<'a, F: Fn(&Refusing<Global>) -> Ended>(
     }
 }
 
+/// Makes the call with one request refused. It has to want memory, or to answer right.
+fn refuse_one<F: Fn(&Refusing<Global>) -> Ended>(
+    alloc: Global,
+    number: u64,
+    call: &F,
+) -> Result<(), Wrong>
+    requires { F.IsAlwaysCallable call.now }
+{
+    let one = Refusal::One(number);
+    match call(&Refusing::new(alloc, one)) {
+        Ended::Memory | Ended::Right => Ok(()),
+        ended => Err(Wrong::Refused(one, ended)),
+    }
+}
+
 /// Refuses requests of a call as `refuse_rest_each` says.
 fn refuse_rest_in_turn<F: Fn(&Refusing<Global>) -> Ended>(
     alloc: Global,
@@ -139,12 +154,14 @@ fn refuse_rest_in_turn<F: Fn(&Refusing<Global>) -> Ended>(
         if !rest.has_refused {
             return Ok(number - 1);
         }
+        refuse_one(alloc, number, call)?;
     }
     Err(Wrong::GoesOn)
 }
 
-/// Refuses the first request of a call and all later ones, then the second and all later ones, and so on until it makes
-/// no more. Returns how many requests there are. It is for calls that ask for less where a request is refused.
+/// Refuses the first request of a call, then the second, and so on until it makes no more, each of them with all later
+/// ones, and alone. Returns how many requests there are. It is for calls that ask for less where a request is refused:
+/// where one alone was refused, such a call may answer right.
 ///
 /// # Errors
 ///

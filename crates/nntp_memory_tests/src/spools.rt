@@ -280,6 +280,44 @@ fn spools_of_worked_sessions_are_read(rt: HostRuntime) -> Result<(), Fail> {
     Ok(())
 }
 
+/// Reads octets as the text of a spool with scratch memory apart, and writes the spool again.
+fn read_apart<A: Allocator + Copy, T: Allocator + Copy>(
+    alloc: Global,
+    heap: A,
+    scratch: T,
+    text: &[u8],
+) -> Ended {
+    match Spool::read_with(heap, scratch, text) {
+        Ok(spool) => right_if_written(alloc, &spool, text),
+        Err(fault) => {
+            if fault.kind == Kind::Memory {
+                Ended::Memory
+            } else {
+                Ended::Wrong
+            }
+        }
+    }
+}
+
+#[test]
+fn spools_are_read_with_scratch_memory_apart(rt: HostRuntime) -> Result<(), Fail> {
+    let ample = rt.alloc();
+    for session in each_session(ample)? {
+        let text = session.given.0.as_bytes();
+        refuse_each(
+            ample,
+            session.name,
+            |heap| read_apart(ample, heap, ample, text),
+        )?;
+        refuse_each(
+            ample,
+            session.name,
+            |heap| read_apart(ample, ample, heap, text),
+        )?;
+    }
+    Ok(())
+}
+
 /// Octets by name that are no text of a spool, and the first fault.
 const NO_SPOOLS: [(&str, &[u8], u64, Kind); 6] = [
     (

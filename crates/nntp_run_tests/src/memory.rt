@@ -34,8 +34,8 @@ impl Run<'_> {
     }
 }
 
-/// Refuses each request of a run that makes some: alone and with all later ones, but in a run of `verify`, whose arena
-/// asks for less where a request is refused, with all later ones. Returns how many there are.
+/// Refuses each request of a run that makes some, alone and with all later ones. A run of `verify` may go on where one
+/// alone was refused, since its arena asks for less then. Returns how many there are.
 pub(crate) fn refuse_run<'a>(
     rt: &impl Abort,
     alloc: Global,
