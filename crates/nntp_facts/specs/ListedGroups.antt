@@ -3,7 +3,7 @@ use Rattle.std.specs.Prelude.{◌≡◌, ℕ, Bool, true, not, ◌&&◌, IsTrue,
 use Rattle.std.specs.List.{AllByRecursion, list_any}
 use Rattle.std.specs.Option.{option_map_or}
 use Rattle.nntp_wire.specs.Listing.{ActiveValue}
-use Rattle.nntp_wire.specs.Decided.{is_group_name, matches_name}
+use Rattle.nntp_wire.specs.Decided.{is_asked, matches_name}
 use Rattle.nntp_article.specs.Session.Spool.{Name}
 use Rattle.nntp_article.specs.Session.Machine.{is_same, names_differ}
 use Rattle.nntp_facts.specs.Asks.{Bounds}
@@ -34,7 +34,7 @@ pub record LineJoins (facts : List Fact) (line : ActiveValue) : Type 0 where
 
 -- a group of the name would be missing, where it isn't listed
 abbrev pub is_missing : Option (List ℕ) → Bool → Name → Bool
-is_missing p listed name = is_group_name name && option_map_or (λ w. matches_name w name) p true && not listed
+is_missing p listed name = is_asked p name && not listed
 
 -- no group that is shown and matches is missing
 abbrev pub NoneIsMissing : List Fact → Option (List ℕ) → List ActiveValue → Type 0

@@ -7,14 +7,14 @@ use Rattle.std.specs.Cmp.Lexicographic.{bytes_decides}
 use Rattle.std.specs.FinMap.{entries}
 use Rattle.std.proofs.lemmas.Bool.{true≢false, and_parts, or_right}
 use Rattle.std.proofs.lemmas.List.Elements.{recursion_from_All, All-from_recursion}
-use Rattle.nntp_wire.specs.Decided.{is_group_name, matches_name}
+use Rattle.nntp_wire.specs.Decided.{is_group_name, matches_name, is_asked}
 use Rattle.nntp_wire.specs.Name.{IsGroupName}
 use Rattle.nntp_wire.specs.Wildmat.{MatchesName}
 use Rattle.nntp_wire.specs.Listing.{ActiveValue}
 use Rattle.nntp_wire.proofs.DecidedLemmas.{group_name-iff}
 use Rattle.nntp_article.specs.Session.Spool.{Spool, Name, IsGroup, IsNumber, numbers}
 use Rattle.nntp_article.specs.Session.Machine.{is_same, names_differ, ActivesAgree}
-use Rattle.nntp_spool.specs.ListedGroups.{LineAgrees, is_asked}
+use Rattle.nntp_spool.specs.ListedGroups.{LineAgrees}
 use Rattle.nntp_spool.proofs.MatchingGroups.{as_many, each_listed}
 
 -- ---- names that are listed

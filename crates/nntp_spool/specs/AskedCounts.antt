@@ -5,7 +5,7 @@ use Rattle.std.specs.Ordering.{nat_cmp}
 use Rattle.std.specs.Cmp.Lexicographic.{slice_cmp}
 use Rattle.std.specs.FinMap.{FinMap, get, insert, entries}
 use Rattle.nntp_article.specs.Session.Spool.{Spool}
-use Rattle.nntp_spool.specs.ListedGroups.{is_asked}
+use Rattle.nntp_wire.specs.Decided.{is_asked}
 
 -- the counts that are remembered: of all groups, and of those that match a wildmat
 pub record AskedCounts : Type 0 where

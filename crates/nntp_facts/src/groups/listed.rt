@@ -15,8 +15,7 @@ ghost use Rattle.nntp_facts.specs.ListedGroups.{is_listed, is_missing, NoneIsMis
 use crate::group::Group;
 use crate::groups::Groups;
 use crate::saying::GroupPart;
-use nntp_wire::laws::group_names_are_decided;
-use nntp_wire::{Block, GroupName, Wildmat, matches_if_given};
+use nntp_wire::{Block, GroupName, Wildmat, is_asked, matches_if_given};
 use std::alloc::{AllocError, Allocator};
 use std::collections::{BTreeMap, BTreeSet};
 
@@ -85,11 +84,7 @@ fn is_missing<A: Allocator>(
 ) -> bool
     ensures { result ≡ is_missing wildmat.now (list_any (λ k. is_same k.now name.now) listed.now.keys) name.now }
 {
-    group_names_are_decided();
-    match GroupName::parse(name) {
-        Some(group) => matches_if_given(wildmat, &group) && !is_one_of(listed, name),
-        None => false,
-    }
+    is_asked(wildmat, name) && !is_one_of(listed, name)
 }
 
 /// Tells whether the group matches, and isn't listed.

@@ -8,12 +8,12 @@ ghost use Rattle.nntp_wire.specs.View.{active_value};
 ghost use Rattle.nntp_article.specs.Session.Spool.{Name, IsGroup, IsNumber, numbers as numbers_of};
 ghost use Rattle.nntp_article.specs.Session.Machine.{names_differ, ActivesAgree};
 ghost use Rattle.nntp_spool.specs.AskedCounts.{AreCounted, asked_count};
-ghost use Rattle.nntp_spool.specs.ListedGroups.{LineAgrees, is_asked};
+ghost use Rattle.nntp_spool.specs.ListedGroups.{LineAgrees};
 
 use crate::value::content::Content;
 use crate::verification::asked_counts::AskedCounts;
-use nntp_wire::laws::{group_names_are_decided, matching_is_decided};
-use nntp_wire::{ActiveLine, Block, GroupName, Wildmat, matches_if_given};
+use nntp_wire::laws::matching_is_decided;
+use nntp_wire::{ActiveLine, Block, Wildmat, is_asked, matches_if_given};
 use std::alloc::{AllocError, Allocator};
 
 /// Tells whether a listed group is one of the spool, matches, and has its numbers between the
@@ -58,17 +58,6 @@ fn count_agreeing<A: Allocator>(
         count += 1;
     }
     Some(count)
-}
-
-/// Tells whether the name is that of a group that matches.
-fn is_asked(wildmat: &Option<Wildmat<'_>>, name: &[u8]) -> bool
-    ensures { result ≡ is_asked wildmat.now name.now }
-{
-    group_names_are_decided();
-    match GroupName::parse(name) {
-        Some(name) => matches_if_given(wildmat, &name),
-        None => false,
-    }
 }
 
 impl<A: Allocator> Content<A> {

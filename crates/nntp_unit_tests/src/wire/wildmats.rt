@@ -1,5 +1,5 @@
 //! Wildmats.
-use nntp_wire::{GroupName, Wildmat};
+use nntp_wire::{GroupName, Wildmat, is_asked};
 
 /// Whether the wildmat matches the name, where they are one.
 fn matches(wildmat: &[u8], name: &[u8]) -> Option<bool> {
@@ -44,6 +44,29 @@ fn no_wildmats(rt: HostRuntime) {
     ];
     for &wildmat in ROWS {
         assert!(rt; Wildmat::parse(wildmat).is_none(), "{wildmat:?}");
+    }
+}
+
+#[test]
+fn names_that_are_asked_for(rt: HostRuntime) {
+    let rows: &[(&str, Option<&[u8]>, &[u8], bool)] = &[
+        ("any name", None, b"misc.a", true),
+        ("no name", None, b"misc a", false),
+        ("no octets", None, b"", false),
+        ("a name that matches", Some(b"*.a"), b"misc.a", true),
+        ("another name", Some(b"*.a"), b"misc.b", false),
+        ("matches and is no name", Some(b"*.a"), b"misc [.a", false),
+        (
+            "matches and is no UTF-8",
+            Some(b"*"),
+            b"\xED\xA0\x80",
+            false,
+        ),
+        ("one character", Some(b"?"), "é".as_bytes(), true),
+    ];
+    for &(row, wildmat, name, want) in rows {
+        let asked = is_asked(&wildmat.and_then(Wildmat::parse), name);
+        assert!(rt; asked == want, "{row}");
     }
 }
 

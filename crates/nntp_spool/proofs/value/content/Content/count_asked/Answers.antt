@@ -6,7 +6,7 @@ use Rattle.std.proofs.lemmas.List.Folds.{fold-map}
 use Rattle.std.proofs.lemmas.List.Sums.{length-filter}
 use borrow.Author.Tests.{tests}
 use Rattle.nntp_article.specs.Session.Spool.{Name, Numbers}
-use Rattle.nntp_spool.specs.ListedGroups.{is_asked}
+use Rattle.nntp_wire.specs.Decided.{is_asked}
 use Rattle.nntp_spool.proofs.ShownMaps.{group_entries}
 use Rattle.nntp_spool.proofs.value.content.Content.count_asked.Goals as goal
 
