@@ -1,5 +1,5 @@
 -- The first lines of a block, and those behind them.
-use Rattle.std.proofs.Common.{◌≡◌, ℕ, zero, suc, ◌+◌, ◌-◌, ◌≤◌, List, [], ◌∷◌, ◌++◌, length, take, drop, refl, sym, ◌∙◌, ap, subst, arith, append_assoc, append-nil, length-append, IsTrue}
+use Rattle.std.proofs.Common.{◌≡◌, ◌↔◌, ℕ, zero, suc, ◌+◌, ◌-◌, ◌≤◌, List, [], ◌∷◌, ◌++◌, length, take, drop, refl, sym, ◌∙◌, ap, subst, arith, append_assoc, append-nil, length-append, IsTrue}
 use Rattle.std.proofs.lemmas.List.{take_at, drop_at, take_all, drop_all}
 use Rattle.nntp_wire.specs.Octets.{crlf, is_clean}
 use Rattle.nntp_wire.specs.Lines.{HasNoCrlf}
@@ -12,7 +12,7 @@ clean-append : (xs ys : List (List ℕ)) → AreClean xs → AreClean ys → Are
 clean-append [] ys a b = b
 clean-append (x ∷ xs) ys a b = (a.0, clean-append xs ys a.1 b)
 
-sent-append : (xs ys : List (List ℕ)) → sent (xs ++ ys) ≡ sent xs ++ sent ys
+pub sent-append : (xs ys : List (List ℕ)) → sent (xs ++ ys) ≡ sent xs ++ sent ys
 sent-append [] ys = refl
 sent-append (x ∷ xs) ys = ap (λ t. (stuffed x ++ crlf) ++ t) (sent-append xs ys) ∙ sym (append_assoc (stuffed x ++ crlf) (sent xs) (sent ys))
 
@@ -117,3 +117,19 @@ sends-snoc bytes more line is_sent clean is =
       clean = clean-append (received bytes) (line ∷ []) sends.clean (clean, tt);
       whole = is ∙ ap (λ t. t ++ (stuffed line ++ crlf)) sends.whole ∙ ap (λ t. sent (received bytes) ++ t) (sym (append-nil (stuffed line ++ crlf))) ∙ sym (sent-append (received bytes) (line ∷ []));
     }
+
+-- octets that send a head, the CRLF of an empty line, and octets that send a body
+pub sends-article : (front back : List ℕ) (head body : List (List ℕ)) → Sends front head → Sends back body → Sends (front ++ (crlf ++ back)) (head ++ [] ∷ body)
+sends-article front back head body h b = record {
+  clean = clean-append head ([] ∷ body) h.clean (refl, b.clean);
+  whole = ap (λ t. t ++ (crlf ++ back)) h.whole ∙ ap (λ t. sent head ++ (crlf ++ t)) b.whole ∙ sym (sent-append head ([] ∷ body));
+}
+
+-- the lines are those of an article exactly if their octets are
+pub article-iff : (bytes front back : List ℕ) (lines head body : List (List ℕ)) → Sends bytes lines → Sends front head → Sends back body
+    → (bytes ≡ front ++ (crlf ++ back)) ↔ (lines ≡ head ++ [] ∷ body)
+article-iff bytes front back lines head body s h b =
+    let both = sends-article front back head body h b in (
+      λ same. sym (received-of bytes lines s) ∙ ap received same ∙ received-of _ _ both,
+      λ same. s.whole ∙ ap sent same ∙ sym both.whole,
+    )

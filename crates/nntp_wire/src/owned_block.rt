@@ -106,6 +106,20 @@ impl<'a> Block<'a> {
         self.sent == other.sent
     }
 
+    /// Tells whether the lines are those of a head, an empty line and those of a body, octet by
+    /// octet, as an article is sent (RFC 3977, section 3.6).
+    pub fn is_article(&self, head: &Block<'_>, body: &Block<'_>) -> bool
+        ensures { IsTrue result ↔ (self.now ≡ head.now ++ [] ∷ body.now) }
+    {
+        let Some(rest) = self.sent.strip_prefix(head.sent) else {
+            return false;
+        };
+        match rest.strip_prefix(b"\r\n") {
+            Some(back) => back == body.sent,
+            None => false,
+        }
+    }
+
     /// Copies the octets into memory that is taken from `alloc`, in one piece.
     ///
     /// # Errors

@@ -60,6 +60,33 @@ fn blocks_that_are_owned(rt: HostRuntime) -> Result<(), Fail> {
 }
 
 #[test]
+fn articles_have_an_empty_line_behind_the_head(rt: HostRuntime) -> Result<(), Fail> {
+    let Some(head) = block(b"222 0 <a@b>\r\nA: b\r\n.\r\n") else {
+        return Err("no head".into());
+    };
+    let Some(body) = block(b"222 0 <a@b>\r\n..\r\nx\r\n.\r\n") else {
+        return Err("no body".into());
+    };
+    let rows: &[(&[u8], bool)] = &[
+        (b"222 0 <a@b>\r\nA: b\r\n\r\n..\r\nx\r\n.\r\n", true),
+        (b"222 0 <a@b>\r\nA: b\r\n..\r\nx\r\n.\r\n", false),
+        (b"222 0 <a@b>\r\nA: b\r\n\r\n\r\n..\r\nx\r\n.\r\n", false),
+        (b"222 0 <a@b>\r\nA: bc\r\n\r\n..\r\nx\r\n.\r\n", false),
+        (b"222 0 <a@b>\r\n\r\n..\r\nx\r\n.\r\n", false),
+        (b"222 0 <a@b>\r\nA: b\r\n\r\n..\r\n.\r\n", false),
+        (b"222 0 <a@b>\r\nA: b\r\n\r\n..\r\nx\r\n\r\n.\r\n", false),
+        (b"222 0 <a@b>\r\nA: b\r\n.\r\n", false),
+    ];
+    for &(answer, want) in rows {
+        let Some(sent) = block(answer) else {
+            return Err("no block".into());
+        };
+        assert!(rt; sent.is_article(&head, &body) == want, "{answer:?}");
+    }
+    Ok(())
+}
+
+#[test]
 fn blocks_that_send_nothing(rt: HostRuntime) {
     all_malformed(
         &rt,
