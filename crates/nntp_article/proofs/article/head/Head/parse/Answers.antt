@@ -1,0 +1,17 @@
+use Rattle.std.proofs.Common.{◌≡◌, ◌∷◌, sym, ◌∙◌, ap, refl}
+use Rattle.std.specs.Prelude.{◌&&◌}
+use Rattle.std.specs.List.{list_all}
+use Rattle.nntp_article.specs.Article.Parts.{is_head_line}
+use Rattle.nntp_article.specs.Article.SaidId.{id_by}
+use Rattle.nntp_article.proofs.ArticleLemmas.HeadLemmas.{is_head-parts}
+use Rattle.nntp_article.proofs.article.head.Head.parse.Goals as goal
+
+pub loop-line-init : goal.loop-line-init
+loop-line-init c =
+    let rest = c.next.new.self in
+    let all : c.in_ok-first.first.now ∷ rest ≡ c.args.lines.now = sym c.in_ok-first.ensures.steps ∙ c.lines-rest.ensures.lines in
+    record {
+      is_head = ap (λ b. b && list_all is_head_line rest) (sym c.if-not-begins_header.false)
+          ∙ is_head-parts _ _ _ rest _ _ c.in_ok-first.ensures.steps c.lines-rest.ensures.lines c.begins_header.ensures refl;
+      said = c.note.ensures rest ∙ ap (id_by c.new-said.result) all ∙ c.new-said.ensures c.args.lines.now;
+    }

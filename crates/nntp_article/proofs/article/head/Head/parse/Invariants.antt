@@ -1,0 +1,12 @@
+use Rattle.std.proofs.Common.{◌≡◌}
+use Rattle.std.specs.List.{list_all}
+use Rattle.nntp_article.specs.Article.Parts.{is_head, is_head_line, said_id}
+use Rattle.nntp_article.specs.Article.SaidId.{id_by}
+use Rattle.nntp_article.proofs.article.head.Head.parse.Given as goal
+
+-- the lines that are left decide, and what they say with what is known so far
+abbrev pub invariant-loop-line : goal.invariant-loop-line
+invariant-loop-line l = record {
+  is_head : list_all is_head_line l.rest ≡ is_head l.fn.lines;
+  said : id_by l.said l.rest ≡ said_id l.fn.lines;
+}
