@@ -8,7 +8,7 @@ use Rattle.nntp_wire.proofs.FrameLemmas.{one_line, occurs-behind}
 use Rattle.nntp_wire.proofs.SpellLemmas.{stuffed-line}
 use Rattle.nntp_wire.proofs.BlockLemmas.{received-sent, sends-received}
 
-clean-append : (xs ys : List (List ℕ)) → AreClean xs → AreClean ys → AreClean (xs ++ ys)
+pub clean-append : (xs ys : List (List ℕ)) → AreClean xs → AreClean ys → AreClean (xs ++ ys)
 clean-append [] ys a b = b
 clean-append (x ∷ xs) ys a b = (a.0, clean-append xs ys a.1 b)
 

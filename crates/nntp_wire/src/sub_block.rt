@@ -1,9 +1,10 @@
 //! Parts of a block, line by line.
-ghost use Rattle.std.specs.Prelude.{◌≡◌, ◌++◌, take, drop};
-ghost use Rattle.nntp_wire.specs.Block.{IsSent, Sends, received, sent};
+ghost use Rattle.std.specs.Prelude.{◌≡◌, ◌++◌, ◌∷◌, [], take, drop, MatchOption};
+ghost use Rattle.nntp_wire.specs.Block.{HasNoEmptyLine, IsSent, Sends, received, sent};
 
 use crate::block::Block;
 use crate::stream::split_first_line;
+use bstr::ByteSlice;
 
 impl<'a> Block<'a> {
     /// Splits the block into one of its first `count` lines and one of the lines behind them. The
@@ -16,6 +17,23 @@ impl<'a> Block<'a> {
         let rest = skip_lines(all, count);
         let (front, back) = all.split_at(all.len() - rest.len());
         (Block { sent: front }, Block { sent: back })
+    }
+
+    /// Splits the block at its first empty line, into one of the lines before it and one of those
+    /// behind it. None where no line is empty.
+    pub fn split_at_empty_line(&self) -> Option<(Block<'a>, Block<'a>)>
+        ensures { MatchOption result (HasNoEmptyLine self.now) (λ parts. HasNoEmptyLine parts.0 × (self.now ≡ parts.0 ++ [] ∷ parts.1)) }
+    {
+        let mut length = 0;
+        for line in self.sent.lines_with_terminator() {
+            if line == b"\r\n".as_slice() {
+                let (front, rest) = self.sent.split_at(length);
+                let (_, back) = rest.split_at(2);
+                return Some((Block { sent: front }, Block { sent: back }));
+            }
+            length += line.len();
+        }
+        None
     }
 
     /// Returns the same block once more. It borrows the same octets, and copies none.

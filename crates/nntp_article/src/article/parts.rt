@@ -22,16 +22,7 @@ impl<'a> Parts<'a> {
         ensures head { IfSome result (λ parts. parts.head ≡ head_part article.now) }
         ensures body { IfSome result (λ parts. parts.body ≡ body_part article.now) }
     {
-        let mut lines = article.lines();
-        let mut count = 0;
-        while let Some(line) = lines.next() {
-            if line.is_empty() {
-                let (head, rest) = article.split_at_line(count);
-                let (_, body) = rest.split_at_line(1);
-                return Some(Parts { head, body });
-            }
-            count += 1;
-        }
-        None
+        let (head, body) = article.split_at_empty_line()?;
+        Some(Parts { head, body })
     }
 }

@@ -87,6 +87,31 @@ fn articles_have_an_empty_line_behind_the_head(rt: HostRuntime) -> Result<(), Fa
 }
 
 #[test]
+fn blocks_are_split_at_their_first_empty_line(rt: HostRuntime) -> Result<(), Fail> {
+    let rows: &[(&[u8], usize, usize)] = &[
+        (b"222 0 <a@b>\r\n\r\n.\r\n", 0, 0),
+        (b"222 0 <a@b>\r\na\r\n\r\n.\r\n", 1, 0),
+        (b"222 0 <a@b>\r\na\r\n\r\nb\r\n\r\n..\r\n.\r\n", 1, 3),
+        (b"222 0 <a@b>\r\n\r\n\r\n.\r\n", 0, 1),
+    ];
+    for &(answer, before, behind) in rows {
+        let Some((front, back)) = block(answer).and_then(|sent| sent.split_at_empty_line()) else {
+            return Err("no empty line".into());
+        };
+        assert_eq!(rt; front.lines().count(), before, "{answer:?}");
+        assert_eq!(rt; back.lines().count(), behind, "{answer:?}");
+    }
+    for &answer in &[
+        b"222 0 <a@b>\r\n.\r\n".as_slice(),
+        b"222 0 <a@b>\r\na\r\n..\r\n.\r\n",
+    ] {
+        let split = block(answer).and_then(|sent| sent.split_at_empty_line());
+        assert!(rt; split.is_none(), "{answer:?}");
+    }
+    Ok(())
+}
+
+#[test]
 fn blocks_that_send_nothing(rt: HostRuntime) {
     all_malformed(
         &rt,

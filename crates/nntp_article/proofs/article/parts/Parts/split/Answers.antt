@@ -1,19 +1,12 @@
-use Rattle.nntp_article.proofs.ArticleLemmas.PartLemmas.{none_empty-more, parted}
+use Rattle.std.proofs.Common.{rules}
+use Rattle.nntp_article.proofs.ArticleLemmas.PartLemmas.{none-empty, parted}
 use Rattle.nntp_article.proofs.article.parts.Parts.split.Goals as goal
 
-pub loop-line-preserved : goal.loop-line-preserved
-loop-line-preserved c =
-    none_empty-more c.args.article.now c.loop-line.lines c.next.new.self c.in-Some.line.now c.loop-line.count c.is_empty.result
-    c.loop-line.invariant c.in-Some.ensures.steps c.is_empty.ensures c.if-is_empty.false
+pub returns-in_err-head-clause-some : goal.returns-in_err-head-clause-some
+returns-in_err-head-clause-some c = search (rules, none-empty c.args.article.now c.in_err-head.ensures)
 
-pub returns-then-is_empty-clause-head : goal.returns-then-is_empty-clause-head
-returns-then-is_empty-clause-head c =
-    (parted c.args.article.now c.loop-line.lines c.next.new.self c.split_at_line-head.result.0 c.split_at_line-head.result.1
-    c.split_at_line-body.result.1 c.in-Some.line.now c.loop-line.count c.is_empty.result
-    c.loop-line.invariant c.in-Some.ensures.steps c.is_empty.ensures c.if-is_empty.true c.split_at_line-head.ensures.front c.split_at_line-head.ensures.back c.split_at_line-body.ensures.back).head_is
+pub returns-clause-head : goal.returns-clause-head
+returns-clause-head c = (parted c.args.article.now c.in_ok-head.head c.in_ok-head.body c.in_ok-head.ensures.0 c.in_ok-head.ensures.1).head_is
 
-pub returns-then-is_empty-clause-body : goal.returns-then-is_empty-clause-body
-returns-then-is_empty-clause-body c =
-    (parted c.args.article.now c.loop-line.lines c.next.new.self c.split_at_line-head.result.0 c.split_at_line-head.result.1
-    c.split_at_line-body.result.1 c.in-Some.line.now c.loop-line.count c.is_empty.result
-    c.loop-line.invariant c.in-Some.ensures.steps c.is_empty.ensures c.if-is_empty.true c.split_at_line-head.ensures.front c.split_at_line-head.ensures.back c.split_at_line-body.ensures.back).body_is
+pub returns-clause-body : goal.returns-clause-body
+returns-clause-body c = (parted c.args.article.now c.in_ok-head.head c.in_ok-head.body c.in_ok-head.ensures.0 c.in_ok-head.ensures.1).body_is
