@@ -1,11 +1,12 @@
 -- The ids of a group's numbers, and one more.
-use Rattle.std.proofs.Common.{◌≡◌, ℕ, Bool, true, false, cond, List, [], ◌∷◌, Option, None, Some, is_some, option_map, refl, sym, ap, ◌∙◌}
+use Rattle.std.proofs.Common.{◌≡◌, ℕ, Bool, true, false, cond, List, [], ◌∷◌, Option, None, Some, is_some, option_map, refl, sym, ap, subst, ◌∙◌, ⊎_elim}
 use Rattle.std.specs.declared.cmp.Ordering.{Ordering}
 use Rattle.std.specs.declared.cmp.Ordering.TheVariants.{Less, Equal, Greater}
 use Rattle.std.specs.Prelude.{◌||◌, not, bytes_eq}
 use Rattle.std.specs.Ordering.{nat_cmp, is_eq, match_ordering}
 use Rattle.std.specs.Cmp.Lexicographic.{slice_cmp}
-use Rattle.std.specs.List.{list_any}
+use Rattle.std.specs.Bool.{Decides}
+use Rattle.std.specs.List.{list_all, list_any}
 use Rattle.std.specs.Set.{remove_key}
 use Rattle.std.specs.declared.rc.RcStr.{RcStr}
 use Rattle.std.specs.Rc.{rc_str_bytes}
@@ -13,11 +14,12 @@ use Rattle.std.specs.BTreeSet.{insert_key}
 use Rattle.std.specs.FinMap.{get, insert, empty, entries, find, put, entries-insert, get-entries}
 use Rattle.std.specs.FinMap.Entries.{by_order}
 use Rattle.std.specs.Cmp.{nat_cmp_total}
-use Rattle.std.proofs.lemmas.Bool.{true≢false}
+use Rattle.std.proofs.lemmas.Bool.{true≢false, false≢true, and_parts, and_from, cases_Bool}
 use Rattle.std.proofs.lemmas.Bool.Decides.{same_from_decides}
 use Rattle.std.proofs.lemmas.Map.Text.{is_eq-slice_cmp}
 use Rattle.std.proofs.lemmas.Slice.Eq.{bytes_eq-Decides}
 use Rattle.nntp_article.specs.Session.Spool.{Numbers}
+use Rattle.nntp_article.specs.Article.Parts.{Id}
 use Rattle.nntp_spool.specs.Numbers.{has_id}
 use Rattle.nntp_spool.specs.Numbers.{AreIdsOf}
 use Rattle.nntp_article.proofs.SessionLemmas.SetKeys.{or_swap, any-insert_key}
@@ -56,6 +58,44 @@ no_ids ids N e d id = ap (list_any (λ known. bytes_eq id (rc_str_bytes known)))
 
 either_way : (a b : List ℕ) → bytes_eq a b ≡ bytes_eq b a
 either_way a b = let back = bytes_eq-Decides b a in same_from_decides (bytes_eq a b) (bytes_eq b a) (bytes_eq-Decides a b) (λ t. sym (back.0 t), λ e. back.1 (sym e))
+
+-- a test of ids, over values that each have one
+module _ (t : Id → Bool) {X : Type 0} (id : X → Id) (at : Id → X → Bool) (decides : (q : Id) (x : X) → Decides (at q x) (id x ≡ q)) where
+  -- it passes at an id that is there, where it passes at all
+  passes-there : (xs : List X) (q : Id) → list_all (λ x. t (id x)) xs ≡ true → list_any (at q) xs ≡ true → t q ≡ true
+  passes-there [] q all there = absurd (false≢true there)
+  passes-there (x ∷ xs) q all there =
+      let each : (t (id x) ≡ true) × (list_all (λ x. t (id x)) xs ≡ true) = and_parts _ _ all in
+      ⊎_elim (λ (is : at q x ≡ true). subst (λ i. t i ≡ true) ((decides q x).0 is) each.0)
+      (λ (no : at q x ≡ false). passes-there xs q each.1 (ap (λ b. b || list_any (at q) xs) (sym no) ∙ there))
+      (cases_Bool (at q x))
+
+  -- it passes at all, where it passes at each id that is there
+  passes-all : (xs : List X) → ((q : Id) → list_any (at q) xs ≡ true → t q ≡ true) → list_all (λ x. t (id x)) xs ≡ true
+  passes-all [] each = refl
+  passes-all (x ∷ xs) each =
+      and_from (t (id x)) (list_all (λ x. t (id x)) xs)
+      (each (id x) (ap (λ b. b || list_any (at (id x)) xs) ((decides (id x) x).1 refl)))
+      (passes-all xs (λ q there. each q (or_true (at q x) (list_any (at q) xs) there)))
+    where
+      or_true : (a b : Bool) → b ≡ true → (a || b) ≡ true
+      or_true true b e = refl
+      or_true false b e = e
+
+-- a test passes at all ids of the numbers exactly if it does at all that are known
+pub all_ids : {A : Type 0} (t : Id → Bool) (ids : List (RcStr A)) (N : Numbers) → AreIdsOf ids N
+    → list_all (λ known. t (rc_str_bytes known)) ids ≡ list_all (λ e. t e.1) (entries N)
+all_ids {A = A} t ids N are =
+    let known : Id → RcStr A → Bool = λ q k. bytes_eq q (rc_str_bytes k) in
+    let decides : (q : Id) (k : RcStr A) → Decides (known q k) (rc_str_bytes k ≡ q) =
+    λ q k. let d = bytes_eq-Decides q (rc_str_bytes k) in (λ is. sym (d.0 is), λ is. d.1 (sym is)) in
+    let id : ℕ × Id → Id = λ e. e.1 in
+    let at : Id → ℕ × Id → Bool = λ q e. bytes_eq e.1 q in
+    let decides_at : (q : Id) (e : ℕ × Id) → Decides (at q e) (id e ≡ q) = λ q e. bytes_eq-Decides e.1 q in
+    same_from_decides (list_all (λ k. t (rc_str_bytes k)) ids) (list_all (λ e. t e.1) (entries N)) (
+      (λ all. passes-all t id at decides_at (entries N) (λ q there. passes-there t rc_str_bytes known decides ids q all (are q ∙ there))),
+      (λ all. passes-all t rc_str_bytes known decides ids (λ q there. passes-there t id at decides_at (entries N) q all (sym (are q) ∙ there))),
+    ) (λ e. e, λ e. e)
 
 module _ {A : Type 0} where
   abbrev octets_cmp : RcStr A → RcStr A → Ordering

@@ -216,14 +216,12 @@ impl<A: Allocator> Content<A> {
         self.articles.is_after(id)
     }
 
-    /// Tells whether each id of these numbers has an article.
+    /// Tells whether each id of these numbers has an article. The ids are looked for in their own
+    /// order, in which each is found near the one before it.
     fn knows_all(&self, numbers: &Numbers<A>) -> bool
         ensures { result ≡ all_known self.now numbers.now }
     {
-        numbers
-            .ids
-            .iter()
-            .all(|(_, id)| self.has_article(id.as_str()))
+        numbers.known.iter().all(|id| self.has_article(id.as_str()))
     }
 
     /// Tells whether each id of a number has an article.

@@ -18,7 +18,7 @@ pub struct Numbers<A: Allocator = Global> {
     /// The message-id at each number.
     pub(crate) ids: BTreeMap<u64, RcStr<A>, A>,
     /// The ids once more, each the same text, to look one up.
-    known: BTreeSet<RcStr<A>, A>,
+    pub(crate) known: BTreeSet<RcStr<A>, A>,
 }
 
 impl<A: Allocator> Model for Numbers<A> {
