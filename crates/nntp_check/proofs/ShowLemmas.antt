@@ -12,8 +12,8 @@ use Rattle.nntp_pair.specs.declared.pair_error.PairError.TheVariants as errors
 use Rattle.nntp_pair.specs.declared.side.Side.{Side}
 use Rattle.nntp_pair.specs.declared.side.Side.TheVariants.{Client, Server}
 use Rattle.nntp_pair.proofs.FedLaws.{fed-paired}
-use Rattle.nntp_facts.specs.Classes.{class_of}
-use Rattle.nntp_facts.specs.declared.class.Class.{Class}
+use Rattle.nntp_pair.specs.Classes.{class_of}
+use Rattle.nntp_pair.specs.declared.class.Class.{Class}
 use Rattle.nntp_printing.specs.BadAnswer.{bad_line}
 use Rattle.nntp_check.specs.Run.{ShowReports}
 use Rattle.nntp_check.specs.Show.{exchange_text, ending_line, is_end}

@@ -7,7 +7,7 @@ use Rattle.nntp_article.specs.Article.Parts.{Line, is_empty, is_head, head_part}
 use Rattle.nntp_article.specs.Article.Control.{ControlValue, cancel, new_group, rm_group, other, controls_of}
 use Rattle.nntp_article.specs.Article.Required.{missing_of}
 use Rattle.nntp_article.specs.declared.article.missing_headers.Missing.{Missing}
-use Rattle.nntp_facts.specs.Classes.{class_of}
+use Rattle.nntp_pair.specs.Classes.{class_of}
 use Rattle.nntp_printing.specs.BadAnswer.{bad_line}
 use Rattle.nntp_printing.specs.Printing.{escaped}
 

@@ -21,8 +21,7 @@ mod source;
 mod streams;
 
 pub use command_line::{Failure, Task, job, refusal, status};
-pub use nntp_facts::Class;
-pub use nntp_pair::PairError as CheckError;
+pub use nntp_pair::{Class, PairError as CheckError};
 pub use nntp_spool::{Counts, Kind, ReadFault, Spool, Watched, WriteFault};
 pub use nntp_verdict::{Checker, Verdict, check};
 pub use nntp_wire::{Limit, Marks};

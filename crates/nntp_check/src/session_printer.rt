@@ -10,8 +10,7 @@ ghost use Rattle.nntp_check.specs.Showing.{Shows, ShowsWhole};
 use crate::show::{put_end, put_exchange};
 use crate::sink::Sink;
 use crate::source::Source;
-use nntp_facts::Class;
-use nntp_pair::{Ending, Feed, PairError, Peek};
+use nntp_pair::{Class, Ending, Feed, PairError, Peek};
 use nntp_printing::put_bad_line;
 use std::alloc::{AllocError, Allocator};
 

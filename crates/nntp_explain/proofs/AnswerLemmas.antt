@@ -10,7 +10,7 @@ use Rattle.nntp_pair.specs.Pairing.{Paired, asked_at, asked_of, responses_of}
 use Rattle.nntp_facts.specs.Classes.{visible_from, position_from}
 use Rattle.nntp_facts.specs.Conflict.{placed_behind}
 use Rattle.nntp_facts.specs.Reading.{Judged, Accepted, Refused, Unspelled, accepted_of, accepted_with}
-use Rattle.nntp_facts.specs.declared.class.Class.{Class}
+use Rattle.nntp_pair.specs.declared.class.Class.{Class}
 use Rattle.nntp_facts.specs.declared.position.Position.{Position}
 use Rattle.nntp_facts.specs.declared.position.Position.TheVariants.{Nowhere}
 use Rattle.nntp_facts.proofs.Reading.JudgedSession.{accepted_one_more}

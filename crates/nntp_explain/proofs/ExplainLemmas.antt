@@ -18,12 +18,12 @@ use Rattle.nntp_pair.specs.Pairing.{Paired, Unpaired, IsNext, IsPassedOver, end,
 use Rattle.nntp_pair.specs.declared.class.PairClass.{PairClass}
 use Rattle.nntp_pair.specs.declared.class.PairClass.TheVariants.{Malformed as PairMalformed}
 use Rattle.nntp_pair.proofs.PassedLemmas.{passed-reason}
-use Rattle.nntp_facts.specs.Classes.{class_of}
+use Rattle.nntp_pair.specs.Classes.{class_of}
 use Rattle.nntp_facts.specs.Conflict.{Placed, placed_of, FitsThere, SomeHas, told_with, below}
 use Rattle.nntp_facts.specs.Noted.{FactsKept, HasNoted, IsNoted, IsDue, profile_kept}
 use Rattle.nntp_facts.specs.Reading.{Judged, Accepted, Refused, Unspelled, accepted_of, accepted_with, class_behind, IsJudged}
-use Rattle.nntp_facts.specs.declared.class.Class.{Class}
-use Rattle.nntp_facts.specs.declared.class.Class.TheVariants.{Malformed, OutOfPlace, Contradiction}
+use Rattle.nntp_pair.specs.declared.class.Class.{Class}
+use Rattle.nntp_pair.specs.declared.class.Class.TheVariants.{Malformed, OutOfPlace, Contradiction}
 use Rattle.nntp_facts.specs.declared.noted.Noted.{Noted}
 use Rattle.nntp_facts.specs.declared.noted.Noted.TheVariants as kinds
 use Rattle.nntp_facts.specs.declared.position.Position.{Position}

@@ -7,8 +7,8 @@ use Rattle.nntp_article.specs.Session.Machine.{Visible, start, fits, visible_aft
 use Rattle.nntp_facts.specs.Asks.{position_after}
 use Rattle.nntp_facts.specs.declared.position.Position.{Position}
 use Rattle.nntp_pair.specs.Pairing.{IsCut, IsMalformed}
-use Rattle.nntp_facts.specs.declared.class.Class.{Class}
-use Rattle.nntp_facts.specs.declared.class.Class.TheVariants.{Surplus, Cut, Malformed, OutOfPlace, Contradiction}
+use Rattle.nntp_pair.specs.declared.class.Class.{Class}
+use Rattle.nntp_pair.specs.declared.class.Class.TheVariants.{Surplus, Cut, Malformed, OutOfPlace, Contradiction}
 use Rattle.nntp_pair.specs.declared.class.PairClass.{PairClass}
 use Rattle.nntp_pair.specs.declared.class.PairClass.TheVariants.{Surplus as PairSurplus, Cut as PairCut, Malformed as PairMalformed}
 
@@ -82,12 +82,6 @@ abbrev pub IsSettled : List ℕ → List ℕ → ℕ → Class → Type 0
 IsSettled client server k Surplus = IsClosedBefore client server k
 IsSettled client server k Cut = ⊥
 IsSettled client server k class = ⊤
-
--- the class of octets at which a pairing ends
-abbrev pub class_of : PairClass → Class
-class_of PairSurplus = Surplus
-class_of PairCut = Cut
-class_of PairMalformed = Malformed
 
 -- the class of an answer that no spool permits together with those before, by whether it fits the visible state
 abbrev pub class_by : Bool → Class

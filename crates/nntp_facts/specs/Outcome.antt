@@ -5,7 +5,7 @@ use Rattle.nntp_article.specs.declared.session.profile.Profile.{Profile}
 use Rattle.nntp_article.specs.Session.Spool.{Spool}
 use Rattle.nntp_article.specs.Session.Explains.{Explains, Bad}
 use Rattle.nntp_facts.specs.Given.{IsGiven, HasAtLeast, facts_of_session}
-use Rattle.nntp_facts.specs.declared.class.Class.{Class}
+use Rattle.nntp_pair.specs.declared.class.Class.{Class}
 use Rattle.nntp_facts.specs.Classes.{HasClass}
 
 -- yes with this spool and so many answers, or no at this answer, of this class

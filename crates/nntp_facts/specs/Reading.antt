@@ -4,8 +4,8 @@ use Rattle.nntp_article.specs.declared.session.profile.Profile.{Profile}
 use Rattle.nntp_article.specs.Session.Machine.{start, fits}
 use Rattle.nntp_pair.specs.declared.class.PairClass.TheVariants.{Malformed as PairMalformed}
 use Rattle.nntp_pair.specs.Pairing.{Paired, Unpaired, IsNext, IsPassedOver, Ending, bad, Ends, asked_at, asked_of, responses_of, streams}
-use Rattle.nntp_facts.specs.declared.class.Class.{Class}
-use Rattle.nntp_facts.specs.declared.class.Class.TheVariants.{Malformed}
+use Rattle.nntp_pair.specs.declared.class.Class.{Class}
+use Rattle.nntp_pair.specs.declared.class.Class.TheVariants.{Malformed}
 use Rattle.nntp_facts.specs.Classes.{class_by, visible_from}
 use Rattle.nntp_facts.specs.Noted.{ArePermitted}
 

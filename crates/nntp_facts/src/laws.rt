@@ -16,9 +16,10 @@ ghost use Rattle.nntp_article.specs.Session.Explains.{Explains, ExplainsUpTo, Ba
 ghost use Rattle.nntp_wire.specs.Octets.{are_octets};
 ghost use Rattle.nntp_wire.specs.Session.{prompts_of, Spelled};
 ghost use Rattle.nntp_facts.specs.Outcome.{Outcome, Yes, No, is_yes, IsOutcome};
-ghost use Rattle.nntp_facts.specs.declared.class.Class.{Class};
-ghost use Rattle.nntp_facts.specs.declared.class.Class.TheVariants.{OutOfPlace};
-ghost use Rattle.nntp_facts.specs.Classes.{HasClass, IsSettled, class_of, class_by, visible_from, position_from, asked_next};
+ghost use Rattle.nntp_pair.specs.declared.class.Class.{Class};
+ghost use Rattle.nntp_pair.specs.declared.class.Class.TheVariants.{OutOfPlace};
+ghost use Rattle.nntp_facts.specs.Classes.{HasClass, IsSettled, class_by, visible_from, position_from, asked_next};
+ghost use Rattle.nntp_pair.specs.Classes.{class_of};
 ghost use Rattle.nntp_pair.specs.Pairing.{Paired, Unpaired, IsNext, AreNext, IsBad, IsLasting, Ending, end, bad, IsPairing, HasPairs, responses_of, asked_of, asked_at, lines_in, streams};
 ghost use Rattle.nntp_pair.specs.declared.class.PairClass.{PairClass};
 ghost use Rattle.nntp_wire.specs.Answer.{Asked, Response, Spells};

@@ -2,8 +2,8 @@
 ghost use Rattle.std.specs.Prelude.{◌≡◌, true, IfOk};
 ghost use Rattle.nntp_witness.specs.Witness.{HaveNotedSome};
 
-use nntp_facts::{Class, Facts, FactsError, Noted};
-use nntp_pair::{Exchange, Pairs, Step};
+use nntp_facts::{Facts, FactsError, Noted};
+use nntp_pair::{Class, Exchange, Pairs, Step};
 use nntp_sessions::Outcome;
 use nntp_wire::{Limit, Marks};
 use std::alloc::{AllocError, Allocator, Global};

@@ -1,3 +1,4 @@
+pub mod Classes
 pub mod Pairing
 pub mod Sides
 pub mod Step

@@ -1,4 +1,6 @@
-//! Why octets of the server answer nothing.
+//! Why octets of the server answer nothing, and why an answer is bad.
+ghost use Rattle.std.specs.Prelude.{◌≡◌};
+
 use thiserror::Error;
 
 /// Why the server's next octets answer nothing.
@@ -13,4 +15,39 @@ pub enum PairClass {
     /// They are a whole frame that spells no response.
     #[error("Malformed")]
     Malformed,
+}
+
+/// The class of a bad answer, which tells why it is bad. Each bad answer has exactly one.
+#[derive(Clone, Copy, Debug, PartialEq, Eq, Error)]
+pub enum Class {
+    /// There are octets behind the end of the connection, or where no command is left to be
+    /// answered.
+    #[error("Surplus")]
+    Surplus,
+    /// The octets end within the response (RFC 3977, sections 3.1 and 3.1.1).
+    #[error("Cut")]
+    Cut,
+    /// The response spells no answer to its command (RFC 3977, section 3.2).
+    #[error("Malformed")]
+    Malformed,
+    /// The command or the answers before it rule the answer out, whatever the articles are.
+    #[error("OutOfPlace")]
+    OutOfPlace,
+    /// No spool gives this answer together with those before it.
+    #[error("Contradiction")]
+    Contradiction,
+}
+
+impl From<PairClass> for Class {
+    ghost use Rattle.nntp_pair.specs.Classes.{class_of};
+
+    ghost from_gives = { λ class result. result ≡ class_of class };
+
+    fn from(class: PairClass) -> Class {
+        match class {
+            PairClass::Surplus => Class::Surplus,
+            PairClass::Cut => Class::Cut,
+            PairClass::Malformed => Class::Malformed,
+        }
+    }
 }

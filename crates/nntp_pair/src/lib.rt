@@ -19,7 +19,7 @@ mod searches;
 mod side;
 mod step;
 
-pub use class::PairClass;
+pub use class::{Class, PairClass};
 pub use ending::Ending;
 pub use exchange::Exchange;
 pub use feed::Feed;

@@ -4,7 +4,7 @@ ghost use Rattle.std.specs.Option.{option_copied, option_map};
 ghost use Rattle.nntp_printing.specs.BadAnswer.{bad_line, bad_lines, class_word, command_line, IsFirstLine, shown};
 
 use crate::printing::{put_escaped_line, put_number};
-use nntp_facts::Class;
+use nntp_pair::Class;
 use nntp_wire::split_first_line;
 use std::alloc::{AllocError, Allocator};
 

@@ -2,7 +2,7 @@
 //! is then known of the groups.
 use crate::group_lines::group_lines;
 use crate::slowly_judged::Counts;
-use nntp_facts::Class;
+use nntp_pair::Class;
 use nntp_fixtures::{Stop, note_all};
 use nntp_sessions::{
     CHOICES, Choice, NARROW_LENIENT, NARROW_STRICT, Random, Wandering, each_row, each_session,

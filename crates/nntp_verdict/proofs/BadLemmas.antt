@@ -10,9 +10,10 @@ use Rattle.nntp_pair.specs.Pairing.{Unpaired, Ends, Ending, end, bad as pair_end
 use Rattle.nntp_pair.specs.Feeding.{HasNext, EndsForGood}
 use Rattle.nntp_pair.proofs.NextDecided.{next-or-end}
 use Rattle.nntp_pair.proofs.PairingLemmas.{index-counts}
-use Rattle.nntp_facts.specs.declared.class.Class.{Class}
-use Rattle.nntp_facts.specs.declared.class.Class.TheVariants as class
-use Rattle.nntp_facts.specs.Classes.{IsSettled, class_of}
+use Rattle.nntp_pair.specs.declared.class.Class.{Class}
+use Rattle.nntp_pair.specs.declared.class.Class.TheVariants as class
+use Rattle.nntp_facts.specs.Classes.{IsSettled}
+use Rattle.nntp_pair.specs.Classes.{class_of}
 use Rattle.nntp_facts.specs.Outcome.{No, IsOutcome}
 use Rattle.nntp_facts.specs.Noted.{FactsKept}
 use Rattle.nntp_facts.proofs.Streams.OneClass.{bad_stays as answer_stays, class_stays, settled_stays}

@@ -18,11 +18,12 @@ use Rattle.nntp_pair.specs.Pairing.{Paired, Unpaired, IsNext, AreNext, Ends, IsB
 use Rattle.nntp_pair.specs.declared.class.PairClass.{PairClass}
 use Rattle.nntp_pair.specs.declared.class.PairClass.TheVariants as pair
 use Rattle.nntp_pair.proofs.PairingLemmas.{AreNext-push, index-counts}
-use Rattle.nntp_facts.specs.declared.class.Class.{Class}
-use Rattle.nntp_facts.specs.declared.class.Class.TheVariants.{OutOfPlace, Contradiction}
+use Rattle.nntp_pair.specs.declared.class.Class.{Class}
+use Rattle.nntp_pair.specs.declared.class.Class.TheVariants.{OutOfPlace, Contradiction}
 use Rattle.nntp_facts.specs.declared.noted.Noted.{Noted}
 use Rattle.nntp_facts.specs.declared.noted.Noted.TheVariants as kinds
-use Rattle.nntp_facts.specs.Classes.{class_of, class_by, visible_from}
+use Rattle.nntp_facts.specs.Classes.{class_by, visible_from}
+use Rattle.nntp_pair.specs.Classes.{class_of}
 use Rattle.nntp_facts.specs.Outcome.{Yes, No, IsOutcome}
 use Rattle.nntp_facts.specs.Noted.{FactsKept, HasNoted, IsDue, IsNoted}
 use Rattle.nntp_facts.proofs.Ids.SizeOfASession.{pairs_size}

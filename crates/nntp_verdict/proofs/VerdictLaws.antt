@@ -12,7 +12,7 @@ use Rattle.nntp_article.specs.Session.Limit.{profile_of}
 use Rattle.nntp_article.specs.Session.Spool.{Spool}
 use Rattle.nntp_pair.specs.Pairing.{Paired, Unpaired, AreNext, line_ahead, streams}
 use Rattle.nntp_pair.proofs.NextLemmas.{one-next}
-use Rattle.nntp_facts.specs.declared.class.Class.{Class}
+use Rattle.nntp_pair.specs.declared.class.Class.{Class}
 use Rattle.nntp_facts.specs.Outcome.{Outcome, Yes, No}
 use Rattle.nntp_facts.proofs.Streams.OneOutcome.{one_outcome, yes_explained}
 use Rattle.nntp_spool.specs.Limited.{LimitedSpool}

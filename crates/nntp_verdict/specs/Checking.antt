@@ -12,7 +12,7 @@ use Rattle.nntp_pair.specs.declared.side.Side.TheVariants.{Client, Server}
 use Rattle.nntp_pair.specs.declared.pair_error.PairError.{PairError}
 use Rattle.nntp_pair.specs.declared.pair_error.PairError.TheVariants as errors
 use Rattle.nntp_pair.specs.Feeding.{Fed, IsFed, HasNext, left_of}
-use Rattle.nntp_facts.specs.declared.class.Class.{Class}
+use Rattle.nntp_pair.specs.declared.class.Class.{Class}
 use Rattle.nntp_facts.specs.Classes.{IsSettled}
 use Rattle.nntp_facts.specs.Outcome.{No, IsOutcome}
 use Rattle.nntp_facts.specs.Noted.{FactsKept, HasNoted, profile_kept}

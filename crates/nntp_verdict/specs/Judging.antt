@@ -7,8 +7,8 @@ use Rattle.nntp_pair.specs.Pairing.{Paired, Unpaired, AreNext, IsBad, Ends, IsPa
 use Rattle.nntp_pair.specs.Feeding.{HasNext}
 use Rattle.nntp_pair.specs.declared.class.PairClass.{PairClass}
 use Rattle.nntp_pair.specs.declared.class.PairClass.TheVariants as pair
-use Rattle.nntp_facts.specs.declared.class.Class.{Class}
-use Rattle.nntp_facts.specs.declared.class.Class.TheVariants.{Surplus, Cut, Malformed, OutOfPlace, Contradiction}
+use Rattle.nntp_pair.specs.declared.class.Class.{Class}
+use Rattle.nntp_pair.specs.declared.class.Class.TheVariants.{Surplus, Cut, Malformed, OutOfPlace, Contradiction}
 use Rattle.nntp_facts.specs.declared.noted.Noted.{Noted}
 use Rattle.nntp_facts.specs.Outcome.{Yes, No, IsOutcome}
 use Rattle.nntp_facts.specs.Noted.{FactsKept, HasNoted}

@@ -1,7 +1,7 @@
 -- What is said of a session.
 use Rattle.std.specs.Prelude.{ℕ, Bool, true, false, List, Option}
 use Rattle.std.specs.Option.{option_map}
-use Rattle.nntp_facts.specs.declared.class.Class.{Class}
+use Rattle.nntp_pair.specs.declared.class.Class.{Class}
 use Rattle.nntp_spool.specs.Limited.{LimitedSpool}
 use Rattle.nntp_verdict.specs.declared.verdict.Verdict.{Verdict}
 use Rattle.nntp_verdict.specs.declared.verdict.Verdict.TheVariants.{Consistent, Bad}

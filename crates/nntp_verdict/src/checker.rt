@@ -10,8 +10,7 @@ ghost use Rattle.nntp_verdict.specs.Verdict.{verdict_shown};
 
 use crate::judge::Judge;
 use crate::verdict::Verdict;
-use nntp_facts::Class;
-use nntp_pair::{Ending, Feed, OctetCounts, PairClass, PairError, Peek, Side};
+use nntp_pair::{Class, Ending, Feed, OctetCounts, PairClass, PairError, Peek, Side};
 use nntp_wire::{Limit, Marks};
 use std::alloc::{AllocError, Allocator, Global};
 use std::marker::Model;

@@ -10,8 +10,8 @@ ghost use Rattle.nntp_verdict.specs.Judging.{IsVerdict, Passed, StopsHere, IsNoF
 ghost use Rattle.nntp_verdict.specs.Verdict.{bad, verdict_shown};
 
 use crate::verdict::Verdict;
-use nntp_facts::{Class, Facts, Noted};
-use nntp_pair::{Ahead, Exchange, PairClass, Pairs, Step};
+use nntp_facts::{Facts, Noted};
+use nntp_pair::{Ahead, Class, Exchange, PairClass, Pairs, Step};
 use nntp_printing::{first_line, shown, shown_line};
 use nntp_wire::{Limit, Marks};
 use nntp_witness::witness;

@@ -9,7 +9,7 @@ ghost use Rattle.nntp_article.specs.Session.Spool.{Spool};
 ghost use Rattle.nntp_article.specs.declared.session.profile.Profile.{Profile};
 ghost use Rattle.nntp_verdict.specs.Checking.{IsBadForGood, IsToldBad};
 ghost use Rattle.nntp_verdict.specs.Judging.{IsVerdict};
-ghost use Rattle.nntp_facts.specs.declared.class.Class.{Class};
+ghost use Rattle.nntp_pair.specs.declared.class.Class.{Class};
 ghost use Rattle.nntp_verdict.specs.Verdict.{Judgement, is_consistent};
 
 /// Two streams have one verdict by a limit and marks.

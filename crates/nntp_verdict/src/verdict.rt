@@ -2,7 +2,7 @@
 ghost use Rattle.std.specs.Prelude.{◌≡◌};
 ghost use Rattle.nntp_verdict.specs.Verdict.{is_consistent, verdict_shown};
 
-use nntp_facts::Class;
+use nntp_pair::Class;
 use nntp_spool::Spool;
 use std::alloc::{Allocator, Global};
 

@@ -7,8 +7,8 @@ use Rattle.nntp_pair.specs.declared.class.PairClass.{PairClass}
 use Rattle.nntp_pair.specs.declared.class.PairClass.TheVariants.{Malformed as PairMalformed}
 use Rattle.nntp_pair.specs.Pairing.{Paired, Unpaired, AreNext, Ending, end, bad, IsPairing, streams}
 use Rattle.nntp_pair.proofs.PassedLemmas.{passed-ends}
-use Rattle.nntp_facts.specs.declared.class.Class.{Class}
-use Rattle.nntp_facts.specs.Classes.{class_of}
+use Rattle.nntp_pair.specs.declared.class.Class.{Class}
+use Rattle.nntp_pair.specs.Classes.{class_of}
 use Rattle.nntp_facts.specs.Noted.{ArePermitted}
 use Rattle.nntp_facts.specs.Outcome.{No, IsOutcome}
 use Rattle.nntp_facts.specs.Reading.{Judged, Accepted, Refused, Unspelled, accepted_of, AreJudged, class_behind, IsReading}

@@ -6,7 +6,7 @@ use Rattle.nntp_article.specs.Session.Machine.{start, fits}
 use Rattle.nntp_pair.specs.Pairing.{Paired, Unpaired, IsNext, asked_at, asked_of, responses_of}
 use Rattle.nntp_facts.specs.Classes.{class_by}
 use Rattle.nntp_facts.specs.Permits.{SomePermits}
-use Rattle.nntp_facts.specs.declared.class.Class.TheVariants.{OutOfPlace, Contradiction}
+use Rattle.nntp_pair.specs.declared.class.Class.TheVariants.{OutOfPlace, Contradiction}
 use Rattle.nntp_facts.specs.declared.noted.Noted.TheVariants.{Consistent, OutOfPlace as NotedOutOfPlace, Contradiction as NotedContradiction}
 use Rattle.nntp_facts.specs.Noted.{FactsKept, HasNoted, IsNoted, ArePermitted}
 use Rattle.nntp_facts.specs.Reading.{Accepted, Refused, IsJudged, class_behind}

@@ -12,8 +12,9 @@ use Rattle.nntp_article.specs.declared.session.profile.Profile.{Profile}
 use Rattle.nntp_article.specs.Session.Machine.{Visible, start, visible_after, Run}
 use Rattle.nntp_article.specs.Session.Explains.{ExplainsUpTo}
 use Rattle.nntp_article.proofs.SessionLemmas.ClosingAnswers.{after-closes}
-use Rattle.nntp_facts.specs.declared.class.Class.{Class}
-use Rattle.nntp_facts.specs.Classes.{visible_from, asked_next, AnswersFirst, IsClass, HasClass, IsSettled, class_of}
+use Rattle.nntp_pair.specs.declared.class.Class.{Class}
+use Rattle.nntp_facts.specs.Classes.{visible_from, asked_next, AnswersFirst, IsClass, HasClass, IsSettled}
+use Rattle.nntp_pair.specs.Classes.{class_of}
 use Rattle.nntp_facts.proofs.Streams.OneClass.{closed_before}
 
 -- what is asked at the first of the places

@@ -12,8 +12,9 @@ use Rattle.nntp_article.specs.Session.Machine.{Run, start, fits, Visible}
 use Rattle.nntp_article.specs.Session.Explains.{Explains}
 use Rattle.nntp_facts.specs.Given.{IsGiven, facts_of_session, size}
 use Rattle.nntp_facts.specs.Permits.{SomePermits}
-use Rattle.nntp_facts.specs.declared.class.Class.TheVariants.{OutOfPlace}
-use Rattle.nntp_facts.specs.Classes.{HasClass, class_of, class_by, visible_from}
+use Rattle.nntp_pair.specs.declared.class.Class.TheVariants.{OutOfPlace}
+use Rattle.nntp_facts.specs.Classes.{HasClass, class_by, visible_from}
+use Rattle.nntp_pair.specs.Classes.{class_of}
 use Rattle.nntp_facts.specs.Outcome.{Outcome, Yes, No, is_yes, IsOutcome, IsLeastExplanation}
 use Rattle.nntp_facts.proofs.Streams.OneClass.{one_class}
 use Rattle.nntp_facts.proofs.Streams.ExplainedPairs.{by_pairs, by_all_pairs}

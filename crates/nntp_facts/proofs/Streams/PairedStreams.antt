@@ -14,8 +14,9 @@ use Rattle.nntp_article.specs.declared.session.profile.Profile.{Profile}
 use Rattle.nntp_article.specs.Session.Machine.{Run, start, fits}
 use Rattle.nntp_article.specs.Session.Explains.{ExplainsUpTo, Explains, ExplainsFirst, Bad}
 use Rattle.nntp_facts.specs.Permits.{SomePermits}
-use Rattle.nntp_facts.specs.declared.class.Class.{Class}
-use Rattle.nntp_facts.specs.Classes.{visible_from, asked_next, BeginsWithAnswer, IsOpenClass, IsClass, HasClass, left_visible, class_of, class_by}
+use Rattle.nntp_pair.specs.declared.class.Class.{Class}
+use Rattle.nntp_facts.specs.Classes.{visible_from, asked_next, BeginsWithAnswer, IsOpenClass, IsClass, HasClass, left_visible, class_by}
+use Rattle.nntp_pair.specs.Classes.{class_of}
 use Rattle.nntp_facts.proofs.Streams.OneClass.{OneMore, one_more, run_open, run_fits, not_cut, not_malformed}
 use Rattle.nntp_pair.proofs.SpelledLemmas.{places-prompts, pairs-spelled}
 use Rattle.nntp_facts.proofs.Streams.ClassAtTheEnd.{first_asked, paired_up, count, has_class, end_has_class, explained_pairs}

@@ -69,3 +69,9 @@ returns-in_default g c = λ limit marks client server kept.
       | in_default-via-in-Bad+in_default w ↦ none w.in_default.not-Whole
       | in_default-via-in_default w ↦ none w.in_default.not-Whole
     ])
+
+pub loop-exchange-init : goal.loop-exchange-init
+loop-exchange-init g c = λ limit marks client server kept. kept
+
+pub advance-requires : goal.advance-requires
+advance-requires g c = (c.in-Whole.exchange, c.in-Whole.ensures.1, c.in-Whole.ensures.2)

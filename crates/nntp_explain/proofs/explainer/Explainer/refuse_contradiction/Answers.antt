@@ -6,7 +6,7 @@ use Rattle.nntp_article.specs.Session.Limit.{profile_of}
 use Rattle.nntp_article.specs.Session.Spool.{Name}
 use Rattle.nntp_facts.specs.Conflict.{Placed, FitsThere, SomeHas, IsFound, told_with, below}
 use Rattle.nntp_facts.specs.Noted.{profile_kept}
-use Rattle.nntp_facts.specs.declared.class.Class.TheVariants.{Contradiction}
+use Rattle.nntp_pair.specs.declared.class.Class.TheVariants.{Contradiction}
 use Rattle.nntp_pair.specs.Pairing.{asked_at}
 use Rattle.nntp_explain.specs.Explaining.{front_lines, place_lines, IsConflictOf, TellsCore}
 use Rattle.nntp_explain.specs.ExplainingView.{Kept, standing_of, cited_of, placed_at}

@@ -1,7 +1,7 @@
 use Rattle.std.proofs.Common.{◌≡◌, ◌∙◌, ◌++◌, sym, ap, refl, true}
 use Rattle.std.specs.Option.{option_map, option_copied}
 use Rattle.nntp_wire.specs.View.{asked}
-use Rattle.nntp_facts.specs.declared.class.Class.TheVariants.{Malformed}
+use Rattle.nntp_pair.specs.declared.class.Class.TheVariants.{Malformed}
 use Rattle.nntp_explain.specs.Explaining.{front_lines, place_lines}
 use Rattle.nntp_explain.specs.ExplainingView.{standing_of}
 use Rattle.nntp_explain.proofs.AnswerLemmas.{told_reason}

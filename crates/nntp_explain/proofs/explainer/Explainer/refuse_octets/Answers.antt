@@ -1,7 +1,7 @@
 use Rattle.std.proofs.Common.{◌∙◌, ◌++◌, sym, subst, ap, true, false, refl, [], append-nil}
 use Rattle.std.specs.Option.{option_map, option_copied}
-use Rattle.nntp_facts.specs.declared.class.Class.{Class}
-use Rattle.nntp_facts.specs.Classes.{class_of}
+use Rattle.nntp_pair.specs.declared.class.Class.{Class}
+use Rattle.nntp_pair.specs.Classes.{class_of}
 use Rattle.nntp_explain.specs.Explaining.{front_lines, place_lines, IsEndReason}
 use Rattle.nntp_explain.specs.ExplainingView.{Kept, cited_of, standing_of}
 use Rattle.nntp_explain.proofs.AnswerLemmas.{told_reason}

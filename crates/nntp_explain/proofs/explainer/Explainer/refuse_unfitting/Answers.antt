@@ -3,7 +3,7 @@ use Rattle.std.specs.Option.{option_map, option_map_or}
 use Rattle.nntp_wire.specs.Answer.{Response}
 use Rattle.nntp_article.specs.Session.Misfit.{Misfit}
 use Rattle.nntp_facts.specs.Conflict.{Placed}
-use Rattle.nntp_facts.specs.declared.class.Class.TheVariants.{OutOfPlace}
+use Rattle.nntp_pair.specs.declared.class.Class.TheVariants.{OutOfPlace}
 use Rattle.nntp_explain.specs.Explaining.{front_lines, place_lines}
 use Rattle.nntp_explain.specs.ExplainingView.{Kept, kept_of, cited_of, standing_of, unfitting_told}
 use Rattle.nntp_explain.specs.Reasons.{unfitting_lines}

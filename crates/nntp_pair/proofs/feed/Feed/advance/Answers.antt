@@ -4,7 +4,7 @@ use Rattle.std.specs.Option.{option_copied}
 use Rattle.nntp_wire.specs.Answer.{Response, Spells}
 use Rattle.nntp_wire.specs.Frame.{frame_octets}
 use Rattle.nntp_pair.specs.Pairing.{IsNext, asked_at}
-use Rattle.nntp_pair.specs.Feeding.{IsFed, HasNext, left_of}
+use Rattle.nntp_pair.specs.Feeding.{Fed, IsFed, HasNext, left_of}
 use Rattle.nntp_pair.specs.Searching.{left_from, BeginsWithPlace, IsForNext}
 use Rattle.nntp_pair.proofs.FeedLemmas.{search-there, in-step, behind-place, next-frame, frame-shorter, next-behind, next-here, fed-push}
 use Rattle.nntp_pair.proofs.feed.Feed.advance.Goals as goal
@@ -77,3 +77,9 @@ returns-clause-fed g c = λ client server pairs pair behind fed after.
     let more = next-behind i.index i.is_closed c.closes-self-inside.result i.client i.server c.pass.new.self c.pass-2.new.self
     frame.initial frame.block place pair behind follows begins has.1 closing in
     fed-push _ _ client server pairs pair came_before more refl
+
+pub returns-clause-counts : goal.returns-clause-counts
+returns-clause-counts g c = ap (λ (f : Fed). f.counts) c.self.view_is
+
+pub returns-clause-has_failed : goal.returns-clause-has_failed
+returns-clause-has_failed g c = ap (λ (f : Fed). f.has_failed) c.self.view_is

@@ -1,4 +1,5 @@
 use Rattle.std.proofs.Common.{◌≢◌, [], refl, subst, drop, arith}
+use Rattle.std.proofs.lemmas.Grind.{common_steps}
 use Rattle.std.specs.Option.{option_copied}
 use Rattle.nntp_wire.specs.View.{asked}
 use Rattle.nntp_pair.specs.Pairing.{Unpaired, Awaits}
@@ -21,3 +22,6 @@ returns-in_default-parse-clause-step c =
     subst (λ (left : Unpaired). IsStep left (Bad left.index Malformed) left) c.self.view_is
     (refl, (some, (place, awaits, why)), refl)
     )
+
+pub returns-clause-progress : goal.returns-clause-progress
+returns-clause-progress c = grind (arith, common_steps)

@@ -1,9 +1,9 @@
-use Rattle.std.proofs.Common.{◌∙◌, ◌≡◌, ◌++◌, ap, sym, subst}
+use Rattle.std.proofs.Common.{◌∙◌, ◌≡◌, ◌++◌, ◌+◌, ◌^◌, ◌≤◌, length, ap, sym, subst}
 use Rattle.std.proofs.lemmas.Result.{err_from_is_err_and}
 use Rattle.nntp_facts.specs.Noted.{profile_kept}
-use Rattle.nntp_pair.specs.Sides.{given}
+use Rattle.nntp_pair.specs.Sides.{given, count_of}
 use Rattle.nntp_pair.specs.declared.side.Side.TheVariants.{Client, Server}
-use Rattle.nntp_verdict.specs.Checking.{IsHeld, IsTaken, judging, decided, has_failed}
+use Rattle.nntp_verdict.specs.Checking.{IsHeld, IsTaken, judging, decided, has_failed, counts_of}
 use Rattle.nntp_verdict.specs.CheckerView.{checked, of_state}
 use Rattle.nntp_verdict.specs.Verdict.{verdict_shown}
 use Rattle.nntp_verdict.proofs.CheckerLemmas.{keeps-taken, taken-judging, taken-decided, untaken-judging}
@@ -48,3 +48,20 @@ returns-in-Some g c =
     let is : checked c.args.self.now ≡ decided j c.in-Decided.counts = ap of_state (sym (was ∙ c.replace.ensures.value)) in
     subst (λ held. IsTaken c.args.side c.args.piece.now held (decided j c.in-Some.counts)) (sym is)
     (taken-decided c.args.side c.args.piece.now j c.in-Decided.counts c.in-Some.counts c.in-Some.ensures.0 c.in-Some.ensures.1)
+
+pub returns-in-None : goal.returns-in-None
+returns-in-None g c =
+    let was = rw c.in-Decided.is at c.verdict.view_is in
+    let same = was ∙ c.replace.ensures.value in (
+      ap (λ s. has_failed (of_state s)) (sym same),
+      subst (λ s. 2 ^ 64 ≤ count_of c.args.side (counts_of (of_state s)) + length c.args.piece.now) same c.in-None.ensures,
+      λ i. record { state = same i },
+    )
+
+pub returns-in-Failed : goal.returns-in-Failed
+returns-in-Failed g c =
+    let was = rw c.in-Failed.is at c.verdict.view_is in
+    let same = was ∙ c.replace.ensures.value in (
+      ap (λ s. has_failed (of_state s)) (sym same),
+      λ i. record { state = (c.replace.ensures.after ∙ same) i },
+    )
