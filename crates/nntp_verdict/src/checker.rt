@@ -1,9 +1,9 @@
 //! The verdict on two streams as they come, in pieces.
-ghost use Rattle.std.specs.Prelude.{◌≡◌, [], ℕ, List, true, None, IfOk, MatchResult};
+ghost use Rattle.std.specs.Prelude.{◌≡◌, [], ℕ, List, true, false, None, IfOk, MatchOption, MatchResult};
 ghost use Rattle.nntp_article.specs.Session.Limit.{profile_of};
 ghost use Rattle.nntp_article.specs.declared.session.profile.Profile.{Profile};
 ghost use Rattle.nntp_pair.specs.declared.side.Side.TheVariants.{Client, Server};
-ghost use Rattle.nntp_verdict.specs.Checking.{Keeps, HasPassed, StandsFor, IsTaken, IsToldBad, IsFinished, IsUnfinished, decided, told_bad, has_failed};
+ghost use Rattle.nntp_verdict.specs.Checking.{Keeps, HasPassed, StandsFor, IsTaken, IsToldBad, IsFinished, IsUnfinished, judging, decided, told_bad, has_failed, counts_of};
 ghost use Rattle.nntp_verdict.specs.CheckerView.{IsUntaken, checked, of_state};
 ghost use Rattle.nntp_verdict.specs.Judging.{IsVerdict};
 ghost use Rattle.nntp_verdict.specs.Verdict.{verdict_shown};
@@ -96,30 +96,25 @@ impl<A: Allocator + Copy> Checker<A> {
     fn take(&mut self, side: Side, piece: &[u8]) -> Result<(), PairError>
         ensures { MatchResult result (λ _. IsTaken side piece.now (checked self.old) (checked self.new)) (λ error. IsUntaken error side piece.now self.old self.new) }
     {
+        let Some(counts) = self.state.counts() else {
+            return Err(PairError::Failed);
+        };
+        let Some(counts) = counts.with(side, piece) else {
+            return Err(PairError::TooLong);
+        };
         match mem::replace(&mut self.state, State::Failed) {
-            State::Judging(Ongoing { judge, mut feed }) => match feed.feed(side, piece) {
-                Ok(()) => {
-                    self.state = go_on(judge, feed)?;
-                    Ok(())
-                }
-                Err(PairError::TooLong) => {
-                    self.state = State::Judging(Ongoing { judge, feed });
-                    Err(PairError::TooLong)
-                }
-                Err(error @ (PairError::Memory | PairError::Failed)) => Err(error),
-            },
-            State::Decided { verdict, counts } => match counts.with(side, piece) {
-                Some(counts) => {
-                    self.state = State::Decided { verdict, counts };
-                    Ok(())
-                }
-                None => {
-                    self.state = State::Decided { verdict, counts };
-                    Err(PairError::TooLong)
-                }
-            },
-            State::Failed => Err(PairError::Failed),
+            State::Judging(ongoing) => self.hold(ongoing.take(side, piece)?),
+            State::Decided { verdict, .. } => self.hold(State::Decided { verdict, counts }),
+            State::Failed => unreachable!(),
         }
+        Ok(())
+    }
+
+    /// Goes on with a state. What the old one holds is dropped here alone: a drop is checked wherever it stands.
+    fn hold(&mut self, state: State<A>)
+        ensures { self.new.state ≡ state }
+    {
+        self.state = state;
     }
 
     /// The verdict on the octets that came, as [`check`](crate::check) gives it of the joined pieces.
@@ -152,6 +147,20 @@ impl<A: Allocator + Copy> Checker<A> {
     }
 }
 
+impl<A: Allocator + Copy> State<A> {
+    /// How many octets came of each stream. None where memory was refused.
+    fn counts(&self) -> Option<OctetCounts>
+        ensures { MatchOption result (has_failed (of_state self.now) ≡ true)
+            (λ counts. (has_failed (of_state self.now) ≡ false) × (counts ≡ counts_of (of_state self.now))) }
+    {
+        match self {
+            State::Judging(ongoing) => Some(ongoing.feed.counts()),
+            State::Decided { counts, .. } => Some(*counts),
+            State::Failed => None,
+        }
+    }
+}
+
 /// The answer that a verdict calls bad, and its class.
 fn bad_answer<A: Allocator>(verdict: &Verdict<A>) -> Option<(u64, Class)>
     ensures { result ≡ told_bad (verdict_shown verdict.now) }
@@ -170,6 +179,27 @@ impl<A: Allocator + Copy> Ongoing<A> {
         Ongoing {
             judge: Judge::new(alloc, limit, marks),
             feed: Feed::new(alloc),
+        }
+    }
+
+    /// Takes the next octets of a side's stream, for which there is room, and judges the answers that are whole then.
+    fn take(self, side: Side, piece: &[u8]) -> Result<State<A>, AllocError>
+        ensures { IfOk result (λ state. IsTaken side piece.now (judging self.facts self.fed) (of_state state)) }
+    {
+        let Ongoing {
+            mut judge,
+            mut feed,
+        } = self;
+        // There is room, so it is memory that is refused.
+        let Ok(()) = feed.feed(side, piece) else {
+            return Err(AllocError);
+        };
+        match go_on(&mut judge, &mut feed)? {
+            Some(verdict) => Ok(State::Decided {
+                verdict,
+                counts: feed.counts(),
+            }),
+            None => Ok(State::Judging(Ongoing { judge, feed })),
         }
     }
 
@@ -198,14 +228,15 @@ impl<A: Allocator + Copy> Ongoing<A> {
     }
 }
 
-/// Lets the exchanges that are whole pass, until an answer is bad, whatever follows.
+/// Lets the exchanges that are whole pass, until an answer is bad, whatever follows: then it gives the verdict.
 fn go_on<A: Allocator + Copy>(
-    mut judge: Judge<A>,
-    mut feed: Feed<A>,
-) -> Result<State<A>, AllocError>
-    requires { (limit : Limit) × (marks : Marks) × (client : List ℕ) × (server : List ℕ) × Keeps (profile_of limit marks) judge.facts feed client server }
-    ensures { IfOk result (λ state. (limit : Limit) (marks : Marks) (client server : List ℕ) → Keeps (profile_of limit marks) judge.facts feed client server
-        → StandsFor limit marks (of_state state) client server) }
+    judge: &mut Judge<A>,
+    feed: &mut Feed<A>,
+) -> Result<Option<Verdict<A>>, AllocError>
+    requires { (limit : Limit) × (marks : Marks) × (client : List ℕ) × (server : List ℕ) × Keeps (profile_of limit marks) judge.old.facts feed.old client server }
+    ensures { IfOk result (λ told. (limit : Limit) (marks : Marks) (client server : List ℕ) → Keeps (profile_of limit marks) judge.old.facts feed.old client server
+        → MatchOption told (HasPassed (profile_of limit marks) judge.new.facts feed.new client server × (feed.new.has_failed ≡ false))
+        (λ verdict. StandsFor limit marks (decided (verdict_shown verdict) feed.new.counts) client server)) }
 {
     loop {
         let exchange = match feed.peek() {
@@ -215,23 +246,13 @@ fn go_on<A: Allocator + Copy>(
                 class: PairClass::Malformed,
             } => {
                 let verdict = judge.stopped(index, PairClass::Malformed, feed.ahead())?;
-                return Ok(decided(verdict, &feed));
+                return Ok(Some(verdict));
             }
-            _ => return Ok(State::Judging(Ongoing { judge, feed })),
+            _ => return Ok(None),
         };
         if let Some(verdict) = judge.note(&exchange)? {
-            return Ok(decided(verdict, &feed));
+            return Ok(Some(verdict));
         }
         feed.advance();
-    }
-}
-
-/// An answer is bad, whatever follows these octets.
-fn decided<A: Allocator + Copy>(verdict: Verdict<A>, feed: &Feed<A>) -> State<A>
-    ensures { of_state result ≡ decided (verdict_shown verdict) feed.now.counts }
-{
-    State::Decided {
-        verdict,
-        counts: feed.counts(),
     }
 }
