@@ -1,9 +1,10 @@
 //! The accepted answers with which a bad one conflicts.
-ghost use Rattle.std.specs.Prelude.{◌≡◌, ◌<◌, ◌≤◌, ◌^◌, ◌∷◌, List, ℕ, length, IfOk, MatchOption};
+ghost use Rattle.std.specs.Prelude.{◌≡◌, ◌<◌, ◌≤◌, ◌^◌, ◌∷◌, [], List, ℕ, length, IfOk, MatchOption};
 ghost use Rattle.std.specs.List.{AllByRecursion};
 ghost use Rattle.nntp_article.specs.Session.Limit.{profile_of};
 ghost use Rattle.nntp_facts.specs.Conflict.{Placed as PlacedValue, FitsThere, SomeHas, told_with, below, places_of, IsPartOfCore, IsFound};
-ghost use Rattle.nntp_facts.specs.Told.{AreToldWith};
+ghost use Rattle.nntp_facts.specs.Kept.{IsKept};
+ghost use Rattle.nntp_facts.specs.Told.{AreToldWith, PlacesTold};
 
 use crate::kept::Kept;
 use crate::placed::Placed;
@@ -11,9 +12,9 @@ use nntp_wire::{Limit, Marks};
 use std::alloc::{AllocError, Allocator, Global};
 use std::marker::Model;
 
-/// The places of the accepted answers with which a bad one conflicts. They are a smallest set of
-/// such answers: no spool has what these and the bad one say, and without any one of them some
-/// spool has the rest.
+/// The places of the accepted answers with which a bad one conflicts. None of them can be left
+/// out: no spool has what these and the bad one say, and without any one of them some spool has the
+/// rest. Another set of such answers may have fewer.
 #[derive(Drop)]
 pub struct Core<A: Allocator = Global> {
     places: Vec<usize, A>,
@@ -116,15 +117,32 @@ fn keep<A: Allocator + Copy>(
         (AreToldWith (profile_of limit marks) bad.now answers.now places.now)) }
 {
     let mut kept = Kept::new(alloc);
+    let stands = tell_all(&mut kept, limit, marks, answers, bad, places)?;
+    Ok(stands.then_some(kept))
+}
+
+/// Adds what the bad answer and those at the places say where nothing is kept yet, and tells
+/// whether some spool has it. If none has, and after an error, what is kept says nothing of use.
+fn tell_all<A: Allocator + Copy>(
+    kept: &mut Kept<A>,
+    limit: Limit,
+    marks: Marks,
+    answers: &[Placed<'_>],
+    bad: &Placed<'_>,
+    places: &[usize],
+) -> Result<bool, AllocError>
+    ensures { IfOk result (λ does. IsKept [] kept.old → AllByRecursion (FitsThere (profile_of limit marks)) (bad.now ∷ answers.now)
+        → PlacesTold (profile_of limit marks) bad.now answers.now places.now kept.new does) }
+{
     if !kept.tell(limit, marks, bad)? {
-        return Ok(None);
+        return Ok(false);
     }
     for place in places {
         if !kept.tell_at(limit, marks, answers, *place)? {
-            return Ok(None);
+            return Ok(false);
         }
     }
-    Ok(Some(kept))
+    Ok(true)
 }
 
 /// Finds the first answer that doesn't stand with what is kept and the answers before it. It is
@@ -140,6 +158,26 @@ fn first_refused<A: Allocator + Copy>(
     ensures below { IfOk result (λ place. place < bound) }
     ensures found { IfOk result (λ place. (bad : PlacedValue) (places : List ℕ) → AllByRecursion (FitsThere (profile_of limit marks)) (bad ∷ answers.now)
         → AreToldWith (profile_of limit marks) bad answers.now places kept → bound ≤ length answers.now → length answers.now < 2 ^ 64
+        → IsPartOfCore (profile_of limit marks) bad answers.now bound places
+        → IsPartOfCore (profile_of limit marks) bad answers.now place (place ∷ places)) }
+{
+    // The search has several ends, and would drop what is kept at each.
+    search_refused(&mut kept, limit, marks, answers, bound)
+}
+
+/// Finds the first answer that doesn't stand with what is kept and the answers before it, as
+/// [`first_refused`] does. What is kept says nothing of use then.
+fn search_refused<A: Allocator + Copy>(
+    kept: &mut Kept<A>,
+    limit: Limit,
+    marks: Marks,
+    answers: &[Placed<'_>],
+    bound: usize,
+) -> Result<usize, AllocError>
+    requires { 0 < bound }
+    ensures below { IfOk result (λ place. place < bound) }
+    ensures found { IfOk result (λ place. (bad : PlacedValue) (places : List ℕ) → AllByRecursion (FitsThere (profile_of limit marks)) (bad ∷ answers.now)
+        → AreToldWith (profile_of limit marks) bad answers.now places kept.old → bound ≤ length answers.now → length answers.now < 2 ^ 64
         → IsPartOfCore (profile_of limit marks) bad answers.now bound places
         → IsPartOfCore (profile_of limit marks) bad answers.now place (place ∷ places)) }
 {

@@ -2,6 +2,7 @@
 use Rattle.std.proofs.Common.{arith, zero, suc, ◌+◌, ◌*◌, ◌^◌, ◌<◌, ◌≤◌, ◌≡◌, ◌⊎◌, ℕ, Bool, true, false, IsTrue, Option, None, Some, inl, inr, refl, sym, ap, subst, ◌∙◌}
 use Rattle.std.proofs.Common.{List, [], ◌∷◌, ◌++◌, length, length-append, append-nil, append_assoc, take, get_or}
 use Rattle.std.specs.Prelude.{Contains, MatchOption, nat_lt}
+use Rattle.std.specs.Bool.{then_some}
 use Rattle.std.specs.List.{AllByRecursion}
 use Rattle.std.proofs.lemmas.Bool.{and_from, cases_lt}
 use Rattle.std.proofs.lemmas.Bool.Decides.{nat_tests}
@@ -94,6 +95,12 @@ module _ (profile : Profile) (bad : Placed) (answers : List Placed) where
   -- where one of them doesn't stand, all don't
   pub next_conflict : (places : List ℕ) (i : ℕ) → (SomeHas profile (told_with profile bad answers (take i places)) → ⊥) → SomeHas profile (told_with profile bad answers places) → ⊥
   next_conflict places i none = more_conflict (take i places) places (λ k j. taken k i places j) none
+
+  -- they are handed on where they stand
+  pub kept_where_told : (places : List ℕ) (k : Kept) (does : Bool) (o : Option Kept) → o ≡ then_some does k → PlacesTold profile bad answers places k does
+      → MatchOption o (SomeHas profile (told_with profile bad answers places) → ⊥) (AreToldWith profile bad answers places)
+  kept_where_told places k true o is t = subst (λ o. MatchOption o (SomeHas profile (told_with profile bad answers places) → ⊥) (AreToldWith profile bad answers places)) (sym is) t
+  kept_where_told places k false o is none = subst (λ o. MatchOption o (SomeHas profile (told_with profile bad answers places) → ⊥) (AreToldWith profile bad answers places)) (sym is) none
 
   -- of all of them, where they are kept
   pub kept_told : (o : Option Kept) (k : Kept) (these places : List ℕ) → o ≡ Some k → these ≡ places

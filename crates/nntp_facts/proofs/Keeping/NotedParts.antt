@@ -1,13 +1,16 @@
 -- What is kept in all, where the parts of an answer are noted.
-use Rattle.std.proofs.Common.{◌≡◌, ℕ, Bool, true, false, IsTrue, List, [], ◌++◌, Option, None, Some, sym, subst, ◌∙◌}
+use Rattle.std.proofs.Common.{◌≡◌, ℕ, Bool, true, false, IsTrue, List, [], ◌∷◌, ◌++◌, Option, None, Some, sym, ap, subst, ◌∙◌}
 use Rattle.std.specs.Prelude.{◌↔◌, IfSome}
 use Rattle.std.specs.List.{AllByRecursion}
 use Rattle.std.proofs.lemmas.Bool.{true≢false}
 use Rattle.nntp_article.specs.Article.Parts.{Id}
-use Rattle.nntp_facts.specs.Facts.{Fact}
+use Rattle.nntp_wire.specs.Listing.{ActiveValue}
+use Rattle.nntp_facts.specs.Asks.{Ask}
+use Rattle.nntp_facts.specs.Facts.{Fact, GroupsAre}
 use Rattle.nntp_facts.specs.Together.{IsWellFormed, Together, JoinArticles, Join}
-use Rattle.nntp_facts.specs.Saying.{OfGroup, OfArticle, Lacks, Exists, Sends, Saying, facts_in, IsToExist, MayBeOf, Tells}
-use Rattle.nntp_facts.specs.Kept.{Kept, IsKept, AreKeptNames, AreKeptGroups, AreKeptArticles, IsAddedIf}
+use Rattle.nntp_facts.specs.ListedGroups.{MayList}
+use Rattle.nntp_facts.specs.Saying.{OfGroup, OfArticle, Lacks, Exists, Sends, Saying, sent_facts, there_facts, group_facts, missing_facts, lack_facts, groups_facts, facts_in, IsToExist, MayBeOf, IsAlone, Tells}
+use Rattle.nntp_facts.specs.Kept.{Kept, IsKept, AreKeptNames, AreKeptGroups, AreKeptArticles, IsAddedIf, AreAdded}
 use Rattle.nntp_facts.specs.KeptSaying.{IsTextOf, JoinGroups, MayBeSaid, article_facts}
 use Rattle.nntp_facts.proofs.Keeping.PartsJoin.{parts_join, same_articles}
 use Rattle.nntp_facts.proofs.Keeping.SameOfArticles.{kept_alike}
@@ -32,6 +35,27 @@ texts_of text article (Some g) is placed = by g.id placed
     by : (id : Option (ℕ × Id)) → IfSome id (λ e. IsToExist article e.1) → IsTextOf text id
     by None p = tt
     by (Some e) p = is e.1 p
+
+-- ---- where groups are listed
+
+-- a list of groups says nothing else
+listed_alone : (s : Saying) (asks : List Ask) (wildmat : Option (List ℕ)) (lines : List ActiveValue) → IsAlone s → s.groups ≡ Some (wildmat, lines)
+    → facts_in s asks ≡ GroupsAre wildmat lines ∷ []
+listed_alone s asks wildmat lines alone is =
+    ap (λ article. sent_facts article ++ (there_facts s.there_is ++ (group_facts s.group asks ++ (missing_facts s.there_is_no ++ (lack_facts article ++ groups_facts s.groups))))) alone.article
+    ∙ ap (λ name. there_facts name ++ (group_facts s.group asks ++ (missing_facts s.there_is_no ++ groups_facts s.groups))) alone.there_is
+    ∙ ap (λ group. group_facts group asks ++ (missing_facts s.there_is_no ++ groups_facts s.groups)) alone.group
+    ∙ ap (λ name. missing_facts name ++ groups_facts s.groups) alone.there_is_no
+    ∙ ap groups_facts is
+
+-- so what is added of it is added
+pub list_added : (facts more : List Fact) (s : Saying) (wildmat : Option (List ℕ)) (lines : List ActiveValue) (old new : Kept) (does : Bool) → s.groups ≡ Some (wildmat, lines)
+    → Tells facts s more → AllByRecursion IsWellFormed more
+    → (AllByRecursion IsWellFormed (GroupsAre wildmat lines ∷ []) → MayList wildmat lines → AreAdded facts (GroupsAre wildmat lines ∷ []) old new does) → AreAdded facts more old new does
+list_added facts more s wildmat lines old new does is t formed adds =
+    let may = subst (λ o. IfSome o (λ l. MayList l.0 l.1 × IsAlone s)) is t.may.groups in
+    let same : GroupsAre wildmat lines ∷ [] ≡ more = sym (listed_alone s t.asks wildmat lines may.1 is) ∙ t.same in
+    subst (λ more. AreAdded facts more old new does) same (adds (subst (AllByRecursion IsWellFormed) (sym same) formed) may.0)
 
 module _ (facts more : List Fact) (s : Saying) (no_list : s.groups ≡ None) (t : Tells facts s more) (together : Together facts) (formed : AllByRecursion IsWellFormed more) where
   -- all joins exactly if the groups do and the article does

@@ -104,7 +104,7 @@ fn is_first_sent(all: &[Statement<'_>], part: Part, id: &[u8], lines: &Block<'_>
         → IsTrue result ↔ (first_in (λ t. part_told part id.now t.saying.article) (map statement_of all.now) ≡ Some lines.now) }
 {
     match first_sent(all, part, id) {
-        Some(first) => are_same(&first, lines),
+        Some(first) => first.is_same(lines),
         None => false,
     }
 }
@@ -154,18 +154,4 @@ fn sent<'s>(article: &Option<ArticlePart<'s>>, part: Part, id: &[u8]) -> Option<
         Part::Head => sent.head,
         Part::Body => sent.body,
     }
-}
-
-/// Tells whether both have the same lines.
-fn are_same(some: &Block<'_>, others: &Block<'_>) -> bool
-    ensures { IsTrue result ↔ (some.now ≡ others.now) }
-{
-    let mut rest = others.lines();
-    for line in some.lines() {
-        match rest.next() {
-            Some(other) if *other == *line => {}
-            _ => return false,
-        }
-    }
-    rest.next().is_none()
 }

@@ -1,45 +1,8 @@
-use Rattle.std.proofs.Common.{[], ◌++◌, ◌∷◌, true, false, get_or, subst, take}
 use Rattle.nntp_article.specs.Session.Limit.{profile_of}
-use Rattle.nntp_facts.specs.Conflict.{told}
-use Rattle.nntp_facts.specs.Told.{AreTold, PlacesTold}
-use Rattle.nntp_facts.proofs.Keeping.CoresFound.{nothing_together, bad_told, more_conflict, next_told, next_conflict}
+use Rattle.nntp_facts.proofs.Keeping.CoresFound.{kept_where_told}
 use Rattle.nntp_facts.proofs.conflict.keep.Goals as goal
 
-pub returns-then-not-branch : goal.returns-then-not-branch
-returns-then-not-branch g c fits =
-    let profile = profile_of c.args.limit c.args.marks in
-    let bad = c.args.bad.now in
-    let answers = c.args.answers.now in
-    let first = c.in_ok-tell.ensures [] c.new-kept.ensures (nothing_together profile) fits.0 in
-    more_conflict profile bad answers [] c.args.places.now (λ k i. absurd i)
-    (bad_told profile bad answers c.tell.new.self false (subst (λ does. AreTold profile [] (told profile bad) c.tell.new.self does) c.if-not-branch.true first))
-
-pub loop-place-init : goal.loop-place-init
-loop-place-init g c fits =
-    let profile = profile_of c.args.limit c.args.marks in
-    let bad = c.args.bad.now in
-    let first = c.in_ok-tell.ensures [] c.new-kept.ensures (nothing_together profile) fits.0 in
-    bad_told profile bad c.args.answers.now c.tell.new.self true (subst (λ does. AreTold profile [] (told profile bad) c.tell.new.self does) c.if-not-branch.false first)
-
-pub returns-then-not-branch-2 : goal.returns-then-not-branch-2
-returns-then-not-branch-2 g c fits =
-    let profile = profile_of c.args.limit c.args.marks in
-    let bad = c.args.bad.now in
-    let answers = c.args.answers.now in
-    let places = c.args.places.now in
-    let i = c.loop-place.place-index in
-    let next = c.in_ok-tell_at.ensures bad (take i places) fits.1 (c.loop-place.invariant fits) in
-    next_conflict profile bad answers places _
-    (next_told profile bad answers places i c.tell_at.new.self false c.loop-place-test.true
-    (subst (λ does. PlacesTold profile bad answers (take i places ++ get_or places i 0 ∷ []) c.tell_at.new.self does) c.if-not-branch-2.true next))
-
-pub loop-place-preserved : goal.loop-place-preserved
-loop-place-preserved g c fits =
-    let profile = profile_of c.args.limit c.args.marks in
-    let bad = c.args.bad.now in
-    let answers = c.args.answers.now in
-    let places = c.args.places.now in
-    let i = c.loop-place.place-index in
-    let next = c.in_ok-tell_at.ensures bad (take i places) fits.1 (c.loop-place.invariant fits) in
-    next_told profile bad answers places i c.tell_at.new.self true c.loop-place-test.true
-    (subst (λ does. PlacesTold profile bad answers (take i places ++ get_or places i 0 ∷ []) c.tell_at.new.self does) c.if-not-branch-2.false next)
+pub returns : goal.returns
+returns g c fits =
+    kept_where_told (profile_of c.args.limit c.args.marks) c.args.bad.now c.args.answers.now c.args.places.now c.tell_all.new.kept c.in_ok-stands.stands _ c.then_some.ensures
+    (c.in_ok-stands.ensures c.new-kept.ensures fits)

@@ -1,5 +1,7 @@
-use Rattle.std.proofs.Common.{◌≡◌, Some, sym, subst}
+use Rattle.std.proofs.Common.{◌≡◌, ◌∙◌, Some, sym, ap, subst}
 use Rattle.nntp_facts.specs.declared.joins.Joins.TheVariants.{Again}
+use Rattle.nntp_facts.specs.Facts.{NoArticle}
+use Rattle.nntp_facts.specs.Saying.{IsToExist}
 use Rattle.nntp_facts.specs.ArticleView.{is_added}
 use Rattle.nntp_facts.specs.Kept.{IsFactAdded}
 use Rattle.nntp_facts.specs.KeptSaying.{IsThereAlready, MayBeSaid, article_fact}
@@ -20,3 +22,21 @@ returns-in-Sends-clause-added g c =
     let fits = subst (λ p. MayBeSaid (article_said p)) s.is may in
     subst (λ p. IsFactAdded facts (article_fact name n (article_said p)) c.args.self.now c.note_sent.new.self (is_added added)) (sym s.is)
     (adds facts s.what s.block.now kept (c.of.ensures.head s.id.now fits) (c.of.ensures.body s.id.now fits))) c.note_sent.ensures.added
+
+pub returns-in_ok-note_lack-in-Lacks-clause-added : goal.returns-in_ok-note_lack-in-Lacks-clause-added
+returns-in_ok-note_lack-in-Lacks-clause-added g c facts name n kept may already =
+    subst (λ p. IsFactAdded facts (article_fact name n (article_said p)) c.args.self.now c.note_lack.new.self (is_added c.unnamed_if.result)) (sym c.in-Lacks.is)
+    (subst (λ does. IsFactAdded facts (NoArticle c.in-Lacks.id.now) c.args.self.now c.note_lack.new.self does) (sym c.unnamed_if.ensures.added) (c.in_ok-note_lack-in-Lacks.ensures facts kept))
+
+pub returns-in_ok-note_lack-in-Lacks-clause-text : goal.returns-in_ok-note_lack-in-Lacks-clause-text
+returns-in_ok-note_lack-in-Lacks-clause-text g c other is id exists = absurd (subst (λ p. IsToExist (Some (article_said p)) id) c.in-Lacks.is exists)
+
+pub returns-in-Exists-clause-text : goal.returns-in-Exists-clause-text
+returns-in-Exists-clause-text g c =
+    if_ok c.note_there.result
+    (λ added text other is id exists. text other is ∙ ap (λ id. Some id) (subst (λ p. IsToExist (Some (article_said p)) id) c.in-Exists.is exists)) c.note_there.ensures.text
+
+pub returns-in-Sends-clause-text : goal.returns-in-Sends-clause-text
+returns-in-Sends-clause-text g c =
+    if_ok c.note_sent.result
+    (λ added text other is id exists. text other is ∙ ap (λ id. Some id) (subst (λ p. IsToExist (Some (article_said p)) id) c.in-Sends.is exists)) c.note_sent.ensures.text

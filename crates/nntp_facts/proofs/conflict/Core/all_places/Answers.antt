@@ -1,9 +1,25 @@
-use Rattle.std.proofs.Common.{◌≡◌, ◌∙◌, ◌+◌, ◌++◌, ap, refl, add-one, ℕ, [], ◌∷◌}
-use Rattle.nntp_facts.specs.Conflict.{below}
+use Rattle.std.proofs.Common.{◌≡◌, ◌∙◌, ◌+◌, ◌++◌, ap, refl, add-one, arith, ℕ, [], ◌∷◌, List, Option, None, Some, unwrap_or}
+use Rattle.std.specs.Option.{option_map_or}
+use Rattle.nntp_facts.specs.Conflict.{below, places_of}
 use Rattle.nntp_facts.proofs.conflict.Core.all_places.Goals as goal
 
 one-more : (n : ℕ) → below n ++ (n ∷ []) ≡ below (n + 1)
 one-more n = rw add-one refl
 
+-- the places below the bound, where there is one, and those that were found
+all_told : (rest : Option ℕ) (n : ℕ) (front places : List ℕ) → n ≡ unwrap_or rest 0 → front ≡ below n → front ++ places ≡ option_map_or (λ bound. below bound ++ places) rest places
+all_told None n front places e f = ap (λ ns. ns ++ places) (f ∙ ap below e)
+all_told (Some bound) n front places e f = ap (λ ns. ns ++ places) (f ∙ ap below e)
+
+pub loop-place-init : goal.loop-place-init
+loop-place-init g c = c.new-all.ensures.items
+
 pub loop-place-preserved : goal.loop-place-preserved
 loop-place-preserved g c = c.in_ok-push.ensures.items ∙ ap (λ places. places ++ (c.loop-place.place ∷ [])) c.loop-place.invariant ∙ one-more c.loop-place.place
+
+pub returns : goal.returns
+returns g c =
+    let end : c.loop-place.place ≡ c.unwrap_or-place-end.result = omega (arith, c.loop-place-test.false, c.loop-place.auto.place-end) in
+    c.in_ok-extend_from_slice.ensures.items ∙ ap (λ these. c.loop-place.all.items ++ these) c.deref.ensures.value
+    ∙ all_told c.self.inside.rest c.loop-place.place c.loop-place.all.items c.self.inside.places.items (end ∙ c.unwrap_or-place-end.ensures) c.loop-place.invariant
+    ∙ ap places_of c.self.view_is

@@ -1,4 +1,4 @@
-use Rattle.std.proofs.Common.{◌^◌, ◌<◌, ◌≤◌, length, arith, rules, subst, sym}
+use Rattle.std.proofs.Common.{◌^◌, ◌<◌, ◌≤◌, length, arith, rules, subst, sym, ap}
 use Rattle.nntp_article.specs.Session.Limit.{profile_of}
 use Rattle.nntp_facts.specs.Conflict.{IsPartOfCore}
 use Rattle.nntp_facts.proofs.Conflicts.{core_start}
@@ -52,3 +52,30 @@ returns-clause-found g c =
     let short : length answers < 2 ^ 64 = search rules in
     whole_found profile bad answers fit.0 fit.1 c.loop-places.bound places now.1 short now.0
     (none_kept profile bad answers c.in_ok-kept.field-0 c.deref.result.now places c.in_default.not-Some c.deref.ensures.value (c.in_ok-kept.ensures fit))
+
+pub returns-then-len-most-clause-most : goal.returns-then-len-most-clause-most
+returns-then-len-most-clause-most g c = let count = c.len.ensures in omega (arith, c.if-len-most.true, count)
+
+pub returns-clause-most : goal.returns-clause-most
+returns-clause-most g c = c.loop-places.invariant.2
+
+pub loop-places-preserved : goal.loop-places-preserved
+loop-places-preserved g c =
+    let profile = profile_of c.args.limit c.args.marks in
+    let bad = c.args.bad.now in
+    let answers = c.args.answers.now in
+    let fit = c.requires.fit in
+    let now = c.loop-places.invariant in
+    let places = c.loop-places.places.items in
+    let short : length answers < 2 ^ 64 = search rules in
+    let told = kept_told profile bad answers c.in_ok-kept.field-0 c.in-Some.kept c.deref.result.now places c.in-Some.is c.deref.ensures.value (c.in_ok-kept.ensures fit) in
+    let part = c.in_ok-bound.ensures.found bad places fit told now.1 short now.0 in
+    let lower = c.in_ok-bound.ensures.below in
+    let within = now.1 in
+    let few = now.2 in
+    let count = c.len.ensures in
+    let one_more = ap length c.in_ok-insert.ensures.items in (
+      subst (λ these. IsPartOfCore profile bad answers c.in_ok-bound.bound these) (sym c.in_ok-insert.ensures.items) part,
+      omega (arith, lower, within),
+      omega (arith, one_more, few, count, c.if-len-most.false),
+    )

@@ -3,7 +3,7 @@ use Rattle.std.specs.List.{AllByRecursion}
 use Rattle.nntp_article.specs.Session.Limit.{profile_of}
 use Rattle.nntp_facts.specs.Conflict.{Placed, FitsThere, below}
 use Rattle.nntp_facts.specs.Told.{AreToldWith}
-use Rattle.nntp_facts.proofs.conflict.first_refused.Given as goal
+use Rattle.nntp_facts.proofs.conflict.search_refused.Given as goal
 
 abbrev pub invariant-loop-place : goal.invariant-loop-place
 invariant-loop-place g l = (bad : Placed) (places : List ℕ) → AllByRecursion (FitsThere (profile_of l.limit l.marks)) l.answers

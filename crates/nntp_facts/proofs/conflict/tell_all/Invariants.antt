@@ -1,10 +1,11 @@
-use Rattle.std.proofs.Common.{◌∷◌, take}
+use Rattle.std.proofs.Common.{[], ◌∷◌, take}
 use Rattle.std.specs.List.{AllByRecursion}
 use Rattle.nntp_article.specs.Session.Limit.{profile_of}
 use Rattle.nntp_facts.specs.Conflict.{FitsThere}
+use Rattle.nntp_facts.specs.Kept.{IsKept}
 use Rattle.nntp_facts.specs.Told.{AreToldWith}
-use Rattle.nntp_facts.proofs.conflict.keep.Given as goal
+use Rattle.nntp_facts.proofs.conflict.tell_all.Given as goal
 
 abbrev pub invariant-loop-place : goal.invariant-loop-place
-invariant-loop-place g l = AllByRecursion (FitsThere (profile_of l.limit l.marks)) (l.bad ∷ l.answers)
+invariant-loop-place g l = IsKept [] l.fn.kept → AllByRecursion (FitsThere (profile_of l.limit l.marks)) (l.bad ∷ l.answers)
     → AreToldWith (profile_of l.limit l.marks) l.bad l.answers (take l.place-index l.places) l.kept
