@@ -40,6 +40,16 @@ bounds_end name about p left text whole none h = sym (append-nil text) ∙ ap (�
 pub one_more : (text s x one two : List ℕ) → one ≡ text ++ s → two ≡ one ++ x → two ≡ text ++ (s ++ x)
 one_more text s x one two first second = second ∙ ap (λ t. t ++ x) first ∙ append_assoc text s x
 
+-- two pieces, and none behind them
+pub two_said : (text a b one two : List ℕ) → one ≡ text ++ a → two ≡ one ++ b → two ≡ text ++ (a ++ (b ++ []))
+two_said text a b one two first second = one_more text a b one two first second ∙ ap (λ t. text ++ (a ++ t)) (sym (append-nil b))
+
+-- three pieces, and none behind them
+pub three_said : (text a b c one two : List ℕ) → one ≡ text ++ (a ++ (b ++ [])) → two ≡ one ++ c → two ≡ text ++ (a ++ (b ++ (c ++ [])))
+three_said text a b c one two first second =
+    one_more text (a ++ (b ++ [])) c one two first second
+    ∙ ap (λ t. text ++ t) (append_assoc a (b ++ []) c ∙ ap (λ t. a ++ t) (append_assoc b [] c ∙ ap (λ t. b ++ t) (sym (append-nil c))))
+
 -- two pieces more
 pub two_more : (text s x y one two : List ℕ) → one ≡ text ++ s → two ≡ one ++ x ++ y → two ≡ text ++ (s ++ x ++ y)
 two_more text s x y one two first second = one_more text (s ++ x) y (one ++ x) two (one_more text s x one (one ++ x) first refl) second

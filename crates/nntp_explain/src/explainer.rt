@@ -9,7 +9,8 @@ ghost use Rattle.nntp_article.specs.Session.Misfit.{misfit};
 ghost use Rattle.nntp_article.specs.declared.session.profile.Profile.{Profile};
 ghost use Rattle.nntp_pair.specs.Pairing.{Unpaired, IsNext, Ends, bad, line_ahead, streams};
 ghost use Rattle.nntp_pair.specs.declared.class.PairClass.TheVariants.{Malformed};
-ghost use Rattle.nntp_facts.specs.Conflict.{FitsThere, IsFound, SomeHas, told_with, below};
+ghost use Rattle.nntp_facts.specs.Conflict.{FitsThere, IsFound, SomeHas, told_with, below, places_of};
+ghost use Rattle.nntp_facts.specs.Points.{AreTaken};
 ghost use Rattle.nntp_pair.specs.declared.class.Class.TheVariants.{Malformed as MalformedClass, OutOfPlace, Contradiction};
 ghost use Rattle.nntp_pair.specs.Classes.{class_of};
 ghost use Rattle.nntp_facts.specs.Noted.{profile_kept};
@@ -234,8 +235,7 @@ impl<'a, A: Allocator + Copy> Explainer<'a, A> {
     {
         let limit = self.facts.limit();
         let marks = self.facts.marks();
-        let places = core.all_places(self.alloc)?;
-        let conflict = Conflict::of(self.alloc, limit, marks, &self.placed, bad, &places)?;
+        let conflict = conflict_of(self.alloc, limit, marks, &self.placed, bad, core)?;
         match conflict.point_of(core)? {
             Some(point) => put_conflict(
                 &mut self.text,
@@ -353,6 +353,22 @@ impl<'a, A: Allocator + Copy> Explainer<'a, A> {
             is_without_fault: bad == 0,
         })
     }
+}
+
+/// Takes the bad answer, and the accepted ones at all places of the core.
+fn conflict_of<'c, A: Allocator + Copy>(
+    alloc: A,
+    limit: Limit,
+    marks: Marks,
+    placed: &'c [Placed<'c>],
+    bad: &'c Placed<'c>,
+    core: &Core<A>,
+) -> Result<Conflict<'c, A>, AllocError>
+    ensures taken { IfOk result (AreTaken (profile_of limit marks) bad.now placed.now (places_of core.now)) }
+    ensures few { IfOk result (λ conflict. length (places_of core.now) < 2 ^ 64) }
+{
+    let places = core.all_places(alloc)?;
+    Conflict::of(alloc, limit, marks, placed, bad, &places)
 }
 
 /// Adds why a frame spells nothing.

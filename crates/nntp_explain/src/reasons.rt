@@ -3,10 +3,11 @@ ghost use Rattle.std.specs.Prelude.{◌≡◌, ◌++◌, OnOk, codes, decimal, m
 ghost use Rattle.std.specs.List.{flat_map};
 ghost use Rattle.std.specs.Option.{option_map};
 ghost use Rattle.nntp_wire.specs.Lines.{lines_of_stream};
+ghost use Rattle.nntp_article.specs.Session.Misfit as misfits;
 ghost use Rattle.nntp_article.specs.Session.MisfitView.{why};
 ghost use Rattle.nntp_facts.specs.PointView.{point_of};
 ghost use Rattle.nntp_printing.specs.Printing.{escaped};
-ghost use Rattle.nntp_explain.specs.Reasons.{about_line, current_text, standing_line, allowed_text, misfit_line, misspelling_line, cut_line, surplus_lines};
+ghost use Rattle.nntp_explain.specs.Reasons.{about_line, octets_line, current_text, standing_line, allowed_text, misfit_line, misspelling_line, cut_line, surplus_lines};
 ghost use Rattle.nntp_explain.specs.Reasons.{due_word, fault_word, number_line, core_lines, rest_line, index_at, because_at, because_lines};
 ghost use Rattle.nntp_explain.specs.ExplainingView.{standing_of, cited_of};
 
@@ -61,28 +62,46 @@ pub(crate) fn put_misfit<A: Allocator + Copy>(
     ensures { OnOk result (text.new.items ≡ text.old.items ++ misfit_line (why misfit.entry)) }
 {
     match misfit {
-        Misfit::WrongCode { code, allowed } => {
-            put_number(text, b"why code ", code)?;
-            put_allowed(text, allowed)?;
-            text.push(b'\n')?;
-            Ok(())
-        }
+        Misfit::WrongCode { code, allowed } => put_wrong_code(text, code, allowed),
         Misfit::WrongName(name) => put_escaped_line(text, b"why name ", name),
         Misfit::WrongNumber(number) => put_number_line(text, b"why number ", number),
         Misfit::WrongId(id) => put_escaped_line(text, b"why id ", id),
         Misfit::BelowLow(low) => put_number_line(text, b"why low ", low),
         Misfit::WrongMarks(name) => put_escaped_line(text, b"why marks ", name),
         Misfit::BeyondLimit(number) => put_number_line(text, b"why limit ", number),
-        Misfit::NotAbove { before, number } => {
-            put_number(text, b"why order ", before)?;
-            put_number_line(text, b" ", number)
-        }
+        Misfit::NotAbove { before, number } => put_not_above(text, before, number),
         Misfit::BeyondRange(number) => put_number_line(text, b"why range ", number),
         Misfit::Unmatched(name) => put_escaped_line(text, b"why match ", name),
         Misfit::ListedTwice(name) => put_escaped_line(text, b"why twice ", name),
         Misfit::NoHead => text.extend_from_slice(b"why head\n"),
         Misfit::OtherId(said) => put_escaped_line(text, b"why own ", said),
     }
+}
+
+/// Adds the line of a code that doesn't fit, and of the codes that do.
+fn put_wrong_code<A: Allocator + Copy>(
+    text: &mut Vec<u8, A>,
+    code: u64,
+    allowed: &[u64],
+) -> Result<(), AllocError>
+    ensures { OnOk result (text.new.items ≡ text.old.items ++ misfit_line (misfits.wrong_code code allowed.now)) }
+{
+    put_number(text, b"why code ", code)?;
+    put_allowed(text, allowed)?;
+    text.push(b'\n')?;
+    Ok(())
+}
+
+/// Adds the line of a number that isn't above the one before it.
+fn put_not_above<A: Allocator + Copy>(
+    text: &mut Vec<u8, A>,
+    before: u64,
+    number: u64,
+) -> Result<(), AllocError>
+    ensures { OnOk result (text.new.items ≡ text.old.items ++ misfit_line (misfits.not_above before number)) }
+{
+    put_number(text, b"why order ", before)?;
+    put_number_line(text, b" ", number)
 }
 
 /// Adds the line of a reason why a frame spells nothing.
@@ -229,23 +248,42 @@ pub(crate) fn put_about<A: Allocator + Copy>(
         Point::Step(name) => put_escaped_line(text, b"about step ", *name),
         Point::Group(name) => put_escaped_line(text, b"about group ", name.as_slice()),
         Point::Number { name, number } => {
-            put_named(text, b"about number ", *name)?;
-            put_number_line(text, b" ", *number)
+            put_named_number(text, b"about number ", *name, *number)
         }
         Point::Count(name) => put_escaped_line(text, b"about count ", *name),
         Point::First(name) => put_escaped_line(text, b"about first ", *name),
-        Point::IdOf { name, number } => {
-            put_named(text, b"about id ", *name)?;
-            put_number_line(text, b" ", *number)
-        }
-        Point::PlaceOf { name, id } => {
-            put_named(text, b"about place ", *name)?;
-            put_escaped_line(text, b" ", *id)
-        }
+        Point::IdOf { name, number } => put_named_number(text, b"about id ", *name, *number),
+        Point::PlaceOf { name, id } => put_named_id(text, b"about place ", *name, *id),
         Point::Article(id) => put_escaped_line(text, b"about article ", *id),
         Point::HeadOf(id) => put_escaped_line(text, b"about head ", *id),
         Point::BodyOf(id) => put_escaped_line(text, b"about body ", *id),
     }
+}
+
+/// Adds a line of a label, a name and a number.
+fn put_named_number<A: Allocator + Copy>(
+    text: &mut Vec<u8, A>,
+    label: &[u8],
+    name: &[u8],
+    number: u64,
+) -> Result<(), AllocError>
+    ensures { OnOk result (text.new.items ≡ text.old.items ++ (label.now ++ escaped name.now ++ number_line (codes " ") number)) }
+{
+    put_named(text, label, name)?;
+    put_number_line(text, b" ", number)
+}
+
+/// Adds a line of a label, a name and a message-id.
+fn put_named_id<A: Allocator + Copy>(
+    text: &mut Vec<u8, A>,
+    label: &[u8],
+    name: &[u8],
+    id: &[u8],
+) -> Result<(), AllocError>
+    ensures { OnOk result (text.new.items ≡ text.old.items ++ (label.now ++ escaped name.now ++ octets_line (codes " ") id.now)) }
+{
+    put_named(text, label, name)?;
+    put_escaped_line(text, b" ", id)
 }
 
 /// Adds a label and a name.

@@ -1,13 +1,14 @@
 //! What an answer says about the point of a conflict, as `explain` prints it.
-ghost use Rattle.std.specs.Prelude.{◌≡◌, ◌++◌, ◌<◌, ◌-◌, ◌^◌, None, IfSome, OnOk, length};
+ghost use Rattle.std.specs.Prelude.{◌≡◌, ◌++◌, ◌∷◌, [], ◌<◌, ◌-◌, ◌^◌, None, IfSome, OnOk, length};
 ghost use Rattle.std.specs.List.{flat_map, list_any};
 ghost use Rattle.nntp_wire.specs.Answer.{to};
 ghost use Rattle.nntp_wire.specs.AnswerView.{response};
 ghost use Rattle.nntp_wire.specs.declared.command.What.TheVariants.{Stat};
 ghost use Rattle.nntp_wire.specs.Command.{retrieve};
-ghost use Rattle.nntp_wire.specs.Listing.{active_groups};
+ghost use Rattle.nntp_wire.specs.Listing.{active_groups, listed_numbers};
 ghost use Rattle.nntp_wire.specs.View.{request, target};
 ghost use Rattle.nntp_article.specs.Session.Machine.{is_same};
+ghost use Rattle.nntp_facts.specs.Asks as asks;
 ghost use Rattle.nntp_facts.specs.Facts.{ThereIs, ThereIsNo, Asks, IdAt, TextIs, NoArticle, GroupsAre, facts_of, facts_of_code};
 ghost use Rattle.nntp_facts.specs.PointView.{point_of};
 ghost use Rattle.nntp_facts.specs.Conflict as points;
@@ -20,7 +21,8 @@ use crate::said_parts::{body_of, head_of, put_part};
 use nntp_facts::{Placed, Point, Position};
 use nntp_printing::{put_escaped_line, put_number};
 use nntp_wire::{
-    Answer, Block, Command, GroupName, Marks, Prompt, What, Which, Wildmat, matches_if_given,
+    Answer, Block, Command, GroupName, Marks, Prompt, Range, WaterMarks, What, Which, Wildmat,
+    matches_if_given,
 };
 use std::alloc::{AllocError, Allocator};
 
@@ -78,24 +80,18 @@ fn put_said_to<A: Allocator + Copy>(
     match (command, answer) {
         (_, Answer::Plain { code }) => put_said_by_code(text, about, here, command, *code),
         (Command::Group(_), Answer::Group { marks, name }) => {
-            put_there_is(text, about, name.as_slice())?;
-            let ask = Ask::Estimates { how, marks: *marks };
-            put_ask(text, about, name.as_slice(), &ask)
+            put_marks(text, how, about, name.as_slice(), *marks)
         }
         (Command::ListGroup { range, .. }, Answer::Numbers { marks, name, block }) => {
-            put_there_is(text, about, name.as_slice())?;
-            let ask = Ask::Estimates { how, marks: *marks };
-            put_ask(text, about, name.as_slice(), &ask)?;
-            let range = *range;
-            put_ask(text, about, name.as_slice(), &Ask::Lists { range, block })
+            put_numbers(text, how, about, name.as_slice(), *marks, *range, block)
         }
         (Command::Next, Answer::Sent { number, id, .. }) => {
-            put_ask(text, about, here.name, &Ask::StepsUp(here.at, *number))?;
-            put_id_at(text, about, here.name, *number, id.as_slice())
+            let ask = Ask::StepsUp(here.at, *number);
+            put_number_with_id(text, about, here.name, &ask, *number, id.as_slice())
         }
         (Command::Last, Answer::Sent { number, id, .. }) => {
-            put_ask(text, about, here.name, &Ask::StepsDown(here.at, *number))?;
-            put_id_at(text, about, here.name, *number, id.as_slice())
+            let ask = Ask::StepsDown(here.at, *number);
+            put_number_with_id(text, about, here.name, &ask, *number, id.as_slice())
         }
         (
             Command::Retrieve { what, which },
@@ -105,15 +101,90 @@ fn put_said_to<A: Allocator + Copy>(
                 id,
                 block,
             },
-        ) => {
-            put_text_is(text, about, *what, id.as_slice(), block)?;
-            put_numbers_of_success(text, about, here, which, *number, id.as_slice())
-        }
+        ) => put_success(
+            text,
+            about,
+            here,
+            *what,
+            which,
+            *number,
+            id.as_slice(),
+            block,
+        ),
         (Command::ListActive(wildmat), Answer::Active(block)) => {
             put_groups(text, about, wildmat, block)
         }
         _ => Ok(()),
     }
+}
+
+/// Adds that there is such a group, with these marks.
+fn put_marks<A: Allocator + Copy>(
+    text: &mut Vec<u8, A>,
+    how: Marks,
+    about: &About<'_>,
+    name: &[u8],
+    marks: WaterMarks,
+) -> Result<(), AllocError>
+    ensures { OnOk result (text.new.items ≡ text.old.items
+        ++ flat_map (says about.now.line (point_of about.now.point)) (ThereIs name.now ∷ Asks name.now (asks.Estimates how marks) ∷ [])) }
+{
+    put_there_is(text, about, name)?;
+    put_ask(text, about, name, &Ask::Estimates { how, marks })
+}
+
+/// Adds that there is such a group, with these marks, and which of its numbers in the range are listed.
+fn put_numbers<A: Allocator + Copy>(
+    text: &mut Vec<u8, A>,
+    how: Marks,
+    about: &About<'_>,
+    name: &[u8],
+    marks: WaterMarks,
+    range: Range,
+    block: &Block<'_>,
+) -> Result<(), AllocError>
+    ensures { OnOk result (text.new.items ≡ text.old.items
+        ++ flat_map (says about.now.line (point_of about.now.point))
+        (ThereIs name.now ∷ Asks name.now (asks.Estimates how marks) ∷ Asks name.now (asks.ListsIn range (listed_numbers block.now)) ∷ [])) }
+{
+    put_marks(text, how, about, name, marks)?;
+    put_ask(text, about, name, &Ask::Lists { range, block })
+}
+
+/// Adds what is asked of the numbers of a group where it comes to this number, and that the number has the id.
+fn put_number_with_id<A: Allocator + Copy>(
+    text: &mut Vec<u8, A>,
+    about: &About<'_>,
+    name: &[u8],
+    ask: &Ask<'_>,
+    number: u64,
+    id: &[u8],
+) -> Result<(), AllocError>
+    ensures { OnOk result (text.new.items ≡ text.old.items
+        ++ flat_map (says about.now.line (point_of about.now.point)) (Asks name.now (ask_of ask.now) ∷ IdAt name.now number id.now ∷ [])) }
+{
+    put_ask(text, about, name, ask)?;
+    put_id_at(text, about, name, number, id)
+}
+
+/// Adds what a success of ARTICLE, HEAD, BODY or STAT says.
+fn put_success<A: Allocator + Copy>(
+    text: &mut Vec<u8, A>,
+    about: &About<'_>,
+    here: Here<'_>,
+    what: What,
+    which: &Which<'_>,
+    number: u64,
+    id: &[u8],
+    block: &Option<Block<'_>>,
+) -> Result<(), AllocError>
+    requires { IfSome about.now.line (λ place. place < 2 ^ 64 - 1) }
+    ensures { OnOk result (text.new.items ≡ text.old.items
+        ++ flat_map (says about.now.line (point_of about.now.point))
+        (TextIs what id.now block.now ∷ numbers_of_success (in_group here.entry.name.now) here.entry.at (target which.now) number id.now)) }
+{
+    put_text_is(text, about, what, id, block)?;
+    put_numbers_of_success(text, about, here, which, number, id)
 }
 
 /// Adds what a success of ARTICLE, HEAD, BODY or STAT says of the number.
@@ -131,8 +202,8 @@ fn put_numbers_of_success<A: Allocator + Copy>(
     match which {
         Which::Id(_) if number == 0 => Ok(()),
         Which::Current => {
-            put_ask(text, about, here.name, &Ask::StandsAt(here.at, number))?;
-            put_id_at(text, about, here.name, number, id)
+            let ask = Ask::StandsAt(here.at, number);
+            put_number_with_id(text, about, here.name, &ask, number, id)
         }
         _ => put_id_at(text, about, here.name, number, id),
     }

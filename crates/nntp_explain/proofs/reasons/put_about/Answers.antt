@@ -1,9 +1,8 @@
-use Rattle.std.proofs.Common.{◌++◌, ◌∙◌, refl, ap, sym}
+use Rattle.std.proofs.Common.{◌++◌, ◌∙◌, ap, sym}
 use Rattle.std.specs.Prelude.{codes}
 use Rattle.nntp_facts.specs.PointView.{point_of}
-use Rattle.nntp_explain.specs.Reasons.{about_line, number_line, octets_line}
-use Rattle.nntp_printing.specs.Printing.{escaped}
-use Rattle.nntp_explain.proofs.SaysLemmas.{on_ok, line_told, two_told}
+use Rattle.nntp_explain.specs.Reasons.{about_line, octets_line}
+use Rattle.nntp_explain.proofs.SaysLemmas.{on_ok, line_told}
 use Rattle.nntp_explain.proofs.reasons.put_about.Goals as goal
 
 pub returns-in-Group : goal.returns-in-Group
@@ -13,21 +12,17 @@ returns-in-Group g c =
     (ap (octets_line (codes "about group ")) c.as_slice.ensures.value ∙ ap (λ p. about_line (point_of p)) (sym c.in-Group.is)))
     c.put_escaped_line-in-Group.ensures
 
-pub returns-in_ok-put_named-in-Number : goal.returns-in_ok-put_named-in-Number
-returns-in_ok-put_named-in-Number g c =
-    on_ok c.put_number_line.result
-    (λ put. two_told c.args.text.now.items (codes "about number " ++ escaped c.in-Number.name.now) (number_line (codes " ") c.in-Number.number) (about_line (point_of c.args.point.now))
-    c.put_named.new.text.items c.put_number_line.new.text.items c.in_ok-put_named-in-Number.ensures put (ap (λ p. about_line (point_of p)) (sym c.in-Number.is)))
-    c.put_number_line.ensures
+pub returns-in-Number : goal.returns-in-Number
+returns-in-Number g c =
+    on_ok c.put_named_number.result (λ put. put ∙ ap (λ p. c.args.text.now.items ++ about_line (point_of p)) (sym c.in-Number.is)) c.put_named_number.ensures
 
-pub returns-in_ok-put_named-in-PlaceOf : goal.returns-in_ok-put_named-in-PlaceOf
-returns-in_ok-put_named-in-PlaceOf g c =
-    on_ok c.put_escaped_line-in-PlaceOf.result
-    (λ put. two_told c.args.text.now.items (codes "about place " ++ escaped c.in-PlaceOf.name.now) (octets_line (codes " ") c.in-PlaceOf.id.now) (about_line (point_of c.args.point.now))
-    c.put_named-in-PlaceOf.new.text.items c.put_escaped_line-in-PlaceOf.new.text.items c.in_ok-put_named-in-PlaceOf.ensures
-    (line_told c.put_named-in-PlaceOf.new.text.items (codes " ") c.in-PlaceOf.id.now (octets_line (codes " ") c.in-PlaceOf.id.now) c.put_escaped_line-in-PlaceOf.new.text.items put refl)
-    (ap (λ p. about_line (point_of p)) (sym c.in-PlaceOf.is)))
-    c.put_escaped_line-in-PlaceOf.ensures
+pub returns-in-IdOf : goal.returns-in-IdOf
+returns-in-IdOf g c =
+    on_ok c.put_named_number-in-IdOf.result (λ put. put ∙ ap (λ p. c.args.text.now.items ++ about_line (point_of p)) (sym c.in-IdOf.is)) c.put_named_number-in-IdOf.ensures
+
+pub returns-in-PlaceOf : goal.returns-in-PlaceOf
+returns-in-PlaceOf g c =
+    on_ok c.put_named_id.result (λ put. put ∙ ap (λ p. c.args.text.now.items ++ about_line (point_of p)) (sym c.in-PlaceOf.is)) c.put_named_id.ensures
 
 pub returns-in-Article : goal.returns-in-Article
 returns-in-Article g c =

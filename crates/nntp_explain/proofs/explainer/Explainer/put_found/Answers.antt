@@ -1,4 +1,4 @@
-use Rattle.std.proofs.Common.{◌++◌, ◌∙◌, ◌<◌, ◌^◌, ap, subst, length, rules, arith, ℕ, List, Some, map}
+use Rattle.std.proofs.Common.{◌++◌, ◌∙◌, ◌<◌, ◌^◌, ap, subst, length, arith, List, Some, map}
 use Rattle.std.specs.Prelude.{option_map}
 use Rattle.nntp_article.specs.Session.Limit.{profile_of}
 use Rattle.nntp_article.specs.declared.session.profile.Profile.{Profile}
@@ -19,10 +19,9 @@ returns-in-Some-clause-text g c =
     let self = c.args.self.now in
     let profile = profile_kept self.facts in
     let core = c.args.core.now in
-    let taken = subst (λ (q : Profile × List Placed × List ℕ). AreTaken q.0 c.args.bad.now q.1 q.2 c.in_ok-conflict.conflict)
-    (λ i. (profile_of (c.limit-limit.ensures i) (c.marks-marks.ensures i), c.deref.ensures.value i, (c.deref-2.ensures.value ∙ c.in_ok-places.ensures) i)) c.in_ok-conflict.ensures in
-    let short : length c.in_ok-places.places.items < 2 ^ 64 = search rules in
-    let few : length (places_of core) < 2 ^ 66 = let same = ap length c.in_ok-places.ensures in omega (arith, short, same) in
+    let taken = subst (λ (q : Profile × List Placed). AreTaken q.0 c.args.bad.now q.1 (places_of core) c.in_ok-conflict.conflict)
+    (λ i. (profile_of (c.limit-limit.ensures i) (c.marks-marks.ensures i), c.deref.ensures.value i)) c.in_ok-conflict.ensures.taken in
+    let few : length (places_of core) < 2 ^ 66 = let short = c.in_ok-conflict.ensures.few in omega (arith, short) in
     let told = c.in_ok-point.ensures profile c.args.bad.now self.placed.items taken c.requires.fit c.requires.found few (many core.rest core.places c.requires.most) in
     let lines = ap (λ (q : Marks × List Placed × List Cited). self.text.items ++ conflict_lines q.0 (point_of c.in-Some.point) c.args.bad.now q.1 q.2 core)
     (λ i. (c.marks-marks.ensures i, c.deref-in-Some.ensures.value i, map cited_of (c.deref-in-Some-2.ensures.value i))) in
