@@ -9,7 +9,7 @@ ghost use Rattle.nntp_article.specs.Session.Misfit.{misfit};
 ghost use Rattle.nntp_article.specs.declared.session.profile.Profile.{Profile};
 ghost use Rattle.nntp_pair.specs.Pairing.{Unpaired, IsNext, Ends, bad, line_ahead, streams};
 ghost use Rattle.nntp_pair.specs.declared.class.PairClass.TheVariants.{Malformed};
-ghost use Rattle.nntp_facts.specs.Conflict.{FitsThere, IsFound, SomeHas, told_with, below, places_of};
+ghost use Rattle.nntp_facts.specs.Conflict.{Placed as PlacedValue, FitsThere, IsFound, SomeHas, told_with, below, places_of};
 ghost use Rattle.nntp_facts.specs.Points.{AreTaken};
 ghost use Rattle.nntp_pair.specs.declared.class.Class.TheVariants.{Malformed as MalformedClass, OutOfPlace, Contradiction};
 ghost use Rattle.nntp_pair.specs.Classes.{class_of};
@@ -18,6 +18,7 @@ ghost use Rattle.nntp_printing.specs.BadAnswer.{IsFirstLine};
 ghost use Rattle.nntp_explain.specs.Explaining.{end_line, front_lines, place_lines, IsConflictOf, IsEndReason, IsExplanation, IsTold, TellsCore};
 ghost use Rattle.nntp_explain.specs.ExplainingView.{cited_of, kept_of, keeps, placed_at, standing_of, unfitting_told, GoesOn, HasTold};
 ghost use Rattle.nntp_explain.specs.Reasons.{misspelling_line};
+ghost use Rattle.nntp_explain.specs.Standing.{Cited as CitedValue};
 
 use crate::conflict::put_conflict;
 use crate::ending::{put_end, put_end_reason};
@@ -236,18 +237,15 @@ impl<'a, A: Allocator + Copy> Explainer<'a, A> {
         let limit = self.facts.limit();
         let marks = self.facts.marks();
         let conflict = conflict_of(self.alloc, limit, marks, &self.placed, bad, core)?;
-        match conflict.point_of(core)? {
-            Some(point) => put_conflict(
-                &mut self.text,
-                marks,
-                point,
-                bad,
-                &self.placed,
-                &self.cited,
-                core,
-            ),
-            None => put_core(&mut self.text, &self.cited, core),
-        }
+        put_point_of(
+            &mut self.text,
+            marks,
+            &conflict,
+            bad,
+            &self.placed,
+            &self.cited,
+            core,
+        )
     }
 
     /// Tells that the frame at this place spells nothing.
@@ -369,6 +367,27 @@ fn conflict_of<'c, A: Allocator + Copy>(
 {
     let places = core.all_places(alloc)?;
     Conflict::of(alloc, limit, marks, placed, bad, &places)
+}
+
+/// Adds what the answers of a core conflict about, if that can be told, and which they are.
+fn put_point_of<A: Allocator + Copy>(
+    text: &mut Vec<u8, A>,
+    marks: Marks,
+    conflict: &Conflict<'_, A>,
+    bad: &Placed<'_>,
+    placed: &[Placed<'_>],
+    cited: &[Cited<'_>],
+    core: &Core<A>,
+) -> Result<(), AllocError>
+    ensures { OnOk result ((profile : Profile) (answers : List PlacedValue) (told : List CitedValue) → marks ≡ profile.marks → placed.now ≡ answers → map cited_of cited.now ≡ told
+        → AreTaken profile bad.now answers (places_of core.now) conflict.now → AllByRecursion (FitsThere profile) (bad.now ∷ answers) → IsFound profile bad.now answers core.now
+        → length (places_of core.now) < 2 ^ 66 → MatchOption core.now.rest (length core.now.places ≤ 16) (λ bound. length core.now.places ≡ 16)
+        → GoesOn (TellsCore profile bad.now answers told core.now) text.old.items text.new.items) }
+{
+    match conflict.point_of(core)? {
+        Some(point) => put_conflict(text, marks, point, bad, placed, cited, core),
+        None => put_core(text, cited, core),
+    }
 }
 
 /// Adds why a frame spells nothing.
