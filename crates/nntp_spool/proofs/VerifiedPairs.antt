@@ -1,5 +1,5 @@
 -- A session, exchange by exchange.
-use Rattle.std.proofs.Common.{◌≡◌, ℕ, ◌+◌, List, [], ◌∷◌, ◌++◌, length, sym, ap, subst, ◌∙◌, length-append}
+use Rattle.std.proofs.Common.{◌≡◌, ℕ, ◌+◌, List, [], ◌∷◌, ◌++◌, length, sym, ap, subst, ◌∙◌, length-append, Result, IfOk}
 use Rattle.nntp_pair.specs.Pairing.{Paired, Unpaired, IsNext, AreNext, Ends, bad, asked_at, streams}
 use Rattle.nntp_pair.specs.declared.class.PairClass.{PairClass}
 use Rattle.nntp_pair.proofs.PairingLemmas.{AreNext-push, index-counts}
@@ -13,10 +13,11 @@ use Rattle.nntp_spool.specs.Sessions.{state_after, MayAnswerAll, RefusesAt}
 use Rattle.nntp_spool.proofs.PermittedPairs.{state-more, all-more, permitted-explained, unpermitted-refused, bad-refused}
 
 -- a spool and a profile that are the same leave what is verified as it is
-pub verified_by_same : (profile other : Profile) (S T : Spool) (client server : List ℕ) (verified : Verified) → profile ≡ other
-    → S ≡ T → IsVerified profile S client server verified → IsVerified other T client server verified
-verified_by_same profile other S T client server verified same equal is =
-    subst (λ (U : Spool). IsVerified other U client server verified) equal (subst (λ (p : Profile). IsVerified p S client server verified) same is)
+pub verified_by_same : {E : Type 0} (profile other : Profile) (S T : Spool) (client server : List ℕ) (r : Result Verified E) → profile ≡ other
+    → S ≡ T → IfOk r (λ verified. IsVerified profile S client server verified) → IfOk r (λ verified. IsVerified other T client server verified)
+verified_by_same profile other S T client server r same equal is =
+    subst (λ (U : Spool). IfOk r (λ verified. IsVerified other U client server verified)) equal
+    (subst (λ (p : Profile). IfOk r (λ verified. IsVerified p S client server verified)) same is)
 
 pub spool_by_same : (profile other : Profile) (S T : Spool) → profile ≡ other → S ≡ T → IsSpool other.limit T → IsSpool profile.limit S
 spool_by_same profile other S T same equal is = subst (λ (U : Spool). IsSpool profile.limit U) (sym equal) (subst (λ (p : Profile). IsSpool p.limit T) (sym same) is)

@@ -1,6 +1,9 @@
 //! Whether a given spool explains a session.
 ghost use Rattle.std.specs.Prelude.{◌≡◌, IfOk};
 ghost use Rattle.nntp_article.specs.Session.Limit.{profile_of};
+ghost use Rattle.nntp_article.specs.Session.Machine.{start};
+ghost use Rattle.nntp_article.specs.Session.Spool.{IsSpool};
+ghost use Rattle.nntp_spool.specs.AskedCounts.{AreCounted};
 ghost use Rattle.nntp_spool.specs.Verifying.{IsVerified};
 
 mod agreement;
@@ -12,6 +15,7 @@ mod session;
 mod verified;
 
 use crate::value::Spool;
+use crate::value::content::Content;
 use asked_counts::AskedCounts;
 use nntp_article::Profile;
 use nntp_pair::{Pairs, Step};
@@ -42,14 +46,33 @@ pub fn verify<A: Allocator + Copy, S: Allocator>(
 {
     let profile = Profile::of(spool.limit(), marks);
     let content = spool.content();
-    let mut pairs = Pairs::new(client, server);
     let mut session = Session::new(alloc);
     let mut counts = AskedCounts::new(alloc);
+    // Both are lent, and so dropped at one exit alone: the check goes through the drops of each.
+    judge(profile, content, client, server, &mut session, &mut counts)
+}
+
+/// Goes over the exchanges of both streams, from the state before the greeting on, as [`verify`]
+/// does.
+fn judge<A: Allocator + Copy, S: Allocator>(
+    profile: Profile,
+    content: &Content<S>,
+    client: &[u8],
+    server: &[u8],
+    session: &mut Session<A>,
+    counts: &mut AskedCounts<A>,
+) -> Result<Verified, AllocError>
+    requires spool { IsSpool profile.limit content.now }
+    requires start { session.old ≡ start }
+    requires counted { AreCounted content.now counts.old }
+    ensures { IfOk result (λ verified. IsVerified profile content.now client.now server.now verified) }
+{
+    let mut pairs = Pairs::new(client, server);
     let mut answers = 0;
     loop {
         match pairs.next() {
             Step::Exchange(exchange) => {
-                if !session.may_answer(profile, content, &mut counts, &exchange)? {
+                if !session.may_answer(profile, content, counts, &exchange)? {
                     return Ok(Verified::Refuses { index: answers });
                 }
                 session.advance(content, &exchange)?;

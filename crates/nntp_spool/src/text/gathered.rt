@@ -11,6 +11,7 @@ use crate::value::articles::Articles;
 use crate::value::ascending::map_of;
 use crate::value::content::Content;
 use crate::value::numbers::Numbers;
+use nntp_wire::OwnedBlock;
 use std::alloc::{AllocError, Allocator};
 use std::marker::Model;
 use std::rc::RcStr;
@@ -68,12 +69,38 @@ impl<A: Allocator + Copy, T: Allocator> Gathered<A, T> {
         self.articles.is_after(id)
     }
 
-    /// Adds a group whose name is greater than each other's.
-    pub(crate) fn push_group(
+    /// Adds a group, with a copy of its name, which is greater than each other's.
+    pub(crate) fn add_group(
         &mut self,
-        name: String<A>,
+        alloc: A,
+        name: &str,
         numbers: Numbers<A>,
     ) -> Result<(), AllocError>
+        requires { is_last self.old.groups name.now ≡ true }
+        ensures { OnOk result (self.new ≡ with_group self.old name.now numbers) }
+    {
+        let name = String::from_str(alloc, name)?;
+        self.push_group(name, numbers)
+    }
+
+    /// Adds an article, with copies of its id, which is greater than each other's, and of its lines.
+    pub(crate) fn add_article(
+        &mut self,
+        alloc: A,
+        id: &str,
+        head: &OwnedBlock<T>,
+        body: &OwnedBlock<T>,
+    ) -> Result<(), AllocError>
+        requires { is_last self.old.articles id.now ≡ true }
+        ensures { OnOk result (self.new ≡ with_article self.old id.now (record { head = head.now; body = body.now })) }
+    {
+        let article = StoredArticle::new(alloc, head, body)?;
+        let id = RcStr::from_str(alloc, id)?;
+        self.push_article(id, article)
+    }
+
+    /// Adds a group whose name is greater than each other's.
+    fn push_group(&mut self, name: String<A>, numbers: Numbers<A>) -> Result<(), AllocError>
         requires { is_last self.old.groups (string_bytes name) ≡ true }
         ensures { OnOk result (self.new ≡ with_group self.old (string_bytes name) numbers) }
     {
@@ -82,11 +109,7 @@ impl<A: Allocator + Copy, T: Allocator> Gathered<A, T> {
     }
 
     /// Adds an article whose id is greater than each other's.
-    pub(crate) fn push_article(
-        &mut self,
-        id: RcStr<A>,
-        article: StoredArticle<A>,
-    ) -> Result<(), AllocError>
+    fn push_article(&mut self, id: RcStr<A>, article: StoredArticle<A>) -> Result<(), AllocError>
         requires last { is_last self.old.articles (rc_str_bytes id) ≡ true }
         requires line_count { HasLineCount (text_stored article) }
         ensures { OnOk result (self.new ≡ with_article self.old (rc_str_bytes id) (text_stored article)) }

@@ -3,6 +3,7 @@ ghost use Rattle.std.specs.Prelude.{◌≡◌, false, IfOk, IfErr};
 ghost use Rattle.nntp_spool.specs.Reading.{Gives, barred_line_at, barred_lines_at, number_in, number_at, numbers_at, group_at};
 ghost use Rattle.nntp_spool.specs.Reading.{article_at, item_at, items_at, end_at, content_at, wide_at, limit_at, spool_at};
 ghost use Rattle.nntp_spool.specs.ReadingView.{place_shown, turn_shown};
+ghost use Rattle.nntp_spool.specs.Content.{no_spool};
 ghost use Rattle.nntp_spool.specs.Limited.{LimitedSpool, IsWithinLimit};
 ghost use Rattle.nntp_spool.specs.Text.{spool_text};
 ghost use Rattle.nntp_spool.specs.Faults.{IsFault};
@@ -12,15 +13,12 @@ use crate::text::gathered::Gathered;
 use crate::text::place::{Opening, Place, Turn};
 use crate::text::read_fault::{Kind, ReadError, ReadFault};
 use crate::value::Spool;
-use crate::value::article::StoredArticle;
 use crate::value::content::Content;
 use crate::value::numbers::Numbers;
 use crate::value::well_formed::{id_of, is_block_head_of, name_of};
 use nntp_wire::{Limit, OwnedBlock};
 use std::alloc::Allocator;
 use std::mem;
-use std::rc::RcStr;
-use std::string::String;
 
 /// The lines of the article that is read, in memory that is kept from one to the next.
 #[derive(Drop)]
@@ -136,7 +134,7 @@ fn group_at<'a, A: Allocator + Copy, T: Allocator + Copy>(
         return Err(fault(line, Kind::Order));
     }
     let (numbers, next) = numbers_at(alloc, limit, count, place)?;
-    gathered.push_group(String::from_str(alloc, name)?, numbers)?;
+    gathered.add_group(alloc, name, numbers)?;
     Ok(next)
 }
 
@@ -165,8 +163,7 @@ fn article_at<'a, A: Allocator + Copy, T: Allocator + Copy>(
     if !is_block_head_of(id, &lines.head) {
         return Err(fault(line, Kind::Head));
     }
-    let article = StoredArticle::new(alloc, &lines.head, &lines.body)?;
-    gathered.push_article(RcStr::from_str(alloc, id)?, article)?;
+    gathered.add_article(alloc, id, &lines.head, &lines.body)?;
     Ok(next)
 }
 
@@ -256,8 +253,28 @@ fn items_at<'a, A: Allocator + Copy, T: Allocator + Copy>(
     Err(fault(rest.line, Kind::Shape))
 }
 
-/// Reads all groups and articles, behind the lines of the limit.
+/// Reads all groups and articles, up to the end of the text, where none is gathered yet.
 #[tactic(auto, using(crate::proofs::SplitLines::ended), unfolding(crate::specs::Reading::content_at))]
+fn items_to_end<A: Allocator + Copy, T: Allocator + Copy>(
+    alloc: A,
+    scratch: T,
+    limit: u64,
+    most: u64,
+    gathered: &mut Gathered<A, T>,
+    lines: &mut ArticleLines<T>,
+    place: Place<'_>,
+) -> Result<Content<A>, ReadError>
+    requires { gathered.old ≡ no_spool }
+    ensures { Gives (λ content. content) result (content_at limit most (place_shown place.entry)) }
+{
+    let (content, end) = items_at(alloc, scratch, limit, most, gathered, lines, place)?;
+    if !end.rest.is_empty() {
+        return Err(fault(end.line, Kind::Shape));
+    }
+    Ok(content)
+}
+
+/// Reads all groups and articles, behind the lines of the limit.
 fn content_at<A: Allocator + Copy, T: Allocator + Copy>(
     alloc: A,
     scratch: T,
@@ -272,7 +289,8 @@ fn content_at<A: Allocator + Copy, T: Allocator + Copy>(
         head: OwnedBlock::new(scratch),
         body: OwnedBlock::new(scratch),
     };
-    let (content, end) = items_at(
+    // Both are lent, and so dropped at one exit alone: the check goes through the drops of each.
+    items_to_end(
         alloc,
         scratch,
         limit,
@@ -280,11 +298,7 @@ fn content_at<A: Allocator + Copy, T: Allocator + Copy>(
         &mut gathered,
         &mut lines,
         place,
-    )?;
-    if !end.rest.is_empty() {
-        return Err(fault(end.line, Kind::Shape));
-    }
-    Ok(content)
+    )
 }
 
 /// Reads the second line of a text whose limit is the wide one.

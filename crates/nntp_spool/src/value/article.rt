@@ -1,5 +1,5 @@
 //! The lines of an article.
-ghost use Rattle.std.specs.Prelude.{◌≡◌, IfOk, IsTrue, length};
+ghost use Rattle.std.specs.Prelude.{◌≡◌, ◌<◌, ◌^◌, IfOk, IsTrue, length};
 ghost use Rattle.std.specs.List.{list_all};
 ghost use Rattle.nntp_article.specs.Session.Spool.{is_line};
 ghost use Rattle.nntp_spool.specs.ArticleLines.{text_of_article, text_stored, AreLines, HasLineCount};
@@ -40,8 +40,8 @@ impl<A: Allocator + Copy> StoredArticle<A> {
         ensures line_count { IfOk result (λ stored. HasLineCount (text_stored stored)) }
     {
         Ok(StoredArticle {
-            head: Rc::new(alloc, head.as_block().to_owned(alloc)?)?,
-            body: Rc::new(alloc, body.as_block().to_owned(alloc)?)?,
+            head: copied(alloc, head)?,
+            body: copied(alloc, body)?,
         })
     }
 
@@ -70,6 +70,17 @@ impl<A: Allocator> StoredArticle<A> {
             body: body.clone()?,
         })
     }
+}
+
+/// Copies lines into as much memory as they need, to be shared.
+fn copied<A: Allocator + Copy, T: Allocator>(
+    alloc: A,
+    lines: &OwnedBlock<T>,
+) -> Result<Rc<OwnedBlock<A>, A>, AllocError>
+    ensures same { IfOk result (λ copy. copy.value ≡ lines.now) }
+    ensures short { length lines.now < 2 ^ 64 }
+{
+    Ok(Rc::new(alloc, lines.as_block().to_owned(alloc)?)?)
 }
 
 /// Copies lines that have no NUL, CR or LF into one piece of memory.

@@ -280,15 +280,23 @@ impl<A: Allocator + Copy> SpoolBuilder<A> {
     pub fn article(&mut self, id: &[u8], article: Article<A>) -> Result<(), SpoolFault>
         ensures { Builds (article_fault self.old.spool id.now (text_of_article article)) (with_article self.old.spool id.now (text_of_article article)) result self.old self.new }
     {
+        // It is lent, and so dropped at one exit alone: the check goes through the drops of each.
+        self.copy_article(id, &article)
+    }
+
+    /// Adds the article that a message-id names, and copies its lines.
+    fn copy_article(&mut self, id: &[u8], article: &Article<A>) -> Result<(), SpoolFault>
+        ensures { Builds (article_fault self.old.spool id.now (text_of_article article.now)) (with_article self.old.spool id.now (text_of_article article.now)) result self.old self.new }
+    {
         if self.failed {
             return Err(SpoolFault::Failed);
         }
-        let id = article_id(&self.content, id, &article)?;
+        let id = article_id(&self.content, id, article)?;
         let Ok(id) = RcStr::from_str(self.alloc, id) else {
             self.failed = true;
             return Err(SpoolFault::Memory);
         };
-        let Ok(article) = StoredArticle::of(self.alloc, &article) else {
+        let Ok(article) = StoredArticle::of(self.alloc, article) else {
             self.failed = true;
             return Err(SpoolFault::Memory);
         };

@@ -5,8 +5,10 @@ ghost use Rattle.nntp_wire.specs.View.{asked, request, target};
 ghost use Rattle.nntp_wire.specs.AnswerView.{response};
 ghost use Rattle.nntp_wire.specs.Answer.{plain, sends, group_is, numbers_are, active_are};
 ghost use Rattle.nntp_wire.specs.Listing.{listed_numbers, active_groups};
+ghost use Rattle.nntp_wire.specs.Command.{next, last, retrieve};
 ghost use Rattle.nntp_wire.specs.Name.{IsGroupName};
 ghost use Rattle.nntp_wire.specs.declared.marks.Marks.{Marks};
+ghost use Rattle.nntp_wire.specs.declared.command.What.{What};
 ghost use Rattle.nntp_wire.specs.declared.command.What.TheVariants.{Stat};
 ghost use Rattle.nntp_article.specs.Session.Machine.{is_ascending, names_differ, Agrees, Bound, CodeAgrees, NumberAgrees};
 ghost use Rattle.nntp_article.specs.Session.Spool.{Name, IsGroup, HasText, Lists, numbers as numbers_of};
@@ -40,22 +42,22 @@ impl<A: Allocator + Copy> Session<A> {
         ensures counted { IfOk result (λ _. AreCounted spool.now counts.new) }
         ensures agrees { IfOk result (λ agrees. IsTrue agrees ↔ Agrees how spool.now self.now (asked prompt.now) (response answer.now)) }
     {
-        Ok(match answer {
-            Answer::Plain { code } => self.agrees_plain(spool, prompt, *code),
+        match answer {
+            Answer::Plain { code } => Ok(self.agrees_plain(spool, prompt, *code)),
             Answer::Group { marks, name } => {
-                self.agrees_group(how, spool, prompt, *marks, name.as_str())
+                Ok(self.agrees_group(how, spool, prompt, *marks, name.as_str()))
             }
             Answer::Numbers { marks, name, block } => {
-                self.agrees_numbers(how, spool, prompt, *marks, name.as_str(), block)
+                Ok(self.agrees_numbers(how, spool, prompt, *marks, name.as_str(), block))
             }
             Answer::Sent {
                 code,
                 number,
                 id,
                 block,
-            } => self.agrees_sent(spool, prompt, *code, *number, id.as_str(), block),
-            Answer::Active(block) => self.agrees_active(spool, counts, prompt, block)?,
-        })
+            } => Ok(self.agrees_sent(spool, prompt, *code, *number, id.as_str(), block)),
+            Answer::Active(block) => self.agrees_active(spool, counts, prompt, block),
+        }
     }
 
     /// Tells whether a code alone agrees.
@@ -80,33 +82,60 @@ impl<A: Allocator + Copy> Session<A> {
     ) -> bool
         ensures { IsTrue result ↔ CodeAgrees spool.now self.now (request command.now) code }
     {
-        let current = self.current();
         match command {
             Command::Group(word) => spool.group_named(*word).is_none(),
             Command::ListGroup { group, .. } => match group {
                 Some(word) => spool.group_named(*word).is_none(),
                 None => true,
             },
-            Command::Next => match code {
-                412 => true,
-                420 => current.is_none(),
-                _ => self.selected_numbers(spool).is_at_top(current),
-            },
-            Command::Last => match code {
-                412 => true,
-                420 => current.is_none(),
-                _ => self.selected_numbers(spool).is_at_bottom(current),
-            },
-            Command::Retrieve { which, .. } => match which {
-                Which::Id(word) => !spool.knows(*word),
-                Which::Number(Some(number)) => {
-                    code == 412 || self.selected_numbers(spool).id(*number).is_none()
-                }
-                Which::Number(None) => true,
-                Which::Current => code == 412 || current.is_none(),
-            },
+            Command::Next => self.agrees_next_code(spool, code),
+            Command::Last => self.agrees_last_code(spool, code),
+            Command::Retrieve { which, .. } => self.agrees_retrieve_code(spool, which, code),
             Command::Capabilities | Command::ModeReader | Command::Quit | Command::Opaque => true,
             _ => false,
+        }
+    }
+
+    /// Tells whether what a code alone to NEXT says of the spool is so.
+    fn agrees_next_code<S: Allocator>(&self, spool: &Content<S>, code: u64) -> bool
+        ensures { IsTrue result ↔ CodeAgrees spool.now self.now next code }
+    {
+        let current = self.current();
+        match code {
+            412 => true,
+            420 => current.is_none(),
+            _ => self.selected_numbers(spool).is_at_top(current),
+        }
+    }
+
+    /// Tells whether what a code alone to LAST says of the spool is so.
+    fn agrees_last_code<S: Allocator>(&self, spool: &Content<S>, code: u64) -> bool
+        ensures { IsTrue result ↔ CodeAgrees spool.now self.now last code }
+    {
+        let current = self.current();
+        match code {
+            412 => true,
+            420 => current.is_none(),
+            _ => self.selected_numbers(spool).is_at_bottom(current),
+        }
+    }
+
+    /// Tells whether what a code alone to ARTICLE, HEAD, BODY or STAT says of the spool is so.
+    fn agrees_retrieve_code<S: Allocator>(
+        &self,
+        spool: &Content<S>,
+        which: &Which<'_>,
+        code: u64,
+    ) -> bool
+        ensures { (what : What) → IsTrue result ↔ CodeAgrees spool.now self.now (retrieve what (target which.now)) code }
+    {
+        match which {
+            Which::Id(word) => !spool.knows(*word),
+            Which::Number(Some(number)) => {
+                code == 412 || self.selected_numbers(spool).id(*number).is_none()
+            }
+            Which::Number(None) => true,
+            Which::Current => code == 412 || self.current().is_none(),
         }
     }
 

@@ -1,7 +1,7 @@
 use Rattle.std.proofs.Common.{length}
 use Rattle.nntp_spool.specs.AskedCounts.{AreCounted}
 use Rattle.nntp_spool.proofs.VerifiedPairs.{Permitted}
-use Rattle.nntp_spool.proofs.verification.verify.Given as goal
+use Rattle.nntp_spool.proofs.verification.judge.Given as goal
 
 abbrev pub invariant-loop-exchange : goal.invariant-loop-exchange
 invariant-loop-exchange g l = Permitted l.profile l.content l.client l.server l.pairs l.session l.answers × AreCounted l.content l.counts
