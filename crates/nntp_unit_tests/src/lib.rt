@@ -1,9 +1,8 @@
-//! Unit tests of the crates below the checker: rows that say what single calls and definitions are meant
-//! to answer. The tests of each crate are in the module of its name.
+//! What single calls of the crates below the checker are meant to answer. The tests of each crate are in the
+//! module of its name. Examples that need no run, as those of parsers, are in `proofs/`, over the definitions
+//! that the contracts of the calls cite.
 #![tactic(auto)]
 
-#[cfg(test)]
-mod article;
 #[cfg(test)]
 mod intervals;
 #[cfg(test)]

@@ -1,18 +1,36 @@
-//! Worked rows: what the definitions are meant to say.
+//! Where responses end, and a wildmat with many stars.
+use nntp_wire::{Command, GroupName, Prompt, Wildmat, frame};
 
-mod answers;
-mod blocks;
-mod commands;
-mod frames;
-mod misspellings;
-mod names;
-mod numbers;
-mod searches;
-mod sessions;
-mod wildmats;
+/// A line, what the server sends, and how many octets of that are the response to the line.
+type Row = (&'static [u8], &'static [u8], Option<usize>);
 
-use nntp_wire::{Answer, Block, Command, Malformed, Prompt, frame};
-use std::process::Abort;
+const ROWS: &[Row] = &[
+    // Without a block: octets stand behind, or what begins the line isn't a code that a block follows.
+    (b"GROUP g", b"211 0 1 0 g\r\nmore", Some(13)),
+    (b"HELP", b"1000 help\r\n", Some(11)),
+    (b"HELP", b"100\thelp\r\n", Some(10)),
+    (b"HELP", b"100-help\r\n", Some(10)),
+    (b"HELP", b"500 a\rb\nc\r\n", Some(11)),
+    (b"HELP", b"\r\n", Some(2)),
+    (b"HELP", b"500 no\r", None),
+    (b"HELP", b"", None),
+    // With a block, up to the first line that is a dot alone.
+    (b"HELP", b"100\r\n.\r\nmore", Some(8)),
+    (b"HELP", b"100\r\na\r\n.\r\n", Some(11)),
+    (b"HELP", b"100 help\r\n..\r\n.\r\n", Some(17)),
+    (b"HELP", b"100 help\r\na.\r\n.\r\n", Some(17)),
+    (b"HELP", b"100\r\n.\n.\r\n.\r\n", Some(13)),
+    (b"HELP", b"100\r\n\r\n.\r\n", Some(10)),
+    (b"HELP", b"100\r\na\r\n.", None),
+    (b"HELP", b"100\r\na\r\n.\r", None),
+    (b"HELP", b"100\r\n.\r", None),
+    (b"HELP", b"100\r\na\r\n", None),
+    (b"HELP", b"100\r\n", None),
+    // After 211 a block follows only in response to LISTGROUP.
+    (b"GROUP g", b"211 0 1 0 g\r\n.\r\nmore", Some(13)),
+    (b"LISTGROUP g", b"211 0 1 0 g\r\n.\r\nmore", Some(16)),
+    (b"LISTGROUP", b"211 0 1 0 g\r\nmore\r\n", None),
+];
 
 /// How many octets the response to a line takes at the front of a stream.
 fn frame_len(line: &[u8], stream: &[u8]) -> Option<usize> {
@@ -20,44 +38,30 @@ fn frame_len(line: &[u8], stream: &[u8]) -> Option<usize> {
     Some(frame(&prompt, stream)?.len())
 }
 
-/// What the front of a stream says in response to a line.
-fn reply<'a>(line: &[u8], stream: &'a [u8]) -> Option<Result<Answer<'a>, Malformed>> {
-    let prompt = Prompt::To(Command::parse(line));
-    let frame = frame(&prompt, stream)?;
-    Some(Answer::parse(&prompt, &frame))
-}
-
-/// The code of a response of which no more is looked at.
-fn plain_code(line: &[u8], stream: &[u8]) -> Option<u64> {
-    match reply(line, stream) {
-        Some(Ok(Answer::Plain { code })) => Some(code),
-        _ => None,
+#[test]
+fn lengths_of_frames(rt: HostRuntime) {
+    for &(line, stream, want) in ROWS {
+        assert!(rt; frame_len(line, stream) == want, "{stream:?}");
     }
 }
 
-/// Whether the front of a stream is a frame that spells nothing.
-fn is_malformed(line: &[u8], stream: &[u8]) -> bool {
-    matches!(reply(line, stream), Some(Err(Malformed)))
+/// Whether the wildmat matches the name, where they are one.
+fn matches(wildmat: &[u8], name: &[u8]) -> Option<bool> {
+    let wildmat = Wildmat::parse(wildmat)?;
+    let name = GroupName::parse(name)?;
+    Some(wildmat.matches(&name))
 }
 
-/// The front of each stream is a frame that spells nothing in response to its line.
-fn all_malformed(rt: &impl Abort, rows: &[(&str, &[u8], &[u8])]) {
-    for &(row, line, stream) in rows {
-        assert!(rt; is_malformed(line, stream), "{row}");
+#[test]
+fn many_stars_answer_at_once(rt: HostRuntime) {
+    let mut pattern = [b'a'; 400];
+    for (i, item) in pattern.iter_mut().enumerate() {
+        if i % 2 == 0 {
+            *item = b'*';
+        }
     }
-}
-
-/// The front of each stream is a response of which no more is looked at than this code.
-fn have_codes(rt: &impl Abort, rows: &[(&str, &[u8], &[u8], u64)]) {
-    for &(row, line, stream, want) in rows {
-        assert_eq!(rt; plain_code(line, stream), Some(want), "{row}");
-    }
-}
-
-/// A block's lines, one after the other.
-fn has_lines(rt: &impl Abort, block: &Block<'_>, rows: &[Option<&[u8]>]) {
-    let mut lines = block.lines();
-    for &want in rows {
-        assert_eq!(rt; lines.next(), want);
-    }
+    let mut name = [b'a'; 401];
+    assert!(rt; matches(&pattern, &name) == Some(true));
+    name[400] = b'b';
+    assert!(rt; matches(&pattern, &name) == Some(false));
 }

@@ -1,0 +1,9 @@
+pub mod Rows
+pub mod Words
+pub mod Commands
+pub mod Names
+pub mod Wildmats
+pub mod Responses
+pub mod Spellings
+pub mod Articles
+pub mod Visible

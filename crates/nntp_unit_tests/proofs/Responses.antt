@@ -1,0 +1,206 @@
+-- Why a response is malformed, and which answers close the connection.
+use Rattle.std.proofs.Common.{◌≡◌, ℕ, Bool, true, false, List, [], ◌∷◌, ◌++◌, Option, None, Some, replicate, refl}
+use Rattle.std.specs.Prelude.{codes}
+use Rattle.std.specs.Char.{encode_utf8}
+use Rattle.std.specs.Str.{chars, is_utf8}
+use Rattle.nntp_wire.specs.Lines.{ended}
+use Rattle.nntp_wire.specs.Command.{form_of, request_of}
+use Rattle.nntp_wire.specs.Answer.{Asked, greeting, to, plain}
+use Rattle.nntp_wire.specs.Session.{closes}
+use Rattle.nntp_wire.specs.Misspelling.{misspelling}
+use Rattle.nntp_wire.specs.declared.misspelling.Misspelling.{Misspelling}
+use Rattle.nntp_wire.specs.declared.misspelling.Misspelling.TheVariants.{WrongOctet, TooLong, NoCode, WrongArgument, WrongLine, WrongBlock}
+use Rattle.nntp_wire.specs.declared.misspelling.Due.TheVariants.{Number, GroupName, MessageId}
+use Rattle.nntp_wire.specs.declared.misspelling.LineFault.TheVariants.{BadOctet, SingleDot, NoNumber, NoGroup, NoVersions}
+use Rattle.nntp_unit_tests.proofs.Rows.{Makes}
+
+-- what a line asks
+abbrev asked : List ℕ → Asked
+asked line = to (request_of line)
+
+-- ---- initial lines
+
+-- a line of the client, and the initial line of the response
+abbrev Initial : Type 0
+Initial = List ℕ × List ℕ
+
+-- why the initial line is none that stands alone in response to the line
+abbrev initial_reason : Initial → Option Misspelling
+initial_reason (line, initial) = misspelling (asked line) initial None
+
+abbrev initials : List (Initial × Option Misspelling)
+initials =
+    ((codes "HELP", codes "200 ok"), None)
+    ∷ ((codes "HELP", codes "200"), None)
+    ∷ ((codes "NEXT", codes "421 "), None)
+    ∷ ((codes "GROUP g", codes "411 no\tgroup"), None)
+    ∷ ((codes "HELP", codes ""), Some NoCode)
+    ∷ ((codes "HELP", codes "20 ok"), Some NoCode)
+    ∷ ((codes "HELP", codes "2000 ok"), Some NoCode)
+    ∷ ((codes "HELP", codes "2x3 ok"), Some NoCode)
+    ∷ ((codes "HELP", codes "600 ok"), Some NoCode)
+    ∷ ((codes "HELP", codes "000 ok"), Some NoCode)
+    ∷ ((codes "HELP", codes "200\tok"), Some NoCode)
+    ∷ ((codes "HELP", codes "100\tok"), Some NoCode)
+    ∷ ((codes "HELP", codes "200 h\0i"), Some WrongOctet)
+    ∷ ((codes "NEXT", codes "200 h\0i"), Some WrongOctet)
+    ∷ ((codes "HELP", codes "200 h\ri"), Some WrongOctet)
+    ∷ ((codes "HELP", codes "200 h\ni"), Some WrongOctet)
+    ∷ ((codes "HELP", codes "2 0 h\ni"), Some WrongOctet)
+    ∷ []
+
+initial_lines : Makes initial_reason initials
+unfolding form_of
+initial_lines = refl
+
+-- a code and so many octets behind it
+abbrev long_line : ℕ → List ℕ
+long_line count = codes "423 " ++ replicate count 97
+
+abbrev long_lines : List (Initial × Option Misspelling)
+long_lines =
+    ((codes "STAT 4", long_line 506), None)
+    ∷ ((codes "STAT 4", long_line 507), Some (TooLong 513))
+    ∷ ((codes "HELP", long_line 507), None)
+    ∷ []
+
+lines_of_512_and_513_octets : Makes initial_reason long_lines
+unfolding form_of
+lines_of_512_and_513_octets = refl
+
+abbrev arguments : List (Initial × Option Misspelling)
+arguments =
+    ((codes "GROUP g", codes "211 1 1 1 g"), None)
+    ∷ ((codes "GROUP g", codes "211 1 1 1 g and more"), None)
+    ∷ ((codes "GROUP g", codes "211"), Some (WrongArgument 1 Number))
+    ∷ ((codes "GROUP g", codes "211  1 1 1 g"), Some (WrongArgument 1 Number))
+    ∷ ((codes "GROUP g", codes "211 00000000000000001 1 1 g"), Some (WrongArgument 1 Number))
+    ∷ ((codes "GROUP g", codes "211 1\t1 1 g"), Some (WrongArgument 1 Number))
+    ∷ ((codes "GROUP g", codes "211 1 x 1 g"), Some (WrongArgument 2 Number))
+    ∷ ((codes "GROUP g", codes "211 1 1"), Some (WrongArgument 3 Number))
+    ∷ ((codes "GROUP g", codes "211 1 1 1"), Some (WrongArgument 4 GroupName))
+    ∷ ((codes "GROUP g", codes "211 1 1 1 a,b"), Some (WrongArgument 4 GroupName))
+    ∷ ((codes "LISTGROUP g", codes "211 1 1 -1 g"), Some (WrongArgument 3 Number))
+    ∷ ((codes "STAT 4", codes "223 4 <b@x>"), None)
+    ∷ ((codes "NEXT", codes "223 4 <b@x> more"), None)
+    ∷ ((codes "NEXT", codes "223  4 <b@x>"), Some (WrongArgument 1 Number))
+    ∷ ((codes "STAT 4", codes "223 <b@x>"), Some (WrongArgument 1 Number))
+    ∷ ((codes "LAST", codes "223 4"), Some (WrongArgument 2 MessageId))
+    ∷ ((codes "STAT 4", codes "223 4 b@x"), Some (WrongArgument 2 MessageId))
+    ∷ ((codes "NEXT", codes "223 4 <>"), Some (WrongArgument 2 MessageId))
+    ∷ ((codes "HEAD 4", codes "221 <b@x> 4"), Some (WrongArgument 1 Number))
+    ∷ ((codes "HEAD 4", codes "221 4  <b@x>"), Some (WrongArgument 2 MessageId))
+    ∷ ((codes "GROUP g", codes "411"), None)
+    ∷ []
+
+argument_reasons : Makes initial_reason arguments
+unfolding form_of chars is_utf8 encode_utf8
+argument_reasons = refl
+
+-- ---- blocks
+
+-- a line of the client, the initial line of the response, and the lines of its block as they are sent
+abbrev Whole : Type 0
+Whole = List ℕ × List ℕ × List (List ℕ)
+
+-- why these are no response to the line
+abbrev reason : Whole → Option Misspelling
+reason (line, initial, lines) = misspelling (asked line) initial (Some (ended lines))
+
+abbrev blocks : List (Whole × Option Misspelling)
+blocks =
+    ((codes "HELP", codes "100 h", codes "a" ∷ codes ".." ∷ [] ∷ []), None)
+    ∷ ((codes "HELP", codes "100 h", []), None)
+    ∷ ((codes "XOVER 1-5", codes "224 data", codes "1 x" ∷ []), None)
+    ∷ ((codes "STAT", codes "220 5 ", []), None)
+    ∷ ((codes "HELP", codes "100", codes ".x" ∷ []), Some (WrongLine 1 SingleDot))
+    ∷ ((codes "HELP", codes "100", codes ".\r." ∷ []), Some (WrongLine 1 BadOctet))
+    ∷ ((codes "HELP", codes "100", codes ".\ra" ∷ []), Some (WrongLine 1 BadOctet))
+    ∷ ((codes "HELP", codes "100", codes "a\0b" ∷ []), Some (WrongLine 1 BadOctet))
+    ∷ ((codes "HELP", codes "100", codes "a\rb" ∷ []), Some (WrongLine 1 BadOctet))
+    ∷ ((codes "HELP", codes "100", codes "a\nb" ∷ []), Some (WrongLine 1 BadOctet))
+    ∷ ((codes "HELP", codes "100 h", codes "a" ∷ codes "b\0" ∷ []), Some (WrongLine 2 BadOctet))
+    ∷ ((codes "BODY 4", codes "222 4 <b@x>", codes "a" ∷ [] ∷ codes ".b" ∷ codes "\0" ∷ []), Some (WrongLine 3 SingleDot))
+    ∷ []
+
+block_reasons : Makes reason blocks
+unfolding form_of
+block_reasons = refl
+
+abbrev lists : List (Whole × Option Misspelling)
+lists =
+    ((codes "LISTGROUP g", codes "211 2 1 2 g", codes "1" ∷ codes " 02\t" ∷ []), None)
+    ∷ ((codes "LISTGROUP g", codes "211 0 0 0 g", []), None)
+    ∷ ((codes "LISTGROUP g", codes "211 2 1 2 g", codes "1" ∷ codes "1 2" ∷ []), Some (WrongLine 2 NoNumber))
+    ∷ ((codes "LISTGROUP g", codes "211 2 1 2 g", [] ∷ codes ".1" ∷ []), Some (WrongLine 1 NoNumber))
+    ∷ ((codes "LIST", codes "215 l", codes "g 9 1 y" ∷ []), None)
+    ∷ ((codes "LIST", codes "215 l", codes "g 9 1 y" ∷ codes "g 9 1" ∷ []), Some (WrongLine 2 NoGroup))
+    ∷ ((codes "LIST", codes "215 l", codes "a,b 1 1 y" ∷ []), Some (WrongLine 1 NoGroup))
+    ∷ ((codes "LIST ACTIVE", codes "215 l", codes "g 9 1 y z" ∷ []), Some (WrongLine 1 NoGroup))
+    ∷ ((codes "LIST ACTIVE", codes "215 l", codes "g 9 -1 y" ∷ []), Some (WrongLine 1 NoGroup))
+    ∷ []
+
+list_reasons : Makes reason lists
+unfolding form_of chars is_utf8 encode_utf8
+list_reasons = refl
+
+-- what is wrong with a list of capabilities
+abbrev capabilities_reason : List (List ℕ) → Option Misspelling
+capabilities_reason lines = reason (codes "CAPABILITIES", codes "101 l", lines)
+
+abbrev no_versions : Option Misspelling
+no_versions = Some (WrongLine 1 NoVersions)
+
+abbrev capabilities : List (List (List ℕ) × Option Misspelling)
+capabilities =
+    (codes "VERSION 2" ∷ [], None)
+    ∷ (codes "version 2 3" ∷ codes "READER" ∷ [], None)
+    ∷ (codes "Version 2 10" ∷ codes "READER" ∷ [], None)
+    ∷ ([], no_versions)
+    ∷ (codes "READER" ∷ [], no_versions)
+    ∷ (codes "READER" ∷ codes "VERSION 2" ∷ [], no_versions)
+    ∷ (codes "VERSION" ∷ [], no_versions)
+    ∷ (codes "VERSION 02" ∷ [], no_versions)
+    ∷ (codes "version 02" ∷ [], no_versions)
+    ∷ (codes "VERSION 2 03" ∷ [], no_versions)
+    ∷ (codes "VERSION 2a" ∷ [], no_versions)
+    ∷ (codes "VERSION 2" ∷ codes ".x" ∷ [], Some (WrongLine 2 SingleDot))
+    ∷ []
+
+capability_reasons : Makes capabilities_reason capabilities
+unfolding form_of
+capability_reasons = refl
+
+-- a frame that was cut for LISTGROUP has a block that is none for GROUP, and the other way round
+block_of_listgroup : reason (codes "GROUP g", codes "211 1 1 1 g", codes "1" ∷ []) ≡ Some WrongBlock
+unfolding form_of chars is_utf8 encode_utf8
+block_of_listgroup = refl
+
+no_block_of_group : initial_reason (codes "LISTGROUP g", codes "211 1 1 1 g") ≡ Some WrongBlock
+unfolding form_of chars is_utf8 encode_utf8
+no_block_of_group = refl
+
+-- ---- answers that close the connection
+
+abbrev closing : List ((Asked × ℕ) × Bool)
+closing =
+    ((greeting, 200), false)
+    ∷ ((greeting, 201), false)
+    ∷ ((greeting, 400), true)
+    ∷ ((greeting, 502), true)
+    ∷ ((asked (codes "GROUP g"), 400), true)
+    ∷ ((asked (codes "QUIT"), 400), true)
+    ∷ ((asked (codes "QUIT"), 205), true)
+    ∷ ((asked (codes "QUIT"), 500), false)
+    ∷ ((asked (codes "GROUP g"), 205), false)
+    ∷ ((asked (codes "MODE READER"), 502), true)
+    ∷ ((asked (codes "MODE READER"), 200), false)
+    ∷ ((asked (codes "MODE STREAM"), 502), false)
+    ∷ ((asked (codes "GROUP g"), 502), false)
+    ∷ ((asked (codes "HELP"), 502), false)
+    ∷ ((asked (codes "HELP"), 100), false)
+    ∷ []
+
+closing_answers : Makes (λ row. closes row.0 (plain row.1)) closing
+unfolding form_of
+closing_answers = refl

@@ -1,6 +1,0 @@
-use Rattle.std.proofs.Common.{take}
-use Rattle.nntp_wire.specs.Search.{IsFrameSearched}
-use Rattle.nntp_unit_tests.proofs.wire.searches.frame_is_found.Given as goal
-
-abbrev pub invariant-loop-count : goal.invariant-loop-count
-invariant-loop-count g l = IsFrameSearched (take l.count l.stream) l.search
