@@ -235,7 +235,7 @@ fn end(pairs: &mut Pairs<'_>) -> Ending {
 }
 
 /// The session has these exchanges, and ends so each time that it is asked.
-fn has_pairing(rt: &impl Abort, (name, (client, server), exchanges, want): Row) {
+fn has_pairing(rt: &impl Abort, &(name, (client, server), exchanges, want): &Row) {
     let mut pairs = Pairs::new(client, server);
     for (index, &exchange) in exchanges.iter().enumerate() {
         assert!(rt; is_next(&mut pairs, index as u64, exchange), "{name}");
@@ -247,7 +247,7 @@ fn has_pairing(rt: &impl Abort, (name, (client, server), exchanges, want): Row) 
 
 #[test]
 fn pairings(rt: HostRuntime) {
-    for &row in ROWS {
+    for row in ROWS {
         has_pairing(&rt, row);
     }
 }

@@ -182,7 +182,8 @@ type Content = (Limit, (u64, u128, u64), &'static str);
 fn is_written(alloc: Global, spool: &Spool, text: &str) -> bool {
     let mut output = Watched::new(Vec::new(alloc));
     let has_passed = spool.write(&mut output).is_ok() && !output.failed();
-    has_passed && output.into_inner().as_slice() == text.as_bytes()
+    let octets = output.into_inner();
+    has_passed && octets.as_slice() == text.as_bytes()
 }
 
 /// Whether the spool is this one.
@@ -447,17 +448,26 @@ fn article(alloc: Global, head: &[&str], body: &[&str]) -> Result<Article, Alloc
     })
 }
 
-/// Makes the call, and gives the fault that is answered.
-fn fault_after(alloc: Global, builder: &mut SpoolBuilder, call: &Call) -> Option<SpoolFault> {
+/// Adds an article of these lines.
+fn add(
+    alloc: Global,
+    builder: &mut SpoolBuilder,
+    id: &str,
+    head: &[&str],
+    body: &[&str],
+) -> Result<(), SpoolFault> {
+    match article(alloc, head, body) {
+        Ok(article) => builder.article(id.as_bytes(), article),
+        Err(_) => Err(SpoolFault::Memory),
+    }
+}
+
+/// Makes the call, and gives what is answered.
+fn answer(alloc: Global, builder: &mut SpoolBuilder, call: &Call) -> Result<(), SpoolFault> {
     match call {
-        Group(name) => builder.group(name.as_bytes()).err(),
-        Number(name, number, id) => builder
-            .number(name.as_bytes(), *number, id.as_bytes())
-            .err(),
-        AddArticle(id, head, body) => match article(alloc, head, body) {
-            Ok(article) => builder.article(id.as_bytes(), article).err(),
-            Err(_) => Some(SpoolFault::Memory),
-        },
+        Group(name) => builder.group(name.as_bytes()),
+        Number(name, number, id) => builder.number(name.as_bytes(), *number, id.as_bytes()),
+        AddArticle(id, head, body) => add(alloc, builder, id, head, body),
     }
 }
 
@@ -479,7 +489,7 @@ fn follow(rt: &impl Abort, alloc: Global, script: &Script) {
     let mut builder = SpoolBuilder::new(alloc, script.limit);
     for (call, want) in script.calls {
         assert!(rt;
-            fault_after(alloc, &mut builder, call) == *want,
+            answer(alloc, &mut builder, call).err() == *want,
             "{}",
             script.name
         );
