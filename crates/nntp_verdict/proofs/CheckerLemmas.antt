@@ -1,6 +1,6 @@
 -- What a checker holds, as octets come.
 use Rattle.std.proofs.Common.{◌≡◌, ◌≢◌, ◌∙◌, refl, sym, ap, subst, ℕ, ◌+◌, false, List, [], ◌∷◌, ◌++◌, length, arith}
-use Rattle.std.proofs.Common.{true, append_assoc, length-append, Result, Ok, Err, MatchResult, OnOk, IfErr, ◌^◌, ◌<◌, ◌≤◌}
+use Rattle.std.proofs.Common.{append_assoc, length-append, Result, Ok, Err, MatchResult, OnOk, IfErr, ◌^◌, ◌<◌, ◌≤◌}
 use Rattle.std.proofs.lemmas.Bool.{false≢true, true≢false}
 use Rattle.std.proofs.lemmas.List.{append-nil}
 use Rattle.nntp_article.specs.Session.Limit.{profile_of}
@@ -175,12 +175,3 @@ taken-decided side octets j counts more room is = record {
       subst (λ c. StandsFor limit marks (decided j c) (client ++ given Client side octets) (server ++ given Server side octets)) (sym is)
       (decided-more limit marks j counts client server (given Client side octets) (given Server side octets) stands);
 }
-
--- where memory is refused while there is room, a judgement that goes on fails
-pub untaken-judging : {A : Type 0} (side : Side) (octets : List ℕ) (facts : FactsKept) (fed : Fed) (before after : Checker A) → checked before ≡ judging facts fed
-    → count_of side fed.counts + length octets < 2 ^ 64 → has_failed (checked after) ≡ true → IsUntaken errors.Memory side octets before after
-untaken-judging side octets facts fed before after is room refused = (
-  ap has_failed is,
-  subst (λ held. count_of side (counts_of held) + length octets < 2 ^ 64) (sym is) room,
-  refused,
-)
