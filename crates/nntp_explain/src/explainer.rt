@@ -83,33 +83,19 @@ pub fn explain<A: Allocator + Copy>(
     ensures { IfOk result (λ told. IsExplanation limit marks client.now server.now told.text.items told.is_without_fault) }
 {
     let mut explainer = Explainer::new(alloc, limit, marks);
-    let mut pairs = Pairs::new(client, server);
-    loop {
-        match pairs.next() {
-            Step::Exchange(exchange) => explainer.note(exchange)?,
-            Step::Bad { class, .. } => {
-                let index = pairs.index();
-                match class {
-                    PairClass::Malformed => {
-                        let malformed = pairs.pass_over();
-                        explainer.refuse_malformed(index, &malformed)?;
-                    }
-                    _ => {
-                        let ahead = pairs.ahead();
-                        let unanswered = pairs.count_lines_behind();
-                        return explainer.stop(index, class, ahead, unanswered);
-                    }
-                }
-            }
-            Step::End { unanswered } => return explainer.finish(pairs.index(), unanswered),
-        }
-    }
+    let is_without_fault = explainer.read(client, server)?;
+    Ok(Explanation {
+        text: explainer.text,
+        is_without_fault,
+    })
 }
 
 impl<'a, A: Allocator + Copy> Explainer<'a, A> {
     /// No answer was judged yet. It takes no memory.
     fn new(alloc: A, limit: Limit, marks: Marks) -> Explainer<'a, A>
-        ensures { (client server : List ℕ) → HasTold (profile_of limit marks) client server result (streams client server) }
+        ensures told { (client server : List ℕ) → HasTold (profile_of limit marks) client server result (streams client server) }
+        ensures limit { result.facts.limit ≡ limit }
+        ensures marks { result.facts.marks ≡ marks }
     {
         Explainer {
             alloc,
@@ -120,6 +106,35 @@ impl<'a, A: Allocator + Copy> Explainer<'a, A> {
             closing: None,
             bad: 0,
             text: Vec::new(alloc),
+        }
+    }
+
+    /// Reads both streams to their end, and tells whether no answer is bad, and all octets of the server are answers. It
+    /// has several ends, and borrows what is kept, which each of them would drop.
+    fn read(&mut self, client: &'a [u8], server: &'a [u8]) -> Result<bool, AllocError>
+        requires { HasTold (profile_kept self.old.facts) client.now server.now self.old (streams client.now server.now) }
+        ensures { IfOk result (λ good. IsExplanation self.old.facts.limit self.old.facts.marks client.now server.now self.new.text.items good) }
+    {
+        let mut pairs = Pairs::new(client, server);
+        loop {
+            match pairs.next() {
+                Step::Exchange(exchange) => self.note(exchange)?,
+                Step::Bad { class, .. } => {
+                    let index = pairs.index();
+                    match class {
+                        PairClass::Malformed => {
+                            let malformed = pairs.pass_over();
+                            self.refuse_malformed(index, &malformed)?;
+                        }
+                        _ => {
+                            let ahead = pairs.ahead();
+                            let unanswered = pairs.count_lines_behind();
+                            return self.stop(index, class, ahead, unanswered);
+                        }
+                    }
+                }
+                Step::End { unanswered } => return self.finish(pairs.index(), unanswered),
+            }
         }
     }
 
@@ -318,38 +333,35 @@ impl<'a, A: Allocator + Copy> Explainer<'a, A> {
         Ok(is_told)
     }
 
-    /// The report where octets are left that answer nothing. The index is that of their place, and `ahead` has the line
-    /// that is answered there, and the octets; behind it are so many lines.
+    /// Ends the report where octets are left that answer nothing. The index is that of their place, and `ahead` has the
+    /// line that is answered there, and the octets; behind it are so many lines.
     fn stop(
-        mut self,
+        &mut self,
         index: u64,
         class: PairClass,
         ahead: Ahead<'_>,
         unanswered: u64,
-    ) -> Result<Explanation<A>, AllocError>
-        requires few { self.bad < 2 ^ 63 }
+    ) -> Result<bool, AllocError>
+        requires few { self.old.bad < 2 ^ 63 }
         requires low { index < 2 ^ 63 }
         requires passed { class ≢ Malformed }
-        ensures { IfOk result (λ told. (limit : Limit) (marks : Marks) (client server : List ℕ) (left : Unpaired)
-            → HasTold (profile_of limit marks) client server self.entry left → Ends left (bad class) → index ≡ left.index
+        ensures { IfOk result (λ good. (limit : Limit) (marks : Marks) (client server : List ℕ) (left : Unpaired)
+            → HasTold (profile_of limit marks) client server self.old left → Ends left (bad class) → index ≡ left.index
             → option_copied ahead.entry.line ≡ line_ahead left.places → ahead.entry.rest.now ≡ left.server → unanswered ≡ count_by is_some (drop 1 left.places)
-            → IsExplanation limit marks client server told.text.items told.is_without_fault) }
+            → IsExplanation limit marks client server self.new.text.items good) }
     {
         self.refuse_octets(index, class, ahead)?;
         self.finish(index + 1, unanswered)
     }
 
-    /// The report with its last line.
-    fn finish(mut self, answers: u64, unanswered: u64) -> Result<Explanation<A>, AllocError>
-        ensures text { IfOk result (λ told. told.text.items ≡ self.entry.text.items ++ end_line answers self.entry.bad unanswered) }
-        ensures is_without_fault { IfOk result (λ told. told.is_without_fault ≡ (self.entry.bad == 0)) }
+    /// Ends the report with its last line, and tells whether no answer is bad.
+    fn finish(&mut self, answers: u64, unanswered: u64) -> Result<bool, AllocError>
+        ensures text { IfOk result (λ good. self.new.text.items ≡ self.old.text.items ++ end_line answers self.old.bad unanswered) }
+        ensures is_without_fault { IfOk result (λ good. good ≡ (self.old.bad == 0)) }
     {
         let bad = self.bad;
         put_end(&mut self.text, answers, bad, unanswered)?;
-        Ok(Explanation {
-            text: self.text,
-            is_without_fault: bad == 0,
-        })
+        Ok(bad == 0)
     }
 }
 
