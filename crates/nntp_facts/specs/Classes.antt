@@ -9,8 +9,6 @@ use Rattle.nntp_facts.specs.declared.position.Position.{Position}
 use Rattle.nntp_pair.specs.Pairing.{IsCut, IsMalformed}
 use Rattle.nntp_pair.specs.declared.class.Class.{Class}
 use Rattle.nntp_pair.specs.declared.class.Class.TheVariants.{Surplus, Cut, Malformed, OutOfPlace, Contradiction}
-use Rattle.nntp_pair.specs.declared.class.PairClass.{PairClass}
-use Rattle.nntp_pair.specs.declared.class.PairClass.TheVariants.{Surplus as PairSurplus, Cut as PairCut, Malformed as PairMalformed}
 
 -- the visible state that answers leave
 abbrev pub visible_from : Visible → List Asked → List Response → Visible
