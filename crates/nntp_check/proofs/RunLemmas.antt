@@ -1,10 +1,12 @@
 -- What a run writes, and reports on streams that are borrowed.
-use Rattle.std.proofs.Common.{◌≡◌, ◌∙◌, refl, sym, subst, ℕ, Bool, List, [], Option, None, Some, Result, Ok, Err}
+use Rattle.std.proofs.Common.{◌≡◌, ◌⊎◌, ◌∙◌, inl, inr, refl, sym, subst, ℕ, Bool, List, [], Option, None, Some, Result, Ok, Err}
 use Rattle.std.proofs.lemmas.List.{append-nil}
 use Rattle.std.specs.Io.KnownBytes.{Appends, Keeps}
 use Rattle.nntp_spool.specs.Writing.{Wrote, Writes}
 use Rattle.nntp_spool.proofs.Written.{Wrote-last}
-use Rattle.nntp_check.specs.Run.{Input, ReadsCapture, IsCutShort}
+use Rattle.nntp_check.specs.Run.{Input, ReadsCapture, IsCutShort, IsFaultOf}
+use Rattle.nntp_check.specs.declared.run_fault.RunFault.{RunFault}
+use Rattle.nntp_check.specs.declared.run_fault.RunFault.TheVariants as faults
 
 pub wrote-all : (old new : Option (List ℕ)) (octets lent : List ℕ) → lent ≡ octets → Wrote old new lent [] → Appends old new octets
 wrote-all old new octets lent is w = subst (λ (front : List ℕ). Appends old new front) (sym (append-nil w.0) ∙ sym w.1 ∙ is) w.2
@@ -34,3 +36,14 @@ cut-short Reports input old new client server spool text lent left answer captur
   left = left;
   front = subst (λ (octets : List ℕ). Wrote old new octets left) is wrote;
 }
+
+-- why a report on a capture is not written whole: memory is refused, or the writer took a front of it
+pub unwritten-whole : (Reports : List ℕ → List ℕ → List ℕ → List ℕ → Bool → Type 0) (input : Input) (old new : Option (List ℕ)) (client server spool text : List ℕ) (answer : Bool) (fault : RunFault)
+    → ReadsCapture input client server spool → Reports client server spool text answer
+    → (fault ≡ faults.Memory) ⊎ ((fault ≡ faults.Write) × ((left : List ℕ) × Wrote old new text left))
+    → IsFaultOf Reports input (record { before = old; after = new }) fault
+unwritten-whole Reports input old new client server spool text answer fault capture reports (inl is) =
+    subst (IsFaultOf Reports input (record { before = old; after = new })) (sym is) tt
+unwritten-whole Reports input old new client server spool text answer fault capture reports (inr (is, wrote)) =
+    subst (IsFaultOf Reports input (record { before = old; after = new })) (sym is)
+    (cut-short Reports input old new client server spool text text wrote.0 answer capture reports refl wrote.1)

@@ -184,38 +184,56 @@ fn limit_for(matches: &ArgMatches<'_>, task: &str) -> Limit {
     }
 }
 
+/// The program with one task more, if that could be made. (A command is many drops to check at each `?` where it is held,
+/// so it is held at this one alone.)
+fn with_task<'a>(
+    program: Command<'a>,
+    task: Result<Command<'a>, AllocError>,
+) -> Result<Command<'a>, AllocError> {
+    program.subcommand(task?)
+}
+
+/// The command of the program, with its tasks.
+fn program<'a>(alloc: Global) -> Result<Command<'a>, AllocError> {
+    let program = Command::new(alloc, "nntpcheck")
+        .version("0.1.0")
+        .about(
+            "Judges recorded NNTP reader sessions (RFC 3977): is there one collection of articles that could have given all of a server's answers?",
+        )
+        .after_help(PROGRAM_HELP)
+        .subcommand_required(true);
+    let program = with_task(program, check(alloc))?;
+    let program = with_task(program, verify(alloc))?;
+    let program = program.subcommand(show(alloc))?;
+    with_task(program, explain(alloc))
+}
+
+/// The task that the words ask for.
+fn task_asked(matches: &ArgMatches<'_>) -> Task {
+    match matches.subcommand_name() {
+        Some("verify") => Task::Verify {
+            marks: marks_for(matches, "verify"),
+        },
+        Some("show") => Task::Show,
+        Some("explain") => Task::Explain {
+            limit: limit_for(matches, "explain"),
+            marks: marks_for(matches, "explain"),
+        },
+        _ => Task::Check {
+            limit: limit_for(matches, "check"),
+            marks: marks_for(matches, "check"),
+        },
+    }
+}
+
 /// Reads the words of the command line, of which the first is the program's name, as the task that they ask for.
 ///
 /// # Errors
 ///
 /// An error of `clap` where the words are refused, where they ask for help, and where memory is refused.
 pub fn job(alloc: Global, words: &[String]) -> Result<Task, clap::Error> {
-    let command = Command::new(alloc, "nntpcheck")
-        .version("0.1.0")
-        .about(
-            "Judges recorded NNTP reader sessions (RFC 3977): is there one collection of articles that could have given all of a server's answers?",
-        )
-        .after_help(PROGRAM_HELP)
-        .subcommand_required(true)
-        .subcommand(check(alloc)?)?
-        .subcommand(verify(alloc)?)?
-        .subcommand(show(alloc))?
-        .subcommand(explain(alloc)?)?;
-    let matches = command.try_get_matches_from(words)?;
-    match matches.subcommand_name() {
-        Some("verify") => Ok(Task::Verify {
-            marks: marks_for(&matches, "verify"),
-        }),
-        Some("show") => Ok(Task::Show),
-        Some("explain") => Ok(Task::Explain {
-            limit: limit_for(&matches, "explain"),
-            marks: marks_for(&matches, "explain"),
-        }),
-        _ => Ok(Task::Check {
-            limit: limit_for(&matches, "check"),
-            marks: marks_for(&matches, "check"),
-        }),
-    }
+    let matches = program(alloc)?.try_get_matches_from(words)?;
+    Ok(task_asked(&matches))
 }
 
 /// Why there is no task: the words were refused or ask for help. Where a word that is no option stands behind the

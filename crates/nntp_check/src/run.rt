@@ -1,10 +1,10 @@
 //! Runs: what one reads is a capture, and what it writes is the report on it.
-ghost use Rattle.std.specs.Prelude.{◌≡◌, ◌≢◌, ◌↔◌, ◌||◌, ◌++◌, false, true, is_err, IfOk, IfErr, IsErrOf};
+ghost use Rattle.std.specs.Prelude.{◌≡◌, ◌≢◌, ◌↔◌, ◌⊎◌, ◌||◌, ◌++◌, false, true, ℕ, List, [], is_err, IfOk, IfErr, IsErrOf};
 ghost use Rattle.std.specs.Io.KnownBytes.{Keeps};
 ghost use Rattle.nntp_spool.specs.Watched.{inner_of, has_failed_of};
-ghost use Rattle.nntp_spool.specs.Writing.{Writes};
-ghost use Rattle.nntp_check.specs.Report.{is_permitted, text_behind, verified_report};
-ghost use Rattle.nntp_verdict.specs.Verdict.{verdict_shown};
+ghost use Rattle.nntp_spool.specs.Writing.{Wrote, Writes};
+ghost use Rattle.nntp_check.specs.Report.{is_permitted, report_of, text_behind, verified_report};
+ghost use Rattle.nntp_verdict.specs.Verdict.{verdict_shown, is_consistent};
 ghost use Rattle.nntp_check.specs.Run.{Input, Output, ReadsCapture, read_by, written_by, CheckReports, VerifyReports, ShowReports, ExplainReports};
 ghost use Rattle.nntp_check.specs.Run.{TaskReports, IsReported, IsCheckFault, IsVerifyFault, IsShowFault, IsExplainFault, IsTaskFault};
 
@@ -67,6 +67,25 @@ fn is_permitted(verified: Verified) -> bool
     }
 }
 
+/// Takes what memory the report on a verdict needs, and writes it: the answer is whether the session is consistent.
+fn report_verdict<A: Allocator + Copy, W: Write>(
+    alloc: A,
+    verdict: &Verdict<A>,
+    output: &mut Watched<W>,
+) -> Result<bool, RunFault>
+    ensures ok { IfOk result (λ answer. (answer ≡ is_consistent (verdict_shown verdict.now))
+        × Wrote (W.contents (inner_of output.old)) (W.contents (inner_of output.new)) (report_of (verdict_shown verdict.now)) []) }
+    ensures err { IfErr result (λ fault. (fault ≡ RunFault.Memory)
+        ⊎ ((fault ≡ RunFault.Write) × ((left : List ℕ) × Wrote (W.contents (inner_of output.old)) (W.contents (inner_of output.new)) (report_of (verdict_shown verdict.now)) left))) }
+    ensures unwritten { IfErr result (λ e. e ≢ RunFault.Write → output.new ≡ output.old) }
+    ensures unread { IfErr result (λ e. e ≢ RunFault.Read) }
+    ensures write_failed { has_failed_of output.old ≡ false → (IsErrOf result RunFault.Write ↔ (has_failed_of output.new ≡ true)) }
+{
+    let first = first_lines(alloc, verdict)?;
+    print_report(&first, verdict, output)?;
+    Ok(verdict.is_consistent())
+}
+
 /// Judges the session of the capture that the input has, as it comes, by the limit and the marks, and writes the report
 /// on it: the answer is whether the session is consistent. It reads at most `most` octets, up to the input's end, behind
 /// a bad answer too, and passes over spool pieces; at the first fault it ends. What memory the report needs
@@ -98,9 +117,7 @@ pub fn run_check<A: Allocator + Copy, R: Read, W: Write>(
     let mut checker = Checker::new(alloc, limit, marks);
     read_capture(input, &mut checker, most)?;
     let verdict = checker.finish()?;
-    let first = first_lines(alloc, &verdict)?;
-    print_report(&first, &verdict, output)?;
-    Ok(verdict.is_consistent())
+    report_verdict(alloc, &verdict, output)
 }
 
 /// Verifies a session by the spool whose text this is. The spool stands in the arena.
