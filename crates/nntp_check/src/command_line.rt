@@ -1,5 +1,5 @@
 //! What the command line asks for, and how the process ends.
-ghost use Rattle.std.specs.Prelude.{◌≡◌};
+ghost use Rattle.std.specs.Prelude.{◌≡◌, ◌⊎◌};
 ghost use Rattle.nntp_check.specs.CommandLine.{exit_status};
 
 use crate::run_fault::RunFault;
@@ -238,7 +238,9 @@ pub fn job(alloc: Global, words: &[String]) -> Result<Task, clap::Error> {
 
 /// Why there is no task: the words were refused or ask for help. Where a word that is no option stands behind the
 /// task, that says so.
-pub fn refusal(error: clap::Error, words: &[String]) -> Failure {
+pub fn refusal(error: clap::Error, words: &[String]) -> Failure
+    ensures { (result ≡ Failure.Words error) ⊎ (result ≡ Failure.ExtraWord error) }
+{
     if error.kind() == ErrorKind::UnknownArgument && has_extra_word(words) {
         Failure::ExtraWord(error)
     } else {
