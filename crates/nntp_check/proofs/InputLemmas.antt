@@ -1,15 +1,15 @@
 -- What a run has read, read by read.
-use Rattle.std.proofs.Common.{◌≡◌, ◌||◌, Bool, true, false, ◌≢◌, ◌∙◌, ℕ, ◌+◌, ◌<◌, ◌≤◌, List, [], ◌∷◌, ◌++◌, Option, length}
+use Rattle.std.proofs.Common.{◌≡◌, ◌||◌, Bool, true, false, ◌≢◌, ◌∙◌, ℕ, ◌+◌, ◌<◌, ◌≤◌, List, [], ◌∷◌, ◌++◌, Option, Some, None, ◌^◌, length}
 use Rattle.std.proofs.Common.{take, drop, inl, inr, refl, sym, ap, subst, append_assoc, arith, length-append}
 use Rattle.std.proofs.Math.Bool.{or-false}
 use Rattle.std.proofs.lemmas.Bool.{true≢false}
-use Rattle.std.specs.Io.KnownBytes.{Consumes, IsAtEnd}
+use Rattle.std.specs.Io.KnownBytes.{Consumes, Keeps, IsAtEnd}
 use Rattle.std.proofs.KnownBytes.{Consumes-trans}
 use Rattle.std.proofs.lemmas.List.{append-nil, take-append-drop, take-take}
 use Rattle.std.proofs.Math.Seq.{take-append_seam}
 use Rattle.nntp_check.specs.Capture.{BeginsCapture, IsBadPiece}
 use Rattle.nntp_check.specs.CaptureReading.{HasBadFront}
-use Rattle.nntp_check.specs.Run.{ReadsMore, ReadsBadPiece, IsInputFault}
+use Rattle.nntp_check.specs.Run.{ReadsFront, ReadsMore, ReadsBadPiece, IsInputFault}
 use Rattle.nntp_check.specs.Sinks.{StopsWithin, BothStand, PassesOn}
 use Rattle.nntp_check.specs.declared.capture_reader.CaptureReader.{CaptureReader}
 use Rattle.nntp_check.specs.declared.run_fault.RunFault.{RunFault}
@@ -33,6 +33,7 @@ ends-bad before old after most piece octets [] read gave none end few bad = reco
   rest = [];
   consumed = Consumes-trans before old after octets [] read gave;
   few = few;
+  near = omega arith;
   bad = inr (bad, refl, end);
 }
 ends-bad before old after most piece octets (b ∷ got) read gave none end few bad = absurd (omega arith)
@@ -40,31 +41,59 @@ ends-bad before old after most piece octets (b ∷ got) read gave none end few b
 -- within what may be read a piece is bad
 bad-within : (before old after : Option (List ℕ)) (most piece : ℕ) (octets got fitting rest : List ℕ)
     → Consumes before old octets → Consumes old after got → got ≡ fitting ++ rest → length octets + length fitting ≤ most
-    → HasBadFront octets fitting piece
+    → length got ≤ 2 ^ 16 → HasBadFront octets fitting piece
     → ReadsBadPiece (record { before = before; after = after; most = most }) piece
-bad-within before old after most piece octets got fitting rest read gave cut few h =
+bad-within before old after most piece octets got fitting rest read gave cut few near h =
     let all : octets ++ got ≡ (octets ++ h.front) ++ (h.rest ++ rest) =
     ap (λ t. octets ++ t) (cut ∙ ap (λ t. t ++ rest) h.cut ∙ append_assoc h.front h.rest rest) ∙ sym (append_assoc octets h.front (h.rest ++ rest)) in
     let many : length fitting ≡ length h.front + length h.rest = ap length h.cut ∙ length-append h.front h.rest in
     let front : length (octets ++ h.front) ≡ length octets + length h.front = length-append octets h.front in
+    let behind : length (h.rest ++ rest) ≡ length h.rest + length rest = length-append h.rest rest in
+    let all-got : length got ≡ length fitting + length rest = ap length cut ∙ length-append fitting rest in
     record {
       front = octets ++ h.front;
       rest = h.rest ++ rest;
       consumed = subst (Consumes before after) all (Consumes-trans before old after octets got read gave);
       few = omega arith;
+      near = omega (arith, behind, all-got, many, near);
       bad = inl h.bad;
     }
 
 -- why reading stops within it
 pub stops-bad : (before old after : Option (List ℕ)) (most : ℕ) (octets got fitting rest : List ℕ) (fault : RunFault)
     → Consumes before old octets → Consumes old after got → got ≡ fitting ++ rest → length octets + length fitting ≤ most
+    → length got ≤ 2 ^ 16 → BeginsCapture octets
     → StopsWithin octets fitting fault → IsInputFault (record { before = before; after = after; most = most }) fault
-stops-bad before old after most octets got fitting rest (faults.Capture piece) read gave cut few stops = bad-within before old after most piece octets got fitting rest read gave cut few stops
-stops-bad before old after most octets got fitting rest faults.Memory read gave cut few stops = stops
-stops-bad before old after most octets got fitting rest faults.Read read gave cut few stops = absurd stops
-stops-bad before old after most octets got fitting rest faults.TooLong read gave cut few stops = absurd stops
-stops-bad before old after most octets got fitting rest (faults.Spool fault) read gave cut few stops = absurd stops
-stops-bad before old after most octets got fitting rest faults.Write read gave cut few stops = absurd stops
+stops-bad before old after most octets got fitting rest (faults.Capture piece) read gave cut few near begun stops = bad-within before old after most piece octets got fitting rest read gave cut few near stops
+stops-bad before old after most octets got fitting rest faults.Memory read gave cut few near begun stops = record {
+  front = octets;
+  last = got;
+  consumed = Consumes-trans before old after octets got read gave;
+  few = omega (arith, few);
+  begun = begun;
+  near = near;
+}
+stops-bad before old after most octets got fitting rest faults.Read read gave cut few near begun stops = absurd stops
+stops-bad before old after most octets got fitting rest faults.TooLong read gave cut few near begun stops = absurd stops
+stops-bad before old after most octets got fitting rest (faults.Spool fault) read gave cut few near begun stops = absurd stops
+stops-bad before old after most octets got fitting rest faults.Write read gave cut few near begun stops = absurd stops
+
+-- a read that fails leaves what was read
+Consumes-kept : (before old after : Option (List ℕ)) (octets : List ℕ) → Consumes before old octets → Keeps old after → Consumes before after octets
+Consumes-kept None old after octets read kept = tt
+Consumes-kept (Some xs) None after octets read kept = absurd read
+Consumes-kept (Some xs) (Some ys) None octets read kept = absurd kept
+Consumes-kept (Some xs) (Some ys) (Some zs) octets read kept = read ∙ ap (λ (t : List ℕ). octets ++ t) (sym kept)
+
+-- which begins a capture then
+pub read-fails : (before old after : Option (List ℕ)) (most : ℕ) (octets : List ℕ) → Consumes before old octets → Keeps old after
+    → length octets ≤ most → BeginsCapture octets → ReadsFront (record { before = before; after = after; most = most })
+read-fails before old after most octets read kept few begun = record {
+  octets = octets;
+  consumed = Consumes-kept before old after octets read kept;
+  few = few;
+  begun = begun;
+}
 
 -- no failed read is a reason
 pub stops-unread : (octets fitting : List ℕ) (fault : RunFault) → StopsWithin octets fitting fault → fault ≢ faults.Read
@@ -73,14 +102,15 @@ stops-unread octets fitting fault stops e = subst (StopsWithin octets fitting) e
 -- more came than may be
 pub reads-more : (before old after : Option (List ℕ)) (most : ℕ) (octets got fitting rest : List ℕ) → Consumes before old octets
     → Consumes old after got → got ≡ fitting ++ rest → length octets + length fitting ≡ most → 0 < length rest
-    → BeginsCapture (octets ++ fitting) → ReadsMore (record { before = before; after = after; most = most })
-reads-more before old after most octets got fitting rest read gave cut many some begun =
+    → length got ≤ 2 ^ 16 → BeginsCapture (octets ++ fitting) → ReadsMore (record { before = before; after = after; most = most })
+reads-more before old after most octets got fitting rest read gave cut many some near begun =
     let all : octets ++ got ≡ (octets ++ fitting) ++ rest = ap (λ t. octets ++ t) cut ∙ sym (append_assoc octets fitting rest) in
     let front : length (octets ++ fitting) ≡ most = length-append octets fitting ∙ many in
     record {
       octets = octets ++ got;
       consumed = Consumes-trans before old after octets got read gave;
       many = omega (arith, ap length all, length-append (octets ++ fitting) rest);
+      near = omega (arith, length-append octets got, many, near);
       begun = subst BeginsCapture (sym (ap (take most) all ∙ ap (λ n. take n ((octets ++ fitting) ++ rest)) (sym front) ∙ take-append_seam (octets ++ fitting) rest)) begun;
     }
 

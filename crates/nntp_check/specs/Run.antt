@@ -1,5 +1,5 @@
 -- What a run reads and writes, at any reader and writer: known octets are those of the traits.
-use Rattle.std.specs.Prelude.{◌≡◌, ◌⊎◌, ℕ, ◌≤◌, ◌<◌, Bool, List, [], ◌++◌, length, take, Option, ⊤}
+use Rattle.std.specs.Prelude.{◌≡◌, ◌⊎◌, ℕ, ◌+◌, ◌≤◌, ◌<◌, ◌^◌, Bool, List, [], ◌++◌, length, take, Option}
 use Rattle.std.specs.Io.KnownBytes.{Appends, Consumes, IsAtEnd}
 use Rattle.nntp_wire.specs.declared.limit.Limit.{Limit}
 use Rattle.nntp_wire.specs.declared.marks.Marks.{Marks}
@@ -50,11 +50,28 @@ pub record ReadsAll (input : Input) (octets : List ℕ) : Type 0 where
   pub end : IsAtEnd input.after
   pub few : length octets ≤ input.most
 
--- more octets came than may be read, and as many as may be begin a capture
+-- what was read is no more octets than may be, and begins a capture: no piece of it is bad whatever follows
+pub record ReadsFront (input : Input) : Type 0 where
+  pub octets : List ℕ
+  pub consumed : Consumes input.before input.after octets
+  pub few : length octets ≤ input.most
+  pub begun : BeginsCapture octets
+
+-- so is what was read before these last octets, which one read gives
+pub record ReadsFrontBut (input : Input) : Type 0 where
+  pub front : List ℕ
+  pub last : List ℕ
+  pub consumed : Consumes input.before input.after (front ++ last)
+  pub few : length front ≤ input.most
+  pub begun : BeginsCapture front
+  pub near : length last ≤ 2 ^ 16
+
+-- more octets came than may be read, by no more than one read gives, and as many as may be begin a capture
 pub record ReadsMore (input : Input) : Type 0 where
   pub octets : List ℕ
   pub consumed : Consumes input.before input.after octets
   pub many : input.most < length octets
+  pub near : length octets ≤ input.most + 2 ^ 16
   pub begun : BeginsCapture (take input.most octets)
 
 -- what was read is a capture of these streams
@@ -63,21 +80,22 @@ pub record ReadsCapture (input : Input) (client server spool : List ℕ) : Type 
   pub all : ReadsAll input octets
   pub capture : AreStreams octets client server spool
 
--- what was read has this bad piece: a front of it, of no more octets than may be, whatever follows; or all of it, if the input ends there
+-- what was read has this bad piece: a front of it, of no more octets than may be, whatever follows; or all of it, if the input ends there. No more is behind the front than one read gives
 pub record ReadsBadPiece (input : Input) (piece : ℕ) : Type 0 where
   pub front : List ℕ
   pub rest : List ℕ
   pub consumed : Consumes input.before input.after (front ++ rest)
   pub few : length front ≤ input.most
+  pub near : length rest ≤ 2 ^ 16
   pub bad : IsBadPieceForGood front piece ⊎ (IsBadPiece front piece × (rest ≡ []) × IsAtEnd input.after)
 
--- why no capture was read
+-- why no capture was read. Where a read fails or memory is refused, no bad piece came before and not too many octets
 abbrev pub IsInputFault : Input → RunFault → Type 0
-IsInputFault input faults.Read = ⊤
+IsInputFault input faults.Read = ReadsFront input
 IsInputFault input faults.TooLong = ReadsMore input
 IsInputFault input (faults.Capture piece) = ReadsBadPiece input piece
 IsInputFault input (faults.Spool fault) = ⊥
-IsInputFault input faults.Memory = ⊤
+IsInputFault input faults.Memory = ReadsFrontBut input
 IsInputFault input faults.Write = ⊥
 
 -- the report of `check` on a client's and a server's octets, by the limit and the marks, and its answer

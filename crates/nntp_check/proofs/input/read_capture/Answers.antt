@@ -4,7 +4,7 @@ use Rattle.nntp_check.specs.declared.run_fault.RunFault.TheVariants.{Read}
 use Rattle.std.specs.Io.KnownBytes.{Consumes}
 use Rattle.std.proofs.KnownBytes.{Consumes-nil, Consumes-trans}
 use Rattle.nntp_check.proofs.BegunLemmas.{begins-capture}
-use Rattle.nntp_check.proofs.InputLemmas.{all-passed, ends-bad, stops-bad, stops-unread, reads-more, take-split, still-fresh, stays-same}
+use Rattle.nntp_check.proofs.InputLemmas.{all-passed, ends-bad, stops-bad, stops-unread, reads-more, read-fails, take-split, still-fresh, stays-same}
 use Rattle.nntp_check.proofs.input.read_capture.Goals as goal
 
 pub returns-in_err-finish-clause-err : goal.returns-in_err-finish-clause-err
@@ -30,6 +30,8 @@ returns-in_err-pass_on-clause-err g c =
     (g.R.Read.remaining c.read.new.self.inner) c.args.most before.0 got fitting (drop c.min-fitting.result got) _
     before.1.read c.in-Ok.ensures.bytes.0 (take-split c.min-fitting.result c.in-Ok.count c.read.new.buf (omega (arith, c.min-fitting.ensures)))
     (omega (arith, c.min-fitting.ensures, before.1.many, before.1.few, length-take c.min-fitting.result c.read.new.buf))
+    (omega (arith, c.in-Ok.ensures.bound, length-take c.in-Ok.count c.read.new.buf, c.read.auto.buf))
+    (begins-capture _ _ _ _ _ _ (before.1.stands c.requires.0 c.requires.1).3.0)
     (c.in_err-pass_on.ensures.err c.requires.0 before.0 (before.1.stands c.requires.0 c.requires.1)))
 
 pub returns-in_err-pass_on-clause-failed : goal.returns-in_err-pass_on-clause-failed
@@ -59,6 +61,7 @@ returns-then-fitting-count-clause-err g c =
     before.1.read c.in-Ok.ensures.bytes.0 (take-split c.min-fitting.result c.in-Ok.count c.read.new.buf (omega (arith, c.min-fitting.ensures)))
     (omega (arith, c.min-fitting.ensures, c.if-fitting-count.true, c.in-Ok.ensures.bound, before.1.many, before.1.few, length-take c.min-fitting.result c.read.new.buf))
     (omega (arith, c.if-fitting-count.true, c.in-Ok.ensures.bound, length-drop c.min-fitting.result got, length-take c.in-Ok.count c.read.new.buf))
+    (omega (arith, c.in-Ok.ensures.bound, length-take c.in-Ok.count c.read.new.buf, c.read.auto.buf))
     (begins-capture _ _ _ _ _ _ both.3.0)
 
 pub loop-count-init : goal.loop-count-init
@@ -89,3 +92,10 @@ loop-count-preserved g c =
         same = stays-same _ _ _ c.in-Ok.ensures.failed before.1.same;
       },
     )
+
+pub returns-in_default-clause-err : goal.returns-in_default-clause-err
+returns-in_default-clause-err g c =
+    let before = c.loop-count.invariant in
+    read-fails (g.R.Read.remaining c.args.input.now.inner) (g.R.Read.remaining c.loop-count.input.inner)
+    (g.R.Read.remaining c.read.new.self.inner) c.args.most before.0 before.1.read c.in_default.ensures.bytes before.1.few
+    (begins-capture _ _ _ _ _ _ (before.1.stands c.requires.0 c.requires.1).3.0)

@@ -1,9 +1,10 @@
 use Rattle.std.proofs.Common.{refl}
-use Rattle.std.proofs.lemmas.Result.{IfOk-weaker, IfErr-weaker}
+use Rattle.std.proofs.lemmas.Result.{IfOk-weaker, IfErr-weaker, err_from_is_err_and}
 use Rattle.nntp_check.specs.Report.{report_of}
-use Rattle.nntp_check.specs.Run.{read_by, CheckReports}
+use Rattle.nntp_check.specs.Run.{read_by, written_by, CheckReports}
+use Rattle.nntp_verdict.specs.CheckerView.{checked}
 use Rattle.nntp_verdict.specs.Verdict.{verdict_shown, is_consistent}
-use Rattle.nntp_check.proofs.RunLemmas.{wrote-all, unwritten-whole}
+use Rattle.nntp_check.proofs.RunLemmas.{wrote-all, unwritten-whole, unfinished-front, whole-front}
 use Rattle.nntp_check.proofs.run.run_check.Goals as goal
 
 pub read_capture-requires : goal.read_capture-requires
@@ -47,3 +48,12 @@ returns-clause-err g c =
     })
     why)
     c.report_verdict.ensures.err
+
+pub returns-in_err-verdict-clause-err : goal.returns-in_err-verdict-clause-err
+returns-in_err-verdict-clause-err g c =
+    let exit = err_from_is_err_and c.from_residual-in_err-verdict.result c.from_residual-in_err-verdict.ensures.1 in
+    let read = c.in_ok-read_capture.ensures.ok (c.args.limit, c.args.marks) c.new-checker.ensures in
+    let input = (read_by g.R.Read.remaining c.args.input.now c.read_capture.new.input c.args.most) in
+    rw (exit.1, exit.2)
+    (unfinished-front (CheckReports c.args.limit c.args.marks) input (written_by g.W.Write.contents c.args.output.now c.args.output.now)
+    c.in_err-verdict.field-0.0 (checked c.read_capture.new.sink) c.in_err-verdict.ensures (whole-front input read.0 read.1 read.2 read.3))

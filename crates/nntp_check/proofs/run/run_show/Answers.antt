@@ -1,6 +1,6 @@
 use Rattle.std.proofs.lemmas.Result.{err_from_is_err_and}
 use Rattle.nntp_check.specs.Run.{read_by, ShowReports}
-use Rattle.nntp_check.proofs.RunLemmas.{wrote-all, cut-short}
+use Rattle.nntp_check.proofs.RunLemmas.{wrote-all, cut-short, whole-front}
 use Rattle.nntp_check.proofs.run.run_show.Goals as goal
 
 pub finish-requires : goal.finish-requires
@@ -30,3 +30,9 @@ returns-clause-ok g c =
       reports = c.in_ok-shown.ensures read.0 read.1 read.2 read.4;
       whole = wrote-all (g.W.Write.contents c.args.output.now.inner) (g.W.Write.contents c.print.new.output.inner) shown.text.items c.deref.result.now c.deref.ensures.value c.in_ok-print.ensures.text;
     }
+
+pub returns-in_err-shown-clause-err : goal.returns-in_err-shown-clause-err
+returns-in_err-shown-clause-err g c =
+    let exit = err_from_is_err_and c.from_residual-in_err-shown.result c.from_residual-in_err-shown.ensures.1 in
+    let read = c.in_ok-read_capture.ensures.ok tt c.new-printer.ensures in
+    rw (exit.1, exit.2) (whole-front (read_by g.R.Read.remaining c.args.input.now c.read_capture.new.input c.args.most) read.0 read.1 read.2 read.3)

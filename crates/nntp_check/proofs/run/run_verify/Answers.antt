@@ -2,7 +2,7 @@ use Rattle.std.proofs.Common.{◌∙◌, sym, subst}
 use Rattle.std.proofs.lemmas.Result.{err_from_is_err_and}
 use Rattle.nntp_check.specs.Report.{is_permitted}
 use Rattle.nntp_check.specs.Run.{ReadsCapture, read_by, written_by, VerifyReports}
-use Rattle.nntp_check.proofs.RunLemmas.{wrote-all, cut-short}
+use Rattle.nntp_check.proofs.RunLemmas.{wrote-all, cut-short, whole-front}
 use Rattle.nntp_check.proofs.run.run_verify.Goals as goal
 
 pub returns-in_err-verified-clause-err : goal.returns-in_err-verified-clause-err
@@ -45,3 +45,9 @@ returns-clause-ok g c =
           (g.W.Write.contents c.print.new.output.inner) c.in_ok-text.text.items c.deref-4.result.now c.deref-4.ensures.value
           c.in_ok-print.ensures.text;
     }
+
+pub returns-in_err-text-clause-err : goal.returns-in_err-text-clause-err
+returns-in_err-text-clause-err g c =
+    let exit = err_from_is_err_and c.from_residual-in_err-text.result c.from_residual-in_err-text.ensures.1 in
+    let read = c.in_ok-read_capture.ensures.ok tt (c.new-streams.ensures.client, c.new-streams.ensures.server, c.new-streams.ensures.spool) in
+    rw (exit.1, exit.2) (whole-front (read_by g.R.Read.remaining c.args.input.now c.read_capture.new.input c.args.most) read.0 read.1 read.2 read.3)
