@@ -47,25 +47,27 @@ fn contents(heap: &Refusing<Global>, answer: &[u8], wanted: &[&[u8]]) -> Ended {
     right_if(headers.next().is_none())
 }
 
+/// Answers by name, and the content of each of their headers.
+const CONTENTS: [(&str, &[u8], &[&[u8]]); 2] = [
+    (
+        "a header of two lines",
+        CANCEL,
+        &[b"cancel <a@b>", b"<c@x>"],
+    ),
+    (
+        "three headers",
+        GROUPS,
+        &[
+            b"newgroup comp.x moderated",
+            b"rmgroup comp.y",
+            b"checkgroups",
+        ],
+    ),
+];
+
 #[test]
 fn contents_of_headers(rt: HostRuntime) -> Result<(), Fail> {
-    let rows: [(&str, &[u8], &[&[u8]]); 2] = [
-        (
-            "a header of two lines",
-            CANCEL,
-            &[b"cancel <a@b>", b"<c@x>"],
-        ),
-        (
-            "three headers",
-            GROUPS,
-            &[
-                b"newgroup comp.x moderated",
-                b"rmgroup comp.y",
-                b"checkgroups",
-            ],
-        ),
-    ];
-    for (name, answer, wanted) in rows {
+    for (name, answer, wanted) in CONTENTS {
         let refused = refuse_each(rt.alloc(), name, |heap| contents(heap, answer, wanted))?;
         assert!(rt; refused >= 3, "{refused}");
     }
@@ -109,21 +111,23 @@ fn controls(heap: &Refusing<Global>, answer: &[u8], wanted: &[(&[u8], &[u8])]) -
     Ended::Right
 }
 
+/// Answers by name, and what each of their Control headers says.
+const CONTROLS: [(&str, &[u8], &[(&[u8], &[u8])]); 2] = [
+    ("a cancellation", CANCEL, &[(b"cancel", b"<a@b>")]),
+    (
+        "groups",
+        GROUPS,
+        &[
+            (b"moderated newgroup", b"comp.x"),
+            (b"rmgroup", b"comp.y"),
+            (b"other", b"checkgroups"),
+        ],
+    ),
+];
+
 #[test]
 fn control_messages(rt: HostRuntime) -> Result<(), Fail> {
-    let rows: [(&str, &[u8], &[(&[u8], &[u8])]); 2] = [
-        ("a cancellation", CANCEL, &[(b"cancel", b"<a@b>")]),
-        (
-            "groups",
-            GROUPS,
-            &[
-                (b"moderated newgroup", b"comp.x"),
-                (b"rmgroup", b"comp.y"),
-                (b"other", b"checkgroups"),
-            ],
-        ),
-    ];
-    for (name, answer, wanted) in rows {
+    for (name, answer, wanted) in CONTROLS {
         let refused = refuse_each(rt.alloc(), name, |heap| controls(heap, answer, wanted))?;
         assert!(rt; refused >= 3, "{refused}");
     }

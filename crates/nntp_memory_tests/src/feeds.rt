@@ -125,13 +125,15 @@ fn feed_all(heap: Heap<'_>, feedings: &[Feeding]) -> Ended {
     Ended::Right
 }
 
+/// Feedings by name.
+const FEEDINGS: [(&str, &[Feeding]); 2] = [
+    ("a body in two pieces", &BODY),
+    ("an answer before its line", &ANSWER_FIRST),
+];
+
 #[test]
 fn streams_that_are_fed(rt: HostRuntime) -> Result<(), Fail> {
-    let rows: [(&str, &[Feeding]); 2] = [
-        ("a body in two pieces", &BODY),
-        ("an answer before its line", &ANSWER_FIRST),
-    ];
-    for (name, feedings) in rows {
+    for (name, feedings) in FEEDINGS {
         let refused = refuse_each(rt.alloc(), name, |heap| feed_all(heap, feedings))?;
         assert!(rt; refused > 1, "{name}, {refused}");
     }

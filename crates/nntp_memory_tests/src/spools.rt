@@ -56,6 +56,13 @@ const CALLS: [(Call, Result<(), SpoolFault>); 14] = [
     ),
 ];
 
+/// Ids without their articles.
+const UNKNOWN: [(Call, Result<(), SpoolFault>); 3] = [
+    (Call::Group(b"g"), Ok(())),
+    (Call::Number(b"g", 1, b"<a@b>"), Ok(())),
+    (Call::Number(b"g", 2, b"<c@d>"), Ok(())),
+];
+
 /// A number that is above a narrow limit.
 const BAD_NUMBER: [(Call, Result<(), SpoolFault>); 3] = [
     (Call::Group(b"g"), Ok(())),
@@ -179,58 +186,49 @@ const ONE_ARTICLE: Counts = Counts {
     articles: 1,
 };
 
-#[test]
-fn spools_that_are_built(rt: HostRuntime) -> Result<(), Fail> {
-    let (unknown, _) = CALLS.split_at(12);
-    let rows: [Building<'_>; 3] = [
-        (
-            "an id without its article",
-            Limit::Narrow,
-            unknown,
-            Err(SpoolFault::UnknownId),
-        ),
-        (
-            "a spool of one article",
-            Limit::Narrow,
-            CALLS.as_slice(),
-            Ok(ONE_ARTICLE),
-        ),
-        (
-            "a wide spool of one article",
-            Limit::Wide,
-            CALLS.as_slice(),
-            Ok(ONE_ARTICLE),
-        ),
-    ];
-    for row in rows {
-        refuse_building(&rt, rt.alloc(), row)?;
-    }
-    Ok(())
-}
+const NO_NUMBER: Counts = Counts {
+    groups: 1,
+    numbers: 0,
+    articles: 1,
+};
+
+const BUILDINGS: [Building<'static>; 5] = [
+    (
+        "an id without its article",
+        Limit::Narrow,
+        &UNKNOWN,
+        Err(SpoolFault::UnknownId),
+    ),
+    (
+        "a spool of one article",
+        Limit::Narrow,
+        &CALLS,
+        Ok(ONE_ARTICLE),
+    ),
+    (
+        "a wide spool of one article",
+        Limit::Wide,
+        &CALLS,
+        Ok(ONE_ARTICLE),
+    ),
+    (
+        "a number above 31 bits",
+        Limit::Narrow,
+        &BAD_NUMBER,
+        Ok(NO_NUMBER),
+    ),
+    (
+        "numbers of a wide spool",
+        Limit::Wide,
+        &WIDE_NUMBERS,
+        Ok(ONE_ARTICLE),
+    ),
+];
 
 #[test]
-fn spools_with_numbers_above_31_bits(rt: HostRuntime) -> Result<(), Fail> {
-    let no_number = Counts {
-        groups: 1,
-        numbers: 0,
-        articles: 1,
-    };
-    let rows: [Building<'_>; 2] = [
-        (
-            "a number above 31 bits",
-            Limit::Narrow,
-            BAD_NUMBER.as_slice(),
-            Ok(no_number),
-        ),
-        (
-            "numbers of a wide spool",
-            Limit::Wide,
-            WIDE_NUMBERS.as_slice(),
-            Ok(ONE_ARTICLE),
-        ),
-    ];
-    for row in rows {
-        refuse_building(&rt, rt.alloc(), row)?;
+fn spools_that_are_built(rt: HostRuntime) -> Result<(), Fail> {
+    for building in BUILDINGS {
+        refuse_building(&rt, rt.alloc(), building)?;
     }
     Ok(())
 }

@@ -1,8 +1,10 @@
 //! The command line, the words on standard error, and the exit status.
+use crate::tasks::{
+    CHECK, CHECK_STRICTLY, CHECK_WIDE, CHECK_WIDE_AND_STRICT, EXPLAIN, EXPLAIN_STRICTLY,
+    EXPLAIN_WIDE, VERIFY, VERIFY_STRICTLY,
+};
 use clap::error::ErrorKind;
 use nntp_check::{Failure, Kind, ReadFault, RunFault, Task, job, refusal, status};
-use nntp_fixtures::{check_task, explain_task, verify_task};
-use nntp_sessions::{NARROW_LENIENT, NARROW_STRICT, WIDE_LENIENT, WIDE_STRICT};
 use std::alloc::{AllocError, Global};
 use std::process::Abort;
 use std::test::Fail;
@@ -15,40 +17,33 @@ fn words(alloc: Global, of: &[&str]) -> Result<Vec<String>, AllocError> {
     Ok(words)
 }
 
+/// Words, and the task that they ask for.
+const ASKED: [(&[&str], Task); 11] = [
+    (&["nntpcheck", "check"], CHECK),
+    (&["nntpcheck", "check", "--strict-marks"], CHECK_STRICTLY),
+    (&["nntpcheck", "check", "--wide"], CHECK_WIDE),
+    (
+        &["nntpcheck", "check", "--wide", "--strict-marks"],
+        CHECK_WIDE_AND_STRICT,
+    ),
+    (
+        &["nntpcheck", "check", "--strict-marks", "--wide"],
+        CHECK_WIDE_AND_STRICT,
+    ),
+    (&["nntpcheck", "verify"], VERIFY),
+    (&["nntpcheck", "verify", "--strict-marks"], VERIFY_STRICTLY),
+    (&["nntpcheck", "show"], Task::Show),
+    (&["nntpcheck", "explain"], EXPLAIN),
+    (
+        &["nntpcheck", "explain", "--strict-marks"],
+        EXPLAIN_STRICTLY,
+    ),
+    (&["nntpcheck", "explain", "--wide"], EXPLAIN_WIDE),
+];
+
 #[test]
 fn words_that_ask_for_a_task(rt: HostRuntime) -> Result<(), Fail> {
-    let rows: [(&[&str], Task); 11] = [
-        (&["nntpcheck", "check"], check_task(NARROW_LENIENT)),
-        (
-            &["nntpcheck", "check", "--strict-marks"],
-            check_task(NARROW_STRICT),
-        ),
-        (&["nntpcheck", "check", "--wide"], check_task(WIDE_LENIENT)),
-        (
-            &["nntpcheck", "check", "--wide", "--strict-marks"],
-            check_task(WIDE_STRICT),
-        ),
-        (
-            &["nntpcheck", "check", "--strict-marks", "--wide"],
-            check_task(WIDE_STRICT),
-        ),
-        (&["nntpcheck", "verify"], verify_task(NARROW_LENIENT)),
-        (
-            &["nntpcheck", "verify", "--strict-marks"],
-            verify_task(NARROW_STRICT),
-        ),
-        (&["nntpcheck", "show"], Task::Show),
-        (&["nntpcheck", "explain"], explain_task(NARROW_LENIENT)),
-        (
-            &["nntpcheck", "explain", "--strict-marks"],
-            explain_task(NARROW_STRICT),
-        ),
-        (
-            &["nntpcheck", "explain", "--wide"],
-            explain_task(WIDE_LENIENT),
-        ),
-    ];
-    for (of, task) in rows {
+    for (of, task) in ASKED {
         let words = words(rt.alloc(), of)?;
         assert_eq!(rt; job(rt.alloc(), &words)?, task, "{of:?}");
     }
@@ -121,27 +116,31 @@ fn words_that_ask_for_no_task(rt: HostRuntime) -> Result<(), Fail> {
     Ok(())
 }
 
+/// What is told where a word that is no option stands behind the task.
+const HINT: &str = "\na capture is read from standard input: nntpcheck check < my.capture";
+
+/// Words that are refused, and whether that is told.
+const HINTS: [(&[&str], bool); 5] = [
+    (&["nntpcheck", "check", "my.capture"], true),
+    (
+        &["nntpcheck", "verify", "--strict-marks", "my.capture"],
+        true,
+    ),
+    (&["nntpcheck", "check", "--x"], false),
+    (&["nntpcheck", "my.capture"], false),
+    (&["nntpcheck"], false),
+];
+
 #[test]
 fn a_word_that_is_no_option(rt: HostRuntime) -> Result<(), Fail> {
     let alloc = rt.alloc();
-    let hint = "\na capture is read from standard input: nntpcheck check < my.capture";
-    let rows: [(&[&str], bool); 5] = [
-        (&["nntpcheck", "check", "my.capture"], true),
-        (
-            &["nntpcheck", "verify", "--strict-marks", "my.capture"],
-            true,
-        ),
-        (&["nntpcheck", "check", "--x"], false),
-        (&["nntpcheck", "my.capture"], false),
-        (&["nntpcheck"], false),
-    ];
-    for (of, has_hint) in rows {
+    for (of, has_hint) in HINTS {
         let words = words(alloc, of)?;
         match job(alloc, &words) {
             Ok(_) => assert!(rt; false, "not refused"),
             Err(error) => {
                 let told = format!(in alloc; "{}", refusal(error, &words))?;
-                assert_eq!(rt; told.ends_with(hint), has_hint, "{told}");
+                assert_eq!(rt; told.ends_with(HINT), has_hint, "{told}");
             }
         }
     }
@@ -208,26 +207,28 @@ fn help_tells_what_is_read_and_written(rt: HostRuntime) -> Result<(), Fail> {
     Ok(())
 }
 
+/// Faults, and what is told of each.
+const FAULTS: [(RunFault, &str); 6] = [
+    (RunFault::Read, "nntpcheck: read failed"),
+    (RunFault::TooLong, "nntpcheck: input too long"),
+    (
+        RunFault::Capture { piece: 7 },
+        "nntpcheck: bad capture piece 7",
+    ),
+    (
+        RunFault::Spool(ReadFault {
+            line: 12,
+            kind: Kind::DuplicateId,
+        }),
+        "nntpcheck: spool line 12 DuplicateId",
+    ),
+    (RunFault::Memory, "nntpcheck: out of memory"),
+    (RunFault::Write, "nntpcheck: write failed"),
+];
+
 #[test]
 fn faults_by_name(rt: HostRuntime) -> Result<(), Fail> {
-    let rows = [
-        (RunFault::Read, "nntpcheck: read failed"),
-        (RunFault::TooLong, "nntpcheck: input too long"),
-        (
-            RunFault::Capture { piece: 7 },
-            "nntpcheck: bad capture piece 7",
-        ),
-        (
-            RunFault::Spool(ReadFault {
-                line: 12,
-                kind: Kind::DuplicateId,
-            }),
-            "nntpcheck: spool line 12 DuplicateId",
-        ),
-        (RunFault::Memory, "nntpcheck: out of memory"),
-        (RunFault::Write, "nntpcheck: write failed"),
-    ];
-    for (fault, text) in rows {
+    for (fault, text) in FAULTS {
         let failure = Failure::Run(fault);
         assert_eq!(rt; format!(in rt.alloc(); "{failure}")?.as_str(), text);
         assert_eq!(rt; status(&Err(failure)), 3);

@@ -6,7 +6,8 @@ mod misfits;
 mod misspellings;
 
 use crate::reported::Reported;
-use crate::runs::{EXPLAIN, Run};
+use crate::runs::Run;
+use crate::tasks::EXPLAIN;
 use crate::trials::Trial;
 pub(crate) use conflicts::CONFLICTS;
 pub(crate) use endings::ENDINGS;
@@ -15,6 +16,7 @@ pub(crate) use misfits::MISFITS;
 pub(crate) use misspellings::MISSPELLINGS;
 use nntp_sessions::capture;
 use std::alloc::{AllocError, Global};
+use std::process::Abort;
 use std::test::Fail;
 
 /// Sessions with nothing that is bad.
@@ -38,14 +40,28 @@ pub(crate) const FAULTLESS: &[Reported] = &[
 ];
 
 #[test]
-fn sessions_as_they_are_explained(rt: HostRuntime) -> Result<(), Fail> {
-    Ok(Trial::Pass(4096).explained(&rt, rt.alloc())?)
-}
-
-#[test]
 fn each_kind_of_point_and_each_thing_that_is_said(rt: HostRuntime) -> Result<(), Fail> {
     Trial::Pass(4096).reports(&rt, rt.alloc(), POINTS)?;
     Ok(Trial::Pass(1).reports(&rt, rt.alloc(), SAYS)?)
+}
+
+/// Explains two streams, of which some answer is bad.
+fn expect_told(
+    rt: &impl Abort,
+    alloc: Global,
+    (client, server): (&str, &str),
+    report: &str,
+) -> Result<(), AllocError> {
+    let capture = capture(alloc, client, server)?;
+    Run::of(
+        report,
+        EXPLAIN,
+        capture.as_bytes(),
+        false,
+        report.as_bytes(),
+    )
+    .pass(rt, alloc, 4096);
+    Ok(())
 }
 
 /// A command and an answer that doesn't fit it, so many times.
@@ -81,15 +97,8 @@ fn where_it_stands_is_told_a_hundred_times(rt: HostRuntime) -> Result<(), Fail> 
     for (count, answers) in [(99, 100), (100, 101), (101, 102), (103, 104)] {
         let (client, server) = many_bad(alloc, count)?;
         let report = many_told(alloc, count, answers)?;
-        let capture = capture(alloc, client.as_str(), server.as_str())?;
-        let run = Run::of(
-            "many bad answers",
-            EXPLAIN,
-            capture.as_bytes(),
-            false,
-            report.as_bytes(),
-        );
-        run.pass(&rt, alloc, 4096);
+        let streams = (client.as_str(), server.as_str());
+        expect_told(&rt, alloc, streams, report.as_str())?;
     }
     Ok(())
 }
@@ -120,16 +129,8 @@ fn a_line_that_is_too_long(rt: HostRuntime) -> Result<(), Fail> {
     let alloc = rt.alloc();
     let (client, server) = one_octet_too_long(alloc)?;
     let report = too_long_told(alloc)?;
-    let capture = capture(alloc, client.as_str(), server.as_str())?;
-    let run = Run::of(
-        "a long line",
-        EXPLAIN,
-        capture.as_bytes(),
-        false,
-        report.as_bytes(),
-    );
-    run.pass(&rt, alloc, 4096);
-    Ok(())
+    let streams = (client.as_str(), server.as_str());
+    Ok(expect_told(&rt, alloc, streams, report.as_str())?)
 }
 
 /// A group of twenty numbers at most, and one that is the twenty-first, in both streams.
@@ -168,14 +169,6 @@ fn sixteen_reasons_are_told_of_many(rt: HostRuntime) -> Result<(), Fail> {
     let alloc = rt.alloc();
     let (client, server) = one_too_many(alloc)?;
     let report = sixteen_told(alloc)?;
-    let capture = capture(alloc, client.as_str(), server.as_str())?;
-    let run = Run::of(
-        "many reasons",
-        EXPLAIN,
-        capture.as_bytes(),
-        false,
-        report.as_bytes(),
-    );
-    run.pass(&rt, alloc, 4096);
-    Ok(())
+    let streams = (client.as_str(), server.as_str());
+    Ok(expect_told(&rt, alloc, streams, report.as_str())?)
 }

@@ -1,61 +1,42 @@
 //! Readers and writers that fail, or give and take one octet, in runs over worked sessions.
 use crate::runs::Run;
 use crate::trials::Trial;
-use nntp_check::{RunFault, run_task};
-use nntp_sessions::{Full, reader, unflushed_writer, writer};
+use nntp_check::RunFault;
+use nntp_sessions::Full;
 use std::alloc::Global;
 use std::process::Abort;
 use std::test::Fail;
 
 impl Run<'_> {
-    /// The read of this number fails.
-    fn fail_read(&self, rt: &impl Abort, alloc: Global, fails_at: u64) {
-        let mut input = reader(self.input, 3, fails_at);
-        let mut output = writer(alloc, self.report.len(), 10000, Full::Fails);
-        let outcome = run_task(alloc, self.task, &mut input, &mut output, self.most);
-        let name = self.name;
-        assert!(rt; input.failed(), "{name} at read {fails_at}");
-        self.stopped(RunFault::Read, b"")
-            .expect_end(rt, fails_at, outcome, &output.into_inner(), 0);
-    }
-
     /// Each read fails in turn, and at last one that is not made.
     pub(crate) fn fail_reads(&self, rt: &impl Abort, alloc: Global) {
         // One read for each three octets or fewer, and one that finds the end.
         let reads = (self.input.len().div_ceil(3) as u64).saturating_add(1);
+        let stopped = self.stopped(RunFault::Read, b"");
         for fails_at in 1..=reads {
-            self.fail_read(rt, alloc, fails_at);
+            Run {
+                fails_at,
+                ..stopped
+            }
+            .pass(rt, alloc, 3);
         }
-        let unread = reads.saturating_add(1);
-        let mut input = reader(self.input, 3, unread);
-        let mut output = writer(alloc, self.report.len(), 10000, Full::Fails);
-        let outcome = run_task(alloc, self.task, &mut input, &mut output, self.most);
-        self.expect_end(rt, unread, outcome, &output.into_inner(), 1);
+        let fails_at = reads.saturating_add(1);
+        Run { fails_at, ..*self }.pass(rt, alloc, 3);
     }
 
     /// The writer is full behind each octet but the last.
     pub(crate) fn fail_writes(&self, rt: &impl Abort, alloc: Global, full: Full) {
         for room in 0..self.report.len() {
-            let mut input = reader(self.input, 4096, 0);
-            let mut output = writer(alloc, room, 5, full);
-            let outcome = run_task(alloc, self.task, &mut input, &mut output, self.most);
-            let name = self.name;
-            assert!(rt; output.failed(), "{name} at octet {room}");
             let (front, _) = self.report.split_at(room);
-            self.stopped(RunFault::Write, front)
-                .expect_end(rt, room as u64, outcome, &output.into_inner(), 0);
+            let stopped = self.stopped(RunFault::Write, front);
+            stopped.pass_full(rt, alloc, (4096, 5), full);
         }
     }
 
     /// The writer takes all, and then its flush fails.
     pub(crate) fn fail_flush(&self, rt: &impl Abort, alloc: Global) {
-        let mut input = reader(self.input, 4096, 0);
-        let mut output = unflushed_writer(alloc, self.report.len());
-        let outcome = run_task(alloc, self.task, &mut input, &mut output, self.most);
-        let name = self.name;
-        assert!(rt; output.failed(), "{name}");
-        self.stopped(RunFault::Write, self.report)
-            .expect_end(rt, 0, outcome, &output.into_inner(), 1);
+        let stopped = self.stopped(RunFault::Write, self.report);
+        stopped.pass_full(rt, alloc, (4096, 4096), Full::FailsToFlush);
     }
 }
 

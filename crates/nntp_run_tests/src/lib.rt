@@ -16,6 +16,8 @@ mod runs;
 #[cfg(test)]
 mod shows;
 #[cfg(test)]
+mod tasks;
+#[cfg(test)]
 mod trials;
 #[cfg(test)]
 mod worked;

@@ -1,6 +1,7 @@
 //! Want of memory in a run: nothing is written, and the exit status is 3.
 use crate::explanations::POINTS;
-use crate::runs::{CAPTURE, CHECK, REPORT, Run, VERIFY};
+use crate::runs::{CAPTURE, REPORT, Run};
+use crate::tasks::{CHECK, VERIFY};
 use crate::trials::Trial;
 use nntp_check::{Failure, Kind, ReadFault, RunFault, Task, run_task, status};
 use nntp_little_memory::{
@@ -25,11 +26,15 @@ impl Run<'_> {
         }
     }
 
-    /// Runs with a few octets at a read.
+    /// Runs with a few octets at a read. That a read failed is told exactly where one did: behind want of memory none is
+    /// made.
     fn end<A: Allocator + Copy>(&self, alloc: Global, heap: A) -> Ended {
-        let mut input = reader(self.input, 7, 0);
+        let mut input = reader(self.input, 7, self.fails_at);
         let mut output = writer(alloc, 10000, 10000, Full::Fails);
         let outcome = run_task(heap, self.task, &mut input, &mut output, self.most);
+        if input.failed() != (outcome == Err(RunFault::Read)) {
+            return Ended::Wrong;
+        }
         self.ended(outcome, &output.into_inner())
     }
 }
@@ -60,11 +65,12 @@ pub(crate) fn give_run<'a>(rt: &impl Abort, alloc: Global, run: &Run<'a>) -> Res
 }
 
 /// Runs over captures, of which some have a fault.
-const RUNS: [Run<'static>; 5] = [
+const RUNS: [Run<'static>; 7] = [
     Run {
         name: "a session of two commands",
         task: CHECK,
         input: CAPTURE,
+        fails_at: 0,
         most: 1 << 30,
         answer: Ok(true),
         report: REPORT,
@@ -73,6 +79,7 @@ const RUNS: [Run<'static>; 5] = [
         name: "a piece that is cut",
         task: CHECK,
         input: b"client 5\nQUIT",
+        fails_at: 0,
         most: 1 << 30,
         answer: Err(RunFault::Capture { piece: 1 }),
         report: b"",
@@ -81,6 +88,7 @@ const RUNS: [Run<'static>; 5] = [
         name: "a piece that is bad behind octets of both streams",
         task: Task::Show,
         input: b"client 6\nHELP\r\nserver 8\n200 hi\r\nz",
+        fails_at: 0,
         most: 1 << 30,
         answer: Err(RunFault::Capture { piece: 3 }),
         report: b"",
@@ -89,6 +97,7 @@ const RUNS: [Run<'static>; 5] = [
         name: "a piece that is bad behind a spool",
         task: VERIFY,
         input: b"client 6\nHELP\r\nspool 8\nspool 1\nz",
+        fails_at: 0,
         most: 1 << 30,
         answer: Err(RunFault::Capture { piece: 3 }),
         report: b"",
@@ -97,8 +106,27 @@ const RUNS: [Run<'static>; 5] = [
         name: "more octets than may be read",
         task: CHECK,
         input: CAPTURE,
+        fails_at: 0,
         most: 20,
         answer: Err(RunFault::TooLong),
+        report: b"",
+    },
+    Run {
+        name: "a read that fails behind octets of both streams",
+        task: CHECK,
+        input: CAPTURE,
+        fails_at: 9,
+        most: 1 << 30,
+        answer: Err(RunFault::Read),
+        report: b"",
+    },
+    Run {
+        name: "a read that fails behind a spool",
+        task: VERIFY,
+        input: b"client 6\nHELP\r\nspool 8\nspool 1\nserver 0\n",
+        fails_at: 6,
+        most: 1 << 30,
+        answer: Err(RunFault::Read),
         report: b"",
     },
 ];
@@ -116,17 +144,12 @@ fn runs_over_captures(rt: HostRuntime) -> Result<(), Fail> {
 fn runs_over_a_text_of_no_spool(rt: HostRuntime) -> Result<(), Fail> {
     let session = capture(rt.alloc(), "QUIT\r\n", "200 hi\r\n205 bye\r\n")?;
     let capture = with_spool(rt.alloc(), session.as_str(), "spool 1\ngroup a,b 0\nend\n")?;
-    let run = Run {
-        name: "a text of no spool",
-        task: VERIFY,
-        input: capture.as_bytes(),
-        most: 1 << 30,
-        answer: Err(RunFault::Spool(ReadFault {
-            line: 2,
-            kind: Kind::Name,
-        })),
-        report: b"",
-    };
+    let fault = RunFault::Spool(ReadFault {
+        line: 2,
+        kind: Kind::Name,
+    });
+    let name = "a text of no spool";
+    let run = Run::of(name, VERIFY, capture.as_bytes(), false, b"").stopped(fault, b"");
     refuse_run(&rt, rt.alloc(), &run)?;
     Ok(())
 }

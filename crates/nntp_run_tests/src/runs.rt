@@ -1,16 +1,22 @@
 //! Runs over captures, by readers and writers that give and take a little or fail.
-use nntp_check::{Failure, Limit, Marks, RunFault, Task, run_task, status};
-use nntp_sessions::{FakeWriter, Full, cut_reader, endless_reader, reader, writer};
+use crate::tasks::{CHECK, CHECK_WIDE_AND_STRICT, EXPLAIN, VERIFY, VERIFY_STRICTLY};
+use nntp_check::{Failure, RunFault, Task, run_task, status};
+use nntp_sessions::{
+    FakeWriter, Full, capture, cut_reader, endless_reader, reader, with_spool, writer,
+};
 use std::alloc::{AllocError, Global};
 use std::process::Abort;
 use std::test::Fail;
 
-/// A run by name: its task, its input, how many octets that may have, and what it answers and writes.
+/// A run by name: its task, its input, which read of it fails, counted from 1, how many octets it may have, and what the
+/// run answers and writes.
 #[derive(Clone, Copy)]
 pub(crate) struct Run<'a> {
     pub(crate) name: &'a str,
     pub(crate) task: Task,
     pub(crate) input: &'a [u8],
+    /// No read fails where it is 0.
+    pub(crate) fails_at: u64,
     pub(crate) most: u64,
     pub(crate) answer: Result<bool, RunFault>,
     pub(crate) report: &'a [u8],
@@ -29,18 +35,20 @@ impl<'a> Run<'a> {
             name,
             task,
             input,
+            fails_at: 0,
             most: 1 << 30,
             answer: Ok(answer),
             report,
         }
     }
 
-    /// The run of a task over an input with a fault, which writes nothing.
-    fn of_fault(task: Task, input: &'a [u8], most: u64, fault: RunFault) -> Run<'a> {
+    /// The run of a task over an input with a fault, of which this read fails. It writes nothing.
+    fn of_fault(task: Task, input: &'a [u8], fails_at: u64, most: u64, fault: RunFault) -> Run<'a> {
         Run {
             name: "a fault",
             task,
             input,
+            fails_at,
             most,
             answer: Err(fault),
             report: b"",
@@ -81,13 +89,35 @@ impl<'a> Run<'a> {
 
     /// The run ends as it should, with so many octets at a read and at a write.
     pub(crate) fn pass(&self, rt: &impl Abort, alloc: Global, octets: usize) {
-        let mut input = reader(self.input, octets, 0);
-        let mut output = writer(alloc, self.report.len(), octets, Full::Fails);
+        self.pass_full(rt, alloc, (octets, octets), Full::Fails);
+    }
+
+    /// The run ends as it should, with a writer that is full behind the report. The reader fails exactly where the run
+    /// answers so, and so does the writer. No read follows one that fails.
+    pub(crate) fn pass_full(
+        &self,
+        rt: &impl Abort,
+        alloc: Global,
+        (at_a_read, at_a_write): (usize, usize),
+        full: Full,
+    ) {
+        let mut input = reader(self.input, at_a_read, self.fails_at);
+        let mut output = writer(alloc, self.report.len(), at_a_write, full);
         let outcome = run_task(alloc, self.task, &mut input, &mut output, self.most);
-        let name = self.name;
-        assert!(rt; !input.failed() && !output.failed(), "{name}");
-        let flushes = u64::from(self.answer.is_ok());
-        self.expect_end(rt, octets as u64, outcome, &output.into_inner(), flushes);
+        let Run { name, answer, .. } = *self;
+        let failed = (input.failed(), output.failed());
+        let reads = input.into_inner().reads;
+        let wanted = (
+            answer == Err(RunFault::Read),
+            answer == Err(RunFault::Write),
+        );
+        assert_eq!(rt; failed, wanted, "{name}, at {}", self.report.len());
+        assert!(rt;
+            !wanted.0 || reads == self.fails_at,
+            "{name}, {reads} reads"
+        );
+        let flushes = u64::from(answer.is_ok() || full == Full::FailsToFlush);
+        self.expect_end(rt, reads, outcome, &output.into_inner(), flushes);
     }
 }
 
@@ -97,29 +127,6 @@ pub(crate) const CAPTURE: &[u8] =
 
 pub(crate) const REPORT: &[u8] =
     b"consistent answers=3 groups=1 numbers=0 articles=0\nspool 1\ngroup g 0\nend\n";
-
-pub(crate) const CHECK: Task = Task::Check {
-    limit: Limit::Narrow,
-    marks: Marks::Lenient,
-};
-
-const CHECK_WIDE_AND_STRICT: Task = Task::Check {
-    limit: Limit::Wide,
-    marks: Marks::Strict,
-};
-
-pub(crate) const VERIFY: Task = Task::Verify {
-    marks: Marks::Lenient,
-};
-
-const VERIFY_STRICTLY: Task = Task::Verify {
-    marks: Marks::Strict,
-};
-
-pub(crate) const EXPLAIN: Task = Task::Explain {
-    limit: Limit::Narrow,
-    marks: Marks::Lenient,
-};
 
 /// Tasks, each with a capture of this session and the report on it.
 const REPORTS: [(Task, &[u8], &[u8]); 6] = [
@@ -169,94 +176,139 @@ fn report_of_a_capture(rt: HostRuntime) {
     }
 }
 
+/// Captures of this session in more pieces.
+const PIECES: [&[u8]; 3] = [
+    b"client 9\nGROUP g\r\nserver 30\n200 hi\r\n211 0 1 0 g\r\n205 bye\r\nclient 6\nQUIT\r\n",
+    b"client 0\nclient 15\nGROUP g\r\nQUIT\r\nspool 3\nxyzserver 0000000030\n200 hi\r\n211 0 1 0 g\r\n205 bye\r\n",
+    b"server 1\n2server 29\n00 hi\r\n211 0 1 0 g\r\n205 bye\r\nclient 15\nGROUP g\r\nQUIT\r\n",
+];
+
 #[test]
 fn pieces_of_one_stream_are_joined(rt: HostRuntime) {
-    let captures: [&[u8]; 3] = [
-        b"client 9\nGROUP g\r\nserver 30\n200 hi\r\n211 0 1 0 g\r\n205 bye\r\nclient 6\nQUIT\r\n",
-        b"client 0\nclient 15\nGROUP g\r\nQUIT\r\nspool 3\nxyzserver 0000000030\n200 hi\r\n211 0 1 0 g\r\n205 bye\r\n",
-        b"server 1\n2server 29\n00 hi\r\n211 0 1 0 g\r\n205 bye\r\nclient 15\nGROUP g\r\nQUIT\r\n",
-    ];
-    for capture in captures {
+    for capture in PIECES {
         Run::of("pieces", CHECK, capture, true, REPORT).pass(&rt, rt.alloc(), 4096);
     }
 }
 
+/// Octets that are no capture, or more than may be read; which read fails, if each gives one octet; how many may be read,
+/// and the fault.
+const FAULTS: [(&[u8], u64, u64, RunFault); 29] = [
+    (CAPTURE, 0, 10, RunFault::TooLong),
+    (CAPTURE, 0, 64, RunFault::TooLong),
+    (b"z", 0, 0, RunFault::TooLong),
+    (b"client 0\nz", 0, 9, RunFault::TooLong),
+    (b"client 0\nz", 0, 10, RunFault::Capture { piece: 2 }),
+    (b"client 0\nzz", 0, 10, RunFault::Capture { piece: 2 }),
+    (b"spoon 0\n", 0, 100, RunFault::Capture { piece: 1 }),
+    (b"clientserver 0\n", 0, 100, RunFault::Capture { piece: 1 }),
+    (
+        b"server 12345678901\n",
+        0,
+        100,
+        RunFault::Capture { piece: 1 },
+    ),
+    (
+        b"client 0\nclient 0\nclient 5\nQUIT",
+        0,
+        100,
+        RunFault::Capture { piece: 3 },
+    ),
+    (b"client 5\nQUIT", 0, 100, RunFault::Capture { piece: 1 }),
+    (b"x", 0, 100, RunFault::Capture { piece: 1 }),
+    (b"client", 0, 100, RunFault::Capture { piece: 1 }),
+    (b"client \n", 0, 100, RunFault::Capture { piece: 1 }),
+    (b"client  1\nx", 0, 100, RunFault::Capture { piece: 1 }),
+    (b"Client 0\n", 0, 100, RunFault::Capture { piece: 1 }),
+    (
+        b"client 00000000000\n",
+        0,
+        100,
+        RunFault::Capture { piece: 1 },
+    ),
+    (b"client 1\r\nx", 0, 100, RunFault::Capture { piece: 1 }),
+    (
+        b"client 0\nserver 01\nxspool\n",
+        0,
+        100,
+        RunFault::Capture { piece: 3 },
+    ),
+    // The first fault is told, and nothing is read behind it.
+    (b"z", 1, 100, RunFault::Read),
+    (b"z", 2, 100, RunFault::Capture { piece: 1 }),
+    (b"z", 2, 0, RunFault::TooLong),
+    (b"client 0\nz", 10, 100, RunFault::Read),
+    (b"client 0\nz", 11, 100, RunFault::Capture { piece: 2 }),
+    (b"client 0\nzz", 11, 100, RunFault::Capture { piece: 2 }),
+    (b"client 0\nz", 11, 9, RunFault::TooLong),
+    (b"client 0\nzz", 11, 9, RunFault::TooLong),
+    (b"client 0\nz", 10, 9, RunFault::Read),
+    (b"client 0\nclient", 16, 100, RunFault::Read),
+];
+
 #[test]
-fn no_capture_or_too_long(rt: HostRuntime) {
-    let rows: [(&[u8], u64, RunFault); 19] = [
-        (CAPTURE, 10, RunFault::TooLong),
-        (CAPTURE, 64, RunFault::TooLong),
-        (b"z", 0, RunFault::TooLong),
-        (b"client 0\nz", 9, RunFault::TooLong),
-        (b"client 0\nz", 10, RunFault::Capture { piece: 2 }),
-        (b"client 0\nzz", 10, RunFault::Capture { piece: 2 }),
-        (b"spoon 0\n", 100, RunFault::Capture { piece: 1 }),
-        (b"clientserver 0\n", 100, RunFault::Capture { piece: 1 }),
-        (b"server 12345678901\n", 100, RunFault::Capture { piece: 1 }),
-        (
-            b"client 0\nclient 0\nclient 5\nQUIT",
-            100,
-            RunFault::Capture { piece: 3 },
-        ),
-        (b"client 5\nQUIT", 100, RunFault::Capture { piece: 1 }),
-        (b"x", 100, RunFault::Capture { piece: 1 }),
-        (b"client", 100, RunFault::Capture { piece: 1 }),
-        (b"client \n", 100, RunFault::Capture { piece: 1 }),
-        (b"client  1\nx", 100, RunFault::Capture { piece: 1 }),
-        (b"Client 0\n", 100, RunFault::Capture { piece: 1 }),
-        (b"client 00000000000\n", 100, RunFault::Capture { piece: 1 }),
-        (b"client 1\r\nx", 100, RunFault::Capture { piece: 1 }),
-        (
-            b"client 0\nserver 01\nxspool\n",
-            100,
-            RunFault::Capture { piece: 3 },
-        ),
-    ];
-    for (octets, most, fault) in rows {
+fn faults_of_captures(rt: HostRuntime) {
+    for (octets, fails_at, most, fault) in FAULTS {
         for task in TASKS {
-            Run::of_fault(task, octets, most, fault).pass(&rt, rt.alloc(), 4096);
+            let run = Run::of_fault(task, octets, fails_at, most, fault);
+            run.pass(&rt, rt.alloc(), 1);
+            if fails_at == 0 {
+                run.pass(&rt, rt.alloc(), 4096);
+            }
         }
     }
 }
 
+/// Tasks, and the report of each on the long session.
+const LONG: [(Task, &[u8]); 4] = [
+    (
+        CHECK,
+        b"consistent answers=2 groups=0 numbers=0 articles=0\nspool 1\nend\n",
+    ),
+    (VERIFY, b"permits answers=2\n"),
+    (
+        Task::Show,
+        b"0 greeting -> 200 hi\n1 HELP -> 100 help\nend answers=2 unanswered=0\n",
+    ),
+    (EXPLAIN, b"end answers=2 bad=0 unanswered=0\n"),
+];
+
+/// A capture of an answer with more than 2^20 octets, and of a spool.
+fn capture_of_a_long_block(alloc: Global) -> Result<String, AllocError> {
+    let mut server = String::from_str(alloc, "200 hi\r\n100 help\r\n")?;
+    for _ in 0..1 << 17 {
+        server.push_str("a line\r\n")?;
+    }
+    server.push_str(".\r\n")?;
+    let capture = capture(alloc, "HELP\r\n", server.as_str())?;
+    with_spool(alloc, capture.as_str(), "spool 1\nend\n")
+}
+
+#[test]
+fn more_than_a_million_octets(rt: HostRuntime) -> Result<(), Fail> {
+    let capture = capture_of_a_long_block(rt.alloc())?;
+    for (task, report) in LONG {
+        let run = Run::of("a long block", task, capture.as_bytes(), true, report);
+        run.pass(&rt, rt.alloc(), 4096);
+    }
+    Ok(())
+}
+
+/// Fronts of inputs, and the octet of which all the rest is.
+const ENDLESS: [(&[u8], u8, RunFault); 3] = [
+    (b"client 9999999999\n", b'x', RunFault::TooLong),
+    (b"spool 0\nserver 9999999999\n", b'\n', RunFault::TooLong),
+    (b"", b'z', RunFault::Capture { piece: 1 }),
+];
+
 #[test]
 fn inputs_without_end(rt: HostRuntime) {
-    let rows: [(&[u8], u8, RunFault); 3] = [
-        (b"client 9999999999\n", b'x', RunFault::TooLong),
-        (b"spool 0\nserver 9999999999\n", b'\n', RunFault::TooLong),
-        (b"", b'z', RunFault::Capture { piece: 1 }),
-    ];
-    for (front, octet, fault) in rows {
+    for (front, octet, fault) in ENDLESS {
         for task in TASKS {
-            let run = Run::of_fault(task, front, 1000, fault);
+            let run = Run::of_fault(task, front, 0, 1000, fault);
             let mut input = endless_reader(front, octet);
             let mut output = writer(rt.alloc(), 1000, 1000, Full::Fails);
             let outcome = run_task(rt.alloc(), task, &mut input, &mut output, run.most);
             run.expect_end(&rt, 0, outcome, &output.into_inner(), 0);
-        }
-    }
-}
-
-#[test]
-fn the_first_fault_is_told(rt: HostRuntime) {
-    // One octet at a read, of which the read of this number fails.
-    let rows: [(&[u8], u64, u64, RunFault); 8] = [
-        (b"z", 1, 100, RunFault::Read),
-        (b"z", 2, 100, RunFault::Capture { piece: 1 }),
-        (b"z", 2, 0, RunFault::TooLong),
-        (b"client 0\nz", 10, 100, RunFault::Read),
-        (b"client 0\nz", 11, 100, RunFault::Capture { piece: 2 }),
-        (b"client 0\nz", 11, 9, RunFault::TooLong),
-        (b"client 0\nz", 10, 9, RunFault::Read),
-        (b"client 0\nclient", 16, 100, RunFault::Read),
-    ];
-    for (octets, fails_at, most, fault) in rows {
-        for task in TASKS {
-            let run = Run::of_fault(task, octets, most, fault);
-            let mut input = reader(octets, 1, fails_at);
-            let mut output = writer(rt.alloc(), 1000, 1000, Full::Fails);
-            let outcome = run_task(rt.alloc(), task, &mut input, &mut output, most);
-            run.expect_end(&rt, fails_at, outcome, &output.into_inner(), 0);
         }
     }
 }

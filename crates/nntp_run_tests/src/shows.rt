@@ -1,8 +1,6 @@
 //! Sessions, and what `show` prints of them.
 use crate::reported::Reported;
-use crate::trials::Trial;
 use nntp_check::Task;
-use std::test::Fail;
 
 /// A head with Control headers on several lines, and of names and verbs in several cases.
 const CONTROLS: &[u8] = b"200 hi\r\n221 0 <c@x>\r\n\
@@ -232,8 +230,3 @@ end answers=3 unanswered=0
         answer: true,
     },
 ];
-
-#[test]
-fn sessions_as_they_are_shown(rt: HostRuntime) -> Result<(), Fail> {
-    Ok(Trial::Pass(4096).shown(&rt, rt.alloc())?)
-}

@@ -1,24 +1,14 @@
 //! Runs over worked sessions, and over texts of spools.
-use crate::runs::{CHECK, Run, VERIFY};
+use crate::runs::Run;
+use crate::tasks::{CHECK, VERIFY};
 use crate::trials::Trial;
 use nntp_check::{Kind, ReadFault, RunFault};
-use nntp_sessions::{capture, each_session, with_spool};
+use nntp_sessions::{capture, with_spool};
 use std::test::Fail;
 
 #[test]
-fn reports_on_worked_sessions(rt: HostRuntime) -> Result<(), Fail> {
-    for session in each_session(rt.alloc())? {
-        Trial::Pass(4096).check(&rt, rt.alloc(), session)?;
-    }
-    Ok(())
-}
-
-#[test]
-fn runs_of_worked_sessions(rt: HostRuntime) -> Result<(), Fail> {
-    for session in each_session(rt.alloc())? {
-        Trial::Pass(4096).verify(&rt, rt.alloc(), session)?;
-    }
-    Ok(())
+fn reports_on_sessions(rt: HostRuntime) -> Result<(), Fail> {
+    Ok(Trial::Pass(4096).all(&rt, rt.alloc())?)
 }
 
 #[test]
@@ -49,35 +39,36 @@ fn the_text_of_a_spool_in_two_pieces(rt: HostRuntime) -> Result<(), Fail> {
     Ok(())
 }
 
+/// Pieces of texts that are no spool, with the line and the kind of the first fault.
+const NO_SPOOLS: [(&str, u64, Kind); 10] = [
+    ("", 1, Kind::Shape),
+    ("spool 7\nspool 1", 1, Kind::Shape),
+    ("spool 8\nspool 1\n", 2, Kind::Shape),
+    ("spool 24\nspool 1\ngroup a,b 0\nend\n", 2, Kind::Name),
+    ("spool 27\nspool 1\ngroup g 1\n0 <a@b>\n\n", 3, Kind::Number),
+    (
+        "spool 32\nspool 1\ngroup h 0\ngroup g 0\nend\n",
+        3,
+        Kind::Order,
+    ),
+    ("spool 12\nspool 1\nend\nspool 4\nend\n", 3, Kind::Shape),
+    ("spool 12\nspool 2\nend\n", 2, Kind::Shape),
+    ("spool 29\nspool 2\nlimit 2147483647\nend\n", 2, Kind::Shape),
+    (
+        "spool 35\nspool 1\ngroup g 1\n2147483648 <a@b>\n",
+        3,
+        Kind::Number,
+    ),
+];
+
 #[test]
 fn texts_of_no_spool(rt: HostRuntime) -> Result<(), Fail> {
-    let rows = [
-        ("", 1, Kind::Shape),
-        ("spool 7\nspool 1", 1, Kind::Shape),
-        ("spool 8\nspool 1\n", 2, Kind::Shape),
-        ("spool 24\nspool 1\ngroup a,b 0\nend\n", 2, Kind::Name),
-        ("spool 27\nspool 1\ngroup g 1\n0 <a@b>\n\n", 3, Kind::Number),
-        (
-            "spool 32\nspool 1\ngroup h 0\ngroup g 0\nend\n",
-            3,
-            Kind::Order,
-        ),
-        ("spool 12\nspool 1\nend\nspool 4\nend\n", 3, Kind::Shape),
-        ("spool 12\nspool 2\nend\n", 2, Kind::Shape),
-        ("spool 29\nspool 2\nlimit 2147483647\nend\n", 2, Kind::Shape),
-        (
-            "spool 35\nspool 1\ngroup g 1\n2147483648 <a@b>\n",
-            3,
-            Kind::Number,
-        ),
-    ];
     let session = capture(rt.alloc(), CLIENT, SERVER)?;
-    for (pieces, line, kind) in rows {
+    for (pieces, line, kind) in NO_SPOOLS {
         let capture = format!(in rt.alloc(); "{session}{pieces}")?;
         let fault = RunFault::Spool(ReadFault { line, kind });
-        Run::of(pieces, VERIFY, capture.as_bytes(), false, b"")
-            .stopped(fault, b"")
-            .pass(&rt, rt.alloc(), 4096);
+        let run = Run::of(pieces, VERIFY, capture.as_bytes(), false, b"");
+        run.stopped(fault, b"").pass(&rt, rt.alloc(), 4096);
     }
     Ok(())
 }

@@ -4,14 +4,14 @@ use std::alloc::Global;
 use std::io;
 use std::io::{Read, Write};
 
-/// Gives its octets a few at a read, and fails at the read of this number, counted from 1.
+/// Gives its octets a few at a read, and fails once, at the read of this number, counted from 1.
 #[derive(Drop)]
 pub struct FakeReader<'a> {
     /// The octets that come first. No read gives some of them and some of those behind.
     front: &'a [u8],
     left: &'a [u8],
     most: usize,
-    reads: u64,
+    pub reads: u64,
     fails_at: u64,
 }
 
@@ -35,7 +35,7 @@ impl<'a> Read for FakeReader<'a> {
     }
 }
 
-/// Gives these octets, `most` at a read. It fails at no read where `fails_at` is 0.
+/// Gives these octets, `most` at a read. It fails at the read of this number, and at none where that is 0.
 pub fn reader(left: &[u8], most: usize, fails_at: u64) -> Watched<FakeReader<'_>> {
     Watched::new(FakeReader {
         front: &[],
@@ -81,14 +81,19 @@ pub fn endless_reader(front: &[u8], octet: u8) -> Watched<EndlessReader<'_>> {
     Watched::new(EndlessReader { front, octet })
 }
 
-/// What a full sink does.
-#[derive(Clone, Copy)]
+/// How a full writer fails.
+#[derive(Clone, Copy, PartialEq, Eq)]
 pub enum Full {
+    /// A write fails.
     Fails,
+    /// A write takes none of some octets.
     TakesNone,
+    /// The first flush fails.
+    FailsToFlush,
 }
 
-/// Takes at most so many octets at a write, and so many in all. Where `is_flushed` is false, each flush fails.
+/// Takes at most so many octets at a write, and fails once: where it has taken `room` octets, or as it is flushed. Behind
+/// that it takes all, so that a test sees a call that is made again.
 #[derive(Drop)]
 pub struct FakeWriter {
     pub held: Vec<u8>,
@@ -96,16 +101,16 @@ pub struct FakeWriter {
     most: usize,
     full: Full,
     pub flushes: u64,
-    is_flushed: bool,
 }
 
 impl Write for FakeWriter {
     fn write(&mut self, buf: &[u8]) -> io::Result<usize> {
         let count = buf.len().min(self.room).min(self.most);
         if count == 0 && !buf.is_empty() {
+            self.room = usize::MAX;
             return match self.full {
-                Full::Fails => Err(io::Error::from(io::ErrorKind::BrokenPipe)),
                 Full::TakesNone => Ok(0),
+                _ => Err(io::Error::from(io::ErrorKind::BrokenPipe)),
             };
         }
         self.held.extend_from_slice(&buf[..count])?;
@@ -115,15 +120,14 @@ impl Write for FakeWriter {
 
     fn flush(&mut self) -> io::Result<()> {
         self.flushes = self.flushes.saturating_add(1);
-        if self.is_flushed {
-            Ok(())
-        } else {
-            Err(io::Error::from(io::ErrorKind::BrokenPipe))
+        if self.flushes == 1 && self.full == Full::FailsToFlush {
+            return Err(io::Error::from(io::ErrorKind::BrokenPipe));
         }
+        Ok(())
     }
 }
 
-/// Takes `room` octets, `most` at a write.
+/// Takes `room` octets, `most` at a write, and then fails once.
 pub fn writer(alloc: Global, room: usize, most: usize, full: Full) -> Watched<FakeWriter> {
     Watched::new(FakeWriter {
         held: Vec::new(alloc),
@@ -131,18 +135,5 @@ pub fn writer(alloc: Global, room: usize, most: usize, full: Full) -> Watched<Fa
         most,
         full,
         flushes: 0,
-        is_flushed: true,
-    })
-}
-
-/// Takes `room` octets at any number of writes, and fails at each flush.
-pub fn unflushed_writer(alloc: Global, room: usize) -> Watched<FakeWriter> {
-    Watched::new(FakeWriter {
-        held: Vec::new(alloc),
-        room,
-        most: room,
-        full: Full::Fails,
-        flushes: 0,
-        is_flushed: false,
     })
 }

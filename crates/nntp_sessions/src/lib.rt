@@ -11,8 +11,7 @@ mod written;
 
 pub use choice::{CHOICES, Choice, NARROW_LENIENT, NARROW_STRICT, WIDE_LENIENT, WIDE_STRICT};
 pub use fakes::{
-    EndlessReader, FakeReader, FakeWriter, Full, cut_reader, endless_reader, reader,
-    unflushed_writer, writer,
+    EndlessReader, FakeReader, FakeWriter, Full, cut_reader, endless_reader, reader, writer,
 };
 pub use marks::{Outcome, Row, each_row};
 pub use random::{BASES, Random, Wandering};

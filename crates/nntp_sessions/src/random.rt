@@ -9,8 +9,8 @@ pub struct Random {
     base: u64,
 }
 
-/// Numbers below those that random sessions have: 0, and of each limit a number shortly below it.
-pub const BASES: [u64; 3] = [0, 2_147_483_642, 9_999_999_999_999_993];
+/// Numbers below those that random sessions have: 0, and one shortly below the narrow limit.
+pub const BASES: [u64; 2] = [0, 2_147_483_642];
 
 /// Commands and answers, `/` between their lines. `$g` is a group, `$n` a number and `$i` an id, the same
 /// each time; `$m` is any number, `$j` any id, `$M` are marks, `$L` is a list, `$R` a range, `$H` a head and
@@ -193,8 +193,7 @@ impl Random {
     }
 }
 
-/// Writes octets, CRLF for each `/`, and for `#` and a digit the number that is so far above the base. No number has
-/// more than 16 digits.
+/// Writes octets, CRLF for each `/`, and for `#` and a digit the number that is so far above the base.
 fn put_lines(
     alloc: Global,
     stream: &mut Vec<u8>,
@@ -205,7 +204,7 @@ fn put_lines(
     for octet in octets {
         if is_number {
             let above = u64::from(octet.saturating_sub(b'0'));
-            let number = base.saturating_add(above).min(9_999_999_999_999_999);
+            let number = base.saturating_add(above);
             stream.extend_from_slice(format!(in alloc; "{number}")?.as_bytes())?;
         } else if *octet == b'/' {
             stream.extend_from_slice(b"\r\n")?;

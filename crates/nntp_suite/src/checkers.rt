@@ -53,16 +53,22 @@ pub(crate) fn expect_split(
 /// round the whole stream of the server.
 fn split_everywhere(rt: &impl Abort, alloc: Global, session: &Session) -> Result<(), Fail> {
     let report = session.report(alloc)?;
-    let wanted = report.as_bytes();
     let Session { name, choice, .. } = *session;
     let (client, server) = session.streams();
-    for place in 0..server.len() {
-        let places = (client.len(), place);
-        expect_split(rt, alloc, choice, name, (client, server), places, wanted)?;
-    }
-    for place in 0..client.len() {
-        let places = (place, server.len());
-        expect_split(rt, alloc, choice, name, (client, server), places, wanted)?;
+    for place in 0..server.len() + client.len() {
+        let places = match place.checked_sub(server.len()) {
+            None => (client.len(), place),
+            Some(at) => (at, server.len()),
+        };
+        expect_split(
+            rt,
+            alloc,
+            choice,
+            name,
+            (client, server),
+            places,
+            report.as_bytes(),
+        )?;
     }
     Ok(())
 }
@@ -75,197 +81,155 @@ fn sessions_in_two_pieces(rt: HostRuntime) -> Result<(), Fail> {
     Ok(())
 }
 
-/// Gives the client's octets one by one.
-fn feed_client_slowly(checker: &mut Checker, octets: &[u8]) -> Result<(), CheckError> {
-    for octet in octets {
-        checker.feed_client(&[*octet])?;
-    }
-    Ok(())
-}
-
-/// Gives the server's octets one by one, and expects what is told as bad to stay.
-fn feed_server_slowly(
+/// Gives a piece of each stream. An answer that was told as bad is told still.
+fn feed(
     rt: &impl Abort,
     checker: &mut Checker,
-    octets: &[u8],
     name: &str,
-) -> Result<(), Fail> {
-    let mut told = checker.bad();
-    for octet in octets {
-        checker.feed_server(&[*octet])?;
-        let now = checker.bad();
-        assert!(rt;
-            told.is_none() || told == now,
-            "{name}, another answer is told as bad"
-        );
-        told = now;
-    }
+    (client, server): (&[u8], &[u8]),
+) -> Result<(), CheckError> {
+    let told = checker.bad();
+    checker.feed_client(client)?;
+    checker.feed_server(server)?;
+    let is_told = told.is_none() || told == checker.bad();
+    assert!(rt; is_told, "{name}, another answer is told as bad");
     Ok(())
 }
 
-/// In which order the octets of both streams come.
-#[derive(Clone, Copy, Debug, PartialEq, Eq)]
+/// In which pieces the octets of both streams come: of one octet, or of 0 to 7.
+#[derive(Clone, Copy)]
 enum Order {
     ClientFirst,
     ServerFirst,
     InTurn,
+    AtRandom,
 }
 
-/// Gives the octets of both streams in turn.
-fn feed_in_turn(checker: &mut Checker, client: &[u8], server: &[u8]) -> Result<(), CheckError> {
-    for at in 0..client.len().max(server.len()) {
-        if let Some(octet) = client.get(at) {
-            checker.feed_client(&[*octet])?;
-        }
-        if let Some(octet) = server.get(at) {
-            checker.feed_server(&[*octet])?;
-        }
+/// In each order.
+const ORDERS: [Order; 4] = [
+    Order::ClientFirst,
+    Order::ServerFirst,
+    Order::InTurn,
+    Order::AtRandom,
+];
+
+impl Order {
+    /// How many octets come next of the client and of the server, where so many are left of them.
+    fn next(self, random: &mut Random, client: usize, server: usize) -> (usize, usize) {
+        let (of_client, of_server) = match self {
+            Order::ClientFirst => (1, usize::from(client == 0)),
+            Order::ServerFirst => (usize::from(server == 0), 1),
+            Order::InTurn => (1, 1),
+            Order::AtRandom => (random.below(8), random.below(8)),
+        };
+        (of_client.min(client), of_server.min(server))
     }
-    Ok(())
 }
 
-/// Gives the octets of both streams one by one.
-fn feed_by_octets(
+/// Gives both streams of a session in this order.
+fn feed_all(
     rt: &impl Abort,
-    checker: &mut Checker,
-    session: &Session,
-    order: Order,
-) -> Result<(), Fail> {
-    let client = session.client.as_bytes();
-    let server = session.server.as_bytes();
-    match order {
-        Order::ClientFirst => {
-            feed_client_slowly(checker, client)?;
-            feed_server_slowly(rt, checker, server, session.name)
-        }
-        Order::ServerFirst => {
-            feed_server_slowly(rt, checker, server, session.name)?;
-            feed_client_slowly(checker, client)?;
-            Ok(())
-        }
-        Order::InTurn => {
-            feed_in_turn(checker, client, server)?;
-            Ok(())
-        }
-    }
-}
-
-/// Expects the verdict on a session whose octets come one by one.
-fn expect_by_octets(
-    rt: &impl Abort,
-    alloc: Global,
-    session: &Session,
-    order: Order,
-) -> Result<(), Fail> {
-    let wanted = session.report(alloc)?;
-    let mut checker = checker_by(session.choice, alloc);
-    feed_by_octets(rt, &mut checker, session, order)?;
-    expect_verdict(rt, alloc, session.name, checker, wanted.as_bytes())
-}
-
-#[test]
-fn sessions_by_octets(rt: HostRuntime) -> Result<(), Fail> {
-    for session in each_session(rt.alloc())? {
-        for order in [Order::ClientFirst, Order::ServerFirst, Order::InTurn] {
-            expect_by_octets(&rt, rt.alloc(), session, order)?;
-        }
-    }
-    Ok(())
-}
-
-/// Gives both streams in pieces of 0 to 7 octets, of one or the other as it comes.
-fn feed_at_random(
     checker: &mut Checker,
     random: &mut Random,
     session: &Session,
+    order: Order,
 ) -> Result<(), CheckError> {
-    let mut client = session.client.as_bytes();
-    let mut server = session.server.as_bytes();
+    let (mut client, mut server) = session.streams();
     for _ in 0..client.len() + server.len() {
-        let (piece, rest) = client.split_at(random.below(8).min(client.len()));
-        checker.feed_client(piece)?;
-        client = rest;
-        let (piece, rest) = server.split_at(random.below(8).min(server.len()));
-        checker.feed_server(piece)?;
-        server = rest;
+        let (of_client, of_server) = order.next(random, client.len(), server.len());
+        let (client_piece, client_rest) = client.split_at(of_client);
+        let (server_piece, server_rest) = server.split_at(of_server);
+        feed(rt, checker, session.name, (client_piece, server_piece))?;
+        client = client_rest;
+        server = server_rest;
     }
-    checker.feed_client(client)?;
-    checker.feed_server(server)
+    feed(rt, checker, session.name, (client, server))
 }
 
 #[test]
-fn sessions_in_pieces_at_random(rt: HostRuntime) -> Result<(), Fail> {
+fn sessions_in_pieces(rt: HostRuntime) -> Result<(), Fail> {
     let mut random = Random::new(16, 0);
     for session in each_session(rt.alloc())? {
         let wanted = session.report(rt.alloc())?;
-        let mut checker = checker_by(session.choice, rt.alloc());
-        feed_at_random(&mut checker, &mut random, session)?;
-        expect_verdict(&rt, rt.alloc(), session.name, checker, wanted.as_bytes())?;
+        for order in ORDERS {
+            let mut checker = checker_by(session.choice, rt.alloc());
+            feed_all(&rt, &mut checker, &mut random, session, order)?;
+            expect_verdict(&rt, rt.alloc(), session.name, checker, wanted.as_bytes())?;
+        }
     }
     Ok(())
 }
 
-/// Gives a QUIT and its answer, and then octets behind that, in two pieces.
-fn feed_after_quit(rt: &impl Abort, checker: &mut Checker) -> Result<(), CheckError> {
-    checker.feed_client(b"QUIT\r\n")?;
-    checker.feed_server(b"200 hi\r\n205 bye\r\n")?;
-    assert!(rt; checker.bad().is_none(), "nothing is bad so far");
-    checker.feed_server(b"x")?;
-    assert_eq!(rt; checker.bad(), Some((2, Class::Surplus)));
-    checker.feed_server(b"y\r\n")?;
-    assert_eq!(rt; checker.bad(), Some((2, Class::Surplus)));
+/// Pieces of both streams, which answer is told as bad behind each, and the report in the end.
+#[derive(Clone, Copy)]
+struct Telling {
+    name: &'static str,
+    pieces: &'static [(&'static [u8], &'static [u8], Option<(u64, Class)>)],
+    report: &'static [u8],
+}
+
+const SURPLUS: Option<(u64, Class)> = Some((2, Class::Surplus));
+
+const OUT_OF_PLACE: Option<(u64, Class)> = Some((1, Class::OutOfPlace));
+
+const TELLINGS: [Telling; 4] = [
+    Telling {
+        name: "octets on a closed connection",
+        pieces: &[
+            (b"QUIT\r\n", b"200 hi\r\n205 bye\r\n", None),
+            (b"", b"x", SURPLUS),
+            (b"", b"y\r\n", SURPLUS),
+        ],
+        report: b"bad answer 2 Surplus\nno command\nanswer xy\n",
+    },
+    Telling {
+        name: "a line on a closed connection",
+        pieces: &[
+            (b"QUIT\r\n", b"200 hi\r\n205 bye\r\n", None),
+            (b"", b"x", SURPLUS),
+            (b"", b"y\r\n", SURPLUS),
+            (b"GROUP g\r\n", b"", SURPLUS),
+        ],
+        report: b"bad answer 2 Surplus\ncommand GROUP g\nanswer xy\n",
+    },
+    Telling {
+        name: "an answer that comes before its line",
+        pieces: &[
+            (b"", b"200 hi\r\n411 no\r\n", None),
+            (b"GROUP g\r\n", b"", None),
+        ],
+        report: b"consistent answers=2 groups=0 numbers=0 articles=0\nspool 1\nend\n",
+    },
+    Telling {
+        name: "a bad answer stays",
+        pieces: &[
+            (
+                b"NEXT\r\nGROUP g\r\n",
+                b"200 hi\r\n223 1 <a@b>\r\n",
+                OUT_OF_PLACE,
+            ),
+            (b"", b"411 no\r\n2", OUT_OF_PLACE),
+            (b"QUIT\r\n", b"", OUT_OF_PLACE),
+        ],
+        report: b"bad answer 1 OutOfPlace\ncommand NEXT\nanswer 223 1 <a@b>\n",
+    },
+];
+
+/// Gives the pieces, and expects what is told behind each.
+fn tell(rt: &impl Abort, checker: &mut Checker, telling: &Telling) -> Result<(), CheckError> {
+    for (client, server, told) in telling.pieces {
+        feed(rt, checker, telling.name, (*client, *server))?;
+        assert_eq!(rt; checker.bad(), *told, "{}", telling.name);
+    }
     Ok(())
 }
 
 #[test]
-fn octets_on_a_closed_connection(rt: HostRuntime) -> Result<(), Fail> {
-    let mut checker = checker_by(NARROW_LENIENT, rt.alloc());
-    feed_after_quit(&rt, &mut checker)?;
-    let wanted = b"bad answer 2 Surplus\nno command\nanswer xy\n";
-    expect_verdict(&rt, rt.alloc(), "no line follows", checker, wanted)
-}
-
-#[test]
-fn a_line_on_a_closed_connection(rt: HostRuntime) -> Result<(), Fail> {
-    let mut checker = checker_by(NARROW_LENIENT, rt.alloc());
-    feed_after_quit(&rt, &mut checker)?;
-    checker.feed_client(b"GROUP g\r\n")?;
-    let wanted = b"bad answer 2 Surplus\ncommand GROUP g\nanswer xy\n";
-    expect_verdict(&rt, rt.alloc(), "a line follows", checker, wanted)
-}
-
-/// Gives an answer, and then the line that it answers.
-fn feed_answer_first(rt: &impl Abort, checker: &mut Checker) -> Result<(), CheckError> {
-    checker.feed_server(b"200 hi\r\n411 no\r\n")?;
-    assert!(rt; checker.bad().is_none(), "the line may come");
-    checker.feed_client(b"GROUP g\r\n")?;
-    assert!(rt; checker.bad().is_none(), "the line came");
+fn what_is_told_as_bad_while_octets_come(rt: HostRuntime) -> Result<(), Fail> {
+    for telling in &TELLINGS {
+        let mut checker = checker_by(NARROW_LENIENT, rt.alloc());
+        tell(&rt, &mut checker, telling)?;
+        expect_verdict(&rt, rt.alloc(), telling.name, checker, telling.report)?;
+    }
     Ok(())
-}
-
-#[test]
-fn an_answer_that_comes_before_its_line(rt: HostRuntime) -> Result<(), Fail> {
-    let mut checker = checker_by(NARROW_LENIENT, rt.alloc());
-    feed_answer_first(&rt, &mut checker)?;
-    let wanted = b"consistent answers=2 groups=0 numbers=0 articles=0\nspool 1\nend\n";
-    expect_verdict(&rt, rt.alloc(), "an answer first", checker, wanted)
-}
-
-/// Gives an answer out of place, and then another answer and another line.
-fn feed_out_of_place(rt: &impl Abort, checker: &mut Checker) -> Result<(), CheckError> {
-    checker.feed_client(b"NEXT\r\nGROUP g\r\n")?;
-    checker.feed_server(b"200 hi\r\n223 1 <a@b>\r\n")?;
-    assert_eq!(rt; checker.bad(), Some((1, Class::OutOfPlace)));
-    checker.feed_server(b"411 no\r\n2")?;
-    checker.feed_client(b"QUIT\r\n")?;
-    assert_eq!(rt; checker.bad(), Some((1, Class::OutOfPlace)));
-    Ok(())
-}
-
-#[test]
-fn a_bad_answer_stays(rt: HostRuntime) -> Result<(), Fail> {
-    let mut checker = checker_by(NARROW_LENIENT, rt.alloc());
-    feed_out_of_place(&rt, &mut checker)?;
-    let wanted = b"bad answer 1 OutOfPlace\ncommand NEXT\nanswer 223 1 <a@b>\n";
-    expect_verdict(&rt, rt.alloc(), "an answer out of place", checker, wanted)
 }

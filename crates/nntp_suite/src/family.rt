@@ -1,5 +1,5 @@
-//! Every session of at most three exchanges out of twelve, by each choice, and one of a thousand groups: all judges
-//! agree, and each spool that is given is read back and permitted.
+//! Every session of at most three exchanges out of twelve, by lenient and by strict marks, and one of a thousand groups:
+//! all judges agree, and each spool that is given is read back and permitted.
 use crate::checkers::expect_split;
 use crate::expectations::{expect_verified, expect_written};
 use crate::given_spools::put;
@@ -8,8 +8,7 @@ use crate::written::written;
 use nntp_check::Task;
 use nntp_fixtures::{check_by, check_task, shown, verify_task};
 use nntp_sessions::{
-    CHOICES, Choice, NARROW_LENIENT, NARROW_STRICT, WIDE_LENIENT, WIDE_STRICT, capture,
-    verified_report, with_spool,
+    CHOICES, Choice, NARROW_LENIENT, NARROW_STRICT, capture, verified_report, with_spool,
 };
 use nntp_spool::Verified;
 use std::alloc::{AllocError, Global};
@@ -248,20 +247,6 @@ fn at_most_three_exchanges(rt: HostRuntime) -> Result<(), Fail> {
 #[test]
 fn at_most_three_exchanges_with_strict_marks(rt: HostRuntime) -> Result<(), Fail> {
     let family = count_family(&rt, rt.alloc(), NARROW_STRICT)?;
-    assert_eq!(rt; family, STRICT);
-    Ok(())
-}
-
-#[test]
-fn at_most_three_exchanges_with_wide_numbers(rt: HostRuntime) -> Result<(), Fail> {
-    let family = count_family(&rt, rt.alloc(), WIDE_LENIENT)?;
-    assert_eq!(rt; family, LENIENT);
-    Ok(())
-}
-
-#[test]
-fn at_most_three_exchanges_with_wide_numbers_and_strict_marks(rt: HostRuntime) -> Result<(), Fail> {
-    let family = count_family(&rt, rt.alloc(), WIDE_STRICT)?;
     assert_eq!(rt; family, STRICT);
     Ok(())
 }

@@ -71,36 +71,55 @@ impl Said {
     }
 }
 
+const GROUP: Long = Long {
+    text: "GROUP g",
+    letters: 0,
+};
+
+const DENIED: Long = Long {
+    text: "411 no",
+    letters: 0,
+};
+
+const UNKNOWN: Long = Long {
+    text: "XFOO",
+    letters: 0,
+};
+
+/// A GROUP of 510 octets, and of 511.
+const GROUP_510: Long = Long {
+    text: "GROUP ",
+    letters: 504,
+};
+
+const GROUP_511: Long = Long {
+    text: "GROUP ",
+    letters: 505,
+};
+
+/// A 411 of 510 octets, and of 511.
+const DENIED_510: Long = Long {
+    text: "411 ",
+    letters: 506,
+};
+
+const DENIED_511: Long = Long {
+    text: "411 ",
+    letters: 507,
+};
+
+/// Lines and their answers.
+const LINES: [(Long, Long, Said); 5] = [
+    (GROUP_510, DENIED, Said::Consistent),
+    (GROUP_511, DENIED, Said::OutOfPlace),
+    (GROUP, DENIED_510, Said::Consistent),
+    (GROUP, DENIED_511, Said::Malformed),
+    (UNKNOWN, DENIED_511, Said::Consistent),
+];
+
 #[test]
 fn lines_of_512_octets_and_more(rt: HostRuntime) -> Result<(), Fail> {
-    let group = Long {
-        text: "GROUP g",
-        letters: 0,
-    };
-    let denied = Long {
-        text: "411 no",
-        letters: 0,
-    };
-    let unknown = Long {
-        text: "XFOO",
-        letters: 0,
-    };
-    let command = |letters: usize| Long {
-        text: "GROUP ",
-        letters,
-    };
-    let answer = |letters: usize| Long {
-        text: "411 ",
-        letters,
-    };
-    let rows = [
-        (command(504), denied, Said::Consistent),
-        (command(505), denied, Said::OutOfPlace),
-        (group, answer(506), Said::Consistent),
-        (group, answer(507), Said::Malformed),
-        (unknown, answer(507), Said::Consistent),
-    ];
-    for (line, answer, said) in rows {
+    for (line, answer, said) in LINES {
         let line = line.spell(rt.alloc())?;
         let answer = answer.spell(rt.alloc())?;
         let client = format!(in rt.alloc(); "{line}\r\n")?;
@@ -112,41 +131,43 @@ fn lines_of_512_octets_and_more(rt: HostRuntime) -> Result<(), Fail> {
     Ok(())
 }
 
+/// What the client and the server send, with an octet that no line has; what is told of it, and what is written.
+const OCTETS: [(&str, &str, &str, &str); 5] = [
+    (
+        "",
+        "200 h\0i\r\n",
+        "bad answer 0 Malformed\nno command\nanswer 200 h\0i\n",
+        "bad answer 0 Malformed\nno command\nanswer 200 h\\x00i\n",
+    ),
+    (
+        "",
+        "200 h\ri\r\n",
+        "bad answer 0 Malformed\nno command\nanswer 200 h\ri\n",
+        "bad answer 0 Malformed\nno command\nanswer 200 h\\x0di\n",
+    ),
+    (
+        "",
+        "200 h\ni\r\n",
+        "bad answer 0 Malformed\nno command\nanswer 200 h\ni\n",
+        "bad answer 0 Malformed\nno command\nanswer 200 h\\x0ai\n",
+    ),
+    (
+        "GROUP g\n\r\n",
+        "200 hi\r\n411 no\r\n",
+        "bad answer 1 OutOfPlace\ncommand GROUP g\n\nanswer 411 no\n",
+        "bad answer 1 OutOfPlace\ncommand GROUP g\\x0a\nanswer 411 no\n",
+    ),
+    (
+        "GROUP g\r\r\n",
+        "200 hi\r\n411 no\r\n",
+        "bad answer 1 OutOfPlace\ncommand GROUP g\r\nanswer 411 no\n",
+        "bad answer 1 OutOfPlace\ncommand GROUP g\\x0d\nanswer 411 no\n",
+    ),
+];
+
 #[test]
 fn octets_that_no_line_has(rt: HostRuntime) -> Result<(), Fail> {
-    let rows = [
-        (
-            "",
-            "200 h\0i\r\n",
-            "bad answer 0 Malformed\nno command\nanswer 200 h\0i\n",
-            "bad answer 0 Malformed\nno command\nanswer 200 h\\x00i\n",
-        ),
-        (
-            "",
-            "200 h\ri\r\n",
-            "bad answer 0 Malformed\nno command\nanswer 200 h\ri\n",
-            "bad answer 0 Malformed\nno command\nanswer 200 h\\x0di\n",
-        ),
-        (
-            "",
-            "200 h\ni\r\n",
-            "bad answer 0 Malformed\nno command\nanswer 200 h\ni\n",
-            "bad answer 0 Malformed\nno command\nanswer 200 h\\x0ai\n",
-        ),
-        (
-            "GROUP g\n\r\n",
-            "200 hi\r\n411 no\r\n",
-            "bad answer 1 OutOfPlace\ncommand GROUP g\n\nanswer 411 no\n",
-            "bad answer 1 OutOfPlace\ncommand GROUP g\\x0a\nanswer 411 no\n",
-        ),
-        (
-            "GROUP g\r\r\n",
-            "200 hi\r\n411 no\r\n",
-            "bad answer 1 OutOfPlace\ncommand GROUP g\r\nanswer 411 no\n",
-            "bad answer 1 OutOfPlace\ncommand GROUP g\\x0d\nanswer 411 no\n",
-        ),
-    ];
-    for (client, server, told, written) in rows {
+    for (client, server, told, written) in OCTETS {
         expect_report(&rt, rt.alloc(), (client, server), told, written)?;
     }
     Ok(())

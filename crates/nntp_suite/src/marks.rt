@@ -39,17 +39,11 @@ fn note(
 }
 
 #[test]
-fn lenient_marks(rt: HostRuntime) -> Result<(), Fail> {
+fn lenient_and_strict_marks(rt: HostRuntime) -> Result<(), Fail> {
     for row in each_row(rt.alloc())? {
-        note(&rt, rt.alloc(), row, NARROW_LENIENT, row.lenient)?;
-    }
-    Ok(())
-}
-
-#[test]
-fn strict_marks(rt: HostRuntime) -> Result<(), Fail> {
-    for row in each_row(rt.alloc())? {
-        note(&rt, rt.alloc(), row, NARROW_STRICT, row.strict)?;
+        for (choice, outcome) in [(NARROW_LENIENT, row.lenient), (NARROW_STRICT, row.strict)] {
+            note(&rt, rt.alloc(), row, choice, outcome)?;
+        }
     }
     Ok(())
 }

@@ -2,8 +2,8 @@
 use nntp_check::run_task;
 use nntp_fixtures::explain_task;
 use nntp_sessions::{
-    BASES, CHOICES, Choice, Full, NARROW_LENIENT, NARROW_STRICT, Random, WIDE_LENIENT, WIDE_STRICT,
-    Wandering, each_row, each_session, reader, writer,
+    BASES, CHOICES, Choice, Full, NARROW_LENIENT, NARROW_STRICT, Random, Wandering, each_row,
+    each_session, reader, writer,
 };
 use nntp_slow_judge::{Reading, read};
 use nntp_wire::{number, words};
@@ -242,12 +242,12 @@ fn two_in_one(alloc: Global, random: &mut Random) -> Result<(Vec<u8>, Vec<u8>), 
     Ok((client, server))
 }
 
-/// Compares random sessions about 0 and about each limit.
+/// Compares random sessions about 0 and about the narrow limit.
 fn compare_random(rt: &impl Abort, alloc: Global, choice: Choice) -> Result<(), Fail> {
     let mut counts = Counts::new();
     for base in BASES {
         let mut random = Random::new(20_261_125, base);
-        for _ in 0..25 {
+        for _ in 0..40 {
             let (client, server) = two_in_one(alloc, &mut random)?;
             compare(rt, alloc, choice, (&client, &server), &mut counts)?;
         }
@@ -257,21 +257,9 @@ fn compare_random(rt: &impl Abort, alloc: Global, choice: Choice) -> Result<(), 
 }
 
 #[test]
-fn random_sessions_with_narrow_numbers(rt: HostRuntime) -> Result<(), Fail> {
-    compare_random(&rt, rt.alloc(), NARROW_LENIENT)
-}
-
-#[test]
-fn random_sessions_with_narrow_numbers_and_strict_marks(rt: HostRuntime) -> Result<(), Fail> {
-    compare_random(&rt, rt.alloc(), NARROW_STRICT)
-}
-
-#[test]
-fn random_sessions_with_wide_numbers(rt: HostRuntime) -> Result<(), Fail> {
-    compare_random(&rt, rt.alloc(), WIDE_LENIENT)
-}
-
-#[test]
-fn random_sessions_with_wide_numbers_and_strict_marks(rt: HostRuntime) -> Result<(), Fail> {
-    compare_random(&rt, rt.alloc(), WIDE_STRICT)
+fn random_sessions(rt: HostRuntime) -> Result<(), Fail> {
+    for choice in [NARROW_LENIENT, NARROW_STRICT] {
+        compare_random(&rt, rt.alloc(), choice)?;
+    }
+    Ok(())
 }

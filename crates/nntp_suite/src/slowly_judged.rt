@@ -1,10 +1,11 @@
 //! Sessions that the slow judge judges too, answer by answer.
 use crate::expectations::{expect_front, expect_octets, expect_verified};
+use crate::slowly_noted::compare_noted;
 use nntp_check::Verdict;
 use nntp_fixtures::{check_by, shown};
 use nntp_sessions::{
-    BASES, CHOICES, Choice, NARROW_LENIENT, NARROW_STRICT, Random, Session, WIDE_LENIENT,
-    WIDE_STRICT, Wandering, each_row, each_session,
+    BASES, CHOICES, Choice, NARROW_LENIENT, NARROW_STRICT, Random, Session, Wandering, each_row,
+    each_session,
 };
 use nntp_slow_judge::{Answered, Judged, exchanges, judge};
 use nntp_spool::{Verified, verify};
@@ -80,7 +81,7 @@ impl Slow {
         Ok(())
     }
 
-    /// Compares `check` of such streams with it. `verify` permits the spool that is given.
+    /// Compares `check` of such streams with it, and what is noted of them. `verify` permits the spool that is given.
     fn compare_check(
         &self,
         rt: &impl Abort,
@@ -88,6 +89,7 @@ impl Slow {
         choice: Choice,
         name: &str,
         (client, server): (&[u8], &[u8]),
+        exchanges: &[Answered<'_>],
     ) -> Result<(), Fail> {
         let verdict = check_by(choice, alloc, (client, server))?;
         self.compare(rt, alloc, name, &shown(alloc, &verdict)?)?;
@@ -96,7 +98,8 @@ impl Slow {
             let wanted = Verified::Permits { answers: *answers };
             expect_verified(rt, name, verified, wanted);
         }
-        Ok(())
+        let said = (self.judged, self.good);
+        compare_noted(rt, alloc, choice, name, (client, server), exchanges, said)
     }
 }
 
@@ -141,14 +144,6 @@ fn judge_worked(rt: &impl Abort, alloc: Global, session: &Session) -> Result<(),
     Ok(())
 }
 
-#[test]
-fn worked_sessions(rt: HostRuntime) -> Result<(), Fail> {
-    for session in each_session(rt.alloc())? {
-        judge_worked(&rt, rt.alloc(), session)?;
-    }
-    Ok(())
-}
-
 /// Judges by each choice the front of a session that ends behind the last of these answers.
 fn judge_front(
     rt: &impl Abort,
@@ -161,7 +156,7 @@ fn judge_front(
     let (server, _) = server.split_at(end.min(server.len()));
     for choice in CHOICES {
         let slow = Slow::all(alloc, choice, (client, server), front)?;
-        slow.compare_check(rt, alloc, choice, name, (client, server))?;
+        slow.compare_check(rt, alloc, choice, name, (client, server), front)?;
     }
     Ok(())
 }
@@ -182,15 +177,16 @@ fn judge_fronts(
 }
 
 #[test]
-fn fronts_of_worked_sessions(rt: HostRuntime) -> Result<(), Fail> {
+fn worked_sessions(rt: HostRuntime) -> Result<(), Fail> {
     for session in each_session(rt.alloc())? {
+        judge_worked(&rt, rt.alloc(), session)?;
         judge_fronts(&rt, rt.alloc(), session.name, session.streams())?;
     }
     Ok(())
 }
 
 #[test]
-fn fronts_of_sessions_with_marks(rt: HostRuntime) -> Result<(), Fail> {
+fn sessions_with_marks(rt: HostRuntime) -> Result<(), Fail> {
     for row in each_row(rt.alloc())? {
         judge_fronts(&rt, rt.alloc(), row.name, row.streams())?;
     }
@@ -199,14 +195,14 @@ fn fronts_of_sessions_with_marks(rt: HostRuntime) -> Result<(), Fail> {
 
 /// How often each was judged.
 #[derive(Clone, Copy)]
-pub(crate) struct Counts {
-    pub(crate) consistent: u64,
-    pub(crate) out_of_place: u64,
-    pub(crate) contradictions: u64,
+struct Counts {
+    consistent: u64,
+    out_of_place: u64,
+    contradictions: u64,
 }
 
 impl Counts {
-    pub(crate) fn new() -> Counts {
+    fn new() -> Counts {
         Counts {
             consistent: 0,
             out_of_place: 0,
@@ -214,7 +210,7 @@ impl Counts {
         }
     }
 
-    pub(crate) fn add(&mut self, judged: Judged) {
+    fn add(&mut self, judged: Judged) {
         let count = match judged {
             Judged::Consistent => &mut self.consistent,
             Judged::OutOfPlace => &mut self.out_of_place,
@@ -236,7 +232,7 @@ fn judge_last(
     assert_eq!(rt; exchanges.len(), count);
     let slow = Slow::next(alloc, choice, streams, &exchanges)?;
     let name = format!(in alloc; "{choice:?}: {}", streams.0.escape_ascii())?;
-    slow.compare_check(rt, alloc, choice, name.as_str(), streams)?;
+    slow.compare_check(rt, alloc, choice, name.as_str(), streams, &exchanges)?;
     Ok(slow.judged)
 }
 
@@ -263,12 +259,12 @@ fn wander(
     Ok(())
 }
 
-/// Judges random sessions about 0 and about each limit.
+/// Judges random sessions about 0 and about the narrow limit.
 fn judge_random(rt: &impl Abort, alloc: Global, choice: Choice) -> Result<(), Fail> {
     let mut counts = Counts::new();
     for base in BASES {
         let mut random = Random::new(20_261_122, base);
-        for _ in 0..100 {
+        for _ in 0..150 {
             wander(rt, alloc, choice, &mut random, &mut counts)?;
         }
     }
@@ -279,21 +275,11 @@ fn judge_random(rt: &impl Abort, alloc: Global, choice: Choice) -> Result<(), Fa
 }
 
 #[test]
-fn random_sessions_with_narrow_numbers(rt: HostRuntime) -> Result<(), Fail> {
+fn random_sessions_with_lenient_marks(rt: HostRuntime) -> Result<(), Fail> {
     judge_random(&rt, rt.alloc(), NARROW_LENIENT)
 }
 
 #[test]
-fn random_sessions_with_narrow_numbers_and_strict_marks(rt: HostRuntime) -> Result<(), Fail> {
+fn random_sessions_with_strict_marks(rt: HostRuntime) -> Result<(), Fail> {
     judge_random(&rt, rt.alloc(), NARROW_STRICT)
-}
-
-#[test]
-fn random_sessions_with_wide_numbers(rt: HostRuntime) -> Result<(), Fail> {
-    judge_random(&rt, rt.alloc(), WIDE_LENIENT)
-}
-
-#[test]
-fn random_sessions_with_wide_numbers_and_strict_marks(rt: HostRuntime) -> Result<(), Fail> {
-    judge_random(&rt, rt.alloc(), WIDE_STRICT)
 }

@@ -1,13 +1,6 @@
 //! Sessions whose answers conflict, and what `explain` prints of them.
 use crate::reported::Reported;
-use crate::runs::EXPLAIN;
-use nntp_check::{Limit, Marks, Task};
-
-/// The task by strict marks.
-const STRICTLY: Task = Task::Explain {
-    limit: Limit::Narrow,
-    marks: Marks::Strict,
-};
+use crate::tasks::{EXPLAIN, EXPLAIN_STRICTLY};
 
 /// Answers that no spool has together.
 pub(crate) const CONFLICTS: &[Reported] = &[
@@ -72,7 +65,7 @@ end answers=4 bad=2 unanswered=0
     },
     Reported {
         name: "marks that are numbers",
-        task: STRICTLY,
+        task: EXPLAIN_STRICTLY,
         client: b"GROUP g\r\nSTAT 1\r\n",
         server: b"200 hi\r\n211 1 1 2 g\r\n223 1 <a@b>\r\n",
         report: b"bad answer 2 Contradiction

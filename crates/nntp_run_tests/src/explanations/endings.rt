@@ -1,6 +1,6 @@
 //! Sessions with octets that are no answer, and what `explain` prints of them.
 use crate::reported::Reported;
-use crate::runs::EXPLAIN;
+use crate::tasks::EXPLAIN;
 
 /// Answers that spell nothing, are cut, or answer nothing.
 pub(crate) const ENDINGS: &[Reported] = &[

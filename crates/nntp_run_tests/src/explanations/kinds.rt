@@ -1,7 +1,7 @@
 //! Sessions with a conflict about each kind of point, and with each thing that answers say about one, and what `explain`
 //! prints of them.
 use crate::reported::Reported;
-use crate::runs::EXPLAIN;
+use crate::tasks::EXPLAIN;
 
 /// Commands, of which some are answered so that no spool has it with what was said before, about each kind of point.
 const POINTS_CLIENT: &[u8] =

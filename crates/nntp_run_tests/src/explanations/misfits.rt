@@ -1,13 +1,6 @@
 //! Sessions with answers that don't fit, and what `explain` prints of them.
 use crate::reported::Reported;
-use crate::runs::EXPLAIN;
-use nntp_check::{Limit, Marks, Task};
-
-/// The task by wide numbers.
-const WIDELY: Task = Task::Explain {
-    limit: Limit::Wide,
-    marks: Marks::Lenient,
-};
+use crate::tasks::{EXPLAIN, EXPLAIN_WIDE};
 
 /// Commands, of which the second alone is answered by what fits.
 const MISFITS_CLIENT: &[u8] = b"GROUP g\r\nGROUP g\r\nSTAT 6\r\nSTAT <a@b>\r\nGROUP g\r\n\
@@ -193,7 +186,7 @@ end answers=2 bad=1 unanswered=0
     },
     Reported {
         name: "numbers that may be wide",
-        task: WIDELY,
+        task: EXPLAIN_WIDE,
         client: b"GROUP g\r\n",
         server: b"200 hi\r\n211 1 1 2147483648 g\r\n",
         report: b"end answers=2 bad=0 unanswered=0\n",

@@ -1,6 +1,6 @@
 //! A session with an answer for each reason why a frame spells nothing, and what `explain` prints of it.
 use crate::reported::Reported;
-use crate::runs::EXPLAIN;
+use crate::tasks::EXPLAIN;
 
 /// Commands, of which the last alone is answered by what spells an answer.
 const MISSPELLED_CLIENT: &[u8] = b"DATE\r\nGROUP g\r\nGROUP g\r\nSTAT 1\r\nSTAT <a@b>\r\nHELP\r\n\

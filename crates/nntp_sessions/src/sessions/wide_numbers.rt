@@ -26,6 +26,10 @@ const ABOUT_31_BITS: &str =
 const GREATEST_WIDE: &str =
     "spool 2\nlimit 9999999999999999\ngroup g 1\n9999999999999999 <m@x>\narticle <m@x> 1 0\n|Message-ID: <m@x>\nend\n";
 
+/// The same number and the one before it.
+const GREATEST_TWO: &str =
+    "spool 2\nlimit 9999999999999999\ngroup g 2\n9999999999999998 <a@b>\n9999999999999999 <m@x>\narticle <a@b> 1 0\n|Message-ID: <a@b>\narticle <m@x> 1 0\n|Message-ID: <m@x>\nend\n";
+
 /// The same number and one of 32 bits.
 const TWO_WIDE: &str =
     "spool 2\nlimit 9999999999999999\ngroup g 2\n2147483648 <w0@invented.invalid>\n9999999999999999 <w1@invented.invalid>\narticle <w0@invented.invalid> 1 0\n|Message-ID: <w0@invented.invalid>\narticle <w1@invented.invalid> 1 0\n|Message-ID: <w1@invented.invalid>\nend\n";
@@ -34,7 +38,7 @@ const TWO_WIDE: &str =
 const BOTH_MARKS_WIDE: &str =
     "spool 2\nlimit 9999999999999999\ngroup g 3\n1 <w0@invented.invalid>\n4 <b@x>\n9999999999999999 <w1@invented.invalid>\narticle <b@x> 1 0\n|Message-ID: <b@x>\narticle <w0@invented.invalid> 1 0\n|Message-ID: <w0@invented.invalid>\narticle <w1@invented.invalid> 1 0\n|Message-ID: <w1@invented.invalid>\nend\n";
 
-pub(crate) const SESSIONS: [Session; 13] = [
+pub(crate) const SESSIONS: [Session; 15] = [
     Session {
         name: "a number above 31 bits, by a narrow limit",
         client: "GROUP g\r\nSTAT\r\n",
@@ -85,6 +89,24 @@ pub(crate) const SESSIONS: [Session; 13] = [
         verdict: "bad answer 1 OutOfPlace\ncommand GROUP g\nanswer 211 1 9999999999999999 9999999999999999 g\n",
         given: (NOTHING, Verified::Refuses { index: 1 }),
         others: &[(GREATEST_WIDE, Verified::Permits { answers: 4 })],
+    },
+    Session {
+        name: "steps about the greatest number of 16 digits",
+        client: "GROUP g\r\nSTAT 9999999999999998\r\nNEXT\r\nLAST\r\nSTAT 9999999999999997\r\n",
+        server: "200 hi\r\n211 2 9999999999999997 9999999999999999 g\r\n223 9999999999999998 <a@b>\r\n223 9999999999999999 <m@x>\r\n223 9999999999999998 <a@b>\r\n423 no\r\n",
+        choice: WIDE_LENIENT,
+        verdict: "consistent answers=6 groups=1 numbers=2 articles=2\n",
+        given: (GREATEST_TWO, Verified::Permits { answers: 6 }),
+        others: &[(GREATEST_WIDE, Verified::Refuses { index: 2 })],
+    },
+    Session {
+        name: "the greatest number of 16 digits is denied, and none is above it",
+        client: "GROUP g\r\nSTAT 9999999999999999\r\nLAST\r\n",
+        server: "200 hi\r\n211 1 9999999999999999 9999999999999999 g\r\n423 no\r\n422 no\r\n",
+        choice: WIDE_LENIENT,
+        verdict: "bad answer 3 Contradiction\ncommand LAST\nanswer 422 no\n",
+        given: (WIDE_EMPTY_GROUP, Verified::Refuses { index: 3 }),
+        others: &[],
     },
     Session {
         name: "a number of seventeen digits in a 211",
