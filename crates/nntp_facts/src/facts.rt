@@ -22,7 +22,6 @@ use std::alloc::{AllocError, Allocator, Global};
 use std::marker::Model;
 
 /// The facts of a session: what its accepted exchanges say of every spool that permits them.
-#[derive(Drop)]
 pub struct Facts<A: Allocator = Global> {
     alloc: A,
     limit: Limit,
@@ -34,6 +33,22 @@ pub struct Facts<A: Allocator = Global> {
     position: Position,
     kept: Kept<A>,
     has_failed: bool,
+}
+
+/// By hand, since a derived one is checked field by field at each place where facts may be dropped.
+impl<A: Allocator> Drop for Facts<A> {
+    fn drop(self) {
+        let Facts {
+            alloc: _,
+            limit: _,
+            marks: _,
+            count: _,
+            visible: _,
+            position: _,
+            kept: _,
+            has_failed: _,
+        } = self;
+    }
 }
 
 impl<A: Allocator> Model for Facts<A> {

@@ -33,12 +33,23 @@ use std::marker::Model;
 use std::rc::RcStr;
 
 /// What is kept of all that the answers so far say of the spool.
-#[derive(Drop)]
 pub(crate) struct Kept<A: Allocator = Global> {
     alloc: A,
     groups: Groups<A>,
     names: Names<A>,
     articles: Articles<A>,
+}
+
+/// By hand, since a derived one is checked field by field at each place where what is kept may be dropped.
+impl<A: Allocator> Drop for Kept<A> {
+    fn drop(self) {
+        let Kept {
+            alloc: _,
+            groups: _,
+            names: _,
+            articles: _,
+        } = self;
+    }
 }
 
 impl<A: Allocator> Model for Kept<A> {

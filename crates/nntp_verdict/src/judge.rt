@@ -50,16 +50,10 @@ pub fn check<A: Allocator + Copy>(
 }
 
 /// Judges one exchange after the other. It holds what those say that passed.
+#[derive(Drop)]
 pub(crate) struct Judge<A: Allocator> {
     alloc: A,
     facts: Facts<A>,
-}
-
-/// By hand, since a derived one is checked at each place where a judge may be dropped, field by field.
-impl<A: Allocator> Drop for Judge<A> {
-    fn drop(self) {
-        let Judge { alloc: _, facts: _ } = self;
-    }
 }
 
 impl<A: Allocator + Copy> Judge<A> {

@@ -22,7 +22,6 @@ use std::str;
 use std::string::String;
 
 /// The groups of a spool by their names, and its articles by their ids.
-#[derive(Drop)]
 pub struct Content<A: Allocator = Global> {
     /// The numbers of each group, by its name.
     pub(crate) groups: BTreeMap<String<A>, Numbers<A>, A>,
@@ -30,6 +29,17 @@ pub struct Content<A: Allocator = Global> {
     pub(crate) articles: Articles<A>,
     /// No numbers, which are lent where a word names no group.
     pub(crate) no_numbers: Numbers<A>,
+}
+
+/// By hand, since a derived one is checked field by field at each place where a content may be dropped.
+impl<A: Allocator> Drop for Content<A> {
+    fn drop(self) {
+        let Content {
+            groups: _,
+            articles: _,
+            no_numbers: _,
+        } = self;
+    }
 }
 
 impl<A: Allocator> Model for Content<A> {
