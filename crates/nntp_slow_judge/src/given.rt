@@ -18,38 +18,75 @@ pub(crate) fn given_spool(
     said: &Said<'_>,
 ) -> Result<Option<Spool>, AllocError> {
     let mut builder = SpoolBuilder::new(alloc, choice.limit);
-    let mut ids = Vec::new(alloc);
-    let mut next = 0;
-    for name in names(alloc, said)? {
-        let outcome = builder.group(name);
-        if !is_done(outcome)? {
-            return Ok(None);
-        }
-        for (number, shown) in with_ids(alloc, choice.marks, said, name)? {
-            let id = match shown {
-                Some(id) => Vec::from_slice(alloc, id)?,
-                None => invented(alloc, said, &mut next)?,
-            };
-            let outcome = builder.number(name, number, &id);
-            if !is_done(outcome)? {
-                return Ok(None);
-            }
-            add(&mut ids, id)?;
-        }
-    }
-    for sent in &said.sent {
-        add(&mut ids, Vec::from_slice(alloc, sent.id)?)?;
-    }
-    for id in &ids {
-        let outcome = builder.article(id, article(alloc, said, id)?);
-        if !is_done(outcome)? {
-            return Ok(None);
-        }
+    if !build(alloc, choice.marks, said, &mut builder)? {
+        return Ok(None);
     }
     match builder.finish() {
         Ok(spool) => Ok(Some(spool)),
         Err(_) => Ok(None),
     }
+}
+
+/// Builds the groups and the articles, and tells whether the builder takes all of them.
+fn build(
+    alloc: Global,
+    marks: Marks,
+    said: &Said<'_>,
+    builder: &mut SpoolBuilder,
+) -> Result<bool, AllocError> {
+    let mut ids = Vec::new(alloc);
+    let mut next = 0;
+    for name in names(alloc, said)? {
+        if !build_group(alloc, marks, said, name, builder, &mut ids, &mut next)? {
+            return Ok(false);
+        }
+    }
+    for sent in &said.sent {
+        add(&mut ids, Vec::from_slice(alloc, sent.id)?)?;
+    }
+    build_articles(alloc, said, builder, &ids)
+}
+
+/// Builds a group with its numbers, and adds their ids. The next id that is invented has this number.
+fn build_group(
+    alloc: Global,
+    marks: Marks,
+    said: &Said<'_>,
+    name: &[u8],
+    builder: &mut SpoolBuilder,
+    ids: &mut Vec<Vec<u8>>,
+    next: &mut u64,
+) -> Result<bool, AllocError> {
+    if !is_done(builder.group(name))? {
+        return Ok(false);
+    }
+    for (number, shown) in with_ids(alloc, marks, said, name)? {
+        let id = match shown {
+            Some(id) => Vec::from_slice(alloc, id)?,
+            None => invented(alloc, said, next)?,
+        };
+        if !is_done(builder.number(name, number, &id))? {
+            return Ok(false);
+        }
+        add(ids, id)?;
+    }
+    Ok(true)
+}
+
+/// Builds the articles of these ids.
+fn build_articles(
+    alloc: Global,
+    said: &Said<'_>,
+    builder: &mut SpoolBuilder,
+    ids: &[Vec<u8>],
+) -> Result<bool, AllocError> {
+    for id in ids {
+        let article = article(alloc, said, id)?;
+        if !is_done(builder.article(id, article))? {
+            return Ok(false);
+        }
+    }
+    Ok(true)
 }
 
 /// Whether a call of the builder was done; want of memory is an error.
@@ -216,30 +253,44 @@ fn add(ids: &mut Vec<Vec<u8>>, id: Vec<u8>) -> Result<(), AllocError> {
 
 /// The article of an id, by what was sent of it.
 fn article(alloc: Global, said: &Said<'_>, id: &[u8]) -> Result<Article, AllocError> {
-    let mut head = None;
-    let mut body = None;
+    let head = match head_sent(said, id) {
+        Some(lines) => copied(alloc, lines)?,
+        None => least_head(alloc, id)?,
+    };
+    let body = match body_sent(said, id) {
+        Some(lines) => copied(alloc, lines)?,
+        None => Vec::new(alloc),
+    };
+    Ok(Article { head, body })
+}
+
+/// The first head that was sent of an id.
+fn head_sent<'s, 'a>(said: &'s Said<'a>, id: &[u8]) -> Option<&'s [&'a [u8]]> {
     for sent in &said.sent {
-        if sent.id == id {
-            if let (None, Some(lines)) = (&head, &sent.head) {
-                head = Some(copied(alloc, lines)?);
-            }
-            if let (None, Some(lines)) = (&body, &sent.body) {
-                body = Some(copied(alloc, lines)?);
-            }
+        if let (true, Some(lines)) = (sent.id == id, &sent.head) {
+            return Some(lines.as_slice());
         }
     }
-    let head = match head {
-        Some(lines) => lines,
-        None => {
-            let mut line = Vec::from_slice(alloc, b"Message-ID: ")?;
-            line.extend_from_slice(id)?;
-            let mut lines = Vec::new(alloc);
-            lines.push(line)?;
-            lines
+    None
+}
+
+/// The first body that was sent of an id.
+fn body_sent<'s, 'a>(said: &'s Said<'a>, id: &[u8]) -> Option<&'s [&'a [u8]]> {
+    for sent in &said.sent {
+        if let (true, Some(lines)) = (sent.id == id, &sent.body) {
+            return Some(lines.as_slice());
         }
-    };
-    let body = body.unwrap_or(Vec::new(alloc));
-    Ok(Article { head, body })
+    }
+    None
+}
+
+/// A head that says the id, and nothing else.
+fn least_head(alloc: Global, id: &[u8]) -> Result<Vec<Vec<u8>>, AllocError> {
+    let mut line = Vec::from_slice(alloc, b"Message-ID: ")?;
+    line.extend_from_slice(id)?;
+    let mut lines = Vec::new(alloc);
+    lines.push(line)?;
+    Ok(lines)
 }
 
 fn copied(alloc: Global, lines: &[&[u8]]) -> Result<Vec<Vec<u8>>, AllocError> {

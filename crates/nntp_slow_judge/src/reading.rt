@@ -37,37 +37,7 @@ pub fn read<'a>(
     server: &'a [u8],
 ) -> Result<Reading<'a>, AllocError> {
     let mut reading = Reading::new(alloc, choice);
-    let mut pairs = Pairs::new(client, server);
-    for _ in 0..=server.len() {
-        let rest = pairs.ahead().rest;
-        match pairs.next() {
-            Step::Exchange(exchange) => {
-                let left = pairs.ahead().rest.len();
-                let (octets, _) = rest.split_at(rest.len().saturating_sub(left));
-                reading.judge(exchange, octets)?;
-            }
-            Step::Bad { index, class } => match class {
-                PairClass::Malformed => {
-                    pairs.pass_over();
-                    reading.leave_out(index, "Malformed")?;
-                }
-                PairClass::Cut => {
-                    reading.leave_out(index, "Cut")?;
-                    reading.end(index.saturating_add(1), client)?;
-                    return Ok(reading);
-                }
-                PairClass::Surplus => {
-                    reading.leave_out(index, "Surplus")?;
-                    reading.end(index.saturating_add(1), client)?;
-                    return Ok(reading);
-                }
-            },
-            Step::End { .. } => {
-                reading.end(pairs.index(), client)?;
-                return Ok(reading);
-            }
-        }
-    }
+    reading.read(client, server)?;
     Ok(reading)
 }
 
@@ -84,6 +54,37 @@ impl<'a> Reading<'a> {
             bad: 0,
             lines: String::new(alloc),
         }
+    }
+
+    /// Reads both streams to their end.
+    fn read(&mut self, client: &'a [u8], server: &'a [u8]) -> Result<(), AllocError> {
+        let mut pairs = Pairs::new(client, server);
+        for _ in 0..=server.len() {
+            let rest = pairs.ahead().rest;
+            match pairs.next() {
+                Step::Exchange(exchange) => {
+                    let left = pairs.ahead().rest.len();
+                    let (octets, _) = rest.split_at(rest.len().saturating_sub(left));
+                    self.judge(exchange, octets)?;
+                }
+                Step::Bad { index, class } => match class {
+                    PairClass::Malformed => {
+                        pairs.pass_over();
+                        self.leave_out(index, "Malformed")?;
+                    }
+                    PairClass::Cut => return self.stop(index, "Cut", client),
+                    PairClass::Surplus => return self.stop(index, "Surplus", client),
+                },
+                Step::End { .. } => return self.end(pairs.index(), client),
+            }
+        }
+        Ok(())
+    }
+
+    /// Ends at octets that answer nothing.
+    fn stop(&mut self, index: u64, class: &str, client: &[u8]) -> Result<(), AllocError> {
+        self.leave_out(index, class)?;
+        self.end(index.saturating_add(1), client)
     }
 
     /// The lines `bad answer K CLASS`, and the last line.
@@ -110,45 +111,57 @@ impl<'a> Reading<'a> {
         reasons: &[u64],
         left_out: Option<u64>,
     ) -> Result<Option<bool>, AllocError> {
-        let Some(said) = self.hear_alone(bad, reasons, left_out)? else {
-            return Ok(None);
-        };
-        let Some(spool) = given_spool(self.alloc, self.choice, &said)? else {
-            return Ok(Some(false));
-        };
-        if self.choice.marks == Marks::Strict && !have_ends(self.alloc, &said)? {
-            return Ok(Some(false));
-        }
         let Some(told) = self.refused(bad) else {
             return Ok(None);
         };
-        let is_had = told.is_had(self.alloc, self.choice, &said, &spool)?
-            && self.are_had(reasons, left_out, &said, &spool)?;
+        let mut said = Said::new(self.alloc);
+        if !self.hear_alone(told, reasons, left_out, &mut said)? {
+            return Ok(None);
+        }
+        let is_had = match given_spool(self.alloc, self.choice, &said)? {
+            Some(spool) => self.has(&spool, told, reasons, left_out, &said)?,
+            None => false,
+        };
         Ok(Some(is_had))
     }
 
-    /// What these answers say by themselves, with their groups.
+    /// Adds what these answers say by themselves, with their groups, and tells whether they are there.
     fn hear_alone(
         &self,
-        bad: u64,
+        bad: &Told<'a>,
         reasons: &[u64],
         left_out: Option<u64>,
-    ) -> Result<Option<Said<'a>>, AllocError> {
-        let mut said = Said::new(self.alloc);
-        let Some(told) = self.refused(bad) else {
-            return Ok(None);
-        };
-        told.hear_alone(&mut said)?;
+        said: &mut Said<'a>,
+    ) -> Result<bool, AllocError> {
+        bad.hear_alone(said)?;
         for index in reasons {
             if left_out != Some(*index) {
                 let Some(told) = self.accepted(*index) else {
-                    return Ok(None);
+                    return Ok(false);
                 };
-                told.hear_alone(&mut said)?;
+                told.hear_alone(said)?;
             }
         }
         said.add_groups()?;
-        Ok(Some(said))
+        Ok(true)
+    }
+
+    /// Whether the spool that is given for what is said has what these answers say.
+    fn has(
+        &self,
+        spool: &Spool,
+        bad: &Told<'a>,
+        reasons: &[u64],
+        left_out: Option<u64>,
+        said: &Said<'_>,
+    ) -> Result<bool, AllocError> {
+        if self.choice.marks == Marks::Strict && !have_ends(self.alloc, said)? {
+            return Ok(false);
+        }
+        Ok(
+            bad.is_had(self.alloc, self.choice, said, spool)?
+                && self.are_had(reasons, left_out, said, spool)?,
+        )
     }
 
     /// Whether the spool that is given for what is said has what the accepted answers of these indexes say.

@@ -45,7 +45,6 @@ pub(crate) struct Sent<'a> {
 }
 
 /// What was said so far, in lists.
-#[derive(Drop)]
 pub(crate) struct Said<'a> {
     alloc: Global,
     selected: Option<&'a [u8]>,
@@ -57,6 +56,24 @@ pub(crate) struct Said<'a> {
     pub(crate) unseen: Vec<Unseen<'a>>,
     pub(crate) mentioned: Vec<&'a [u8]>,
     pub(crate) sent: Vec<Sent<'a>>,
+}
+
+/// By hand, since a derived one is checked list by list at each place where what was said may be dropped.
+impl<'a> Drop for Said<'a> {
+    fn drop(self) {
+        let Said {
+            alloc: _,
+            selected: _,
+            place: _,
+            groups: _,
+            shown: _,
+            denied: _,
+            reported: _,
+            unseen: _,
+            mentioned: _,
+            sent: _,
+        } = self;
+    }
 }
 
 impl<'a> Said<'a> {

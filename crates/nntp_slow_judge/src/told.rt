@@ -118,21 +118,15 @@ impl<'a> Told<'a> {
         line: &[u8],
     ) -> Result<bool, AllocError> {
         let mut client = Vec::new(alloc);
-        let mut server = Vec::from_slice(alloc, b"200 hi\r\n")?;
-        if let Some(group) = self.selected {
-            if said.groups.iter().any(|name| *name == group) {
-                let most = greatest(choice.limit);
-                client.extend_from_slice(b"GROUP ")?;
-                client.extend_from_slice(group)?;
-                client.extend_from_slice(b"\r\n")?;
-                server.extend_from_slice(format!(in alloc; "211 {most} 1 {most} ")?.as_bytes())?;
-                server.extend_from_slice(group)?;
-                server.extend_from_slice(b"\r\n")?;
-            }
-        }
-        client.extend_from_slice(line)?;
-        client.extend_from_slice(b"\r\n")?;
-        server.extend_from_slice(self.octets)?;
+        let mut server = Vec::new(alloc);
+        let group = self.selected.filter(|group| is_among(said, *group));
+        put_session(
+            alloc,
+            greatest(choice.limit),
+            group,
+            (line, self.octets),
+            (&mut client, &mut server),
+        )?;
         Ok(
             match verify(alloc, Marks::Lenient, spool, &client, &server)? {
                 Verified::Permits { .. } => true,
@@ -140,6 +134,39 @@ impl<'a> Told<'a> {
             },
         )
     }
+}
+
+/// Whether there is such a group.
+fn is_among(said: &Said<'_>, group: &[u8]) -> bool {
+    said.groups.iter().any(|name| *name == group)
+}
+
+/// Puts a greeting, the selection of the group if there is one, and the line with the octets of its answer.
+fn put_session(
+    alloc: Global,
+    most: u64,
+    group: Option<&[u8]>,
+    (line, octets): (&[u8], &[u8]),
+    (client, server): (&mut Vec<u8>, &mut Vec<u8>),
+) -> Result<(), AllocError> {
+    server.extend_from_slice(b"200 hi\r\n")?;
+    if let Some(group) = group {
+        put_line(client, b"GROUP ", group)?;
+        put_line(
+            server,
+            format!(in alloc; "211 {most} 1 {most} ")?.as_bytes(),
+            group,
+        )?;
+    }
+    put_line(client, line, b"")?;
+    server.extend_from_slice(octets)
+}
+
+/// Puts a line of two parts.
+fn put_line(stream: &mut Vec<u8>, front: &[u8], rest: &[u8]) -> Result<(), AllocError> {
+    stream.extend_from_slice(front)?;
+    stream.extend_from_slice(rest)?;
+    stream.extend_from_slice(b"\r\n")
 }
 
 /// The keyword that asks for these parts of an article.
