@@ -114,15 +114,14 @@ const ORDERS: [Order; 4] = [
 ];
 
 impl Order {
-    /// How many octets come next of the client and of the server, where so many are left of them.
-    fn next(self, random: &mut Random, client: usize, server: usize) -> (usize, usize) {
-        let (of_client, of_server) = match self {
-            Order::ClientFirst => (1, usize::from(client == 0)),
-            Order::ServerFirst => (usize::from(server == 0), 1),
+    /// How many octets come next of the client and of the server, if so many are left of them.
+    fn next(self, random: &mut Random, client: &[u8], server: &[u8]) -> (usize, usize) {
+        match self {
+            Order::ClientFirst => (1, usize::from(client.is_empty())),
+            Order::ServerFirst => (usize::from(server.is_empty()), 1),
             Order::InTurn => (1, 1),
             Order::AtRandom => (random.below(8), random.below(8)),
-        };
-        (of_client.min(client), of_server.min(server))
+        }
     }
 }
 
@@ -136,9 +135,9 @@ fn feed_all(
 ) -> Result<(), CheckError> {
     let (mut client, mut server) = session.streams();
     for _ in 0..client.len() + server.len() {
-        let (of_client, of_server) = order.next(random, client.len(), server.len());
-        let (client_piece, client_rest) = client.split_at(of_client);
-        let (server_piece, server_rest) = server.split_at(of_server);
+        let (of_client, of_server) = order.next(random, client, server);
+        let (client_piece, client_rest) = client.split_at(of_client.min(client.len()));
+        let (server_piece, server_rest) = server.split_at(of_server.min(server.len()));
         feed(rt, checker, session.name, (client_piece, server_piece))?;
         client = client_rest;
         server = server_rest;
