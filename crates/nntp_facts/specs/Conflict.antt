@@ -92,7 +92,7 @@ abbrev pub below : ℕ → List ℕ
 below zero = []
 below (suc k) = below k ++ k ∷ []
 
--- the answers at the places are a smallest set with which the bad one conflicts: no spool has what they and it say, and without any one of them some spool has the rest
+-- the bad answer conflicts with those at the places, and none of them can be left out: no spool has what they and it say, and without any one of them some spool has the rest
 pub record IsCore (profile : Profile) (bad : Placed) (answers : List Placed) (places : List ℕ) : Type 0 where
   pub there : AllByRecursion (λ k. k < length answers) places
   pub conflict : SomeHas profile (told_with profile bad answers places) → ⊥

@@ -353,7 +353,7 @@ pub fn answers_stand_together_where_a_spool_has_them()
         → AllByRecursion (Holds S) (flat_map (told profile) (placed_from v at prompts answers)) → AllByRecursion (Holds S) (facts_from profile.marks v at prompts answers) }
 {}
 
-/// A smallest set of answers with which a bad one conflicts is found from the last answer down. At
+/// Answers with which a bad one conflicts, and none of which can be left out, are found from the last one down. At
 /// the start nothing is found. Where the answers below a place stand with what is found, and those
 /// up to the place don't, the answer at the place is found. What is found is such a set, once it
 /// conflicts alone. As long as it doesn't, each conflict has another answer below the last place.
