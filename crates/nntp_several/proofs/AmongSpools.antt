@@ -1,0 +1,219 @@
+-- Of the spools with some property one explains two streams, or exactly one answer is bad. (This is nntp_facts' proofs/Streams/ExplainedOrBad.antt with a property of spools; there it is the case in which all have it.)
+use Rattle.std.proofs.Common.{◌≡◌, ℕ, zero, suc, ◌+◌, ◌<◌, ◌≤◌, ◌⊎◌, List, [], ◌∷◌, ◌++◌, length, take, inl, inr, refl, sym, ap, subst, ◌∙◌, arith, length-append, append_assoc}
+use Rattle.std.proofs.Math.Seq.{take-length}
+use Rattle.std.proofs.lemmas.Bool.{cases_lt, cases_order}
+use Rattle.std.proofs.lemmas.List.{append_cancel_left, length-take}
+use Rattle.nntp_article.specs.Session.Spool.{Spool, IsSpool}
+use Rattle.nntp_article.specs.declared.session.profile.Profile.{Profile}
+use Rattle.nntp_article.specs.Session.Machine.{Run, start}
+use Rattle.nntp_wire.specs.Session.{Spelled, prompts_of}
+use Rattle.nntp_article.specs.Session.Explains.{ExplainsUpTo, Explains, ExplainsFirst}
+use Rattle.nntp_facts.proofs.Given.FirstBadAnswer.{run_fewer}
+use Rattle.nntp_wire.specs.Answer.{Asked, Response, Spells}
+use Rattle.nntp_wire.proofs.SpellsDecided.{one-spelling, some-spelling}
+use Rattle.nntp_pair.proofs.PairLemmas.{lines-few}
+use Rattle.nntp_several.specs.Sessions.{BadAmong}
+
+-- ---- octets read as far as they spell answers
+
+-- the longest list of answers that the octets begin with
+record Reading (ps : List Asked) (octets : List ℕ) : Type 0 where
+  answers : List Response
+  spelled : List ℕ
+  rest : List ℕ
+  is : Spelled ps answers spelled
+  whole : octets ≡ spelled ++ rest
+  longest : (others : List Response) (sp more : List ℕ) → Spelled ps others sp → octets ≡ sp ++ more → length others ≤ length answers
+
+-- the octets are read as far as they spell answers
+read : (ps : List Asked) (octets : List ℕ) → Reading ps octets
+read [] octets = record { answers = []; spelled = []; rest = octets; is = refl; whole = refl; longest = none }
+  where
+    none : (others : List Response) (sp more : List ℕ) → Spelled [] others sp → octets ≡ sp ++ more → length others ≤ 0
+    none [] sp more s e = omega arith
+    none (a ∷ others) sp more s e = absurd s
+read (p ∷ ps) octets = by (some-spelling p octets) (read ps)
+  where
+    by : ((a : Response) × (b : List ℕ) × (rest : List ℕ) × Spells p a b × (octets ≡ b ++ rest)) ⊎ ((a : Response) (b rest : List ℕ) → Spells p a b → octets ≡ b ++ rest → ⊥)
+        → ((rest : List ℕ) → Reading ps rest) → Reading (p ∷ ps) octets
+    by (inr never) rec = record { answers = []; spelled = []; rest = octets; is = refl; whole = refl; longest = none }
+      where
+        none : (others : List Response) (sp more : List ℕ) → Spelled (p ∷ ps) others sp → octets ≡ sp ++ more → length others ≤ 0
+        none [] sp more s e = omega arith
+        none (a ∷ others) sp more (b, rest, s, more_spelled, whole) e = absurd (never a b (rest ++ more) s (e ∙ ap (λ sp. sp ++ more) whole ∙ append_assoc b rest more))
+    by (inl (a, b, rest, s, e)) rec =
+        let r = rec rest in
+        record {
+          answers = a ∷ r.answers;
+          spelled = b ++ r.spelled;
+          rest = r.rest;
+          is = (b, r.spelled, s, r.is, refl);
+          whole = e ∙ ap (λ rest. b ++ rest) r.whole ∙ sym (append_assoc b r.spelled r.rest);
+          longest = longer r;
+        }
+      where
+        longer : (r : Reading ps rest) (others : List Response) (sp more : List ℕ) → Spelled (p ∷ ps) others sp → octets ≡ sp ++ more → length others ≤ length (a ∷ r.answers)
+        longer r [] sp more t f = omega arith
+        longer r (c ∷ others) sp more (d, tail, t, tail_spelled, whole) f =
+            let split : octets ≡ d ++ (tail ++ more) = f ∙ ap (λ sp. sp ++ more) whole ∙ append_assoc d tail more in
+            let same = one-spelling p a c b d rest (tail ++ more) s t (sym e ∙ split) in
+            let left : b ++ rest ≡ b ++ (tail ++ more) = sym e ∙ split ∙ ap (λ d. d ++ (tail ++ more)) (sym same.1) in
+            let le = r.longest others tail more tail_spelled (append_cancel_left b rest (tail ++ more) left) in
+            omega arith
+
+-- of two readings the shorter is the front of the longer
+pub same_front : (ps : List Asked) (answers others : List Response) (sp tp rest more : List ℕ) → Spelled ps answers sp → Spelled ps others tp → sp ++ rest ≡ tp ++ more → length answers ≤ length others
+    → (answers ≡ take (length answers) others) × (length sp ≤ length tp)
+same_front ps [] others sp tp rest more s t e le = (refl, let none = ap length s in omega arith)
+same_front [] (a ∷ answers) others sp tp rest more s t e le = absurd s
+same_front (p ∷ ps) (a ∷ answers) [] sp tp rest more s t e le = absurd (omega arith)
+same_front (p ∷ ps) (a ∷ answers) (c ∷ others) sp tp rest more (b, tail, s, ss, whole) (d, tail', t, ts, whole') e le =
+    let split : b ++ (tail ++ rest) ≡ d ++ (tail' ++ more) = sym (append_assoc b tail rest) ∙ ap (λ sp. sp ++ rest) (sym whole) ∙ e ∙ ap (λ tp. tp ++ more) whole' ∙ append_assoc d tail' more in
+    let same = one-spelling p a c b d (tail ++ rest) (tail' ++ more) s t split in
+    let left = append_cancel_left b (tail ++ rest) (tail' ++ more) (split ∙ ap (λ d. d ++ (tail' ++ more)) (sym same.1)) in
+    let r = same_front ps answers others tail tail' rest more ss ts left (omega arith) in
+    let m = ap length whole ∙ length-append b tail in
+    let n = ap length whole' ∙ length-append d tail' in
+    let o = ap length same.1 in
+    let q = r.1 in
+    ((λ i. same.0 i ∷ r.0 i), omega arith)
+
+-- the first answers of a reading, and what is left behind them
+first_spelled : (ps : List Asked) (answers : List Response) (sp : List ℕ) (n : ℕ) → Spelled ps answers sp → n ≤ length answers
+    → (front : List ℕ) × (rest : List ℕ) × Spelled ps (take n answers) front × (sp ≡ front ++ rest) × (n < length answers → 0 < length rest)
+first_spelled ps [] sp zero s le = ([], sp, refl, refl, λ l. absurd (omega arith))
+first_spelled ps [] sp (suc n) s le = absurd (omega arith)
+first_spelled [] (a ∷ answers) sp n s le = absurd s
+first_spelled (p ∷ ps) (a ∷ answers) sp zero (b, tail, s, ss, whole) le =
+    ([], sp, refl, refl, λ l. let long = lines-few p a b s in let m = ap length whole ∙ length-append b tail in omega arith)
+first_spelled (p ∷ ps) (a ∷ answers) sp (suc n) (b, tail, s, ss, whole) le =
+    let r = first_spelled ps answers tail n ss (omega arith) in
+    (b ++ r.0, r.1, (b, r.0, s, r.2, refl), whole ∙ ap (λ t. b ++ t) r.3 ∙ sym (append_assoc b r.0 r.1), λ l. r.4 (omega arith))
+
+-- who explains m answers explains fewer
+pub first_explained : (profile : Profile) (S : Spool) (client server : List ℕ) (n m : ℕ) (rest : List ℕ) → n ≤ m
+    → ExplainsUpTo profile S client server m rest → (left : List ℕ) × ExplainsUpTo profile S client server n left
+first_explained profile S client server n m rest le x =
+    let count = x.count in
+    let f = first_spelled (prompts_of client) x.answers x.octets n x.spelled (omega arith) in
+    let run = subst (λ all. Run profile S start (prompts_of client) all) (sym (take-length x.answers)) x.run in (
+      f.1 ++ rest,
+      record {
+        is_spool = x.is_spool;
+        answers = take n x.answers;
+        octets = f.0;
+        count = omega (arith, length-take n x.answers);
+        run = run_fewer profile S start (prompts_of client) x.answers n (length x.answers) (omega arith) run;
+        spelled = f.2;
+        whole = x.whole ∙ ap (λ o. o ++ rest) f.3 ∙ append_assoc f.0 f.1 rest;
+      },
+    )
+
+-- ---- of the spools with P
+
+module _ (P : Spool → Type 0) (profile : Profile) (client server : List ℕ) where
+  -- one answer is bad at most
+  pub bad_once_among : (k j : ℕ) → BadAmong P profile client server k → BadAmong P profile client server j → k ≡ j
+  bad_once_among k j (x, none) (y, none') =
+      elim (cases_order k j) [
+        | inl same ↦ same
+        | inr (inl l) ↦ absurd (none y.0 y.2 (first_explained profile y.0 client server (k + 1) j y.1 (omega arith) y.3))
+        | inr (inr g) ↦ absurd (none' x.0 x.2 (first_explained profile x.0 client server (j + 1) k x.1 (omega arith) x.3))
+      ]
+
+  -- where one of them explains all, no answer is bad
+  pub explained_not_bad_among : (S : Spool) (n k : ℕ) → P S → Explains profile S client server n → BadAmong P profile client server k → ⊥
+  explained_not_bad_among S n k p x (y, none) =
+      elim (cases_lt k n) [
+        | inl l ↦ none S p (first_explained profile S client server (k + 1) n [] (omega arith) x)
+        | inr g ↦
+            let z = y.3 in
+            let count = x.count in
+            let count' = z.count in
+            let f = (same_front (prompts_of client) x.answers z.answers x.octets z.octets [] y.1 x.spelled z.spelled (sym x.whole ∙ z.whole) (omega arith)).1 in
+            let m = ap length (sym x.whole ∙ z.whole) in
+            let a = length-append x.octets [] in
+            let b = length-append z.octets y.1 in
+            y.4 (no_length y.1 (omega arith))
+      ]
+    where
+      no_length : (xs : List ℕ) → length xs ≡ 0 → xs ≡ []
+      no_length [] e = refl
+      no_length (x ∷ xs) e = absurd (omega arith)
+
+  -- one of them permits the answers
+  abbrev pub SomeRuns : List Response → Type 0
+  SomeRuns answers = (S : Spool) × IsSpool profile.limit S × P S × Run profile S start (prompts_of client) answers
+
+  -- whether one of them permits answers that the server's octets begin with
+  abbrev pub IsDecided : Type 0
+  IsDecided = (answers : List Response) (octets rest : List ℕ) → Spelled (prompts_of client) answers octets → server ≡ octets ++ rest
+      → SomeRuns answers ⊎ (SomeRuns answers → ⊥)
+
+  -- the answers that the server's octets begin with
+  abbrev r : Reading (prompts_of client) server
+  r = read (prompts_of client) server
+
+  -- from answer k of them on, none of the spools permits them, and before some does
+  abbrev IsFirst : ℕ → Type 0
+  IsFirst k = (k < length r.answers) × SomeRuns (take k r.answers) × (SomeRuns (take (k + 1) r.answers) → ⊥)
+
+  -- one of them permits the first m answers, or there is a first one from which on none does
+  first_before : (base : (S : Spool) × IsSpool profile.limit S × P S) → IsDecided → (m : ℕ) → m ≤ length r.answers → SomeRuns (take m r.answers) ⊎ ((k : ℕ) × IsFirst k)
+  first_before base dec zero le = inl (base.0, base.1, base.2, tt)
+  first_before base dec (suc m) le =
+      let f = first_spelled (prompts_of client) r.answers r.spelled (suc m) r.is le in
+      let whole : server ≡ f.0 ++ (f.1 ++ r.rest) = r.whole ∙ ap (λ s. s ++ r.rest) f.3 ∙ append_assoc f.0 f.1 r.rest in
+      let next : suc m ≡ m + 1 = omega arith in
+      elim (first_before base dec m (omega arith)) [
+        | inr bad ↦ inr bad
+        | inl good ↦ elim (dec (take (suc m) r.answers) f.0 (f.1 ++ r.rest) f.2 whole) [
+          | inl more ↦ inl more
+          | inr none ↦ inr (m, (omega arith, good, subst (λ n. SomeRuns (take n r.answers) → ⊥) next none))
+        ]
+      ]
+
+  -- a spool that permits the first of them explains these
+  explains_first : (S : Spool) → IsSpool profile.limit S → (k : ℕ) → k ≤ length r.answers → Run profile S start (prompts_of client) (take k r.answers)
+      → (rest : List ℕ) × ExplainsUpTo profile S client server k rest × (k < length r.answers → 0 < length rest)
+  explains_first S spool k le run =
+      let f = first_spelled (prompts_of client) r.answers r.spelled k r.is le in
+      let whole : server ≡ f.0 ++ (f.1 ++ r.rest) = r.whole ∙ ap (λ s. s ++ r.rest) f.3 ∙ append_assoc f.0 f.1 r.rest in (
+        f.1 ++ r.rest,
+        record { is_spool = spool; answers = take k r.answers; octets = f.0; count = omega (arith, length-take k r.answers); run = run; spelled = f.2; whole = whole },
+        λ l. let some = f.4 l in let m = length-append f.1 r.rest in omega arith,
+      )
+
+  -- one that permits all of them explains both streams, or answer k behind them is bad
+  at_the_end : SomeRuns r.answers → ((S : Spool) × (n : ℕ) × P S × Explains profile S client server n) ⊎ ((k : ℕ) × BadAmong P profile client server k)
+  at_the_end (S, spool, p, run) = by r.rest refl
+    where
+      up_to : (rest : List ℕ) → r.rest ≡ rest → ExplainsUpTo profile S client server (length r.answers) rest
+      up_to rest e = record { is_spool = spool; answers = r.answers; octets = r.spelled; count = refl; run = run; spelled = r.is; whole = r.whole ∙ ap (λ rest. r.spelled ++ rest) e }
+
+      by : (rest : List ℕ) → r.rest ≡ rest → ((S : Spool) × (n : ℕ) × P S × Explains profile S client server n) ⊎ ((k : ℕ) × BadAmong P profile client server k)
+      by [] e = inl (S, length r.answers, p, up_to [] e)
+      by (c ∷ cs) e = inr (
+        length r.answers,
+        (
+          (S, c ∷ cs, p, up_to (c ∷ cs) e, λ none. cc),
+          λ T q x. let le = r.longest x.1.answers x.1.octets x.0 x.1.spelled x.1.whole in let n = x.1.count in omega arith,
+        ),
+      )
+
+  -- one of them explains both streams, or an answer is bad
+  pub explained_or_bad_among : (base : (S : Spool) × IsSpool profile.limit S × P S) → IsDecided
+      → ((S : Spool) × (n : ℕ) × P S × Explains profile S client server n) ⊎ ((k : ℕ) × BadAmong P profile client server k)
+  explained_or_bad_among base dec = elim (first_before base dec (length r.answers) (omega arith)) [
+    | inl all ↦ at_the_end (subst SomeRuns (take-length r.answers) all)
+    | inr (k, (within, (S, spool, p, run), none)) ↦
+        let x = explains_first S spool k (omega arith) run in
+        let some = x.2 within in
+        inr (k, ((S, x.0, p, x.1, λ e. let n = ap length e in omega arith), λ T q y. none (T, y.1.is_spool, q, shorter T k within y)))
+  ]
+    where
+      shorter : (T : Spool) (k : ℕ) → k < length r.answers → (y : ExplainsFirst profile T client server k) → Run profile T start (prompts_of client) (take (k + 1) r.answers)
+      shorter T k within y =
+          let n = y.1.count in
+          let f = (same_front (prompts_of client) y.1.answers r.answers y.1.octets r.spelled y.0 r.rest y.1.spelled r.is (sym y.1.whole ∙ r.whole) (omega arith)).0 in
+          subst (λ a. Run profile T start (prompts_of client) a) (f ∙ ap (λ n. take n r.answers) n) y.1.run

@@ -1,0 +1,80 @@
+-- What is so of facts alone, whether or not they are of one session: the given spool of facts that fit, are placed and stand together has them, and is the least.
+use Rattle.std.proofs.Common.{◌<◌, ◌^◌, length}
+use Rattle.std.specs.List.{AllByRecursion}
+use Rattle.std.proofs.Common.{List}
+use Rattle.nntp_wire.specs.declared.marks.Marks.{Marks}
+use Rattle.nntp_article.specs.Session.Spool.{Spool, IsSpool, numbers, Name}
+use Rattle.nntp_article.specs.declared.session.profile.Profile.{Profile}
+use Rattle.nntp_facts.specs.Asks.{Meets}
+use Rattle.nntp_facts.specs.Facts.{Fact, ThereIs, ThereIsNo, Asks, IdAt, TextIs, NoArticle, GroupsAre, Holds}
+use Rattle.nntp_facts.specs.Given.{IsGiven, unshown_ids, asks_of, size, HasAtLeast}
+use Rattle.nntp_facts.specs.Together.{Together}
+use Rattle.nntp_facts.proofs.Members.{In}
+use Rattle.nntp_facts.proofs.Session.FittingFacts.{IsFitting}
+use Rattle.nntp_facts.proofs.Session.NumbersOfShownGroups.{Placed, IsSelectable}
+use Rattle.nntp_facts.proofs.Session.NumbersWithinLimit.{free_in_limit}
+use Rattle.nntp_facts.proofs.Ids.SmallGivenSpool.{few_enough, unshown_ids_few}
+use Rattle.nntp_facts.proofs.Ids.InventedIds.{number-invented, invented_is_id}
+use Rattle.nntp_facts.proofs.Together.FactsOfASpoolStand.{group_in_S, id_in_S, head_in_S, body_in_S}
+use Rattle.nntp_facts.proofs.Given.ConstructedSpool.{made, made_group, made_given, made_is_given}
+use Rattle.nntp_facts.proofs.Given.GivenHolds.{Setting, all_hold}
+use Rattle.nntp_facts.proofs.Given.GivenIsSpool.{given_is_spool}
+use Rattle.nntp_facts.proofs.GivenNumbers.MetNumbersStand.{shown_are_numbers, as_few}
+use Rattle.nntp_facts.proofs.GivenNumbers.AskedOfAGroup.{met_by_facts}
+
+-- a group that is selectable among some facts is among more
+selectable_more : (how : Marks) (xs ys : List Fact) → ((fact : Fact) → In fact xs → In fact ys) → (name : Name) → IsSelectable how xs name → IsSelectable how ys name
+selectable_more how xs ys sub name s = record { marks = s.marks; there = sub (ThereIs name) s.there; estimated = sub _ s.estimated }
+
+-- a fact that is placed among some facts is among more
+pub placed_more : (how : Marks) (xs ys : List Fact) → ((fact : Fact) → In fact xs → In fact ys) → (fact : Fact) → Placed how xs fact → Placed how ys fact
+placed_more how xs ys sub (ThereIs name) p = selectable_more how xs ys sub name p
+placed_more how xs ys sub (Asks name ask) p = selectable_more how xs ys sub name p
+placed_more how xs ys sub (IdAt name n id) p = selectable_more how xs ys sub name p
+placed_more how xs ys sub (ThereIsNo name) p = tt
+placed_more how xs ys sub (TextIs what id lines) p = tt
+placed_more how xs ys sub (NoArticle id) p = tt
+placed_more how xs ys sub (GroupsAre p lines) q = tt
+
+-- a spool is given for facts that fit and are placed
+pub given_of_facts : (profile : Profile) (how : Marks) (facts : List Fact) → AllByRecursion (IsFitting profile) facts → AllByRecursion (Placed how facts) facts
+    → size facts < 2 ^ 210 → IsGiven facts (made profile.limit (10 ^ 64) facts)
+given_of_facts profile how facts fitting placed small =
+    let G = made profile.limit (10 ^ 64) facts in
+    let within = free_in_limit profile facts how fitting placed in
+    let group = made_group profile.limit (10 ^ 64) facts in
+    made_is_given profile.limit (10 ^ 64) facts number-invented (λ name shown e x. within name shown e x.first.1)
+    (few_enough facts (length (unshown_ids facts G)) small
+    (unshown_ids_few facts G (λ name. (group name).0) (λ name i. made_given profile.limit (10 ^ 64) facts name (λ e x. within name ((group name).0 i) e x.first.1) i)))
+
+-- where they stand together, the given spool is a spool and has them
+pub given_has : (profile : Profile) (how : Marks) (G : Spool) (facts : List Fact) → AllByRecursion (IsFitting profile) facts → AllByRecursion (Placed how facts) facts
+    → Together facts → size facts < 2 ^ 210 → IsGiven facts G → IsSpool profile.limit G × AllByRecursion (Holds G) facts
+given_has profile how G facts fitting placed together small given =
+    let few = few_enough facts (length (unshown_ids facts G)) small (unshown_ids_few facts G (λ name. (given.groups name).0) given.numbers_given) in
+    let s : Setting profile (10 ^ 64) G facts =
+    record {
+      small = number-invented;
+      ids = invented_is_id;
+      fitting = fitting;
+      how = how;
+      placed = placed;
+      together = together;
+      given = given;
+      few = few;
+    } in
+    (given_is_spool profile (10 ^ 64) G facts s, all_hold profile (10 ^ 64) G facts s)
+
+-- a spool that has facts has what they show, and as many numbers as are given
+pub least_of_facts : (profile : Profile) (S G : Spool) (facts : List Fact) → IsSpool profile.limit S
+    → AllByRecursion (Holds S) facts → IsGiven facts G → HasAtLeast facts G S
+least_of_facts profile S G facts spool holds given =
+    let met : (name : Name) → AllByRecursion (Meets (numbers S name)) (asks_of name facts) = λ name. met_by_facts S name facts holds in
+    record {
+      groups = λ name i. group_in_S profile.limit S facts spool holds name ((given.groups name).0 i);
+      numbers_shown = λ name n t. shown_are_numbers (numbers S name) (asks_of name facts) n (met name) t;
+      ids_shown = id_in_S profile.limit S facts spool holds;
+      heads_sent = head_in_S profile.limit S facts spool holds;
+      bodies_sent = body_in_S profile.limit S facts spool holds;
+      counts = λ name i. as_few (asks_of name facts) (numbers S name) (met name) (λ n j. (spool.numbers_in_limit name n j).0) (numbers G name) (given.numbers_given name i);
+    }

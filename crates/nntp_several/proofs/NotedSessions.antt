@@ -1,0 +1,185 @@
+-- Exchanges of several sessions are noted one after the other: the next one is permitted exactly if it fits its own session and what it says joins what all said.
+use Rattle.std.proofs.Common.{◌≡◌, ◌+◌, ◌*◌, ◌<◌, ◌≤◌, ◌^◌, ◌↔◌, false, IsTrue, List, [], ◌∷◌, ◌++◌, length, map, Some, refl, sym, ap, subst, ◌∙◌, arith, append_assoc, append-nil, length-append}
+use Rattle.std.proofs.lemmas.List.{map-append}
+use Rattle.std.specs.List.{AllByRecursion}
+use Rattle.nntp_wire.specs.Answer.{Asked, Response}
+use Rattle.nntp_wire.specs.declared.marks.Marks.{Marks}
+use Rattle.nntp_article.specs.declared.session.profile.Profile.{Profile}
+use Rattle.nntp_article.specs.Session.Machine.{Run, start, fits}
+use Rattle.nntp_pair.specs.Pairing.{Paired, asked_of, responses_of, lines_in}
+use Rattle.nntp_facts.specs.declared.position.Position.TheVariants.{Nowhere}
+use Rattle.nntp_facts.specs.Classes.{visible_from, position_from, asked_next}
+use Rattle.nntp_facts.specs.Facts.{Fact, FitsAll, facts_of}
+use Rattle.nntp_facts.specs.Given.{facts_of_session, size, weight}
+use Rattle.nntp_facts.specs.Kept.{IsKept}
+use Rattle.nntp_facts.specs.Noted.{FactsKept, HasNoted, said_by}
+use Rattle.nntp_facts.specs.Together.{Together, Join}
+use Rattle.nntp_facts.proofs.Members.{all_both, all_front, all_back}
+use Rattle.nntp_facts.proofs.Given.FirstBadAnswer.{size-append}
+use Rattle.nntp_facts.proofs.Ids.SizeOfASession.{session_size}
+use Rattle.nntp_facts.proofs.Session.OneMoreAnswer.{facts_grow, fitting_grows}
+use Rattle.nntp_facts.proofs.Together.FactsJoin.{together_more, answer_agrees}
+use Rattle.nntp_several.specs.Answered.{Answered, PermitsEach, SomePermitsEach, FitEach, facts_in, facts_of_all}
+use Rattle.nntp_several.specs.Noted.{exchanged, said_behind, AreFew, HasNotedBehind, begun}
+use Rattle.nntp_several.proofs.SessionsByFacts.{stand_each, permitted_together_of_all}
+
+-- what sessions say, and one more
+pub facts_of_both : (how : Marks) (xs ys : List Answered) → facts_of_all how (xs ++ ys) ≡ facts_of_all how xs ++ facts_of_all how ys
+facts_of_both how [] ys = refl
+facts_of_both how (s ∷ xs) ys = ap (λ facts. facts_in how s ++ facts) (facts_of_both how xs ys) ∙ sym (append_assoc (facts_in how s) (facts_of_all how xs) (facts_of_all how ys))
+
+pub facts_behind : (how : Marks) (earlier : List Answered) (s : Answered) → facts_of_all how (earlier ++ s ∷ []) ≡ facts_of_all how earlier ++ facts_in how s
+facts_behind how earlier s = facts_of_both how earlier (s ∷ []) ∙ ap (λ facts. facts_of_all how earlier ++ facts) (append-nil (facts_in how s))
+
+-- ---- an answer more
+
+module _ (profile : Profile) (earlier : List Answered) (ps : List Asked) (answers : List Response) (asked : Asked) (response : Response)
+    (comes : asked_next ps answers ≡ Some asked) where
+  -- the session before it
+  abbrev past : Answered
+  past = record { prompts = ps; answers = answers }
+
+  -- the session with it
+  abbrev next : Answered
+  next = record { prompts = ps; answers = answers ++ response ∷ [] }
+
+  -- what was said
+  abbrev all : List Fact
+  all = facts_of_all profile.marks earlier ++ facts_of_session profile.marks ps answers
+
+  -- what it says
+  abbrev new : List Fact
+  new = facts_of profile.marks (visible_from start.visible ps answers) (position_from Nowhere ps answers) asked response
+
+  -- what is said with it
+  said_next : facts_of_all profile.marks (earlier ++ next ∷ []) ≡ all ++ new
+  said_next =
+      facts_behind profile.marks earlier next
+      ∙ ap (λ facts. facts_of_all profile.marks earlier ++ facts) (facts_grow profile.marks start.visible Nowhere ps answers asked response comes)
+      ∙ sym (append_assoc (facts_of_all profile.marks earlier) (facts_of_session profile.marks ps answers) new)
+
+  -- behind sessions that some spool permits, some spool permits it exactly if it fits its session and what it says joins what all said
+  pub permitted_more_behind : size (facts_of_all profile.marks (earlier ++ next ∷ [])) < 2 ^ 210 → SomePermitsEach profile (earlier ++ past ∷ [])
+      → SomePermitsEach profile (earlier ++ next ∷ [])
+      ↔ (((visible_from start.visible ps answers).closed ≡ false) × IsTrue (fits profile (visible_from start.visible ps answers) asked response) × Join all new)
+  permitted_more_behind small h = (
+    λ g.
+        let s = stand_each profile g.0 (earlier ++ next ∷ []) g.1 g.2 in
+        let own = all_back Fits earlier (next ∷ []) s.0 in
+        let f = grown.0 own.0 in
+        (f.1, f.2, joins.0 (subst Together said_next s.1)),
+    λ j. (permitted_together_of_all profile (earlier ++ next ∷ []) small).1 (
+      all_both Fits earlier (next ∷ []) (all_front Fits earlier (past ∷ []) before.0) (grown.1 ((all_back Fits earlier (past ∷ []) before.0).0, j.0, j.1), tt),
+      subst Together (sym said_next) (joins.1 j.2),
+    ),
+  )
+    where
+      Fits : Answered → Type 0
+      Fits s = FitsAll profile start.visible s.prompts s.answers
+
+      before : FitEach profile (earlier ++ past ∷ []) × Together (facts_of_all profile.marks (earlier ++ past ∷ []))
+      before = stand_each profile h.0 (earlier ++ past ∷ []) h.1 h.2
+
+      joins : Together (all ++ new) ↔ Join all new
+      joins = together_more all new (subst Together (facts_behind profile.marks earlier past) before.1)
+          (answer_agrees profile.marks (visible_from start.visible ps answers) (position_from Nowhere ps answers) asked response)
+
+      grown : FitsAll profile start.visible ps (answers ++ response ∷ [])
+          ↔ (FitsAll profile start.visible ps answers × ((visible_from start.visible ps answers).closed ≡ false)
+          × IsTrue (fits profile (visible_from start.visible ps answers) asked response))
+      grown = fitting_grows profile start.visible ps answers asked response comes
+
+-- ---- sizes
+
+-- answers of few lines weigh little
+pairs_weight : (pairs : List Paired) → AllByRecursion (λ pair. lines_in pair.response < 2 ^ 64) pairs → weight (responses_of pairs) ≤ (2 ^ 64 + 2) * length pairs
+pairs_weight [] few = omega arith
+pairs_weight (pair ∷ pairs) few = let rest = pairs_weight pairs few.1 in let here = few.0 in omega arith
+
+-- and so few exchanges say little
+few_size : (how : Marks) (pairs : List Paired) → AreFew pairs → size (said_by how pairs) ≤ 2 ^ 129
+few_size how pairs f =
+    let all = session_size how (asked_of pairs) (responses_of pairs) in
+    let weights = pairs_weight pairs f.lines in
+    let count = f.few in
+    omega (arith, all, weights, count)
+
+-- and those of sessions say little for each
+few_sizes : (how : Marks) (earlier : List (List Paired)) → AllByRecursion AreFew earlier → size (facts_of_all how (map exchanged earlier)) ≤ 2 ^ 129 * length earlier
+few_sizes how [] f = omega arith
+few_sizes how (pairs ∷ earlier) f =
+    let both = size-append (said_by how pairs) (facts_of_all how (map exchanged earlier)) in
+    let here = few_size how pairs f.0 in
+    let rest = few_sizes how earlier f.1 in
+    omega (arith, both, here, rest)
+
+-- what few sessions say is small
+pub small_behind : (how : Marks) (earlier : List (List Paired)) (past : List Paired) → length earlier < 2 ^ 64 → AllByRecursion AreFew earlier → AreFew past
+    → size (facts_of_all how (map exchanged earlier ++ exchanged past ∷ [])) < 2 ^ 210
+small_behind how earlier past count f g =
+    let whole = facts_behind how (map exchanged earlier) (exchanged past) in
+    let both = size-append (facts_of_all how (map exchanged earlier)) (said_by how past) in
+    let here = few_size how past g in
+    let rest = few_sizes how earlier f in
+    let small : size (facts_of_all how (map exchanged earlier) ++ said_by how past) < 2 ^ 210 = omega (arith, both, here, rest, count) in
+    subst (λ facts. size facts < 2 ^ 210) (sym whole) small
+
+-- ---- the facts of sessions
+
+-- those of the first session are those of a session
+pub noted_alone : (profile : Profile) (facts : FactsKept) (past : List Paired) → HasNoted profile facts past ↔ HasNotedBehind profile facts [] past
+noted_alone profile facts past = (
+  λ h. record {
+    profile_is = h.profile_is;
+    is_whole = h.is_whole;
+    count = h.count;
+    visible = h.visible;
+    position = h.position;
+    kept = h.kept;
+    permitted = (h.permitted.0, h.permitted.1, (h.permitted.2, tt));
+    sessions = omega arith;
+    earlier_few = tt;
+    few = record { few = h.few; lines = h.lines };
+  },
+  λ h. record {
+    profile_is = h.profile_is;
+    is_whole = h.is_whole;
+    count = h.count;
+    visible = h.visible;
+    position = h.position;
+    kept = h.kept;
+    permitted = (h.permitted.0, h.permitted.1, h.permitted.2.0);
+    lines = h.few.lines;
+    few = h.few.few;
+  },
+)
+
+-- a session begins behind one more
+pub session_begins : (profile : Profile) (facts : FactsKept) (earlier : List (List Paired)) (past : List Paired) → HasNotedBehind profile facts earlier past
+    → length earlier + 1 < 2 ^ 64 → HasNotedBehind profile (begun facts) (earlier ++ past ∷ []) []
+session_begins profile facts earlier past h count = record {
+  profile_is = h.profile_is;
+  is_whole = h.is_whole;
+  count = refl;
+  visible = refl;
+  position = refl;
+  kept = subst (λ said. IsKept said facts.kept) said h.kept;
+  permitted = (
+    h.permitted.0,
+    h.permitted.1,
+    subst (PermitsEach profile h.permitted.0) (sym pushed)
+        (all_both (λ (s : Answered). Run profile h.permitted.0 start s.prompts s.answers) (map exchanged earlier ++ exchanged past ∷ []) (exchanged [] ∷ []) h.permitted.2 (tt, tt)),
+  );
+  sessions = omega (arith, count, length-append earlier (past ∷ []));
+  earlier_few = all_both AreFew earlier (past ∷ []) h.earlier_few (h.few, tt);
+  few = record { few = omega arith; lines = tt };
+}
+  where
+    both : map exchanged (earlier ++ past ∷ []) ≡ map exchanged earlier ++ exchanged past ∷ []
+    both = map-append exchanged earlier (past ∷ [])
+
+    pushed : map exchanged (earlier ++ past ∷ []) ++ exchanged [] ∷ [] ≡ (map exchanged earlier ++ exchanged past ∷ []) ++ exchanged [] ∷ []
+    pushed = ap (λ sessions. sessions ++ exchanged [] ∷ []) both
+
+    said : said_behind profile.marks earlier past ≡ said_behind profile.marks (earlier ++ past ∷ []) []
+    said = sym (append-nil (facts_of_all profile.marks (map exchanged (earlier ++ past ∷ []))) ∙ ap (facts_of_all profile.marks) both ∙ facts_behind profile.marks (map exchanged earlier) (exchanged past))

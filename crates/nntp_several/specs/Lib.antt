@@ -1,0 +1,10 @@
+pub mod Answered
+pub mod Sessions
+pub mod Outcome
+pub mod Noted
+pub mod Reading
+pub mod Judging
+pub mod Paired
+pub mod Conflict
+pub mod Passing
+pub mod Checking

@@ -1,0 +1,88 @@
+-- What is kept while the exchanges of several sessions are noted, one session behind the other.
+use Rattle.std.specs.Prelude.{◌≡◌, ◌<◌, ◌^◌, ◌+◌, false, List, [], ◌∷◌, ◌++◌, length, map, IsTrue, IsFalse}
+use Rattle.std.specs.List.{AllByRecursion}
+use Rattle.nntp_wire.specs.declared.marks.Marks.{Marks}
+use Rattle.nntp_article.specs.declared.session.profile.Profile.{Profile}
+use Rattle.nntp_article.specs.Session.Machine.{start, fits, visible_after}
+use Rattle.nntp_pair.specs.Pairing.{Paired, asked_at, asked_of, responses_of, lines_in}
+use Rattle.nntp_facts.specs.declared.position.Position.TheVariants.{Nowhere}
+use Rattle.nntp_facts.specs.Facts.{Fact, facts_of}
+use Rattle.nntp_facts.specs.Asks.{position_after}
+use Rattle.nntp_facts.specs.Classes.{visible_from, position_from}
+use Rattle.nntp_facts.specs.Kept.{Kept, IsKept}
+use Rattle.nntp_facts.specs.Noted.{FactsKept, profile_kept, said_by, IsDue}
+use Rattle.nntp_facts.specs.declared.noted.Noted.{Noted}
+use Rattle.nntp_facts.specs.declared.noted.Noted.TheVariants.{Consistent, OutOfPlace, Contradiction}
+use Rattle.nntp_several.specs.Answered.{Answered, SomePermitsEach, facts_of_all}
+
+-- the exchanges of a session, as it is answered
+abbrev pub exchanged : List Paired → Answered
+exchanged pairs = record { prompts = asked_of pairs; answers = responses_of pairs }
+
+-- what exchanges say of the spool, behind those of earlier sessions
+abbrev pub said_behind : Marks → List (List Paired) → List Paired → List Fact
+said_behind how earlier past = facts_of_all how (map exchanged earlier) ++ said_by how past
+
+-- some spool permits the exchanges, and those of earlier sessions
+abbrev pub ArePermittedBehind : Profile → List (List Paired) → List Paired → Type 0
+ArePermittedBehind profile earlier pairs = SomePermitsEach profile (map exchanged earlier ++ exchanged pairs ∷ [])
+
+-- there are fewer than 2^64 exchanges, each of fewer than 2^64 lines
+pub record AreFew (pairs : List Paired) : Type 0 where
+  pub few : length pairs < 2 ^ 64
+  pub lines : AllByRecursion (λ pair. lines_in pair.response < 2 ^ 64) pairs
+
+-- the facts are those of these exchanges of a session and of those of earlier sessions, which some spool permits; the visible state and the place in the group are of this session alone
+pub record HasNotedBehind (profile : Profile) (facts : FactsKept) (earlier : List (List Paired)) (past : List Paired) : Type 0 where
+  pub profile_is : profile_kept facts ≡ profile
+  pub is_whole : facts.has_failed ≡ false
+  pub count : facts.count ≡ length past
+  pub visible : facts.visible ≡ visible_from start.visible (asked_of past) (responses_of past)
+  pub position : facts.position ≡ position_from Nowhere (asked_of past) (responses_of past)
+  pub kept : IsKept (said_behind profile.marks earlier past) facts.kept
+  pub permitted : ArePermittedBehind profile earlier past
+  pub sessions : length earlier < 2 ^ 64
+  pub earlier_few : AllByRecursion AreFew earlier
+  pub few : AreFew past
+
+-- the facts as a session begins: what was said is kept, and nothing else
+abbrev pub begun : FactsKept → FactsKept
+begun facts = record {
+  limit = facts.limit;
+  marks = facts.marks;
+  count = 0;
+  visible = start.visible;
+  position = Nowhere;
+  kept = facts.kept;
+  has_failed = facts.has_failed;
+}
+
+-- what was said of one more exchange is so, behind earlier sessions
+abbrev pub IsNotedBehind : Profile → List (List Paired) → List Paired → Paired → FactsKept → FactsKept → Noted → Type 0
+IsNotedBehind profile earlier past pair old new Consistent = ArePermittedBehind profile earlier (past ++ pair ∷ []) × HasNotedBehind profile new earlier (past ++ pair ∷ [])
+IsNotedBehind profile earlier past pair old new OutOfPlace = IsFalse (fits profile old.visible (asked_at pair.line) pair.response) × (new ≡ old)
+IsNotedBehind profile earlier past pair old new Contradiction =
+    IsTrue (fits profile old.visible (asked_at pair.line) pair.response) × (ArePermittedBehind profile earlier (past ++ pair ∷ []) → ⊥) × (new ≡ old)
+
+-- the facts with one exchange more, of which this is kept
+abbrev pub advanced : FactsKept → Paired → Kept → FactsKept
+advanced facts pair kept = record {
+  limit = facts.limit;
+  marks = facts.marks;
+  count = facts.count + 1;
+  visible = visible_after facts.visible (asked_at pair.line) pair.response;
+  position = position_after facts.position (asked_at pair.line) pair.response;
+  kept = kept;
+  has_failed = facts.has_failed;
+}
+
+-- what an exchange says behind the facts
+abbrev pub said_then : Profile → FactsKept → Paired → List Fact
+said_then profile facts pair = facts_of profile.marks facts.visible facts.position (asked_at pair.line) pair.response
+
+-- the exchange is due, has an index below 2^63 and fewer than 2^64 lines, and fits
+pub record MayBeNoted (profile : Profile) (facts : FactsKept) (pair : Paired) : Type 0 where
+  pub due : IsDue facts pair
+  pub low : pair.index < 2 ^ 63
+  pub few : lines_in pair.response < 2 ^ 64
+  pub fitting : IsTrue (fits profile facts.visible (asked_at pair.line) pair.response)

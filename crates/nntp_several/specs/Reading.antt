@@ -1,0 +1,71 @@
+-- Several sessions read to their ends: an answer that is bad is passed over, and the next one is judged behind those that were accepted, of earlier sessions and of its own.
+use Rattle.std.specs.Prelude.{◌≡◌, ◌≢◌, ◌⊎◌, List, [], ◌∷◌, ◌++◌, ℕ, length, map, Some, ⊤}
+use Rattle.nntp_article.specs.declared.session.profile.Profile.{Profile}
+use Rattle.nntp_pair.specs.declared.class.PairClass.{PairClass}
+use Rattle.nntp_pair.specs.declared.class.PairClass.TheVariants.{Malformed as PairMalformed}
+use Rattle.nntp_pair.specs.Pairing.{Paired, Unpaired, IsNext, IsPassedOver, Ending, end, bad, Ends, streams}
+use Rattle.nntp_pair.specs.declared.class.Class.{Class}
+use Rattle.nntp_pair.specs.Classes.{class_of}
+use Rattle.nntp_facts.specs.Reading.{Judged, Accepted, Refused, Unspelled, accepted_of, accepted_with, class_behind}
+use Rattle.nntp_several.specs.Noted.{ArePermittedBehind}
+use Rattle.nntp_several.specs.Sessions.{Recorded}
+
+-- the answer comes next, and is judged so behind these that were accepted: a pair is accepted if they stand with it; and then this is left
+abbrev pub IsJudgedBy : (List Paired → Type 0) → List Paired → Unpaired → Judged → Unpaired → Type 0
+IsJudgedBy Stand past before (Accepted pair) after = IsNext before pair after × Stand (past ++ pair ∷ [])
+IsJudgedBy Stand past before (Refused pair) after = IsNext before pair after × (Stand (past ++ pair ∷ []) → ⊥)
+IsJudgedBy Stand past before (Unspelled index line initial block) after = (index ≡ before.index) × IsPassedOver before line initial block after
+
+-- the answers come next, one after the other, and are judged so behind these that were accepted; and then this is left
+abbrev pub AreJudgedBy : (List Paired → Type 0) → List Paired → Unpaired → List Judged → Unpaired → Type 0
+AreJudgedBy Stand past before [] after = before ≡ after
+AreJudgedBy Stand past before (answer ∷ answers) after =
+    (between : Unpaired) × IsJudgedBy Stand past before answer between × AreJudgedBy Stand (accepted_with past answer) between answers after
+
+-- the reading of both streams, by which exchanges stand: their answers as they are judged, and how the pairing ends behind them, which isn't at a frame that spells nothing
+pub record IsReadingBy (Stand : List Paired → Type 0) (client server : List ℕ) (answers : List Judged) (ending : Ending) : Type 0 where
+  pub left : Unpaired
+  pub judged : AreJudgedBy Stand [] (streams client server) answers left
+  pub ends : Ends left ending
+  pub passed_over : ending ≢ bad PairMalformed
+
+-- a session as it is read
+pub record ReadSession : Type 0 where
+  pub answers : List Judged
+  pub ending : Ending
+
+-- the readings of sessions, each behind what was accepted in these and in those before it
+abbrev pub AreReadings : Profile → List (List Paired) → List Recorded → List ReadSession → Type 0
+AreReadings profile earlier [] [] = ⊤
+AreReadings profile earlier (s ∷ more) (r ∷ readings) =
+    IsReadingBy (ArePermittedBehind profile earlier) s.client s.server r.answers r.ending
+    × AreReadings profile (earlier ++ accepted_of r.answers ∷ []) more readings
+AreReadings profile earlier sessions readings = ⊥
+
+-- the reading of sessions
+abbrev pub IsReadingOfAll : Profile → List Recorded → List ReadSession → Type 0
+IsReadingOfAll profile sessions readings = AreReadings profile [] sessions readings
+
+-- all answers of a session are accepted, and no octet is left
+abbrev pub IsGood : ReadSession → Type 0
+IsGood r = (r.answers ≡ map Accepted (accepted_of r.answers)) × (unanswered : ℕ) × (r.ending ≡ end unanswered)
+
+-- the first bad answer of a session is an answer behind these, which are all accepted
+pub record IsBadAnswer (profile : Profile) (r : ReadSession) (pairs : List Paired) (class : Class) : Type 0 where
+  pub answer : Judged
+  pub more : List Judged
+  pub answers : r.answers ≡ map Accepted pairs ++ answer ∷ more
+  pub class_is : class_behind profile pairs answer ≡ Some class
+
+-- or it is the octets at which the reading ends, behind these, which are all that there are
+pub record AreBadOctets (r : ReadSession) (pairs : List Paired) (class : Class) : Type 0 where
+  pub pair_class : PairClass
+  pub answers : r.answers ≡ map Accepted pairs
+  pub ending : r.ending ≡ bad pair_class
+  pub class_is : class ≡ class_of pair_class
+
+-- the answer is the first bad one of a session, of this class
+pub record IsFirstBad (profile : Profile) (r : ReadSession) (answer : ℕ) (class : Class) : Type 0 where
+  pub pairs : List Paired
+  pub place : answer ≡ length pairs
+  pub is_bad : IsBadAnswer profile r pairs class ⊎ AreBadOctets r pairs class

@@ -1,0 +1,307 @@
+//! Laws of several sessions of one spool.
+ghost use Rattle.std.specs.Prelude.{Contains, ◌≡◌, ◌↔◌, ◌⊎◌, ◌<◌, ◌^◌, ◌+◌, ℕ, false, List, [], ◌∷◌, ◌++◌, length, map, Option, Some, Ok, IsTrue};
+ghost use Rattle.std.specs.List.{AllByRecursion};
+ghost use Rattle.nntp_article.specs.Session.Spool.{Spool, IsSpool};
+ghost use Rattle.nntp_article.specs.declared.session.profile.Profile.{Profile};
+ghost use Rattle.nntp_facts.specs.Facts.{Holds, facts_of};
+ghost use Rattle.nntp_facts.specs.Given.{IsGiven, HasAtLeast, facts_of_session, size};
+ghost use Rattle.nntp_facts.specs.Together.{Together, Join};
+ghost use Rattle.nntp_several.specs.Reading.{IsJudgedBy, ReadSession, IsReadingOfAll, IsGood, IsFirstBad};
+ghost use Rattle.nntp_pair.specs.declared.class.Class.{Class};
+ghost use Rattle.nntp_several.specs.Judging.{VerifiedOfAll, PermitsAll, IsVerifiedOfAll, JudgementOfAll, consistent_of_all, bad_of_all, is_consistent_of_all, IsVerdictOfAll, verdict_of_one};
+ghost use Rattle.nntp_verdict.specs.Judging.{IsVerdict, StopsAt};
+ghost use Rattle.nntp_spool.specs.Limited.{LimitedSpool};
+ghost use Rattle.nntp_spool.specs.Reading.{spool_at};
+ghost use Rattle.nntp_spool.specs.Text.{spool_text};
+ghost use Rattle.nntp_pair.specs.declared.class.Class.TheVariants.{OutOfPlace, Contradiction as Contradicts};
+ghost use Rattle.nntp_verdict.specs.Verdict.{Judgement};
+ghost use Rattle.nntp_wire.specs.declared.limit.Limit.{Limit};
+ghost use Rattle.nntp_article.specs.Session.Limit.{profile_of};
+ghost use Rattle.nntp_several.specs.Noted.{exchanged, said_behind, ArePermittedBehind, AreFew, HasNotedBehind, IsNotedBehind, begun, advanced, said_then, MayBeNoted};
+ghost use Rattle.nntp_facts.specs.Conflict.{placed_behind, FitsThere, SomeHas, told_with, below};
+ghost use Rattle.nntp_several.specs.Conflict.{placed_of_all};
+ghost use Rattle.nntp_facts.specs.Kept.{Kept, IsKept};
+ghost use Rattle.nntp_facts.specs.Saying.{IsSelectedShown};
+ghost use Rattle.nntp_facts.specs.declared.noted.Noted.TheVariants.{Consistent, OutOfPlace as NotedOutOfPlace, Contradiction};
+ghost use Rattle.nntp_facts.specs.Noted.{FactsKept, HasNoted};
+ghost use Rattle.nntp_facts.specs.Classes.{visible_from, position_from, asked_next, class_by, HasClass, IsSettled};
+ghost use Rattle.nntp_pair.specs.Classes.{class_of};
+ghost use Rattle.nntp_facts.specs.declared.position.Position.TheVariants.{Nowhere};
+ghost use Rattle.nntp_pair.specs.Pairing.{Paired, Unpaired, IsNext, AreNext, Ends, end, bad, IsPairing, asked_at, asked_of, responses_of, streams};
+ghost use Rattle.nntp_pair.specs.declared.class.PairClass.{PairClass};
+ghost use Rattle.nntp_several.specs.Paired.{ArePaired};
+ghost use Rattle.nntp_several.specs.Passing.{PassedOfAll};
+ghost use Rattle.nntp_several.specs.Checking.{unrecorded, with_more, HasPassedOfAll, StandsForAll, decided_all, IsBadForGoodOfAll, IsToldBadOfAll};
+ghost use Rattle.nntp_pair.specs.Feeding.{Fed, left_of, unfed};
+ghost use Rattle.nntp_pair.specs.declared.octet_counts.OctetCounts.{OctetCounts};
+ghost use Rattle.nntp_wire.specs.Answer.{Asked, Response};
+ghost use Rattle.nntp_wire.specs.declared.marks.Marks.{Marks};
+ghost use Rattle.nntp_article.specs.Session.Machine.{start, fits};
+ghost use Rattle.nntp_several.specs.Answered.{Answered, PermitsEach, SomePermitsEach, FitEach, facts_of_all};
+ghost use Rattle.nntp_several.specs.Sessions.{Recorded, ExplainsEach, ExplainsAll, BadBehind, BadOfAll, answered_by, counts_of, octets_of};
+ghost use Rattle.nntp_several.specs.Outcome.{OutcomeOfAll, YesOfAll, NoOfAll, is_yes_of_all, IsLeastOfAll, IsOutcomeOfAll, of_one};
+ghost use Rattle.nntp_article.specs.Session.Explains.{Explains, Bad};
+ghost use Rattle.nntp_facts.specs.Reading.{Accepted, Refused, class_behind, IsReading};
+ghost use Rattle.nntp_facts.specs.Outcome.{Outcome, IsOutcome};
+
+/// A spool permits each of several sessions exactly if each fits and all that their answers say
+/// holds of it.
+pub fn sessions_are_permitted_by_facts()
+    ensures { (profile : Profile) (S : Spool) (sessions : List Answered)
+        → PermitsEach profile S sessions ↔ (FitEach profile sessions × AllByRecursion (Holds S) (facts_of_all profile.marks sessions)) }
+{}
+
+/// Some spool permits each of them exactly if each fits and what all say stands together; and that
+/// is decided. Then the given spool of all that they say permits them, and is the least that does.
+pub fn sessions_are_permitted_where_all_stands_together()
+    ensures exactly_if { (profile : Profile) (sessions : List Answered) → size (facts_of_all profile.marks sessions) < 2 ^ 210
+        → SomePermitsEach profile sessions ↔ (FitEach profile sessions × Together (facts_of_all profile.marks sessions)) }
+    ensures decided { (profile : Profile) (sessions : List Answered) → size (facts_of_all profile.marks sessions) < 2 ^ 210
+        → SomePermitsEach profile sessions ⊎ (SomePermitsEach profile sessions → ⊥) }
+    ensures given_exists { (profile : Profile) (sessions : List Answered) → FitEach profile sessions → size (facts_of_all profile.marks sessions) < 2 ^ 210
+        → (G : Spool) × IsGiven (facts_of_all profile.marks sessions) G }
+    ensures given_permits { (profile : Profile) (G : Spool) (sessions : List Answered) → FitEach profile sessions → Together (facts_of_all profile.marks sessions)
+        → size (facts_of_all profile.marks sessions) < 2 ^ 210 → IsGiven (facts_of_all profile.marks sessions) G → IsSpool profile.limit G × PermitsEach profile G sessions }
+    ensures given_is_least { (profile : Profile) (S G : Spool) (sessions : List Answered) → IsSpool profile.limit S → PermitsEach profile S sessions
+        → IsGiven (facts_of_all profile.marks sessions) G → HasAtLeast (facts_of_all profile.marks sessions) G S }
+{}
+
+/// Some spool explains several sessions, or exactly one answer is bad, and never both.
+pub fn sessions_are_explained_or_bad()
+    ensures explained_or_bad { (profile : Profile) (sessions : List Recorded) → octets_of sessions < 2 ^ 210
+        → ((S : Spool) × ExplainsAll profile S sessions) ⊎ ((j : ℕ) × (k : ℕ) × BadOfAll profile sessions j k) }
+    ensures never_both { (profile : Profile) (S : Spool) (sessions : List Recorded) (j k : ℕ)
+        → ExplainsAll profile S sessions → BadOfAll profile sessions j k → ⊥ }
+    ensures one_bad { (profile : Profile) (sessions : List Recorded) (j i k l : ℕ)
+        → BadOfAll profile sessions j k → BadOfAll profile sessions i l → (j ≡ i) × (k ≡ l) }
+{}
+
+/// Several sessions have exactly one outcome. It is a yes if some spool explains them all, and else
+/// a no.
+pub fn sessions_have_one_outcome()
+    ensures some { (profile : Profile) (sessions : List Recorded) → octets_of sessions < 2 ^ 210 → (outcome : OutcomeOfAll) × IsOutcomeOfAll profile sessions outcome }
+    ensures one { (profile : Profile) (sessions : List Recorded) (outcome other : OutcomeOfAll)
+        → IsOutcomeOfAll profile sessions outcome → IsOutcomeOfAll profile sessions other → outcome ≡ other }
+    ensures yes { (profile : Profile) (sessions : List Recorded) (outcome : OutcomeOfAll) → IsOutcomeOfAll profile sessions outcome
+        → IsTrue (is_yes_of_all outcome) ↔ ((S : Spool) × ExplainsAll profile S sessions) }
+{}
+
+/// If some spool explains them all, then the given spool of all that they say is their least
+/// explanation.
+pub fn given_spool_explains_sessions()
+    ensures { (profile : Profile) (S G : Spool) (sessions : List Recorded) (explained : ExplainsAll profile S sessions)
+        → size (facts_of_all profile.marks (answered_by profile S sessions explained.1)) < 2 ^ 210
+        → IsGiven (facts_of_all profile.marks (answered_by profile S sessions explained.1)) G
+        → IsLeastOfAll profile sessions G (counts_of (answered_by profile S sessions explained.1)) }
+{}
+
+/// What is said of one session is what is said of its two streams.
+pub fn one_session_is_two_streams()
+    ensures explained { (profile : Profile) (S : Spool) (s : Recorded) → ExplainsAll profile S (s ∷ []) ↔ ((n : ℕ) × Explains profile S s.client s.server n) }
+    ensures bad { (profile : Profile) (s : Recorded) (k : ℕ) → BadOfAll profile (s ∷ []) 0 k ↔ Bad profile s.client s.server k }
+    ensures outcome { (profile : Profile) (s : Recorded) (outcome : Outcome) → IsOutcomeOfAll profile (s ∷ []) (of_one outcome) ↔ IsOutcome profile s.client s.server outcome }
+    ensures only { (profile : Profile) (s : Recorded) (outcome : OutcomeOfAll) → IsOutcomeOfAll profile (s ∷ []) outcome → (one : Outcome) × (outcome ≡ of_one one) }
+    ensures reading { (profile : Profile) (s : Recorded) (r : ReadSession) → IsReadingOfAll profile (s ∷ []) (r ∷ []) ↔ IsReading profile s.client s.server r.answers r.ending }
+{}
+
+/// Behind sessions that some spool permits, some spool permits one answer more of the last one
+/// exactly if it fits its own session, and what it says joins what all sessions said.
+pub fn next_answer_joins_all_sessions()
+    ensures answer { (profile : Profile) (earlier : List Answered) (prompts : List Asked) (answers : List Response) (asked : Asked) (response : Response)
+        → asked_next prompts answers ≡ Some asked
+        → size (facts_of_all profile.marks (earlier ++ record { prompts = prompts; answers = answers ++ response ∷ [] } ∷ [])) < 2 ^ 210
+        → SomePermitsEach profile (earlier ++ record { prompts = prompts; answers = answers } ∷ [])
+        → SomePermitsEach profile (earlier ++ record { prompts = prompts; answers = answers ++ response ∷ [] } ∷ [])
+        ↔ (((visible_from start.visible prompts answers).closed ≡ false) × IsTrue (fits profile (visible_from start.visible prompts answers) asked response)
+        × Join (facts_of_all profile.marks earlier ++ facts_of_session profile.marks prompts answers)
+        (facts_of profile.marks (visible_from start.visible prompts answers) (position_from Nowhere prompts answers) asked response)) }
+    ensures size { (how : Marks) (earlier : List (List Paired)) (past : List Paired) → length earlier < 2 ^ 64 → AllByRecursion AreFew earlier → AreFew past
+        → size (facts_of_all how (map exchanged earlier ++ exchanged past ∷ [])) < 2 ^ 210 }
+{}
+
+/// The facts of a first session are those of a session. Where they are those of sessions, they are
+/// so as the next session begins, but for the visible state and the place in the group.
+pub fn session_begins_behind_others()
+    ensures alone { (profile : Profile) (facts : FactsKept) (past : List Paired) → HasNoted profile facts past ↔ HasNotedBehind profile facts [] past }
+    ensures begins { (profile : Profile) (facts : FactsKept) (earlier : List (List Paired)) (past : List Paired) → HasNotedBehind profile facts earlier past
+        → length earlier + 1 < 2 ^ 64 → HasNotedBehind profile (begun facts) (earlier ++ past ∷ []) [] }
+{}
+
+/// Several sessions have exactly one reading.
+pub fn sessions_have_one_reading()
+    ensures some { (profile : Profile) (sessions : List Recorded) → octets_of sessions < 2 ^ 210 → (readings : List ReadSession) × IsReadingOfAll profile sessions readings }
+    ensures one { (profile : Profile) (sessions : List Recorded) (readings others : List ReadSession)
+        → IsReadingOfAll profile sessions readings → IsReadingOfAll profile sessions others → readings ≡ others }
+{}
+
+/// The first bad answer of the first session that has one is that of the outcome; and no session
+/// has one exactly if some spool explains them all.
+pub fn first_bad_session_is_the_outcome()
+    ensures first { (profile : Profile) (sessions : List Recorded) (front : List ReadSession) (r : ReadSession) (rest : List ReadSession) (answer : ℕ) (class : Class)
+        → IsReadingOfAll profile sessions (front ++ r ∷ rest) → AllByRecursion IsGood front → IsFirstBad profile r answer class
+        → IsOutcomeOfAll profile sessions (NoOfAll (length front) answer class) }
+    ensures good { (profile : Profile) (sessions : List Recorded) (readings : List ReadSession) → IsReadingOfAll profile sessions readings
+        → AllByRecursion IsGood readings ↔ ((S : Spool) × ExplainsAll profile S sessions) }
+{}
+
+/// Several sessions have one verdict by a limit and marks, and it is a yes exactly if some spool
+/// explains them all. That of one session is that of its two streams.
+pub fn sessions_have_one_verdict()
+    ensures one { (limit : Limit) (marks : Marks) (sessions : List Recorded) (verdict other : JudgementOfAll)
+        → IsVerdictOfAll limit marks sessions verdict → IsVerdictOfAll limit marks sessions other → verdict ≡ other }
+    ensures yes { (limit : Limit) (marks : Marks) (sessions : List Recorded) (verdict : JudgementOfAll) → IsVerdictOfAll limit marks sessions verdict
+        → IsTrue (is_consistent_of_all verdict) ↔ ((S : Spool) × ExplainsAll (profile_of limit marks) S sessions) }
+    ensures alone { (limit : Limit) (marks : Marks) (s : Recorded) (verdict : Judgement)
+        → IsVerdictOfAll limit marks (s ∷ []) (verdict_of_one verdict) ↔ IsVerdict limit marks s.client s.server verdict }
+{}
+
+/// Where the pairings of all sessions come to the ends of their servers' octets, and some spool
+/// permits their exchanges, the outcome is a yes with the given spool of all that they say.
+pub fn outcome_at_the_ends()
+    ensures { (profile : Profile) (sessions : List Recorded) (exchanges : List (List Paired)) (G : Spool)
+        → size (facts_of_all profile.marks (map exchanged exchanges)) < 2 ^ 210 → ArePaired sessions exchanges → SomePermitsEach profile (map exchanged exchanges)
+        → IsGiven (facts_of_all profile.marks (map exchanged exchanges)) G → IsOutcomeOfAll profile sessions (YesOfAll G (map length exchanges)) }
+{}
+
+/// Behind sessions that are paired to their ends, and exchanges that some spool permits, the outcome
+/// is a no at octets at which the pairing ends, and at an exchange that no spool permits.
+pub fn outcome_within_a_session()
+    ensures octets { (profile : Profile) (before : List Recorded) (earlier : List (List Paired)) (paired : ArePaired before earlier) (s : Recorded) (more : List Recorded)
+        → SomePermitsEach profile (map exchanged earlier) → (pairs : List Paired) (class : PairClass)
+        → IsPairing s.client s.server pairs (bad class) → ArePermittedBehind profile earlier pairs
+        → IsOutcomeOfAll profile (before ++ s ∷ more) (NoOfAll (length before) (length pairs) (class_of class)) }
+    ensures response { (profile : Profile) (before : List Recorded) (earlier : List (List Paired)) (paired : ArePaired before earlier) (s : Recorded) (more : List Recorded)
+        → SomePermitsEach profile (map exchanged earlier) → (pairs : List Paired) (pair : Paired) (between after : Unpaired)
+        → AreNext (streams s.client s.server) pairs between → IsNext between pair after → ArePermittedBehind profile earlier pairs
+        → (ArePermittedBehind profile earlier (pairs ++ pair ∷ []) → ⊥)
+        → IsOutcomeOfAll profile (before ++ s ∷ more)
+        (NoOfAll (length before) (length pairs) (class_by (fits profile (visible_from start.visible (asked_of pairs) (responses_of pairs)) (asked_at pair.line) pair.response))) }
+{}
+
+/// What was noted of sessions stands together, and shows the group that is selected. A further
+/// exchange that may be noted is accepted exactly if what it says joins all that was said; and then
+/// the facts advance, with what is kept of it.
+pub fn exchange_is_noted_behind_others()
+    ensures stands { (profile : Profile) (facts : FactsKept) (earlier : List (List Paired)) (past : List Paired) → HasNotedBehind profile facts earlier past
+        → Together (said_behind profile.marks earlier past) × IsSelectedShown facts.visible (said_behind profile.marks earlier past) }
+    ensures consistent { (profile : Profile) (facts : FactsKept) (earlier : List (List Paired)) (past : List Paired) (pair : Paired) (kept : Kept)
+        → HasNotedBehind profile facts earlier past → MayBeNoted profile facts pair → Join (said_behind profile.marks earlier past) (said_then profile facts pair)
+        → IsKept (said_behind profile.marks earlier past ++ said_then profile facts pair) kept
+        → IsNotedBehind profile earlier past pair facts (advanced facts pair kept) Consistent }
+    ensures contradiction { (profile : Profile) (facts : FactsKept) (earlier : List (List Paired)) (past : List Paired) (pair : Paired)
+        → HasNotedBehind profile facts earlier past → MayBeNoted profile facts pair
+        → (Join (said_behind profile.marks earlier past) (said_then profile facts pair) → ⊥) → IsNotedBehind profile earlier past pair facts facts Contradiction }
+{}
+
+/// The accepted answers of all sessions fit where each stands, and so does one that contradicts
+/// them, which no spool has with them.
+pub fn contradiction_conflicts_with_all_sessions()
+    ensures next { (earlier : List (List Paired)) (past : List Paired) (pair : Paired) → placed_of_all earlier (past ++ pair ∷ []) ≡ placed_of_all earlier past ++ placed_behind past pair ∷ [] }
+    ensures accepted { (profile : Profile) (facts : FactsKept) (earlier : List (List Paired)) (past : List Paired) → HasNotedBehind profile facts earlier past
+        → AllByRecursion (FitsThere profile) (placed_of_all earlier past) }
+    ensures contradiction { (profile : Profile) (facts : FactsKept) (earlier : List (List Paired)) (past : List Paired) (pair : Paired)
+        → HasNotedBehind profile facts earlier past → MayBeNoted profile facts pair → IsNotedBehind profile earlier past pair facts facts Contradiction
+        → FitsThere profile (placed_behind past pair)
+        × (SomeHas profile (told_with profile (placed_behind past pair) (placed_of_all earlier past) (below (length (placed_of_all earlier past)))) → ⊥) }
+{}
+
+/// A spool that explains sessions explains some of them, in any order. So the order of sessions
+/// decides neither whether some spool explains them, nor which one is given.
+pub fn order_of_sessions_decides_no_spool()
+    ensures explained { (profile : Profile) (S : Spool) (some all : List Recorded) → ((s : Recorded) → Contains some s → Contains all s) → ExplainsAll profile S all → ExplainsAll profile S some }
+    ensures given { (profile : Profile) (sessions others : List Recorded) (S T : Spool) (answers counts : List ℕ)
+        → ((s : Recorded) → Contains sessions s → Contains others s) → ((s : Recorded) → Contains others s → Contains sessions s)
+        → IsLeastOfAll profile sessions S answers → IsLeastOfAll profile others T counts → S ≡ T }
+{}
+
+/// What `verify` answers of several sessions is one; and of a spool that explains them all it is
+/// that it permits them, with the answers of each.
+pub fn sessions_are_verified_in_one_way()
+    ensures one { (profile : Profile) (S : Spool) (sessions : List Recorded) (verified other : VerifiedOfAll)
+        → IsVerifiedOfAll profile S sessions verified → IsVerifiedOfAll profile S sessions other → verified ≡ other }
+    ensures explained { (profile : Profile) (S : Spool) (sessions : List Recorded) (explained : ExplainsEach profile S sessions) (verified : VerifiedOfAll)
+        → IsVerifiedOfAll profile S sessions verified → verified ≡ PermitsAll (counts_of (answered_by profile S sessions explained)) }
+{}
+
+/// A bad answer is the outcome whatever sessions follow; and where it is settled, whatever octets of
+/// its own session follow, too.
+pub fn bad_answer_stays_whatever_follows()
+    ensures ended { (profile : Profile) (before : List Recorded) (s : Recorded) (more : List Recorded) (answer : ℕ) (class : Class)
+        → BadBehind profile before s answer → HasClass profile s.client s.server answer class → IsOutcomeOfAll profile (before ++ s ∷ more) (NoOfAll (length before) answer class) }
+    ensures settled { (profile : Profile) (before : List Recorded) (s : Recorded) (more_client more_server : List ℕ) (more : List Recorded) (answer : ℕ) (class : Class)
+        → length s.server < 2 ^ 210 → BadBehind profile before s answer → HasClass profile s.client s.server answer class → IsSettled s.client s.server answer class
+        → IsOutcomeOfAll profile (before ++ record { client = s.client ++ more_client; server = s.server ++ more_server } ∷ more) (NoOfAll (length before) answer class) }
+{}
+
+/// Where the pairings of all sessions come to their ends, and some spool permits their exchanges, the
+/// verdict is a yes with the given spool, if that is read back from its text; and it is a no where
+/// the outcome is one, with what stands at its place.
+pub fn verdict_follows_the_outcome()
+    ensures yes { (limit : Limit) (marks : Marks) (sessions : List Recorded) (exchanges : List (List Paired)) (L : LimitedSpool)
+        → L.limit ≡ limit → spool_at (spool_text L) ≡ Ok L → ArePaired sessions exchanges → SomePermitsEach (profile_of limit marks) (map exchanged exchanges)
+        → size (facts_of_all (profile_of limit marks).marks (map exchanged exchanges)) < 2 ^ 210
+        → IsGiven (facts_of_all (profile_of limit marks).marks (map exchanged exchanges)) L.spool
+        → IsVerdictOfAll limit marks sessions (consistent_of_all L (map length exchanges)) }
+    ensures no { (limit : Limit) (marks : Marks) (before : List Recorded) (s : Recorded) (more : List Recorded) (answer : ℕ) (class : Class) (command : Option (List ℕ)) (reply : List ℕ)
+        → IsOutcomeOfAll (profile_of limit marks) (before ++ s ∷ more) (NoOfAll (length before) answer class) → StopsAt s.client s.server answer class command reply
+        → IsVerdictOfAll limit marks (before ++ s ∷ more) (bad_of_all (length before) answer class command reply) }
+{}
+
+/// What is noted of the next exchange behind other sessions says how it is judged in the reading that
+/// goes on, and of which class it is where it is bad.
+pub fn noted_exchange_is_judged_behind_others()
+    ensures consistent { (profile : Profile) (earlier : List (List Paired)) (past : List Paired) (pair : Paired) (old new : FactsKept) (before after : Unpaired)
+        → IsNotedBehind profile earlier past pair old new Consistent → IsNext before pair after → IsJudgedBy (ArePermittedBehind profile earlier) past before (Accepted pair) after }
+    ensures contradiction { (profile : Profile) (earlier : List (List Paired)) (past : List Paired) (pair : Paired) (old new : FactsKept) (before after : Unpaired)
+        → HasNotedBehind profile old earlier past → IsNotedBehind profile earlier past pair old new Contradiction → IsNext before pair after
+        → IsJudgedBy (ArePermittedBehind profile earlier) past before (Refused pair) after × (class_behind profile past (Refused pair) ≡ Some Contradicts) }
+    ensures out_of_place { (profile : Profile) (earlier : List (List Paired)) (past : List Paired) (pair : Paired) (old new : FactsKept) (before after : Unpaired)
+        → HasNotedBehind profile old earlier past → IsNotedBehind profile earlier past pair old new NotedOutOfPlace → IsNext before pair after
+        → IsJudgedBy (ArePermittedBehind profile earlier) past before (Refused pair) after × (class_behind profile past (Refused pair) ≡ Some OutOfPlace) }
+{}
+
+/// Sessions are judged one exchange after the other. It begins with a first session of which nothing
+/// has passed; an exchange that is noted passes; and where the pairing ends with no octet left, the
+/// next session begins, or the outcome is a yes with the given spool. It is a no at octets that answer
+/// nothing, and at an exchange that isn't accepted, whatever sessions follow.
+pub fn sessions_are_judged_in_turn()
+    ensures begins { (profile : Profile) (facts : FactsKept) (s : Recorded) → HasNotedBehind profile facts [] [] → PassedOfAll profile [] s facts (streams s.client s.server) }
+    ensures passes { (profile : Profile) (before : List Recorded) (s : Recorded) (old new : FactsKept) (left after : Unpaired) (pair : Paired) (passed : PassedOfAll profile before s old left)
+        → IsNext left pair after → IsNotedBehind profile passed.earlier passed.pairs pair old new Consistent → PassedOfAll profile before s new after }
+    ensures goes_on { (profile : Profile) (before : List Recorded) (s next : Recorded) (facts : FactsKept) (left : Unpaired) (unanswered : ℕ) → PassedOfAll profile before s facts left
+        → Ends left (end unanswered) → length before + 1 < 2 ^ 64 → PassedOfAll profile (before ++ s ∷ []) next (begun facts) (streams next.client next.server) }
+    ensures yes { (profile : Profile) (before : List Recorded) (s : Recorded) (facts : FactsKept) (left : Unpaired) (unanswered : ℕ) (G : Spool) (passed : PassedOfAll profile before s facts left)
+        → Ends left (end unanswered) → IsGiven (said_behind profile.marks passed.earlier passed.pairs) G
+        → IsOutcomeOfAll profile (before ++ s ∷ []) (YesOfAll G (map length (passed.earlier ++ passed.pairs ∷ []))) }
+    ensures octets { (profile : Profile) (before : List Recorded) (s : Recorded) (more : List Recorded) (facts : FactsKept) (left : Unpaired) (class : PairClass) (passed : PassedOfAll profile before s facts left)
+        → Ends left (bad class) → IsOutcomeOfAll profile (before ++ s ∷ more) (NoOfAll (length before) (length passed.pairs) (class_of class)) }
+    ensures contradiction { (profile : Profile) (before : List Recorded) (s : Recorded) (more : List Recorded) (old new : FactsKept) (left after : Unpaired) (pair : Paired) (passed : PassedOfAll profile before s old left)
+        → IsNext left pair after → IsNotedBehind profile passed.earlier passed.pairs pair old new Contradiction
+        → IsOutcomeOfAll profile (before ++ s ∷ more) (NoOfAll (length before) (length passed.pairs) Contradicts) }
+    ensures out_of_place { (profile : Profile) (before : List Recorded) (s : Recorded) (more : List Recorded) (old new : FactsKept) (left after : Unpaired) (pair : Paired) (passed : PassedOfAll profile before s old left)
+        → IsNext left pair after → IsNotedBehind profile passed.earlier passed.pairs pair old new NotedOutOfPlace
+        → IsOutcomeOfAll profile (before ++ s ∷ more) (NoOfAll (length before) (length passed.pairs) OutOfPlace) }
+{}
+
+/// What a checker of sessions holds: nothing at first; and where the pairing of the last session ends
+/// with no octet left, the same facts as the next one begins. A judgement that is decided stays.
+pub fn checker_goes_on_to_the_next_session()
+    ensures begins { (profile : Profile) (facts : FactsKept) → HasNotedBehind profile facts [] [] → HasPassedOfAll profile [] unrecorded facts unfed }
+    ensures passed { (profile : Profile) (before : List Recorded) (s : Recorded) (facts : FactsKept) (fed : Fed)
+        → HasPassedOfAll profile before s facts fed → PassedOfAll profile before s facts (left_of fed) }
+    ensures goes_on { (profile : Profile) (before : List Recorded) (s : Recorded) (facts : FactsKept) (fed : Fed) (unanswered : ℕ) → HasPassedOfAll profile before s facts fed
+        → Ends (left_of fed) (end unanswered) → length before + 1 < 2 ^ 64 → HasPassedOfAll profile (before ++ s ∷ []) unrecorded (begun facts) unfed }
+    ensures decided { (limit : Limit) (marks : Marks) (judgement : JudgementOfAll) (counts : OctetCounts) (before : List Recorded) (s : Recorded)
+        → StandsForAll limit marks (decided_all judgement counts) before s
+        → StandsForAll limit marks (decided_all judgement (record { client = 0; server = 0 })) (before ++ s ∷ []) unrecorded }
+{}
+
+/// What may be told of sessions as bad is one thing; and where an answer is told, it is the outcome
+/// whatever octets of the last session and whatever sessions follow.
+pub fn one_of_all_is_told_bad()
+    ensures one { (profile : Profile) (before : List Recorded) (s : Recorded) (told other : Option (ℕ × ℕ × Class))
+        → IsToldBadOfAll profile before s told → IsToldBadOfAll profile before s other → told ≡ other }
+    ensures stays { (profile : Profile) (before : List Recorded) (s : Recorded) (more_client more_server : List ℕ) (more : List Recorded) (j k : ℕ) (class : Class)
+        → length s.server < 2 ^ 210 → IsBadForGoodOfAll profile before s j k class
+        → IsOutcomeOfAll profile (before ++ with_more s more_client more_server ∷ more) (NoOfAll j k class) }
+{}
