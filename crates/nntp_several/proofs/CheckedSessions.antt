@@ -12,18 +12,19 @@ use Rattle.nntp_pair.proofs.FedLaws.{fed-paired}
 use Rattle.nntp_pair.specs.declared.class.Class.{Class}
 use Rattle.nntp_facts.specs.Classes.{HasClass, IsSettled}
 use Rattle.nntp_facts.specs.Noted.{FactsKept}
+use Rattle.nntp_facts.proofs.Streams.OneClass.{bad_stays, class_stays}
 use Rattle.nntp_verdict.proofs.CheckerLemmas.{nothing-next}
 use Rattle.nntp_several.specs.Checking.{unrecorded, with_more, HasPassedOfAll, IsNoForGoodOfAll, StandsForAll, decided_all, IsBadForGoodOfAll, IsToldBadOfAll}
 use Rattle.nntp_several.specs.Judging.{JudgementOfAll, consistent_of_all, bad_of_all, IsVerdictOfAll}
 use Rattle.nntp_several.specs.Noted.{HasNotedBehind, begun}
 use Rattle.nntp_several.specs.Outcome.{NoOfAll, IsOutcomeOfAll}
 use Rattle.nntp_several.specs.Passing.{PassedOfAll}
-use Rattle.nntp_several.specs.Sessions.{Recorded, BadBehind}
+use Rattle.nntp_several.specs.Sessions.{Recorded, ExplainsEach, BadBehind}
 use Rattle.nntp_several.proofs.ExplainedSessions.{there}
 use Rattle.nntp_several.proofs.OneOutcomeOfAll.{one_outcome_of_all}
 use Rattle.nntp_several.proofs.NotedSessions.{session_begins}
 use Rattle.nntp_several.proofs.PassingSessions.{paired_push, as_many_sessions}
-use Rattle.nntp_several.proofs.SettledSessions.{settled_of_all}
+use Rattle.nntp_several.proofs.SessionsRead.{outcome_at}
 
 -- ---- what is held
 
@@ -75,6 +76,15 @@ decided_goes_on limit marks judgement counts before s (d, came_client, came_serv
 
 -- ---- what is told
 
+-- a settled answer that is bad stays so whatever octets of its session and whatever sessions follow
+pub settled_of_all : (profile : Profile) (before : List Recorded) (s : Recorded) (more_client more_server : List ℕ) (more : List Recorded) (k : ℕ) (class : Class)
+    → BadBehind profile before s k → HasClass profile s.client s.server k class → IsSettled s.client s.server k class
+    → IsOutcomeOfAll profile (before ++ with_more s more_client more_server ∷ more) (NoOfAll (length before) k class)
+settled_of_all profile before s more_client more_server more k class b h settled =
+    outcome_at profile before (with_more s more_client more_server) more k class
+    (bad_stays profile s.client s.server more_client more_server k class h settled (λ S. ExplainsEach profile S before) b)
+    (class_stays profile s.client s.server more_client more_server k class h settled)
+
 -- what stands before the end of sessions stands there whatever follows them
 front_place : (before xs : List Recorded) (j : ℕ) → j < length before → (slice_get (before ++ xs) j ≡ slice_get before j) × (take j (before ++ xs) ≡ take j before)
 front_place [] xs j l = absurd (omega arith)
@@ -103,8 +113,8 @@ no_place (b ∷ before) s (suc j) l = no_place before s j (omega arith)
 
 -- an answer that is bad for good is so whatever octets and sessions follow
 pub bad_for_good_stays_of_all : (profile : Profile) (before : List Recorded) (s : Recorded) (more_client more_server : List ℕ) (more : List Recorded) (j k : ℕ) (class : Class)
-    → length s.server < 2 ^ 210 → IsBadForGoodOfAll profile before s j k class → IsOutcomeOfAll profile (before ++ with_more s more_client more_server ∷ more) (NoOfAll j k class)
-bad_for_good_stays_of_all profile before s more_client more_server more j k class small (outcome, settled) = elim (cases_lt j (length before)) [
+    → IsBadForGoodOfAll profile before s j k class → IsOutcomeOfAll profile (before ++ with_more s more_client more_server ∷ more) (NoOfAll j k class)
+bad_for_good_stays_of_all profile before s more_client more_server more j k class (outcome, settled) = elim (cases_lt j (length before)) [
   | inl less ↦ front_stays profile before (s ∷ []) (with_more s more_client more_server ∷ more) j k class less outcome
   | inr le ↦ last le settled
 ]
@@ -125,7 +135,7 @@ bad_for_good_stays_of_all profile before s more_client more_server more j k clas
         subst (λ front. BadBehind profile front s k) r.1 (subst (λ o. MatchOption o ⊥ (λ session. BadBehind profile (take (length before) (before ++ s ∷ [])) session k)) r.0 here.0) in
         let has : HasClass profile s.client s.server k class = subst (λ o. MatchOption o ⊥ (λ session. HasClass profile session.client session.server k class)) r.0 here.1 in
         subst (λ j. IsOutcomeOfAll profile (before ++ with_more s more_client more_server ∷ more) (NoOfAll j k class)) (sym same)
-        (settled_of_all profile before s more_client more_server more k class small is_bad has settled)
+        (settled_of_all profile before s more_client more_server more k class is_bad has settled)
 
 -- one answer is told
 pub one_told_of_all : (profile : Profile) (before : List Recorded) (s : Recorded) (told other : Option (ℕ × ℕ × Class)) → IsToldBadOfAll profile before s told → IsToldBadOfAll profile before s other → told ≡ other

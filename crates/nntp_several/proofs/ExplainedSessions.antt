@@ -14,11 +14,11 @@ use Rattle.nntp_facts.specs.Given.{size}
 use Rattle.nntp_facts.proofs.Members.{all_both, all_front, all_back}
 use Rattle.nntp_facts.proofs.Given.FirstBadAnswer.{size-append, none_permitted}
 use Rattle.nntp_facts.proofs.Session.OneMoreAnswer.{size_by_octets}
+use Rattle.nntp_facts.proofs.Streams.ExplainedOrBad.{bad_once, explained_not_bad_among, explained_or_bad_among, IsDecided}
 use Rattle.nntp_facts.proofs.Streams.OneOutcome.{same_answers}
 use Rattle.nntp_several.specs.Answered.{Answered, PermitsEach, facts_in, facts_of_all}
 use Rattle.nntp_several.specs.Sessions.{Recorded, ExplainsIt, ExplainsEach, ExplainsAll, BadBehind, BadOfAll, answered_by, octets_of}
 use Rattle.nntp_several.proofs.SessionsByFacts.{some_or_none_of_all}
-use Rattle.nntp_several.proofs.AmongSpools.{bad_once_among, explained_not_bad_among, explained_or_bad_among, IsDecided}
 
 -- ---- explained sessions and their answers
 
@@ -116,7 +116,7 @@ module _ (profile : Profile) (before : List Recorded) (base : (S : Spool) × Exp
 
   -- so some spool explains this one too, or an answer of it is bad
   pub next_or_bad : ((S : Spool) × ExplainsAll profile S (before ++ s ∷ [])) ⊎ ((k : ℕ) × BadBehind profile before s k)
-  next_or_bad = elim (explained_or_bad_among (λ S. ExplainsEach profile S before) profile s.client s.server (base.0, base.1.0, base.1.1) decided) [
+  next_or_bad = elim (explained_or_bad_among (λ S. ExplainsEach profile S before) profile s.client s.server (base.0, base.1.0, base.1.1, tt) decided) [
     | inl x ↦ inl (x.0, (x.3.is_spool, all_both (ExplainsIt profile x.0) before (s ∷ []) x.2 ((x.1, x.3), tt)))
     | inr bad ↦ inr bad
   ]
@@ -209,7 +209,7 @@ bad_once_of_all profile sessions j i k l h g = elim (cases_order j i) [
       let c = bad_there profile sessions i l g in
       let session : b.session ≡ c.session = (let e = sym b.place ∙ c.place in cc) in (
         same,
-        bad_once_among (λ S. ExplainsEach profile S (take i sessions)) profile c.session.client c.session.server k l
+        bad_once (λ S. ExplainsEach profile S (take i sessions)) profile c.session.client c.session.server k l
             (subst (λ s. BadBehind profile (take i sessions) s k) session b.bad) c.bad,
       )
   | inr (inl less) ↦ absurd (not_before profile sessions j i k l less h g)

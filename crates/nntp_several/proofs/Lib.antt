@@ -1,12 +1,9 @@
 mod FactsAlone
 mod SessionsByFacts
-mod AmongSpools
-mod ClassOnce
 mod ExplainedSessions
 mod OneOutcomeOfAll
 mod NotedSessions
 mod ReadBy
-mod BadPairs
 mod SessionsRead
 mod OneVerdictOfAll
 mod WaysToOutcome
@@ -14,6 +11,5 @@ mod NotedNext
 mod ConflictsOfSessions
 mod AnyOrder
 mod VerifiedSessions
-mod SettledSessions
 mod PassingSessions
 mod CheckedSessions

@@ -1,5 +1,5 @@
 -- Several sessions have one outcome, and it is a yes exactly if some spool explains them all.
-use Rattle.std.proofs.Common.{◌≡◌, ◌↔◌, ℕ, zero, suc, ◌<◌, ◌^◌, IsTrue, List, [], ◌∷◌, Option, None, Some, slice_get, inl, inr, refl, sym, ap, subst, ◌∙◌, append-nil, arith}
+use Rattle.std.proofs.Common.{◌≡◌, ◌↔◌, ℕ, zero, suc, ◌<◌, ◌^◌, IsTrue, List, [], ◌∷◌, Option, None, Some, slice_get, take, inl, inr, refl, sym, ap, subst, ◌∙◌, append-nil, arith}
 use Rattle.std.specs.Prelude.{MatchOption}
 use Rattle.std.proofs.lemmas.Bool.{true≢false}
 use Rattle.nntp_article.specs.Session.Spool.{Spool}
@@ -9,14 +9,14 @@ use Rattle.nntp_wire.specs.Session.{prompts_of}
 use Rattle.nntp_facts.specs.Facts.{Fact}
 use Rattle.nntp_facts.specs.Given.{IsGiven, HasAtLeast, facts_of_session, size}
 use Rattle.nntp_pair.specs.declared.class.Class.{Class}
-use Rattle.nntp_facts.specs.Classes.{HasClass, AnswersFirst}
+use Rattle.nntp_facts.specs.Classes.{HasClass}
 use Rattle.nntp_facts.specs.Outcome.{Outcome, Yes, No, IsLeastExplanation, IsOutcome}
 use Rattle.nntp_facts.proofs.Given.OneGivenSpool.{given_once}
+use Rattle.nntp_facts.proofs.Streams.OneClass.{before_bad, class_there, one_class}
 use Rattle.nntp_several.specs.Answered.{PermitsEach, facts_of_all}
-use Rattle.nntp_several.specs.Sessions.{Recorded, ExplainsAll, BadOfAll, answered_by, counts_of, octets_of}
+use Rattle.nntp_several.specs.Sessions.{Recorded, ExplainsEach, ExplainsAll, BadOfAll, answered_by, counts_of, octets_of}
 use Rattle.nntp_several.specs.Outcome.{OutcomeOfAll, YesOfAll, NoOfAll, is_yes_of_all, IsLeastOfAll, HasClassThere, IsOutcomeOfAll, of_one}
 use Rattle.nntp_several.proofs.SessionsByFacts.{stand_each, made_for_all, given_exists_of_all, given_permits_all, least_of_all}
-use Rattle.nntp_several.proofs.ClassOnce.{class_there, class_once_there}
 use Rattle.nntp_several.proofs.ExplainedSessions.{same_each, runs_each, explains_each, size_by_all_octets, bad_there, explained_or_bad_of_all, explained_not_bad_of_all, bad_once_of_all}
 
 -- ---- yes
@@ -46,10 +46,7 @@ given_explains_all profile S G sessions x small given =
 some_class_there : (profile : Profile) (sessions : List Recorded) (j k : ℕ) → BadOfAll profile sessions j k → (class : Class) × HasClassThere profile sessions j k class
 some_class_there profile sessions j k h =
     let b = bad_there profile sessions j k h in
-    let x = b.bad.0.3 in
-    let before : AnswersFirst b.session.client b.session.server k =
-    record { answers = x.answers; octets = x.octets; rest = b.bad.0.1; count = x.count; spelled = x.spelled; whole = x.whole } in
-    let c = class_there profile b.session.client b.session.server k before in
+    let c = class_there profile b.session.client b.session.server k (before_bad (λ S. ExplainsEach profile S (take j sessions)) profile b.session.client b.session.server k b.bad) in
     (c.0, subst (λ o. MatchOption o ⊥ (λ session. HasClass profile session.client session.server k c.0)) (sym b.place) c.1)
 
 -- and one only
@@ -59,7 +56,7 @@ one_class_there profile sessions j k c d = by (slice_get sessions j)
     by : (o : Option Recorded) → MatchOption o ⊥ (λ session. HasClass profile session.client session.server k c)
         → MatchOption o ⊥ (λ session. HasClass profile session.client session.server k d) → c ≡ d
     by None h g = absurd h
-    by (Some s) h g = class_once_there profile s.client s.server k c d h g
+    by (Some s) h g = one_class profile s.client s.server k c d h g
 
 -- ---- one outcome
 
@@ -104,14 +101,11 @@ one_explained profile S s = (λ h. h.1.0, λ x. (x.1.is_spool, (x, tt)))
 
 -- and what is bad
 pub one_bad_answer : (profile : Profile) (s : Recorded) (k : ℕ) → BadOfAll profile (s ∷ []) 0 k ↔ Bad profile s.client s.server k
-one_bad_answer profile s k = (
-  λ b. ((b.0.0, b.0.1, b.0.3, b.0.4), λ S x. b.1 S tt x),
-  λ b. ((b.0.0, b.0.1, tt, b.0.2, b.0.3), λ S u x. b.1 S x),
-)
+one_bad_answer profile s k = (λ b. b, λ b. b)
 
 -- the outcome of one session is that of its streams
 pub one_session_outcome : (profile : Profile) (s : Recorded) (h : Outcome) → IsOutcomeOfAll profile (s ∷ []) (of_one h) ↔ IsOutcome profile s.client s.server h
-one_session_outcome profile s (No k class) = let b = one_bad_answer profile s k in (λ h. (b.0 h.0, h.1), λ h. (b.1 h.0, h.1))
+one_session_outcome profile s (No k class) = (λ h. h, λ h. h)
 one_session_outcome profile s (Yes S n) = (to, back)
   where
     facts : (T : Spool) (m : ℕ) → Explains profile T s.client s.server m → List Fact

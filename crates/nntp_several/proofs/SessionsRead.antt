@@ -11,7 +11,6 @@ use Rattle.nntp_article.specs.Session.Machine.{Run, start, fits}
 use Rattle.nntp_pair.specs.declared.class.PairClass.{PairClass}
 use Rattle.nntp_pair.specs.declared.class.PairClass.TheVariants.{Malformed as PairMalformed}
 use Rattle.nntp_pair.specs.Pairing.{Paired, Unpaired, IsNext, AreNext, Ending, end, bad, IsPairing, asked_at, asked_of, responses_of, streams}
-use Rattle.nntp_pair.proofs.PairingLemmas.{AreNext-push}
 use Rattle.nntp_pair.proofs.PassedLemmas.{passed-ends}
 use Rattle.nntp_pair.specs.declared.class.Class.{Class}
 use Rattle.nntp_facts.specs.Classes.{visible_from, HasClass, class_by}
@@ -22,18 +21,16 @@ use Rattle.nntp_facts.specs.Reading.{Judged, Accepted, Refused, Unspelled, accep
 use Rattle.nntp_facts.proofs.Members.{all_both, all_front, all_back}
 use Rattle.nntp_facts.proofs.Given.FirstBadAnswer.{size-append, none_permitted}
 use Rattle.nntp_facts.proofs.Ids.SizeOfASession.{session_size}
-use Rattle.nntp_facts.proofs.Session.LaterPrompts.{run_longer, run_shorter, visible_longer}
-use Rattle.nntp_facts.proofs.Session.OneMoreAnswer.{prompts_of_pairs, as_few}
-use Rattle.nntp_facts.proofs.Streams.ClassAtTheEnd.{explained_pairs}
+use Rattle.nntp_facts.proofs.Session.OneMoreAnswer.{pairs_run}
 use Rattle.nntp_facts.proofs.Streams.ExplainedPairs.{by_all_pairs}
-use Rattle.nntp_facts.proofs.Streams.PairedStreams.{explained_end, bad_end, answer_has_class}
+use Rattle.nntp_facts.proofs.Streams.OneOutcome.{bad_response}
+use Rattle.nntp_facts.proofs.Streams.PairedStreams.{explained_end, bad_end}
 use Rattle.nntp_facts.proofs.Reading.JudgedAnswers.{accepted_behind}
 use Rattle.nntp_several.specs.Answered.{Answered, PermitsEach, SomePermitsEach, facts_of_all}
 use Rattle.nntp_several.specs.Noted.{exchanged, said_behind, ArePermittedBehind}
 use Rattle.nntp_several.specs.Outcome.{NoOfAll, IsOutcomeOfAll}
 use Rattle.nntp_several.specs.Reading.{IsJudgedBy, AreJudgedBy, IsReadingBy, ReadSession, AreReadings, IsReadingOfAll, IsGood, IsFirstBad}
 use Rattle.nntp_several.specs.Sessions.{Recorded, ExplainsIt, ExplainsEach, ExplainsAll, BadBehind, octets_of}
-use Rattle.nntp_several.proofs.BadPairs.{bad_answer_among}
 use Rattle.nntp_several.proofs.ExplainedSessions.{there, bad_at, explained_not_bad_of_all}
 use Rattle.nntp_several.proofs.NotedSessions.{facts_behind}
 use Rattle.nntp_several.proofs.ReadBy.{one_reading_by, weight_by, accepted_first, all_paired, some_reading_by}
@@ -118,15 +115,6 @@ some_reading_from profile earlier (s ∷ more) small =
 abbrev pub Follows : Profile → List (List Paired) → List Recorded → Type 0
 Follows profile earlier before = (S : Spool) → IsSpool profile.limit S → PermitsEach profile S (map exchanged earlier) ↔ ExplainsEach profile S before
 
--- prompts that are not answered don't matter
-pub prompts_run : (profile : Profile) (S : Spool) (client server : List ℕ) (pairs : List Paired) (left : Unpaired) → AreNext (streams client server) pairs left
-    → Run profile S start (prompts_of client) (responses_of pairs) ↔ Run profile S start (asked_of pairs) (responses_of pairs)
-prompts_run profile S client server pairs left paired =
-    let more = prompts_of_pairs client server pairs left paired in (
-      λ run. run_shorter profile S start (asked_of pairs) more.0 (responses_of pairs) (as_few pairs) (subst (λ ps. Run profile S start ps (responses_of pairs)) more.1 run),
-      λ run. subst (λ ps. Run profile S start ps (responses_of pairs)) (sym more.1) (run_longer profile S start (asked_of pairs) more.0 (responses_of pairs) run),
-    )
-
 -- a session whose pairing comes to the end
 follows_more : (profile : Profile) (earlier : List (List Paired)) (before : List Recorded) (s : Recorded) (pairs : List Paired) (unanswered : ℕ) → Follows profile earlier before
     → IsPairing s.client s.server pairs (end unanswered) → Follows profile (earlier ++ pairs ∷ []) (before ++ s ∷ [])
@@ -136,7 +124,7 @@ follows_more profile earlier before s pairs unanswered f pairing S spool = (to, 
     same = map-append exchanged earlier (pairs ∷ [])
 
     runs : Run profile S start (prompts_of s.client) (responses_of pairs) ↔ Run profile S start (asked_of pairs) (responses_of pairs)
-    runs = prompts_run profile S s.client s.server pairs pairing.left pairing.paired
+    runs = pairs_run profile S s.client s.server pairs pairing.left pairing.paired
 
     to : PermitsEach profile S (map exchanged (earlier ++ pairs ∷ [])) → ExplainsEach profile S (before ++ s ∷ [])
     to h =
@@ -185,38 +173,18 @@ module _ (profile : Profile) (earlier : List (List Paired)) (before : List Recor
   -- octets behind exchanges that stand
   pub octets_here : (pairs : List Paired) (class : PairClass) → IsPairing s.client s.server pairs (bad class) → Stand pairs → IsBadHere (length pairs) (class_of class)
   octets_here pairs class pairing (S, spool, g) =
-      let run = (prompts_run profile S s.client s.server pairs pairing.left pairing.paired).1 (all_back (Runs profile S) (map exchanged earlier) (exchanged pairs ∷ []) g).0 in
-      let alone = bad_end profile s.client s.server pairs class pairing (S, spool, run) in
+      let run = (pairs_run profile S s.client s.server pairs pairing.left pairing.paired).1 (all_back (Runs profile S) (map exchanged earlier) (exchanged pairs ∷ []) g).0 in
       let p = (f S spool).0 (all_front (Runs profile S) (map exchanged earlier) (exchanged pairs ∷ []) g) in
-      (((S, pairing.left.server, p, explained_pairs profile S s.client s.server pairs pairing.left pairing.paired spool run, pairing.ends.0), λ T q x. alone.0.1 T x), alone.1)
+      bad_end (λ S. ExplainsEach profile S before) profile s.client s.server pairs class pairing S spool p run
 
   -- a pair that doesn't stand behind those that do
   pub pair_here : (pairs : List Paired) (pair : Paired) (between after : Unpaired) → AreNext (streams s.client s.server) pairs between → IsNext between pair after
       → Stand pairs → (Stand (pairs ++ pair ∷ []) → ⊥)
       → IsBadHere (length pairs) (class_by (fits profile (visible_from start.visible (asked_of pairs) (responses_of pairs)) (asked_at pair.line) pair.response))
-  pair_here pairs pair between after paired next (S, spool, g) none = (
-    bad_answer_among (λ S. ExplainsEach profile S before) profile s.client s.server pairs pair between after paired next S spool
-        ((f S spool).0 (all_front (Runs profile S) (map exchanged earlier) (exchanged pairs ∷ []) g))
-        ((prompts_run profile S s.client s.server pairs between paired).1 (all_back (Runs profile S) (map exchanged earlier) (exchanged pairs ∷ []) g).0)
-        (λ T sp q run. none (
-          T,
-          sp,
-          all_both (Runs profile T) (map exchanged earlier) (exchanged (pairs ++ pair ∷ []) ∷ []) ((f T sp).1 q)
-              ((prompts_run profile T s.client s.server (pairs ++ pair ∷ []) after longer).0 (subst (λ answers. Run profile T start (prompts_of s.client) answers) (sym responses) run), tt),
-        )),
-    answer_has_class profile s.client s.server pairs pair between after paired next _ (ap (λ v. fits profile v (asked_at pair.line) pair.response) same_visible),
-  )
-    where
-      longer : AreNext (streams s.client s.server) (pairs ++ pair ∷ []) after
-      longer = AreNext-push pairs (streams s.client s.server) between after pair paired next
-
-      responses : responses_of (pairs ++ pair ∷ []) ≡ responses_of pairs ++ pair.response ∷ []
-      responses = map-append (λ pair. pair.response) pairs (pair ∷ [])
-
-      same_visible : visible_from start.visible (prompts_of s.client) (responses_of pairs) ≡ visible_from start.visible (asked_of pairs) (responses_of pairs)
-      same_visible =
-          let more = prompts_of_pairs s.client s.server pairs between paired in
-          ap (λ ps. visible_from start.visible ps (responses_of pairs)) more.1 ∙ visible_longer start.visible (asked_of pairs) more.0 (responses_of pairs) (as_few pairs)
+  pair_here pairs pair between after paired next (S, spool, g) none =
+      bad_response profile s.client s.server pairs pair between after paired next (λ S. ExplainsEach profile S before) S spool
+      ((f S spool).0 (all_front (Runs profile S) (map exchanged earlier) (exchanged pairs ∷ []) g)) (all_back (Runs profile S) (map exchanged earlier) (exchanged pairs ∷ []) g).0
+      (λ T sp p run. none (T, sp, all_both (Runs profile T) (map exchanged earlier) (exchanged (pairs ++ pair ∷ []) ∷ []) ((f T sp).1 p) (run, tt)))
 
   -- the first answer of a reading that isn't accepted
   answer_here : (pairs : List Paired) (answer : Judged) (more : List Judged) (ending : Ending) (class : Class)

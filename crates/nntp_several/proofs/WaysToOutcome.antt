@@ -10,7 +10,7 @@ use Rattle.nntp_pair.specs.Pairing.{Paired, Unpaired, IsNext, AreNext, end, bad,
 use Rattle.nntp_facts.specs.Classes.{visible_from, class_by}
 use Rattle.nntp_pair.specs.Classes.{class_of}
 use Rattle.nntp_facts.specs.Given.{IsGiven, facts_of_session, size}
-use Rattle.nntp_facts.proofs.Session.OneMoreAnswer.{facts_by_pairs}
+use Rattle.nntp_facts.proofs.Session.OneMoreAnswer.{facts_by_pairs, pairs_run}
 use Rattle.nntp_facts.proofs.Streams.ExplainedPairs.{by_all_pairs}
 use Rattle.nntp_facts.proofs.Streams.PairedStreams.{explained_end}
 use Rattle.nntp_several.specs.Answered.{SomePermitsEach, facts_of_all}
@@ -19,7 +19,7 @@ use Rattle.nntp_several.specs.Outcome.{YesOfAll, NoOfAll, IsLeastOfAll, IsOutcom
 use Rattle.nntp_several.specs.Paired.{ArePaired}
 use Rattle.nntp_several.specs.Sessions.{Recorded, ExplainsEach, answered_by, counts_of}
 use Rattle.nntp_several.proofs.OneOutcomeOfAll.{given_explains_all}
-use Rattle.nntp_several.proofs.SessionsRead.{Follows, prompts_run, octets_here, pair_here, outcome_at}
+use Rattle.nntp_several.proofs.SessionsRead.{Follows, octets_here, pair_here, outcome_at}
 
 -- to permit the exchanges of sessions is to explain these
 pub follows : (profile : Profile) (sessions : List Recorded) (exchanges : List (List Paired)) → ArePaired sessions exchanges → Follows profile exchanges sessions
@@ -28,7 +28,7 @@ follows profile [] (pairs ∷ exchanges) p S spool = absurd p
 follows profile (s ∷ more) [] p S spool = absurd p
 follows profile (s ∷ more) (pairs ∷ exchanges) ((unanswered, pairing), p) S spool =
     let rest = follows profile more exchanges p S spool in
-    let runs = prompts_run profile S s.client s.server pairs pairing.left pairing.paired in (
+    let runs = pairs_run profile S s.client s.server pairs pairing.left pairing.paired in (
       λ h. ((length pairs, explained_end profile S s.client s.server pairs unanswered pairing spool (runs.1 h.0)), rest.0 h.1),
       λ x.
           let answers = (by_all_pairs profile S s.client s.server x.0.0 pairs (end unanswered) pairing x.0.1).0 in

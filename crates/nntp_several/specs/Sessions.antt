@@ -1,10 +1,10 @@
 -- A spool explains what clients and servers sent in several sessions (RFC 3977, sections 3.1 and 3.5).
-use Rattle.std.specs.Prelude.{◌≢◌, ℕ, ◌+◌, List, [], ◌∷◌, length, map, take, slice_get, MatchOption}
+use Rattle.std.specs.Prelude.{ℕ, ◌+◌, List, [], ◌∷◌, length, map, take, slice_get, MatchOption}
 use Rattle.std.specs.List.{AllByRecursion}
 use Rattle.nntp_wire.specs.Session.{prompts_of}
 use Rattle.nntp_article.specs.Session.Spool.{Spool, IsSpool}
 use Rattle.nntp_article.specs.declared.session.profile.Profile.{Profile}
-use Rattle.nntp_article.specs.Session.Explains.{ExplainsUpTo, Explains, ExplainsFirst}
+use Rattle.nntp_article.specs.Session.Explains.{Explains, BadAmong}
 use Rattle.nntp_several.specs.Answered.{Answered}
 
 -- what client and server sent in a session
@@ -23,12 +23,6 @@ ExplainsEach profile S sessions = AllByRecursion (ExplainsIt profile S) sessions
 -- it is a spool, and explains each of them
 abbrev pub ExplainsAll : Profile → Spool → List Recorded → Type 0
 ExplainsAll profile S sessions = IsSpool profile.limit S × ExplainsEach profile S sessions
-
--- of the spools with P some explains the answers before k, octets are left, and none explains the answers 0 to k
-abbrev pub BadAmong : (Spool → Type 0) → Profile → List ℕ → List ℕ → ℕ → Type 0
-BadAmong P profile client server k =
-    ((S : Spool) × (rest : List ℕ) × P S × ExplainsUpTo profile S client server k rest × (rest ≢ []))
-    × ((S : Spool) → P S → ExplainsFirst profile S client server k → ⊥)
 
 -- answer k of a session is bad behind the sessions before: of the spools that explain those
 abbrev pub BadBehind : Profile → List Recorded → Recorded → ℕ → Type 0

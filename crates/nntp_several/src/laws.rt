@@ -229,7 +229,7 @@ pub fn bad_answer_stays_whatever_follows()
     ensures ended { (profile : Profile) (before : List Recorded) (s : Recorded) (more : List Recorded) (answer : ℕ) (class : Class)
         → BadBehind profile before s answer → HasClass profile s.client s.server answer class → IsOutcomeOfAll profile (before ++ s ∷ more) (NoOfAll (length before) answer class) }
     ensures settled { (profile : Profile) (before : List Recorded) (s : Recorded) (more_client more_server : List ℕ) (more : List Recorded) (answer : ℕ) (class : Class)
-        → length s.server < 2 ^ 210 → BadBehind profile before s answer → HasClass profile s.client s.server answer class → IsSettled s.client s.server answer class
+        → BadBehind profile before s answer → HasClass profile s.client s.server answer class → IsSettled s.client s.server answer class
         → IsOutcomeOfAll profile (before ++ record { client = s.client ++ more_client; server = s.server ++ more_server } ∷ more) (NoOfAll (length before) answer class) }
 {}
 
@@ -302,6 +302,6 @@ pub fn one_of_all_is_told_bad()
     ensures one { (profile : Profile) (before : List Recorded) (s : Recorded) (told other : Option (ℕ × ℕ × Class))
         → IsToldBadOfAll profile before s told → IsToldBadOfAll profile before s other → told ≡ other }
     ensures stays { (profile : Profile) (before : List Recorded) (s : Recorded) (more_client more_server : List ℕ) (more : List Recorded) (j k : ℕ) (class : Class)
-        → length s.server < 2 ^ 210 → IsBadForGoodOfAll profile before s j k class
+        → IsBadForGoodOfAll profile before s j k class
         → IsOutcomeOfAll profile (before ++ with_more s more_client more_server ∷ more) (NoOfAll j k class) }
 {}

@@ -1,6 +1,6 @@
 -- What a checker tells as bad: the answer at the end of the pairing, if that end stays.
 use Rattle.std.proofs.Common.{◌≡◌, ◌⊎◌, ◌∙◌, sym, ap, subst, refl, ℕ, List, ◌++◌, length, Option, None, Some, inl, inr}
-use Rattle.std.specs.Prelude.{IsTrue, is_some}
+use Rattle.std.specs.Prelude.{IsTrue, is_some, ⊤}
 use Rattle.nntp_wire.specs.declared.limit.Limit.{Limit}
 use Rattle.nntp_wire.specs.declared.marks.Marks.{Marks}
 use Rattle.nntp_article.specs.Session.Limit.{profile_of}
@@ -82,7 +82,7 @@ pub bad-stays : (profile : Profile) (client server client_more server_more : Lis
     → IsBadForGood profile client server answer c → IsBadForGood profile (client ++ client_more) (server ++ server_more) answer c
 bad-stays profile client server client_more server_more answer c (outcome, settled) = (
   (
-    answer_stays profile client server client_more server_more answer c outcome.1 settled outcome.0,
+    answer_stays profile client server client_more server_more answer c outcome.1 settled (λ S. ⊤) outcome.0,
     class_stays profile client server client_more server_more answer c outcome.1 settled,
   ),
   settled_stays client server client_more server_more answer c settled,

@@ -1,5 +1,5 @@
 -- A spool explains what client and server sent (RFC 3977, sections 3.1 and 3.5).
-use Rattle.std.specs.Prelude.{◌≡◌, ◌≢◌, ℕ, ◌+◌, List, [], ◌++◌, length}
+use Rattle.std.specs.Prelude.{◌≡◌, ◌≢◌, ℕ, ◌+◌, List, [], ◌++◌, length, ⊤}
 use Rattle.nntp_wire.specs.Answer.{Response}
 use Rattle.nntp_wire.specs.Session.{prompts_of, Spelled}
 use Rattle.nntp_article.specs.Session.Spool.{Spool, IsSpool}
@@ -24,8 +24,12 @@ Explains profile S client server n = ExplainsUpTo profile S client server n []
 abbrev pub ExplainsFirst : Profile → Spool → List ℕ → List ℕ → ℕ → Type 0
 ExplainsFirst profile S client server k = (rest : List ℕ) × ExplainsUpTo profile S client server (k + 1) rest
 
--- some spool explains the answers before k, octets are left, and no spool explains the answers 0 to k
+-- of the spools with P some explains the answers before k, octets are left, and none explains the answers 0 to k
+abbrev pub BadAmong : (Spool → Type 0) → Profile → List ℕ → List ℕ → ℕ → Type 0
+BadAmong P profile client server k =
+    ((S : Spool) × (rest : List ℕ) × P S × ExplainsUpTo profile S client server k rest × (rest ≢ []))
+    × ((S : Spool) → P S → ExplainsFirst profile S client server k → ⊥)
+
+-- of all spools: some explains the answers before k, octets are left, and none explains the answers 0 to k
 abbrev pub Bad : Profile → List ℕ → List ℕ → ℕ → Type 0
-Bad profile client server k =
-    ((S : Spool) × (rest : List ℕ) × ExplainsUpTo profile S client server k rest × (rest ≢ []))
-    × ((S : Spool) → ExplainsFirst profile S client server k → ⊥)
+Bad profile client server k = BadAmong (λ S. ⊤) profile client server k

@@ -89,20 +89,20 @@ none_permitted profile ps answers = (no_spool, empty_is_spool profile, tt)
 
 -- ---- the first bad answer
 
--- some spool permits the first m answers, or one of them is bad
-bad_before : (profile : Profile) (ps : List Asked) (answers : List Response)
-    → size (facts_of_session profile.marks ps answers) < 2 ^ 210 → (m : ℕ) → m ≤ length answers
-    → SomePermits profile ps (take m answers) ⊎ ((k : ℕ) × IsFirstUnpermitted profile ps answers k)
-bad_before profile ps answers small zero le = inl (none_permitted profile ps answers)
-bad_before profile ps answers small (suc m) le =
-    let fits : size (facts_of_session profile.marks ps (take (m + 1) answers)) < 2 ^ 210 = (let s = size_fewer profile.marks start.visible Nowhere ps answers (m + 1) in omega arith) in
-    elim (bad_before profile ps answers small m (omega arith)) [
-      | inr bad ↦ inr bad
-      | inl good ↦ elim (some_or_none profile ps (take (m + 1) answers) fits) [
-        | inl more ↦ (let next : m + 1 ≡ suc m = omega arith in inl (subst (λ n. SomePermits profile ps (take n answers)) next more))
-        | inr none ↦ inr (m, (omega arith, good, λ h. none h.0 h.1 h.2))
-      ]
-    ]
+-- Q holds of k, which is below m, and not of the next
+abbrev pub EndsAt : (ℕ → Type 0) → ℕ → ℕ → Type 0
+EndsAt Q m k = (k < m) × Q k × (Q (k + 1) → ⊥)
+
+-- what holds of 0 holds of m, or ends below
+pub holds_or_ends : (Q : ℕ → Type 0) (m : ℕ) → Q 0 → ((n : ℕ) → n ≤ m → Q n ⊎ (Q n → ⊥)) → Q m ⊎ ((k : ℕ) × EndsAt Q m k)
+holds_or_ends Q zero base decided = inl base
+holds_or_ends Q (suc m) base decided = elim (holds_or_ends Q m base (λ n le. decided n (omega arith))) [
+  | inr (k, (less, good, none)) ↦ inr (k, (omega arith, good, none))
+  | inl good ↦ elim (decided (suc m) (omega arith)) [
+    | inl more ↦ inl more
+    | inr none ↦ (let next : suc m ≡ m + 1 = omega arith in inr (m, (omega arith, good, subst (λ n. Q n → ⊥) next none)))
+  ]
+]
 
 -- some spool permits the session, or an answer is bad
 pub permitted_or_bad : (profile : Profile) (ps : List Asked) (answers : List Response)
@@ -110,7 +110,12 @@ pub permitted_or_bad : (profile : Profile) (ps : List Asked) (answers : List Res
     ⊎ ((k : ℕ) × IsFirstUnpermitted profile ps answers k)
 permitted_or_bad profile ps answers small = subst
     (λ all. SomePermits profile ps all ⊎ ((k : ℕ) × IsFirstUnpermitted profile ps answers k)) (take-length answers)
-    (bad_before profile ps answers small (length answers) (omega arith))
+    (holds_or_ends (λ n. SomePermits profile ps (take n answers)) (length answers) (none_permitted profile ps answers) decided)
+  where
+    decided : (n : ℕ) → n ≤ length answers → SomePermits profile ps (take n answers) ⊎ (SomePermits profile ps (take n answers) → ⊥)
+    decided n le =
+        let few = size_fewer profile.marks start.visible Nowhere ps answers n in
+        elim (some_or_none profile ps (take n answers) (omega arith)) [ inl some ↦ inl some | inr none ↦ inr (λ h. none h.0 h.1 h.2) ]
 
 -- and never both
 pub never_both : (profile : Profile) (ps : List Asked) (answers : List Response) (k : ℕ) → SomePermits profile ps answers → IsFirstUnpermitted profile ps answers k → ⊥

@@ -1,8 +1,9 @@
 -- Answers one by one: what one more says, and what pairs say.
 use Rattle.nntp_wire.specs.declared.marks.Marks.{Marks}
 use Rattle.std.proofs.Common.{◌≡◌, ℕ, ◌≤◌, ◌↔◌, false, IsTrue, List, [], ◌∷◌, ◌++◌, map, length, Some, sym, ap, subst, ◌∙◌, arith, append_assoc, append-nil, length-append}
+use Rattle.nntp_article.specs.Session.Spool.{Spool}
 use Rattle.nntp_article.specs.declared.session.profile.Profile.{Profile}
-use Rattle.nntp_article.specs.Session.Machine.{Visible, start, fits, visible_after}
+use Rattle.nntp_article.specs.Session.Machine.{Visible, Run, start, fits, visible_after}
 use Rattle.nntp_facts.specs.Asks.{position_after}
 use Rattle.nntp_facts.specs.declared.position.Position.{Position}
 use Rattle.nntp_facts.specs.declared.position.Position.TheVariants.{Nowhere}
@@ -15,7 +16,7 @@ use Rattle.nntp_facts.proofs.Streams.ExplainedOrBad.{light}
 use Rattle.nntp_wire.specs.Answer.{Asked, Response}
 use Rattle.nntp_wire.specs.Session.{prompts_of, Spelled}
 use Rattle.std.proofs.lemmas.List.{length-map}
-use Rattle.nntp_facts.proofs.Session.LaterPrompts.{permitted_longer, facts_longer}
+use Rattle.nntp_facts.proofs.Session.LaterPrompts.{run_shorter, run_longer, facts_longer}
 use Rattle.nntp_pair.specs.Pairing.{Paired, Unpaired, AreNext, responses_of, asked_of, asked_at, streams}
 use Rattle.nntp_pair.proofs.SpelledLemmas.{places-prompts, pairs-spelled}
 
@@ -84,12 +85,20 @@ pub as_few : (pairs : List Paired) → length (responses_of pairs) ≤ length (a
 as_few pairs = omega (arith, length-map pairs (λ pair. pair.response), length-map pairs (λ pair. asked_at pair.line))
 
 -- to permit the responses asks for these prompts alone
+pub pairs_run : (profile : Profile) (S : Spool) (client server : List ℕ) (pairs : List Paired) (left : Unpaired) → AreNext (streams client server) pairs left
+    → Run profile S start (prompts_of client) (responses_of pairs) ↔ Run profile S start (asked_of pairs) (responses_of pairs)
+pairs_run profile S client server pairs left paired =
+    let more = prompts_of_pairs client server pairs left paired in
+    subst (λ ps. Run profile S start ps (responses_of pairs) ↔ Run profile S start (asked_of pairs) (responses_of pairs)) (sym more.1)
+    (run_shorter profile S start (asked_of pairs) more.0 (responses_of pairs) (as_few pairs), run_longer profile S start (asked_of pairs) more.0 (responses_of pairs))
+
+-- of some spool, too
 pub pairs_permitted : (profile : Profile) (client server : List ℕ) (pairs : List Paired) (left : Unpaired) → AreNext (streams client server) pairs left
     → SomePermits profile (prompts_of client) (responses_of pairs) ↔ SomePermits profile (asked_of pairs) (responses_of pairs)
-pairs_permitted profile client server pairs left paired =
-    let more = prompts_of_pairs client server pairs left paired in
-    subst (λ ps. SomePermits profile ps (responses_of pairs) ↔ SomePermits profile (asked_of pairs) (responses_of pairs))
-    (sym more.1) (permitted_longer profile (asked_of pairs) more.0 (responses_of pairs) (as_few pairs))
+pairs_permitted profile client server pairs left paired = (
+  λ h. (h.0, h.1, (pairs_run profile h.0 client server pairs left paired).0 h.2),
+  λ h. (h.0, h.1, (pairs_run profile h.0 client server pairs left paired).1 h.2),
+)
 
 -- and what they say is said by these alone
 pub facts_by_pairs : (how : Marks) (client server : List ℕ) (pairs : List Paired) (left : Unpaired) → AreNext (streams client server) pairs left

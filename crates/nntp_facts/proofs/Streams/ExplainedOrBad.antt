@@ -1,20 +1,23 @@
--- Some spool explains two streams, or exactly one answer is bad.
-use Rattle.std.proofs.Common.{◌≡◌, ℕ, zero, suc, ◌+◌, ◌<◌, ◌≤◌, ◌^◌, ◌⊎◌, List, [], ◌∷◌, ◌++◌, length, take, inl, inr, refl, sym, ap, subst, ◌∙◌, arith, length-append, append_assoc}
+-- Of the spools with some property one explains two streams, or exactly one answer is bad.
+use Rattle.std.specs.Prelude.{⊤}
+use Rattle.std.proofs.Common.{◌≡◌, ◌≢◌, ℕ, zero, suc, ◌+◌, ◌<◌, ◌≤◌, ◌^◌, ◌⊎◌, List, [], ◌∷◌, ◌++◌, length, take, inl, inr, refl, sym, ap, subst, ◌∙◌, arith, length-append, append_assoc}
 use Rattle.std.proofs.Math.Seq.{take-length}
 use Rattle.std.proofs.lemmas.Bool.{cases_lt, cases_order}
-use Rattle.std.proofs.lemmas.List.{append_cancel_left, length-take}
+use Rattle.std.proofs.lemmas.List.{append_cancel_left, length-take, nil_from_length}
 use Rattle.nntp_article.specs.Session.Spool.{Spool, IsSpool}
 use Rattle.nntp_article.specs.declared.session.profile.Profile.{Profile}
 use Rattle.nntp_article.specs.Session.Machine.{Run, start}
 use Rattle.nntp_wire.specs.Session.{Spelled, prompts_of}
-use Rattle.nntp_article.specs.Session.Explains.{ExplainsUpTo, Explains, ExplainsFirst, Bad}
-use Rattle.nntp_facts.specs.Given.{facts_of_session, size, weight}
-use Rattle.nntp_facts.specs.Permits.{SomePermits}
+use Rattle.nntp_article.specs.Session.Explains.{ExplainsUpTo, Explains, ExplainsFirst, BadAmong, Bad}
+use Rattle.nntp_facts.specs.Given.{weight}
 use Rattle.nntp_facts.proofs.Ids.SizeOfASession.{session_size}
-use Rattle.nntp_facts.proofs.Given.FirstBadAnswer.{run_fewer, permitted_or_bad}
+use Rattle.nntp_facts.proofs.Given.FirstBadAnswer.{run_fewer, none_permitted, holds_or_ends}
+use Rattle.nntp_facts.proofs.Given.GivenSpoolExists.{some_or_none}
 use Rattle.nntp_wire.specs.Answer.{Asked, Response, Spells}
 use Rattle.nntp_wire.proofs.SpellsDecided.{one-spelling, some-spelling}
 use Rattle.nntp_pair.proofs.PairLemmas.{lines-few}
+
+-- ---- octets read as far as they spell answers
 
 -- the longest list of answers that the octets begin with
 record Reading (ps : List Asked) (octets : List ℕ) : Type 0 where
@@ -101,7 +104,7 @@ light (p ∷ ps) (a ∷ answers) sp (b, tail, s, ss, whole) =
     omega arith
 
 -- who explains m answers explains fewer
-first_explained : (profile : Profile) (S : Spool) (client server : List ℕ) (n m : ℕ) (rest : List ℕ) → n ≤ m
+pub first_explained : (profile : Profile) (S : Spool) (client server : List ℕ) (n m : ℕ) (rest : List ℕ) → n ≤ m
     → ExplainsUpTo profile S client server m rest → (left : List ℕ) × ExplainsUpTo profile S client server n left
 first_explained profile S client server n m rest le x =
     let count = x.count in
@@ -119,106 +122,109 @@ first_explained profile S client server n m rest le x =
       },
     )
 
--- one answer is bad at most
-pub bad_once : (profile : Profile) (client server : List ℕ) (k j : ℕ) → Bad profile client server k → Bad profile client server j → k ≡ j
-bad_once profile client server k j (x, none) (y, none') =
-    elim (cases_order k j) [
-      | inl same ↦ same
-      | inr (inl l) ↦ absurd (none y.0 (first_explained profile y.0 client server (k + 1) j y.1 (omega arith) y.2))
-      | inr (inr g) ↦ absurd (none' x.0 (first_explained profile x.0 client server (j + 1) k x.1 (omega arith) x.2))
-    ]
+-- ---- of the spools with P
 
--- where a spool explains all, no answer is bad
+module _ (P : Spool → Type 0) (profile : Profile) (client server : List ℕ) where
+  -- one answer is bad at most
+  pub bad_once : (k j : ℕ) → BadAmong P profile client server k → BadAmong P profile client server j → k ≡ j
+  bad_once k j (x, none) (y, none') =
+      elim (cases_order k j) [
+        | inl same ↦ same
+        | inr (inl l) ↦ absurd (none y.0 y.2 (first_explained profile y.0 client server (k + 1) j y.1 (omega arith) y.3))
+        | inr (inr g) ↦ absurd (none' x.0 x.2 (first_explained profile x.0 client server (j + 1) k x.1 (omega arith) x.3))
+      ]
+
+  -- where one of them explains all, no answer is bad
+  pub explained_not_bad_among : (S : Spool) (n k : ℕ) → P S → Explains profile S client server n → BadAmong P profile client server k → ⊥
+  explained_not_bad_among S n k p x (y, none) =
+      elim (cases_lt k n) [
+        | inl l ↦ none S p (first_explained profile S client server (k + 1) n [] (omega arith) x)
+        | inr g ↦
+            let z = y.3 in
+            let count = x.count in
+            let count' = z.count in
+            let f = (same_front (prompts_of client) x.answers z.answers x.octets z.octets [] y.1 x.spelled z.spelled (sym x.whole ∙ z.whole) (omega arith)).1 in
+            let m = ap length (sym x.whole ∙ z.whole) in
+            let a = length-append x.octets [] in
+            let b = length-append z.octets y.1 in
+            y.4 (nil_from_length y.1 (omega arith))
+      ]
+
+  -- one of them permits the answers
+  abbrev pub SomeRuns : List Response → Type 0
+  SomeRuns answers = (S : Spool) × IsSpool profile.limit S × P S × Run profile S start (prompts_of client) answers
+
+  -- whether one of them permits answers that the server's octets begin with
+  abbrev pub IsDecided : Type 0
+  IsDecided = (answers : List Response) (octets rest : List ℕ) → Spelled (prompts_of client) answers octets → server ≡ octets ++ rest
+      → SomeRuns answers ⊎ (SomeRuns answers → ⊥)
+
+  -- the answers that the server's octets begin with
+  abbrev r : Reading (prompts_of client) server
+  r = read (prompts_of client) server
+
+  -- the first n of them; where there are more, octets are left
+  first_read : (n : ℕ) → n ≤ length r.answers → (front : List ℕ) × (rest : List ℕ) × Spelled (prompts_of client) (take n r.answers) front × (server ≡ front ++ rest) × (n < length r.answers → rest ≢ [])
+  first_read n le =
+      let f = first_spelled (prompts_of client) r.answers r.spelled n r.is le in (
+        f.0,
+        f.1 ++ r.rest,
+        f.2,
+        r.whole ∙ ap (λ s. s ++ r.rest) f.3 ∙ append_assoc f.0 f.1 r.rest,
+        λ l e. let some = f.4 l in let none = ap length e in let m = length-append f.1 r.rest in omega arith,
+      )
+
+  -- whoever explains answer k permits the first of them
+  explained_permits : (T : Spool) (k : ℕ) → k < length r.answers → (y : ExplainsFirst profile T client server k) → Run profile T start (prompts_of client) (take (k + 1) r.answers)
+  explained_permits T k within y =
+      let n = y.1.count in
+      let f = (same_front (prompts_of client) y.1.answers r.answers y.1.octets r.spelled y.0 r.rest y.1.spelled r.is (sym y.1.whole ∙ r.whole) (omega arith)).0 in
+      subst (λ a. Run profile T start (prompts_of client) a) (f ∙ ap (λ n. take n r.answers) n) y.1.run
+
+  -- one that permits all of them explains both streams, or the answer behind them is bad
+  at_the_end : SomeRuns r.answers → ((S : Spool) × (n : ℕ) × P S × Explains profile S client server n) ⊎ ((k : ℕ) × BadAmong P profile client server k)
+  at_the_end (S, spool, p, run) = by r.rest refl
+    where
+      up_to : (rest : List ℕ) → r.rest ≡ rest → ExplainsUpTo profile S client server (length r.answers) rest
+      up_to rest e = record { is_spool = spool; answers = r.answers; octets = r.spelled; count = refl; run = run; spelled = r.is; whole = r.whole ∙ ap (λ rest. r.spelled ++ rest) e }
+
+      by : (rest : List ℕ) → r.rest ≡ rest → ((S : Spool) × (n : ℕ) × P S × Explains profile S client server n) ⊎ ((k : ℕ) × BadAmong P profile client server k)
+      by [] e = inl (S, length r.answers, p, up_to [] e)
+      by (c ∷ cs) e = inr (
+        length r.answers,
+        (
+          (S, c ∷ cs, p, up_to (c ∷ cs) e, λ none. cc),
+          λ T q x. let le = r.longest x.1.answers x.1.octets x.0 x.1.spelled x.1.whole in let n = x.1.count in omega arith,
+        ),
+      )
+
+  -- one of them explains both streams, or an answer is bad
+  pub explained_or_bad_among : SomeRuns [] → IsDecided → ((S : Spool) × (n : ℕ) × P S × Explains profile S client server n) ⊎ ((k : ℕ) × BadAmong P profile client server k)
+  explained_or_bad_among base dec =
+      elim (holds_or_ends (λ n. SomeRuns (take n r.answers)) (length r.answers) base (λ n le. let f = first_read n le in dec (take n r.answers) f.0 f.1 f.2 f.3)) [
+        | inl all ↦ at_the_end (subst SomeRuns (take-length r.answers) all)
+        | inr (k, (within, (S, spool, p, run), none)) ↦
+            let f = first_read k (omega arith) in
+            let x : ExplainsUpTo profile S client server k f.1 =
+            record { is_spool = spool; answers = take k r.answers; octets = f.0; count = omega (arith, length-take k r.answers); run = run; spelled = f.2; whole = f.3 } in
+            inr (k, ((S, f.1, p, x, f.4 within), λ T q y. none (T, y.1.is_spool, q, explained_permits T k within y)))
+      ]
+
+-- ---- of all spools
+
+-- where one explains all, no answer is bad
 pub explained_not_bad : (profile : Profile) (S : Spool) (client server : List ℕ) (n k : ℕ) → Explains profile S client server n → Bad profile client server k → ⊥
-explained_not_bad profile S client server n k x (y, none) =
-    elim (cases_lt k n) [
-      | inl l ↦ none S (first_explained profile S client server (k + 1) n [] (omega arith) x)
-      | inr g ↦
-          let count = x.count in
-          let count' = y.2.count in
-          let f = (same_front (prompts_of client) x.answers y.2.answers x.octets y.2.octets [] y.1 x.spelled y.2.spelled (sym x.whole ∙ y.2.whole) (omega arith)).1 in
-          let m = ap length (sym x.whole ∙ y.2.whole) in
-          let a = length-append x.octets [] in
-          let b = length-append y.2.octets y.1 in
-          y.3 (no_length y.1 (omega arith))
-    ]
-  where
-    no_length : (xs : List ℕ) → length xs ≡ 0 → xs ≡ []
-    no_length [] e = refl
-    no_length (x ∷ xs) e = absurd (omega arith)
+explained_not_bad profile S client server n k = explained_not_bad_among (λ S. ⊤) profile client server S n k tt
 
--- some spool explains all, or an answer is bad
+-- one explains all, or an answer is bad
 pub explained_or_bad : (profile : Profile) (client server : List ℕ) → length server < 2 ^ 210 → ((S : Spool) × (n : ℕ) × Explains profile S client server n) ⊎ ((k : ℕ) × Bad profile client server k)
 explained_or_bad profile client server small =
-    let r = read (prompts_of client) server in
-    let few : size (facts_of_session profile.marks (prompts_of client) r.answers) < 2 ^ 210 = (
-    let a = session_size profile.marks (prompts_of client) r.answers in let b = light
-    (prompts_of client) r.answers r.spelled r.is in let c = ap length r.whole
-    ∙ length-append r.spelled r.rest in omega arith) in
-    elim (permitted_or_bad profile (prompts_of client) r.answers few) [
-      | inl (S, spool, run) ↦ all S spool run r.rest r.whole
-      | inr (k, (within, (S, spool, run), none)) ↦
-          let f = first_spelled (prompts_of client) r.answers r.spelled k r.is (omega arith) in
-          let whole : server ≡ f.0 ++ (f.1 ++ r.rest) = r.whole ∙ ap (λ s. s ++ r.rest) f.3 ∙ append_assoc f.0 f.1 r.rest in
-          let some = f.4 within in
-          inr (
-            k,
-            (
-              (
-                S,
-                f.1 ++ r.rest,
-                record { is_spool = spool; answers = take k r.answers; octets = f.0; count = omega (arith, length-take k r.answers); run = run; spelled = f.2; whole = whole },
-                λ e. let n = ap length e in let m = length-append f.1 r.rest in omega arith,
-              ),
-              later k within none,
-            ),
-          )
-    ]
+    let base = none_permitted profile (prompts_of client) [] in
+    elim (explained_or_bad_among (λ S. ⊤) profile client server (base.0, base.1, tt, tt) decided) [ inl x ↦ inl (x.0, x.1, x.3) | inr bad ↦ inr bad ]
   where
-    all : (S : Spool) → IsSpool profile.limit S
-        → Run profile S start (prompts_of client) (read (prompts_of client) server).answers → (rest : List ℕ)
-        → server ≡ (read (prompts_of client) server).spelled ++ rest
-        → ((S : Spool) × (n : ℕ) × Explains profile S client server n) ⊎ ((k : ℕ) × Bad profile client server k)
-    all S spool run [] whole = inl (
-      S,
-      length (read (prompts_of client) server).answers,
-      record {
-        is_spool = spool;
-        answers = (read (prompts_of client) server).answers;
-        octets = (read (prompts_of client) server).spelled;
-        count = refl;
-        run = run;
-        spelled = (read (prompts_of client) server).is;
-        whole = whole;
-      },
-    )
-    all S spool run (c ∷ cs) whole =
-        inr (
-          length (read (prompts_of client) server).answers,
-          (
-            (
-              S,
-              c ∷ cs,
-              record {
-                is_spool = spool;
-                answers = (read (prompts_of client) server).answers;
-                octets = (read (prompts_of client) server).spelled;
-                count = refl;
-                run = run;
-                spelled = (read (prompts_of client) server).is;
-                whole = whole;
-              },
-              λ e. cc,
-            ),
-            λ T x. let le = (read (prompts_of client) server).longest x.1.answers x.1.octets x.0 x.1.spelled x.1.whole in let n = x.1.count in omega arith,
-          ),
-        )
-
-    later : (k : ℕ) → k < length (read (prompts_of client) server).answers
-        → (SomePermits profile (prompts_of client) (take (k + 1) (read (prompts_of client) server).answers) → ⊥) → (T : Spool)
-        → ExplainsFirst profile T client server k → ⊥
-    later k within none T x =
-        let r = read (prompts_of client) server in
-        let n = x.1.count in
-        let f = (same_front (prompts_of client) x.1.answers r.answers x.1.octets r.spelled x.0 r.rest x.1.spelled r.is (sym x.1.whole ∙ r.whole) (omega arith)).0 in
-        none (T, x.1.is_spool, subst (λ a. Run profile T start (prompts_of client) a) (f ∙ ap (λ n. take n r.answers) n) x.1.run)
+    decided : IsDecided (λ S. ⊤) profile client server
+    decided answers octets rest spelled whole =
+        let most = session_size profile.marks (prompts_of client) answers in
+        let less = light (prompts_of client) answers octets spelled in
+        let all = ap length whole ∙ length-append octets rest in
+        elim (some_or_none profile (prompts_of client) answers (omega arith)) [ inl h ↦ inl (h.0, h.1, tt, h.2) | inr none ↦ inr (λ h. none h.0 h.1 h.3) ]

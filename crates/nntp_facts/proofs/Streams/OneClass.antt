@@ -11,8 +11,9 @@ use Rattle.nntp_wire.proofs.FramesDecided.{dec_frame, frame-longer}
 use Rattle.nntp_article.specs.Session.Spool.{Spool}
 use Rattle.nntp_article.specs.declared.session.profile.Profile.{Profile}
 use Rattle.nntp_article.specs.Session.Machine.{Visible, State, Run, start, fits}
-use Rattle.nntp_article.specs.Session.Explains.{ExplainsFirst, Bad}
+use Rattle.nntp_article.specs.Session.Explains.{ExplainsFirst, BadAmong}
 use Rattle.nntp_pair.specs.Pairing.{IsCut, IsMalformed}
+use Rattle.nntp_pair.proofs.PairingLemmas.{some-stay}
 use Rattle.nntp_facts.proofs.Session.LaterPrompts.{prompts_joined, spelled_longer, run_longer, run_shorter, spelled_count, visible_longer, asked_longer, asked_count}
 use Rattle.nntp_pair.specs.declared.class.Class.{Class}
 use Rattle.nntp_pair.specs.declared.class.Class.TheVariants.{Surplus, Cut, Malformed, OutOfPlace, Contradiction}
@@ -167,23 +168,25 @@ some_class false profile v (Some asked) octets = elim (dec_spelling asked octets
   ]
 ]
 
--- a bad answer has one class
-pub one_class : (profile : Profile) (client server : List ℕ) (k : ℕ) → Bad profile client server k
-    → (class : Class) × HasClass profile client server k class × ((other : Class) → HasClass profile client server k other → other ≡ class)
-one_class profile client server k ((S, rest, x, some), none) =
-    let before : AnswersFirst client server k = record { answers = x.answers; octets = x.octets; rest = rest; count = x.count; spelled = x.spelled; whole = x.whole } in
+-- octets behind answers have a class
+pub class_there : (profile : Profile) (client server : List ℕ) (k : ℕ) → AnswersFirst client server k → (class : Class) × HasClass profile client server k class
+class_there profile client server k before =
     let v = left_visible client server k before in
-    let c = some_class v.closed profile v (asked_next (prompts_of client) x.answers) rest in
-    (c.0, record { before = before; is_class = c.1 }, λ other h. same before c.0 c.1 other h)
-  where
-    same : (before : AnswersFirst client server k) (class : Class) → IsClass (left_visible client server k before).closed profile
-        (left_visible client server k before) (asked_next (prompts_of client) before.answers) before.rest class
-        → (other : Class) → HasClass profile client server k other → other ≡ class
-    same before class is other h =
-        let both = one_before client server k h.before before in
-        let v : List Response → Visible = λ answers. visible_from start.visible (prompts_of client) answers in
-        class_once (v before.answers).closed profile (v before.answers) (asked_next (prompts_of client) before.answers) before.rest other class
-        (subst (λ (x : List Response × List ℕ). IsClass (v x.0).closed profile (v x.0) (asked_next (prompts_of client) x.0) x.1 other) (λ i. (both.0 i, both.1 i)) h.is_class) is
+    let c = some_class v.closed profile v (asked_next (prompts_of client) before.answers) before.rest in
+    (c.0, record { before = before; is_class = c.1 })
+
+-- and one only
+pub one_class : (profile : Profile) (client server : List ℕ) (k : ℕ) (c d : Class) → HasClass profile client server k c → HasClass profile client server k d → c ≡ d
+one_class profile client server k c d h g =
+    let both = one_before client server k h.before g.before in
+    let v : List Response → Visible = λ answers. visible_from start.visible (prompts_of client) answers in
+    class_once (v g.before.answers).closed profile (v g.before.answers) (asked_next (prompts_of client) g.before.answers) g.before.rest c d
+    (subst (λ (x : List Response × List ℕ). IsClass (v x.0).closed profile (v x.0) (asked_next (prompts_of client) x.0) x.1 c) (λ i. (both.0 i, both.1 i)) h.is_class) g.is_class
+
+-- the answers before a bad one
+pub before_bad : (P : Spool → Type 0) (profile : Profile) (client server : List ℕ) (k : ℕ) → BadAmong P profile client server k → AnswersFirst client server k
+before_bad P profile client server k ((S, rest, p, x, some), none) =
+    record { answers = x.answers; octets = x.octets; rest = rest; count = x.count; spelled = x.spelled; whole = x.whole }
 
 -- ---- octets that follow
 
@@ -282,8 +285,8 @@ module _ (profile : Profile) (client server more_client more_server : List ℕ) 
       }
 
   -- who explains one answer more of the longer streams explains it of the shorter ones
-  explains_shorter : Bad profile client server k → (T : Spool) → ExplainsFirst profile T (client ++ more_client) (server ++ more_server) k → ⊥
-  explains_shorter bad T (more, y) = by (cases_Bool v.closed)
+  explains_shorter : (T : Spool) → (ExplainsFirst profile T client server k → ⊥) → ExplainsFirst profile T (client ++ more_client) (server ++ more_server) k → ⊥
+  explains_shorter T none (more, y) = by (cases_Bool v.closed)
     where
       b : AnswersFirst client server k
       b = h.before
@@ -321,7 +324,7 @@ module _ (profile : Profile) (client server more_client more_server : List ℕ) 
           let few = asked_count (prompts_of client) h.before.answers asked e in
           let count = y.count in
           let length_is = ap length m.is ∙ length-append h.before.answers (m.response ∷ []) in
-          bad.1 T (
+          none (
             a.rest,
             record {
               is_spool = y.is_spool;
@@ -363,15 +366,14 @@ module _ (profile : Profile) (client server more_client more_server : List ℕ) 
           at_next (asked_next (prompts_of client) h.before.answers) refl (subst (settled class) opened (settled_by profile client server k class h s))
           (subst (λ closed. IsClass closed profile v (asked_next (prompts_of client) h.before.answers) h.before.rest class) opened h.is_class)
 
-  -- the answer is still bad
-  pub bad_stays : Bad profile client server k → Bad profile (client ++ more_client) (server ++ more_server) k
-  bad_stays bad =
-      let S = bad.0.0 in
-      let x = bad.0.2 in
+  -- the answer is still bad among the same spools
+  pub bad_stays : (P : Spool → Type 0) → BadAmong P profile client server k → BadAmong P profile (client ++ more_client) (server ++ more_server) k
+  bad_stays P ((S, rest, p, x, some), none) =
       let q = prompts_joined client more_client in (
         (
           S,
-          bad.0.1 ++ more_server,
+          rest ++ more_server,
+          p,
           record {
             is_spool = x.is_spool;
             answers = x.answers;
@@ -379,13 +381,9 @@ module _ (profile : Profile) (client server more_client more_server : List ℕ) 
             count = x.count;
             run = subst (λ ps. Run profile S start ps x.answers) (sym q.1) (run_longer profile S start (prompts_of client) q.0 x.answers x.run);
             spelled = subst (λ ps. Spelled ps x.answers x.octets) (sym q.1) (spelled_longer (prompts_of client) q.0 x.answers x.octets x.spelled);
-            whole = ap (λ o. o ++ more_server) x.whole ∙ append_assoc x.octets bad.0.1 more_server;
+            whole = ap (λ o. o ++ more_server) x.whole ∙ append_assoc x.octets rest more_server;
           },
-          λ e. bad.0.3 (front_empty bad.0.1 e),
+          some-stay rest more_server some,
         ),
-        explains_shorter bad,
+        λ T p. explains_shorter T (none T p),
       )
-    where
-      front_empty : (xs : List ℕ) → xs ++ more_server ≡ [] → xs ≡ []
-      front_empty [] e = refl
-      front_empty (x ∷ xs) e = cc

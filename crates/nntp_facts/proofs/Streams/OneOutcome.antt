@@ -1,4 +1,5 @@
 -- Two streams have one outcome; the ways in which a pairing leads to it.
+use Rattle.std.specs.Prelude.{⊤}
 use Rattle.std.proofs.Common.{◌≡◌, ℕ, ◌<◌, ◌^◌, ◌↔◌, false, IsTrue, List, [], ◌∷◌, ◌++◌, length, inl, inr, refl, sym, ap, subst, ◌∙◌, arith, length-append}
 use Rattle.std.proofs.lemmas.Bool.{true≢false}
 use Rattle.std.proofs.lemmas.List.{map-append}
@@ -7,21 +8,21 @@ use Rattle.nntp_pair.specs.Pairing.{Paired, Unpaired, IsNext, AreNext, end, bad,
 use Rattle.nntp_pair.specs.declared.class.PairClass.{PairClass}
 use Rattle.nntp_pair.proofs.PairingLemmas.{one-run, AreNext-push}
 use Rattle.nntp_article.specs.declared.session.profile.Profile.{Profile}
-use Rattle.nntp_article.specs.Session.Spool.{Spool}
+use Rattle.nntp_article.specs.Session.Spool.{Spool, IsSpool}
 use Rattle.nntp_article.specs.Session.Machine.{Run, start, fits, Visible}
-use Rattle.nntp_article.specs.Session.Explains.{Explains}
+use Rattle.nntp_article.specs.Session.Explains.{Explains, BadAmong}
 use Rattle.nntp_facts.specs.Given.{IsGiven, facts_of_session, size}
 use Rattle.nntp_facts.specs.Permits.{SomePermits}
 use Rattle.nntp_pair.specs.declared.class.Class.TheVariants.{OutOfPlace}
 use Rattle.nntp_facts.specs.Classes.{HasClass, class_by, visible_from}
 use Rattle.nntp_pair.specs.Classes.{class_of}
 use Rattle.nntp_facts.specs.Outcome.{Outcome, Yes, No, is_yes, IsOutcome, IsLeastExplanation}
-use Rattle.nntp_facts.proofs.Streams.OneClass.{one_class}
+use Rattle.nntp_facts.proofs.Streams.OneClass.{before_bad, class_there, one_class}
 use Rattle.nntp_facts.proofs.Streams.ExplainedPairs.{by_pairs, by_all_pairs}
 use Rattle.nntp_facts.proofs.Given.GivenSpoolExists.{made_for, given_exists}
 use Rattle.nntp_facts.proofs.Given.OneGivenSpool.{given_once}
 use Rattle.nntp_facts.proofs.Given.GivenPermits.{stands, given_permits, given_is_least}
-use Rattle.nntp_facts.proofs.Session.OneMoreAnswer.{size_by_octets, facts_by_pairs, pairs_permitted, prompts_of_pairs, as_few}
+use Rattle.nntp_facts.proofs.Session.OneMoreAnswer.{size_by_octets, facts_by_pairs, pairs_run, pairs_permitted, prompts_of_pairs, as_few}
 use Rattle.nntp_facts.proofs.Session.LaterPrompts.{visible_longer}
 use Rattle.nntp_facts.proofs.Streams.ExplainedOrBad.{explained_or_bad, explained_not_bad, bad_once}
 use Rattle.nntp_facts.proofs.Streams.PairedStreams.{explained_end, bad_end, bad_answer, answer_has_class, unfitting}
@@ -71,9 +72,8 @@ one_outcome profile client server (Yes S n) (Yes T m) x y =
 one_outcome profile client server (Yes S n) (No k class) x y = absurd (explained_not_bad profile S client server n k x.explains y.0)
 one_outcome profile client server (No k class) (Yes S n) x y = absurd (explained_not_bad profile S client server n k y.explains x.0)
 one_outcome profile client server (No k c) (No j d) x y =
-    let place = bad_once profile client server k j x.0 y.0 in
-    let one = one_class profile client server j y.0 in
-    let class : c ≡ d = one.2 c (subst (λ k. HasClass profile client server k c) place x.1) ∙ sym (one.2 d y.1) in
+    let place = bad_once (λ S. ⊤) profile client server k j x.0 y.0 in
+    let class = one_class profile client server j c d (subst (λ k. HasClass profile client server k c) place x.1) y.1 in
     λ i. No (place i) (class i)
 
 -- and they have one
@@ -84,7 +84,7 @@ some_outcome profile client server small = elim (explained_or_bad profile client
       let few = few_facts profile S client server n x small in
       let given = given_exists profile (prompts_of client) x.answers (stands profile S (prompts_of client) x.answers x.is_spool x.run).0 few in
       (Yes G n, given_explains profile S G client server n x few given)
-  | inr (k, is_bad) ↦ let c = one_class profile client server k is_bad in (No k c.0, (is_bad, c.1))
+  | inr (k, is_bad) ↦ let c = class_there profile client server k (before_bad (λ S. ⊤) profile client server k is_bad) in (No k c.0, (is_bad, c.1))
 ]
 
 -- it is a yes exactly if some spool explains the streams
@@ -111,14 +111,13 @@ outcome_at_end profile client server pairs unanswered G small pairing permitted 
 -- at octets that answer nothing
 pub outcome_at_octets : (profile : Profile) (client server : List ℕ) (pairs : List Paired) (class : PairClass) → IsPairing client server pairs (bad class)
     → SomePermits profile (asked_of pairs) (responses_of pairs) → IsOutcome profile client server (No (length pairs) (class_of class))
-outcome_at_octets profile client server pairs class pairing permitted =
-    bad_end profile client server pairs class pairing ((pairs_permitted profile client server pairs pairing.left pairing.paired).1 permitted)
+outcome_at_octets profile client server pairs class pairing (S, spool, run) =
+    bad_end (λ S. ⊤) profile client server pairs class pairing S spool tt ((pairs_run profile S client server pairs pairing.left pairing.paired).1 run)
 
--- below, a pair comes next behind pairs whose responses some spool permits
+-- below, a pair comes next
 module _ (profile : Profile) (client server : List ℕ) (pairs : List Paired) (pair : Paired) (before after : Unpaired)
-    (paired : AreNext (streams client server) pairs before) (next : IsNext before pair after)
-    (permitted : SomePermits profile (asked_of pairs) (responses_of pairs)) where
-  -- the visible state that they leave
+    (paired : AreNext (streams client server) pairs before) (next : IsNext before pair after) where
+  -- the visible state before it
   abbrev v : Visible
   v = visible_from start.visible (asked_of pairs) (responses_of pairs)
 
@@ -128,22 +127,30 @@ module _ (profile : Profile) (client server : List ℕ) (pairs : List Paired) (p
       let more = prompts_of_pairs client server pairs before paired in
       ap (λ ps. visible_from start.visible ps (responses_of pairs)) more.1 ∙ visible_longer start.visible (asked_of pairs) more.0 (responses_of pairs) (as_few pairs)
 
-  -- at a response that no spool permits behind them
-  pub outcome_at_response : (SomePermits profile (asked_of (pairs ++ pair ∷ [])) (responses_of (pairs ++ pair ∷ [])) → ⊥)
-      → IsOutcome profile client server (No (length pairs) (class_by (fits profile v (asked_at pair.line) pair.response)))
-  outcome_at_response none =
+  -- a response that none of the spools with P permits behind those that one of them permits is bad among these
+  pub bad_response : (P : Spool → Type 0) (S : Spool) → IsSpool profile.limit S → P S → Run profile S start (asked_of pairs) (responses_of pairs)
+      → ((T : Spool) → IsSpool profile.limit T → P T → Run profile T start (asked_of (pairs ++ pair ∷ [])) (responses_of (pairs ++ pair ∷ [])) → ⊥)
+      → BadAmong P profile client server (length pairs) × HasClass profile client server (length pairs) (class_by (fits profile v (asked_at pair.line) pair.response))
+  bad_response P S spool p run none =
       let longer = AreNext-push pairs (streams client server) before after pair paired next in
       let responses : responses_of (pairs ++ pair ∷ []) ≡ responses_of pairs ++ pair.response ∷ [] = map-append (λ pair. pair.response) pairs (pair ∷ []) in (
-        bad_answer profile client server pairs pair before after paired next ((pairs_permitted profile client server pairs before paired).1 permitted)
-            (λ h. none ((pairs_permitted profile client server (pairs ++ pair ∷ []) after longer).0 (subst (SomePermits profile (prompts_of client)) (sym responses) h))),
+        bad_answer profile client server pairs pair before after paired next P S spool p ((pairs_run profile S client server pairs before paired).1 run)
+            (λ T spool p run. none T spool p ((pairs_run profile T client server (pairs ++ pair ∷ []) after longer).0
+            (subst (λ answers. Run profile T start (prompts_of client) answers) (sym responses) run))),
         answer_has_class profile client server pairs pair before after paired next _ (ap (λ v. fits profile v (asked_at pair.line) pair.response) same_visible),
       )
 
+  -- so at one that no spool permits behind them the outcome is a no
+  pub outcome_at_response : SomePermits profile (asked_of pairs) (responses_of pairs) → (SomePermits profile (asked_of (pairs ++ pair ∷ [])) (responses_of (pairs ++ pair ∷ [])) → ⊥)
+      → IsOutcome profile client server (No (length pairs) (class_by (fits profile v (asked_at pair.line) pair.response)))
+  outcome_at_response (S, spool, run) none = bad_response (λ S. ⊤) S spool tt run (λ T spool u run. none (T, spool, run))
+
   -- one that doesn't fit is such
-  pub outcome_at_unfitting : fits profile v (asked_at pair.line) pair.response ≡ false → IsOutcome profile client server (No (length pairs) OutOfPlace)
-  outcome_at_unfitting e =
+  pub outcome_at_unfitting : SomePermits profile (asked_of pairs) (responses_of pairs) → fits profile v (asked_at pair.line) pair.response ≡ false
+      → IsOutcome profile client server (No (length pairs) OutOfPlace)
+  outcome_at_unfitting (S, spool, run) e =
       let unfit = ap (λ v. fits profile v (asked_at pair.line) pair.response) same_visible ∙ e in (
-        bad_answer profile client server pairs pair before after paired next ((pairs_permitted profile client server pairs before paired).1 permitted)
-            (unfitting profile client server pairs pair before after paired next unfit),
+        bad_answer profile client server pairs pair before after paired next (λ S. ⊤) S spool tt ((pairs_run profile S client server pairs before paired).1 run)
+            (λ T spool u run. unfitting profile client server pairs pair before after paired next unfit (T, spool, run)),
         answer_has_class profile client server pairs pair before after paired next false unfit,
       )

@@ -12,7 +12,7 @@ use Rattle.nntp_pair.specs.declared.class.PairClass.TheVariants.{Surplus as surp
 use Rattle.nntp_article.specs.Session.Spool.{Spool, IsSpool}
 use Rattle.nntp_article.specs.declared.session.profile.Profile.{Profile}
 use Rattle.nntp_article.specs.Session.Machine.{Run, start, fits}
-use Rattle.nntp_article.specs.Session.Explains.{ExplainsUpTo, Explains, ExplainsFirst, Bad}
+use Rattle.nntp_article.specs.Session.Explains.{ExplainsUpTo, Explains, ExplainsFirst, BadAmong}
 use Rattle.nntp_facts.specs.Permits.{SomePermits}
 use Rattle.nntp_pair.specs.declared.class.Class.{Class}
 use Rattle.nntp_facts.specs.Classes.{visible_from, asked_next, BeginsWithAnswer, IsOpenClass, IsClass, HasClass, left_visible, class_by}
@@ -64,12 +64,14 @@ no_more profile client server k class h T (more, y) =
         not_malformed profile v m.asked h.before.rest (fits profile v m.asked m.response) is
         (record { response = m.response; front = m.front; rest = more; spells = m.spells; whole = m.whole; fitting = refl })
 
--- where the pairing ends at octets, and some spool permits its responses, the answer there is bad
-pub bad_end : (profile : Profile) (client server : List ℕ) (pairs : List Paired) (class : PairClass) → IsPairing client server pairs (bad class)
-    → SomePermits profile (prompts_of client) (responses_of pairs) → Bad profile client server (length pairs) × HasClass profile client server (length pairs) (class_of class)
-bad_end profile client server pairs class pairing (S, spool, run) =
+-- where the pairing ends at octets, and one of the spools with P permits its responses, the answer there is bad among these
+pub bad_end : (P : Spool → Type 0) (profile : Profile) (client server : List ℕ) (pairs : List Paired) (class : PairClass) → IsPairing client server pairs (bad class)
+    → (S : Spool) → IsSpool profile.limit S → P S → Run profile S start (prompts_of client) (responses_of pairs)
+    → BadAmong P profile client server (length pairs) × HasClass profile client server (length pairs) (class_of class)
+bad_end P profile client server pairs class pairing S spool p run =
     let h = end_has_class profile client server pairs pairing.left class pairing.paired pairing.ends.1 in
-    (((S, pairing.left.server, explained_pairs profile S client server pairs pairing.left pairing.paired spool run, pairing.ends.0), no_more profile client server (length pairs) class h), h)
+    let x = explained_pairs profile S client server pairs pairing.left pairing.paired spool run in
+    (((S, pairing.left.server, p, x, pairing.ends.0), λ T q. no_more profile client server (length pairs) class h T), h)
 
 -- ---- an answer that is paired, and that no spool permits together with those before
 
@@ -126,7 +128,7 @@ module _ (profile : Profile) (client server : List ℕ) (pairs : List Paired) (p
   unfitting e (S, spool, run) = true≢false (sym (run_fits profile S start (prompts_of client) (responses_of pairs) (asked_at pair.line) pair.response asked_is run) ∙ e)
 
   -- who explains one answer more permits this one
-  permitted : (T : Spool) → ExplainsFirst profile T client server (length pairs) → SomePermits profile (prompts_of client) (responses_of pairs ++ pair.response ∷ [])
+  permitted : (T : Spool) → ExplainsFirst profile T client server (length pairs) → Run profile T start (prompts_of client) (responses_of pairs ++ pair.response ∷ [])
   permitted T (more, y) =
       let spelled = (pairs-spelled client server pairs before paired).0 in
       let a = count pairs in
@@ -135,10 +137,11 @@ module _ (profile : Profile) (client server : List ℕ) (pairs : List Paired) (p
       let same : m.asked ≡ asked_at pair.line = (let e = sym m.next ∙ asked_is in cc) in
       let one = one-spelling (asked_at pair.line) m.response pair.response m.front (frame_octets pair.initial next.answered.block) more after.server
       (subst (λ asked. Spells asked m.response m.front) same m.spells) next.answered.spells (sym m.whole ∙ next.answered.frame.whole) in
-      (T, y.is_spool, subst (λ r. Run profile T start (prompts_of client) (responses_of pairs ++ r ∷ [])) one.0 (subst (λ answers. Run profile T start (prompts_of client) answers) m.is y.run))
+      subst (λ r. Run profile T start (prompts_of client) (responses_of pairs ++ r ∷ [])) one.0 (subst (λ answers. Run profile T start (prompts_of client) answers) m.is y.run)
 
-  -- the answer is bad, if none permits it behind those that some spool permits
-  pub bad_answer : SomePermits profile (prompts_of client) (responses_of pairs)
-      → (SomePermits profile (prompts_of client) (responses_of pairs ++ pair.response ∷ []) → ⊥)
-      → Bad profile client server (length pairs)
-  bad_answer (S, spool, run) none = ((S, before.server, explained_pairs profile S client server pairs before paired spool run, some_octets), λ T x. none (permitted T x))
+  -- the answer is bad among the spools with P, if none of them permits it behind those that one of them permits
+  pub bad_answer : (P : Spool → Type 0) (S : Spool) → IsSpool profile.limit S → P S → Run profile S start (prompts_of client) (responses_of pairs)
+      → ((T : Spool) → IsSpool profile.limit T → P T → Run profile T start (prompts_of client) (responses_of pairs ++ pair.response ∷ []) → ⊥)
+      → BadAmong P profile client server (length pairs)
+  bad_answer P S spool p run none =
+      ((S, before.server, p, explained_pairs profile S client server pairs before paired spool run, some_octets), λ T q x. none T x.1.is_spool q (permitted T x))

@@ -1,5 +1,8 @@
-use Rattle.nntp_facts.proofs.Streams.OneClass.{one_class}
+use Rattle.std.specs.Prelude.{⊤}
+use Rattle.nntp_facts.proofs.Streams.OneClass.{before_bad, class_there, one_class}
 use Rattle.nntp_facts.proofs.laws.bad_answer_has_one_class.Goals as goal
 
 pub returns : goal.returns
-returns c = one_class
+returns c = λ profile client server k bad.
+    let c = class_there profile client server k (before_bad (λ S. ⊤) profile client server k bad) in
+    (c.0, c.1, λ other h. one_class profile client server k other c.0 h c.1)

@@ -1,5 +1,6 @@
-use Rattle.nntp_several.proofs.SettledSessions.{ended_of_all, settled_of_all}
+use Rattle.nntp_several.proofs.CheckedSessions.{settled_of_all}
+use Rattle.nntp_several.proofs.SessionsRead.{outcome_at}
 use Rattle.nntp_several.proofs.laws.bad_answer_stays_whatever_follows.Goals as goal
 
 pub returns : goal.returns
-returns c = record { ended = ended_of_all; settled = settled_of_all }
+returns c = record { ended = outcome_at; settled = settled_of_all }
