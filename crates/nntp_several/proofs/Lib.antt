@@ -5,7 +5,6 @@ mod ClassOnce
 mod ExplainedSessions
 mod OneOutcomeOfAll
 mod NotedSessions
-mod ReadBy
 mod BadPairs
 mod SessionsRead
 mod OneVerdictOfAll

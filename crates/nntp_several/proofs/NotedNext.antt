@@ -28,9 +28,8 @@ use Rattle.std.proofs.lemmas.Bool.{true≢false}
 use Rattle.nntp_pair.specs.Pairing.{Unpaired, IsNext}
 use Rattle.nntp_pair.specs.declared.class.Class.TheVariants.{OutOfPlace as IsOutOfPlace, Contradiction as Contradicts}
 use Rattle.nntp_facts.specs.Classes.{class_by}
-use Rattle.nntp_facts.specs.Reading.{Accepted, Refused, class_behind}
+use Rattle.nntp_facts.specs.Reading.{Accepted, Refused, IsJudged, class_behind}
 use Rattle.nntp_facts.proofs.Streams.OneClass.{run_fits}
-use Rattle.nntp_several.specs.Reading.{IsJudgedBy}
 use Rattle.nntp_several.specs.Answered.{Answered, SomePermitsEach, facts_of_all}
 use Rattle.nntp_several.specs.Noted.{exchanged, said_behind, ArePermittedBehind, AreFew, HasNotedBehind, IsNotedBehind, advanced, said_then, MayBeNoted}
 use Rattle.nntp_several.proofs.SessionsByFacts.{stand_each}
@@ -187,18 +186,18 @@ module _ (profile : Profile) (facts : FactsKept) (earlier : List (List Paired)) 
 
 -- what is noted of the next exchange says how it is judged
 pub noted_accepted : (profile : Profile) (earlier : List (List Paired)) (past : List Paired) (pair : Paired) (old now : FactsKept) (before after : Unpaired)
-    → IsNotedBehind profile earlier past pair old now Consistent → IsNext before pair after → IsJudgedBy (ArePermittedBehind profile earlier) past before (Accepted pair) after
+    → IsNotedBehind profile earlier past pair old now Consistent → IsNext before pair after → IsJudged (ArePermittedBehind profile earlier) past before (Accepted pair) after
 noted_accepted profile earlier past pair old now before after noted next = (next, noted.0)
 
 pub noted_refused : (profile : Profile) (earlier : List (List Paired)) (past : List Paired) (pair : Paired) (old now : FactsKept) (before after : Unpaired) → HasNotedBehind profile old earlier past
     → IsNotedBehind profile earlier past pair old now Contradiction → IsNext before pair after
-    → IsJudgedBy (ArePermittedBehind profile earlier) past before (Refused pair) after × (class_behind profile past (Refused pair) ≡ Some Contradicts)
+    → IsJudged (ArePermittedBehind profile earlier) past before (Refused pair) after × (class_behind profile past (Refused pair) ≡ Some Contradicts)
 noted_refused profile earlier past pair old now before after s noted next =
     ((next, noted.1), ap (λ b. Some (class_by b)) (subst (λ v. IsTrue (fits profile v (asked_at pair.line) pair.response)) s.visible noted.0))
 
 pub noted_unfitting : (profile : Profile) (earlier : List (List Paired)) (past : List Paired) (pair : Paired) (old now : FactsKept) (before after : Unpaired) → HasNotedBehind profile old earlier past
     → IsNotedBehind profile earlier past pair old now OutOfPlace → IsNext before pair after
-    → IsJudgedBy (ArePermittedBehind profile earlier) past before (Refused pair) after × (class_behind profile past (Refused pair) ≡ Some IsOutOfPlace)
+    → IsJudged (ArePermittedBehind profile earlier) past before (Refused pair) after × (class_behind profile past (Refused pair) ≡ Some IsOutOfPlace)
 noted_unfitting profile earlier past pair old now before after s noted next =
     let unfit = subst (λ v. IsFalse (fits profile v (asked_at pair.line) pair.response)) s.visible noted.0 in
     ((next, λ h. none h unfit), ap (λ b. Some (class_by b)) unfit)
