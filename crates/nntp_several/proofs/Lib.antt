@@ -1,4 +1,3 @@
-mod FactsAlone
 mod SessionsByFacts
 mod AmongSpools
 mod ClassOnce

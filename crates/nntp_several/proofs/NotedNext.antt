@@ -2,7 +2,6 @@
 use Rattle.std.proofs.Common.{◌≡◌, ◌<◌, ◌≤◌, ◌^◌, ◌↔◌, false, IsTrue, List, [], ◌∷◌, ◌++◌, length, map, Option, None, Some, IfSome, refl, sym, ap, ap₂, subst, ◌∙◌, arith, append_assoc, length-append}
 use Rattle.std.specs.List.{list_any}
 use Rattle.nntp_wire.specs.Answer.{Asked, Response}
-use Rattle.nntp_wire.specs.declared.marks.Marks.{Marks}
 use Rattle.nntp_article.specs.declared.session.profile.Profile.{Profile}
 use Rattle.nntp_article.specs.Session.Machine.{Visible, Run, start, fits, visible_after}
 use Rattle.nntp_article.specs.Session.Spool.{Spool, Name}
@@ -19,9 +18,8 @@ use Rattle.nntp_facts.specs.Noted.{FactsKept, said_by}
 use Rattle.nntp_facts.specs.Saying.{IsSelectedShown}
 use Rattle.nntp_facts.specs.Together.{Together, Join}
 use Rattle.nntp_facts.proofs.Members.{all_both, all_front, all_back, any_back}
-use Rattle.nntp_facts.proofs.Keeping.NotedExchange.{as_many, ends, visible_next}
+use Rattle.nntp_facts.proofs.Keeping.NotedExchange.{as_many, ends, facts_next, visible_next, position_next}
 use Rattle.nntp_facts.proofs.Session.LaterPrompts.{run_longer, facts_longer, visible_longer, position_longer, next_behind}
-use Rattle.nntp_facts.proofs.Session.OneMoreAnswer.{facts_grow, position_grows}
 use Rattle.nntp_facts.proofs.Session.SelectedGroupIsShown.{selected_shown}
 use Rattle.std.specs.Prelude.{IsFalse}
 use Rattle.std.proofs.lemmas.Bool.{true≢false}
@@ -67,23 +65,6 @@ permitted_next profile earlier ps answers asked response e small h =
     subst (λ facts. After ↔ MayFollow profile (visible_from start.visible ps answers) (position_from Nowhere ps answers) facts asked response) facts
     (subst (λ at. After ↔ MayFollow profile (visible_from start.visible ps answers) at (facts_of_all profile.marks earlier ++ facts_of_session profile.marks qs answers) asked response) at
     (subst (λ v. After ↔ MayFollow profile v (position_from Nowhere qs answers) (facts_of_all profile.marks earlier ++ facts_of_session profile.marks qs answers) asked response) v more))
-
--- what is said then
-facts_next : (how : Marks) (ps : List Asked) (answers : List Response) (asked : Asked) (response : Response) → length ps ≡ length answers
-    → facts_of_session how (ps ++ asked ∷ []) (answers ++ response ∷ []) ≡ facts_of_session how ps answers ++ facts_of how
-    (visible_from start.visible ps answers) (position_from Nowhere ps answers) asked response
-facts_next how ps answers asked response e =
-    let le : length answers ≤ length ps = omega (arith, e) in
-    facts_grow how start.visible Nowhere (ps ++ asked ∷ []) answers asked response (next_behind ps [] asked answers e)
-    ∙ ap₂ (λ (facts new : List Fact). facts ++ new) (facts_longer how start.visible Nowhere ps (asked ∷ []) answers le)
-    (ap₂ (λ v at. facts_of how v at asked response) (visible_longer start.visible ps (asked ∷ []) answers le) (position_longer Nowhere ps (asked ∷ []) answers le))
-
--- and where the session stands then
-position_next : (ps : List Asked) (answers : List Response) (asked : Asked) (response : Response) → length ps ≡ length answers
-    → position_from Nowhere (ps ++ asked ∷ []) (answers ++ response ∷ []) ≡ position_after (position_from Nowhere ps answers) asked response
-position_next ps answers asked response e =
-    position_grows Nowhere (ps ++ asked ∷ []) answers asked response (next_behind ps [] asked answers e)
-    ∙ ap (λ at. position_after at asked response) (position_longer Nowhere ps (asked ∷ []) answers (omega (arith, e)))
 
 module _ (profile : Profile) (facts : FactsKept) (earlier : List (List Paired)) (past : List Paired) (s : HasNotedBehind profile facts earlier past) where
   -- what was said
