@@ -20,7 +20,7 @@ use Rattle.nntp_pair.specs.declared.class.PairClass.TheVariants.{Malformed as Pa
 use Rattle.nntp_pair.proofs.PassedLemmas.{passed-reason}
 use Rattle.nntp_pair.specs.Classes.{class_of}
 use Rattle.nntp_facts.specs.Conflict.{Placed, placed_of, FitsThere, SomeHas, told_with, below}
-use Rattle.nntp_facts.specs.Noted.{FactsKept, HasNoted, IsNoted, IsDue, profile_kept}
+use Rattle.nntp_facts.specs.Noted.{ArePermitted, FactsKept, HasNoted, IsNoted, IsDue, profile_kept}
 use Rattle.nntp_facts.specs.Reading.{Judged, Accepted, Refused, Unspelled, accepted_of, accepted_with, class_behind, IsJudged}
 use Rattle.nntp_pair.specs.declared.class.Class.{Class}
 use Rattle.nntp_pair.specs.declared.class.Class.TheVariants.{Malformed, OutOfPlace, Contradiction}
@@ -92,7 +92,7 @@ told_good profile client server kept new text left behind pair t next notes =
 
 -- an answer that is bad is passed over
 told_bad : (profile : Profile) (client server : List ℕ) (kept : Kept) (text more : List ℕ) (left behind : Unpaired) (answer : Judged)
-    → (t : AreTold profile client server kept text left) → IsJudged profile (accepted_of t.answers) left answer behind
+    → (t : AreTold profile client server kept text left) → IsJudged (ArePermitted profile) (accepted_of t.answers) left answer behind
     → accepted_with (accepted_of t.answers) answer ≡ accepted_of t.answers → IsExplained profile (accepted_of t.answers) answer more
     → AreTold profile client server (record kept { closing = closing_with kept.closing kept.stands answer; bad = kept.bad + 1 }) (text ++ more) behind
 told_bad profile client server kept text more left behind answer t judged same is =

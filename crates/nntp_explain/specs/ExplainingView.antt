@@ -5,7 +5,7 @@ use Rattle.nntp_article.specs.Session.Misfit.{misfit}
 use Rattle.nntp_article.specs.declared.session.profile.Profile.{Profile}
 use Rattle.nntp_pair.specs.Pairing.{Paired, Unpaired, asked_at, streams}
 use Rattle.nntp_facts.specs.Conflict.{Placed, placed_of}
-use Rattle.nntp_facts.specs.Noted.{FactsKept, HasNoted, profile_kept}
+use Rattle.nntp_facts.specs.Noted.{ArePermitted, FactsKept, HasNoted, profile_kept}
 use Rattle.nntp_facts.specs.Reading.{Judged, accepted_of, AreJudged}
 use Rattle.nntp_explain.specs.declared.standing.Standing.{Standing as StandingCode}
 use Rattle.nntp_explain.specs.declared.standing.Cited.{Cited as CitedCode}
@@ -49,7 +49,7 @@ unfitting_told k pair =
 -- answers of both streams were judged, this is kept of them, and this is told; and then this is left
 pub record AreTold (profile : Profile) (client server : List ℕ) (kept : Kept) (text : List ℕ) (left : Unpaired) : Type 0 where
   pub answers : List Judged
-  pub judged : AreJudged profile [] (streams client server) answers left
+  pub judged : AreJudged (ArePermitted profile) [] (streams client server) answers left
   pub noted : HasNoted profile kept.facts (accepted_of answers)
   pub placed_are : kept.placed ≡ placed_of (accepted_of answers)
   pub cited_are : kept.cited ≡ cited (accepted_of answers)

@@ -23,7 +23,7 @@ use Rattle.nntp_article.specs.Session.Machine.{Visible, visible_after, start, fi
 use Rattle.nntp_facts.specs.Asks.{position_after}
 use Rattle.nntp_facts.specs.declared.position.Position.{Position}
 use Rattle.nntp_facts.specs.Facts.{Fact, Holds, ThereIs, ThereIsNo, Asks, IdAt, TextIs, NoArticle, GroupsAre, facts_of, facts_from, FitsAll, group_of}
-use Rattle.nntp_facts.specs.Given.{unshown_ids, size, asks_of}
+use Rattle.nntp_facts.specs.Given.{size, asks_of}
 use Rattle.nntp_facts.specs.Together.{Together, is_possible}
 use Rattle.nntp_facts.specs.Conflict.{Placed, placed_from, FitsThere, widest, said as said_there, a_group, the_group, with_group, told, SomeHas, told_at}
 use Rattle.nntp_facts.specs.Conflict.{told_with, below, IsCore, AreFound, IsPartOfCore, Point, Step, Group, Number, Count}
@@ -32,12 +32,8 @@ use Rattle.nntp_facts.proofs.Members.{In, all_at, all_from, all_both, all_front,
 use Rattle.nntp_facts.proofs.Session.NumbersOfShownGroups.{Placed as IsPlaced, Among, selectable, session_placed}
 use Rattle.nntp_facts.proofs.Session.GroupOfAnAnswer.{IsOf, one_group, same_selected}
 use Rattle.nntp_facts.proofs.Session.FittingFacts.{IsFitting, answer_fitting}
-use Rattle.nntp_facts.proofs.Session.NumbersWithinLimit.{free_in_limit}
-use Rattle.nntp_facts.proofs.Ids.SmallGivenSpool.{few_enough, unshown_ids_few}
-use Rattle.nntp_facts.proofs.Ids.InventedIds.{number-invented, invented_is_id}
-use Rattle.nntp_facts.proofs.Given.ConstructedSpool.{made, made_group, made_given, made_is_given}
-use Rattle.nntp_facts.proofs.Given.GivenHolds.{Setting, all_hold}
-use Rattle.nntp_facts.proofs.Given.GivenIsSpool.{given_is_spool}
+use Rattle.nntp_facts.proofs.Given.ConstructedSpool.{made}
+use Rattle.nntp_facts.proofs.Given.GivenHasFacts.{given_of_facts, given_has}
 use Rattle.nntp_facts.proofs.Together.FactsOfASpoolStand.{stand}
 
 -- ---- what fits, is placed and stands together is had by some spool
@@ -46,24 +42,8 @@ pub some_has : (profile : Profile) (facts : List Fact) → AllByRecursion (IsFit
     → AllByRecursion (IsPlaced Lenient facts) facts → size facts < 2 ^ 210 → Together facts → SomeHas profile facts
 some_has profile facts fitting placed small together =
     let G = made profile.limit (10 ^ 64) facts in
-    let within = free_in_limit profile facts Lenient fitting placed in
-    let group = made_group profile.limit (10 ^ 64) facts in
-    let given = made_is_given profile.limit (10 ^ 64) facts number-invented (λ name shown e x. within name shown e x.first.1)
-    (few_enough facts (length (unshown_ids facts G)) small
-    (unshown_ids_few facts G (λ name. (group name).0) (λ name i. made_given profile.limit (10 ^ 64) facts name (λ e x. within name ((group name).0 i) e x.first.1) i))) in
-    let few = few_enough facts (length (unshown_ids facts G)) small (unshown_ids_few facts G (λ name. (given.groups name).0) given.numbers_given) in
-    let s : Setting profile (10 ^ 64) G facts =
-    record {
-      small = number-invented;
-      ids = invented_is_id;
-      fitting = fitting;
-      how = Lenient;
-      placed = placed;
-      together = together;
-      given = given;
-      few = few;
-    } in
-    (G, given_is_spool profile (10 ^ 64) G facts s, all_hold profile (10 ^ 64) G facts s)
+    let has = given_has profile Lenient G facts fitting placed together small (given_of_facts profile Lenient facts fitting placed small) in
+    (G, has.0, has.1)
 
 -- ---- what answers say, where each fits
 
@@ -360,7 +340,7 @@ in_places profile (b ∷ answers) a (inl e) = (0, omega arith, ap (told profile)
 in_places profile (b ∷ answers) a (inr i) = let r = in_places profile answers a i in (suc r.0, (let l = r.1 in omega arith), r.2)
 
 -- what is told at all places is told of all answers
-all_places : (profile : Profile) (S : Spool) (answers : List Placed)
+pub all_places : (profile : Profile) (S : Spool) (answers : List Placed)
     → AllByRecursion (Holds S) (flat_map (told_at profile answers) (below (length answers)))
     → AllByRecursion (Holds S) (flat_map (told profile) answers)
 all_places profile S answers h = all_from (Holds S) (flat_map (told profile) answers) (λ fact i.

@@ -1,7 +1,8 @@
 pub mod GivenHolds
 pub mod GivenIsSpool
-pub mod GivenPermits
 pub mod ConstructedSpool
+pub mod GivenHasFacts
+pub mod GivenPermits
 pub mod SpoolsDecided
 pub mod GivenSpoolExists
 pub mod FirstBadAnswer

@@ -28,17 +28,17 @@ accepted_with past (Accepted pair) = past ++ pair ∷ []
 accepted_with past (Refused pair) = past
 accepted_with past (Unspelled index line initial block) = past
 
--- the answer comes next, and is judged so behind these that were accepted: a pair is accepted if some spool permits it with them; and then this is left
-abbrev pub IsJudged : Profile → List Paired → Unpaired → Judged → Unpaired → Type 0
-IsJudged profile past before (Accepted pair) after = IsNext before pair after × ArePermitted profile (past ++ pair ∷ [])
-IsJudged profile past before (Refused pair) after = IsNext before pair after × (ArePermitted profile (past ++ pair ∷ []) → ⊥)
-IsJudged profile past before (Unspelled index line initial block) after = (index ≡ before.index) × IsPassedOver before line initial block after
+-- the answer comes next, and is judged so behind these that were accepted: a pair is accepted if they stand with it; and then this is left
+abbrev pub IsJudged : (List Paired → Type 0) → List Paired → Unpaired → Judged → Unpaired → Type 0
+IsJudged Stand past before (Accepted pair) after = IsNext before pair after × Stand (past ++ pair ∷ [])
+IsJudged Stand past before (Refused pair) after = IsNext before pair after × (Stand (past ++ pair ∷ []) → ⊥)
+IsJudged Stand past before (Unspelled index line initial block) after = (index ≡ before.index) × IsPassedOver before line initial block after
 
 -- the answers come next, one after the other, and are judged so behind these that were accepted; and then this is left
-abbrev pub AreJudged : Profile → List Paired → Unpaired → List Judged → Unpaired → Type 0
-AreJudged profile past before [] after = before ≡ after
-AreJudged profile past before (answer ∷ answers) after =
-    (between : Unpaired) × IsJudged profile past before answer between × AreJudged profile (accepted_with past answer) between answers after
+abbrev pub AreJudged : (List Paired → Type 0) → List Paired → Unpaired → List Judged → Unpaired → Type 0
+AreJudged Stand past before [] after = before ≡ after
+AreJudged Stand past before (answer ∷ answers) after =
+    (between : Unpaired) × IsJudged Stand past before answer between × AreJudged Stand (accepted_with past answer) between answers after
 
 -- the class of an answer behind these that were accepted, if it is bad
 abbrev pub class_behind : Profile → List Paired → Judged → Option Class
@@ -46,9 +46,13 @@ class_behind profile past (Accepted pair) = None
 class_behind profile past (Refused pair) = Some (class_by (fits profile (visible_from start.visible (asked_of past) (responses_of past)) (asked_at pair.line) pair.response))
 class_behind profile past (Unspelled index line initial block) = Some Malformed
 
--- the reading of both streams: their answers as they are judged, and how the pairing ends behind them, which isn't at a frame that spells nothing
-pub record IsReading (profile : Profile) (client server : List ℕ) (answers : List Judged) (ending : Ending) : Type 0 where
+-- the reading of both streams, by which exchanges stand: their answers as they are judged, and how the pairing ends behind them, which isn't at a frame that spells nothing
+pub record IsReadingBy (Stand : List Paired → Type 0) (client server : List ℕ) (answers : List Judged) (ending : Ending) : Type 0 where
   pub left : Unpaired
-  pub judged : AreJudged profile [] (streams client server) answers left
+  pub judged : AreJudged Stand [] (streams client server) answers left
   pub ends : Ends left ending
   pub passed_over : ending ≢ bad PairMalformed
+
+-- the reading by which exchanges some spool permits
+abbrev pub IsReading : Profile → List ℕ → List ℕ → List Judged → Ending → Type 0
+IsReading profile client server answers ending = IsReadingBy (ArePermitted profile) client server answers ending

@@ -1,9 +1,7 @@
-mod FactsAlone
 mod SessionsByFacts
 mod ExplainedSessions
 mod OneOutcomeOfAll
 mod NotedSessions
-mod ReadBy
 mod SessionsRead
 mod OneVerdictOfAll
 mod WaysToOutcome

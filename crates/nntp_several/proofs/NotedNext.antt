@@ -2,7 +2,6 @@
 use Rattle.std.proofs.Common.{◌≡◌, ◌<◌, ◌≤◌, ◌^◌, ◌↔◌, false, IsTrue, List, [], ◌∷◌, ◌++◌, length, map, Option, None, Some, IfSome, refl, sym, ap, ap₂, subst, ◌∙◌, arith, append_assoc, length-append}
 use Rattle.std.specs.List.{list_any}
 use Rattle.nntp_wire.specs.Answer.{Asked, Response}
-use Rattle.nntp_wire.specs.declared.marks.Marks.{Marks}
 use Rattle.nntp_article.specs.declared.session.profile.Profile.{Profile}
 use Rattle.nntp_article.specs.Session.Machine.{Visible, Run, start, fits, visible_after}
 use Rattle.nntp_article.specs.Session.Spool.{Spool, Name}
@@ -19,18 +18,16 @@ use Rattle.nntp_facts.specs.Noted.{FactsKept, said_by}
 use Rattle.nntp_facts.specs.Saying.{IsSelectedShown}
 use Rattle.nntp_facts.specs.Together.{Together, Join}
 use Rattle.nntp_facts.proofs.Members.{all_both, all_front, all_back, any_back}
-use Rattle.nntp_facts.proofs.Keeping.NotedExchange.{as_many, ends, visible_next}
+use Rattle.nntp_facts.proofs.Keeping.NotedExchange.{as_many, ends, facts_next, visible_next, position_next}
 use Rattle.nntp_facts.proofs.Session.LaterPrompts.{run_longer, facts_longer, visible_longer, position_longer, next_behind}
-use Rattle.nntp_facts.proofs.Session.OneMoreAnswer.{facts_grow, position_grows}
 use Rattle.nntp_facts.proofs.Session.SelectedGroupIsShown.{selected_shown}
 use Rattle.std.specs.Prelude.{IsFalse}
 use Rattle.std.proofs.lemmas.Bool.{true≢false}
 use Rattle.nntp_pair.specs.Pairing.{Unpaired, IsNext}
 use Rattle.nntp_pair.specs.declared.class.Class.TheVariants.{OutOfPlace as IsOutOfPlace, Contradiction as Contradicts}
 use Rattle.nntp_facts.specs.Classes.{class_by}
-use Rattle.nntp_facts.specs.Reading.{Accepted, Refused, class_behind}
+use Rattle.nntp_facts.specs.Reading.{Accepted, Refused, IsJudged, class_behind}
 use Rattle.nntp_facts.proofs.Streams.OneClass.{run_fits}
-use Rattle.nntp_several.specs.Reading.{IsJudgedBy}
 use Rattle.nntp_several.specs.Answered.{Answered, SomePermitsEach, facts_of_all}
 use Rattle.nntp_several.specs.Noted.{exchanged, said_behind, ArePermittedBehind, AreFew, HasNotedBehind, IsNotedBehind, advanced, said_then, MayBeNoted}
 use Rattle.nntp_several.proofs.SessionsByFacts.{stand_each}
@@ -68,23 +65,6 @@ permitted_next profile earlier ps answers asked response e small h =
     subst (λ facts. After ↔ MayFollow profile (visible_from start.visible ps answers) (position_from Nowhere ps answers) facts asked response) facts
     (subst (λ at. After ↔ MayFollow profile (visible_from start.visible ps answers) at (facts_of_all profile.marks earlier ++ facts_of_session profile.marks qs answers) asked response) at
     (subst (λ v. After ↔ MayFollow profile v (position_from Nowhere qs answers) (facts_of_all profile.marks earlier ++ facts_of_session profile.marks qs answers) asked response) v more))
-
--- what is said then
-facts_next : (how : Marks) (ps : List Asked) (answers : List Response) (asked : Asked) (response : Response) → length ps ≡ length answers
-    → facts_of_session how (ps ++ asked ∷ []) (answers ++ response ∷ []) ≡ facts_of_session how ps answers ++ facts_of how
-    (visible_from start.visible ps answers) (position_from Nowhere ps answers) asked response
-facts_next how ps answers asked response e =
-    let le : length answers ≤ length ps = omega (arith, e) in
-    facts_grow how start.visible Nowhere (ps ++ asked ∷ []) answers asked response (next_behind ps [] asked answers e)
-    ∙ ap₂ (λ (facts new : List Fact). facts ++ new) (facts_longer how start.visible Nowhere ps (asked ∷ []) answers le)
-    (ap₂ (λ v at. facts_of how v at asked response) (visible_longer start.visible ps (asked ∷ []) answers le) (position_longer Nowhere ps (asked ∷ []) answers le))
-
--- and where the session stands then
-position_next : (ps : List Asked) (answers : List Response) (asked : Asked) (response : Response) → length ps ≡ length answers
-    → position_from Nowhere (ps ++ asked ∷ []) (answers ++ response ∷ []) ≡ position_after (position_from Nowhere ps answers) asked response
-position_next ps answers asked response e =
-    position_grows Nowhere (ps ++ asked ∷ []) answers asked response (next_behind ps [] asked answers e)
-    ∙ ap (λ at. position_after at asked response) (position_longer Nowhere ps (asked ∷ []) answers (omega (arith, e)))
 
 module _ (profile : Profile) (facts : FactsKept) (earlier : List (List Paired)) (past : List Paired) (s : HasNotedBehind profile facts earlier past) where
   -- what was said
@@ -187,18 +167,18 @@ module _ (profile : Profile) (facts : FactsKept) (earlier : List (List Paired)) 
 
 -- what is noted of the next exchange says how it is judged
 pub noted_accepted : (profile : Profile) (earlier : List (List Paired)) (past : List Paired) (pair : Paired) (old now : FactsKept) (before after : Unpaired)
-    → IsNotedBehind profile earlier past pair old now Consistent → IsNext before pair after → IsJudgedBy (ArePermittedBehind profile earlier) past before (Accepted pair) after
+    → IsNotedBehind profile earlier past pair old now Consistent → IsNext before pair after → IsJudged (ArePermittedBehind profile earlier) past before (Accepted pair) after
 noted_accepted profile earlier past pair old now before after noted next = (next, noted.0)
 
 pub noted_refused : (profile : Profile) (earlier : List (List Paired)) (past : List Paired) (pair : Paired) (old now : FactsKept) (before after : Unpaired) → HasNotedBehind profile old earlier past
     → IsNotedBehind profile earlier past pair old now Contradiction → IsNext before pair after
-    → IsJudgedBy (ArePermittedBehind profile earlier) past before (Refused pair) after × (class_behind profile past (Refused pair) ≡ Some Contradicts)
+    → IsJudged (ArePermittedBehind profile earlier) past before (Refused pair) after × (class_behind profile past (Refused pair) ≡ Some Contradicts)
 noted_refused profile earlier past pair old now before after s noted next =
     ((next, noted.1), ap (λ b. Some (class_by b)) (subst (λ v. IsTrue (fits profile v (asked_at pair.line) pair.response)) s.visible noted.0))
 
 pub noted_unfitting : (profile : Profile) (earlier : List (List Paired)) (past : List Paired) (pair : Paired) (old now : FactsKept) (before after : Unpaired) → HasNotedBehind profile old earlier past
     → IsNotedBehind profile earlier past pair old now OutOfPlace → IsNext before pair after
-    → IsJudgedBy (ArePermittedBehind profile earlier) past before (Refused pair) after × (class_behind profile past (Refused pair) ≡ Some IsOutOfPlace)
+    → IsJudged (ArePermittedBehind profile earlier) past before (Refused pair) after × (class_behind profile past (Refused pair) ≡ Some IsOutOfPlace)
 noted_unfitting profile earlier past pair old now before after s noted next =
     let unfit = subst (λ v. IsFalse (fits profile v (asked_at pair.line) pair.response)) s.visible noted.0 in
     ((next, λ h. none h unfit), ap (λ b. Some (class_by b)) unfit)

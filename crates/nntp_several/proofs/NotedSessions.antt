@@ -1,22 +1,23 @@
 -- Exchanges of several sessions are noted one after the other: the next one is permitted exactly if it fits its own session and what it says joins what all said.
 use Rattle.std.proofs.Common.{◌≡◌, ◌+◌, ◌*◌, ◌<◌, ◌≤◌, ◌^◌, ◌↔◌, false, IsTrue, List, [], ◌∷◌, ◌++◌, length, map, Some, refl, sym, ap, subst, ◌∙◌, arith, append_assoc, append-nil, length-append}
+use Rattle.std.proofs.lemmas.Grind.{flat_map-append}
 use Rattle.std.proofs.lemmas.List.{map-append}
 use Rattle.std.specs.List.{AllByRecursion}
 use Rattle.nntp_wire.specs.Answer.{Asked, Response}
 use Rattle.nntp_wire.specs.declared.marks.Marks.{Marks}
 use Rattle.nntp_article.specs.declared.session.profile.Profile.{Profile}
 use Rattle.nntp_article.specs.Session.Machine.{Run, start, fits}
-use Rattle.nntp_pair.specs.Pairing.{Paired, asked_of, responses_of, lines_in}
+use Rattle.nntp_pair.specs.Pairing.{Paired, asked_of, responses_of}
 use Rattle.nntp_facts.specs.declared.position.Position.TheVariants.{Nowhere}
 use Rattle.nntp_facts.specs.Classes.{visible_from, position_from, asked_next}
 use Rattle.nntp_facts.specs.Facts.{Fact, FitsAll, facts_of}
-use Rattle.nntp_facts.specs.Given.{facts_of_session, size, weight}
+use Rattle.nntp_facts.specs.Given.{facts_of_session, size}
 use Rattle.nntp_facts.specs.Kept.{IsKept}
 use Rattle.nntp_facts.specs.Noted.{FactsKept, HasNoted, said_by}
 use Rattle.nntp_facts.specs.Together.{Together, Join}
 use Rattle.nntp_facts.proofs.Members.{all_both, all_front, all_back}
 use Rattle.nntp_facts.proofs.Given.FirstBadAnswer.{size-append}
-use Rattle.nntp_facts.proofs.Ids.SizeOfASession.{session_size}
+use Rattle.nntp_facts.proofs.Ids.SizeOfASession.{session_size, pairs_weight}
 use Rattle.nntp_facts.proofs.Session.OneMoreAnswer.{facts_grow, fitting_grows}
 use Rattle.nntp_facts.proofs.Together.FactsJoin.{together_more, answer_agrees}
 use Rattle.nntp_several.specs.Answered.{Answered, PermitsEach, SomePermitsEach, FitEach, facts_in, facts_of_all}
@@ -24,12 +25,8 @@ use Rattle.nntp_several.specs.Noted.{exchanged, said_behind, AreFew, HasNotedBeh
 use Rattle.nntp_several.proofs.SessionsByFacts.{stand_each, permitted_together_of_all}
 
 -- what sessions say, and one more
-pub facts_of_both : (how : Marks) (xs ys : List Answered) → facts_of_all how (xs ++ ys) ≡ facts_of_all how xs ++ facts_of_all how ys
-facts_of_both how [] ys = refl
-facts_of_both how (s ∷ xs) ys = ap (λ facts. facts_in how s ++ facts) (facts_of_both how xs ys) ∙ sym (append_assoc (facts_in how s) (facts_of_all how xs) (facts_of_all how ys))
-
 pub facts_behind : (how : Marks) (earlier : List Answered) (s : Answered) → facts_of_all how (earlier ++ s ∷ []) ≡ facts_of_all how earlier ++ facts_in how s
-facts_behind how earlier s = facts_of_both how earlier (s ∷ []) ∙ ap (λ facts. facts_of_all how earlier ++ facts) (append-nil (facts_in how s))
+facts_behind how earlier s = flat_map-append (facts_in how) earlier (s ∷ []) ∙ ap (λ facts. facts_of_all how earlier ++ facts) (append-nil (facts_in how s))
 
 -- ---- an answer more
 
@@ -91,12 +88,7 @@ module _ (profile : Profile) (earlier : List Answered) (ps : List Asked) (answer
 
 -- ---- sizes
 
--- answers of few lines weigh little
-pairs_weight : (pairs : List Paired) → AllByRecursion (λ pair. lines_in pair.response < 2 ^ 64) pairs → weight (responses_of pairs) ≤ (2 ^ 64 + 2) * length pairs
-pairs_weight [] few = omega arith
-pairs_weight (pair ∷ pairs) few = let rest = pairs_weight pairs few.1 in let here = few.0 in omega arith
-
--- and so few exchanges say little
+-- few exchanges say little
 few_size : (how : Marks) (pairs : List Paired) → AreFew pairs → size (said_by how pairs) ≤ 2 ^ 129
 few_size how pairs f =
     let all = session_size how (asked_of pairs) (responses_of pairs) in

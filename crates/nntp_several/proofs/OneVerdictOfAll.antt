@@ -1,25 +1,20 @@
 -- Several sessions have one verdict, and it is a yes exactly if some spool explains them all.
-use Rattle.std.proofs.Common.{◌++◌, refl, ◌≡◌, ◌∙◌, ◌↔◌, sym, ap, subst, ℕ, zero, suc, IsTrue, List, [], ◌∷◌, length, Option, None, Some, slice_get, inl, inr}
+use Rattle.std.proofs.Common.{◌++◌, refl, ◌≡◌, ◌∙◌, ◌↔◌, sym, ap, subst, ℕ, zero, suc, IsTrue, List, [], ◌∷◌, length, Option, None, Some, slice_get}
 use Rattle.std.specs.Prelude.{MatchOption}
-use Rattle.std.specs.Option.{option_map}
 use Rattle.nntp_wire.specs.declared.limit.Limit.{Limit}
 use Rattle.nntp_wire.specs.declared.marks.Marks.{Marks}
-use Rattle.nntp_wire.specs.Lines.{HasNoCrlf}
-use Rattle.nntp_wire.proofs.FrameLemmas.{one_line}
 use Rattle.nntp_article.specs.Session.Limit.{profile_of}
 use Rattle.nntp_article.specs.Session.Spool.{Spool}
-use Rattle.nntp_pair.specs.Pairing.{Paired, Unpaired, AreNext, line_ahead, streams}
-use Rattle.nntp_pair.proofs.NextLemmas.{one-next}
+use Rattle.nntp_pair.specs.Pairing.{Paired}
 use Rattle.nntp_pair.specs.declared.class.Class.{Class}
 use Rattle.nntp_facts.specs.Outcome.{Yes, No}
 use Rattle.nntp_spool.specs.Limited.{LimitedSpool}
 use Rattle.nntp_spool.specs.Verifying.{IsVerified}
 use Rattle.nntp_spool.specs.declared.verification.verified.Verified.{Verified}
 use Rattle.nntp_spool.specs.declared.verification.verified.Verified.TheVariants.{Permits, Refuses}
-use Rattle.nntp_printing.specs.BadAnswer.{IsFirstLine, shown}
 use Rattle.nntp_verdict.specs.Judging.{StopsAt, IsVerdict}
 use Rattle.nntp_verdict.specs.Verdict.{Judgement, consistent, bad}
-use Rattle.nntp_verdict.proofs.VerdictLaws.{no-line}
+use Rattle.nntp_verdict.proofs.VerdictLaws.{one-place}
 use Rattle.nntp_several.specs.Sessions.{Recorded, ExplainsAll}
 use Rattle.nntp_several.specs.Outcome.{OutcomeOfAll, YesOfAll, NoOfAll}
 use Rattle.std.proofs.Common.{◌<◌, ◌^◌, map, Ok}
@@ -36,34 +31,6 @@ use Rattle.nntp_several.proofs.VerifiedSessions.{permits_alone}
 use Rattle.nntp_several.proofs.WaysToOutcome.{outcome_at_all_ends}
 use Rattle.nntp_several.specs.Judging.{OfEach, VerifiedOfAll, PermitsAll, RefusesOne, IsVerifiedOfAll, JudgementOfAll, consistent_of_all, bad_of_all, is_consistent_of_all, IsVerdictOfAll, verdict_of_one}
 use Rattle.nntp_several.proofs.OneOutcomeOfAll.{one_outcome_of_all, yes_explained_of_all, one_session_outcome}
-
--- ---- one place (as in nntp_verdict's proofs/VerdictLaws.antt)
-
--- as many pairs leave the same
-same-left : (pairs others : List Paired) (a b c : Unpaired) → length pairs ≡ length others → AreNext a pairs b → AreNext a others c → b ≡ c
-same-left [] [] a b c e p q = sym p ∙ q
-same-left [] (y ∷ others) a b c e p q = cc
-same-left (x ∷ pairs) [] a b c e p q = cc
-same-left (x ∷ pairs) (y ∷ others) a b c e (m, first, more) (n, also, rest) =
-    let same : m ≡ n = (one-next a m n x y first also).1 in
-    let few : length pairs ≡ length others = cc in
-    same-left pairs others n b c few (subst (λ (u : Unpaired). AreNext u pairs b) same more) rest
-
--- octets have one first line
-one-first : (octets l m : List ℕ) → IsFirstLine octets l → IsFirstLine octets m → l ≡ m
-one-first octets l m (p, inl e) (q, inl f) = sym e ∙ f
-one-first octets l m (p, inl e) (q, inr (t, f)) = absurd (no-line octets m t (subst HasNoCrlf (sym e) p) f)
-one-first octets l m (p, inr (r, e)) (q, inl f) = absurd (no-line octets l r (subst HasNoCrlf (sym f) q) e)
-one-first octets l m (p, inr (r, e)) (q, inr (t, f)) = (one_line l m r t p q (sym e ∙ f)).0
-
--- a place shows one command and one reply
-one-place : (client server : List ℕ) (k : ℕ) (class other : Class) (command also : Option (List ℕ)) (reply again : List ℕ)
-    → StopsAt client server k class command reply → StopsAt client server k other also again
-    → (command ≡ also) × (reply ≡ again)
-one-place client server k class other command also reply again x y =
-    let left = same-left x.pairs y.pairs (streams client server) x.left y.left (sym x.place ∙ y.place) x.before y.before in
-    let line = one-first y.left.server x.line y.line (subst (λ (u : Unpaired). IsFirstLine u.server x.line) left x.first) y.first in
-    (x.command_is ∙ ap (λ (u : Unpaired). option_map shown (line_ahead u.places)) left ∙ sym y.command_is, x.reply_is ∙ ap shown line ∙ sym y.reply_is)
 
 -- ---- one verdict
 

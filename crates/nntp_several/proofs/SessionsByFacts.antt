@@ -10,17 +10,17 @@ use Rattle.nntp_facts.specs.declared.position.Position.TheVariants.{Nowhere}
 use Rattle.nntp_facts.specs.Facts.{Fact, Holds}
 use Rattle.nntp_facts.specs.Given.{IsGiven, HasAtLeast, size}
 use Rattle.nntp_facts.specs.Together.{Together}
-use Rattle.nntp_facts.proofs.Members.{In, all_at, all_from, all_both, all_front, all_back, in_front, in_back}
+use Rattle.nntp_facts.proofs.Members.{all_from, all_both, all_front, all_back}
 use Rattle.nntp_facts.proofs.Session.CurrentArticle.{run_from}
 use Rattle.nntp_facts.proofs.Session.FactsHold.{run_of_facts}
 use Rattle.nntp_facts.proofs.Session.FittingFacts.{IsFitting, session_fitting}
-use Rattle.nntp_facts.proofs.Session.NumbersOfShownGroups.{Placed, session_placed}
+use Rattle.nntp_facts.proofs.Session.NumbersOfShownGroups.{Among, Placed, placed_among}
 use Rattle.nntp_facts.proofs.Together.FactsOfASpoolStand.{stand}
+use Rattle.nntp_facts.proofs.Given.GivenHasFacts.{given_of_facts, given_has, least_of_facts}
 use Rattle.nntp_facts.proofs.Given.GivenPermits.{said}
 use Rattle.nntp_facts.proofs.Given.ConstructedSpool.{made}
 use Rattle.nntp_facts.proofs.Given.SpoolsDecided.{dec_spool}
 use Rattle.nntp_several.specs.Answered.{Answered, PermitsEach, SomePermitsEach, FitEach, facts_in, facts_of_all}
-use Rattle.nntp_several.proofs.FactsAlone.{placed_more, given_of_facts, given_has, least_of_facts}
 
 -- ---- a spool permits sessions exactly if they fit and it has their facts
 
@@ -57,22 +57,19 @@ all_fitting profile [] f = tt
 all_fitting profile (s ∷ more) f = all_both (IsFitting profile) (facts_in profile.marks s) (facts_of_all profile.marks more)
     (session_fitting profile s.prompts s.answers f.0) (all_fitting profile more f.1)
 
--- and is placed among more facts
+-- and is placed among all that is said
 among_placed : (profile : Profile) (all : List Fact) (sessions : List Answered) → FitEach profile sessions
-    → ((fact : Fact) → In fact (facts_of_all profile.marks sessions) → In fact all) → AllByRecursion (Placed profile.marks all) (facts_of_all profile.marks sessions)
-among_placed profile all [] f sub = tt
-among_placed profile all (s ∷ more) f sub =
+    → AllByRecursion (Among all) (facts_of_all profile.marks sessions) → AllByRecursion (Placed profile.marks all) (facts_of_all profile.marks sessions)
+among_placed profile all [] f h = tt
+among_placed profile all (s ∷ more) f h =
     let own = facts_in profile.marks s in
     let rest = facts_of_all profile.marks more in
-    let here = session_placed profile s.prompts s.answers f.0 in
-    all_both (Placed profile.marks all) own rest
-    (all_from (Placed profile.marks all) own
-    (λ fact i. placed_more profile.marks own all (λ other j. sub other (in_front other own rest j)) fact (all_at (Placed profile.marks own) fact own here i)))
-    (among_placed profile all more f.1 (λ fact i. sub fact (in_back fact own rest i)))
+    all_both (Placed profile.marks all) own rest (placed_among profile all s.prompts s.answers f.0 (all_front (Among all) own rest h))
+    (among_placed profile all more f.1 (all_back (Among all) own rest h))
 
 all_placed : (profile : Profile) (sessions : List Answered) → FitEach profile sessions
     → AllByRecursion (Placed profile.marks (facts_of_all profile.marks sessions)) (facts_of_all profile.marks sessions)
-all_placed profile sessions f = among_placed profile (facts_of_all profile.marks sessions) sessions f (λ fact i. i)
+all_placed profile sessions f = let all = facts_of_all profile.marks sessions in among_placed profile all sessions f (all_from (Among all) all (λ fact i. i))
 
 -- ---- the given spool
 

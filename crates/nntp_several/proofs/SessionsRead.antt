@@ -17,7 +17,7 @@ use Rattle.nntp_facts.specs.Classes.{visible_from, HasClass, class_by}
 use Rattle.nntp_pair.specs.Classes.{class_of}
 use Rattle.nntp_facts.specs.Given.{size, weight}
 use Rattle.nntp_facts.specs.Noted.{ArePermitted}
-use Rattle.nntp_facts.specs.Reading.{Judged, Accepted, Refused, Unspelled, accepted_of, accepted_with, IsJudged, AreJudged, IsReading, class_behind}
+use Rattle.nntp_facts.specs.Reading.{Judged, Accepted, Refused, Unspelled, accepted_of, accepted_with, IsJudged, AreJudged, IsReadingBy, IsReading, class_behind}
 use Rattle.nntp_facts.proofs.Members.{all_both, all_front, all_back}
 use Rattle.nntp_facts.proofs.Given.FirstBadAnswer.{size-append, none_permitted}
 use Rattle.nntp_facts.proofs.Ids.SizeOfASession.{session_size}
@@ -25,15 +25,16 @@ use Rattle.nntp_facts.proofs.Session.OneMoreAnswer.{pairs_run}
 use Rattle.nntp_facts.proofs.Streams.ExplainedPairs.{by_all_pairs}
 use Rattle.nntp_facts.proofs.Streams.OneOutcome.{bad_response}
 use Rattle.nntp_facts.proofs.Streams.PairedStreams.{explained_end, bad_end}
-use Rattle.nntp_facts.proofs.Reading.JudgedAnswers.{accepted_behind}
+use Rattle.nntp_facts.proofs.Reading.FirstBadOfAReading.{accepted_all, accepted_or_bad}
+use Rattle.nntp_facts.proofs.Reading.JudgedAnswers.{accepted_light, accepted_first, all_paired}
+use Rattle.nntp_facts.proofs.Reading.OneReading.{one_reading, some_reading_by}
 use Rattle.nntp_several.specs.Answered.{Answered, PermitsEach, SomePermitsEach, facts_of_all}
 use Rattle.nntp_several.specs.Noted.{exchanged, said_behind, ArePermittedBehind}
 use Rattle.nntp_several.specs.Outcome.{NoOfAll, IsOutcomeOfAll}
-use Rattle.nntp_several.specs.Reading.{IsJudgedBy, AreJudgedBy, IsReadingBy, ReadSession, AreReadings, IsReadingOfAll, IsGood, IsFirstBad}
+use Rattle.nntp_several.specs.Reading.{ReadSession, AreReadings, IsReadingOfAll, IsGood, IsFirstBad}
 use Rattle.nntp_several.specs.Sessions.{Recorded, ExplainsIt, ExplainsEach, ExplainsAll, BadBehind, octets_of}
 use Rattle.nntp_several.proofs.ExplainedSessions.{there, bad_at, explained_not_bad_of_all}
 use Rattle.nntp_several.proofs.NotedSessions.{facts_behind}
-use Rattle.nntp_several.proofs.ReadBy.{one_reading_by, weight_by, accepted_first, all_paired, some_reading_by}
 use Rattle.nntp_several.proofs.SessionsByFacts.{some_or_none_of_all}
 
 -- a spool permits a session
@@ -51,7 +52,7 @@ one_reading_from profile earlier [] (r ∷ rs) qs x y = absurd x
 one_reading_from profile earlier (s ∷ more) [] qs x y = absurd x
 one_reading_from profile earlier (s ∷ more) (r ∷ rs) [] x y = absurd y
 one_reading_from profile earlier (s ∷ more) (r ∷ rs) (q ∷ qs) x y =
-    let one = one_reading_by (ArePermittedBehind profile earlier) s.client s.server r.answers q.answers r.ending q.ending x.0 y.0 in
+    let one = one_reading (ArePermittedBehind profile earlier) s.client s.server r.answers q.answers r.ending q.ending x.0 y.0 in
     let here = subst (λ answers. AreReadings profile (earlier ++ accepted_of answers ∷ []) more rs) one.0 x.1 in
     let rest = one_reading_from profile (earlier ++ accepted_of q.answers ∷ []) more rs qs here y.1 in
     λ i. record { answers = one.0 i; ending = one.1 i } ∷ rest i
@@ -86,21 +87,13 @@ decided_behind profile earlier most small past light =
     let rest = size_by_weight profile.marks earlier in
     some_or_none_of_all profile (map exchanged earlier ++ exchanged past ∷ []) (omega (arith, whole, both, here, rest, small, light))
 
--- the accepted exchanges of a session weigh no more than its octets
-light_by : (profile : Profile) (earlier : List (List Paired)) (s : Recorded) (answers : List Judged) (ending : Ending)
-    → IsReadingBy (ArePermittedBehind profile earlier) s.client s.server answers ending → weight (responses_of (accepted_of answers)) ≤ length s.server
-light_by profile earlier s answers ending reading =
-    let most = weight_by (ArePermittedBehind profile earlier) [] (streams s.client s.server) reading.left answers reading.judged in
-    let same = ap (λ (pairs : List Paired). weight (responses_of pairs)) (accepted_behind [] answers) in
-    omega (arith, most, same)
-
 -- sessions have a reading
 pub some_reading_from : (profile : Profile) (earlier : List (List Paired)) (sessions : List Recorded) → weight_of_all earlier + octets_of sessions < 2 ^ 210
     → (readings : List ReadSession) × AreReadings profile earlier sessions readings
 some_reading_from profile earlier [] small = ([], tt)
 some_reading_from profile earlier (s ∷ more) small =
     let r = some_reading_by (ArePermittedBehind profile earlier) (length s.server) (decided_behind profile earlier (length s.server) (omega (arith, small))) s.client s.server (omega arith) in
-    let light = light_by profile earlier s r.0 r.1 r.2 in
+    let light = accepted_light (ArePermittedBehind profile earlier) s.client s.server r.0 r.2.left r.2.judged in
     let both = weight_of_both earlier (accepted_of r.0 ∷ []) in
     let alone = one (accepted_of r.0) in
     let rest = some_reading_from profile (earlier ++ accepted_of r.0 ∷ []) more (omega (arith, small, light, both, alone)) in
@@ -257,29 +250,13 @@ good_from profile earlier before (s ∷ more) (q ∷ rs) f h x good =
 
 -- ---- whether all are good
 
-accepted_all : (pairs : List Paired) → accepted_of (map Accepted pairs) ≡ pairs
-accepted_all [] = refl
-accepted_all (pair ∷ pairs) = ap (λ pairs. pair ∷ pairs) (accepted_all pairs)
-
--- all answers are accepted, or there is a first one that isn't
-accepted_or_bad : (profile : Profile) (answers : List Judged)
-    → ((pairs : List Paired) × (answers ≡ map Accepted pairs)) ⊎ ((pairs : List Paired) × (answer : Judged) × (more : List Judged) × (answers ≡ map Accepted pairs ++ answer ∷ more)
-    × ((all : List Paired) → (class : Class) × (class_behind profile all answer ≡ Some class)))
-accepted_or_bad profile [] = inl ([], refl)
-accepted_or_bad profile (Accepted pair ∷ answers) = elim (accepted_or_bad profile answers) [
-  | inl (pairs, all) ↦ inl (pair ∷ pairs, ap (λ answers. Accepted pair ∷ answers) all)
-  | inr (pairs, answer, more, whole, is) ↦ inr (pair ∷ pairs, answer, more, ap (λ answers. Accepted pair ∷ answers) whole, is)
-]
-accepted_or_bad profile (Refused pair ∷ answers) = inr ([], Refused pair, answers, refl, λ all. (_, refl))
-accepted_or_bad profile (Unspelled index line initial block ∷ answers) = inr ([], Unspelled index line initial block, answers, refl, λ all. (_, refl))
-
 -- a session is good, or has a first bad answer
 good_or_bad : (profile : Profile) (r : ReadSession) → IsGood r ⊎ ((k : ℕ) × (class : Class) × IsFirstBad profile r k class)
-good_or_bad profile r = elim (accepted_or_bad profile r.answers) [
+good_or_bad profile r = elim (accepted_or_bad r.answers) [
   | inl (pairs, all) ↦ by pairs all r.ending refl
-  | inr (pairs, answer, more, whole, is) ↦
-      let c = is pairs in
-      inr (length pairs, c.0, record { pairs = pairs; place = refl; is_bad = inl (record { answer = answer; more = more; answers = whole; class_is = c.1 }) })
+  | inr first ↦
+      let c = first.is_bad profile first.pairs in
+      inr (length first.pairs, c.0, record { pairs = first.pairs; place = refl; is_bad = inl (record { answer = first.answer; more = first.more; answers = first.whole; class_is = c.1 }) })
 ]
   where
     by : (pairs : List Paired) → r.answers ≡ map Accepted pairs → (ending : Ending) → r.ending ≡ ending → IsGood r ⊎ ((k : ℕ) × (class : Class) × IsFirstBad profile r k class)
@@ -338,12 +315,12 @@ one_reading_of_all profile sessions rs qs x y = one_reading_from profile [] sess
 alone : (profile : Profile) (pairs : List Paired) → ArePermittedBehind profile [] pairs ↔ ArePermitted profile pairs
 alone profile pairs = (λ h. (h.0, h.1, h.2.0), λ h. (h.0, h.1, (h.2, tt)))
 
-judged_alone : (profile : Profile) (past : List Paired) (a b : Unpaired) (answer : Judged) → IsJudgedBy (ArePermittedBehind profile []) past a answer b ↔ IsJudged profile past a answer b
+judged_alone : (profile : Profile) (past : List Paired) (a b : Unpaired) (answer : Judged) → IsJudged (ArePermittedBehind profile []) past a answer b ↔ IsJudged (ArePermitted profile) past a answer b
 judged_alone profile past a b (Accepted pair) = let s = alone profile (past ++ pair ∷ []) in (λ h. (h.0, s.0 h.1), λ h. (h.0, s.1 h.1))
 judged_alone profile past a b (Refused pair) = let s = alone profile (past ++ pair ∷ []) in (λ h. (h.0, λ p. h.1 (s.1 p)), λ h. (h.0, λ p. h.1 (s.0 p)))
 judged_alone profile past a b (Unspelled index line initial block) = (λ h. h, λ h. h)
 
-all_judged_alone : (profile : Profile) (past : List Paired) (a b : Unpaired) (answers : List Judged) → AreJudgedBy (ArePermittedBehind profile []) past a answers b ↔ AreJudged profile past a answers b
+all_judged_alone : (profile : Profile) (past : List Paired) (a b : Unpaired) (answers : List Judged) → AreJudged (ArePermittedBehind profile []) past a answers b ↔ AreJudged (ArePermitted profile) past a answers b
 all_judged_alone profile past a b [] = (λ h. h, λ h. h)
 all_judged_alone profile past a b (answer ∷ answers) = (
   λ h. (h.0, (judged_alone profile past a h.0 answer).0 h.1, (all_judged_alone profile (accepted_with past answer) h.0 b answers).0 h.2),

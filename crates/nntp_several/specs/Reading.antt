@@ -1,33 +1,13 @@
 -- Several sessions read to their ends: an answer that is bad is passed over, and the next one is judged behind those that were accepted, of earlier sessions and of its own.
-use Rattle.std.specs.Prelude.{◌≡◌, ◌≢◌, ◌⊎◌, List, [], ◌∷◌, ◌++◌, ℕ, length, map, Some, ⊤}
+use Rattle.std.specs.Prelude.{◌≡◌, ◌⊎◌, List, [], ◌∷◌, ◌++◌, ℕ, length, map, Some, ⊤}
 use Rattle.nntp_article.specs.declared.session.profile.Profile.{Profile}
 use Rattle.nntp_pair.specs.declared.class.PairClass.{PairClass}
-use Rattle.nntp_pair.specs.declared.class.PairClass.TheVariants.{Malformed as PairMalformed}
-use Rattle.nntp_pair.specs.Pairing.{Paired, Unpaired, IsNext, IsPassedOver, Ending, end, bad, Ends, streams}
+use Rattle.nntp_pair.specs.Pairing.{Paired, Ending, end, bad}
 use Rattle.nntp_pair.specs.declared.class.Class.{Class}
 use Rattle.nntp_pair.specs.Classes.{class_of}
-use Rattle.nntp_facts.specs.Reading.{Judged, Accepted, Refused, Unspelled, accepted_of, accepted_with, class_behind}
+use Rattle.nntp_facts.specs.Reading.{Judged, Accepted, accepted_of, IsReadingBy, class_behind}
 use Rattle.nntp_several.specs.Noted.{ArePermittedBehind}
 use Rattle.nntp_several.specs.Sessions.{Recorded}
-
--- the answer comes next, and is judged so behind these that were accepted: a pair is accepted if they stand with it; and then this is left
-abbrev pub IsJudgedBy : (List Paired → Type 0) → List Paired → Unpaired → Judged → Unpaired → Type 0
-IsJudgedBy Stand past before (Accepted pair) after = IsNext before pair after × Stand (past ++ pair ∷ [])
-IsJudgedBy Stand past before (Refused pair) after = IsNext before pair after × (Stand (past ++ pair ∷ []) → ⊥)
-IsJudgedBy Stand past before (Unspelled index line initial block) after = (index ≡ before.index) × IsPassedOver before line initial block after
-
--- the answers come next, one after the other, and are judged so behind these that were accepted; and then this is left
-abbrev pub AreJudgedBy : (List Paired → Type 0) → List Paired → Unpaired → List Judged → Unpaired → Type 0
-AreJudgedBy Stand past before [] after = before ≡ after
-AreJudgedBy Stand past before (answer ∷ answers) after =
-    (between : Unpaired) × IsJudgedBy Stand past before answer between × AreJudgedBy Stand (accepted_with past answer) between answers after
-
--- the reading of both streams, by which exchanges stand: their answers as they are judged, and how the pairing ends behind them, which isn't at a frame that spells nothing
-pub record IsReadingBy (Stand : List Paired → Type 0) (client server : List ℕ) (answers : List Judged) (ending : Ending) : Type 0 where
-  pub left : Unpaired
-  pub judged : AreJudgedBy Stand [] (streams client server) answers left
-  pub ends : Ends left ending
-  pub passed_over : ending ≢ bad PairMalformed
 
 -- a session as it is read
 pub record ReadSession : Type 0 where

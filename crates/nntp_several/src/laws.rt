@@ -6,7 +6,7 @@ ghost use Rattle.nntp_article.specs.declared.session.profile.Profile.{Profile};
 ghost use Rattle.nntp_facts.specs.Facts.{Holds, facts_of};
 ghost use Rattle.nntp_facts.specs.Given.{IsGiven, HasAtLeast, facts_of_session, size};
 ghost use Rattle.nntp_facts.specs.Together.{Together, Join};
-ghost use Rattle.nntp_several.specs.Reading.{IsJudgedBy, ReadSession, IsReadingOfAll, IsGood, IsFirstBad};
+ghost use Rattle.nntp_several.specs.Reading.{ReadSession, IsReadingOfAll, IsGood, IsFirstBad};
 ghost use Rattle.nntp_pair.specs.declared.class.Class.{Class};
 ghost use Rattle.nntp_several.specs.Judging.{VerifiedOfAll, PermitsAll, IsVerifiedOfAll, JudgementOfAll, consistent_of_all, bad_of_all, is_consistent_of_all, IsVerdictOfAll, verdict_of_one};
 ghost use Rattle.nntp_verdict.specs.Judging.{IsVerdict, StopsAt};
@@ -41,7 +41,7 @@ ghost use Rattle.nntp_several.specs.Answered.{Answered, PermitsEach, SomePermits
 ghost use Rattle.nntp_several.specs.Sessions.{Recorded, ExplainsEach, ExplainsAll, BadBehind, BadOfAll, answered_by, counts_of, octets_of};
 ghost use Rattle.nntp_several.specs.Outcome.{OutcomeOfAll, YesOfAll, NoOfAll, is_yes_of_all, IsLeastOfAll, IsOutcomeOfAll, of_one};
 ghost use Rattle.nntp_article.specs.Session.Explains.{Explains, Bad};
-ghost use Rattle.nntp_facts.specs.Reading.{Accepted, Refused, class_behind, IsReading};
+ghost use Rattle.nntp_facts.specs.Reading.{Accepted, Refused, IsJudged, class_behind, IsReading};
 ghost use Rattle.nntp_facts.specs.Outcome.{Outcome, IsOutcome};
 
 /// A spool permits each of several sessions exactly if each fits and all that their answers say
@@ -251,13 +251,13 @@ pub fn verdict_follows_the_outcome()
 /// goes on, and of which class it is where it is bad.
 pub fn noted_exchange_is_judged_behind_others()
     ensures consistent { (profile : Profile) (earlier : List (List Paired)) (past : List Paired) (pair : Paired) (old new : FactsKept) (before after : Unpaired)
-        → IsNotedBehind profile earlier past pair old new Consistent → IsNext before pair after → IsJudgedBy (ArePermittedBehind profile earlier) past before (Accepted pair) after }
+        → IsNotedBehind profile earlier past pair old new Consistent → IsNext before pair after → IsJudged (ArePermittedBehind profile earlier) past before (Accepted pair) after }
     ensures contradiction { (profile : Profile) (earlier : List (List Paired)) (past : List Paired) (pair : Paired) (old new : FactsKept) (before after : Unpaired)
         → HasNotedBehind profile old earlier past → IsNotedBehind profile earlier past pair old new Contradiction → IsNext before pair after
-        → IsJudgedBy (ArePermittedBehind profile earlier) past before (Refused pair) after × (class_behind profile past (Refused pair) ≡ Some Contradicts) }
+        → IsJudged (ArePermittedBehind profile earlier) past before (Refused pair) after × (class_behind profile past (Refused pair) ≡ Some Contradicts) }
     ensures out_of_place { (profile : Profile) (earlier : List (List Paired)) (past : List Paired) (pair : Paired) (old new : FactsKept) (before after : Unpaired)
         → HasNotedBehind profile old earlier past → IsNotedBehind profile earlier past pair old new NotedOutOfPlace → IsNext before pair after
-        → IsJudgedBy (ArePermittedBehind profile earlier) past before (Refused pair) after × (class_behind profile past (Refused pair) ≡ Some OutOfPlace) }
+        → IsJudged (ArePermittedBehind profile earlier) past before (Refused pair) after × (class_behind profile past (Refused pair) ≡ Some OutOfPlace) }
 {}
 
 /// Sessions are judged one exchange after the other. It begins with a first session of which nothing

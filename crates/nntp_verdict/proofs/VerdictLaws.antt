@@ -42,7 +42,7 @@ one-first octets l m (p, inr (r, e)) (q, inl f) = absurd (no-line octets l r (su
 one-first octets l m (p, inr (r, e)) (q, inr (t, f)) = (one_line l m r t p q (sym e ∙ f)).0
 
 -- a place shows one command and one reply
-one-place : (client server : List ℕ) (k : ℕ) (class other : Class) (command also : Option (List ℕ)) (reply again : List ℕ)
+pub one-place : (client server : List ℕ) (k : ℕ) (class other : Class) (command also : Option (List ℕ)) (reply again : List ℕ)
     → StopsAt client server k class command reply → StopsAt client server k other also again
     → (command ≡ also) × (reply ≡ again)
 one-place client server k class other command also reply again x y =

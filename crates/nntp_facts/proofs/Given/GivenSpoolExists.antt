@@ -1,21 +1,19 @@
 -- What stands together is given a spool, and whether some spool permits a session is decided.
-use Rattle.std.proofs.Common.{◌<◌, ◌^◌, ◌⊎◌, ◌↔◌, List, length, inl, inr}
+use Rattle.std.proofs.Common.{◌<◌, ◌^◌, ◌⊎◌, ◌↔◌, List, inl, inr}
 use Rattle.nntp_article.proofs.SessionLemmas.FiniteMapsDecided.{Dec, dec_both}
 use Rattle.nntp_article.proofs.SessionLemmas.AgreementDecided.{dec_run}
 use Rattle.nntp_article.specs.Session.Spool.{Spool, IsSpool}
 use Rattle.nntp_article.specs.declared.session.profile.Profile.{Profile}
 use Rattle.nntp_article.specs.Session.Machine.{Run, start}
 use Rattle.nntp_facts.specs.Facts.{FitsAll}
-use Rattle.nntp_facts.specs.Given.{IsGiven, facts_of_session, unshown_ids, size}
+use Rattle.nntp_facts.specs.Given.{IsGiven, facts_of_session, size}
 use Rattle.nntp_facts.specs.Together.{Together}
 use Rattle.nntp_facts.specs.Permits.{SomePermits}
 use Rattle.nntp_facts.proofs.Given.GivenPermits.{stands, given_permits}
 use Rattle.nntp_facts.proofs.Session.NumbersOfShownGroups.{session_placed}
 use Rattle.nntp_facts.proofs.Session.FittingFacts.{session_fitting}
-use Rattle.nntp_facts.proofs.Session.NumbersWithinLimit.{free_in_limit}
-use Rattle.nntp_facts.proofs.Ids.SmallGivenSpool.{few_enough, unshown_ids_few}
-use Rattle.nntp_facts.proofs.Ids.InventedIds.{number-invented}
-use Rattle.nntp_facts.proofs.Given.ConstructedSpool.{made, made_group, made_given, made_is_given}
+use Rattle.nntp_facts.proofs.Given.ConstructedSpool.{made}
+use Rattle.nntp_facts.proofs.Given.GivenHasFacts.{given_of_facts}
 use Rattle.nntp_facts.proofs.Given.SpoolsDecided.{dec_spool}
 use Rattle.nntp_wire.specs.Answer.{Asked, Response}
 
@@ -29,13 +27,7 @@ pub given_exists : (profile : Profile) (ps : List Asked) (answers : List Respons
     (made_for profile ps answers)
 unfolding made_for
 given_exists profile ps answers fits small =
-    let facts = facts_of_session profile.marks ps answers in
-    let G = made profile.limit (10 ^ 64) facts in
-    let within = free_in_limit profile facts profile.marks (session_fitting profile ps answers fits) (session_placed profile ps answers fits) in
-    let group = made_group profile.limit (10 ^ 64) facts in
-    made_is_given profile.limit (10 ^ 64) facts number-invented (λ name shown e x. within name shown e x.first.1)
-    (few_enough facts (length (unshown_ids facts G)) small
-    (unshown_ids_few facts G (λ name. (group name).0) (λ name i. made_given profile.limit (10 ^ 64) facts name (λ e x. within name ((group name).0 i) e x.first.1) i)))
+    given_of_facts profile profile.marks (facts_of_session profile.marks ps answers) (session_fitting profile ps answers fits) (session_placed profile ps answers fits) small
 
 -- some spool permits a session exactly if it fits and stands together
 pub permitted_together : (profile : Profile) (ps : List Asked) (answers : List Response)

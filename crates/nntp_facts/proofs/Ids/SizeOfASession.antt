@@ -71,7 +71,7 @@ pub session_size : (how : Marks) (ps : List Asked) (answers : List Response) →
 session_size how ps answers = from_size how start.visible Nowhere ps answers
 
 -- answers of few lines weigh little
-pairs_weight : (pairs : List Paired) → AllByRecursion (λ pair. lines_in pair.response < 2 ^ 64) pairs → weight (responses_of pairs) ≤ (2 ^ 64 + 2) * length pairs
+pub pairs_weight : (pairs : List Paired) → AllByRecursion (λ pair. lines_in pair.response < 2 ^ 64) pairs → weight (responses_of pairs) ≤ (2 ^ 64 + 2) * length pairs
 pairs_weight [] few = omega arith
 pairs_weight (pair ∷ pairs) few = let rest = pairs_weight pairs few.1 in let here = few.0 in omega arith
 

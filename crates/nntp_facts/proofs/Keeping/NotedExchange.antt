@@ -56,7 +56,7 @@ permitted_next profile ps answers asked response e small h =
     (subst (λ v. SomePermits profile qs after ↔ MayFollow profile v (position_from Nowhere qs answers) (facts_of_session profile.marks qs answers) asked response) v more))
 
 -- what is said then
-facts_next : (how : Marks) (ps : List Asked) (answers : List Response) (asked : Asked) (response : Response) → length ps ≡ length answers
+pub facts_next : (how : Marks) (ps : List Asked) (answers : List Response) (asked : Asked) (response : Response) → length ps ≡ length answers
     → facts_of_session how (ps ++ asked ∷ []) (answers ++ response ∷ []) ≡ facts_of_session how ps answers ++ facts_of how
     (visible_from start.visible ps answers) (position_from Nowhere ps answers) asked response
 facts_next how ps answers asked response e =
@@ -73,7 +73,7 @@ visible_next ps answers asked response e =
     ∙ ap (λ v. visible_after v asked response) (visible_longer start.visible ps (asked ∷ []) answers (omega (arith, e)))
 
 -- and where the session stands then
-position_next : (ps : List Asked) (answers : List Response) (asked : Asked) (response : Response) → length ps ≡ length answers
+pub position_next : (ps : List Asked) (answers : List Response) (asked : Asked) (response : Response) → length ps ≡ length answers
     → position_from Nowhere (ps ++ asked ∷ []) (answers ++ response ∷ []) ≡ position_after (position_from Nowhere ps answers) asked response
 position_next ps answers asked response e =
     position_grows Nowhere (ps ++ asked ∷ []) answers asked response (next_behind ps [] asked answers e)

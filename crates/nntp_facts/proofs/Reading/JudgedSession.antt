@@ -7,41 +7,43 @@ use Rattle.nntp_facts.specs.Given.{facts_of_session, size}
 use Rattle.nntp_facts.specs.Noted.{FactsKept, HasNoted, IsDue, ArePermitted}
 use Rattle.nntp_facts.specs.Reading.{Judged, accepted_of, accepted_with, IsJudged, AreJudged}
 use Rattle.nntp_facts.proofs.Given.FirstBadAnswer.{none_permitted}
-use Rattle.nntp_facts.proofs.Reading.JudgedAnswers.{accepted_behind, judged_push, accepted_push, judged_count, accepted_few, accepted_permitted, accepted_size, visible_behind, accepted_open}
+use Rattle.nntp_facts.proofs.Ids.SizeOfASession.{session_size}
+use Rattle.nntp_facts.proofs.Reading.JudgedAnswers.{accepted_behind, judged_push, accepted_push, judged_count, accepted_few, accepted_stand, accepted_light, visible_behind, accepted_open}
 
 -- no pairs are permitted
 pub none_accepted : (profile : Profile) → ArePermitted profile []
 none_accepted profile = none_permitted profile [] []
 
 pub permitted_in_session : (profile : Profile) (client server : List ℕ) (answers : List Judged) (left : Unpaired)
-    → AreJudged profile [] (streams client server) answers left → ArePermitted profile (accepted_of answers)
+    → AreJudged (ArePermitted profile) [] (streams client server) answers left → ArePermitted profile (accepted_of answers)
 permitted_in_session profile client server answers left judged =
-    subst (ArePermitted profile) (accepted_behind [] answers) (accepted_permitted profile [] (streams client server) left answers (none_accepted profile) judged)
+    subst (ArePermitted profile) (accepted_behind [] answers) (accepted_stand (ArePermitted profile) [] (streams client server) left answers (none_accepted profile) judged)
 
-pub size_in_session : (profile : Profile) (client server : List ℕ) (answers : List Judged) (left : Unpaired) → AreJudged profile [] (streams client server) answers left
+pub size_in_session : (profile : Profile) (client server : List ℕ) (answers : List Judged) (left : Unpaired) → AreJudged (ArePermitted profile) [] (streams client server) answers left
     → size (facts_of_session profile.marks (asked_of (accepted_of answers)) (responses_of (accepted_of answers))) ≤ length server
 size_in_session profile client server answers left judged =
-    subst (λ pairs. size (facts_of_session profile.marks (asked_of pairs) (responses_of pairs)) ≤ length server) (accepted_behind [] answers)
-    (accepted_size profile.marks profile (streams client server) left answers judged)
+    let all = session_size profile.marks (asked_of (accepted_of answers)) (responses_of (accepted_of answers)) in
+    let most = accepted_light (ArePermitted profile) client server answers left judged in
+    omega (arith, all, most)
 
 -- one answer more
 pub one_more_in_session : (profile : Profile) (client server : List ℕ) (answers : List Judged) (answer : Judged) (left after : Unpaired)
-    → AreJudged profile [] (streams client server) answers left → IsJudged profile (accepted_of answers) left answer after
-    → AreJudged profile [] (streams client server) (answers ++ answer ∷ []) after
+    → AreJudged (ArePermitted profile) [] (streams client server) answers left → IsJudged (ArePermitted profile) (accepted_of answers) left answer after
+    → AreJudged (ArePermitted profile) [] (streams client server) (answers ++ answer ∷ []) after
 one_more_in_session profile client server answers answer left after judged is =
-    judged_push profile [] (streams client server) left after answers answer judged (subst (λ past. IsJudged profile past left answer after) (sym (accepted_behind [] answers)) is)
+    judged_push (ArePermitted profile) [] (streams client server) left after answers answer judged (subst (λ past. IsJudged (ArePermitted profile) past left answer after) (sym (accepted_behind [] answers)) is)
 
 pub accepted_one_more : (answers : List Judged) (answer : Judged) → accepted_of (answers ++ answer ∷ []) ≡ accepted_with (accepted_of answers) answer
 accepted_one_more answers answer =
     sym (accepted_behind [] (answers ++ answer ∷ [])) ∙ accepted_push [] answers answer ∙ ap (λ past. accepted_with past answer) (accepted_behind [] answers)
 
 pub index_in_session : (profile : Profile) (client server : List ℕ) (answers : List Judged) (left : Unpaired)
-    → AreJudged profile [] (streams client server) answers left → left.index ≡ length answers
-index_in_session profile client server answers left judged = let count = judged_count profile [] (streams client server) left answers judged in omega (arith, count)
+    → AreJudged (ArePermitted profile) [] (streams client server) answers left → left.index ≡ length answers
+index_in_session profile client server answers left judged = let count = judged_count (ArePermitted profile) [] (streams client server) left answers judged in omega (arith, count)
 
 -- the next pair may be noted
 pub due_in_session : (profile : Profile) (client server : List ℕ) (answers : List Judged) (left after : Unpaired) (pair : Paired) (facts : FactsKept)
-    → AreJudged profile [] (streams client server) answers left → HasNoted profile facts (accepted_of answers) → IsNext left pair after → IsDue facts pair
+    → AreJudged (ArePermitted profile) [] (streams client server) answers left → HasNoted profile facts (accepted_of answers) → IsNext left pair after → IsDue facts pair
 due_in_session profile client server answers left after pair facts judged noted next =
     let count = index_in_session profile client server answers left judged in
     let few = accepted_few [] answers in
@@ -49,5 +51,5 @@ due_in_session profile client server answers left after pair facts judged noted 
     record {
       index = omega (arith, count, few, same, noted.count, next.index);
       is_open = ap (λ (v : Visible). v.closed) noted.visible ∙ subst (λ past. (visible_behind past).closed ≡ false) (accepted_behind [] answers)
-          (accepted_open profile [] (streams client server) left answers (λ e. refl) judged next.is_open);
+          (accepted_open (ArePermitted profile) [] (streams client server) left answers (λ e. refl) judged next.is_open);
     }

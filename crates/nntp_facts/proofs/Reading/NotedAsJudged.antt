@@ -28,7 +28,7 @@ permitted_fits profile past pair permitted =
     ∙ run_fits profile more.0 start (ps ++ asked ∷ []) answers asked pair.response (next_behind ps [] asked answers (as_many past)) more.2
 
 pub consistent_accepted : (profile : Profile) (past : List Paired) (pair : Paired) (old new : FactsKept) (before after : Unpaired)
-    → IsNoted profile past pair old new Consistent → IsNext before pair after → IsJudged profile past before (Accepted pair) after
+    → IsNoted profile past pair old new Consistent → IsNext before pair after → IsJudged (ArePermitted profile) past before (Accepted pair) after
 consistent_accepted profile past pair old new before after noted next = (next, noted.0)
 
 -- whether it fits is told by what those before leave visible
@@ -38,13 +38,13 @@ fits_behind profile past pair old noted = ap (λ v. fits profile v (asked_at pai
 
 pub unfit_refused : (profile : Profile) (past : List Paired) (pair : Paired) (old new : FactsKept) (before after : Unpaired) → HasNoted profile old past
     → IsNoted profile past pair old new NotedOutOfPlace → IsNext before pair after
-    → IsJudged profile past before (Refused pair) after × (class_behind profile past (Refused pair) ≡ Some OutOfPlace)
+    → IsJudged (ArePermitted profile) past before (Refused pair) after × (class_behind profile past (Refused pair) ≡ Some OutOfPlace)
 unfit_refused profile past pair old new before after stands noted next =
     let unfit = fits_behind profile past pair old stands ∙ noted.0 in
     ((next, λ permitted. true≢false (sym (permitted_fits profile past pair permitted) ∙ unfit)), ap (λ b. Some (class_by b)) unfit)
 
 pub contradiction_refused : (profile : Profile) (past : List Paired) (pair : Paired) (old new : FactsKept) (before after : Unpaired) → HasNoted profile old past
     → IsNoted profile past pair old new NotedContradiction → IsNext before pair after
-    → IsJudged profile past before (Refused pair) after × (class_behind profile past (Refused pair) ≡ Some Contradiction)
+    → IsJudged (ArePermitted profile) past before (Refused pair) after × (class_behind profile past (Refused pair) ≡ Some Contradiction)
 contradiction_refused profile past pair old new before after stands noted next =
     ((next, noted.1), ap (λ b. Some (class_by b)) (fits_behind profile past pair old stands ∙ noted.0))

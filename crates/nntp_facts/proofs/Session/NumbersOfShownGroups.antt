@@ -152,10 +152,14 @@ all_placed profile all v at (p ∷ ps) (a ∷ more) stands f h =
     all_both (Placed profile.marks all) (facts_of profile.marks v at p a) _ (step_placed profile all v at p a stands f.1 front)
     (all_placed profile all (visible_after v p a) (position_after at p a) ps more (still_stands profile all v at p a stands f.1 front) f.2 (all_back (Among all) (facts_of profile.marks v at p a) _ h))
 
--- in a session that fits, what is said of numbers is said of groups that a 211 selected
+-- in a session that fits, what is said of numbers is said of groups that a 211 selected, whatever else is said
+pub placed_among : (profile : Profile) (all : List Fact) (ps : List Asked) (answers : List Response) → FitsAll profile start.visible ps answers
+    → AllByRecursion (Among all) (facts_of_session profile.marks ps answers) → AllByRecursion (Placed profile.marks all) (facts_of_session profile.marks ps answers)
+placed_among profile all ps answers f h = all_placed profile all start.visible Nowhere ps answers (λ name e. cc) f h
+
 pub session_placed : (profile : Profile) (ps : List Asked) (answers : List Response) → FitsAll profile start.visible ps answers
     → AllByRecursion (Placed profile.marks (facts_of_session profile.marks ps answers))
     (facts_of_session profile.marks ps answers)
 session_placed profile ps answers f =
     let all = facts_of_session profile.marks ps answers in
-    all_placed profile all start.visible Nowhere ps answers (λ name e. cc) f (all_from (Among all) all (λ fact i. i))
+    placed_among profile all ps answers f (all_from (Among all) all (λ fact i. i))

@@ -46,9 +46,9 @@ pub fn reading_without_bad_answers_is_explained()
 /// octets.
 pub fn accepted_answers_are_permitted()
     ensures permitted { (profile : Profile) (client server : List ℕ) (answers : List Judged) (left : Unpaired)
-        → AreJudged profile [] (streams client server) answers left → ArePermitted profile (accepted_of answers) }
+        → AreJudged (ArePermitted profile) [] (streams client server) answers left → ArePermitted profile (accepted_of answers) }
     ensures size { (profile : Profile) (client server : List ℕ) (answers : List Judged) (left : Unpaired)
-        → AreJudged profile [] (streams client server) answers left
+        → AreJudged (ArePermitted profile) [] (streams client server) answers left
         → size (facts_of_session profile.marks (asked_of (accepted_of answers)) (responses_of (accepted_of answers))) ≤ length server }
 {}
 
@@ -56,26 +56,26 @@ pub fn accepted_answers_are_permitted()
 /// counts all answers, and where a pair comes next, none of the accepted ones closed the connection.
 pub fn next_answer_is_judged()
     ensures answers { (profile : Profile) (client server : List ℕ) (answers : List Judged) (answer : Judged) (left after : Unpaired)
-        → AreJudged profile [] (streams client server) answers left → IsJudged profile (accepted_of answers) left answer after
-        → AreJudged profile [] (streams client server) (answers ++ answer ∷ []) after }
+        → AreJudged (ArePermitted profile) [] (streams client server) answers left → IsJudged (ArePermitted profile) (accepted_of answers) left answer after
+        → AreJudged (ArePermitted profile) [] (streams client server) (answers ++ answer ∷ []) after }
     ensures accepted { (answers : List Judged) (answer : Judged) → accepted_of (answers ++ answer ∷ []) ≡ accepted_with (accepted_of answers) answer }
     ensures index { (profile : Profile) (client server : List ℕ) (answers : List Judged) (left : Unpaired)
-        → AreJudged profile [] (streams client server) answers left → left.index ≡ length answers }
+        → AreJudged (ArePermitted profile) [] (streams client server) answers left → left.index ≡ length answers }
     ensures due { (profile : Profile) (client server : List ℕ) (answers : List Judged) (left after : Unpaired) (pair : Paired) (facts : FactsKept)
-        → AreJudged profile [] (streams client server) answers left → HasNoted profile facts (accepted_of answers) → IsNext left pair after → IsDue facts pair }
+        → AreJudged (ArePermitted profile) [] (streams client server) answers left → HasNoted profile facts (accepted_of answers) → IsNext left pair after → IsDue facts pair }
 {}
 
 /// What is noted of the next exchange says how it is judged, and of which class it is where it is
 /// bad.
 pub fn noted_exchange_is_judged()
     ensures consistent { (profile : Profile) (past : List Paired) (pair : Paired) (old new : FactsKept) (before after : Unpaired)
-        → IsNoted profile past pair old new Consistent → IsNext before pair after → IsJudged profile past before (Accepted pair) after }
+        → IsNoted profile past pair old new Consistent → IsNext before pair after → IsJudged (ArePermitted profile) past before (Accepted pair) after }
     ensures out_of_place { (profile : Profile) (past : List Paired) (pair : Paired) (old new : FactsKept) (before after : Unpaired)
         → HasNoted profile old past → IsNoted profile past pair old new NotedOutOfPlace → IsNext before pair after
-        → IsJudged profile past before (Refused pair) after × (class_behind profile past (Refused pair) ≡ Some OutOfPlace) }
+        → IsJudged (ArePermitted profile) past before (Refused pair) after × (class_behind profile past (Refused pair) ≡ Some OutOfPlace) }
     ensures contradiction { (profile : Profile) (past : List Paired) (pair : Paired) (old new : FactsKept) (before after : Unpaired)
         → HasNoted profile old past → IsNoted profile past pair old new NotedContradiction → IsNext before pair after
-        → IsJudged profile past before (Refused pair) after × (class_behind profile past (Refused pair) ≡ Some Contradiction) }
+        → IsJudged (ArePermitted profile) past before (Refused pair) after × (class_behind profile past (Refused pair) ≡ Some Contradiction) }
 {}
 
 /// The accepted exchanges fit where they stand, and so does one that contradicts them, which no

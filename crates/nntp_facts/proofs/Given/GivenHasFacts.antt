@@ -1,17 +1,15 @@
--- What is so of facts alone, whether or not they are of one session: the given spool of facts that fit, are placed and stand together has them, and is the least.
-use Rattle.std.proofs.Common.{◌<◌, ◌^◌, length}
+-- The given spool of facts that fit, are placed and stand together has them, and is the least, whether or not they are of one session.
+use Rattle.std.proofs.Common.{◌<◌, ◌^◌, List, length}
 use Rattle.std.specs.List.{AllByRecursion}
-use Rattle.std.proofs.Common.{List}
 use Rattle.nntp_wire.specs.declared.marks.Marks.{Marks}
 use Rattle.nntp_article.specs.Session.Spool.{Spool, IsSpool, numbers, Name}
 use Rattle.nntp_article.specs.declared.session.profile.Profile.{Profile}
 use Rattle.nntp_facts.specs.Asks.{Meets}
-use Rattle.nntp_facts.specs.Facts.{Fact, ThereIs, ThereIsNo, Asks, IdAt, TextIs, NoArticle, GroupsAre, Holds}
+use Rattle.nntp_facts.specs.Facts.{Fact, Holds}
 use Rattle.nntp_facts.specs.Given.{IsGiven, unshown_ids, asks_of, size, HasAtLeast}
 use Rattle.nntp_facts.specs.Together.{Together}
-use Rattle.nntp_facts.proofs.Members.{In}
 use Rattle.nntp_facts.proofs.Session.FittingFacts.{IsFitting}
-use Rattle.nntp_facts.proofs.Session.NumbersOfShownGroups.{Placed, IsSelectable}
+use Rattle.nntp_facts.proofs.Session.NumbersOfShownGroups.{Placed}
 use Rattle.nntp_facts.proofs.Session.NumbersWithinLimit.{free_in_limit}
 use Rattle.nntp_facts.proofs.Ids.SmallGivenSpool.{few_enough, unshown_ids_few}
 use Rattle.nntp_facts.proofs.Ids.InventedIds.{number-invented, invented_is_id}
@@ -21,20 +19,6 @@ use Rattle.nntp_facts.proofs.Given.GivenHolds.{Setting, all_hold}
 use Rattle.nntp_facts.proofs.Given.GivenIsSpool.{given_is_spool}
 use Rattle.nntp_facts.proofs.GivenNumbers.MetNumbersStand.{shown_are_numbers, as_few}
 use Rattle.nntp_facts.proofs.GivenNumbers.AskedOfAGroup.{met_by_facts}
-
--- a group that is selectable among some facts is among more
-selectable_more : (how : Marks) (xs ys : List Fact) → ((fact : Fact) → In fact xs → In fact ys) → (name : Name) → IsSelectable how xs name → IsSelectable how ys name
-selectable_more how xs ys sub name s = record { marks = s.marks; there = sub (ThereIs name) s.there; estimated = sub _ s.estimated }
-
--- a fact that is placed among some facts is among more
-pub placed_more : (how : Marks) (xs ys : List Fact) → ((fact : Fact) → In fact xs → In fact ys) → (fact : Fact) → Placed how xs fact → Placed how ys fact
-placed_more how xs ys sub (ThereIs name) p = selectable_more how xs ys sub name p
-placed_more how xs ys sub (Asks name ask) p = selectable_more how xs ys sub name p
-placed_more how xs ys sub (IdAt name n id) p = selectable_more how xs ys sub name p
-placed_more how xs ys sub (ThereIsNo name) p = tt
-placed_more how xs ys sub (TextIs what id lines) p = tt
-placed_more how xs ys sub (NoArticle id) p = tt
-placed_more how xs ys sub (GroupsAre p lines) q = tt
 
 -- a spool is given for facts that fit and are placed
 pub given_of_facts : (profile : Profile) (how : Marks) (facts : List Fact) → AllByRecursion (IsFitting profile) facts → AllByRecursion (Placed how facts) facts
