@@ -1,5 +1,5 @@
 -- How the process ends.
-use Rattle.std.specs.Prelude.{◌≡◌, ◌⊎◌, ℕ, Bool, true, false, Result, Ok, Err}
+use Rattle.std.specs.Prelude.{◌≡◌, ◌⊎◌, ⊤, ℕ, Bool, true, false, Result, Ok, Err}
 use Rattle.std.specs.Process as process
 use Rattle.std.specs.declared.process.ExitCode.{ExitCode}
 use Rattle.clap.specs.Words.{kind_of}
@@ -43,3 +43,7 @@ StaysOrIsUntold (Err failure) told = (told ≡ Err failure) ⊎ ((exit_status (E
 abbrev pub MatchFailure : (RunFault → Type 0) → Type 0 → Failure → Type 0
 MatchFailure P Q (Run fault) = P fault
 MatchFailure P Q failure = Q
+
+-- no run has failed: there was none
+abbrev pub IsNoRun : Failure → Type 0
+IsNoRun failure = MatchFailure (λ fault. ⊥) ⊤ failure

@@ -1,5 +1,5 @@
 -- What a run reads and writes, at any reader and writer: known octets are those of the traits.
-use Rattle.std.specs.Prelude.{◌≡◌, ◌⊎◌, ℕ, ◌+◌, ◌≤◌, ◌<◌, ◌^◌, Bool, List, [], ◌++◌, length, take, Option}
+use Rattle.std.specs.Prelude.{◌≡◌, ◌⊎◌, ℕ, ◌+◌, ◌≤◌, ◌<◌, ◌^◌, Bool, List, [], ◌++◌, length, take, Option, Result, Ok, Err}
 use Rattle.std.specs.Io.KnownBytes.{Appends, Consumes, IsAtEnd}
 use Rattle.nntp_wire.specs.declared.limit.Limit.{Limit}
 use Rattle.nntp_wire.specs.declared.marks.Marks.{Marks}
@@ -15,11 +15,13 @@ use Rattle.nntp_spool.specs.declared.text.read_fault.ReadFault.{ReadFault}
 use Rattle.nntp_spool.specs.declared.verification.verified.Verified.{Verified}
 use Rattle.nntp_spool.specs.declared.watched.Watched.{Watched}
 use Rattle.nntp_explain.specs.Explaining.{IsExplanation}
+use Rattle.nntp_check.specs.CommandLine.{MatchFailure, MayEndWith}
 use Rattle.nntp_check.specs.Capture.{AreStreams, BeginsCapture, IsBadPieceForGood, IsBadPiece}
 use Rattle.nntp_verdict.specs.Judging.{IsVerdict}
 use Rattle.nntp_check.specs.Report.{report_of, verified_report, is_permitted}
 use Rattle.nntp_check.specs.Show.{shown_report, is_end}
 use Rattle.nntp_verdict.specs.Verdict.{Judgement, is_consistent}
+use Rattle.nntp_check.specs.declared.command_line.Failure.{Failure}
 use Rattle.nntp_check.specs.declared.command_line.Task.{Task}
 use Rattle.nntp_check.specs.declared.run_fault.RunFault.{RunFault}
 use Rattle.nntp_check.specs.declared.command_line.Task.TheVariants as tasks
@@ -192,3 +194,12 @@ IsTaskFault (tasks.Check limit marks) = IsCheckFault limit marks
 IsTaskFault (tasks.Verify marks) = IsVerifyFault marks
 IsTaskFault tasks.Show = IsShowFault
 IsTaskFault (tasks.Explain limit marks) = IsExplainFault limit marks
+
+-- how the program's words are done: the report of a task is written, or a task has a fault; or nothing is read or written. No task reads more than 2^30 octets
+abbrev pub EndsRun : {R W : Type 0} → (R → Option (List ℕ)) → (W → Option (List ℕ)) → Watched R → Watched R → Watched W → Watched W → Result Bool Failure → Type 0
+EndsRun remaining contents before after empty written (Ok answer) = (task : Task) × IsReported (TaskReports task) (read_by remaining before after (2 ^ 30)) (written_by contents empty written) answer
+EndsRun remaining contents before after empty written (Err failure) = MatchFailure (λ fault. (task : Task) × IsTaskFault task (read_by remaining before after (2 ^ 30)) (written_by contents empty written) fault) ((after ≡ before) × (written ≡ empty)) failure
+
+-- they are done so, and the status is that of how they are done
+abbrev pub EndsProgram : {R W : Type 0} → (R → Option (List ℕ)) → (W → Option (List ℕ)) → Watched R → Watched R → Watched W → Watched W → ℕ → Type 0
+EndsProgram remaining contents before after empty written status = (outcome : Result Bool Failure) × EndsRun remaining contents before after empty written outcome × MayEndWith outcome status

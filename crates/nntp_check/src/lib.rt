@@ -4,8 +4,7 @@
 //! judges those of a capture and writes the report on them; `run_verify` tells whether the spool of a
 //! capture explains its session; `run_show` writes the session as a reader sees it; `run_explain` writes all
 //! that is bad of it; `run_task` does what a command line asks for. `job` and `status` are the program's
-//! command line and its exit status; `main` calls `run_words`, which does what `job` makes of its words, and
-//! `conclude`, which tells how that ended.
+//! command line and its exit status, and `run_program` is all that `main` does.
 #![tactic(auto)]
 
 mod capture_reader;
@@ -28,6 +27,6 @@ pub use nntp_pair::{Class, PairError as CheckError};
 pub use nntp_spool::{Counts, Kind, ReadFault, Spool, Watched, WriteFault};
 pub use nntp_verdict::{Checker, Verdict, check};
 pub use nntp_wire::{Limit, Marks};
-pub use program::{conclude, run_words};
+pub use program::run_program;
 pub use run::{run_check, run_explain, run_show, run_task, run_verify};
 pub use run_fault::RunFault;

@@ -1,19 +1,34 @@
-//! The program: what its words ask for is done, and then it ends.
-ghost use Rattle.std.specs.Prelude.{◌≡◌, ◌^◌, IfOk, IfErr};
-ghost use Rattle.nntp_check.specs.CommandLine.{MatchFailure, MayEndWith, StaysOrIsUntold, code_status};
-ghost use Rattle.nntp_check.specs.Run.{read_by, written_by, TaskReports, IsReported, IsTaskFault};
-ghost use Rattle.nntp_check.specs.declared.command_line.Task.{Task as TaskValue};
+//! The program: its words are read, what they ask for is done, and then it ends.
+ghost use Rattle.std.specs.Prelude.{IfErr};
+ghost use Rattle.nntp_check.specs.CommandLine.{IsNoRun, MayEndWith, StaysOrIsUntold, code_status};
+ghost use Rattle.nntp_check.specs.Run.{EndsRun, EndsProgram};
 
 use crate::command_line::{Failure, job, refusal, status};
 use crate::run::run_task;
 use clap::error::ErrorKind;
 use nntp_spool::Watched;
-use std::alloc::Global;
-use std::io::{Read, Write};
+use std::alloc::{AllocError, Global};
+use std::env::{self, Env};
+use std::io::{self, Read, Write};
 use std::process::ExitCode;
 
 /// The most octets that the program reads.
 const MOST: u64 = 1 << 30;
+
+/// The words of the command line, the program's name first.
+fn words<R: Env + AllocGlobal>(rt: &R) -> io::Result<Vec<String>> {
+    Ok(env::args(rt)?.collect(rt.alloc())?)
+}
+
+/// Why the words can't be read: one is not UTF-8, or memory is refused.
+fn unread(error: io::Error) -> Failure
+    ensures { IsNoRun result }
+{
+    match error.kind() {
+        io::ErrorKind::OutOfMemory => Failure::Words(AllocError.into()),
+        _ => Failure::NotText,
+    }
+}
 
 /// Does what the words of the command line ask for, of which the first is the program's name. It reads at most 2^30
 /// octets.
@@ -22,18 +37,13 @@ const MOST: u64 = 1 << 30;
 ///
 /// `Words` and `ExtraWord` where the words ask for no task, and then nothing is read or written. `Run` with the fault of
 /// the run.
-pub fn run_words<R: Read, W: Write>(
+fn run_words<R: Read, W: Write>(
     alloc: Global,
     words: &[String],
     input: &mut Watched<R>,
     output: &mut Watched<W>,
 ) -> Result<bool, Failure>
-    // What was read is a capture of at most so many octets, and what was written is the report of a task on it.
-    ensures ok { IfOk result (λ answer. (task : TaskValue) × IsReported (TaskReports task) (read_by R.remaining input.old input.new (2 ^ 30)) (written_by W.contents output.old output.new) answer) }
-    // Which fault it is, by what was read and written. After any other failure neither the reader nor the writer is touched.
-    ensures err { IfErr result (MatchFailure
-        (λ fault. (task : TaskValue) × IsTaskFault task (read_by R.remaining input.old input.new (2 ^ 30)) (written_by W.contents output.old output.new) fault)
-        ((input.new ≡ input.old) × (output.new ≡ output.old))) }
+    ensures { EndsRun R.remaining W.contents input.old input.new output.old output.new result }
 {
     match job(alloc, words) {
         Ok(task) => run_task(alloc, task, input, output, MOST).map_err(Failure::Run),
@@ -62,7 +72,7 @@ fn tell(rt: &(impl Print + Eprint), outcome: Result<bool, Failure>) -> Result<bo
 
 /// Prints help that was asked for on standard output, and why there is no answer on standard error; and gives the status
 /// that the process ends with: that of the outcome, or 3 where help could not be written.
-pub fn conclude(rt: &(impl Print + Eprint), outcome: Result<bool, Failure>) -> ExitCode
+fn conclude(rt: &(impl Print + Eprint), outcome: Result<bool, Failure>) -> ExitCode
     ensures { MayEndWith outcome (code_status result) }
 {
     let outcome = tell(rt, outcome);
@@ -70,4 +80,20 @@ pub fn conclude(rt: &(impl Print + Eprint), outcome: Result<bool, Failure>) -> E
         let _ = eprintln!(rt; "{failure}");
     }
     ExitCode::from(status(&outcome))
+}
+
+/// What `main` does: what the words of the command line ask for is done, on at most 2^30 octets of the input, help is
+/// printed on standard output, and why there is no answer on standard error. Gives the status that the process ends with.
+pub fn run_program<R: Env + AllocGlobal + Print + Eprint, I: Read, O: Write>(
+    rt: &R,
+    input: &mut Watched<I>,
+    output: &mut Watched<O>,
+) -> ExitCode
+    ensures { EndsProgram I.remaining O.contents input.old input.new output.old output.new (code_status result) }
+{
+    let outcome = match words(rt) {
+        Ok(words) => run_words(rt.alloc(), &words, input, output),
+        Err(error) => Err(unread(error)),
+    };
+    conclude(rt, outcome)
 }

@@ -115,9 +115,9 @@ fn report(
     Ok(output.into_inner().held)
 }
 
-/// Whether the reasons of a conflict are a smallest set: no spool has what they and the bad answer say, and without any
-/// one of them some spool has what is left.
-fn is_smallest(reading: &Reading<'_>, conflict: &Conflict) -> Result<bool, AllocError> {
+/// Whether the reasons of a conflict suffice, and none can be left out: no spool has what they and the bad answer say,
+/// and without any one of them some spool has what is left.
+fn is_irredundant(reading: &Reading<'_>, conflict: &Conflict) -> Result<bool, AllocError> {
     if reading.some_spool_has(conflict.bad, &conflict.reasons, None)? != Some(false) {
         return Ok(false);
     }
@@ -175,7 +175,7 @@ fn compare(
         streams.1.escape_ascii()
     );
     for conflict in &explained.conflicts {
-        let is_right = !conflict.is_whole || is_smallest(&reading, conflict)?;
+        let is_right = !conflict.is_whole || is_irredundant(&reading, conflict)?;
         assert!(rt;
             is_right,
             "{choice:?}, answer {}: {}, {}",
