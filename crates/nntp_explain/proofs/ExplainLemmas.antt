@@ -172,7 +172,7 @@ told_unfitting : (profile : Profile) (client server : List ℕ) (kept : Kept) (t
     → AreTold profile client server (record kept { closing = closing_after kept.closing kept.stands pair; bad = kept.bad + 1 }) (text ++ more) behind
 told_unfitting profile client server kept text left behind pair more t next notes is =
     let past = accepted_of t.answers in
-    let judged = unfit_refused profile past pair kept.facts kept.facts left behind t.noted (notes past t.noted) next in
+    let judged = unfit_refused profile [] past pair kept.facts kept.facts left behind t.noted (notes past t.noted) next in
     told_bad profile client server kept text more left behind (Refused pair) t judged.0 refl
     (refused_explained profile past pair OutOfPlace more judged.1
     (told_as (pair.index - length past) (standing past) pair.index OutOfPlace pair.line pair.initial _ (IsReason profile past pair OutOfPlace) more
@@ -189,7 +189,7 @@ told_contradiction : (profile : Profile) (client server : List ℕ) (kept : Kept
     → AreTold profile client server (record kept { closing = closing_after kept.closing kept.stands pair; bad = kept.bad + 1 }) (text ++ more) behind
 told_contradiction profile client server kept text left behind pair more t next notes is =
     let past = accepted_of t.answers in
-    let judged = contradiction_refused profile past pair kept.facts kept.facts left behind t.noted (notes past t.noted) next in
+    let judged = contradiction_refused profile [] past pair kept.facts kept.facts left behind t.noted (notes past t.noted) next in
     let placed = placed_there past kept.stands kept.facts.position pair t.stands_there t.noted.position in
     told_bad profile client server kept text more left behind (Refused pair) t judged.0 refl
     (refused_explained profile past pair Contradiction more judged.1

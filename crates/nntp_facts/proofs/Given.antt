@@ -4,6 +4,7 @@ pub mod ConstructedSpool
 pub mod GivenHasFacts
 pub mod GivenPermits
 pub mod SpoolsDecided
+pub mod SessionsByFacts
 pub mod GivenSpoolExists
 pub mod FirstBadAnswer
 pub mod OneGivenSpool

@@ -25,6 +25,7 @@ pub mod KeptArticles
 pub mod KeptIds
 pub mod NotedArticles
 pub mod NamedArticles
+pub mod NotedSessions
 pub mod NotedExchange
 pub mod ShownNames
 pub mod ListedNames

@@ -1,25 +1,26 @@
--- What the facts of a session are of the exchanges that were noted.
-use Rattle.std.specs.Prelude.{◌≡◌, ℕ, ◌<◌, ◌≤◌, ◌^◌, Bool, false, true, IsTrue, IsFalse, List, [], ◌∷◌, ◌++◌, length, Result, Ok, Err}
+-- What the facts of sessions are of the exchanges that were noted, one session behind the other.
+use Rattle.std.specs.Prelude.{◌≡◌, ℕ, ◌+◌, ◌<◌, ◌≤◌, ◌^◌, Bool, false, true, IsTrue, IsFalse, List, [], ◌∷◌, ◌++◌, length, map, Result, Ok, Err}
 use Rattle.std.specs.List.{AllByRecursion}
 use Rattle.nntp_article.specs.declared.session.profile.Profile.{Profile}
-use Rattle.nntp_article.specs.Session.Machine.{Visible, start, fits}
+use Rattle.nntp_article.specs.Session.Machine.{Visible, start, fits, visible_after}
 use Rattle.nntp_article.specs.Session.Limit.{profile_of}
 use Rattle.nntp_wire.specs.declared.limit.Limit.{Limit}
 use Rattle.nntp_wire.specs.declared.marks.Marks.{Marks}
 use Rattle.nntp_pair.specs.Pairing.{Paired, asked_at, asked_of, responses_of, lines_in}
 use Rattle.nntp_facts.specs.declared.position.Position.{Position}
 use Rattle.nntp_facts.specs.declared.position.Position.TheVariants.{Nowhere}
-use Rattle.nntp_facts.specs.Facts.{Fact}
+use Rattle.nntp_facts.specs.Facts.{Fact, facts_of}
+use Rattle.nntp_facts.specs.Asks.{position_after}
 use Rattle.nntp_facts.specs.Given.{facts_of_session}
-use Rattle.nntp_facts.specs.Permits.{SomePermits}
 use Rattle.nntp_facts.specs.Classes.{visible_from, position_from}
+use Rattle.nntp_facts.specs.Answered.{Answered, SomePermitsEach, facts_of_all}
 use Rattle.nntp_facts.specs.Kept.{Kept, IsKept}
 use Rattle.nntp_facts.specs.declared.noted.Noted.{Noted}
 use Rattle.nntp_facts.specs.declared.noted.Noted.TheVariants.{Consistent, OutOfPlace, Contradiction}
 use Rattle.nntp_facts.specs.declared.noted.FactsError.{FactsError}
 use Rattle.nntp_facts.specs.declared.noted.FactsError.TheVariants.{Memory}
 
--- the limit and the marks, how many exchanges were accepted, the visible state and the place in the selected group that they leave, what they say, and whether memory was refused
+-- the limit and the marks, how many exchanges of the session were accepted, the visible state and the place in the selected group that they leave, what those of all sessions say, and whether memory was refused
 pub record FactsKept : Type 0 where
   pub limit : Limit
   pub marks : Marks
@@ -33,39 +34,103 @@ pub record FactsKept : Type 0 where
 abbrev pub profile_kept : FactsKept → Profile
 profile_kept facts = profile_of facts.limit facts.marks
 
--- what the exchanges say of the spool, where marks are read so
+-- the exchanges of a session, as it is answered
+abbrev pub exchanged : List Paired → Answered
+exchanged pairs = record { prompts = asked_of pairs; answers = responses_of pairs }
+
+-- what the exchanges of a session say of the spool, where marks are read so
 abbrev pub said_by : Marks → List Paired → List Fact
 said_by how past = facts_of_session how (asked_of past) (responses_of past)
 
--- the facts are those of these exchanges, which some spool permits
-pub record HasNoted (profile : Profile) (facts : FactsKept) (past : List Paired) : Type 0 where
+-- what they say behind those of earlier sessions
+abbrev pub said_behind : Marks → List (List Paired) → List Paired → List Fact
+said_behind how earlier past = facts_of_all how (map exchanged earlier) ++ said_by how past
+
+-- some spool permits the exchanges of a session, and those of earlier sessions
+abbrev pub ArePermittedBehind : Profile → List (List Paired) → List Paired → Type 0
+ArePermittedBehind profile earlier pairs = SomePermitsEach profile (map exchanged earlier ++ exchanged pairs ∷ [])
+
+-- some spool permits the exchanges of a session
+abbrev pub ArePermitted : Profile → List Paired → Type 0
+ArePermitted profile pairs = ArePermittedBehind profile [] pairs
+
+-- there are fewer than 2^64 exchanges, each of fewer than 2^64 lines
+pub record AreFew (pairs : List Paired) : Type 0 where
+  pub lines : AllByRecursion (λ pair. lines_in pair.response < 2 ^ 64) pairs
+  pub few : length pairs < 2 ^ 64
+
+-- the facts are those of these exchanges of a session and of those of earlier sessions, which some spool permits; the visible state and the place in the group are of this session alone
+pub record HasNotedBehind (profile : Profile) (facts : FactsKept) (earlier : List (List Paired)) (past : List Paired) : Type 0 where
   pub profile_is : profile_kept facts ≡ profile
   pub is_whole : facts.has_failed ≡ false
   pub count : facts.count ≡ length past
   pub visible : facts.visible ≡ visible_from start.visible (asked_of past) (responses_of past)
   pub position : facts.position ≡ position_from Nowhere (asked_of past) (responses_of past)
-  pub kept : IsKept (said_by profile.marks past) facts.kept
-  pub permitted : SomePermits profile (asked_of past) (responses_of past)
+  pub kept : IsKept (said_behind profile.marks earlier past) facts.kept
+  pub permitted : ArePermittedBehind profile earlier past
+  pub sessions : length earlier < 2 ^ 64
+  pub earlier_few : AllByRecursion AreFew earlier
   pub lines : AllByRecursion (λ pair. lines_in pair.response < 2 ^ 64) past
   pub few : length past < 2 ^ 64
+
+-- the facts are those of these exchanges of a first session, which some spool permits
+abbrev pub HasNoted : Profile → FactsKept → List Paired → Type 0
+HasNoted profile facts past = HasNotedBehind profile facts [] past
+
+-- the facts as a session begins: what was said is kept, and nothing else
+abbrev pub begun : FactsKept → FactsKept
+begun facts = record {
+  limit = facts.limit;
+  marks = facts.marks;
+  count = 0;
+  visible = start.visible;
+  position = Nowhere;
+  kept = facts.kept;
+  has_failed = facts.has_failed;
+}
 
 -- the exchange may come next: its place is behind those of the accepted ones, and none of them closed the connection
 pub record IsDue (facts : FactsKept) (pair : Paired) : Type 0 where
   pub index : facts.count ≤ pair.index
   pub is_open : facts.visible.closed ≡ false
 
--- some spool permits the exchanges
-abbrev pub ArePermitted : Profile → List Paired → Type 0
-ArePermitted profile pairs = SomePermits profile (asked_of pairs) (responses_of pairs)
+-- it is due, has an index below 2^63 and fewer than 2^64 lines, and fits
+pub record MayBeNoted (profile : Profile) (facts : FactsKept) (pair : Paired) : Type 0 where
+  pub due : IsDue facts pair
+  pub low : pair.index < 2 ^ 63
+  pub few : lines_in pair.response < 2 ^ 64
+  pub fitting : IsTrue (fits profile facts.visible (asked_at pair.line) pair.response)
 
--- what was said of one more exchange is so: some spool permits it behind those before, and it is added; it doesn't fit
--- the visible state; or it fits, and no spool permits it behind them; and where it isn't added, the facts are as before
+-- what an exchange says behind the facts
+abbrev pub said_then : Profile → FactsKept → Paired → List Fact
+said_then profile facts pair = facts_of profile.marks facts.visible facts.position (asked_at pair.line) pair.response
+
+-- the facts with one exchange more, of which this is kept
+abbrev pub advanced : FactsKept → Paired → Kept → FactsKept
+advanced facts pair kept = record {
+  limit = facts.limit;
+  marks = facts.marks;
+  count = facts.count + 1;
+  visible = visible_after facts.visible (asked_at pair.line) pair.response;
+  position = position_after facts.position (asked_at pair.line) pair.response;
+  kept = kept;
+  has_failed = facts.has_failed;
+}
+
+-- what was said of one more exchange is so, behind earlier sessions: some spool permits it behind those before, and it
+-- is added; it doesn't fit the visible state; or it fits, and no spool permits it behind them; and where it isn't added,
+-- the facts are as before
+abbrev pub IsNotedBehind : Profile → List (List Paired) → List Paired → Paired → FactsKept → FactsKept → Noted → Type 0
+IsNotedBehind profile earlier past pair old new Consistent = ArePermittedBehind profile earlier (past ++ pair ∷ []) × HasNotedBehind profile new earlier (past ++ pair ∷ [])
+IsNotedBehind profile earlier past pair old new OutOfPlace = IsFalse (fits profile old.visible (asked_at pair.line) pair.response) × (new ≡ old)
+IsNotedBehind profile earlier past pair old new Contradiction =
+    IsTrue (fits profile old.visible (asked_at pair.line) pair.response) × (ArePermittedBehind profile earlier (past ++ pair ∷ []) → ⊥) × (new ≡ old)
+
+-- in a first session
 abbrev pub IsNoted : Profile → List Paired → Paired → FactsKept → FactsKept → Noted → Type 0
-IsNoted profile past pair old new Consistent = ArePermitted profile (past ++ pair ∷ []) × HasNoted profile new (past ++ pair ∷ [])
-IsNoted profile past pair old new OutOfPlace = IsFalse (fits profile old.visible (asked_at pair.line) pair.response) × (new ≡ old)
-IsNoted profile past pair old new Contradiction = IsTrue (fits profile old.visible (asked_at pair.line) pair.response) × (ArePermitted profile (past ++ pair ∷ []) → ⊥) × (new ≡ old)
+IsNoted profile past pair old new noted = IsNotedBehind profile [] past pair old new noted
 
 -- what is answered of one more exchange, where memory wasn't refused before
-abbrev pub Notes : Profile → List Paired → Paired → FactsKept → FactsKept → Result Noted FactsError → Type 0
-Notes profile past pair old new (Ok noted) = IsNoted profile past pair old new noted
-Notes profile past pair old new (Err e) = (e ≡ Memory) × (new.has_failed ≡ true)
+abbrev pub NotesBehind : Profile → List (List Paired) → List Paired → Paired → FactsKept → FactsKept → Result Noted FactsError → Type 0
+NotesBehind profile earlier past pair old new (Ok noted) = IsNotedBehind profile earlier past pair old new noted
+NotesBehind profile earlier past pair old new (Err e) = (e ≡ Memory) × (new.has_failed ≡ true)

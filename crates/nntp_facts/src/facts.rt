@@ -1,4 +1,4 @@
-//! What the accepted exchanges of a session say of the spool.
+//! What the accepted exchanges of sessions say of the spool.
 ghost use Rattle.std.specs.Prelude.{◌≡◌, true, false, List, [], IfOk, Err, slice_get};
 ghost use Rattle.nntp_pair.specs.Pairing.{Paired, asked_at};
 ghost use Rattle.nntp_article.specs.declared.session.profile.Profile.{Profile};
@@ -6,7 +6,7 @@ ghost use Rattle.nntp_article.specs.Session.Limit.{profile_of};
 ghost use Rattle.nntp_article.specs.Session.Misfit.{misfit};
 ghost use Rattle.nntp_article.specs.Session.MisfitView.{why_if};
 ghost use Rattle.nntp_facts.specs.Given.{is_mentioned};
-ghost use Rattle.nntp_facts.specs.Noted.{HasNoted, IsDue, IsNoted, Notes, profile_kept, said_by};
+ghost use Rattle.nntp_facts.specs.Noted.{HasNoted, HasNotedBehind, IsDue, IsNotedBehind, NotesBehind, begun, profile_kept, said_behind};
 ghost use Rattle.nntp_facts.specs.Readers.{ShownGroup as GroupValue, ShownArticle as ArticleValue, AreShownGroups, AreShownArticles};
 
 use crate::articles::{ShownArticle, ShownArticles};
@@ -21,12 +21,13 @@ use nntp_wire::{Limit, Marks};
 use std::alloc::{AllocError, Allocator, Global};
 use std::marker::Model;
 
-/// The facts of a session: what its accepted exchanges say of every spool that permits them.
+/// The facts of sessions, one behind the other: what their accepted exchanges say of every spool that
+/// permits them all.
 pub struct Facts<A: Allocator = Global> {
     alloc: A,
     limit: Limit,
     marks: Marks,
-    /// The number of exchanges that were accepted.
+    /// The number of exchanges of the session that were accepted.
     count: u64,
     visible: Visible<A>,
     /// The place at which the session stands in the selected group.
@@ -63,7 +64,8 @@ impl<A: Allocator> Model for Facts<A> {
 }
 
 impl<A: Allocator + Copy> Facts<A> {
-    /// Creates the facts of a session of which no exchange is accepted yet. No memory is taken yet.
+    /// Creates the facts of a first session of which no exchange is accepted yet. No memory is taken
+    /// yet.
     ///
     /// Article numbers are 1 to `limit` (RFC 3977, section 6), and `marks` tells how the water
     /// marks of a 211 are read (section 6.1.1.2).
@@ -84,11 +86,26 @@ impl<A: Allocator + Copy> Facts<A> {
         }
     }
 
-    /// Accepts a further exchange of the session, if some spool permits it together with those that
-    /// were accepted before. If none does, the facts stay as they were, and the value tells why.
+    /// Begins a further session of the same spool. What the accepted exchanges of earlier sessions say
+    /// is kept, and the exchanges of the new one have to be permitted together with it.
     ///
-    /// The exchange has to come behind those that were accepted, and none of these closed the
-    /// connection: its index is not below their number. So exchanges may be passed over.
+    /// A session begins with a greeting and with no group selected (RFC 3977, section 3.1): what the
+    /// earlier ones left visible, their place in a group and their number of exchanges are forgotten.
+    /// No memory is taken.
+    pub fn begin_session(&mut self)
+        ensures { self.new ≡ begun self.old }
+    {
+        self.count = 0;
+        self.visible = Visible::new(self.alloc);
+        self.position = Position::Nowhere;
+    }
+
+    /// Accepts a further exchange of the session, if some spool permits it together with those that
+    /// were accepted before, of all sessions. If none does, the facts stay as they were, and the value
+    /// tells why.
+    ///
+    /// The exchange has to come behind those of the session that were accepted, and none of these
+    /// closed the connection: its index is not below their number. So exchanges may be passed over.
     ///
     /// For an answer that lists k numbers of a group of which n numbers are kept, it takes time in
     /// the order of (k + 1) log n. For an answer to LIST ACTIVE (RFC 3977, section 7.6.3) it takes
@@ -103,7 +120,7 @@ impl<A: Allocator + Copy> Facts<A> {
     /// [`FactsError::Failed`], if an earlier call failed. The facts stay as they are.
     pub fn note(&mut self, exchange: &Exchange<'_>) -> Result<Noted, FactsError>
         requires { self.old.has_failed ≡ false → IsDue self.old exchange.now }
-        ensures noted { (profile : Profile) (past : List Paired) → HasNoted profile self.old past → Notes profile past exchange.now self.old self.new result }
+        ensures noted { (profile : Profile) (earlier : List (List Paired)) (past : List Paired) → HasNotedBehind profile self.old earlier past → NotesBehind profile earlier past exchange.now self.old self.new result }
         ensures failed { self.old.has_failed ≡ true → (result ≡ Err FactsError.Failed) × (self.new ≡ self.old) }
     {
         if self.has_failed {
@@ -122,7 +139,7 @@ impl<A: Allocator + Copy> Facts<A> {
     /// nothing of use.
     fn try_note(&mut self, exchange: &Exchange<'_>) -> Result<Noted, AllocError>
         requires { IsDue self.old exchange.now }
-        ensures { IfOk result (λ noted. (profile : Profile) (past : List Paired) → HasNoted profile self.old past → IsNoted profile past exchange.now self.old self.new noted) }
+        ensures { IfOk result (λ noted. (profile : Profile) (earlier : List (List Paired)) (past : List Paired) → HasNotedBehind profile self.old earlier past → IsNotedBehind profile earlier past exchange.now self.old self.new noted) }
     {
         let prompt = exchange.prompt();
         let answer = exchange.answer();
@@ -144,8 +161,8 @@ impl<A: Allocator + Copy> Facts<A> {
 }
 
 impl<A: Allocator + Copy> Facts<A> {
-    /// Tells why the answer of an exchange doesn't fit what the accepted ones leave visible, whatever
-    /// the spool. Returns `None` exactly if it fits.
+    /// Tells why the answer of an exchange doesn't fit what the accepted ones of the session leave
+    /// visible, whatever the spool. Returns `None` exactly if it fits.
     ///
     /// # Errors
     ///
@@ -166,7 +183,8 @@ impl<A: Allocator> Facts<A> {
         Profile::of(self.limit, self.marks)
     }
 
-    /// Returns the position in the selected group at which the accepted exchanges leave the session.
+    /// Returns the position in the selected group at which the accepted exchanges of the session leave
+    /// it.
     pub fn position(&self) -> Position
         ensures { result ≡ self.now.position }
     {
@@ -187,10 +205,10 @@ impl<A: Allocator> Facts<A> {
         self.marks
     }
 
-    /// Returns the groups that the accepted answers show, in byte order of their names. Every spool
-    /// that permits the exchanges has them.
+    /// Returns the groups that the accepted answers of all sessions show, in byte order of their names.
+    /// Every spool that permits the exchanges has them.
     pub fn groups(&self) -> ShownGroups<'_, A>
-        ensures { (profile : Profile) (past : List Paired) → HasNoted profile self.now past → AreShownGroups (said_by profile.marks past) result }
+        ensures { (profile : Profile) (earlier : List (List Paired)) (past : List Paired) → HasNotedBehind profile self.now earlier past → AreShownGroups (said_behind profile.marks earlier past) result }
     {
         self.kept.groups()
     }
@@ -199,16 +217,16 @@ impl<A: Allocator> Facts<A> {
     /// [`groups`](Facts::groups), or `None` if there are no more groups than that. It takes time in
     /// the order of the index.
     pub fn group(&self, index: usize) -> Option<ShownGroup<'_, A>>
-        ensures { (profile : Profile) (past : List Paired) → HasNoted profile self.now past → (groups : List GroupValue)
-            × AreShownGroups (said_by profile.marks past) groups × (result ≡ slice_get groups index) }
+        ensures { (profile : Profile) (earlier : List (List Paired)) (past : List Paired) → HasNotedBehind profile self.now earlier past → (groups : List GroupValue)
+            × AreShownGroups (said_behind profile.marks earlier past) groups × (result ≡ slice_get groups index) }
     {
         self.groups().nth(index)
     }
 
-    /// Returns the articles that the accepted answers show, in byte order of their message-ids.
-    /// Every spool that permits the exchanges has them.
+    /// Returns the articles that the accepted answers of all sessions show, in byte order of their
+    /// message-ids. Every spool that permits the exchanges has them.
     pub fn articles(&self) -> ShownArticles<'_, A>
-        ensures { (profile : Profile) (past : List Paired) → HasNoted profile self.now past → AreShownArticles (said_by profile.marks past) result }
+        ensures { (profile : Profile) (earlier : List (List Paired)) (past : List Paired) → HasNotedBehind profile self.now earlier past → AreShownArticles (said_behind profile.marks earlier past) result }
     {
         self.kept.articles()
     }
@@ -217,16 +235,16 @@ impl<A: Allocator> Facts<A> {
     /// [`articles`](Facts::articles), or `None` if there are no more articles than that. It takes
     /// time in the order of the ids that are passed over.
     pub fn article(&self, index: usize) -> Option<ShownArticle<'_, A>>
-        ensures { (profile : Profile) (past : List Paired) → HasNoted profile self.now past → (articles : List ArticleValue)
-            × AreShownArticles (said_by profile.marks past) articles × (result ≡ slice_get articles index) }
+        ensures { (profile : Profile) (earlier : List (List Paired)) (past : List Paired) → HasNotedBehind profile self.now earlier past → (articles : List ArticleValue)
+            × AreShownArticles (said_behind profile.marks earlier past) articles × (result ≡ slice_get articles index) }
     {
         self.articles().nth(index)
     }
 
-    /// Tells whether an accepted answer mentions the message-id: names it, or says that it has no
-    /// article.
+    /// Tells whether an accepted answer of any session mentions the message-id: names it, or says that
+    /// it has no article.
     pub fn mentions(&self, id: &[u8]) -> bool
-        ensures { (profile : Profile) (past : List Paired) → HasNoted profile self.now past → result ≡ is_mentioned (said_by profile.marks past) id.now }
+        ensures { (profile : Profile) (earlier : List (List Paired)) (past : List Paired) → HasNotedBehind profile self.now earlier past → result ≡ is_mentioned (said_behind profile.marks earlier past) id.now }
     {
         self.kept.mentions(id)
     }

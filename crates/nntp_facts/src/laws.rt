@@ -28,6 +28,7 @@ ghost use Rattle.nntp_wire.specs.declared.marks.Marks.TheVariants.{Strict};
 ghost use Rattle.nntp_facts.specs.Conflict.{Placed, placed_from, FitsThere, a_group, told, SomeHas, told_with, below, IsCore, IsPartOfCore, IsEndOfCore, AreAmong, Point, ConflictAt, IsFirstPoint};
 
 pub mod reading;
+pub mod sessions;
 
 /// A spool permits a session exactly if it permits each answer with the current article read off
 /// the session.

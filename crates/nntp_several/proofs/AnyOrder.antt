@@ -19,11 +19,11 @@ use Rattle.nntp_facts.proofs.Given.GivenHolds.{one_given}
 use Rattle.nntp_facts.proofs.Given.OneGivenSpool.{given_once}
 use Rattle.nntp_facts.proofs.Members.{In, all_at, all_from, any_in, found_in, to_flat, from_flat, in_front, in_back, in_cases, first_found, first_there, in_contains, contains_in}
 use Rattle.nntp_facts.proofs.Streams.OneOutcome.{same_answers}
-use Rattle.nntp_several.specs.Answered.{facts_of_all}
+use Rattle.nntp_facts.specs.Answered.{facts_of_all}
 use Rattle.nntp_several.specs.Outcome.{IsLeastOfAll}
 use Rattle.nntp_several.specs.Sessions.{Recorded, ExplainsIt, ExplainsEach, ExplainsAll, answered_by}
 use Rattle.nntp_several.proofs.ExplainedSessions.{runs_each}
-use Rattle.nntp_several.proofs.SessionsByFacts.{stand_each}
+use Rattle.nntp_facts.proofs.Given.SessionsByFacts.{stand_each}
 
 -- ---- tests
 

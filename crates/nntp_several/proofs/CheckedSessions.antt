@@ -16,13 +16,13 @@ use Rattle.nntp_facts.proofs.Streams.OneClass.{bad_stays, class_stays}
 use Rattle.nntp_verdict.proofs.CheckerLemmas.{nothing-next}
 use Rattle.nntp_several.specs.Checking.{unrecorded, with_more, HasPassedOfAll, IsNoForGoodOfAll, StandsForAll, decided_all, IsBadForGoodOfAll, IsToldBadOfAll}
 use Rattle.nntp_several.specs.Judging.{JudgementOfAll, consistent_of_all, bad_of_all, IsVerdictOfAll}
-use Rattle.nntp_several.specs.Noted.{HasNotedBehind, begun}
+use Rattle.nntp_facts.specs.Noted.{HasNotedBehind, begun}
 use Rattle.nntp_several.specs.Outcome.{NoOfAll, IsOutcomeOfAll}
 use Rattle.nntp_several.specs.Passing.{PassedOfAll}
 use Rattle.nntp_several.specs.Sessions.{Recorded, ExplainsEach, BadBehind}
 use Rattle.nntp_several.proofs.ExplainedSessions.{there}
 use Rattle.nntp_several.proofs.OneOutcomeOfAll.{one_outcome_of_all}
-use Rattle.nntp_several.proofs.NotedSessions.{session_begins}
+use Rattle.nntp_facts.proofs.Keeping.NotedSessions.{session_begins}
 use Rattle.nntp_several.proofs.PassingSessions.{paired_push, as_many_sessions}
 use Rattle.nntp_several.proofs.SessionsRead.{outcome_at}
 

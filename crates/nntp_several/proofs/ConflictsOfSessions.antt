@@ -11,17 +11,16 @@ use Rattle.nntp_facts.specs.declared.noted.Noted.TheVariants.{Contradiction}
 use Rattle.nntp_facts.specs.Conflict.{Placed, placed_of, placed_behind, FitsThere, said as said_there, told, told_at, told_with, below, SomeHas}
 use Rattle.nntp_facts.specs.Facts.{Fact, Holds, FitsAll, facts_of}
 use Rattle.nntp_facts.specs.Together.{Join}
-use Rattle.nntp_facts.specs.Noted.{FactsKept, said_by}
 use Rattle.nntp_facts.proofs.Conflicts.{session_fits, session_told, there_said, told_own, all_places}
 use Rattle.nntp_facts.proofs.Members.{all_both, all_front, all_back}
 use Rattle.nntp_facts.proofs.Reading.NotedContradictions.{placed_next}
 use Rattle.nntp_facts.proofs.Together.FactsJoin.{together_more, answer_agrees}
 use Rattle.nntp_facts.proofs.Together.FactsOfASpoolStand.{stand}
-use Rattle.nntp_several.specs.Answered.{Answered, FitEach, facts_of_all}
+use Rattle.nntp_facts.specs.Answered.{Answered, FitEach, facts_of_all}
 use Rattle.nntp_several.specs.Conflict.{placed_of_all}
-use Rattle.nntp_several.specs.Noted.{exchanged, said_behind, HasNotedBehind, IsNotedBehind, said_then, MayBeNoted}
-use Rattle.nntp_several.proofs.NotedNext.{stand_together, permitted_if}
-use Rattle.nntp_several.proofs.SessionsByFacts.{stand_each}
+use Rattle.nntp_facts.specs.Noted.{FactsKept, exchanged, said_by, said_behind, HasNotedBehind, IsNotedBehind, said_then, MayBeNoted}
+use Rattle.nntp_facts.proofs.Keeping.NotedExchange.{stand_together, permitted_if}
+use Rattle.nntp_facts.proofs.Given.SessionsByFacts.{stand_each}
 
 -- the answers of sessions that fit fit where they stand
 all_fit : (profile : Profile) (earlier : List (List Paired)) → FitEach profile (map exchanged earlier) → AllByRecursion (FitsThere profile) (flat_map placed_of earlier)

@@ -1,11 +1,8 @@
-mod SessionsByFacts
 mod ExplainedSessions
 mod OneOutcomeOfAll
-mod NotedSessions
 mod SessionsRead
 mod OneVerdictOfAll
 mod WaysToOutcome
-mod NotedNext
 mod ConflictsOfSessions
 mod AnyOrder
 mod VerifiedSessions

@@ -22,8 +22,8 @@ use Rattle.nntp_facts.specs.Given.{IsGiven, size}
 use Rattle.nntp_spool.specs.Reading.{spool_at}
 use Rattle.nntp_spool.specs.Text.{spool_text}
 use Rattle.nntp_verdict.specs.Judging.{IsAnsweredThroughout}
-use Rattle.nntp_several.specs.Answered.{SomePermitsEach, facts_of_all}
-use Rattle.nntp_several.specs.Noted.{exchanged}
+use Rattle.nntp_facts.specs.Answered.{SomePermitsEach, facts_of_all}
+use Rattle.nntp_facts.specs.Noted.{exchanged}
 use Rattle.nntp_several.specs.Outcome.{IsOutcomeOfAll}
 use Rattle.nntp_several.specs.Paired.{ArePaired}
 use Rattle.nntp_several.proofs.ExplainedSessions.{there}

@@ -11,16 +11,15 @@ use Rattle.nntp_pair.specs.declared.class.Class.TheVariants.{OutOfPlace as IsOut
 use Rattle.nntp_facts.specs.declared.noted.Noted.TheVariants.{Consistent, OutOfPlace, Contradiction}
 use Rattle.nntp_pair.specs.Classes.{class_of}
 use Rattle.nntp_facts.specs.Given.{IsGiven, size}
-use Rattle.nntp_facts.specs.Noted.{FactsKept}
 use Rattle.nntp_facts.proofs.Members.{all_front}
-use Rattle.nntp_several.specs.Answered.{Answered, SomePermitsEach, facts_of_all}
-use Rattle.nntp_several.specs.Noted.{exchanged, said_behind, HasNotedBehind, IsNotedBehind, begun}
+use Rattle.nntp_facts.specs.Answered.{Answered, SomePermitsEach, facts_of_all}
+use Rattle.nntp_facts.specs.Noted.{FactsKept, exchanged, said_behind, HasNotedBehind, IsNotedBehind, begun}
 use Rattle.nntp_several.specs.Outcome.{YesOfAll, NoOfAll, IsOutcomeOfAll}
 use Rattle.nntp_several.specs.Paired.{IsPairedWhole, ArePaired}
 use Rattle.nntp_several.specs.Passing.{PassedOfAll}
 use Rattle.nntp_several.specs.Sessions.{Recorded}
-use Rattle.nntp_several.proofs.NotedNext.{noted_refused, noted_unfitting}
-use Rattle.nntp_several.proofs.NotedSessions.{facts_behind, small_behind, session_begins}
+use Rattle.nntp_facts.proofs.Reading.NotedAsJudged.{unfit_refused, contradiction_refused}
+use Rattle.nntp_facts.proofs.Keeping.NotedSessions.{facts_behind, small_behind, session_begins}
 use Rattle.nntp_several.proofs.SessionsRead.{earlier_then}
 use Rattle.nntp_several.proofs.WaysToOutcome.{outcome_at_all_ends, outcome_at_octets_of_all, outcome_at_response_of_all}
 
@@ -74,7 +73,7 @@ pub passing_ends : (profile : Profile) (before : List Recorded) (s : Recorded) (
 passing_ends profile before s facts left unanswered G p ends given =
     let exchanges = p.earlier ++ p.pairs ∷ [] in
     let both = map-append exchanged p.earlier (p.pairs ∷ []) in
-    let small = subst (λ sessions. size (facts_of_all profile.marks sessions) < 2 ^ 210) (sym both) (small_behind profile.marks p.earlier p.pairs p.stands.sessions p.stands.earlier_few p.stands.few) in
+    let small = subst (λ sessions. size (facts_of_all profile.marks sessions) < 2 ^ 210) (sym both) (small_behind profile.marks p.earlier p.pairs p.stands.sessions p.stands.earlier_few (record { lines = p.stands.lines; few = p.stands.few })) in
     let facts_are = ap (facts_of_all profile.marks) both ∙ facts_behind profile.marks (map exchanged p.earlier) (exchanged p.pairs) in
     outcome_at_all_ends profile (before ++ s ∷ []) exchanges G small
     (paired_push before p.earlier s p.pairs p.ended (unanswered, record { left = left; paired = p.next; ends = ends }))
@@ -92,7 +91,7 @@ pub passing_contradicted : (profile : Profile) (before : List Recorded) (s : Rec
     → IsNext left pair after → IsNotedBehind profile p.earlier p.pairs pair old now Contradiction
     → IsOutcomeOfAll profile (before ++ s ∷ more) (NoOfAll (length before) (length p.pairs) Contradicts)
 passing_contradicted profile before s more old now left after pair p next noted =
-    let r = noted_refused profile p.earlier p.pairs pair old now left after p.stands noted next in
+    let r = contradiction_refused profile p.earlier p.pairs pair old now left after p.stands noted next in
     let is = outcome_at_response_of_all profile before p.earlier p.ended s more (earlier_permitted profile old p.earlier p.pairs p.stands) p.pairs pair left after p.next next p.stands.permitted r.0.1 in
     let class : _ ≡ Contradicts = (let e = r.1 in cc) in
     subst (λ class. IsOutcomeOfAll profile (before ++ s ∷ more) (NoOfAll (length before) (length p.pairs) class)) class is
@@ -102,7 +101,7 @@ pub passing_unfitting : (profile : Profile) (before : List Recorded) (s : Record
     → IsNext left pair after → IsNotedBehind profile p.earlier p.pairs pair old now OutOfPlace
     → IsOutcomeOfAll profile (before ++ s ∷ more) (NoOfAll (length before) (length p.pairs) IsOutOfPlace)
 passing_unfitting profile before s more old now left after pair p next noted =
-    let r = noted_unfitting profile p.earlier p.pairs pair old now left after p.stands noted next in
+    let r = unfit_refused profile p.earlier p.pairs pair old now left after p.stands noted next in
     let is = outcome_at_response_of_all profile before p.earlier p.ended s more (earlier_permitted profile old p.earlier p.pairs p.stands) p.pairs pair left after p.next next p.stands.permitted r.0.1 in
     let class : _ ≡ IsOutOfPlace = (let e = r.1 in cc) in
     subst (λ class. IsOutcomeOfAll profile (before ++ s ∷ more) (NoOfAll (length before) (length p.pairs) class)) class is

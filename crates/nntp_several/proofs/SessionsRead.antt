@@ -16,8 +16,7 @@ use Rattle.nntp_pair.specs.declared.class.Class.{Class}
 use Rattle.nntp_facts.specs.Classes.{visible_from, HasClass, class_by}
 use Rattle.nntp_pair.specs.Classes.{class_of}
 use Rattle.nntp_facts.specs.Given.{size, weight}
-use Rattle.nntp_facts.specs.Noted.{ArePermitted}
-use Rattle.nntp_facts.specs.Reading.{Judged, Accepted, Refused, Unspelled, accepted_of, accepted_with, IsJudged, AreJudged, IsReadingBy, IsReading, class_behind}
+use Rattle.nntp_facts.specs.Reading.{Judged, Accepted, Refused, Unspelled, accepted_of, IsReadingBy, IsReading, class_behind}
 use Rattle.nntp_facts.proofs.Members.{all_both, all_front, all_back}
 use Rattle.nntp_facts.proofs.Given.FirstBadAnswer.{size-append, none_permitted}
 use Rattle.nntp_facts.proofs.Ids.SizeOfASession.{session_size}
@@ -28,18 +27,15 @@ use Rattle.nntp_facts.proofs.Streams.PairedStreams.{explained_end, bad_end}
 use Rattle.nntp_facts.proofs.Reading.FirstBadOfAReading.{accepted_all, accepted_or_bad}
 use Rattle.nntp_facts.proofs.Reading.JudgedAnswers.{accepted_light, accepted_first, all_paired}
 use Rattle.nntp_facts.proofs.Reading.OneReading.{one_reading, some_reading_by}
-use Rattle.nntp_several.specs.Answered.{Answered, PermitsEach, SomePermitsEach, facts_of_all}
-use Rattle.nntp_several.specs.Noted.{exchanged, said_behind, ArePermittedBehind}
+use Rattle.nntp_facts.specs.Answered.{PermitsEach, SomePermitsEach, facts_of_all}
+use Rattle.nntp_facts.specs.Noted.{exchanged, said_behind, ArePermittedBehind}
 use Rattle.nntp_several.specs.Outcome.{NoOfAll, IsOutcomeOfAll}
 use Rattle.nntp_several.specs.Reading.{ReadSession, AreReadings, IsReadingOfAll, IsGood, IsFirstBad}
 use Rattle.nntp_several.specs.Sessions.{Recorded, ExplainsIt, ExplainsEach, ExplainsAll, BadBehind, octets_of}
 use Rattle.nntp_several.proofs.ExplainedSessions.{there, bad_at, explained_not_bad_of_all}
-use Rattle.nntp_several.proofs.NotedSessions.{facts_behind}
-use Rattle.nntp_several.proofs.SessionsByFacts.{some_or_none_of_all}
-
--- a spool permits a session
-abbrev Runs : Profile → Spool → Answered → Type 0
-Runs profile S s = Run profile S start s.prompts s.answers
+use Rattle.nntp_facts.proofs.Keeping.NotedExchange.{Runs}
+use Rattle.nntp_facts.proofs.Keeping.NotedSessions.{facts_behind}
+use Rattle.nntp_facts.proofs.Given.SessionsByFacts.{some_or_none_of_all}
 
 -- ---- one reading
 
@@ -311,25 +307,6 @@ one_reading_of_all profile sessions rs qs x y = one_reading_from profile [] sess
 
 -- ---- one session
 
--- what stands behind no session is what some spool permits
-alone : (profile : Profile) (pairs : List Paired) → ArePermittedBehind profile [] pairs ↔ ArePermitted profile pairs
-alone profile pairs = (λ h. (h.0, h.1, h.2.0), λ h. (h.0, h.1, (h.2, tt)))
-
-judged_alone : (profile : Profile) (past : List Paired) (a b : Unpaired) (answer : Judged) → IsJudged (ArePermittedBehind profile []) past a answer b ↔ IsJudged (ArePermitted profile) past a answer b
-judged_alone profile past a b (Accepted pair) = let s = alone profile (past ++ pair ∷ []) in (λ h. (h.0, s.0 h.1), λ h. (h.0, s.1 h.1))
-judged_alone profile past a b (Refused pair) = let s = alone profile (past ++ pair ∷ []) in (λ h. (h.0, λ p. h.1 (s.1 p)), λ h. (h.0, λ p. h.1 (s.0 p)))
-judged_alone profile past a b (Unspelled index line initial block) = (λ h. h, λ h. h)
-
-all_judged_alone : (profile : Profile) (past : List Paired) (a b : Unpaired) (answers : List Judged) → AreJudged (ArePermittedBehind profile []) past a answers b ↔ AreJudged (ArePermitted profile) past a answers b
-all_judged_alone profile past a b [] = (λ h. h, λ h. h)
-all_judged_alone profile past a b (answer ∷ answers) = (
-  λ h. (h.0, (judged_alone profile past a h.0 answer).0 h.1, (all_judged_alone profile (accepted_with past answer) h.0 b answers).0 h.2),
-  λ h. (h.0, (judged_alone profile past a h.0 answer).1 h.1, (all_judged_alone profile (accepted_with past answer) h.0 b answers).1 h.2),
-)
-
 -- the reading of one session is that of its streams
 pub one_session_reading : (profile : Profile) (s : Recorded) (r : ReadSession) → IsReadingOfAll profile (s ∷ []) (r ∷ []) ↔ IsReading profile s.client s.server r.answers r.ending
-one_session_reading profile s r = (
-  λ x. record { left = x.0.left; judged = (all_judged_alone profile [] (streams s.client s.server) x.0.left r.answers).0 x.0.judged; ends = x.0.ends; passed_over = x.0.passed_over },
-  λ x. (record { left = x.left; judged = (all_judged_alone profile [] (streams s.client s.server) x.left r.answers).1 x.judged; ends = x.ends; passed_over = x.passed_over }, tt),
-)
+one_session_reading profile s r = (λ x. x.0, λ x. (x, tt))

@@ -13,8 +13,8 @@ use Rattle.nntp_facts.specs.Given.{IsGiven, facts_of_session, size}
 use Rattle.nntp_facts.proofs.Session.OneMoreAnswer.{facts_by_pairs, pairs_run}
 use Rattle.nntp_facts.proofs.Streams.ExplainedPairs.{by_all_pairs}
 use Rattle.nntp_facts.proofs.Streams.PairedStreams.{explained_end}
-use Rattle.nntp_several.specs.Answered.{SomePermitsEach, facts_of_all}
-use Rattle.nntp_several.specs.Noted.{exchanged, ArePermittedBehind}
+use Rattle.nntp_facts.specs.Answered.{SomePermitsEach, facts_of_all}
+use Rattle.nntp_facts.specs.Noted.{exchanged, ArePermittedBehind}
 use Rattle.nntp_several.specs.Outcome.{YesOfAll, NoOfAll, IsLeastOfAll, IsOutcomeOfAll}
 use Rattle.nntp_several.specs.Paired.{ArePaired}
 use Rattle.nntp_several.specs.Sessions.{Recorded, ExplainsEach, answered_by, counts_of}

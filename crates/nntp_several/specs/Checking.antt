@@ -12,7 +12,7 @@ use Rattle.nntp_facts.specs.Classes.{IsSettled}
 use Rattle.nntp_facts.specs.Noted.{FactsKept}
 use Rattle.nntp_verdict.specs.Judging.{is_whole}
 use Rattle.nntp_several.specs.Judging.{JudgementOfAll, consistent_of_all, bad_of_all, IsVerdictOfAll}
-use Rattle.nntp_several.specs.Noted.{HasNotedBehind}
+use Rattle.nntp_facts.specs.Noted.{HasNotedBehind}
 use Rattle.nntp_several.specs.Outcome.{NoOfAll, IsOutcomeOfAll}
 use Rattle.nntp_several.specs.Paired.{ArePaired}
 use Rattle.nntp_several.specs.Sessions.{Recorded}

@@ -1,7 +1,5 @@
-pub mod Answered
 pub mod Sessions
 pub mod Outcome
-pub mod Noted
 pub mod Reading
 pub mod Judging
 pub mod Paired

@@ -6,7 +6,7 @@ use Rattle.nntp_facts.specs.Given.{IsGiven, HasAtLeast}
 use Rattle.nntp_pair.specs.declared.class.Class.{Class}
 use Rattle.nntp_facts.specs.Classes.{HasClass}
 use Rattle.nntp_facts.specs.Outcome.{Outcome, Yes, No}
-use Rattle.nntp_several.specs.Answered.{facts_of_all}
+use Rattle.nntp_facts.specs.Answered.{facts_of_all}
 use Rattle.nntp_several.specs.Sessions.{Recorded, ExplainsAll, BadOfAll, answered_by, counts_of}
 
 -- yes with this spool, and so many answers of each session; or no at this answer of this session, of this class

@@ -3,7 +3,7 @@ use Rattle.std.specs.Prelude.{List}
 use Rattle.nntp_article.specs.declared.session.profile.Profile.{Profile}
 use Rattle.nntp_pair.specs.Pairing.{Paired, Unpaired, AreNext, streams}
 use Rattle.nntp_facts.specs.Noted.{FactsKept}
-use Rattle.nntp_several.specs.Noted.{HasNotedBehind}
+use Rattle.nntp_facts.specs.Noted.{HasNotedBehind}
 use Rattle.nntp_several.specs.Paired.{ArePaired}
 use Rattle.nntp_several.specs.Sessions.{Recorded}
 

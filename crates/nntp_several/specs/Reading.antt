@@ -6,7 +6,7 @@ use Rattle.nntp_pair.specs.Pairing.{Paired, Ending, end, bad}
 use Rattle.nntp_pair.specs.declared.class.Class.{Class}
 use Rattle.nntp_pair.specs.Classes.{class_of}
 use Rattle.nntp_facts.specs.Reading.{Judged, Accepted, accepted_of, IsReadingBy, class_behind}
-use Rattle.nntp_several.specs.Noted.{ArePermittedBehind}
+use Rattle.nntp_facts.specs.Noted.{ArePermittedBehind}
 use Rattle.nntp_several.specs.Sessions.{Recorded}
 
 -- a session as it is read

@@ -5,7 +5,7 @@ use Rattle.nntp_wire.specs.Session.{prompts_of}
 use Rattle.nntp_article.specs.Session.Spool.{Spool, IsSpool}
 use Rattle.nntp_article.specs.declared.session.profile.Profile.{Profile}
 use Rattle.nntp_article.specs.Session.Explains.{Explains, BadAmong}
-use Rattle.nntp_several.specs.Answered.{Answered}
+use Rattle.nntp_facts.specs.Answered.{Answered}
 
 -- what client and server sent in a session
 pub record Recorded : Type 0 where

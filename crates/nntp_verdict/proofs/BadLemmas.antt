@@ -15,8 +15,9 @@ use Rattle.nntp_pair.specs.declared.class.Class.TheVariants as class
 use Rattle.nntp_facts.specs.Classes.{IsSettled}
 use Rattle.nntp_pair.specs.Classes.{class_of}
 use Rattle.nntp_facts.specs.Outcome.{No, IsOutcome}
-use Rattle.nntp_facts.specs.Noted.{FactsKept}
+use Rattle.nntp_facts.specs.Noted.{FactsKept, exchanged}
 use Rattle.nntp_facts.proofs.Streams.OneClass.{bad_stays as answer_stays, class_stays, settled_stays}
+use Rattle.nntp_facts.proofs.Given.SessionsByFacts.{permits_alone}
 use Rattle.nntp_facts.proofs.Session.OneMoreAnswer.{pairs_permitted}
 use Rattle.nntp_facts.proofs.Streams.OneOutcome.{one_outcome}
 use Rattle.nntp_facts.proofs.Streams.ExplainedOrBad.{explained_not_bad}
@@ -39,7 +40,7 @@ module _ (profile : Profile) (client server : List ℕ) (facts : FactsKept) (lef
   -- where all answers are explained none is bad
   no-bad-explained : (unanswered : ℕ) → Ends left (end unanswered) → (answer : ℕ) (class : Class) → IsOutcome profile client server (No answer class) → ⊥
   no-bad-explained unanswered ends answer class outcome =
-      let some = (pairs_permitted profile client server p.pairs left p.before).1 p.stands.permitted in
+      let some = (pairs_permitted profile client server p.pairs left p.before).1 ((permits_alone profile (exchanged p.pairs)).0 p.stands.permitted) in
       explained_not_bad profile some.0 client server (length p.pairs) answer
       (explained_end profile some.0 client server p.pairs unanswered (record { left = left; paired = p.before; ends = ends }) some.1 some.2) outcome.0
 

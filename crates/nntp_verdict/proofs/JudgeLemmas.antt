@@ -25,7 +25,8 @@ use Rattle.nntp_facts.specs.declared.noted.Noted.TheVariants as kinds
 use Rattle.nntp_facts.specs.Classes.{class_by, visible_from}
 use Rattle.nntp_pair.specs.Classes.{class_of}
 use Rattle.nntp_facts.specs.Outcome.{Yes, No, IsOutcome}
-use Rattle.nntp_facts.specs.Noted.{FactsKept, HasNoted, IsDue, IsNoted}
+use Rattle.nntp_facts.specs.Noted.{FactsKept, exchanged, HasNoted, IsDue, IsNoted}
+use Rattle.nntp_facts.proofs.Given.SessionsByFacts.{permits_alone}
 use Rattle.nntp_facts.proofs.Ids.SizeOfASession.{pairs_size}
 use Rattle.nntp_facts.proofs.Streams.OneOutcome.{same_answers, outcome_at_end, outcome_at_octets, outcome_at_response, outcome_at_unfitting}
 use Rattle.nntp_spool.specs.Limited.{LimitedSpool}
@@ -162,11 +163,12 @@ exchange-right profile client server old new left behind x noted class p next no
     by kinds.OutOfPlace judged h =
         let same : OutOfPlace ≡ class = cc in
         subst (λ c. IsOutcome profile client server (No (length p.pairs) c)) same
-        (outcome_at_unfitting profile client server p.pairs x left behind p.before next p.stands.permitted (sym fitting ∙ h.0))
+        (outcome_at_unfitting profile client server p.pairs x left behind p.before next ((permits_alone profile (exchanged p.pairs)).0 p.stands.permitted) (sym fitting ∙ h.0))
     by kinds.Contradiction judged h =
         let same : class_by (fits profile (visible_left p.pairs) (asked_at x.line) x.response) ≡ class = ap class_by (sym fitting ∙ h.0) ∙ (let c : Contradiction ≡ class = cc in c) in
         subst (λ c. IsOutcome profile client server (No (length p.pairs) c)) same
-        (outcome_at_response profile client server p.pairs x left behind p.before next p.stands.permitted h.1)
+        (outcome_at_response profile client server p.pairs x left behind p.before next
+        ((permits_alone profile (exchanged p.pairs)).0 p.stands.permitted) (λ q. h.1 ((permits_alone profile (exchanged (p.pairs ++ x ∷ []))).1 q)))
 
 -- octets that answer nothing are bad, of their class
 pub octets-right : (profile : Profile) (client server : List ℕ) (facts : FactsKept) (left : Unpaired) (class : PairClass) → Passed profile client server facts left → Ends left (pair_end class)
@@ -174,7 +176,7 @@ pub octets-right : (profile : Profile) (client server : List ℕ) (facts : Facts
 octets-right profile client server facts left class p ends k at of is =
     let place : length p.pairs ≡ k = sym (at ∙ index-counts client server p.pairs left p.before) in
     subst (λ (x : ℕ × Class). IsOutcome profile client server (No x.0 x.1)) (λ i. (place i, sym is i))
-    (outcome_at_octets profile client server p.pairs class (record { left = left; paired = p.before; ends = ends }) p.stands.permitted)
+    (outcome_at_octets profile client server p.pairs class (record { left = left; paired = p.before; ends = ends }) ((permits_alone profile (exchanged p.pairs)).0 p.stands.permitted))
 
 -- limits of which the greatest numbers are one are one
 same-limit : (limit other : Limit) → greatest limit ≡ greatest other → limit ≡ other
@@ -198,7 +200,7 @@ at-end limit marks client server facts left answers unanswered L p at ends witne
     let pairing : IsPairing client server p.pairs (end unanswered) = record { left = left; paired = p.before; ends = ends } in
     let outcome = subst (λ n. IsOutcome profile client server (Yes L.spool n)) (sym count)
     (outcome_at_end profile client server p.pairs unanswered L.spool
-    (pairs_size marks p.pairs p.stands.lines p.stands.few) pairing p.stands.permitted witness.0.given) in
+    (pairs_size marks p.pairs p.stands.lines p.stands.few) pairing ((permits_alone profile (exchanged p.pairs)).0 p.stands.permitted) witness.0.given) in
     record {
       limit_is = witness.1 ∙ limit-kept limit marks facts p.pairs p.stands;
       outcome = outcome;

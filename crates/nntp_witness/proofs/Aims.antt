@@ -15,7 +15,7 @@ aim profile facts past s =
     let ps = asked_of past in
     let answers = responses_of past in
     let small = pairs_size profile.marks past s.lines s.few in
-    let fits = stands profile s.permitted.0 ps answers s.permitted.1 s.permitted.2 in
+    let fits = stands profile s.permitted.0 ps answers s.permitted.1 s.permitted.2.0 in
     let given = given_exists profile ps answers fits.0 small in
     let permits = given_permits profile (made_for profile ps answers) ps answers fits.0 fits.1 small given in
     (made_for profile ps answers, record { given = given; is_spool = permits.0; permits = permits.1 })

@@ -9,9 +9,10 @@ use Rattle.nntp_pair.specs.Pairing.{Paired, Ending, end, bad, IsPairing, streams
 use Rattle.nntp_pair.proofs.PassedLemmas.{passed-ends}
 use Rattle.nntp_pair.specs.declared.class.Class.{Class}
 use Rattle.nntp_pair.specs.Classes.{class_of}
-use Rattle.nntp_facts.specs.Noted.{ArePermitted}
+use Rattle.nntp_facts.specs.Noted.{exchanged, ArePermitted}
 use Rattle.nntp_facts.specs.Outcome.{No, IsOutcome}
 use Rattle.nntp_facts.specs.Reading.{Judged, Accepted, Refused, Unspelled, accepted_of, class_behind, IsReading}
+use Rattle.nntp_facts.proofs.Given.SessionsByFacts.{permits_alone}
 use Rattle.nntp_facts.proofs.Reading.JudgedAnswers.{accepted_first, all_paired}
 use Rattle.nntp_facts.proofs.Reading.JudgedSession.{none_accepted}
 use Rattle.nntp_facts.proofs.Session.OneMoreAnswer.{pairs_permitted}
@@ -30,20 +31,20 @@ first_bad profile client server pairs (Refused pair) more ending class reading e
     let first = r.rest.1 in
     let same : _ ≡ class = cc in
     subst (λ class. IsOutcome profile client server (No (length pairs) class)) same
-    (outcome_at_response profile client server pairs pair r.between r.rest.0 r.paired first.0 r.stand first.1)
+    (outcome_at_response profile client server pairs pair r.between r.rest.0 r.paired first.0 ((permits_alone profile (exchanged pairs)).0 r.stand) (λ h. first.1 ((permits_alone profile (exchanged (pairs ++ pair ∷ []))).1 h)))
 first_bad profile client server pairs (Unspelled index line initial block) more ending class reading e =
     let r = accepted_first (ArePermitted profile) [] (streams client server) reading.left pairs (Unspelled index line initial block ∷ more) (none_accepted profile) reading.judged in
     let first = r.rest.1 in
     let pairing : IsPairing client server pairs (bad PairMalformed) = record { left = r.between; paired = r.paired; ends = passed-ends r.between r.rest.0 line initial block first.1 } in
     let same : class_of PairMalformed ≡ class = cc in
-    subst (λ class. IsOutcome profile client server (No (length pairs) class)) same (outcome_at_octets profile client server pairs PairMalformed pairing r.stand)
+    subst (λ class. IsOutcome profile client server (No (length pairs) class)) same (outcome_at_octets profile client server pairs PairMalformed pairing ((permits_alone profile (exchanged pairs)).0 r.stand))
 
 -- where all are accepted, octets that answer nothing are the first bad answer
 pub bad_at_octets : (profile : Profile) (client server : List ℕ) (pairs : List Paired) (class : PairClass)
     → IsReading profile client server (map Accepted pairs) (bad class) → IsOutcome profile client server (No (length pairs) (class_of class))
 bad_at_octets profile client server pairs class reading =
     let all = all_paired (ArePermitted profile) client server pairs (bad class) (none_accepted profile) reading in
-    outcome_at_octets profile client server pairs class all.0 all.1
+    outcome_at_octets profile client server pairs class all.0 ((permits_alone profile (exchanged pairs)).0 all.1)
 
 -- ---- whether there is one
 
@@ -89,7 +90,7 @@ good_explained profile client server answers ending reading (all, unanswered, en
     let same : IsReading profile client server (map Accepted pairs) (end unanswered) =
     subst (λ (t : List Judged × Ending). IsReading profile client server t.0 t.1) (λ i. (all i, ends i)) reading in
     let both = all_paired (ArePermitted profile) client server pairs (end unanswered) (none_accepted profile) same in
-    let p = (pairs_permitted profile client server pairs both.0.left both.0.paired).1 both.1 in
+    let p = (pairs_permitted profile client server pairs both.0.left both.0.paired).1 ((permits_alone profile (exchanged pairs)).0 both.1) in
     (p.0, length pairs, explained_end profile p.0 client server pairs unanswered both.0 p.1 p.2)
 
 -- where some spool explains the streams, no outcome is a no

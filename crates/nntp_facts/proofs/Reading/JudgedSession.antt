@@ -4,15 +4,16 @@ use Rattle.nntp_article.specs.declared.session.profile.Profile.{Profile}
 use Rattle.nntp_article.specs.Session.Machine.{Visible}
 use Rattle.nntp_pair.specs.Pairing.{Paired, Unpaired, IsNext, asked_of, responses_of, streams}
 use Rattle.nntp_facts.specs.Given.{facts_of_session, size}
-use Rattle.nntp_facts.specs.Noted.{FactsKept, HasNoted, IsDue, ArePermitted}
+use Rattle.nntp_facts.specs.Noted.{FactsKept, exchanged, HasNoted, IsDue, ArePermitted}
 use Rattle.nntp_facts.specs.Reading.{Judged, accepted_of, accepted_with, IsJudged, AreJudged}
 use Rattle.nntp_facts.proofs.Given.FirstBadAnswer.{none_permitted}
+use Rattle.nntp_facts.proofs.Given.SessionsByFacts.{permits_alone}
 use Rattle.nntp_facts.proofs.Ids.SizeOfASession.{session_size}
 use Rattle.nntp_facts.proofs.Reading.JudgedAnswers.{accepted_behind, judged_push, accepted_push, judged_count, accepted_few, accepted_stand, accepted_light, visible_behind, accepted_open}
 
 -- no pairs are permitted
 pub none_accepted : (profile : Profile) → ArePermitted profile []
-none_accepted profile = none_permitted profile [] []
+none_accepted profile = (permits_alone profile (exchanged [])).1 (none_permitted profile [] [])
 
 pub permitted_in_session : (profile : Profile) (client server : List ℕ) (answers : List Judged) (left : Unpaired)
     → AreJudged (ArePermitted profile) [] (streams client server) answers left → ArePermitted profile (accepted_of answers)

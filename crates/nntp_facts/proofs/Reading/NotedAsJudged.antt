@@ -1,50 +1,52 @@
--- What is noted of an exchange, and how it is judged.
-use Rattle.std.proofs.Common.{◌≡◌, true, List, [], ◌∷◌, ◌++◌, Some, sym, ap, subst, ◌∙◌}
+-- What is noted of an exchange behind earlier sessions, and how it is judged.
+use Rattle.std.proofs.Common.{◌≡◌, true, List, [], ◌∷◌, ◌++◌, map, Some, sym, ap, subst, ◌∙◌}
 use Rattle.std.proofs.lemmas.Bool.{true≢false}
 use Rattle.nntp_article.specs.declared.session.profile.Profile.{Profile}
 use Rattle.nntp_article.specs.Session.Machine.{start, fits}
 use Rattle.nntp_pair.specs.Pairing.{Paired, Unpaired, IsNext, asked_at, asked_of, responses_of}
+use Rattle.nntp_facts.specs.Answered.{SomePermitsEach}
 use Rattle.nntp_facts.specs.Classes.{class_by}
-use Rattle.nntp_facts.specs.Permits.{SomePermits}
 use Rattle.nntp_pair.specs.declared.class.Class.TheVariants.{OutOfPlace, Contradiction}
 use Rattle.nntp_facts.specs.declared.noted.Noted.TheVariants.{Consistent, OutOfPlace as NotedOutOfPlace, Contradiction as NotedContradiction}
-use Rattle.nntp_facts.specs.Noted.{FactsKept, HasNoted, IsNoted, ArePermitted}
+use Rattle.nntp_facts.specs.Noted.{FactsKept, exchanged, ArePermittedBehind, HasNotedBehind, IsNotedBehind}
 use Rattle.nntp_facts.specs.Reading.{Accepted, Refused, IsJudged, class_behind}
-use Rattle.nntp_facts.proofs.Keeping.NotedExchange.{as_many, ends}
+use Rattle.nntp_facts.proofs.Members.{all_back}
+use Rattle.nntp_facts.proofs.Keeping.NotedExchange.{Runs, of_these, with_pair, as_many}
 use Rattle.nntp_facts.proofs.Session.LaterPrompts.{next_behind, visible_longer}
 use Rattle.nntp_facts.proofs.Session.OneMoreAnswer.{as_few}
 use Rattle.nntp_facts.proofs.Streams.OneClass.{run_fits}
 use Rattle.nntp_facts.proofs.Reading.JudgedAnswers.{visible_behind}
 
 -- a pair that some spool permits behind others fits
-permitted_fits : (profile : Profile) (past : List Paired) (pair : Paired) → ArePermitted profile (past ++ pair ∷ [])
+permitted_fits : (profile : Profile) (earlier : List (List Paired)) (past : List Paired) (pair : Paired) → ArePermittedBehind profile earlier (past ++ pair ∷ [])
     → fits profile (visible_behind past) (asked_at pair.line) pair.response ≡ true
-permitted_fits profile past pair permitted =
+permitted_fits profile earlier past pair permitted =
     let ps = asked_of past in
     let answers = responses_of past in
     let asked = asked_at pair.line in
-    let more = subst (λ q. SomePermits profile q.0 q.1) (ends past pair) permitted in
+    let more = subst (λ q. SomePermitsEach profile (map exchanged earlier ++ q ∷ [])) (with_pair past pair) permitted in
+    let run = (all_back (Runs profile more.0) (map exchanged earlier) (of_these (ps ++ asked ∷ []) (answers ++ pair.response ∷ []) ∷ []) more.2).0 in
     ap (λ v. fits profile v asked pair.response) (sym (visible_longer start.visible ps (asked ∷ []) answers (as_few past)))
-    ∙ run_fits profile more.0 start (ps ++ asked ∷ []) answers asked pair.response (next_behind ps [] asked answers (as_many past)) more.2
+    ∙ run_fits profile more.0 start (ps ++ asked ∷ []) answers asked pair.response (next_behind ps [] asked answers (as_many past)) run
 
-pub consistent_accepted : (profile : Profile) (past : List Paired) (pair : Paired) (old new : FactsKept) (before after : Unpaired)
-    → IsNoted profile past pair old new Consistent → IsNext before pair after → IsJudged (ArePermitted profile) past before (Accepted pair) after
-consistent_accepted profile past pair old new before after noted next = (next, noted.0)
+pub consistent_accepted : (profile : Profile) (earlier : List (List Paired)) (past : List Paired) (pair : Paired) (old new : FactsKept) (before after : Unpaired)
+    → IsNotedBehind profile earlier past pair old new Consistent → IsNext before pair after → IsJudged (ArePermittedBehind profile earlier) past before (Accepted pair) after
+consistent_accepted profile earlier past pair old new before after noted next = (next, noted.0)
 
 -- whether it fits is told by what those before leave visible
-fits_behind : (profile : Profile) (past : List Paired) (pair : Paired) (old : FactsKept) → HasNoted profile old past
+fits_behind : (profile : Profile) (earlier : List (List Paired)) (past : List Paired) (pair : Paired) (old : FactsKept) → HasNotedBehind profile old earlier past
     → fits profile (visible_behind past) (asked_at pair.line) pair.response ≡ fits profile old.visible (asked_at pair.line) pair.response
-fits_behind profile past pair old noted = ap (λ v. fits profile v (asked_at pair.line) pair.response) (sym noted.visible)
+fits_behind profile earlier past pair old noted = ap (λ v. fits profile v (asked_at pair.line) pair.response) (sym noted.visible)
 
-pub unfit_refused : (profile : Profile) (past : List Paired) (pair : Paired) (old new : FactsKept) (before after : Unpaired) → HasNoted profile old past
-    → IsNoted profile past pair old new NotedOutOfPlace → IsNext before pair after
-    → IsJudged (ArePermitted profile) past before (Refused pair) after × (class_behind profile past (Refused pair) ≡ Some OutOfPlace)
-unfit_refused profile past pair old new before after stands noted next =
-    let unfit = fits_behind profile past pair old stands ∙ noted.0 in
-    ((next, λ permitted. true≢false (sym (permitted_fits profile past pair permitted) ∙ unfit)), ap (λ b. Some (class_by b)) unfit)
+pub unfit_refused : (profile : Profile) (earlier : List (List Paired)) (past : List Paired) (pair : Paired) (old new : FactsKept) (before after : Unpaired) → HasNotedBehind profile old earlier past
+    → IsNotedBehind profile earlier past pair old new NotedOutOfPlace → IsNext before pair after
+    → IsJudged (ArePermittedBehind profile earlier) past before (Refused pair) after × (class_behind profile past (Refused pair) ≡ Some OutOfPlace)
+unfit_refused profile earlier past pair old new before after stands noted next =
+    let unfit = fits_behind profile earlier past pair old stands ∙ noted.0 in
+    ((next, λ permitted. true≢false (sym (permitted_fits profile earlier past pair permitted) ∙ unfit)), ap (λ b. Some (class_by b)) unfit)
 
-pub contradiction_refused : (profile : Profile) (past : List Paired) (pair : Paired) (old new : FactsKept) (before after : Unpaired) → HasNoted profile old past
-    → IsNoted profile past pair old new NotedContradiction → IsNext before pair after
-    → IsJudged (ArePermitted profile) past before (Refused pair) after × (class_behind profile past (Refused pair) ≡ Some Contradiction)
-contradiction_refused profile past pair old new before after stands noted next =
-    ((next, noted.1), ap (λ b. Some (class_by b)) (fits_behind profile past pair old stands ∙ noted.0))
+pub contradiction_refused : (profile : Profile) (earlier : List (List Paired)) (past : List Paired) (pair : Paired) (old new : FactsKept) (before after : Unpaired) → HasNotedBehind profile old earlier past
+    → IsNotedBehind profile earlier past pair old new NotedContradiction → IsNext before pair after
+    → IsJudged (ArePermittedBehind profile earlier) past before (Refused pair) after × (class_behind profile past (Refused pair) ≡ Some Contradiction)
+contradiction_refused profile earlier past pair old new before after stands noted next =
+    ((next, noted.1), ap (λ b. Some (class_by b)) (fits_behind profile earlier past pair old stands ∙ noted.0))

@@ -11,10 +11,11 @@ use Rattle.nntp_facts.specs.declared.noted.Noted.TheVariants.{Contradiction}
 use Rattle.nntp_facts.specs.Asks.{position_after}
 use Rattle.nntp_facts.specs.Classes.{visible_from, position_from, asked_next}
 use Rattle.nntp_facts.specs.Permits.{SomePermits}
-use Rattle.nntp_facts.specs.Noted.{FactsKept, HasNoted, IsNoted, IsDue}
+use Rattle.nntp_facts.specs.Noted.{FactsKept, exchanged, HasNoted, IsNoted, IsDue}
 use Rattle.nntp_facts.specs.Conflict.{Placed, placed_from, placed_of, placed_behind, FitsThere, told_with, SomeHas, below}
 use Rattle.nntp_facts.proofs.Conflicts.{session_fits, contradicts}
 use Rattle.nntp_facts.proofs.Given.GivenPermits.{said}
+use Rattle.nntp_facts.proofs.Given.SessionsByFacts.{permits_alone}
 use Rattle.nntp_facts.proofs.Keeping.NotedExchange.{as_many, ends}
 use Rattle.nntp_facts.proofs.Session.LaterPrompts.{next_behind, visible_longer, position_longer, permitted_longer}
 use Rattle.nntp_facts.proofs.Session.OneMoreAnswer.{as_few, fitting_grows}
@@ -71,7 +72,7 @@ pub accepted_fit : (profile : Profile) (facts : FactsKept) (past : List Paired) 
 accepted_fit profile facts past stands =
     let ps = asked_of past in
     let answers = responses_of past in
-    session_fits profile start.visible Nowhere ps answers (said profile stands.permitted.0 ps answers stands.permitted.2).0
+    session_fits profile start.visible Nowhere ps answers (said profile stands.permitted.0 ps answers stands.permitted.2.0).0
 
 -- no spool has what the bad answer says with those that stand there
 abbrev Conflicts : Profile → Visible → Position → Asked → Response → List Placed → Type 0
@@ -92,13 +93,13 @@ noted_conflicts profile past pair old new stands due noted =
     let v = visible_from start.visible ps answers in
     let fit : IsTrue (fits profile v asked pair.response) = subst (λ v. IsTrue (fits profile v asked pair.response)) stands.visible noted.0 in
     let seen = visible_longer start.visible ps (asked ∷ []) answers few in
-    let permitted = (permitted_longer profile ps (asked ∷ []) answers few).1 stands.permitted in
+    let permitted = (permitted_longer profile ps (asked ∷ []) answers few).1 ((permits_alone profile (exchanged past)).0 stands.permitted) in
     let all = (fitting_grows profile start.visible qs answers asked pair.response comes).1 (
       (said profile permitted.0 qs answers permitted.2).0,
       ap (λ v. v.closed) (seen ∙ sym stands.visible) ∙ due.is_open,
       subst (λ v. IsTrue (fits profile v asked pair.response)) (sym seen) fit,
     ) in
-    let none = contradicts profile qs answers asked pair.response comes all (λ h. noted.1 (subst (λ (q : List Asked × List Response). SomePermits profile q.0 q.1) (sym (ends past pair)) h)) in (
+    let none = contradicts profile qs answers asked pair.response comes all (λ h. noted.1 ((permits_alone profile (exchanged (past ++ pair ∷ []))).1 (subst (λ (q : List Asked × List Response). SomePermits profile q.0 q.1) (sym (ends past pair)) h))) in (
       (v, refl, fit),
       subst (Conflicts profile v (position_from Nowhere ps answers) asked pair.response) (placed_longer start.visible Nowhere ps (asked ∷ []) answers few)
           (subst (λ at. Conflicts profile v at asked pair.response (placed_from start.visible Nowhere qs answers)) (position_longer Nowhere ps (asked ∷ []) answers few)

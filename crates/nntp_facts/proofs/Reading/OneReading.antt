@@ -7,9 +7,10 @@ use Rattle.nntp_pair.proofs.NextLemmas.{one-end}
 use Rattle.nntp_pair.proofs.NextDecided.{next-or-end}
 use Rattle.nntp_pair.proofs.PassedLemmas.{passed-exactly}
 use Rattle.nntp_facts.specs.Given.{weight}
-use Rattle.nntp_facts.specs.Noted.{ArePermitted}
+use Rattle.nntp_facts.specs.Noted.{exchanged, ArePermitted}
 use Rattle.nntp_facts.specs.Reading.{Judged, Accepted, Refused, Unspelled, accepted_with, IsJudged, AreJudged, IsReadingBy, IsReading}
 use Rattle.nntp_facts.proofs.Given.GivenSpoolExists.{some_or_none}
+use Rattle.nntp_facts.proofs.Given.SessionsByFacts.{permits_alone}
 use Rattle.nntp_facts.proofs.Ids.SizeOfASession.{session_size}
 use Rattle.nntp_facts.proofs.Reading.JudgedAnswers.{one_judged, judged_no_end, judged_shorter, weight_next, accepted_weight}
 
@@ -104,4 +105,5 @@ some_reading profile client server small = some_reading_by (ArePermitted profile
     decided : (past : List Paired) → weight (responses_of past) ≤ length server → ArePermitted profile past ⊎ (ArePermitted profile past → ⊥)
     decided past light =
         let all = session_size profile.marks (asked_of past) (responses_of past) in
-        elim (some_or_none profile (asked_of past) (responses_of past) (omega (arith, all, light, small))) [ inl h ↦ inl h | inr none ↦ inr (λ h. none h.0 h.1 h.2) ]
+        elim (some_or_none profile (asked_of past) (responses_of past) (omega (arith, all, light, small)))
+        [ inl h ↦ inl ((permits_alone profile (exchanged past)).1 h) | inr none ↦ inr (λ h. none h.0 h.1 h.2.0) ]

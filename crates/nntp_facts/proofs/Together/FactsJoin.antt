@@ -1,29 +1,21 @@
 -- More facts behind those that stand together.
 use Rattle.nntp_wire.specs.declared.marks.Marks.{Marks}
-use Rattle.std.proofs.Common.{◌≡◌, ℕ, ◌<◌, ◌^◌, ◌↔◌, Bool, true, false, ◌==◌, not, IsTrue, List, [], ◌∷◌, ◌++◌, Option, Some, refl, sym, subst, ◌∙◌}
+use Rattle.std.proofs.Common.{◌≡◌, ℕ, ◌↔◌, Bool, true, false, ◌==◌, not, List, [], ◌∷◌, ◌++◌, Option, Some, refl, sym, subst, ◌∙◌}
 use Rattle.std.specs.Prelude.{if◌then◌else◌}
-use Rattle.std.specs.List.{AllByRecursion, list_any}
+use Rattle.std.specs.List.{list_any}
 use Rattle.std.specs.Option.{option_map_or}
 use Rattle.std.proofs.lemmas.Bool.{true≢false, and_parts, false_from_ne_true, not-true}
 use Rattle.std.proofs.lemmas.Grind.{flat_map-append}
 use Rattle.nntp_article.specs.Article.Parts.{Id}
 use Rattle.nntp_article.specs.Session.Spool.{Name}
-use Rattle.nntp_article.specs.declared.session.profile.Profile.{Profile}
-use Rattle.nntp_article.specs.Session.Machine.{Visible, start, fits, is_same}
+use Rattle.nntp_article.specs.Session.Machine.{Visible, is_same}
 use Rattle.nntp_facts.specs.Asks.{Ask, Estimates, ListsIn, StandsAt, StandsNowhere, StepsUp, StepsDown, IsTop, IsBottom, Lacks}
 use Rattle.nntp_facts.specs.declared.position.Position.{Position}
-use Rattle.nntp_facts.specs.declared.position.Position.TheVariants.{Nowhere}
-use Rattle.nntp_facts.specs.Facts.{Fact, Holds, ThereIs, ThereIsNo, Asks, IdAt, TextIs, NoArticle, GroupsAre, here, facts_of_code, facts_of, FitsAll}
-use Rattle.nntp_facts.specs.Given.{asks_in, asks_of, shows_group, id_in, head_in, body_in, facts_of_session, size}
+use Rattle.nntp_facts.specs.Facts.{Fact, ThereIs, ThereIsNo, Asks, IdAt, TextIs, NoArticle, GroupsAre, here, facts_of_code, facts_of}
+use Rattle.nntp_facts.specs.Given.{asks_in, asks_of, shows_group, id_in, head_in, body_in}
 use Rattle.nntp_facts.specs.Together.{IsWellFormed, AsksStand, denies_group, number_in, shows_article, denies_article, Together, AgreeWithin, Join}
-use Rattle.nntp_facts.specs.Classes.{visible_from, position_from, asked_next}
-use Rattle.nntp_facts.specs.Permits.{SomePermits}
 use Rattle.nntp_facts.proofs.Members.{all_both, all_back}
 use Rattle.nntp_facts.proofs.Together.TwoListsOfFacts.{apart_both, apart_shown, apart_denied, one_gives_one, give_one_both, give_same_of_both}
-use Rattle.nntp_facts.proofs.Together.FactsOfASpoolStand.{stand}
-use Rattle.nntp_facts.proofs.Given.GivenPermits.{said}
-use Rattle.nntp_facts.proofs.Given.GivenSpoolExists.{permitted_together}
-use Rattle.nntp_facts.proofs.Session.OneMoreAnswer.{facts_grow, fitting_grows}
 use Rattle.nntp_wire.specs.Listing.{ActiveValue}
 use Rattle.nntp_wire.specs.Decided.{matches_name}
 use Rattle.nntp_wire.specs.Listing.{listed_numbers, active_groups}
@@ -214,38 +206,3 @@ answer_agrees how v at asked (group_is m name) = none_agrees
 answer_agrees how v at asked (numbers_are m name lines) = none_agrees
 answer_agrees how v at asked (sends sent) = none_agrees
 answer_agrees how v at asked (active_are lines) = none_agrees
-
--- ---- an answer more
-
--- behind answers that some spool permits, some spool permits one more exactly if it fits and what it says joins
-pub permitted_more : (profile : Profile) (ps : List Asked) (answers : List Response) (asked : Asked) (response : Response) → asked_next ps answers ≡ Some asked
-    → size (facts_of_session profile.marks ps (answers ++ response ∷ [])) < 2 ^ 210 → SomePermits profile ps answers
-    → SomePermits profile ps (answers ++ response ∷ [])
-    ↔ (((visible_from start.visible ps answers).closed ≡ false) × IsTrue (fits profile (visible_from start.visible ps answers) asked response)
-    × Join (facts_of_session profile.marks ps answers) (facts_of profile.marks (visible_from start.visible ps answers) (position_from Nowhere ps answers) asked response))
-permitted_more profile ps answers asked response comes small (S, spool, run) = (
-  λ h.
-      let says = said profile h.0 ps (answers ++ response ∷ []) h.2 in
-      let f = grown.0 says.0 in
-      (f.1, f.2, joins.0 (subst Together same (stand profile.limit h.0 (facts_of_session profile.marks ps (answers ++ response ∷ [])) h.1 says.1))),
-  λ h. (permitted_together profile ps (answers ++ response ∷ []) small).1 (grown.1 (before.0, h.0, h.1), subst Together (sym same) (joins.1 h.2)),
-)
-  where
-    new : List Fact
-    new = facts_of profile.marks (visible_from start.visible ps answers) (position_from Nowhere ps answers) asked response
-
-    same : facts_of_session profile.marks ps (answers ++ response ∷ []) ≡ facts_of_session profile.marks ps answers ++ new
-    same = facts_grow profile.marks start.visible Nowhere ps answers asked response comes
-
-    before : FitsAll profile start.visible ps answers × AllByRecursion (Holds S) (facts_of_session profile.marks ps answers)
-    before = said profile S ps answers run
-
-    joins : Together (facts_of_session profile.marks ps answers ++ new) ↔ Join (facts_of_session profile.marks ps answers) new
-    joins = together_more (facts_of_session profile.marks ps answers) new
-        (stand profile.limit S (facts_of_session profile.marks ps answers) spool before.1)
-        (answer_agrees profile.marks (visible_from start.visible ps answers) (position_from Nowhere ps answers) asked response)
-
-    grown : FitsAll profile start.visible ps (answers ++ response ∷ [])
-        ↔ (FitsAll profile start.visible ps answers × ((visible_from start.visible ps answers).closed ≡ false)
-        × IsTrue (fits profile (visible_from start.visible ps answers) asked response))
-    grown = fitting_grows profile start.visible ps answers asked response comes

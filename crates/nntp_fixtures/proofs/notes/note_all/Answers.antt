@@ -32,8 +32,8 @@ loop-exchange-preserved g c =
     (one-more (profile_of c.args.limit c.args.marks) c.args.client.now c.args.server.now c.loop-exchange.facts c.note.new.self
     c.loop-exchange.pairs c.next.new.self c.in-Exchange.exchange c.in-Ok-Consistent.field-0
     c.loop-exchange.invariant c.in-Exchange.ensures.step
-    (c.in-Ok-Consistent.ensures.noted (profile_of c.args.limit c.args.marks))
+    (c.in-Ok-Consistent.ensures.noted (profile_of c.args.limit c.args.marks) [])
     (ap class_noted c.in-Ok-Consistent.field-0-is)).0
 
 pub after_want-requires : goal.after_want-requires
-after_want-requires g c = (c.in-Err-Memory.ensures.noted (profile_of c.args.limit c.args.marks) c.loop-exchange.invariant.pairs c.loop-exchange.invariant.stands).1
+after_want-requires g c = (c.in-Err-Memory.ensures.noted (profile_of c.args.limit c.args.marks) [] c.loop-exchange.invariant.pairs c.loop-exchange.invariant.stands).1

@@ -1,4 +1,4 @@
-use Rattle.std.proofs.Common.{◌≡◌, ◌≤◌, arith}
+use Rattle.std.proofs.Common.{◌≡◌, ◌≤◌, [], arith}
 use Rattle.std.specs.Option.{option_map}
 use Rattle.nntp_facts.specs.Noted.{profile_kept}
 use Rattle.nntp_explain.specs.ExplainingView.{cited_of, kept_of}
@@ -28,13 +28,13 @@ pub refuse_contradiction-requires-clause-fit : goal.refuse_contradiction-require
 refuse_contradiction-requires-clause-fit g c =
     let t = c.requires.told in
     (noted_contradiction_due t.0 t.1 (kept_of c.args.self.now) c.note.new.self c.in-Ok.noted c.position-position.result c.args.self.now.text.items t.2 t.3 c.args.exchange
-    c.in-Contradiction.is c.position-position.ensures (c.in-Ok.ensures.noted (profile_kept c.args.self.now.facts)) t.4 t.5).0
+    c.in-Contradiction.is c.position-position.ensures (c.in-Ok.ensures.noted (profile_kept c.args.self.now.facts) []) t.4 t.5).0
 
 pub refuse_contradiction-requires-clause-conflict : goal.refuse_contradiction-requires-clause-conflict
 refuse_contradiction-requires-clause-conflict g c =
     let t = c.requires.told in
     (noted_contradiction_due t.0 t.1 (kept_of c.args.self.now) c.note.new.self c.in-Ok.noted c.position-position.result c.args.self.now.text.items t.2 t.3 c.args.exchange
-    c.in-Contradiction.is c.position-position.ensures (c.in-Ok.ensures.noted (profile_kept c.args.self.now.facts)) t.4 t.5).1
+    c.in-Contradiction.is c.position-position.ensures (c.in-Ok.ensures.noted (profile_kept c.args.self.now.facts) []) t.4 t.5).1
 
 pub returns-in-Consistent : goal.returns-in-Consistent
 returns-in-Consistent g c =
@@ -44,7 +44,7 @@ returns-in-Consistent g c =
     (kept_of c.accept.new.self) c.note.new.self c.in-Ok.noted c.position-position.result
     (option_map cited_of c.note_closing.new.closing)
     c.args.self.now.text.items c.accept.new.self.text.items left behind c.args.exchange
-    c.in-Consistent.is c.position-position.ensures c.note_closing.ensures (c.in-Ok.ensures.noted profile) kept text t next)
+    c.in-Consistent.is c.position-position.ensures c.note_closing.ensures (c.in-Ok.ensures.noted profile []) kept text t next)
 
 pub returns-in-OutOfPlace : goal.returns-in-OutOfPlace
 returns-in-OutOfPlace g c =
@@ -52,7 +52,7 @@ returns-in-OutOfPlace g c =
     (λ kept text profile client server left behind t next.
     noted_out_of_place profile client server (kept_of c.args.self.now) (kept_of c.refuse_unfitting.new.self) c.note.new.self c.in-Ok.noted (option_map cited_of c.note_closing.new.closing)
     c.args.self.now.text.items c.refuse_unfitting.new.self.text.items left behind c.args.exchange
-    c.in-OutOfPlace.is c.note_closing.ensures (c.in-Ok.ensures.noted profile) kept text t next)
+    c.in-OutOfPlace.is c.note_closing.ensures (c.in-Ok.ensures.noted profile []) kept text t next)
 
 pub returns-in-Contradiction : goal.returns-in-Contradiction
 returns-in-Contradiction g c =
@@ -62,4 +62,4 @@ returns-in-Contradiction g c =
     (kept_of c.refuse_contradiction.new.self) c.note.new.self c.in-Ok.noted c.position-position.result
     (option_map cited_of c.note_closing.new.closing)
     c.args.self.now.text.items c.refuse_contradiction.new.self.text.items left behind c.args.exchange
-    c.in-Contradiction.is c.position-position.ensures c.note_closing.ensures (c.in-Ok.ensures.noted profile) kept text t next)
+    c.in-Contradiction.is c.position-position.ensures c.note_closing.ensures (c.in-Ok.ensures.noted profile []) kept text t next)

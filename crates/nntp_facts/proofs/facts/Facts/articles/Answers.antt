@@ -1,10 +1,10 @@
 use Rattle.std.proofs.Common.{sym, subst, ◌∙◌, ap}
-use Rattle.nntp_facts.specs.Noted.{said_by}
+use Rattle.nntp_facts.specs.Noted.{said_behind}
 use Rattle.nntp_facts.specs.Readers.{AreShownArticles, shown_articles}
 use Rattle.nntp_facts.proofs.Keeping.ArticleReaders.{articles_shown}
 use Rattle.nntp_facts.proofs.facts.Facts.articles.Goals as goal
 
 pub returns : goal.returns
-returns g c profile past stands =
-    let facts = said_by profile.marks past in
+returns g c profile earlier past stands =
+    let facts = said_behind profile.marks earlier past in
     subst (AreShownArticles facts) (sym (c.articles.ensures ∙ ap (λ f. shown_articles f.kept.articles) c.self.view_is)) (articles_shown facts c.args.self.now.kept.articles stands.kept.articles)

@@ -1,12 +1,12 @@
 use Rattle.std.proofs.Common.{sym, subst, ◌∙◌, ap}
-use Rattle.nntp_facts.specs.Noted.{said_by}
+use Rattle.nntp_facts.specs.Noted.{said_behind}
 use Rattle.nntp_facts.specs.Readers.{AreShownGroups, shown_groups}
 use Rattle.nntp_facts.proofs.Keeping.GroupReaders.{groups_shown}
-use Rattle.nntp_facts.proofs.Keeping.NotedExchange.{stands_together}
+use Rattle.nntp_facts.proofs.Keeping.NotedExchange.{stand_together}
 use Rattle.nntp_facts.proofs.facts.Facts.groups.Goals as goal
 
 pub returns : goal.returns
-returns g c profile past stands =
-    let facts = said_by profile.marks past in
-    let together = stands_together profile c.args.self.now past stands in
+returns g c profile earlier past stands =
+    let facts = said_behind profile.marks earlier past in
+    let together = stand_together profile c.args.self.now earlier past stands in
     subst (AreShownGroups facts) (sym (c.groups.ensures ∙ ap (λ f. shown_groups f.kept.groups) c.self.view_is)) (groups_shown facts c.args.self.now.kept.groups together.numbers stands.kept.groups)

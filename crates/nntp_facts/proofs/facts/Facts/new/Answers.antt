@@ -1,6 +1,8 @@
 use Rattle.std.proofs.Common.{[], refl, arith}
 use Rattle.nntp_article.specs.Session.Limit.{profile_of}
 use Rattle.nntp_facts.proofs.Given.FirstBadAnswer.{none_permitted}
+use Rattle.nntp_facts.specs.Noted.{exchanged}
+use Rattle.nntp_facts.proofs.Given.SessionsByFacts.{permits_alone}
 use Rattle.nntp_facts.proofs.facts.Facts.new.Goals as goal
 
 pub returns-clause-stands : goal.returns-clause-stands
@@ -11,7 +13,9 @@ returns-clause-stands g c = record {
   visible = c.new.ensures;
   position = refl;
   kept = c.new-2.ensures;
-  permitted = none_permitted (profile_of c.args.limit c.args.marks) [] [];
+  permitted = (permits_alone (profile_of c.args.limit c.args.marks) (exchanged [])).1 (none_permitted (profile_of c.args.limit c.args.marks) [] []);
+  sessions = omega arith;
+  earlier_few = tt;
   lines = tt;
   few = omega arith;
 }

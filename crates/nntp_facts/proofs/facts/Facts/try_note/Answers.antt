@@ -3,39 +3,39 @@ use Rattle.std.proofs.Math.Path.{ap₂}
 use Rattle.nntp_article.specs.Session.Machine.{visible_after}
 use Rattle.nntp_facts.specs.Asks.{position_after}
 use Rattle.nntp_facts.specs.SayingView.{saying_of}
-use Rattle.nntp_facts.specs.Noted.{profile_kept, HasNoted}
+use Rattle.nntp_facts.specs.Noted.{profile_kept, HasNotedBehind}
 use Rattle.nntp_facts.proofs.Keeping.NotedExchange.{Adds, unfit, weighed, refused, accepted}
 use Rattle.nntp_facts.proofs.facts.Facts.try_note.Goals as goal
 
 pub returns-then-not-branch : goal.returns-then-not-branch
-returns-then-not-branch g c profile past stands =
-    let before = subst (λ facts. HasNoted profile facts past) (sym c.self.view_is) stands in
-    unfit profile _ _ _ past c.args.exchange.now _ _ _ c.self.view_is before c.prompt-prompt.ensures c.answer-answer.ensures.value
+returns-then-not-branch g c profile earlier past stands =
+    let before = subst (λ facts. HasNotedBehind profile facts earlier past) (sym c.self.view_is) stands in
+    unfit profile _ _ _ earlier past c.args.exchange.now _ _ _ c.self.view_is before c.prompt-prompt.ensures c.answer-answer.ensures.value
     (c.profile-profile.ensures ∙ ap profile_kept (sym c.self.view_is)) c.in_ok-fits.ensures c.if-not-branch.true
 
 pub returns-then-not-branch-2 : goal.returns-then-not-branch-2
-returns-then-not-branch-2 g c profile past stands =
+returns-then-not-branch-2 g c profile earlier past stands =
     let pair = c.args.exchange.now in
     let says = c.answer-answer.ensures in
     let is = c.self.view_is in
-    let before = subst (λ facts. HasNoted profile facts past) (sym is) stands in
+    let before = subst (λ facts. HasNotedBehind profile facts earlier past) (sym is) stands in
     let saying = saying_of c.of-saying.result in
-    let w = weighed profile _ _ _ past pair _ _ saying _ _ _ is before c.requires says.low_index says.few_lines says.is_spelled c.prompt-prompt.ensures says.value
+    let w = weighed profile _ _ _ pair _ _ saying _ _ _ is before.profile_is c.requires says.low_index says.few_lines says.is_spelled c.prompt-prompt.ensures says.value
     (c.profile-profile.ensures ∙ ap profile_kept (sym c.self.view_is)) c.in_ok-fits.ensures c.if-not-branch.false
     c.selected_name-here.ensures (c.deref.ensures.value ∙ c.in_ok-numbers.ensures) c.of-saying.ensures in
-    refused profile _ _ c.note.new.self past pair saying is w before (subst (Adds c.self.inside.kept c.note.new.self saying) c.if-not-branch-2.true c.in_ok-note.ensures)
+    refused profile _ _ c.note.new.self earlier past pair saying is w before (subst (Adds c.self.inside.kept c.note.new.self saying) c.if-not-branch-2.true c.in_ok-note.ensures)
 
 pub returns : goal.returns
-returns g c profile past stands =
+returns g c profile earlier past stands =
     let pair = c.args.exchange.now in
     let says = c.answer-answer.ensures in
     let is = c.self.view_is in
-    let before = subst (λ facts. HasNoted profile facts past) (sym is) stands in
+    let before = subst (λ facts. HasNotedBehind profile facts earlier past) (sym is) stands in
     let saying = saying_of c.of-saying.result in
-    let w = weighed profile _ _ _ past pair _ _ saying _ _ _ is before c.requires says.low_index says.few_lines says.is_spelled c.prompt-prompt.ensures says.value
+    let w = weighed profile _ _ _ pair _ _ saying _ _ _ is before.profile_is c.requires says.low_index says.few_lines says.is_spelled c.prompt-prompt.ensures says.value
     (c.profile-profile.ensures ∙ ap profile_kept (sym c.self.view_is)) c.in_ok-fits.ensures c.if-not-branch.false
     c.selected_name-here.ensures (c.deref.ensures.value ∙ c.in_ok-numbers.ensures) c.of-saying.ensures in
-    accepted profile _ c.args.self.now _ past pair saying w before (record {
+    accepted profile _ c.args.self.now _ earlier past pair saying w before (record {
       limit = refl;
       marks = refl;
       has_failed = refl;

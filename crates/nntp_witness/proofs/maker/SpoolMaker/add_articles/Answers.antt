@@ -9,7 +9,7 @@ use Rattle.nntp_witness.proofs.maker.SpoolMaker.add_articles.Goals as goal
 pub loop-article-init : goal.loop-article-init
 loop-article-init g c past G stands witness groups = articles_start c.args.facts.now.limit c.args.facts.now.marks past G
     c.articles-articles.result c.args.self.now.builder c.args.self.now.next witness
-    (c.articles-articles.ensures (profile_kept c.args.facts.now) past stands) groups
+    (c.articles-articles.ensures (profile_kept c.args.facts.now) [] past stands) groups
 
 pub loop-article-preserved : goal.loop-article-preserved
 loop-article-preserved g c past G stands witness groups =

@@ -1,4 +1,4 @@
-use Rattle.std.proofs.Common.{◌∷◌, ◌∙◌, false, ap, sym, subst}
+use Rattle.std.proofs.Common.{[], ◌∷◌, ◌∙◌, false, ap, sym, subst}
 use Rattle.nntp_facts.specs.Noted.{profile_kept, said_by}
 use Rattle.nntp_spool.specs.Building.{Building}
 use Rattle.nntp_spool.specs.Content.{no_spool}
@@ -13,7 +13,7 @@ loop-group-init g c past G stands witness =
     subst (λ (b : Building). GroupsLeft c.args.facts.now.limit
     (said_by c.args.facts.now.marks past) G c.groups-groups.result b 0) (sym made)
     (all_left c.args.facts.now.limit (said_by c.args.facts.now.marks past) G c.groups-groups.result witness.given
-    (c.groups-groups.ensures (profile_kept c.args.facts.now) past stands))
+    (c.groups-groups.ensures (profile_kept c.args.facts.now) [] past stands))
 
 pub loop-group-preserved : goal.loop-group-preserved
 loop-group-preserved g c past G stands witness =

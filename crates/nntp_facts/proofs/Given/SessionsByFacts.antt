@@ -9,6 +9,7 @@ use Rattle.nntp_article.specs.Session.Machine.{start}
 use Rattle.nntp_facts.specs.declared.position.Position.TheVariants.{Nowhere}
 use Rattle.nntp_facts.specs.Facts.{Fact, Holds}
 use Rattle.nntp_facts.specs.Given.{IsGiven, HasAtLeast, size}
+use Rattle.nntp_facts.specs.Permits.{SomePermits}
 use Rattle.nntp_facts.specs.Together.{Together}
 use Rattle.nntp_facts.proofs.Members.{all_from, all_both, all_front, all_back}
 use Rattle.nntp_facts.proofs.Session.CurrentArticle.{run_from}
@@ -20,7 +21,7 @@ use Rattle.nntp_facts.proofs.Given.GivenHasFacts.{given_of_facts, given_has, lea
 use Rattle.nntp_facts.proofs.Given.GivenPermits.{said}
 use Rattle.nntp_facts.proofs.Given.ConstructedSpool.{made}
 use Rattle.nntp_facts.proofs.Given.SpoolsDecided.{dec_spool}
-use Rattle.nntp_several.specs.Answered.{Answered, PermitsEach, SomePermitsEach, FitEach, facts_in, facts_of_all}
+use Rattle.nntp_facts.specs.Answered.{Answered, PermitsEach, SomePermitsEach, FitEach, facts_in, facts_of_all}
 
 -- ---- a spool permits sessions exactly if they fit and it has their facts
 
@@ -128,3 +129,7 @@ some_or_none_of_all profile sessions small = by (dec_both (dec_spool profile.lim
     by (inl h) = inl (made_for_all profile sessions, h.0, h.1)
     by (inr h) = inr (λ p. let s = stand_each profile p.0 sessions p.1 p.2 in h
         (given_permits_all profile (made_for_all profile sessions) sessions s.0 s.1 small (given_exists_of_all profile sessions s.0 small)))
+
+-- some spool permits one session alone
+pub permits_alone : (profile : Profile) (s : Answered) → SomePermitsEach profile (s ∷ []) ↔ SomePermits profile s.prompts s.answers
+permits_alone profile s = (λ h. (h.0, h.1, h.2.0), λ h. (h.0, h.1, (h.2, tt)))

@@ -13,16 +13,16 @@ use Rattle.nntp_facts.specs.Classes.{visible_from, position_from, asked_next}
 use Rattle.nntp_facts.specs.Facts.{Fact, FitsAll, facts_of}
 use Rattle.nntp_facts.specs.Given.{facts_of_session, size}
 use Rattle.nntp_facts.specs.Kept.{IsKept}
-use Rattle.nntp_facts.specs.Noted.{FactsKept, HasNoted, said_by}
+use Rattle.nntp_facts.specs.Noted.{FactsKept, exchanged, said_by, said_behind, AreFew, HasNotedBehind, begun}
+use Rattle.nntp_facts.specs.Permits.{SomePermits}
 use Rattle.nntp_facts.specs.Together.{Together, Join}
 use Rattle.nntp_facts.proofs.Members.{all_both, all_front, all_back}
 use Rattle.nntp_facts.proofs.Given.FirstBadAnswer.{size-append}
 use Rattle.nntp_facts.proofs.Ids.SizeOfASession.{session_size, pairs_weight}
 use Rattle.nntp_facts.proofs.Session.OneMoreAnswer.{facts_grow, fitting_grows}
 use Rattle.nntp_facts.proofs.Together.FactsJoin.{together_more, answer_agrees}
-use Rattle.nntp_several.specs.Answered.{Answered, PermitsEach, SomePermitsEach, FitEach, facts_in, facts_of_all}
-use Rattle.nntp_several.specs.Noted.{exchanged, said_behind, AreFew, HasNotedBehind, begun}
-use Rattle.nntp_several.proofs.SessionsByFacts.{stand_each, permitted_together_of_all}
+use Rattle.nntp_facts.specs.Answered.{Answered, PermitsEach, SomePermitsEach, FitEach, facts_in, facts_of_all}
+use Rattle.nntp_facts.proofs.Given.SessionsByFacts.{stand_each, permitted_together_of_all, permits_alone}
 
 -- what sessions say, and one more
 pub facts_behind : (how : Marks) (earlier : List Answered) (s : Answered) → facts_of_all how (earlier ++ s ∷ []) ≡ facts_of_all how earlier ++ facts_in how s
@@ -86,6 +86,19 @@ module _ (profile : Profile) (earlier : List Answered) (ps : List Asked) (answer
           × IsTrue (fits profile (visible_from start.visible ps answers) asked response))
       grown = fitting_grows profile start.visible ps answers asked response comes
 
+-- behind answers of one session that some spool permits, some spool permits one more exactly if it fits and what it says joins
+pub permitted_more : (profile : Profile) (ps : List Asked) (answers : List Response) (asked : Asked) (response : Response) → asked_next ps answers ≡ Some asked
+    → size (facts_of_session profile.marks ps (answers ++ response ∷ [])) < 2 ^ 210 → SomePermits profile ps answers
+    → SomePermits profile ps (answers ++ response ∷ [])
+    ↔ (((visible_from start.visible ps answers).closed ≡ false) × IsTrue (fits profile (visible_from start.visible ps answers) asked response)
+    × Join (facts_of_session profile.marks ps answers) (facts_of profile.marks (visible_from start.visible ps answers) (position_from Nowhere ps answers) asked response))
+permitted_more profile ps answers asked response comes small h =
+    let before = permits_alone profile (record { prompts = ps; answers = answers }) in
+    let after = permits_alone profile (record { prompts = ps; answers = answers ++ response ∷ [] }) in
+    let whole = append-nil (facts_of_session profile.marks ps (answers ++ response ∷ [])) in
+    let more = permitted_more_behind profile [] ps answers asked response comes (subst (λ facts. size facts < 2 ^ 210) (sym whole) small) (before.1 h) in
+    (λ g. more.0 (after.1 g), λ j. after.0 (more.1 j))
+
 -- ---- sizes
 
 -- few exchanges say little
@@ -118,34 +131,6 @@ small_behind how earlier past count f g =
 
 -- ---- the facts of sessions
 
--- those of the first session are those of a session
-pub noted_alone : (profile : Profile) (facts : FactsKept) (past : List Paired) → HasNoted profile facts past ↔ HasNotedBehind profile facts [] past
-noted_alone profile facts past = (
-  λ h. record {
-    profile_is = h.profile_is;
-    is_whole = h.is_whole;
-    count = h.count;
-    visible = h.visible;
-    position = h.position;
-    kept = h.kept;
-    permitted = (h.permitted.0, h.permitted.1, (h.permitted.2, tt));
-    sessions = omega arith;
-    earlier_few = tt;
-    few = record { few = h.few; lines = h.lines };
-  },
-  λ h. record {
-    profile_is = h.profile_is;
-    is_whole = h.is_whole;
-    count = h.count;
-    visible = h.visible;
-    position = h.position;
-    kept = h.kept;
-    permitted = (h.permitted.0, h.permitted.1, h.permitted.2.0);
-    lines = h.few.lines;
-    few = h.few.few;
-  },
-)
-
 -- a session begins behind one more
 pub session_begins : (profile : Profile) (facts : FactsKept) (earlier : List (List Paired)) (past : List Paired) → HasNotedBehind profile facts earlier past
     → length earlier + 1 < 2 ^ 64 → HasNotedBehind profile (begun facts) (earlier ++ past ∷ []) []
@@ -163,8 +148,9 @@ session_begins profile facts earlier past h count = record {
         (all_both (λ (s : Answered). Run profile h.permitted.0 start s.prompts s.answers) (map exchanged earlier ++ exchanged past ∷ []) (exchanged [] ∷ []) h.permitted.2 (tt, tt)),
   );
   sessions = omega (arith, count, length-append earlier (past ∷ []));
-  earlier_few = all_both AreFew earlier (past ∷ []) h.earlier_few (h.few, tt);
-  few = record { few = omega arith; lines = tt };
+  earlier_few = all_both AreFew earlier (past ∷ []) h.earlier_few (record { lines = h.lines; few = h.few }, tt);
+  lines = tt;
+  few = omega arith;
 }
   where
     both : map exchanged (earlier ++ past ∷ []) ≡ map exchanged earlier ++ exchanged past ∷ []
