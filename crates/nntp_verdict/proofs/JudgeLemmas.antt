@@ -193,7 +193,7 @@ limit-kept limit marks facts past noted = same-limit facts.limit limit (ap (λ (
 pub at-end : (limit : Limit) (marks : Marks) (client server : List ℕ) (facts : FactsKept) (left : Unpaired)
     (answers unanswered : ℕ) (L : LimitedSpool) → (p : Passed (profile_of limit marks) client server facts left)
     → answers ≡ left.index → Ends left (end unanswered)
-    → IsWitnessWithin facts.limit (profile_of limit marks) p.pairs L → IsWritten L → IsYes limit marks client server L answers
+    → IsWitnessWithin facts.limit (profile_of limit marks) [] p.pairs L → IsWritten L → IsYes limit marks client server L answers
 at-end limit marks client server facts left answers unanswered L p at ends witness written =
     let profile = profile_of limit marks in
     let count : answers ≡ length p.pairs = at ∙ index-counts client server p.pairs left p.before in

@@ -1,25 +1,53 @@
--- The spool that is aimed at: the facts of a session that stand have a witness.
-use Rattle.std.proofs.Common.{List, sym, subst}
+-- The spool that is aimed at: what was said by exchanges that were noted has a given spool, which has all of it and permits them.
+use Rattle.std.proofs.Common.{List, [], ◌∷◌, ◌++◌, map, refl, sym, subst}
+use Rattle.std.specs.List.{AllByRecursion}
 use Rattle.nntp_article.specs.declared.session.profile.Profile.{Profile}
 use Rattle.nntp_article.specs.Session.Spool.{Spool}
-use Rattle.nntp_pair.specs.Pairing.{Paired, asked_of, responses_of}
-use Rattle.nntp_facts.specs.Noted.{FactsKept, HasNoted, profile_kept}
-use Rattle.nntp_facts.proofs.Given.GivenSpoolExists.{given_exists, made_for}
-use Rattle.nntp_facts.proofs.Given.GivenPermits.{stands, given_permits}
-use Rattle.nntp_facts.proofs.Ids.SizeOfASession.{pairs_size}
-use Rattle.nntp_witness.specs.Witness.{IsWitness}
-
--- the facts that stand have a witness
-pub aim : (profile : Profile) (facts : FactsKept) (past : List Paired) → HasNoted profile facts past → (G : Spool) × IsWitness profile past G
-aim profile facts past s =
-    let ps = asked_of past in
-    let answers = responses_of past in
-    let small = pairs_size profile.marks past s.lines s.few in
-    let fits = stands profile s.permitted.0 ps answers s.permitted.1 s.permitted.2.0 in
-    let given = given_exists profile ps answers fits.0 small in
-    let permits = given_permits profile (made_for profile ps answers) ps answers fits.0 fits.1 small given in
-    (made_for profile ps answers, record { given = given; is_spool = permits.0; permits = permits.1 })
+use Rattle.nntp_pair.specs.Pairing.{Paired}
+use Rattle.nntp_facts.specs.Answered.{Answered}
+use Rattle.nntp_facts.specs.Facts.{Fact, Holds}
+use Rattle.nntp_facts.specs.Given.{IsGiven}
+use Rattle.nntp_facts.specs.Noted.{FactsKept, HasNotedBehind, exchanged, profile_kept, said_behind}
+use Rattle.nntp_facts.proofs.Given.SessionsByFacts.{given_exists_of_all, given_permits_all, made_for_all, said_each, stand_each}
+use Rattle.nntp_facts.proofs.Keeping.NotedSessions.{facts_behind, small_behind}
+use Rattle.nntp_witness.specs.Witness.{HaveNoted, IsGivenSpool, IsWitness}
 
 -- facts of some exchanges are so by the profile that they hold
-pub noted_as_kept : (profile : Profile) (facts : FactsKept) (past : List Paired) → HasNoted profile facts past → HasNoted (profile_kept facts) facts past
-noted_as_kept profile facts past noted = subst (λ p. HasNoted p facts past) (sym noted.profile_is) noted
+pub noted_as_kept : (profile : Profile) (facts : FactsKept) (earlier : List (List Paired)) (past : List Paired) → HasNotedBehind profile facts earlier past
+    → HasNotedBehind (profile_kept facts) facts earlier past
+noted_as_kept profile facts earlier past noted = subst (λ p. HasNotedBehind p facts earlier past) (sym noted.profile_is) noted
+
+-- what was said is what they say
+pub noted_say : (facts : FactsKept) (earlier : List (List Paired)) (past : List Paired) → HasNotedBehind (profile_kept facts) facts earlier past → HaveNoted facts (said_behind facts.marks earlier past)
+noted_say facts earlier past stands = record { earlier = earlier; past = past; stands = stands; said_is = refl }
+
+-- what is so of what exchanges say that were noted is so of what was said
+pub so_of_said : (facts : FactsKept) (said : List Fact) (P : List Fact → Type 0) → HaveNoted facts said
+    → ((profile : Profile) (earlier : List (List Paired)) (past : List Paired) → HasNotedBehind profile facts earlier past → P (said_behind profile.marks earlier past)) → P said
+so_of_said facts said P noted so = subst P noted.said_is (so (profile_kept facts) noted.earlier noted.past noted.stands)
+
+-- exchanges that were noted have a witness
+pub aim : (profile : Profile) (facts : FactsKept) (earlier : List (List Paired)) (past : List Paired) → HasNotedBehind profile facts earlier past → (G : Spool) × IsWitness profile earlier past G
+aim profile facts earlier past s =
+    let sessions : List Answered = map exchanged earlier ++ exchanged past ∷ [] in
+    let small = small_behind profile.marks earlier past s.sessions s.earlier_few (record { lines = s.lines; few = s.few }) in
+    let fits = stand_each profile s.permitted.0 sessions s.permitted.1 s.permitted.2 in
+    let given = given_exists_of_all profile sessions fits.0 small in
+    let permits = given_permits_all profile (made_for_all profile sessions) sessions fits.0 fits.1 small given in (
+      made_for_all profile sessions,
+      record {
+        given = subst (λ said. IsGiven said (made_for_all profile sessions)) (facts_behind profile.marks (map exchanged earlier) (exchanged past)) given;
+        is_spool = permits.0;
+        permits = permits.1;
+      },
+    )
+
+-- a witness is the given spool of what was said, and has all of it
+pub witness_has : (facts : FactsKept) (earlier : List (List Paired)) (past : List Paired) (G : Spool) → IsWitness (profile_kept facts) earlier past G
+    → IsGivenSpool facts.limit (said_behind facts.marks earlier past) G
+witness_has facts earlier past G witness = record {
+  given = witness.given;
+  is_spool = witness.is_spool;
+  holds = subst (AllByRecursion (Holds G)) (facts_behind facts.marks (map exchanged earlier) (exchanged past))
+      (said_each (profile_kept facts) G (map exchanged earlier ++ exchanged past ∷ []) witness.permits).1;
+}

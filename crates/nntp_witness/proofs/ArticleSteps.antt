@@ -10,18 +10,13 @@ use Rattle.std.specs.FinMap.{FinMap, get, insert, get-insert, same_map}
 use Rattle.std.proofs.lemmas.Bool.{true≢false, false≢true, or_cases}
 use Rattle.nntp_wire.proofs.OptionLemmas.{none_of, some_is}
 use Rattle.nntp_wire.specs.declared.limit.Limit.{Limit}
-use Rattle.nntp_wire.specs.declared.marks.Marks.{Marks}
 use Rattle.nntp_article.specs.Article.Parts.{Id}
-use Rattle.nntp_article.specs.Session.Limit.{profile_of}
 use Rattle.nntp_article.specs.Session.Machine.{is_same}
 use Rattle.nntp_article.specs.Session.Spool.{Spool, Text}
-use Rattle.nntp_pair.specs.Pairing.{Paired, asked_of, responses_of}
 use Rattle.nntp_facts.specs.Facts.{Fact, IdAt, TextIs, Holds}
 use Rattle.nntp_facts.specs.Given.{IsGiven, mentions, is_mentioned, gives_article, plain_head}
-use Rattle.nntp_facts.specs.Noted.{said_by}
 use Rattle.nntp_facts.specs.Readers.{ShownArticle, IsShownArticle, AreShownArticles}
 use Rattle.nntp_facts.specs.Together.{shows_article}
-use Rattle.nntp_facts.proofs.Given.GivenPermits.{said}
 use Rattle.nntp_facts.proofs.Given.ConstructedSpool.{names_apart}
 use Rattle.nntp_facts.proofs.Members.{In, all_at, all_from, any_in, found_in}
 use Rattle.nntp_facts.proofs.Together.FactsOfASpoolStand.{same_itself}
@@ -29,7 +24,7 @@ use Rattle.nntp_spool.specs.Building.{Building, Builds, article_fault}
 use Rattle.nntp_spool.specs.Content.{with_article}
 use Rattle.nntp_spool.specs.declared.value.spool_fault.SpoolFault.{SpoolFault}
 use Rattle.nntp_spool.proofs.MapEntries.{apart, got_more}
-use Rattle.nntp_witness.specs.Witness.{IsWitness}
+use Rattle.nntp_witness.specs.Witness.{IsGivenSpool}
 use Rattle.nntp_witness.specs.Making.{Makes, IsPart, IsBegun, GroupsLeft, ArticlesLeft, given_text}
 use Rattle.nntp_witness.proofs.BuilderCalls.{called}
 use Rattle.nntp_witness.proofs.FaultsNone.{article_fits}
@@ -68,26 +63,23 @@ groups_are : (limit : Limit) (facts : List Fact) (G : Spool) (b : Building) (nex
 groups_are limit facts G b next left = same_map nat_list_cmp_total names_apart b.spool.groups G.groups (λ name. elim (left.others name) [ inl none ↦ absurd (false≢true none) | inr same ↦ same ])
 
 -- all articles that are shown are left where no groups are
-pub articles_start : (limit : Limit) (marks : Marks) (past : List Paired) (G : Spool) (articles : List ShownArticle)
-    (b : Building) (next : ℕ) → IsWitness (profile_of limit marks) past G → AreShownArticles (said_by marks past) articles
-    → GroupsLeft limit (said_by marks past) G [] b next
-    → ArticlesLeft limit (said_by marks past) G articles b
-articles_start limit marks past G articles b next witness shown left = record {
+pub articles_start : (limit : Limit) (said : List Fact) (G : Spool) (articles : List ShownArticle)
+    (b : Building) (next : ℕ) → IsGivenSpool limit said G → AreShownArticles said articles
+    → GroupsLeft limit said G [] b next
+    → ArticlesLeft limit said G articles b
+articles_start limit said G articles b next witness shown left = record {
   limit_is = left.begun.limit_is;
   is_whole = left.begun.is_whole;
   part = left.begun.part;
-  groups = groups_are limit (said_by marks past) G b next left;
+  groups = groups_are limit said G b next left;
   shown = shown.each;
   ascending = shown.ascending;
-  of_spool = all_from (λ a. IsSome (get G.articles a.id)) articles (λ a i. shown_has_article (said_by marks past) G witness.given holds a.id (told a i));
-  not_made = all_from (λ a. get b.spool.articles a.id ≡ None) articles (λ a i. none_is_made limit (said_by marks past) G b next left.begun a.id (told a i));
+  of_spool = all_from (λ a. IsSome (get G.articles a.id)) articles (λ a i. shown_has_article said G witness.given witness.holds a.id (told a i));
+  not_made = all_from (λ a. get b.spool.articles a.id ≡ None) articles (λ a i. none_is_made limit said G b next left.begun a.id (told a i));
   others = λ id t. inl (shown.all id ∙ t);
 }
   where
-    holds : AllByRecursion (Holds G) (said_by marks past)
-    holds = (said (profile_of limit marks) G (asked_of past) (responses_of past) witness.permits).1
-
-    told : (a : ShownArticle) → In a articles → IsTrue (list_any (shows_article a.id) (said_by marks past))
+    told : (a : ShownArticle) → In a articles → IsTrue (list_any (shows_article a.id) said)
     told a i = sym (shown.all a.id) ∙ any_in (λ b. is_same b.id a.id) a articles i (same_itself a.id)
 
 -- ---- one more
@@ -101,12 +93,12 @@ text_is_given facts G a given shown there =
     found.1 ∙ (λ i. Some (record { head = head i; body = body i }))
 
 -- an article that is shown is added without a fault
-pub article_has_no_fault : (limit : Limit) (marks : Marks) (past : List Paired) (G : Spool) (a : ShownArticle)
-    (left : List ShownArticle) (b : Building) → IsWitness (profile_of limit marks) past G
-    → ArticlesLeft limit (said_by marks past) G (a ∷ left) b
+pub article_has_no_fault : (limit : Limit) (said : List Fact) (G : Spool) (a : ShownArticle)
+    (left : List ShownArticle) (b : Building) → IsGivenSpool limit said G
+    → ArticlesLeft limit said G (a ∷ left) b
     → article_fault b.spool a.id (given_text a) ≡ None
-article_has_no_fault limit marks past G a left b witness l =
-    article_fits limit G b.spool witness.is_spool a.id (given_text a) (text_is_given (said_by marks past) G a witness.given l.shown.0 l.of_spool.0) l.not_made.0
+article_has_no_fault limit said G a left b witness l =
+    article_fits limit G b.spool witness.is_spool a.id (given_text a) (text_is_given said G a witness.given l.shown.0 l.of_spool.0) l.not_made.0
 
 -- an article of a greater id than the one that is added isn't there yet
 absent_above : (m : FinMap (slice_cmp nat_cmp) Text) (id q : Id) (t : Text) → slice_cmp nat_cmp id q ≡ Less → get m q ≡ None → get (insert m id t) q ≡ None
@@ -137,15 +129,15 @@ abbrev pub one_article_more : Building → ShownArticle → Building
 one_article_more b a = record { limit = b.limit; spool = with_article b.spool a.id (given_text a); failed = false }
 
 -- one article less is left
-pub one_article_less : (limit : Limit) (marks : Marks) (past : List Paired) (G : Spool) (a : ShownArticle)
-    (left : List ShownArticle) (b : Building) → IsWitness (profile_of limit marks) past G
-    → ArticlesLeft limit (said_by marks past) G (a ∷ left) b
-    → ArticlesLeft limit (said_by marks past) G left (one_article_more b a)
+pub one_article_less : (limit : Limit) (said : List Fact) (G : Spool) (a : ShownArticle)
+    (left : List ShownArticle) (b : Building) → IsGivenSpool limit said G
+    → ArticlesLeft limit said G (a ∷ left) b
+    → ArticlesLeft limit said G left (one_article_more b a)
 unfolding IsStrictlySortedBy
-one_article_less limit marks past G a left b witness l = record {
+one_article_less limit said G a left b witness l = record {
   limit_is = l.limit_is;
   is_whole = refl;
-  part = part_with_article (said_by marks past) G b.spool a.id (given_text a) l.part (text_is_given (said_by marks past) G a witness.given l.shown.0 l.of_spool.0);
+  part = part_with_article said G b.spool a.id (given_text a) l.part (text_is_given said G a witness.given l.shown.0 l.of_spool.0);
   groups = l.groups;
   shown = l.shown.1;
   ascending = l.ascending.1;
@@ -162,12 +154,12 @@ one_article_less limit marks past G a left b witness l = record {
 }
 
 -- the call that adds an article does so, or memory is refused
-pub article_added : (limit : Limit) (marks : Marks) (past : List Paired) (G : Spool) (a : ShownArticle)
+pub article_added : (limit : Limit) (said : List Fact) (G : Spool) (a : ShownArticle)
     (left : List ShownArticle) (b new : Building) (id : Id) (t : Text) (r : Result (Unit {0}) SpoolFault)
-    → IsWitness (profile_of limit marks) past G → ArticlesLeft limit (said_by marks past) G (a ∷ left) b
-    → id ≡ a.id → t ≡ given_text a → Builds (article_fault b.spool id t) (with_article b.spool id t) r b new → Makes r (λ _. ArticlesLeft limit (said_by marks past) G left new)
-article_added limit marks past G a left b new id t r witness l is text call =
-    called (ArticlesLeft limit (said_by marks past) G left) (article_fault b.spool a.id (given_text a)) (with_article b.spool a.id (given_text a)) r b new l.is_whole
-    (article_has_no_fault limit marks past G a left b witness l) (one_article_less limit marks past G a left b witness l)
+    → IsGivenSpool limit said G → ArticlesLeft limit said G (a ∷ left) b
+    → id ≡ a.id → t ≡ given_text a → Builds (article_fault b.spool id t) (with_article b.spool id t) r b new → Makes r (λ _. ArticlesLeft limit said G left new)
+article_added limit said G a left b new id t r witness l is text call =
+    called (ArticlesLeft limit said G left) (article_fault b.spool a.id (given_text a)) (with_article b.spool a.id (given_text a)) r b new l.is_whole
+    (article_has_no_fault limit said G a left b witness l) (one_article_less limit said G a left b witness l)
     (subst (λ (u : Text). Builds (article_fault b.spool a.id u) (with_article b.spool a.id u) r b new) text
     (subst (λ (q : Id). Builds (article_fault b.spool q t) (with_article b.spool q t) r b new) is call))

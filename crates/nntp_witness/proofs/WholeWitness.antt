@@ -7,15 +7,11 @@ use Rattle.std.specs.FinMap.{get, empty, same_map}
 use Rattle.std.proofs.lemmas.Bool.{true≢false, false≢true}
 use Rattle.nntp_wire.specs.Limit.{greatest}
 use Rattle.nntp_wire.specs.declared.limit.Limit.{Limit}
-use Rattle.nntp_wire.specs.declared.marks.Marks.{Marks}
 use Rattle.nntp_article.specs.Article.Parts.{Id}
-use Rattle.nntp_article.specs.Session.Limit.{profile_of}
 use Rattle.nntp_article.specs.Session.Machine.{is_same}
 use Rattle.nntp_article.specs.Session.Spool.{Spool, Name, Text, numbers}
-use Rattle.nntp_pair.specs.Pairing.{Paired}
 use Rattle.nntp_facts.specs.Facts.{Fact, IdAt, TextIs}
 use Rattle.nntp_facts.specs.Given.{IsGiven, id_in, id_shown, is_sent, gives_article}
-use Rattle.nntp_facts.specs.Noted.{said_by}
 use Rattle.nntp_facts.specs.Together.{shows_article}
 use Rattle.nntp_facts.proofs.Given.ConstructedSpool.{names_apart}
 use Rattle.nntp_facts.proofs.Members.{any_in, found_in, first_found}
@@ -27,7 +23,7 @@ use Rattle.nntp_spool.specs.declared.value.spool_fault.SpoolFault.{SpoolFault}
 use Rattle.nntp_spool.specs.declared.value.spool_fault.SpoolFault.TheVariants as faults
 use Rattle.nntp_spool.proofs.ShownMaps.{spool_is}
 use Rattle.nntp_spool.proofs.WholeSpools.{spool_knows}
-use Rattle.nntp_witness.specs.Witness.{IsWitness}
+use Rattle.nntp_witness.specs.Witness.{IsGivenSpool}
 use Rattle.nntp_witness.specs.Making.{ArticlesLeft}
 
 -- ---- what facts show
@@ -101,8 +97,8 @@ finished_is limit b G is whole same knows = (λ i. handed (is i) (whole i) (same
     handed limit failed S = cond failed (Err faults.Failed) (cond (not (ids_have_articles S)) (Err faults.UnknownId) (Ok (record { limit = limit; spool = S })))
 
 -- where no article is left the builder hands out the given spool
-pub finished_is_given : (limit : Limit) (marks : Marks) (past : List Paired) (G : Spool) (b : Building)
-    → IsWitness (profile_of limit marks) past G → ArticlesLeft limit (said_by marks past) G [] b
+pub finished_is_given : (limit : Limit) (said : List Fact) (G : Spool) (b : Building)
+    → IsGivenSpool limit said G → ArticlesLeft limit said G [] b
     → finished b ≡ Ok (record { limit = limit; spool = G })
-finished_is_given limit marks past G b witness left =
-    finished_is limit b G left.limit_is left.is_whole (made_is_given limit (said_by marks past) G b witness.given left) (spool_knows (greatest limit) G witness.is_spool)
+finished_is_given limit said G b witness left =
+    finished_is limit b G left.limit_is left.is_whole (made_is_given limit said G b witness.given left) (spool_knows (greatest limit) G witness.is_spool)

@@ -1,10 +1,12 @@
-//! The spool that is given for the accepted exchanges of a session.
-ghost use Rattle.std.specs.Prelude.{List, IfOk};
+//! The spool that is given for the accepted exchanges of sessions.
+ghost use Rattle.std.specs.Prelude.{◌≡◌, List, IfOk};
 ghost use Rattle.nntp_pair.specs.Pairing.{Paired};
 ghost use Rattle.nntp_article.specs.declared.session.profile.Profile.{Profile};
-ghost use Rattle.nntp_facts.specs.Noted.{HasNoted, profile_kept};
+ghost use Rattle.nntp_article.specs.Session.Spool.{Spool as SpoolValue};
+ghost use Rattle.nntp_facts.specs.Facts.{Fact};
+ghost use Rattle.nntp_facts.specs.Noted.{HasNotedBehind};
 ghost use Rattle.nntp_spool.specs.Text.{IsWritten};
-ghost use Rattle.nntp_witness.specs.Witness.{HaveNotedSome, IsWitnessWithin};
+ghost use Rattle.nntp_witness.specs.Witness.{HaveNoted, HaveNotedSome, IsGivenSpool, IsWitnessWithin};
 ghost use Rattle.nntp_witness.specs.Making.{Makes};
 
 use crate::maker::SpoolMaker;
@@ -12,8 +14,8 @@ use nntp_facts::Facts;
 use nntp_spool::{Spool, SpoolFault};
 use std::alloc::{AllocError, Allocator};
 
-/// Makes the given spool of the exchanges that the facts accepted, which permits them and has the
-/// limit of the facts.
+/// Makes the given spool of the exchanges that the facts accepted, of all sessions, which permits
+/// each session and has the limit of the facts.
 ///
 /// It has the groups, numbers and articles that every spool has which permits the exchanges, with
 /// water marks that are read strictly among the numbers (RFC 3977, section 6.1.1.2). A group that
@@ -28,7 +30,8 @@ use std::alloc::{AllocError, Allocator};
 /// [`AllocError`], if memory is refused.
 pub fn witness<A: Allocator + Copy>(alloc: A, facts: &Facts<A>) -> Result<Spool<A>, AllocError>
     requires { HaveNotedSome facts.now }
-    ensures given { IfOk result (λ spool. (profile : Profile) (past : List Paired) → HasNoted profile facts.now past → IsWitnessWithin facts.now.limit profile past spool) }
+    ensures given { IfOk result (λ spool. (profile : Profile) (earlier : List (List Paired)) (past : List Paired) → HasNotedBehind profile facts.now earlier past
+        → IsWitnessWithin facts.now.limit profile earlier past spool) }
     ensures is_written { IfOk result IsWritten }
 {
     match make(alloc, facts) {
@@ -40,7 +43,8 @@ pub fn witness<A: Allocator + Copy>(alloc: A, facts: &Facts<A>) -> Result<Spool<
 
 /// Makes the given spool. No fault of the builder comes but want of memory.
 fn make<A: Allocator + Copy>(alloc: A, facts: &Facts<A>) -> Result<Spool<A>, SpoolFault>
-    ensures given { (past : List Paired) → HasNoted (profile_kept facts.now) facts.now past → Makes result (λ spool. IsWitnessWithin facts.now.limit (profile_kept facts.now) past spool) }
+    ensures given { (said : List Fact) (G : SpoolValue) → HaveNoted facts.now said → IsGivenSpool facts.now.limit said G
+        → Makes result (λ spool. spool ≡ record { limit = facts.now.limit; spool = G }) }
     ensures is_written { IfOk result IsWritten }
 {
     let mut maker = SpoolMaker::of_groups(alloc, facts)?;

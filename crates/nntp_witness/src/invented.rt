@@ -1,10 +1,9 @@
 //! The message-ids that are invented.
 ghost use Rattle.std.specs.Prelude.{◌≡◌, ◌-◌, ◌<◌, ◌^◌, List, IfOk};
 ghost use Rattle.std.specs.Rc.{rc_str_bytes};
-ghost use Rattle.nntp_pair.specs.Pairing.{Paired};
-ghost use Rattle.nntp_article.specs.declared.session.profile.Profile.{Profile};
+ghost use Rattle.nntp_facts.specs.Facts.{Fact};
 ghost use Rattle.nntp_facts.specs.Given.{invented, is_mentioned, IsFirstFree};
-ghost use Rattle.nntp_facts.specs.Noted.{HasNoted, said_by};
+ghost use Rattle.nntp_witness.specs.Witness.{HaveNoted};
 
 use itoa::Buffer;
 use nntp_facts::Facts;
@@ -29,8 +28,8 @@ pub(crate) fn invent<A: Allocator + Copy>(
 ) -> Result<Invented<A>, AllocError>
     ensures is { IfOk result (λ i. rc_str_bytes i.id ≡ invented i.number) }
     ensures small { IfOk result (λ i. i.number < 2 ^ 64 - 1) }
-    ensures first { IfOk result (λ i. (profile : Profile) (past : List Paired) → HasNoted profile facts.now past
-        → IsFirstFree (λ k. is_mentioned (said_by profile.marks past) (invented k)) from i.number) }
+    ensures first { IfOk result (λ i. (said : List Fact) → HaveNoted facts.now said
+        → IsFirstFree (λ k. is_mentioned said (invented k)) from i.number) }
 {
     for number in from..u64::MAX {
         let id = made_id(alloc, number)?;

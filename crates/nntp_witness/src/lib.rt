@@ -1,4 +1,4 @@
-//! The given spool of a session, which is made of what its answers say and permits them.
+//! The given spool of sessions, which is made of what their answers say and permits each of them.
 #![tactic(auto)]
 
 mod article;

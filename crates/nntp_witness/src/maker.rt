@@ -1,16 +1,13 @@
 //! The maker of the given spool.
 ghost use Rattle.std.specs.Prelude.{◌≡◌, ℕ, List, [], ◌∷◌, ◌++◌, Option, None, IfOk};
 ghost use Rattle.nntp_wire.specs.declared.limit.Limit.{Limit};
-ghost use Rattle.nntp_wire.specs.declared.marks.Marks.{Marks};
 ghost use Rattle.nntp_article.specs.Article.Parts.{Id};
-ghost use Rattle.nntp_article.specs.Session.Limit.{profile_of};
 ghost use Rattle.nntp_article.specs.Session.Spool.{Spool as SpoolValue};
-ghost use Rattle.nntp_pair.specs.Pairing.{Paired};
-ghost use Rattle.nntp_facts.specs.Noted.{HasNoted, profile_kept, said_by};
+ghost use Rattle.nntp_facts.specs.Facts.{Fact};
 ghost use Rattle.nntp_facts.specs.Readers.{ShownGroup as GroupValue, ShownArticle as ArticleValue};
 ghost use Rattle.nntp_facts.specs.ReadersView.{number_value};
 ghost use Rattle.nntp_spool.specs.Text.{IsWritten};
-ghost use Rattle.nntp_witness.specs.Witness.{IsWitness};
+ghost use Rattle.nntp_witness.specs.Witness.{HaveNoted, IsGivenSpool};
 ghost use Rattle.nntp_witness.specs.Making.{Makes, unseen_number, GroupsLeft, NumbersLeft, ArticlesLeft};
 
 use crate::article::{given_body, given_head, no_lines, plain_head};
@@ -37,9 +34,9 @@ impl<A: Allocator + Copy> SpoolMaker<A> {
     /// Makes the groups that are shown, with their numbers, and articles of the ids that are
     /// invented for them.
     pub(crate) fn of_groups(alloc: A, facts: &Facts<A>) -> Result<SpoolMaker<A>, SpoolFault>
-        ensures { (past : List Paired) (G : SpoolValue) → HasNoted (profile_kept facts.now) facts.now past
-            → IsWitness (profile_kept facts.now) past G
-            → Makes result (λ maker. GroupsLeft facts.now.limit (said_by facts.now.marks past) G [] maker.builder maker.next) }
+        ensures { (said : List Fact) (G : SpoolValue) → HaveNoted facts.now said
+            → IsGivenSpool facts.now.limit said G
+            → Makes result (λ maker. GroupsLeft facts.now.limit said G [] maker.builder maker.next) }
     {
         let mut maker = SpoolMaker {
             alloc,
@@ -56,10 +53,10 @@ impl<A: Allocator + Copy> SpoolMaker<A> {
 
     /// Adds a group with its numbers.
     fn add_group(&mut self, facts: &Facts<A>, group: &ShownGroup<'_, A>) -> Result<(), SpoolFault>
-        ensures { (past : List Paired) (G : SpoolValue) (left : List GroupValue)
-            → HasNoted (profile_kept facts.now) facts.now past → IsWitness (profile_kept facts.now) past G
-            → GroupsLeft facts.now.limit (said_by facts.now.marks past) G (group.now ∷ left) self.old.builder self.old.next
-            → Makes result (λ _. GroupsLeft facts.now.limit (said_by facts.now.marks past) G left self.new.builder self.new.next) }
+        ensures { (said : List Fact) (G : SpoolValue) (left : List GroupValue)
+            → HaveNoted facts.now said → IsGivenSpool facts.now.limit said G
+            → GroupsLeft facts.now.limit said G (group.now ∷ left) self.old.builder self.old.next
+            → Makes result (λ _. GroupsLeft facts.now.limit said G left self.new.builder self.new.next) }
     {
         let name = group.name();
         self.builder.group(name)?;
@@ -75,10 +72,10 @@ impl<A: Allocator + Copy> SpoolMaker<A> {
         name: &[u8],
         unseen: Option<u64>,
     ) -> Result<(), SpoolFault>
-        ensures { (past : List Paired) (G before : SpoolValue) (behind : List Id) (left : List (ℕ × Option Id))
-            → HasNoted (profile_kept facts.now) facts.now past → IsWitness (profile_kept facts.now) past G
-            → NumbersLeft facts.now.limit (said_by facts.now.marks past) G before name.now behind (unseen_number unseen ++ left) self.old.builder self.old.next
-            → Makes result (λ _. NumbersLeft facts.now.limit (said_by facts.now.marks past) G before name.now behind left self.new.builder self.new.next) }
+        ensures { (said : List Fact) (G before : SpoolValue) (behind : List Id) (left : List (ℕ × Option Id))
+            → HaveNoted facts.now said → IsGivenSpool facts.now.limit said G
+            → NumbersLeft facts.now.limit said G before name.now behind (unseen_number unseen ++ left) self.old.builder self.old.next
+            → Makes result (λ _. NumbersLeft facts.now.limit said G before name.now behind left self.new.builder self.new.next) }
     {
         match unseen {
             Some(number) => self.add_invented(facts, name, number),
@@ -93,10 +90,10 @@ impl<A: Allocator + Copy> SpoolMaker<A> {
         name: &[u8],
         mut numbers: ShownNumbers<'_, A>,
     ) -> Result<(), SpoolFault>
-        ensures { (past : List Paired) (G before : SpoolValue) (behind : List Id) (left : List (ℕ × Option Id))
-            → HasNoted (profile_kept facts.now) facts.now past → IsWitness (profile_kept facts.now) past G
-            → NumbersLeft facts.now.limit (said_by facts.now.marks past) G before name.now behind (numbers.entry ++ left) self.old.builder self.old.next
-            → Makes result (λ _. NumbersLeft facts.now.limit (said_by facts.now.marks past) G before name.now behind left self.new.builder self.new.next) }
+        ensures { (said : List Fact) (G before : SpoolValue) (behind : List Id) (left : List (ℕ × Option Id))
+            → HaveNoted facts.now said → IsGivenSpool facts.now.limit said G
+            → NumbersLeft facts.now.limit said G before name.now behind (numbers.entry ++ left) self.old.builder self.old.next
+            → Makes result (λ _. NumbersLeft facts.now.limit said G before name.now behind left self.new.builder self.new.next) }
     {
         while let Some(shown) = numbers.next() {
             self.add_number(facts, name, &shown)?;
@@ -111,10 +108,10 @@ impl<A: Allocator + Copy> SpoolMaker<A> {
         name: &[u8],
         shown: &ShownNumber<'_, A>,
     ) -> Result<(), SpoolFault>
-        ensures { (past : List Paired) (G before : SpoolValue) (behind : List Id) (left : List (ℕ × Option Id))
-            → HasNoted (profile_kept facts.now) facts.now past → IsWitness (profile_kept facts.now) past G
-            → NumbersLeft facts.now.limit (said_by facts.now.marks past) G before name.now behind (number_value shown.now ∷ left) self.old.builder self.old.next
-            → Makes result (λ _. NumbersLeft facts.now.limit (said_by facts.now.marks past) G before name.now behind left self.new.builder self.new.next) }
+        ensures { (said : List Fact) (G before : SpoolValue) (behind : List Id) (left : List (ℕ × Option Id))
+            → HaveNoted facts.now said → IsGivenSpool facts.now.limit said G
+            → NumbersLeft facts.now.limit said G before name.now behind (number_value shown.now ∷ left) self.old.builder self.old.next
+            → Makes result (λ _. NumbersLeft facts.now.limit said G before name.now behind left self.new.builder self.new.next) }
     {
         match shown.id {
             Some(id) => self.builder.number_sharing(name, shown.number, id),
@@ -124,10 +121,10 @@ impl<A: Allocator + Copy> SpoolMaker<A> {
 
     /// Adds a number with an id that is invented, and the article of that id.
     fn add_invented(&mut self, facts: &Facts<A>, name: &[u8], number: u64) -> Result<(), SpoolFault>
-        ensures { (past : List Paired) (G before : SpoolValue) (behind : List Id) (left : List (ℕ × Option Id))
-            → HasNoted (profile_kept facts.now) facts.now past → IsWitness (profile_kept facts.now) past G
-            → NumbersLeft facts.now.limit (said_by facts.now.marks past) G before name.now behind ((number, None) ∷ left) self.old.builder self.old.next
-            → Makes result (λ _. NumbersLeft facts.now.limit (said_by facts.now.marks past) G before name.now behind left self.new.builder self.new.next) }
+        ensures { (said : List Fact) (G before : SpoolValue) (behind : List Id) (left : List (ℕ × Option Id))
+            → HaveNoted facts.now said → IsGivenSpool facts.now.limit said G
+            → NumbersLeft facts.now.limit said G before name.now behind ((number, None) ∷ left) self.old.builder self.old.next
+            → Makes result (λ _. NumbersLeft facts.now.limit said G before name.now behind left self.new.builder self.new.next) }
     {
         let Ok(invented) = invent(self.alloc, facts, self.next) else {
             return Err(SpoolFault::Memory);
@@ -141,10 +138,10 @@ impl<A: Allocator + Copy> SpoolMaker<A> {
 
     /// Adds the articles that are shown.
     pub(crate) fn add_articles(&mut self, facts: &Facts<A>) -> Result<(), SpoolFault>
-        ensures { (past : List Paired) (G : SpoolValue) → HasNoted (profile_kept facts.now) facts.now past
-            → IsWitness (profile_kept facts.now) past G
-            → GroupsLeft facts.now.limit (said_by facts.now.marks past) G [] self.old.builder self.old.next
-            → Makes result (λ _. ArticlesLeft facts.now.limit (said_by facts.now.marks past) G [] self.new.builder) }
+        ensures { (said : List Fact) (G : SpoolValue) → HaveNoted facts.now said
+            → IsGivenSpool facts.now.limit said G
+            → GroupsLeft facts.now.limit said G [] self.old.builder self.old.next
+            → Makes result (λ _. ArticlesLeft facts.now.limit said G [] self.new.builder) }
     {
         let mut articles = facts.articles();
         while let Some(article) = articles.next() {
@@ -155,10 +152,10 @@ impl<A: Allocator + Copy> SpoolMaker<A> {
 
     /// Adds an article that is shown.
     fn add_article(&mut self, shown: &ShownArticle<'_, A>) -> Result<(), SpoolFault>
-        ensures { (limit : Limit) (marks : Marks) (past : List Paired) (G : SpoolValue) (left : List ArticleValue)
-            → IsWitness (profile_of limit marks) past G
-            → ArticlesLeft limit (said_by marks past) G (shown.now ∷ left) self.old.builder
-            → Makes result (λ _. ArticlesLeft limit (said_by marks past) G left self.new.builder) }
+        ensures { (limit : Limit) (said : List Fact) (G : SpoolValue) (left : List ArticleValue)
+            → IsGivenSpool limit said G
+            → ArticlesLeft limit said G (shown.now ∷ left) self.old.builder
+            → Makes result (λ _. ArticlesLeft limit said G left self.new.builder) }
     {
         let head = given_head(self.alloc, shown)?;
         let body = given_body(shown, &self.no_lines);
@@ -167,7 +164,7 @@ impl<A: Allocator + Copy> SpoolMaker<A> {
 
     /// Returns the spool that is made.
     pub(crate) fn finish(self) -> Result<Spool<A>, SpoolFault>
-        ensures given { (limit : Limit) (marks : Marks) (past : List Paired) (G : SpoolValue) → IsWitness (profile_of limit marks) past G → ArticlesLeft limit (said_by marks past) G [] self.builder
+        ensures given { (limit : Limit) (said : List Fact) (G : SpoolValue) → IsGivenSpool limit said G → ArticlesLeft limit said G [] self.builder
             → Makes result (λ spool. spool ≡ record { limit = limit; spool = G }) }
         ensures is_written { IfOk result IsWritten }
     {

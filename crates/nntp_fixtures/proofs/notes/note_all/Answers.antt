@@ -11,12 +11,12 @@ loop-exchange-init g c = record { pairs = []; before = sym c.new-pairs.ensures; 
 pub returns-in-Bad : goal.returns-in-Bad
 returns-in-Bad g c =
     let passed = c.loop-exchange.invariant in
-    (passed.pairs, noted_as_kept (profile_of c.args.limit c.args.marks) c.loop-exchange.facts passed.pairs passed.stands)
+    ([], passed.pairs, noted_as_kept (profile_of c.args.limit c.args.marks) c.loop-exchange.facts [] passed.pairs passed.stands)
 
 pub returns-in-End : goal.returns-in-End
 returns-in-End g c =
     let passed = c.loop-exchange.invariant in
-    (passed.pairs, noted_as_kept (profile_of c.args.limit c.args.marks) c.loop-exchange.facts passed.pairs passed.stands)
+    ([], passed.pairs, noted_as_kept (profile_of c.args.limit c.args.marks) c.loop-exchange.facts [] passed.pairs passed.stands)
 
 pub note-requires : goal.note-requires
 note-requires g c =

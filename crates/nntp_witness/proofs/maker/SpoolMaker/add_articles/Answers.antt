@@ -1,34 +1,31 @@
 use Rattle.std.proofs.Common.{List, [], sym, subst, ◌∙◌}
 use Rattle.std.proofs.lemmas.Result.{err_from_is_err_and}
-use Rattle.nntp_facts.specs.Noted.{profile_kept, said_by}
-use Rattle.nntp_facts.specs.Readers.{ShownArticle}
+use Rattle.nntp_facts.specs.Readers.{ShownArticle, AreShownArticles}
 use Rattle.nntp_witness.specs.Making.{Makes, ArticlesLeft}
+use Rattle.nntp_witness.proofs.Aims.{so_of_said}
 use Rattle.nntp_witness.proofs.ArticleSteps.{articles_start}
 use Rattle.nntp_witness.proofs.maker.SpoolMaker.add_articles.Goals as goal
 
 pub loop-article-init : goal.loop-article-init
-loop-article-init g c past G stands witness groups = articles_start c.args.facts.now.limit c.args.facts.now.marks past G
+loop-article-init g c said G stands witness groups = articles_start c.args.facts.now.limit said G
     c.articles-articles.result c.args.self.now.builder c.args.self.now.next witness
-    (c.articles-articles.ensures (profile_kept c.args.facts.now) [] past stands) groups
+    (so_of_said c.args.facts.now said (λ facts. AreShownArticles facts c.articles-articles.result) stands c.articles-articles.ensures) groups
 
 pub loop-article-preserved : goal.loop-article-preserved
-loop-article-preserved g c past G stands witness groups =
-    c.in_ok-add_article.ensures c.args.facts.now.limit c.args.facts.now.marks past G c.next.new.self witness
-    (subst (λ (articles : List ShownArticle). ArticlesLeft c.args.facts.now.limit
-    (said_by c.args.facts.now.marks past) G articles c.loop-article.self.builder) c.in-Some.ensures.steps
-    (c.loop-article.invariant past G stands witness groups))
+loop-article-preserved g c said G stands witness groups =
+    c.in_ok-add_article.ensures c.args.facts.now.limit said G c.next.new.self witness
+    (subst (λ (articles : List ShownArticle). ArticlesLeft c.args.facts.now.limit said G articles c.loop-article.self.builder) c.in-Some.ensures.steps
+    (c.loop-article.invariant said G stands witness groups))
 
 pub returns-in_err-add_article : goal.returns-in_err-add_article
-returns-in_err-add_article g c past G stands witness groups =
+returns-in_err-add_article g c said G stands witness groups =
     let p = err_from_is_err_and c.from_residual.result c.from_residual.ensures.1 in
-    let refused = c.in_err-add_article.ensures c.args.facts.now.limit c.args.facts.now.marks past G c.next.new.self witness
-    (subst (λ (articles : List ShownArticle). ArticlesLeft c.args.facts.now.limit
-    (said_by c.args.facts.now.marks past) G articles c.loop-article.self.builder) c.in-Some.ensures.steps
-    (c.loop-article.invariant past G stands witness groups)) in
-    subst (λ r. Makes r (λ _. ArticlesLeft c.args.facts.now.limit (said_by c.args.facts.now.marks past) G [] c.add_article.new.self.builder)) (sym p.1) (p.2 ∙ refused)
+    let refused = c.in_err-add_article.ensures c.args.facts.now.limit said G c.next.new.self witness
+    (subst (λ (articles : List ShownArticle). ArticlesLeft c.args.facts.now.limit said G articles c.loop-article.self.builder) c.in-Some.ensures.steps
+    (c.loop-article.invariant said G stands witness groups)) in
+    subst (λ r. Makes r (λ _. ArticlesLeft c.args.facts.now.limit said G [] c.add_article.new.self.builder)) (sym p.1) (p.2 ∙ refused)
 
 pub returns : goal.returns
-returns g c past G stands witness groups =
-    subst (λ (articles : List ShownArticle). ArticlesLeft c.args.facts.now.limit
-    (said_by c.args.facts.now.marks past) G articles c.loop-article.self.builder) c.in_default.ensures.steps.0
-    (c.loop-article.invariant past G stands witness groups)
+returns g c said G stands witness groups =
+    subst (λ (articles : List ShownArticle). ArticlesLeft c.args.facts.now.limit said G articles c.loop-article.self.builder) c.in_default.ensures.steps.0
+    (c.loop-article.invariant said G stands witness groups)

@@ -1,15 +1,14 @@
 use Rattle.std.proofs.Common.{◌++◌, subst}
-use Rattle.nntp_facts.specs.Noted.{said_by}
 use Rattle.nntp_witness.specs.Making.{NumbersLeft, unseen_number}
 use Rattle.nntp_witness.proofs.maker.SpoolMaker.add_unseen.Goals as goal
 
 pub returns-in-Some : goal.returns-in-Some
-returns-in-Some g c past G before behind left stands w l =
-    c.add_invented.ensures past G before behind left stands w
-    (subst (λ o. NumbersLeft c.args.facts.now.limit (said_by c.args.facts.now.marks past) G before c.args.name.now behind
+returns-in-Some g c said G before behind left stands w l =
+    c.add_invented.ensures said G before behind left stands w
+    (subst (λ o. NumbersLeft c.args.facts.now.limit said G before c.args.name.now behind
     (unseen_number o ++ left) c.args.self.now.builder c.args.self.now.next) c.in-Some.is l)
 
 pub returns-in-None : goal.returns-in-None
-returns-in-None g c past G before behind left stands w l =
-    subst (λ o. NumbersLeft c.args.facts.now.limit (said_by c.args.facts.now.marks past) G before c.args.name.now behind
+returns-in-None g c said G before behind left stands w l =
+    subst (λ o. NumbersLeft c.args.facts.now.limit said G before c.args.name.now behind
     (unseen_number o ++ left) c.args.self.now.builder c.args.self.now.next) c.in-None.is l

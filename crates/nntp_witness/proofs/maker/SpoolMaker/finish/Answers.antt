@@ -4,5 +4,5 @@ use Rattle.nntp_witness.proofs.WholeWitness.{finished_is_given}
 use Rattle.nntp_witness.proofs.maker.SpoolMaker.finish.Goals as goal
 
 pub returns-clause-given : goal.returns-clause-given
-returns-clause-given g c limit marks past G witness left =
-    subst (λ r. Makes r (λ spool. spool ≡ record { limit = limit; spool = G })) (sym (c.finish.ensures.value ∙ finished_is_given limit marks past G c.args.self.builder witness left)) refl
+returns-clause-given g c limit said G witness left =
+    subst (λ r. Makes r (λ spool. spool ≡ record { limit = limit; spool = G })) (sym (c.finish.ensures.value ∙ finished_is_given limit said G c.args.self.builder witness left)) refl

@@ -1,39 +1,36 @@
-use Rattle.std.proofs.Common.{[], ◌∷◌, ◌∙◌, false, ap, sym, subst}
-use Rattle.nntp_facts.specs.Noted.{profile_kept, said_by}
+use Rattle.std.proofs.Common.{◌∷◌, ◌∙◌, false, ap, sym, subst}
+use Rattle.nntp_facts.specs.Readers.{AreShownGroups}
 use Rattle.nntp_spool.specs.Building.{Building}
 use Rattle.nntp_spool.specs.Content.{no_spool}
 use Rattle.nntp_witness.specs.Making.{GroupsLeft}
+use Rattle.nntp_witness.proofs.Aims.{so_of_said}
 use Rattle.nntp_witness.proofs.Faults.{memory_passed}
 use Rattle.nntp_witness.proofs.GroupsInOrder.{all_left}
 use Rattle.nntp_witness.proofs.maker.SpoolMaker.of_groups.Goals as goal
 
 pub loop-group-init : goal.loop-group-init
-loop-group-init g c past G stands witness =
+loop-group-init g c said G stands witness =
     let made = c.new.ensures ∙ ap (λ limit. record { limit = limit; spool = no_spool; failed = false }) c.limit.ensures in
-    subst (λ (b : Building). GroupsLeft c.args.facts.now.limit
-    (said_by c.args.facts.now.marks past) G c.groups-groups.result b 0) (sym made)
-    (all_left c.args.facts.now.limit (said_by c.args.facts.now.marks past) G c.groups-groups.result witness.given
-    (c.groups-groups.ensures (profile_kept c.args.facts.now) [] past stands))
+    subst (λ (b : Building). GroupsLeft c.args.facts.now.limit said G c.groups-groups.result b 0) (sym made)
+    (all_left c.args.facts.now.limit said G c.groups-groups.result witness.given
+    (so_of_said c.args.facts.now said (λ facts. AreShownGroups facts c.groups-groups.result) stands c.groups-groups.ensures))
 
 pub loop-group-preserved : goal.loop-group-preserved
-loop-group-preserved g c past G stands witness =
-    let left : GroupsLeft c.args.facts.now.limit (said_by c.args.facts.now.marks past) G (c.in-Some.group ∷ c.next.new.self) c.loop-group.maker.builder c.loop-group.maker.next =
-    subst (λ groups. GroupsLeft c.args.facts.now.limit
-    (said_by c.args.facts.now.marks past) G groups c.loop-group.maker.builder c.loop-group.maker.next)
-    c.in-Some.ensures.steps (c.loop-group.invariant past G stands witness) in
-    c.in_ok-add_group.ensures past G c.next.new.self stands witness left
+loop-group-preserved g c said G stands witness =
+    let left : GroupsLeft c.args.facts.now.limit said G (c.in-Some.group ∷ c.next.new.self) c.loop-group.maker.builder c.loop-group.maker.next =
+    subst (λ groups. GroupsLeft c.args.facts.now.limit said G groups c.loop-group.maker.builder c.loop-group.maker.next)
+    c.in-Some.ensures.steps (c.loop-group.invariant said G stands witness) in
+    c.in_ok-add_group.ensures said G c.next.new.self stands witness left
 
 pub returns-in_err-add_group : goal.returns-in_err-add_group
-returns-in_err-add_group g c past G stands witness =
-    let left : GroupsLeft c.args.facts.now.limit (said_by c.args.facts.now.marks past) G (c.in-Some.group ∷ c.next.new.self) c.loop-group.maker.builder c.loop-group.maker.next =
-    subst (λ groups. GroupsLeft c.args.facts.now.limit
-    (said_by c.args.facts.now.marks past) G groups c.loop-group.maker.builder c.loop-group.maker.next)
-    c.in-Some.ensures.steps (c.loop-group.invariant past G stands witness) in
-    let memory = c.in_err-add_group.ensures past G c.next.new.self stands witness left in
+returns-in_err-add_group g c said G stands witness =
+    let left : GroupsLeft c.args.facts.now.limit said G (c.in-Some.group ∷ c.next.new.self) c.loop-group.maker.builder c.loop-group.maker.next =
+    subst (λ groups. GroupsLeft c.args.facts.now.limit said G groups c.loop-group.maker.builder c.loop-group.maker.next)
+    c.in-Some.ensures.steps (c.loop-group.invariant said G stands witness) in
+    let memory = c.in_err-add_group.ensures said G c.next.new.self stands witness left in
     memory_passed c.from_residual-in_err-add_group.result _ c.in_err-add_group.field-0.0 c.from_residual-in_err-add_group.ensures memory
 
 pub returns : goal.returns
-returns g c past G stands witness =
-    subst (λ groups. GroupsLeft c.args.facts.now.limit
-    (said_by c.args.facts.now.marks past) G groups c.loop-group.maker.builder c.loop-group.maker.next)
-    c.in_default.ensures.steps.0 (c.loop-group.invariant past G stands witness)
+returns g c said G stands witness =
+    subst (λ groups. GroupsLeft c.args.facts.now.limit said G groups c.loop-group.maker.builder c.loop-group.maker.next)
+    c.in_default.ensures.steps.0 (c.loop-group.invariant said G stands witness)
