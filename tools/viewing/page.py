@@ -98,7 +98,8 @@ def verdict(session: Session) -> Iterator[str]:
         yield "<p>The server sent no answer.</p>"
     if session.unanswered:
         lines = counted(len(session.unanswered), "line")
-        yield f'<p><a href="#unanswered">{lines} of the client</a> without an answer.</p>'
+        verb = "has" if len(session.unanswered) == 1 else "have"
+        yield f'<p><a href="#unanswered">{lines} of the client</a> {verb} no answer.</p>'
     if session.exchanges:
         yield from counts(session)
     for line in session.explanation.front:
@@ -162,7 +163,7 @@ def item(session: Session, exchange: Exchange) -> Iterator[str]:
     yield f'<li id="a{exchange.index}" class="{"bad " if bad else ""}{kind_of(state)}">'
     if bad:
         # the first one is where to begin
-        yield "<details open>" if bad.index == session.bad[0] else "<details>"
+        yield f'<details class="why"{" open" if bad.index == session.bad[0] else ""}>'
         yield f'<summary class="line">{line}</summary><div class="reasons">'
         yield from reasons(session, bad)
         yield "</div></details>"

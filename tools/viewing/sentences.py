@@ -14,8 +14,7 @@ CLASSES = {
     "Cut": "The server's octets end within this answer.",
     "Malformed": "This is whole, but has not the form of an answer to this command.",
     "OutOfPlace": "The form is right, but no server may give this answer here, whatever its articles are.",
-    "Contradiction": "No spool has what this answer says together with what was said before, or with where the session"
-    " stands; or what it says contradicts itself.",
+    "Contradiction": "No spool gives this answer together with those before it that were accepted.",
 }
 
 # The forms of lines by their first words, each with its sentence. Words in capitals are fields, whose kinds are below.
@@ -87,7 +86,8 @@ ABOUT = (
     (
         "about step NAME",
         "It can't be true where the session stands in {NAME}: it doesn't go with the current article, whatever else"
-        " was said.",
+        " was said. Look at the answers since the last one that is named above: the server may have moved by one of"
+        " them.",
     ),
     ("about group NAME", "The conflict is about whether there is a group {NAME}."),
     ("about number NAME N", "The conflict is about the number {N} of {NAME}: it is shown, and it is denied."),
