@@ -2,6 +2,7 @@
 from __future__ import annotations
 
 import re
+from dataclasses import replace
 from typing import Iterable, Iterator, Optional
 
 from viewing.capture import Exchange
@@ -14,7 +15,7 @@ BEGINNING = re.compile(rb"[ \t]*AUTHINFO[ \t]+(?!USER\b|PASS\b)", re.I)
 ASKS_FOR_MORE = re.compile(rb"3[0-9][0-9]")
 BASE64 = re.compile(rb"(?:[A-Za-z0-9+/]{4})*(?:[A-Za-z0-9+/]{2}==|[A-Za-z0-9+/]{3}=)?|=|\*")
 # The commands that are base64 too.
-COMMANDS = frozenset(b"BODY DATE HEAD HELP LAST LIST NEXT OVER POST QUIT STAT STARTTLS".split())
+COMMANDS = frozenset(b"BODY CAPABILITIES DATE HEAD HELP LAST LIST NEXT OVER POST QUIT STAT STARTTLS".split())
 
 
 def is_more(before: Exchange, line: bytes) -> bool:
@@ -53,7 +54,10 @@ def without_passwords(exchanges: Iterable[Exchange]) -> Iterator[Exchange]:
         secret = line if is_inside else secret_in(line)
         before = exchange if is_inside or BEGINNING.match(line) else None
         if secret:
-            hidden = BLOT if is_inside else without_secret(line)
-            answer = (without_echo(part, secret) for part in (exchange.initial, exchange.block))
-            exchange = Exchange(exchange.index, hidden, *answer)
+            exchange = replace(
+                exchange,
+                line=BLOT if is_inside else without_secret(line),
+                initial=without_echo(exchange.initial, secret),
+                block=without_echo(exchange.block, secret),
+            )
         yield exchange
