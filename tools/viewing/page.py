@@ -93,7 +93,7 @@ def verdict(session: Session) -> Iterator[str]:
     if bad:
         yield f"<p>{len(bad):,} of {answers} {'is' if len(bad) == 1 else 'are'} bad. The first is {link(bad[0])}.</p>"
     elif session.exchanges:
-        yield f"<p>No answer is bad: some spool explains the session, of {answers}.</p>"
+        yield f"<p>No answer of {len(session.exchanges):,} is bad: some spool explains the session.</p>"
     else:
         yield "<p>The server sent no answer.</p>"
     if session.unanswered:
