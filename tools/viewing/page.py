@@ -89,11 +89,12 @@ def kind_of(state: str) -> str:
 
 def verdict(session: Session) -> Iterator[str]:
     """How many answers are bad, and how many have each state."""
-    answers, bad = counted(len(session.exchanges), "answer"), session.bad
+    answers, bad = len(session.exchanges), session.bad
     if bad:
-        yield f"<p>{len(bad):,} of {answers} {'is' if len(bad) == 1 else 'are'} bad. The first is {link(bad[0])}.</p>"
-    elif session.exchanges:
-        yield f"<p>No answer of {len(session.exchanges):,} is bad: some spool explains the session.</p>"
+        many = f"{len(bad):,} of {counted(answers, 'answer')} {'is' if len(bad) == 1 else 'are'} bad"
+        yield f"<p>{many}. The first is {link(bad[0])}.</p>"
+    elif answers:
+        yield f"<p>No answer of {answers:,} is bad: some spool explains the session.</p>"
     else:
         yield "<p>The server sent no answer.</p>"
     if session.unanswered:
