@@ -1,0 +1,150 @@
+"""Reads a capture, and pairs what the server sent with the lines of the client, as nntpcheck does."""
+from __future__ import annotations
+
+import re
+from dataclasses import dataclass
+from typing import Iterator, List, Optional, Tuple
+
+from viewing.octets import printed
+
+CRLF = b"\r\n"
+# The end of a block, with the end of the line before.
+DOT_LINE = b"\r\n.\r\n"
+# The first line of a piece (docs/FORMATS.md, 'Captures').
+PIECE = re.compile(rb"(client|server|spool) ([0-9]{1,10})\n")
+BLANKS = re.compile(rb"[ \t]+")
+UNCLEAN = re.compile(rb"[\x00\r\n]")
+# Of an initial line (RFC 3977, section 3.2).
+CODE = re.compile(rb"([1-5][0-9]{2})(?: |\Z)")
+# The codes that a block follows (docs/PROFILE.md, 'Frames').
+BLOCK_CODES = frozenset(b"100 101 215 220 221 222 224 225 230 231".split())
+RANGE = re.compile(rb"[0-9]{1,16}(?:-(?:[0-9]{1,16})?)?")
+# The codes of answers that say something of the spool, by the keyword of the command.
+STEP_CODES = frozenset(b"223 420 421 422".split())
+ARTICLE_CODES = frozenset(b"220 221 222 223 420 423 430".split())
+SAYING_CODES = {
+    **dict.fromkeys((b"GROUP", b"LISTGROUP"), frozenset(b"211 411".split())),
+    **dict.fromkeys((b"NEXT", b"LAST"), STEP_CODES),
+    **dict.fromkeys((b"ARTICLE", b"HEAD", b"BODY", b"STAT"), ARTICLE_CODES),
+}
+
+
+class Disagreement(Exception):
+    """The capture reads otherwise here than nntpcheck reads it."""
+
+
+@dataclass
+class Exchange:
+    """A line of the client, and what the server answers it."""
+
+    index: int
+    # None of the greeting, and where no line is answered.
+    line: Optional[bytes]
+    # None where no answer came.
+    initial: Optional[bytes]
+    # The lines of the block as they are sent, each with its CRLF; of octets that answer nothing, all behind the first
+    # line. None where no block is due.
+    block: Optional[bytes]
+
+    def words(self) -> List[bytes]:
+        """The words of the line."""
+        return words_of(self.line or b"")
+
+    def code(self) -> bytes:
+        """The code of the answer; no octets if it has none."""
+        return code_of(self.initial or b"")
+
+    def says_nothing(self) -> bool:
+        """Whether the answer says nothing of any group, number or article, by the rule of tools/judge."""
+        word, *arguments = [word.upper() for word in self.words()] or [b""]
+        if word == b"LIST":
+            return self.code() != b"215" or arguments[:1] not in ([], [b"ACTIVE"])
+        return self.code() not in SAYING_CODES.get(word, ())
+
+    def as_shown(self) -> str:
+        """The line that `show` prints of the exchange."""
+        line = "greeting" if self.line is None else printed(self.line)
+        return f"{self.index} {line} -> {printed(self.initial or b'')}"
+
+
+def streams(capture: bytes) -> Tuple[bytes, bytes]:
+    """What the client and what the server sent."""
+    sent = {b"client": [], b"server": [], b"spool": []}
+    place = 0
+    while place < len(capture):
+        piece = PIECE.match(capture, place)
+        if not piece:
+            raise Disagreement("a piece of the capture has another form")
+        place = piece.end() + int(piece[2])
+        sent[piece[1]].append(capture[piece.end() : place])
+    return b"".join(sent[b"client"]), b"".join(sent[b"server"])
+
+
+def words_of(line: bytes) -> List[bytes]:
+    return [word for word in BLANKS.split(line) if word]
+
+
+def code_of(initial: bytes) -> bytes:
+    code = CODE.match(initial)
+    return code[1] if code else b""
+
+
+def is_list_group(line: bytes) -> bool:
+    """Whether the line asks for the numbers of a group (docs/PROFILE.md, 'Commands')."""
+    words = words_of(line)
+    if UNCLEAN.search(line) or len(line) > 510 or not 1 <= len(words) <= 3:
+        return False
+    return words[0].upper() == b"LISTGROUP" and (len(words) < 3 or bool(RANGE.fullmatch(words[2])))
+
+
+def is_block_due(line: Optional[bytes], initial: bytes) -> bool:
+    """Whether a block follows the initial line of the answer to this line."""
+    code = code_of(initial)
+    return code in BLOCK_CODES or (code == b"211" and line is not None and is_list_group(line))
+
+
+def lines_of(block: bytes, most: int) -> List[bytes]:
+    """The first lines of a block, without the dots that were put in front."""
+    *lines, rest = block.split(CRLF, most)
+    if rest and len(lines) < most:
+        lines.append(rest)
+    return [line[1:] if line.startswith(b"..") else line for line in lines]
+
+
+def count_lines(block: bytes) -> int:
+    """How many lines a block has; one that isn't ended counts too."""
+    return block.count(CRLF) + (1 if block and not block.endswith(CRLF) else 0)
+
+
+def frame(server: bytes, place: int, line: Optional[bytes]) -> Tuple[bytes, Optional[bytes], int]:
+    """The answer to this line that begins there: its initial line, its block if one is due, and where it ends."""
+    end = server.find(CRLF, place)
+    initial = server[place:end]
+    if end >= 0 and not is_block_due(line, initial):
+        return initial, None, end + len(CRLF)
+    dot = server.find(DOT_LINE, end) if end >= 0 else -1
+    if dot < 0:
+        raise Disagreement("an answer isn't whole")
+    return initial, server[end + len(CRLF) : dot + len(CRLF)], dot + len(DOT_LINE)
+
+
+def pair(client: bytes, server: bytes, answers: int, left: Optional[int]) -> Iterator[Exchange]:
+    """The exchanges of a session with so many answers, and then the lines without one. From the answer `left` on the
+    server's octets answer nothing."""
+    *lines, _ = client.split(CRLF)
+    prompts: List[Optional[bytes]] = [None, *lines]
+    place = 0
+    for index in range(answers):
+        line = prompts[index] if index < len(prompts) else None
+        if index == left:
+            initial, _, block = server[place:].partition(CRLF)
+            yield Exchange(index, line, initial, block or None)
+            place = len(server)
+        else:
+            initial, block, place = frame(server, place, line)
+            yield Exchange(index, line, initial, block)
+    if place < len(server):
+        raise Disagreement("octets are left behind the last answer")
+    # the greeting's place has no line
+    for index in range(max(answers, 1), len(prompts)):
+        yield Exchange(index, prompts[index], None, None)
