@@ -8,7 +8,7 @@ use Rattle.nntp_facts.proofs.Streams.ExplainedOrBad.{first_explained}
 use Rattle.nntp_facts.proofs.Streams.OneOutcome.{same_answers}
 use Rattle.nntp_spool.specs.Sessions.{RefusesAt}
 use Rattle.nntp_spool.proofs.PermittedPairs.{explained-unrefused}
-use Rattle.nntp_several.specs.Judging.{VerifiedOfAll, PermitsAll, RefusesOne, IsVerifiedOfAll}
+use Rattle.nntp_several.specs.Verifying.{VerifiedOfAll, PermitsAll, RefusesOne, IsVerifiedOfAll}
 use Rattle.nntp_several.specs.Sessions.{Recorded, ExplainsIt, ExplainsEach, answered_by, counts_of}
 use Rattle.nntp_several.proofs.ExplainedSessions.{each_to, taken_to}
 

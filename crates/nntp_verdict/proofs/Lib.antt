@@ -3,3 +3,5 @@ pub mod VerdictLaws
 pub mod FedLemmas
 pub mod CheckerLemmas
 pub mod BadLemmas
+pub mod OneVerdictOfAll
+pub mod CheckedSessions

@@ -3,3 +3,4 @@ pub mod Judging
 pub mod Checking
 pub mod Coded
 pub mod CheckerView
+pub mod Sessions

@@ -12,6 +12,10 @@ ghost use Rattle.nntp_verdict.specs.Judging.{IsVerdict};
 ghost use Rattle.nntp_pair.specs.declared.class.Class.{Class};
 ghost use Rattle.nntp_verdict.specs.Verdict.{Judgement, is_consistent};
 
+mod sessions;
+
+pub use sessions::{checker_goes_on_to_the_next_session, sessions_have_one_verdict, verdict_follows_the_outcome};
+
 /// Two streams have one verdict by a limit and marks.
 pub fn one_verdict()
     ensures { (limit : Limit) (marks : Marks) (client server : List ℕ) (verdict other : Judgement)

@@ -1,5 +1,5 @@
 -- Several sessions have one verdict, and it is a yes exactly if some spool explains them all.
-use Rattle.std.proofs.Common.{◌++◌, refl, ◌≡◌, ◌∙◌, ◌↔◌, sym, ap, subst, ℕ, zero, suc, IsTrue, List, [], ◌∷◌, length, Option, None, Some, slice_get}
+use Rattle.std.proofs.Common.{◌++◌, refl, ◌≡◌, ◌∙◌, ◌↔◌, sym, ap, subst, ℕ, zero, suc, IsTrue, List, [], ◌∷◌, length, Option, None, Some, slice_get, ◌<◌, ◌^◌, map, Ok}
 use Rattle.std.specs.Prelude.{MatchOption}
 use Rattle.nntp_wire.specs.declared.limit.Limit.{Limit}
 use Rattle.nntp_wire.specs.declared.marks.Marks.{Marks}
@@ -10,26 +10,24 @@ use Rattle.nntp_pair.specs.declared.class.Class.{Class}
 use Rattle.nntp_facts.specs.Outcome.{Yes, No}
 use Rattle.nntp_spool.specs.Limited.{LimitedSpool}
 use Rattle.nntp_spool.specs.Verifying.{IsVerified}
+use Rattle.nntp_several.specs.Verifying.{VerifiedOfAll, PermitsAll, RefusesOne, IsVerifiedOfAll}
 use Rattle.nntp_spool.specs.declared.verification.verified.Verified.{Verified}
 use Rattle.nntp_spool.specs.declared.verification.verified.Verified.TheVariants.{Permits, Refuses}
-use Rattle.nntp_verdict.specs.Judging.{StopsAt, IsVerdict}
+use Rattle.nntp_verdict.specs.Judging.{StopsAt, IsVerdict, IsAnsweredThroughout}
 use Rattle.nntp_verdict.specs.Verdict.{Judgement, consistent, bad}
 use Rattle.nntp_verdict.proofs.VerdictLaws.{one-place}
-use Rattle.nntp_several.specs.Sessions.{Recorded, ExplainsAll}
-use Rattle.nntp_several.specs.Outcome.{OutcomeOfAll, YesOfAll, NoOfAll}
-use Rattle.std.proofs.Common.{◌<◌, ◌^◌, map, Ok}
+use Rattle.nntp_several.specs.Sessions.{Recorded, ExplainsAll, OfEach}
+use Rattle.nntp_several.specs.Outcome.{OutcomeOfAll, YesOfAll, NoOfAll, IsOutcomeOfAll}
 use Rattle.nntp_facts.specs.Given.{IsGiven, size}
 use Rattle.nntp_spool.specs.Reading.{spool_at}
 use Rattle.nntp_spool.specs.Text.{spool_text}
-use Rattle.nntp_verdict.specs.Judging.{IsAnsweredThroughout}
 use Rattle.nntp_facts.specs.Answered.{SomePermitsEach, facts_of_all}
 use Rattle.nntp_facts.specs.Noted.{exchanged}
-use Rattle.nntp_several.specs.Outcome.{IsOutcomeOfAll}
 use Rattle.nntp_several.specs.Paired.{ArePaired}
 use Rattle.nntp_several.proofs.ExplainedSessions.{there}
 use Rattle.nntp_several.proofs.VerifiedSessions.{permits_alone}
 use Rattle.nntp_several.proofs.WaysToOutcome.{outcome_at_all_ends}
-use Rattle.nntp_several.specs.Judging.{OfEach, VerifiedOfAll, PermitsAll, RefusesOne, IsVerifiedOfAll, JudgementOfAll, consistent_of_all, bad_of_all, is_consistent_of_all, IsVerdictOfAll, verdict_of_one}
+use Rattle.nntp_verdict.specs.Sessions.{JudgementOfAll, consistent_of_all, bad_of_all, is_consistent_of_all, IsVerdictOfAll, verdict_of_one}
 use Rattle.nntp_several.proofs.OneOutcomeOfAll.{one_outcome_of_all, yes_explained_of_all, one_session_outcome}
 
 -- ---- one verdict
