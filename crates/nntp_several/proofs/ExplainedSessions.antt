@@ -17,7 +17,7 @@ use Rattle.nntp_facts.proofs.Session.OneMoreAnswer.{size_by_octets}
 use Rattle.nntp_facts.proofs.Streams.ExplainedOrBad.{bad_once, explained_not_bad_among, explained_or_bad_among, IsDecided}
 use Rattle.nntp_facts.proofs.Streams.OneOutcome.{same_answers}
 use Rattle.nntp_facts.specs.Answered.{Answered, PermitsEach, facts_in, facts_of_all}
-use Rattle.nntp_several.specs.Sessions.{Recorded, ExplainsIt, ExplainsEach, ExplainsAll, BadBehind, BadOfAll, answered_by, octets_of}
+use Rattle.nntp_several.specs.Sessions.{Recorded, ExplainsIt, ExplainsEach, ExplainsAll, BadBehind, BadOfAll, octets_of, answered_by}
 use Rattle.nntp_facts.proofs.Given.SessionsByFacts.{some_or_none_of_all}
 
 -- ---- explained sessions and their answers

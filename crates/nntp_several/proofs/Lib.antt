@@ -1,10 +1,9 @@
-mod ExplainedSessions
-mod OneOutcomeOfAll
-mod SessionsRead
-mod OneVerdictOfAll
-mod WaysToOutcome
-mod ConflictsOfSessions
-mod AnyOrder
-mod VerifiedSessions
-mod PassingSessions
-mod CheckedSessions
+pub mod ExplainedSessions
+pub mod OneOutcomeOfAll
+pub mod SessionsRead
+pub mod WaysToOutcome
+pub mod ConflictsOfSessions
+pub mod AnyOrder
+pub mod SessionsVerified
+pub mod PassingSessions
+pub mod BadForGood

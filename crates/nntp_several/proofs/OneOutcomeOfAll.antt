@@ -14,7 +14,7 @@ use Rattle.nntp_facts.specs.Outcome.{Outcome, Yes, No, IsLeastExplanation, IsOut
 use Rattle.nntp_facts.proofs.Given.OneGivenSpool.{given_once}
 use Rattle.nntp_facts.proofs.Streams.OneClass.{before_bad, class_there, one_class}
 use Rattle.nntp_facts.specs.Answered.{PermitsEach, facts_of_all}
-use Rattle.nntp_several.specs.Sessions.{Recorded, ExplainsEach, ExplainsAll, BadOfAll, answered_by, counts_of, octets_of}
+use Rattle.nntp_several.specs.Sessions.{Recorded, ExplainsEach, ExplainsAll, BadOfAll, octets_of, answered_by, counts_of}
 use Rattle.nntp_several.specs.Outcome.{OutcomeOfAll, YesOfAll, NoOfAll, is_yes_of_all, IsLeastOfAll, HasClassThere, IsOutcomeOfAll, of_one}
 use Rattle.nntp_facts.proofs.Given.SessionsByFacts.{stand_each, made_for_all, given_exists_of_all, given_permits_all, least_of_all}
 use Rattle.nntp_several.proofs.ExplainedSessions.{same_each, runs_each, explains_each, size_by_all_octets, bad_there, explained_or_bad_of_all, explained_not_bad_of_all, bad_once_of_all}

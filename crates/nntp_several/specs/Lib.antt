@@ -1,8 +1,9 @@
 pub mod Sessions
+pub mod Verifying
+pub mod VerifyingView
 pub mod Outcome
 pub mod Reading
-pub mod Judging
 pub mod Paired
 pub mod Conflict
 pub mod Passing
-pub mod Checking
+pub mod Told

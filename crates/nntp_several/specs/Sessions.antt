@@ -1,5 +1,5 @@
 -- A spool explains what clients and servers sent in several sessions (RFC 3977, sections 3.1 and 3.5).
-use Rattle.std.specs.Prelude.{ℕ, ◌+◌, List, [], ◌∷◌, length, map, take, slice_get, MatchOption}
+use Rattle.std.specs.Prelude.{ℕ, ◌+◌, List, [], ◌∷◌, length, map, take, slice_get, MatchOption, ⊤}
 use Rattle.std.specs.List.{AllByRecursion}
 use Rattle.nntp_wire.specs.Session.{prompts_of}
 use Rattle.nntp_article.specs.Session.Spool.{Spool, IsSpool}
@@ -31,6 +31,12 @@ BadBehind profile before session k = BadAmong (λ S. ExplainsEach profile S befo
 -- answer k of session j is bad behind the sessions before j
 abbrev pub BadOfAll : Profile → List Recorded → ℕ → ℕ → Type 0
 BadOfAll profile sessions j k = MatchOption (slice_get sessions j) ⊥ (λ session. BadBehind profile (take j sessions) session k)
+
+-- of each session and its number of answers
+abbrev pub OfEach : (Recorded → ℕ → Type 0) → List Recorded → List ℕ → Type 0
+OfEach P [] [] = ⊤
+OfEach P (s ∷ more) (n ∷ ns) = P s n × OfEach P more ns
+OfEach P sessions ns = ⊥
 
 -- the answers of explained sessions, with what they answer
 abbrev pub answered_by : (profile : Profile) (S : Spool) (sessions : List Recorded) → ExplainsEach profile S sessions → List Answered

@@ -1,20 +1,13 @@
 //! Laws of several sessions of one spool.
-ghost use Rattle.std.specs.Prelude.{Contains, ◌≡◌, ◌↔◌, ◌⊎◌, ◌<◌, ◌^◌, ◌+◌, ℕ, List, [], ◌∷◌, ◌++◌, length, map, Option, Ok, IsTrue};
+ghost use Rattle.std.specs.Prelude.{Contains, ◌≡◌, ◌↔◌, ◌⊎◌, ◌<◌, ◌^◌, ◌+◌, ℕ, List, [], ◌∷◌, ◌++◌, length, map, Option, IsTrue};
 ghost use Rattle.std.specs.List.{AllByRecursion};
 ghost use Rattle.nntp_article.specs.Session.Spool.{Spool};
 ghost use Rattle.nntp_article.specs.declared.session.profile.Profile.{Profile};
 ghost use Rattle.nntp_facts.specs.Given.{IsGiven, size};
 ghost use Rattle.nntp_several.specs.Reading.{ReadSession, IsReadingOfAll, IsGood, IsFirstBad};
 ghost use Rattle.nntp_pair.specs.declared.class.Class.{Class};
-ghost use Rattle.nntp_several.specs.Judging.{VerifiedOfAll, PermitsAll, IsVerifiedOfAll, JudgementOfAll, consistent_of_all, bad_of_all, is_consistent_of_all, IsVerdictOfAll, verdict_of_one};
-ghost use Rattle.nntp_verdict.specs.Judging.{IsVerdict, StopsAt};
-ghost use Rattle.nntp_spool.specs.Limited.{LimitedSpool};
-ghost use Rattle.nntp_spool.specs.Reading.{spool_at};
-ghost use Rattle.nntp_spool.specs.Text.{spool_text};
+ghost use Rattle.nntp_several.specs.Verifying.{VerifiedOfAll, PermitsAll, IsVerifiedOfAll};
 ghost use Rattle.nntp_pair.specs.declared.class.Class.TheVariants.{OutOfPlace, Contradiction as Contradicts};
-ghost use Rattle.nntp_verdict.specs.Verdict.{Judgement};
-ghost use Rattle.nntp_wire.specs.declared.limit.Limit.{Limit};
-ghost use Rattle.nntp_article.specs.Session.Limit.{profile_of};
 ghost use Rattle.nntp_facts.specs.Noted.{FactsKept, exchanged, said_behind, ArePermittedBehind, HasNotedBehind, IsNotedBehind, begun, MayBeNoted};
 ghost use Rattle.nntp_facts.specs.Conflict.{placed_behind, FitsThere, SomeHas, told_with, below};
 ghost use Rattle.nntp_several.specs.Conflict.{placed_of_all};
@@ -25,13 +18,10 @@ ghost use Rattle.nntp_pair.specs.Pairing.{Paired, Unpaired, IsNext, AreNext, End
 ghost use Rattle.nntp_pair.specs.declared.class.PairClass.{PairClass};
 ghost use Rattle.nntp_several.specs.Paired.{ArePaired};
 ghost use Rattle.nntp_several.specs.Passing.{PassedOfAll};
-ghost use Rattle.nntp_several.specs.Checking.{unrecorded, with_more, HasPassedOfAll, StandsForAll, decided_all, IsBadForGoodOfAll, IsToldBadOfAll};
-ghost use Rattle.nntp_pair.specs.Feeding.{Fed, left_of, unfed};
-ghost use Rattle.nntp_pair.specs.declared.octet_counts.OctetCounts.{OctetCounts};
-ghost use Rattle.nntp_wire.specs.declared.marks.Marks.{Marks};
+ghost use Rattle.nntp_several.specs.Told.{with_more, IsBadForGoodOfAll, IsToldBadOfAll};
 ghost use Rattle.nntp_article.specs.Session.Machine.{start, fits};
 ghost use Rattle.nntp_facts.specs.Answered.{SomePermitsEach, facts_of_all};
-ghost use Rattle.nntp_several.specs.Sessions.{Recorded, ExplainsEach, ExplainsAll, BadBehind, BadOfAll, answered_by, counts_of, octets_of};
+ghost use Rattle.nntp_several.specs.Sessions.{Recorded, ExplainsEach, ExplainsAll, BadBehind, BadOfAll, octets_of, answered_by, counts_of};
 ghost use Rattle.nntp_several.specs.Outcome.{OutcomeOfAll, YesOfAll, NoOfAll, is_yes_of_all, IsLeastOfAll, IsOutcomeOfAll, of_one};
 ghost use Rattle.nntp_article.specs.Session.Explains.{Explains, Bad};
 ghost use Rattle.nntp_facts.specs.Reading.{IsReading};
@@ -90,17 +80,6 @@ pub fn first_bad_session_is_the_outcome()
         → IsOutcomeOfAll profile sessions (NoOfAll (length front) answer class) }
     ensures good { (profile : Profile) (sessions : List Recorded) (readings : List ReadSession) → IsReadingOfAll profile sessions readings
         → AllByRecursion IsGood readings ↔ ((S : Spool) × ExplainsAll profile S sessions) }
-{}
-
-/// Several sessions have one verdict by a limit and marks, and it is a yes exactly if some spool
-/// explains them all. That of one session is that of its two streams.
-pub fn sessions_have_one_verdict()
-    ensures one { (limit : Limit) (marks : Marks) (sessions : List Recorded) (verdict other : JudgementOfAll)
-        → IsVerdictOfAll limit marks sessions verdict → IsVerdictOfAll limit marks sessions other → verdict ≡ other }
-    ensures yes { (limit : Limit) (marks : Marks) (sessions : List Recorded) (verdict : JudgementOfAll) → IsVerdictOfAll limit marks sessions verdict
-        → IsTrue (is_consistent_of_all verdict) ↔ ((S : Spool) × ExplainsAll (profile_of limit marks) S sessions) }
-    ensures alone { (limit : Limit) (marks : Marks) (s : Recorded) (verdict : Judgement)
-        → IsVerdictOfAll limit marks (s ∷ []) (verdict_of_one verdict) ↔ IsVerdict limit marks s.client s.server verdict }
 {}
 
 /// Where the pairings of all sessions come to the ends of their servers' octets, and some spool
@@ -166,20 +145,6 @@ pub fn bad_answer_stays_whatever_follows()
         → IsOutcomeOfAll profile (before ++ record { client = s.client ++ more_client; server = s.server ++ more_server } ∷ more) (NoOfAll (length before) answer class) }
 {}
 
-/// Where the pairings of all sessions come to their ends, and some spool permits their exchanges, the
-/// verdict is a yes with the given spool, if that is read back from its text; and it is a no where
-/// the outcome is one, with what stands at its place.
-pub fn verdict_follows_the_outcome()
-    ensures yes { (limit : Limit) (marks : Marks) (sessions : List Recorded) (exchanges : List (List Paired)) (L : LimitedSpool)
-        → L.limit ≡ limit → spool_at (spool_text L) ≡ Ok L → ArePaired sessions exchanges → SomePermitsEach (profile_of limit marks) (map exchanged exchanges)
-        → size (facts_of_all (profile_of limit marks).marks (map exchanged exchanges)) < 2 ^ 210
-        → IsGiven (facts_of_all (profile_of limit marks).marks (map exchanged exchanges)) L.spool
-        → IsVerdictOfAll limit marks sessions (consistent_of_all L (map length exchanges)) }
-    ensures no { (limit : Limit) (marks : Marks) (before : List Recorded) (s : Recorded) (more : List Recorded) (answer : ℕ) (class : Class) (command : Option (List ℕ)) (reply : List ℕ)
-        → IsOutcomeOfAll (profile_of limit marks) (before ++ s ∷ more) (NoOfAll (length before) answer class) → StopsAt s.client s.server answer class command reply
-        → IsVerdictOfAll limit marks (before ++ s ∷ more) (bad_of_all (length before) answer class command reply) }
-{}
-
 /// Sessions are judged one exchange after the other. It begins with a first session of which nothing
 /// has passed; an exchange that is noted passes; and where the pairing ends with no octet left, the
 /// next session begins, or the outcome is a yes with the given spool. It is a no at octets that answer
@@ -201,19 +166,6 @@ pub fn sessions_are_judged_in_turn()
     ensures out_of_place { (profile : Profile) (before : List Recorded) (s : Recorded) (more : List Recorded) (old new : FactsKept) (left after : Unpaired) (pair : Paired) (passed : PassedOfAll profile before s old left)
         → IsNext left pair after → IsNotedBehind profile passed.earlier passed.pairs pair old new NotedOutOfPlace
         → IsOutcomeOfAll profile (before ++ s ∷ more) (NoOfAll (length before) (length passed.pairs) OutOfPlace) }
-{}
-
-/// What a checker of sessions holds: nothing at first; and where the pairing of the last session ends
-/// with no octet left, the same facts as the next one begins. A judgement that is decided stays.
-pub fn checker_goes_on_to_the_next_session()
-    ensures begins { (profile : Profile) (facts : FactsKept) → HasNotedBehind profile facts [] [] → HasPassedOfAll profile [] unrecorded facts unfed }
-    ensures passed { (profile : Profile) (before : List Recorded) (s : Recorded) (facts : FactsKept) (fed : Fed)
-        → HasPassedOfAll profile before s facts fed → PassedOfAll profile before s facts (left_of fed) }
-    ensures goes_on { (profile : Profile) (before : List Recorded) (s : Recorded) (facts : FactsKept) (fed : Fed) (unanswered : ℕ) → HasPassedOfAll profile before s facts fed
-        → Ends (left_of fed) (end unanswered) → length before + 1 < 2 ^ 64 → HasPassedOfAll profile (before ++ s ∷ []) unrecorded (begun facts) unfed }
-    ensures decided { (limit : Limit) (marks : Marks) (judgement : JudgementOfAll) (counts : OctetCounts) (before : List Recorded) (s : Recorded)
-        → StandsForAll limit marks (decided_all judgement counts) before s
-        → StandsForAll limit marks (decided_all judgement (record { client = 0; server = 0 })) (before ++ s ∷ []) unrecorded }
 {}
 
 /// What may be told of sessions as bad is one thing; and where an answer is told, it is the outcome

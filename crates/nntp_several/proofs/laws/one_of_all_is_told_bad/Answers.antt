@@ -1,4 +1,4 @@
-use Rattle.nntp_several.proofs.CheckedSessions.{one_told_of_all, bad_for_good_stays_of_all}
+use Rattle.nntp_several.proofs.BadForGood.{one_told_of_all, bad_for_good_stays_of_all}
 use Rattle.nntp_several.proofs.laws.one_of_all_is_told_bad.Goals as goal
 
 pub returns : goal.returns

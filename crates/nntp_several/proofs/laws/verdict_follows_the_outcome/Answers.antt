@@ -1,5 +1,0 @@
-use Rattle.nntp_several.proofs.OneVerdictOfAll.{verdict_at_ends, verdict_within}
-use Rattle.nntp_several.proofs.laws.verdict_follows_the_outcome.Goals as goal
-
-pub returns : goal.returns
-returns c = record { yes = verdict_at_ends; no = verdict_within }

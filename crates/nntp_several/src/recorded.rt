@@ -1,0 +1,19 @@
+//! A session as it was recorded.
+use std::marker::Model;
+
+/// What client and server sent in one session (RFC 3977, section 3.1), as it was recorded.
+#[derive(Drop)]
+pub struct Recorded<'a> {
+    /// All octets that the client sent.
+    pub client: &'a [u8],
+    /// All octets that the server sent.
+    pub server: &'a [u8],
+}
+
+impl<'a> Model for Recorded<'a> {
+    ghost use Rattle.nntp_several.specs.Sessions.{Recorded as RecordedValue};
+
+    ghost Value = { RecordedValue };
+
+    ghost view = { λ session. record { client = session.client.now; server = session.server.now } };
+}
