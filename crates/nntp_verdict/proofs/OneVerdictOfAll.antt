@@ -25,7 +25,7 @@ use Rattle.nntp_facts.specs.Answered.{SomePermitsEach, facts_of_all}
 use Rattle.nntp_facts.specs.Noted.{exchanged}
 use Rattle.nntp_several.specs.Paired.{ArePaired}
 use Rattle.nntp_several.proofs.ExplainedSessions.{there}
-use Rattle.nntp_several.proofs.VerifiedSessions.{permits_alone}
+use Rattle.nntp_several.proofs.SessionsVerified.{permits_alone}
 use Rattle.nntp_several.proofs.WaysToOutcome.{outcome_at_all_ends}
 use Rattle.nntp_verdict.specs.Sessions.{JudgementOfAll, consistent_of_all, bad_of_all, is_consistent_of_all, IsVerdictOfAll, verdict_of_one}
 use Rattle.nntp_several.proofs.OneOutcomeOfAll.{one_outcome_of_all, yes_explained_of_all, one_session_outcome}
