@@ -16,7 +16,9 @@ use Rattle.nntp_facts.specs.declared.position.Position.TheVariants.{Nowhere}
 use Rattle.nntp_facts.proofs.Reading.JudgedSession.{accepted_one_more}
 use Rattle.nntp_explain.specs.Explaining.{front_lines, place_lines, IsTold, IsExplained, AreExplained, count_bad}
 use Rattle.nntp_explain.specs.ExplainingView.{placed_at, GoesOn}
-use Rattle.nntp_explain.specs.Reasons.{number_line, index_at, rest_line}
+use Rattle.nntp_explain.specs.Reasons.{answer_at, rest_line}
+use Rattle.nntp_printing.specs.BadAnswer.{bad_lines, class_word, command_line, shown}
+use Rattle.nntp_printing.specs.Printing.{escaped}
 use Rattle.nntp_explain.specs.Standing.{Standing, Cited, standing, standing_by, standing_from, standing_after, moved, cited_at, cited_from, closing, closing_with, closing_from}
 
 -- ---- where a session stands
@@ -27,9 +29,10 @@ standing_push s [] pair = refl
 standing_push s (first ∷ pairs) pair = standing_push (standing_after s first) pairs pair
 
 -- and is cited there
-pub cited_push : (s : Option Standing) (pairs : List Paired) (pair : Paired) → cited_from s (pairs ++ pair ∷ []) ≡ cited_from s pairs ++ cited_at (standing_from s pairs) pair ∷ []
-cited_push s [] pair = refl
-cited_push s (first ∷ pairs) pair = ap (λ rest. cited_at s first ∷ rest) (cited_push (standing_after s first) pairs pair)
+pub cited_push : (session : ℕ) (s : Option Standing) (pairs : List Paired) (pair : Paired)
+    → cited_from session s (pairs ++ pair ∷ []) ≡ cited_from session s pairs ++ cited_at session (standing_from s pairs) pair ∷ []
+cited_push session s [] pair = refl
+cited_push session s (first ∷ pairs) pair = ap (λ rest. cited_at session s first ∷ rest) (cited_push session (standing_after s first) pairs pair)
 
 -- those that are accepted, the first one taken by itself
 joined : (past : List Paired) (first : Judged) (answers : List Judged) → past ++ accepted_of (first ∷ answers) ≡ accepted_with past first ++ accepted_of answers
@@ -38,18 +41,18 @@ joined past (Refused pair) answers = refl
 joined past (Unspelled index line initial block) answers = refl
 
 -- and is the one that closed the connection, if it did
-closing_push : (before : Option Cited) (past : List Paired) (answers : List Judged) (answer : Judged)
-    → closing_from before past (answers ++ answer ∷ []) ≡ closing_with (closing_from before past answers) (standing (past ++ accepted_of answers)) answer
-closing_push before past [] answer = ap (λ accepted. closing_with before (standing accepted) answer) (sym (append-nil past))
-closing_push before past (first ∷ answers) answer =
-    closing_push (closing_with before (standing past) first) (accepted_with past first) answers answer
-    ∙ ap (λ accepted. closing_with (closing_from before past (first ∷ answers)) (standing accepted) answer) (sym (joined past first answers))
+closing_push : (session : ℕ) (before : Option Cited) (past : List Paired) (answers : List Judged) (answer : Judged)
+    → closing_from session before past (answers ++ answer ∷ []) ≡ closing_with session (closing_from session before past answers) (standing (past ++ accepted_of answers)) answer
+closing_push session before past [] answer = ap (λ accepted. closing_with session before (standing accepted) answer) (sym (append-nil past))
+closing_push session before past (first ∷ answers) answer =
+    closing_push session (closing_with session before (standing past) first) (accepted_with past first) answers answer
+    ∙ ap (λ accepted. closing_with session (closing_from session before past (first ∷ answers)) (standing accepted) answer) (sym (joined past first answers))
 
 -- so it goes on behind what is kept of those before it
-pub closing_next : (answers : List Judged) (answer : Judged) (before : Option Cited) (stands : Option Standing) → before ≡ closing answers → stands ≡ standing (accepted_of answers)
-    → closing_with before stands answer ≡ closing (answers ++ answer ∷ [])
-closing_next answers answer before stands before-is stands-is =
-    ap (λ (q : Option Cited × Option Standing). closing_with q.0 q.1 answer) (λ i. (before-is i, stands-is i)) ∙ sym (closing_push None [] answers answer)
+pub closing_next : (session : ℕ) (answers : List Judged) (answer : Judged) (here : ℕ) (before : Option Cited) (stands : Option Standing) → here ≡ session → before ≡ closing session answers
+    → stands ≡ standing (accepted_of answers) → closing_with here before stands answer ≡ closing session (answers ++ answer ∷ [])
+closing_next session answers answer here before stands here-is before-is stands-is =
+    ap (λ (q : ℕ × Option Cited × Option Standing). closing_with q.0 q.1 q.2 answer) (λ i. (here-is i, before-is i, stands-is i)) ∙ sym (closing_push session None [] answers answer)
 
 -- the name of the group in which it stands
 abbrev name_in : Option Standing → Option Name
@@ -84,24 +87,24 @@ placed_there accepted stands position pair stands-is position-is =
 -- ---- one answer more
 
 -- the accepted ones are no more than all
-few_accepted : (answers : List Judged) → length (accepted_of answers) ≤ length answers
+pub few_accepted : (answers : List Judged) → length (accepted_of answers) ≤ length answers
 few_accepted [] = omega arith
 few_accepted (Accepted pair ∷ answers) = omega (arith, few_accepted answers)
 few_accepted (Refused pair ∷ answers) = omega (arith, few_accepted answers)
 few_accepted (Unspelled index line initial block ∷ answers) = omega (arith, few_accepted answers)
 
 -- what is told of it stands behind what is told of those before it
-pub explained_push : (profile : Profile) (past : List Paired) (answers : List Judged) (answer : Judged) (text more : List ℕ)
-    → AreExplained profile past answers text → IsExplained profile (past ++ accepted_of answers) answer more
-    → AreExplained profile past (answers ++ answer ∷ []) (text ++ more)
-explained_push profile past [] answer text more none is =
-    (more, [], ap (λ t. t ++ more) none ∙ sym (append-nil more), subst (λ p. IsExplained profile p answer more) (append-nil past) is, refl)
-explained_push profile past (first ∷ answers) answer text more (front, back, whole, head, tail) is = (
+pub explained_push : (profile : Profile) (earlier : List (List Paired)) (before : ℕ) (past : List Paired) (answers : List Judged) (answer : Judged) (text more : List ℕ)
+    → AreExplained profile earlier before past answers text → IsExplained profile earlier before (past ++ accepted_of answers) answer more
+    → AreExplained profile earlier before past (answers ++ answer ∷ []) (text ++ more)
+explained_push profile earlier before past [] answer text more none is =
+    (more, [], ap (λ t. t ++ more) none ∙ sym (append-nil more), subst (λ p. IsExplained profile earlier before p answer more) (append-nil past) is, refl)
+explained_push profile earlier before past (first ∷ answers) answer text more (front, back, whole, head, tail) is = (
   front,
   back ++ more,
   ap (λ t. t ++ more) whole ∙ append_assoc front back more,
   head,
-  explained_push profile (accepted_with past first) answers answer back more tail (subst (λ p. IsExplained profile p answer more) (joined past first answers) is),
+  explained_push profile earlier before (accepted_with past first) answers answer back more tail (subst (λ p. IsExplained profile earlier before p answer more) (joined past first answers) is),
 )
 
 -- an accepted one adds nothing that is bad
@@ -140,16 +143,34 @@ told_reason before stands index class line initial Reason old new reason is_told
       (reason, refl, subst (λ b. cond b (Reason reason) (reason ≡ [])) told-is is),
     )
 
+some : (x : ℕ) (xs : List ℕ) → 1 ≤ length (x ∷ xs)
+some x xs = omega arith
+
+-- its lines are some
+pub bad_long : (index : ℕ) (class : Class) (line : Option (List ℕ)) (initial : List ℕ) → 1 ≤ length (bad_lines index class line initial)
+bad_long index class line initial =
+    some 98 (codes "ad answer " ++ decimal index ++ codes " " ++ class_word class ++ codes "\n" ++ command_line line ++ codes "answer " ++ escaped initial ++ codes "\n")
+
+-- and so is what is told of it
+pub told_long : (before : ℕ) (stands : Option Standing) (index : ℕ) (class : Class) (line : Option (List ℕ)) (initial : List ℕ) (Reason : List ℕ → Type 0) (text : List ℕ)
+    → IsTold before stands index class line initial Reason text → 1 ≤ length text
+told_long before stands index class line initial Reason text (reason, whole, is) =
+    let lines = bad_long index class (option_map shown line) (shown initial) in
+    let all = ap length whole in
+    let both = length-append (front_lines index class line initial ++ place_lines before stands) reason in
+    let first = length-append (front_lines index class line initial) (place_lines before stands) in
+    omega (arith, lines, all, both, first)
+
 -- ---- the line of further reasons
 
-shape : (old front first middle last behind : List ℕ) → (old ++ front ++ first) ++ (middle ++ last ++ behind) ≡ old ++ (front ++ first ++ middle ++ last ++ behind)
-shape old front first middle last behind = simp append_assoc
+-- behind a text stand five more
+pub five : (text a b c d e one two three : List ℕ) → one ≡ text ++ a ++ b → two ≡ one ++ c ++ d → three ≡ two ++ e → three ≡ text ++ (a ++ b ++ c ++ d ++ e)
+five text a b c d e one two three e1 e2 e3 = rw (e3, e2, e1) (simp append_assoc)
 
-pub rest_told : (answers : List Cited) (rest : Option ℕ) (bound first last place : ℕ) (old mid new : List ℕ) → rest ≡ Some bound
-    → place ≡ bound - 1 → first ≡ index_at answers 0 → last ≡ index_at answers place
-    → mid ≡ old ++ codes "because some of " ++ decimal first → new ≡ mid ++ number_line (codes " to ") last → new ≡ old ++ rest_line answers rest
-rest_told answers rest bound first last place old mid new is place-is first-is last-is mid-is new-is =
-    new-is ∙ ap (λ t. t ++ number_line (codes " to ") last) mid-is
-    ∙ shape old (codes "because some of ") (decimal first) (codes " to ") (decimal last) (codes "\n")
-    ∙ ap (λ (q : ℕ × ℕ). old ++ (codes "because some of " ++ decimal q.0 ++ codes " to " ++ decimal q.1 ++ codes "\n")) (λ i. (first-is i, (last-is ∙ ap (index_at answers) place-is) i))
-    ∙ ap (λ r. old ++ rest_line answers r) (sym is)
+pub rest_told : (here : ℕ) (answers : List Cited) (rest : Option ℕ) (bound place : ℕ) (old mid new whole : List ℕ) → rest ≡ Some bound → place ≡ bound - 1
+    → mid ≡ old ++ codes "because some of " ++ answer_at here answers 0 → new ≡ mid ++ codes " to " ++ answer_at here answers place → whole ≡ new ++ 10 ∷ []
+    → whole ≡ old ++ rest_line here answers rest
+rest_told here answers rest bound place old mid new whole is place-is mid-is new-is whole-is =
+    five old (codes "because some of ") (answer_at here answers 0) (codes " to ") (answer_at here answers (bound - 1)) (codes "\n") mid new whole
+    mid-is (new-is ∙ ap (λ k. mid ++ codes " to " ++ answer_at here answers k) place-is) whole-is
+    ∙ ap (λ r. old ++ rest_line here answers r) (sym is)

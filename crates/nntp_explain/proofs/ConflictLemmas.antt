@@ -16,9 +16,9 @@ many None places few = tt
 many (Some bound) places all = omega (arith, all)
 
 -- the text goes on with what is told of it
-pub tells : (profile : Profile) (bad : Placed) (answers : List Placed) (told : List Cited) (core : Core) (point : Option Point) (old new : List ℕ)
+pub tells : (here : ℕ) (profile : Profile) (bad : Placed) (answers : List Placed) (told : List Cited) (core : Core) (point : Option Point) (old new : List ℕ)
     → IsPointOfCore profile bad answers core point
-    → new ≡ old ++ option_map_or (λ p. conflict_lines profile.marks p bad answers told core) point (core_lines told core)
-    → GoesOn (TellsCore profile bad answers told core) old new
-tells profile bad answers told core point old new first is =
-    (option_map_or (λ p. conflict_lines profile.marks p bad answers told core) point (core_lines told core), is, (point, first, refl))
+    → new ≡ old ++ option_map_or (λ p. conflict_lines here profile.marks p bad answers told core) point (core_lines here told core)
+    → GoesOn (TellsCore here profile bad answers told core) old new
+tells here profile bad answers told core point old new first is =
+    (option_map_or (λ p. conflict_lines here profile.marks p bad answers told core) point (core_lines here told core), is, (point, first, refl))

@@ -1,5 +1,5 @@
--- What `explain` prints of a session: each bad answer, where the session stands there, and why it is bad.
-use Rattle.std.specs.Prelude.{◌≡◌, ℕ, ◌+◌, ◌-◌, ◌≤◌, ◌==◌, nat_lt, if◌then◌else◌, cond, Bool, false, List, [], ◌∷◌, ◌++◌, length, drop, count_by, is_some, Option, MatchOption, codes, decimal}
+-- What `explain` prints of sessions: each bad answer, where its session stands there, and why it is bad.
+use Rattle.std.specs.Prelude.{◌≡◌, ℕ, zero, suc, ◌+◌, ◌-◌, ◌≤◌, ◌==◌, nat_lt, if◌then◌else◌, cond, Bool, List, [], ◌∷◌, ◌++◌, length, drop, count_by, is_some, Option, MatchOption, codes, decimal}
 use Rattle.std.specs.Option.{option_map, option_map_or}
 use Rattle.nntp_wire.specs.Lines.{lines_of_stream}
 use Rattle.nntp_wire.specs.declared.limit.Limit.{Limit}
@@ -19,9 +19,12 @@ use Rattle.nntp_pair.specs.declared.class.PairClass.{PairClass}
 use Rattle.nntp_pair.specs.declared.class.PairClass.TheVariants.{Surplus as PairSurplus, Cut as PairCut, Malformed as PairMalformed}
 use Rattle.nntp_pair.specs.Pairing.{Paired, Unpaired, Ending, end, bad as ends_at, line_ahead, asked_at, asked_of, responses_of}
 use Rattle.nntp_printing.specs.BadAnswer.{IsFirstLine, bad_lines, shown}
-use Rattle.nntp_explain.specs.Reasons.{standing_line, unfitting_lines, misspelling_line, cut_line, surplus_lines, core_lines}
+use Rattle.nntp_several.specs.Conflict.{placed_of_all}
+use Rattle.nntp_several.specs.Reading.{ReadSession, AreReadings, IsReadingOfAll}
+use Rattle.nntp_several.specs.Sessions.{Named, unnamed}
+use Rattle.nntp_explain.specs.Reasons.{standing_line, octets_line, unfitting_lines, misspelling_line, cut_line, surplus_lines, core_lines}
 use Rattle.nntp_explain.specs.Says.{conflict_lines}
-use Rattle.nntp_explain.specs.Standing.{Standing, Cited, standing, cited, closing}
+use Rattle.nntp_explain.specs.Standing.{Standing, Cited, standing, cited, number_behind, cited_of_all, closing}
 
 -- the visible state that accepted answers leave
 abbrev pub visible_left : List Paired → Visible
@@ -42,82 +45,138 @@ abbrev pub IsTold : ℕ → Option Standing → ℕ → Class → Option (List �
 IsTold before stands index class line initial Reason text =
     (reason : List ℕ) × (text ≡ front_lines index class line initial ++ place_lines before stands ++ reason) × cond (nat_lt before 100) (Reason reason) (reason ≡ [])
 
--- ---- why it is bad
+-- ---- why it is bad, in the session of the number `here`
 
 -- the text tells of a core what its answers and the bad one conflict about, the first point of that; where it is cut short, and none of its answers speaks of one group, only which they are
-abbrev pub TellsCore : Profile → Placed → List Placed → List Cited → Core → List ℕ → Type 0
-TellsCore profile bad answers told core text =
-    (point : Option Point) × IsPointOfCore profile bad answers core point × (text ≡ option_map_or (λ p. conflict_lines profile.marks p bad answers told core) point (core_lines told core))
+abbrev pub TellsCore : ℕ → Profile → Placed → List Placed → List Cited → Core → List ℕ → Type 0
+TellsCore here profile bad answers told core text =
+    (point : Option Point) × IsPointOfCore profile bad answers core point × (text ≡ option_map_or (λ p. conflict_lines here profile.marks p bad answers told core) point (core_lines here told core))
 
 -- the text tells with which of these answers the bad one conflicts, and about what: at most sixteen, and where there are more, the last of them
-abbrev pub IsConflictOf : Profile → Placed → List Placed → List Cited → List ℕ → Type 0
-IsConflictOf profile bad answers told text =
-    (core : Core) × IsFound profile bad answers core × MatchOption core.rest (length core.places ≤ 16) (λ bound. length core.places ≡ 16) × TellsCore profile bad answers told core text
+abbrev pub IsConflictOf : ℕ → Profile → Placed → List Placed → List Cited → List ℕ → Type 0
+IsConflictOf here profile bad answers told text =
+    (core : Core) × IsFound profile bad answers core × MatchOption core.rest (length core.places ≤ 16) (λ bound. length core.places ≡ 16) × TellsCore here profile bad answers told core text
 
--- the text is the reason of an answer that is refused, by its class
-abbrev pub IsReason : Profile → List Paired → Paired → Class → List ℕ → Type 0
-IsReason profile accepted pair OutOfPlace text =
-    text ≡ option_map_or (unfitting_lines (placed_of accepted) (cited accepted) pair.response) (misfit profile (visible_left accepted) (asked_at pair.line) pair.response) []
-IsReason profile accepted pair Contradiction text = IsConflictOf profile (placed_behind accepted pair) (placed_of accepted) (cited accepted) text
-IsReason profile accepted pair class text = text ≡ []
+-- the text is the reason of an answer that is refused, by its class, behind these accepted answers of earlier sessions and of its own: what doesn't fit is by its own session alone, and what it contradicts is of all
+abbrev pub IsReason : Profile → List (List Paired) → List Paired → Paired → Class → List ℕ → Type 0
+IsReason profile earlier accepted pair OutOfPlace text =
+    let here = number_behind earlier in
+    text ≡ option_map_or (unfitting_lines here (placed_of accepted) (cited here accepted) pair.response) (misfit profile (visible_left accepted) (asked_at pair.line) pair.response) []
+IsReason profile earlier accepted pair Contradiction text =
+    IsConflictOf (number_behind earlier) profile (placed_behind accepted pair) (placed_of_all earlier accepted) (cited_of_all earlier accepted) text
+IsReason profile earlier accepted pair class text = text ≡ []
 
--- ---- the answers of a reading
+-- ---- the answers of a reading, behind these accepted answers of earlier sessions, of which so many answers are bad
 
--- the text is what is printed of an answer that is judged behind these accepted ones: of one that is accepted too nothing
-abbrev pub IsExplained : Profile → List Paired → Judged → List ℕ → Type 0
-IsExplained profile accepted (Accepted pair) text = text ≡ []
-IsExplained profile accepted (Refused pair) text =
+-- the text is what is printed of an answer that is judged behind these accepted ones of its session: of one that is accepted too nothing
+abbrev pub IsExplained : Profile → List (List Paired) → ℕ → List Paired → Judged → List ℕ → Type 0
+IsExplained profile earlier before accepted (Accepted pair) text = text ≡ []
+IsExplained profile earlier before accepted (Refused pair) text =
     MatchOption (class_behind profile accepted (Refused pair)) ⊥
-    (λ class. IsTold (pair.index - length accepted) (standing accepted) pair.index class pair.line pair.initial (IsReason profile accepted pair class) text)
-IsExplained profile accepted (Unspelled index line initial block) text =
+    (λ class. IsTold (before + (pair.index - length accepted)) (standing accepted) pair.index class pair.line pair.initial (IsReason profile earlier accepted pair class) text)
+IsExplained profile earlier before accepted (Unspelled index line initial block) text =
     MatchOption (misspelling (asked_at line) initial block) ⊥
-    (λ why. IsTold (index - length accepted) (standing accepted) index Malformed line initial (λ reason. reason ≡ misspelling_line why) text)
+    (λ why. IsTold (before + (index - length accepted)) (standing accepted) index Malformed line initial (λ reason. reason ≡ misspelling_line why) text)
 
 -- the text is what is printed of answers, one after the other
-abbrev pub AreExplained : Profile → List Paired → List Judged → List ℕ → Type 0
-AreExplained profile accepted [] text = text ≡ []
-AreExplained profile accepted (answer ∷ answers) text =
+abbrev pub AreExplained : Profile → List (List Paired) → ℕ → List Paired → List Judged → List ℕ → Type 0
+AreExplained profile earlier before accepted [] text = text ≡ []
+AreExplained profile earlier before accepted (answer ∷ answers) text =
     (front : List ℕ) × (back : List ℕ) × (text ≡ front ++ back)
-    × IsExplained profile accepted answer front × AreExplained profile (accepted_with accepted answer) answers back
-
--- ---- the report
+    × IsExplained profile earlier before accepted answer front × AreExplained profile earlier before (accepted_with accepted answer) answers back
 
 -- how many of the answers are bad
 abbrev pub count_bad : List Judged → ℕ
 count_bad answers = length answers - length (accepted_of answers)
 
--- the last line: how many answers there are, how many of them are bad, and how many lines have none
-abbrev pub end_line : ℕ → ℕ → ℕ → List ℕ
-end_line answers bad unanswered =
-    codes "end answers=" ++ decimal answers ++ codes " bad=" ++ decimal bad ++ codes " unanswered=" ++ decimal unanswered ++ codes "\n"
-
 -- the text is why octets that are left answer nothing, by their class and the answer that closed the connection; a frame that spells nothing is passed over instead
-abbrev pub IsEndReason : PairClass → Option Cited → List ℕ → List ℕ → Type 0
-IsEndReason PairSurplus closing octets text = text ≡ surplus_lines closing
-IsEndReason PairCut closing octets text = text ≡ cut_line (lines_of_stream octets)
-IsEndReason PairMalformed closing octets text = ⊥
+abbrev pub IsEndReason : ℕ → PairClass → Option Cited → List ℕ → List ℕ → Type 0
+IsEndReason here PairSurplus closing octets text = text ≡ surplus_lines here closing
+IsEndReason here PairCut closing octets text = text ≡ cut_line (lines_of_stream octets)
+IsEndReason here PairMalformed closing octets text = ⊥
 
--- what is printed behind the answers: octets that answer nothing are one more bad answer, and the lines behind its place have none
-abbrev pub IsEnded : List Judged → Unpaired → Ending → List ℕ → Type 0
-IsEnded answers left (end unanswered) text = text ≡ end_line (length answers) (count_bad answers) unanswered
-IsEnded answers left (ends_at class) text =
-    (line : List ℕ) × IsFirstLine left.server line × (told : List ℕ)
-    × IsTold (count_bad answers) (standing (accepted_of answers)) (length answers) (class_of class) (line_ahead left.places) line (IsEndReason class (closing answers) left.server) told
-    × (text ≡ told ++ end_line (length answers + 1) (count_bad answers + 1) (count_by is_some (drop 1 left.places)))
+-- the text is what is printed of what is left behind the answers: octets that answer nothing are one more bad answer
+abbrev pub IsEnded : ℕ → ℕ → List Judged → Unpaired → Ending → List ℕ → Type 0
+IsEnded here before answers left (end unanswered) text = text ≡ []
+IsEnded here before answers left (ends_at class) text =
+    (line : List ℕ) × IsFirstLine left.server line
+    × IsTold (before + count_bad answers) (standing (accepted_of answers)) (length answers) (class_of class) (line_ahead left.places) line
+    (IsEndReason here class (closing here answers) left.server) text
 
--- no answer is bad, and no octet of the server is left
-abbrev pub is_without_fault : List Judged → Ending → Bool
-is_without_fault answers (end unanswered) = count_bad answers == 0
-is_without_fault answers (ends_at class) = false
+-- ---- a session
 
--- the text tells of both streams all that is bad, by the limit and the marks, and they are without fault or not
-pub record IsExplanation (limit : Limit) (marks : Marks) (client server text : List ℕ) (without_fault : Bool) : Type 0 where
-  pub answers : List Judged
-  pub ending : Ending
-  pub reading : IsReading (profile_of limit marks) client server answers ending
+-- the text is what is printed of the bad answers of a session as it is read
+pub record IsSessionExplained (profile : Profile) (earlier : List (List Paired)) (before : ℕ) (read : ReadSession) (left : Unpaired) (text : List ℕ) : Type 0 where
   pub front : List ℕ
-  pub explained : AreExplained (profile_of limit marks) [] answers front
+  pub explained : AreExplained profile earlier before [] read.answers front
   pub last : List ℕ
-  pub ended : IsEnded answers reading.left ending last
+  pub ended : IsEnded (number_behind earlier) before read.answers left read.ending last
   pub text_is : text ≡ front ++ last
-  pub without_fault_is : without_fault ≡ is_without_fault answers ending
+
+-- what the last line counts: the answers, those that are bad, and the lines that have none
+pub record Counts : Type 0 where
+  pub answers : ℕ
+  pub bad : ℕ
+  pub unanswered : ℕ
+
+-- those of a session as it is read: octets that are left are one more answer, and the lines behind its place have none
+abbrev pub counts_behind : List Judged → Unpaired → Ending → Counts
+counts_behind answers left (end unanswered) = record { answers = length answers; bad = count_bad answers; unanswered = unanswered }
+counts_behind answers left (ends_at class) = record { answers = length answers + 1; bad = count_bad answers + 1; unanswered = count_by is_some (drop 1 left.places) }
+
+abbrev pub counts_of : ReadSession → Unpaired → Counts
+counts_of read left = counts_behind read.answers left read.ending
+
+-- what they are printed as
+abbrev pub counts_text : Counts → List ℕ
+counts_text c = codes "answers=" ++ decimal c.answers ++ codes " bad=" ++ decimal c.bad ++ codes " unanswered=" ++ decimal c.unanswered ++ codes "\n"
+
+-- the text tells of both streams all that is bad, by the limit and the marks; and they are without fault, if no answer is bad
+pub record IsExplanation (limit : Limit) (marks : Marks) (client server text : List ℕ) (without_fault : Bool) : Type 0 where
+  pub read : ReadSession
+  pub reading : IsReading (profile_of limit marks) client server read.answers read.ending
+  pub lines : List ℕ
+  pub explained : IsSessionExplained (profile_of limit marks) [] 0 read reading.left lines
+  pub text_is : text ≡ lines ++ codes "end " ++ counts_text (counts_of read reading.left)
+  pub without_fault_is : without_fault ≡ ((counts_of read reading.left).bad == 0)
+
+-- ---- several sessions
+
+-- the line before the bad answers of a session: its number, and the first octets of its name
+abbrev pub title_line : ℕ → List ℕ → List ℕ
+title_line number [] = codes "session " ++ decimal number ++ codes "\n"
+title_line number (octet ∷ name) = codes "session " ++ decimal number ++ octets_line (codes " ") (shown (octet ∷ name))
+
+-- it stands where there are any
+abbrev pub titled : ℕ → List ℕ → ℕ → List ℕ
+titled number name zero = []
+titled number name (suc bad) = title_line number name
+
+-- nothing is counted yet
+abbrev pub none_counted : Counts
+none_counted = record { answers = 0; bad = 0; unanswered = 0 }
+
+-- with what is counted of one session more
+abbrev pub counted_with : Counts → Counts → Counts
+counted_with before c = record { answers = before.answers + c.answers; bad = before.bad + c.bad; unanswered = before.unanswered + c.unanswered }
+
+-- the text is what is printed of sessions, one after the other, behind these accepted answers of earlier ones, of which so much is counted; and then so much is
+abbrev pub AreSessionsExplained : (profile : Profile) (earlier : List (List Paired)) → Counts → (sessions : List Named) (readings : List ReadSession)
+    → AreReadings profile earlier (unnamed sessions) readings → List ℕ → Counts → Type 0
+AreSessionsExplained profile earlier before [] [] are text after = (text ≡ []) × (after ≡ before)
+AreSessionsExplained profile earlier before (s ∷ more) (read ∷ readings) are text after =
+    let counts = counts_of read are.0.left in
+    (lines : List ℕ) × (back : List ℕ) × (text ≡ titled (number_behind earlier) s.name counts.bad ++ lines ++ back)
+    × IsSessionExplained profile earlier before.bad read are.0.left lines
+    × AreSessionsExplained profile (earlier ++ accepted_of read.answers ∷ []) (counted_with before counts) more readings are.1 back after
+AreSessionsExplained profile earlier before sessions readings are text after = ⊥
+
+-- the text tells of several sessions of one spool all that is bad, by the limit and the marks; and they are without fault, if no answer is bad
+pub record IsExplanationOfAll (limit : Limit) (marks : Marks) (sessions : List Named) (text : List ℕ) (without_fault : Bool) : Type 0 where
+  pub readings : List ReadSession
+  pub are_readings : IsReadingOfAll (profile_of limit marks) (unnamed sessions) readings
+  pub lines : List ℕ
+  pub counts : Counts
+  pub explained : AreSessionsExplained (profile_of limit marks) [] none_counted sessions readings are_readings lines counts
+  pub text_is : text ≡ lines ++ codes "end sessions=" ++ decimal (length sessions) ++ codes " " ++ counts_text counts
+  pub without_fault_is : without_fault ≡ (counts.bad == 0)

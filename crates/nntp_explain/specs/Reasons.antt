@@ -1,4 +1,4 @@
--- What `explain` prints of why an answer is bad.
+-- What `explain` prints of why an answer is bad. `here` is the number of its session.
 use Rattle.std.specs.Prelude.{ℕ, suc, ◌-◌, ◌==◌, ◌&&◌, Bool, false, if◌then◌else◌, List, [], ◌∷◌, ◌++◌, Option, None, Some, slice_get, codes, decimal}
 use Rattle.std.specs.List.{flat_map}
 use Rattle.std.specs.Option.{option_map, option_map_or}
@@ -98,37 +98,45 @@ cut_line (initial ∷ lines) = codes "why block\n"
 
 -- ---- an answer that is a reason
 
--- its lines, and where the session stands there
-abbrev pub because_lines : Cited → List ℕ
-because_lines c =
-    codes "because answer " ++ decimal c.index ++ codes "\n" ++ command_line (option_map shown c.line)
+-- the session that an answer is of, where it is another than the one that is told of
+abbrev pub session_text : ℕ → ℕ → List ℕ
+session_text here session = if session == here then [] else codes " of session " ++ decimal session
+
+-- which answer it is
+abbrev pub answer_text : ℕ → Cited → List ℕ
+answer_text here c = decimal c.index ++ session_text here c.session
+
+-- its lines, and where its session stands there
+abbrev pub because_lines : ℕ → Cited → List ℕ
+because_lines here c =
+    codes "because answer " ++ answer_text here c ++ codes "\n" ++ command_line (option_map shown c.line)
     ++ codes "answer " ++ escaped (shown c.initial) ++ codes "\n" ++ standing_line c.stands
 
 -- ---- why it is surplus
 
 -- this answer closed the connection, or none did, and no line is left to be answered
-abbrev pub surplus_lines : Option Cited → List ℕ
-surplus_lines None = codes "why no command\n"
-surplus_lines (Some c) = codes "why closed\n" ++ because_lines c
+abbrev pub surplus_lines : ℕ → Option Cited → List ℕ
+surplus_lines here None = codes "why no command\n"
+surplus_lines here (Some c) = codes "why closed\n" ++ because_lines here c
 
 -- ---- with which answers it conflicts
 
 -- the answer at a place
-abbrev pub because_at : List Cited → ℕ → List ℕ
-because_at answers k = option_map_or because_lines (slice_get answers k) []
+abbrev pub because_at : ℕ → List Cited → ℕ → List ℕ
+because_at here answers k = option_map_or (because_lines here) (slice_get answers k) []
 
 -- which answer it is that stands at a place
-abbrev pub index_at : List Cited → ℕ → ℕ
-index_at answers k = option_map_or (λ c. c.index) (slice_get answers k) 0
+abbrev pub answer_at : ℕ → List Cited → ℕ → List ℕ
+answer_at here answers k = option_map_or (answer_text here) (slice_get answers k) []
 
 -- the line of the answers below a bound, where further reasons are among them
-abbrev pub rest_line : List Cited → Option ℕ → List ℕ
-rest_line answers None = []
-rest_line answers (Some bound) = codes "because some of " ++ decimal (index_at answers 0) ++ codes " to " ++ decimal (index_at answers (bound - 1)) ++ codes "\n"
+abbrev pub rest_line : ℕ → List Cited → Option ℕ → List ℕ
+rest_line here answers None = []
+rest_line here answers (Some bound) = codes "because some of " ++ answer_at here answers 0 ++ codes " to " ++ answer_at here answers (bound - 1) ++ codes "\n"
 
 -- the answers of a core, or of the end of one
-abbrev pub core_lines : List Cited → Core → List ℕ
-core_lines answers core = rest_line answers core.rest ++ flat_map (because_at answers) core.places
+abbrev pub core_lines : ℕ → List Cited → Core → List ℕ
+core_lines here answers core = rest_line here answers core.rest ++ flat_map (because_at here answers) core.places
 
 -- ---- which answer gave a group its low mark
 
@@ -144,15 +152,15 @@ low_giver name low [] = None
 low_giver name low (a ∷ answers) = if gives_low name low a.response then Some 0 else option_map suc (low_giver name low answers)
 
 -- the answer that gave the group of a 211 a low mark, as it is cited
-abbrev pub giver_lines : List Placed → List Cited → Response → ℕ → List ℕ
-giver_lines answers told (group_is m name) low = option_map_or (because_at told) (low_giver name low answers) []
-giver_lines answers told (numbers_are m name lines) low = option_map_or (because_at told) (low_giver name low answers) []
-giver_lines answers told response low = []
+abbrev pub giver_lines : ℕ → List Placed → List Cited → Response → ℕ → List ℕ
+giver_lines here answers told (group_is m name) low = option_map_or (because_at here told) (low_giver name low answers) []
+giver_lines here answers told (numbers_are m name lines) low = option_map_or (because_at here told) (low_giver name low answers) []
+giver_lines here answers told response low = []
 
--- why a response doesn't fit behind these answers; where its low mark is below an earlier one, the answer that gave that one too
-abbrev pub unfitting_lines : List Placed → List Cited → Response → Misfit → List ℕ
-unfitting_lines answers told response (below_low low) = misfit_line (below_low low) ++ giver_lines answers told response low
-unfitting_lines answers told response why = misfit_line why
+-- why a response doesn't fit behind these answers of its session; where its low mark is below an earlier one, the answer that gave that one too
+abbrev pub unfitting_lines : ℕ → List Placed → List Cited → Response → Misfit → List ℕ
+unfitting_lines here answers told response (below_low low) = misfit_line (below_low low) ++ giver_lines here answers told response low
+unfitting_lines here answers told response why = misfit_line why
 
 -- ---- what it conflicts about
 

@@ -191,11 +191,11 @@ abbrev pub told_line : Point → Placed → List Placed → List ℕ → Option 
 told_line point bad answers places = difference (part_sent point bad.asked bad.response) (first_part point answers places)
 
 -- the answer at a place as a reason, and what it says about the point
-abbrev pub reason_lines : Marks → Option ℕ → Point → List Placed → List Cited → ℕ → List ℕ
-reason_lines how line point answers told k = because_at told k ++ option_map_or (said_lines how line point) (slice_get answers k) []
+abbrev pub reason_lines : ℕ → Marks → Option ℕ → Point → List Placed → List Cited → ℕ → List ℕ
+reason_lines here how line point answers told k = because_at here told k ++ option_map_or (said_lines how line point) (slice_get answers k) []
 
 -- what the bad answer and those of a core conflict about, and what each of them says about it; where it is the end of one, that others are below
-abbrev pub conflict_lines : Marks → Point → Placed → List Placed → List Cited → Core → List ℕ
-conflict_lines how point bad answers told core =
+abbrev pub conflict_lines : ℕ → Marks → Point → Placed → List Placed → List Cited → Core → List ℕ
+conflict_lines here how point bad answers told core =
     let line = told_line point bad answers core.places in
-    about_line point ++ said_lines how line point bad ++ rest_line told core.rest ++ flat_map (reason_lines how line point answers told) core.places
+    about_line point ++ said_lines how line point bad ++ rest_line here told core.rest ++ flat_map (reason_lines here how line point answers told) core.places

@@ -1,5 +1,5 @@
 -- Where a session stands, and by which answers (RFC 3977, section 6.1).
-use Rattle.std.specs.Prelude.{ℕ, ◌==◌, if◌then◌else◌, List, [], ◌∷◌, Option, None, Some, option_map}
+use Rattle.std.specs.Prelude.{ℕ, ◌+◌, ◌==◌, if◌then◌else◌, List, [], ◌∷◌, ◌++◌, length, Option, None, Some, option_map}
 use Rattle.nntp_wire.specs.Answer.{Response, group_is, numbers_are}
 use Rattle.nntp_wire.specs.Session.{closes}
 use Rattle.nntp_article.specs.Session.Spool.{Name}
@@ -52,43 +52,58 @@ standing pairs = standing_from None pairs
 
 -- ---- answers with where they stand
 
--- an accepted answer as a reason cites it: its place, its line and its initial line, and where the session stands before it
+-- an accepted answer as a reason cites it: the number of its session, which counts from 1; its place, its line and its initial line, and where its session stands before it
 pub record Cited : Type 0 where
+  pub session : ℕ
   pub index : ℕ
   pub line : Option (List ℕ)
   pub initial : List ℕ
   pub stands : Option Standing
 
--- an answer before which the session stands there
-abbrev pub cited_at : Option Standing → Paired → Cited
-cited_at s pair = record { index = pair.index; line = pair.line; initial = pair.initial; stands = s }
+-- an answer of a session, before which the session stands there
+abbrev pub cited_at : ℕ → Option Standing → Paired → Cited
+cited_at session s pair = record { session = session; index = pair.index; line = pair.line; initial = pair.initial; stands = s }
 
--- answers from there on, one after the other
-abbrev pub cited_from : Option Standing → List Paired → List Cited
-cited_from s [] = []
-cited_from s (pair ∷ pairs) = cited_at s pair ∷ cited_from (standing_after s pair) pairs
+-- answers of a session from there on, one after the other
+abbrev pub cited_from : ℕ → Option Standing → List Paired → List Cited
+cited_from session s [] = []
+cited_from session s (pair ∷ pairs) = cited_at session s pair ∷ cited_from session (standing_after s pair) pairs
 
 -- the answers of a session
-abbrev pub cited : List Paired → List Cited
-cited pairs = cited_from None pairs
+abbrev pub cited : ℕ → List Paired → List Cited
+cited session pairs = cited_from session None pairs
+
+-- those of sessions, of which the first has this number
+abbrev pub cited_each : ℕ → List (List Paired) → List Cited
+cited_each session [] = []
+cited_each session (pairs ∷ more) = cited session pairs ++ cited_each (session + 1) more
+
+-- the number of a session, behind earlier ones
+abbrev pub number_behind : List (List Paired) → ℕ
+number_behind earlier = length earlier + 1
+
+-- the answers of earlier sessions and of this one
+abbrev pub cited_of_all : List (List Paired) → List Paired → List Cited
+cited_of_all earlier pairs = cited_each 1 earlier ++ cited (number_behind earlier) pairs
 
 -- ---- the answer that closed the connection
 
 -- this answer, before which the session stands there, if it closes the connection, and else the one that closed it before
-abbrev pub closing_after : Option Cited → Option Standing → Paired → Option Cited
-closing_after before s pair = if closes (asked_at pair.line) pair.response then Some (cited_at s pair) else before
+abbrev pub closing_after : ℕ → Option Cited → Option Standing → Paired → Option Cited
+closing_after session before s pair = if closes (asked_at pair.line) pair.response then Some (cited_at session s pair) else before
 
 -- the same of an answer that is judged: one that is refused closes the connection all the same, and a frame that spells nothing leaves it open
-abbrev pub closing_with : Option Cited → Option Standing → Judged → Option Cited
-closing_with before s (Accepted pair) = closing_after before s pair
-closing_with before s (Refused pair) = closing_after before s pair
-closing_with before s (Unspelled index line initial block) = before
+abbrev pub closing_with : ℕ → Option Cited → Option Standing → Judged → Option Cited
+closing_with session before s (Accepted pair) = closing_after session before s pair
+closing_with session before s (Refused pair) = closing_after session before s pair
+closing_with session before s (Unspelled index line initial block) = before
 
 -- the same of answers behind these accepted ones, one after the other
-abbrev pub closing_from : Option Cited → List Paired → List Judged → Option Cited
-closing_from before accepted [] = before
-closing_from before accepted (answer ∷ answers) = closing_from (closing_with before (standing accepted) answer) (accepted_with accepted answer) answers
+abbrev pub closing_from : ℕ → Option Cited → List Paired → List Judged → Option Cited
+closing_from session before accepted [] = before
+closing_from session before accepted (answer ∷ answers) =
+    closing_from session (closing_with session before (standing accepted) answer) (accepted_with accepted answer) answers
 
 -- the answer of a session that closed the connection, if one did
-abbrev pub closing : List Judged → Option Cited
-closing answers = closing_from None [] answers
+abbrev pub closing : ℕ → List Judged → Option Cited
+closing session answers = closing_from session None [] answers

@@ -19,9 +19,10 @@ use std::alloc::{AllocError, Allocator};
 
 /// Adds what a bad answer and the accepted ones of a core conflict about, and what each of them says about it; where the
 /// core is cut short, that others are below. `answers` and `cited` are the accepted answers, where they stand and as
-/// reasons cite them.
+/// reasons cite them; `here` is the session of the bad one.
 pub(crate) fn put_conflict<A: Allocator + Copy>(
     text: &mut Vec<u8, A>,
+    here: u64,
     how: Marks,
     point: Point<'_>,
     bad: &Placed<'_>,
@@ -29,19 +30,20 @@ pub(crate) fn put_conflict<A: Allocator + Copy>(
     cited: &[Cited<'_>],
     core: &Core<A>,
 ) -> Result<(), AllocError>
-    ensures { OnOk result (text.new.items ≡ text.old.items ++ conflict_lines how (point_of point.entry) bad.now answers.now (map cited_of cited.now) core.now) }
+    ensures { OnOk result (text.new.items ≡ text.old.items ++ conflict_lines here how (point_of point.entry) bad.now answers.now (map cited_of cited.now) core.now) }
 {
     put_about(text, &point)?;
     let line = told_line(&point, bad, answers, core.places());
     let about = About { point, line };
     put_said(text, how, &about, bad)?;
-    put_rest(text, cited, core.rest())?;
-    put_reasons(text, how, &about, answers, cited, core.places())
+    put_rest(text, here, cited, core.rest())?;
+    put_reasons(text, here, how, &about, answers, cited, core.places())
 }
 
 /// Adds the answers at the places as reasons, one after the other, and what each says about the point.
 fn put_reasons<A: Allocator + Copy>(
     text: &mut Vec<u8, A>,
+    here: u64,
     how: Marks,
     about: &About<'_>,
     answers: &[Placed<'_>],
@@ -50,10 +52,10 @@ fn put_reasons<A: Allocator + Copy>(
 ) -> Result<(), AllocError>
     requires { IfSome about.now.line (λ place. place < 2 ^ 64 - 1) }
     ensures { OnOk result (text.new.items ≡ text.old.items
-        ++ flat_map (reason_lines how about.now.line (point_of about.now.point) answers.now (map cited_of cited.now)) places.now) }
+        ++ flat_map (reason_lines here how about.now.line (point_of about.now.point) answers.now (map cited_of cited.now)) places.now) }
 {
     for place in places {
-        put_reason(text, how, about, answers, cited, *place)?;
+        put_reason(text, here, how, about, answers, cited, *place)?;
     }
     Ok(())
 }
@@ -61,6 +63,7 @@ fn put_reasons<A: Allocator + Copy>(
 /// Adds the answer at a place as a reason, and what it says about the point.
 fn put_reason<A: Allocator + Copy>(
     text: &mut Vec<u8, A>,
+    here: u64,
     how: Marks,
     about: &About<'_>,
     answers: &[Placed<'_>],
@@ -68,9 +71,9 @@ fn put_reason<A: Allocator + Copy>(
     place: usize,
 ) -> Result<(), AllocError>
     requires { IfSome about.now.line (λ place. place < 2 ^ 64 - 1) }
-    ensures { OnOk result (text.new.items ≡ text.old.items ++ reason_lines how about.now.line (point_of about.now.point) answers.now (map cited_of cited.now) place) }
+    ensures { OnOk result (text.new.items ≡ text.old.items ++ reason_lines here how about.now.line (point_of about.now.point) answers.now (map cited_of cited.now) place) }
 {
-    put_because_at(text, cited, place)?;
+    put_because_at(text, here, cited, place)?;
     put_said_at(text, how, about, answers, place)
 }
 

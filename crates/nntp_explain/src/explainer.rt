@@ -1,13 +1,12 @@
-//! A session read to its end, behind bad answers too, and what is bad of it.
-ghost use Rattle.std.specs.Prelude.{◌≡◌, ◌≢◌, ◌==◌, ℕ, ◌+◌, ◌<◌, ◌≤◌, ◌^◌, List, [], ◌∷◌, ◌++◌, length, map, nat_lt, OnOk, IfOk, MatchOption, count_by, drop, is_some};
+//! What is kept of sessions that are read on behind bad answers, and what is told of a bad answer.
+ghost use Rattle.std.specs.Prelude.{◌≡◌, ◌≢◌, ℕ, ◌+◌, ◌<◌, ◌≤◌, ◌^◌, ◌++◌, List, [], ◌∷◌, None, length, map, nat_lt, OnOk, IfOk, MatchOption};
 ghost use Rattle.std.specs.List.{AllByRecursion};
 ghost use Rattle.std.specs.Option.{option_copied, option_map, option_map_or};
 ghost use Rattle.nntp_wire.specs.Misspelling.{misspelling};
 ghost use Rattle.nntp_wire.specs.View.{asked};
 ghost use Rattle.nntp_article.specs.Session.Limit.{profile_of};
-ghost use Rattle.nntp_article.specs.Session.Misfit.{misfit};
 ghost use Rattle.nntp_article.specs.declared.session.profile.Profile.{Profile};
-ghost use Rattle.nntp_pair.specs.Pairing.{Unpaired, IsNext, Ends, bad, line_ahead, streams};
+ghost use Rattle.nntp_pair.specs.Pairing.{Unpaired, IsNext};
 ghost use Rattle.nntp_pair.specs.declared.class.PairClass.TheVariants.{Malformed};
 ghost use Rattle.nntp_facts.specs.Conflict.{Placed as PlacedValue, FitsThere, IsFound, SomeHas, told_with, below, places_of};
 ghost use Rattle.nntp_facts.specs.Points.{AreTaken};
@@ -15,18 +14,18 @@ ghost use Rattle.nntp_pair.specs.declared.class.Class.TheVariants.{Malformed as 
 ghost use Rattle.nntp_pair.specs.Classes.{class_of};
 ghost use Rattle.nntp_facts.specs.Noted.{profile_kept};
 ghost use Rattle.nntp_printing.specs.BadAnswer.{IsFirstLine};
-ghost use Rattle.nntp_explain.specs.Explaining.{end_line, front_lines, place_lines, IsConflictOf, IsEndReason, IsExplanation, IsTold, TellsCore};
-ghost use Rattle.nntp_explain.specs.ExplainingView.{cited_of, kept_of, keeps, placed_at, standing_of, unfitting_told, GoesOn, HasTold};
+ghost use Rattle.nntp_explain.specs.Explaining.{front_lines, place_lines, IsConflictOf, IsEndReason, IsTold, TellsCore};
+ghost use Rattle.nntp_explain.specs.ExplainingView.{Before, begins, cited_of, kept_of, keeps, placed_at, refuses, standing_of, title_of, unfitting_told, GoesOn, HasReadNone, HasTold};
 ghost use Rattle.nntp_explain.specs.Reasons.{misspelling_line};
 ghost use Rattle.nntp_explain.specs.Standing.{Cited as CitedValue};
 
 use crate::conflict::put_conflict;
-use crate::ending::{put_end, put_end_reason};
+use crate::ending::{put_end_reason, put_title};
 use crate::reasons::{put_core, put_misspelling, put_standing};
 use crate::standing::{Cited, Standing, note_closing, standing_after};
 use crate::unfitting::put_unfitting;
 use nntp_facts::{Conflict, Core, Facts, Noted, Placed, Position};
-use nntp_pair::{Ahead, Class, Exchange, MalformedFrame, PairClass, Pairs, Step};
+use nntp_pair::{Ahead, Class, Exchange, MalformedFrame, PairClass};
 use nntp_printing::{first_line, put_bad_answer, shown, shown_line};
 use nntp_wire::{GroupName, Limit, Marks, Misspelling};
 use std::alloc::{AllocError, Allocator};
@@ -38,62 +37,37 @@ const EXPLAINED: u64 = 100;
 /// How many answers are looked for at most with which a bad one conflicts.
 const CITED: usize = 16;
 
-/// What is to be told of a session.
-#[derive(Drop)]
-pub struct Explanation<A: Allocator> {
-    /// The report, whole.
-    pub text: Vec<u8, A>,
-    /// Whether no answer is bad, and all octets of the server are answers.
-    pub is_without_fault: bool,
-}
-
-/// Reads on behind bad answers: each is passed over, and the next one is judged behind those that were accepted.
+/// Reads on behind bad answers: each is passed over, and the next one is judged behind those that were accepted, of
+/// earlier sessions and of its own.
 #[derive(Drop)]
 pub(crate) struct Explainer<'a, A: Allocator> {
     alloc: A,
     /// What the accepted answers say.
-    facts: Facts<A>,
-    /// The accepted answers, each where it stands.
+    pub(crate) facts: Facts<A>,
+    /// The accepted answers of all sessions, each where it stands.
     placed: Vec<Placed<'a>, A>,
     /// The same, as reasons cite them.
-    cited: Vec<Cited<'a>, A>,
-    /// Where they leave the session; none before a group is selected.
+    pub(crate) cited: Vec<Cited<'a>, A>,
+    /// The number of the session that is read, which counts from 1.
+    session: u64,
+    /// How many of the accepted answers are of earlier sessions.
+    others: usize,
+    /// The name of the session, until an answer of it is told as bad; none where it has no title.
+    title: Option<&'a [u8]>,
+    /// Where its accepted answers leave the session; none before a group is selected.
     standing: Option<Standing<'a>>,
-    /// The answer that closed the connection, accepted or refused; none where it is open.
+    /// The answer of the session that closed the connection, accepted or refused; none where it is open.
     closing: Option<Cited<'a>>,
-    /// How many answers are bad so far.
-    bad: u64,
+    /// How many answers of all sessions are bad so far.
+    pub(crate) bad: u64,
     /// The report so far.
-    text: Vec<u8, A>,
-}
-
-/// Explains what is bad of a session, of which these are both streams.
-///
-/// # Errors
-///
-/// `AllocError` where memory is refused.
-pub fn explain<A: Allocator + Copy>(
-    alloc: A,
-    limit: Limit,
-    marks: Marks,
-    client: &[u8],
-    server: &[u8],
-) -> Result<Explanation<A>, AllocError>
-    // Whatever the text of a spool is.
-    ensures { IfOk result (λ told. IsExplanation limit marks client.now server.now told.text.items told.is_without_fault) }
-{
-    let mut explainer = Explainer::new(alloc, limit, marks);
-    let is_without_fault = explainer.read(client, server)?;
-    Ok(Explanation {
-        text: explainer.text,
-        is_without_fault,
-    })
+    pub(crate) text: Vec<u8, A>,
 }
 
 impl<'a, A: Allocator + Copy> Explainer<'a, A> {
-    /// No answer was judged yet. It takes no memory.
-    fn new(alloc: A, limit: Limit, marks: Marks) -> Explainer<'a, A>
-        ensures told { (client server : List ℕ) → HasTold (profile_of limit marks) client server result (streams client server) }
+    /// No session was read yet. It takes no memory.
+    pub(crate) fn new(alloc: A, limit: Limit, marks: Marks) -> Explainer<'a, A>
+        ensures none { HasReadNone result }
         ensures limit { result.facts.limit ≡ limit }
         ensures marks { result.facts.marks ≡ marks }
     {
@@ -102,6 +76,9 @@ impl<'a, A: Allocator + Copy> Explainer<'a, A> {
             facts: Facts::new(alloc, limit, marks),
             placed: Vec::new(alloc),
             cited: Vec::new(alloc),
+            session: 0,
+            others: 0,
+            title: None,
             standing: None,
             closing: None,
             bad: 0,
@@ -109,48 +86,33 @@ impl<'a, A: Allocator + Copy> Explainer<'a, A> {
         }
     }
 
-    /// Reads both streams to their end, and tells whether no answer is bad, and all octets of the server are answers. It
-    /// has several ends, and borrows what is kept, which each of them would drop.
-    fn read(&mut self, client: &'a [u8], server: &'a [u8]) -> Result<bool, AllocError>
-        requires { HasTold (profile_kept self.old.facts) client.now server.now self.old (streams client.now server.now) }
-        ensures { IfOk result (λ good. IsExplanation self.old.facts.limit self.old.facts.marks client.now server.now self.new.text.items good) }
+    /// Begins a further session, which has this title: no group is selected, and no answer closed the connection.
+    pub(crate) fn begin(&mut self, title: Option<&'a [u8]>)
+        requires { self.old.session + 1 < 2 ^ 64 }
+        ensures kept { kept_of self.new ≡ begins (option_copied title.entry) (kept_of self.old) }
+        ensures text { self.new.text.items ≡ self.old.text.items }
     {
-        let mut pairs = Pairs::new(client, server);
-        loop {
-            match pairs.next() {
-                Step::Exchange(exchange) => self.note(exchange)?,
-                Step::Bad { class, .. } => {
-                    let index = pairs.index();
-                    match class {
-                        PairClass::Malformed => {
-                            let malformed = pairs.pass_over();
-                            self.refuse_malformed(index, &malformed)?;
-                        }
-                        _ => {
-                            let ahead = pairs.ahead();
-                            let unanswered = pairs.count_lines_behind();
-                            return self.stop(index, class, ahead, unanswered);
-                        }
-                    }
-                }
-                Step::End { unanswered } => return self.finish(pairs.index(), unanswered),
-            }
-        }
+        self.facts.begin_session();
+        self.session += 1;
+        self.others = self.placed.len();
+        self.title = title;
+        self.standing = None;
+        self.closing = None;
     }
 
     /// Accepts the next exchange, if some spool permits it together with those that were accepted, and else tells that
     /// its answer is bad, and why.
-    fn note(&mut self, exchange: Exchange<'a>) -> Result<(), AllocError>
-        requires told { (client : List ℕ) × (server : List ℕ) × (left : Unpaired) × (behind : Unpaired)
-            × HasTold (profile_kept self.old.facts) client server self.old left × IsNext left exchange behind }
-        ensures { OnOk result ((profile : Profile) (client server : List ℕ) (left behind : Unpaired)
-            → HasTold profile client server self.old left → IsNext left exchange.entry behind → HasTold profile client server self.new behind) }
+    pub(crate) fn note(&mut self, exchange: Exchange<'a>) -> Result<(), AllocError>
+        requires told { (b : Before) × (client : List ℕ) × (server : List ℕ) × (left : Unpaired) × (behind : Unpaired)
+            × HasTold (profile_kept self.old.facts) b client server self.old left × IsNext left exchange behind }
+        ensures { OnOk result ((profile : Profile) (b : Before) (client server : List ℕ) (left behind : Unpaired)
+            → HasTold profile b client server self.old left → IsNext left exchange.entry behind → HasTold profile b client server self.new behind) }
     {
         let position = self.facts.position();
         let Ok(noted) = self.facts.note(&exchange) else {
             return Err(AllocError);
         };
-        note_closing(&mut self.closing, &self.standing, &exchange);
+        note_closing(&mut self.closing, self.session, &self.standing, &exchange);
         match noted {
             Noted::Consistent => self.accept(position, exchange),
             Noted::OutOfPlace => self.refuse_unfitting(&exchange),
@@ -166,7 +128,8 @@ impl<'a, A: Allocator + Copy> Explainer<'a, A> {
         let selected = self.selected();
         let after = standing_after(&self.standing, &exchange);
         let before = mem::replace(&mut self.standing, after);
-        self.cited.push(Cited::new(before, &exchange))?;
+        self.cited
+            .push(Cited::new(self.session, before, &exchange))?;
         self.placed.push(Placed::new(selected, position, exchange))?;
         Ok(())
     }
@@ -183,11 +146,13 @@ impl<'a, A: Allocator + Copy> Explainer<'a, A> {
 
     /// Tells that the answer of an exchange doesn't fit.
     fn refuse_unfitting(&mut self, exchange: &Exchange<'a>) -> Result<(), AllocError>
-        requires { self.old.bad ≤ exchange.now.index }
-        ensures kept { OnOk result (kept_of self.new ≡ record (kept_of self.old) { bad = self.old.bad + 1 }) }
+        requires few { self.old.bad ≤ length self.old.text.items }
+        requires placed { self.old.others ≤ length self.old.placed.items }
+        requires cited { self.old.others ≤ length self.old.cited.items }
+        ensures kept { OnOk result (kept_of self.new ≡ refuses (kept_of self.old)) }
         ensures text { OnOk result (GoesOn (IsTold self.old.bad (option_map standing_of self.old.standing) exchange.now.index OutOfPlace exchange.now.line exchange.now.initial
             (λ reason. reason ≡ unfitting_told (kept_of self.old) exchange.now))
-            self.old.text.items self.new.text.items) }
+            (self.old.text.items ++ title_of (kept_of self.old)) self.new.text.items) }
     {
         let line = exchange.line();
         if self.put_bad(
@@ -199,8 +164,9 @@ impl<'a, A: Allocator + Copy> Explainer<'a, A> {
             let reason = self.facts.misfit(exchange)?;
             put_unfitting(
                 &mut self.text,
-                &self.placed,
-                &self.cited,
+                self.session,
+                self.placed.split_at(self.others).1,
+                self.cited.split_at(self.others).1,
                 exchange.answer(),
                 reason,
             )?;
@@ -215,14 +181,14 @@ impl<'a, A: Allocator + Copy> Explainer<'a, A> {
         position: Position,
         exchange: Exchange<'a>,
     ) -> Result<(), AllocError>
-        requires few { self.old.bad ≤ exchange.index }
+        requires few { self.old.bad ≤ length self.old.text.items }
         requires fit { AllByRecursion (FitsThere (profile_kept self.old.facts)) (placed_at (option_map standing_of self.old.standing) position exchange ∷ self.old.placed.items) }
         requires conflict { SomeHas (profile_kept self.old.facts)
             (told_with (profile_kept self.old.facts) (placed_at (option_map standing_of self.old.standing) position exchange) self.old.placed.items (below (length self.old.placed.items))) → ⊥ }
-        ensures kept { OnOk result (kept_of self.new ≡ record (kept_of self.old) { bad = self.old.bad + 1 }) }
+        ensures kept { OnOk result (kept_of self.new ≡ refuses (kept_of self.old)) }
         ensures text { OnOk result (GoesOn (IsTold self.old.bad (option_map standing_of self.old.standing) exchange.entry.index Contradiction exchange.entry.line exchange.entry.initial
-            (IsConflictOf (profile_kept self.old.facts) (placed_at (option_map standing_of self.old.standing) position exchange.entry) self.old.placed.items (map cited_of self.old.cited.items)))
-            self.old.text.items self.new.text.items) }
+            (IsConflictOf self.old.session (profile_kept self.old.facts) (placed_at (option_map standing_of self.old.standing) position exchange.entry) self.old.placed.items (map cited_of self.old.cited.items)))
+            (self.old.text.items ++ title_of (kept_of self.old)) self.new.text.items) }
     {
         let line = exchange.line();
         if !self.put_bad(
@@ -246,7 +212,7 @@ impl<'a, A: Allocator + Copy> Explainer<'a, A> {
         requires found { IsFound (profile_kept self.old.facts) bad.now self.old.placed.items core.now }
         requires most { MatchOption core.now.rest (length core.now.places ≤ 16) (λ bound. length core.now.places ≡ 16) }
         ensures kept { OnOk result (kept_of self.new ≡ kept_of self.old) }
-        ensures text { OnOk result (GoesOn (TellsCore (profile_kept self.old.facts) bad.now self.old.placed.items (map cited_of self.old.cited.items) core.now)
+        ensures text { OnOk result (GoesOn (TellsCore self.old.session (profile_kept self.old.facts) bad.now self.old.placed.items (map cited_of self.old.cited.items) core.now)
             self.old.text.items self.new.text.items) }
     {
         let limit = self.facts.limit();
@@ -254,6 +220,7 @@ impl<'a, A: Allocator + Copy> Explainer<'a, A> {
         let conflict = conflict_of(self.alloc, limit, marks, &self.placed, bad, core)?;
         put_point_of(
             &mut self.text,
+            self.session,
             marks,
             &conflict,
             bad,
@@ -264,16 +231,16 @@ impl<'a, A: Allocator + Copy> Explainer<'a, A> {
     }
 
     /// Tells that the frame at this place spells nothing.
-    fn refuse_malformed(
+    pub(crate) fn refuse_malformed(
         &mut self,
         index: u64,
         malformed: &MalformedFrame<'_>,
     ) -> Result<(), AllocError>
-        requires { self.old.bad < 2 ^ 63 }
-        ensures kept { OnOk result (kept_of self.new ≡ record (kept_of self.old) { bad = self.old.bad + 1 }) }
+        requires { self.old.bad ≤ length self.old.text.items }
+        ensures kept { OnOk result (kept_of self.new ≡ refuses (kept_of self.old)) }
         ensures text { OnOk result (GoesOn (IsTold self.old.bad (option_map standing_of self.old.standing) index MalformedClass (option_copied malformed.now.line) malformed.now.frame.initial
             (λ reason. reason ≡ option_map_or misspelling_line (misspelling (asked malformed.now.prompt) malformed.now.frame.initial malformed.now.frame.block) []))
-            self.old.text.items self.new.text.items) }
+            (self.old.text.items ++ title_of (kept_of self.old)) self.new.text.items) }
     {
         let initial = malformed.frame.initial();
         if self.put_bad(index, Class::Malformed, malformed.line, initial)? {
@@ -283,28 +250,34 @@ impl<'a, A: Allocator + Copy> Explainer<'a, A> {
     }
 
     /// Tells that the octets ahead, at this place, answer nothing.
-    fn refuse_octets(
+    pub(crate) fn refuse_octets(
         &mut self,
         index: u64,
         class: PairClass,
         ahead: Ahead<'_>,
     ) -> Result<(), AllocError>
-        requires few { self.old.bad < 2 ^ 63 }
+        requires few { self.old.bad ≤ length self.old.text.items }
         requires passed { class ≢ Malformed }
-        ensures kept { OnOk result (kept_of self.new ≡ record (kept_of self.old) { bad = self.old.bad + 1 }) }
+        ensures kept { OnOk result (kept_of self.new ≡ refuses (kept_of self.old)) }
         ensures text { OnOk result ((line : List ℕ) × IsFirstLine ahead.entry.rest.now line
             × GoesOn (IsTold self.old.bad (option_map standing_of self.old.standing) index (class_of class) (option_copied ahead.entry.line) line
-            (IsEndReason class (option_map cited_of self.old.closing) ahead.entry.rest.now)) self.old.text.items self.new.text.items) }
+            (IsEndReason self.old.session class (option_map cited_of self.old.closing) ahead.entry.rest.now)) (self.old.text.items ++ title_of (kept_of self.old)) self.new.text.items) }
     {
         let initial = first_line(ahead.rest);
         if self.put_bad(index, Class::from(class), ahead.line, initial)? {
-            put_end_reason(&mut self.text, class, &self.closing, ahead.rest)?;
+            put_end_reason(
+                &mut self.text,
+                self.session,
+                class,
+                &self.closing,
+                ahead.rest,
+            )?;
         }
         Ok(())
     }
 
-    /// Adds the lines of a bad answer, and where the session stands, if fewer than a hundred are bad before it: then a
-    /// reason is to be told too.
+    /// Adds the lines of a bad answer, behind the title where it is the first of its session, and where the session
+    /// stands, if fewer than a hundred are bad before it: then a reason is to be told too.
     fn put_bad(
         &mut self,
         index: u64,
@@ -312,12 +285,13 @@ impl<'a, A: Allocator + Copy> Explainer<'a, A> {
         line: Option<&[u8]>,
         initial: &[u8],
     ) -> Result<bool, AllocError>
-        requires { self.old.bad < 2 ^ 63 }
+        requires { self.old.bad ≤ length self.old.text.items }
         ensures told { IfOk result (λ is_told. is_told ≡ nat_lt self.old.bad 100) }
-        ensures text { OnOk result (self.new.text.items ≡ self.old.text.items
+        ensures text { OnOk result (self.new.text.items ≡ (self.old.text.items ++ title_of (kept_of self.old))
             ++ front_lines index class (option_copied line.entry) initial.now ++ place_lines self.old.bad (option_map standing_of self.old.standing)) }
-        ensures kept { OnOk result (kept_of self.new ≡ record (kept_of self.old) { bad = self.old.bad + 1 }) }
+        ensures kept { OnOk result (kept_of self.new ≡ refuses (kept_of self.old)) }
     {
+        self.put_title()?;
         put_bad_answer(
             &mut self.text,
             index,
@@ -326,42 +300,22 @@ impl<'a, A: Allocator + Copy> Explainer<'a, A> {
             shown(initial),
         )?;
         let is_told = self.bad < EXPLAINED;
+        self.bad += 1;
         if is_told {
             put_standing(&mut self.text, &self.standing)?;
         }
-        self.bad += 1;
         Ok(is_told)
     }
 
-    /// Ends the report where octets are left that answer nothing. The index is that of their place, and `ahead` has the
-    /// line that is answered there, and the octets; behind it are so many lines.
-    fn stop(
-        &mut self,
-        index: u64,
-        class: PairClass,
-        ahead: Ahead<'_>,
-        unanswered: u64,
-    ) -> Result<bool, AllocError>
-        requires few { self.old.bad < 2 ^ 63 }
-        requires low { index < 2 ^ 63 }
-        requires passed { class ≢ Malformed }
-        ensures { IfOk result (λ good. (limit : Limit) (marks : Marks) (client server : List ℕ) (left : Unpaired)
-            → HasTold (profile_of limit marks) client server self.old left → Ends left (bad class) → index ≡ left.index
-            → option_copied ahead.entry.line ≡ line_ahead left.places → ahead.entry.rest.now ≡ left.server → unanswered ≡ count_by is_some (drop 1 left.places)
-            → IsExplanation limit marks client server self.new.text.items good) }
+    /// Adds the title of the session, if it has one and no answer of it was told as bad.
+    fn put_title(&mut self) -> Result<(), AllocError>
+        ensures text { OnOk result (self.new.text.items ≡ self.old.text.items ++ title_of (kept_of self.old)) }
+        ensures kept { OnOk result (kept_of self.new ≡ record (kept_of self.old) { title = None }) }
     {
-        self.refuse_octets(index, class, ahead)?;
-        self.finish(index + 1, unanswered)
-    }
-
-    /// Ends the report with its last line, and tells whether no answer is bad.
-    fn finish(&mut self, answers: u64, unanswered: u64) -> Result<bool, AllocError>
-        ensures text { IfOk result (λ good. self.new.text.items ≡ self.old.text.items ++ end_line answers self.old.bad unanswered) }
-        ensures is_without_fault { IfOk result (λ good. good ≡ (self.old.bad == 0)) }
-    {
-        let bad = self.bad;
-        put_end(&mut self.text, answers, bad, unanswered)?;
-        Ok(bad == 0)
+        match self.title.take() {
+            Some(name) => put_title(&mut self.text, self.session, name),
+            None => Ok(()),
+        }
     }
 }
 
@@ -384,6 +338,7 @@ fn conflict_of<'c, A: Allocator + Copy>(
 /// Adds what the answers of a core conflict about, if that can be told, and which they are.
 fn put_point_of<A: Allocator + Copy>(
     text: &mut Vec<u8, A>,
+    here: u64,
     marks: Marks,
     conflict: &Conflict<'_, A>,
     bad: &Placed<'_>,
@@ -394,11 +349,11 @@ fn put_point_of<A: Allocator + Copy>(
     ensures { OnOk result ((profile : Profile) (answers : List PlacedValue) (told : List CitedValue) → marks ≡ profile.marks → placed.now ≡ answers → map cited_of cited.now ≡ told
         → AreTaken profile bad.now answers (places_of core.now) conflict.now → AllByRecursion (FitsThere profile) (bad.now ∷ answers) → IsFound profile bad.now answers core.now
         → length (places_of core.now) < 2 ^ 66 → MatchOption core.now.rest (length core.now.places ≤ 16) (λ bound. length core.now.places ≡ 16)
-        → GoesOn (TellsCore profile bad.now answers told core.now) text.old.items text.new.items) }
+        → GoesOn (TellsCore here profile bad.now answers told core.now) text.old.items text.new.items) }
 {
     match conflict.point_of(core)? {
-        Some(point) => put_conflict(text, marks, point, bad, placed, cited, core),
-        None => put_core(text, cited, core),
+        Some(point) => put_conflict(text, here, marks, point, bad, placed, cited, core),
+        None => put_core(text, here, cited, core),
     }
 }
 

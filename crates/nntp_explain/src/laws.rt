@@ -1,11 +1,14 @@
 //! Laws of explanations.
-ghost use Rattle.std.specs.Prelude.{◌≡◌, ◌<◌, ℕ, List, Some, MatchOption, length};
+ghost use Rattle.std.specs.Prelude.{◌≡◌, ◌<◌, ◌++◌, ℕ, Bool, List, [], ◌∷◌, Some, MatchOption, length, codes, decimal};
 ghost use Rattle.nntp_wire.specs.Answer.{Asked, Response};
+ghost use Rattle.nntp_wire.specs.declared.limit.Limit.{Limit};
+ghost use Rattle.nntp_wire.specs.declared.marks.Marks.{Marks};
 ghost use Rattle.nntp_article.specs.Session.Misfit.{misfit, below_low, marked_by};
 ghost use Rattle.nntp_article.specs.declared.session.profile.Profile.{Profile};
 ghost use Rattle.nntp_facts.specs.Conflict.{placed_of};
 ghost use Rattle.nntp_pair.specs.Pairing.{Paired};
-ghost use Rattle.nntp_explain.specs.Explaining.{visible_left};
+ghost use Rattle.nntp_several.specs.Sessions.{Named};
+ghost use Rattle.nntp_explain.specs.Explaining.{visible_left, Counts, counts_text, titled, IsExplanation, IsExplanationOfAll};
 ghost use Rattle.nntp_explain.specs.Reasons.{low_giver};
 
 use nntp_article::session::laws::reasons_are_so;
@@ -18,3 +21,13 @@ pub fn low_marks_have_givers()
 {
     reasons_are_so();
 }
+
+/// Of one session, the report on several has the lines of the report on it alone, behind its title, and counts the same.
+pub fn one_session_is_explained_alone()
+    ensures alone { (limit : Limit) (marks : Marks) (s : Named) (text : List ℕ) (good : Bool) → IsExplanationOfAll limit marks (s ∷ []) text good
+        → (lines : List ℕ) × (c : Counts) × (text ≡ titled 1 s.name c.bad ++ lines ++ codes "end sessions=" ++ decimal 1 ++ codes " " ++ counts_text c)
+        × IsExplanation limit marks s.session.client s.session.server (lines ++ codes "end " ++ counts_text c) good }
+    ensures of_all { (limit : Limit) (marks : Marks) (s : Named) (text : List ℕ) (good : Bool) → IsExplanation limit marks s.session.client s.session.server text good
+        → (lines : List ℕ) × (c : Counts) × (text ≡ lines ++ codes "end " ++ counts_text c)
+        × IsExplanationOfAll limit marks (s ∷ []) (titled 1 s.name c.bad ++ lines ++ codes "end sessions=" ++ decimal 1 ++ codes " " ++ counts_text c) good }
+{}

@@ -1,6 +1,7 @@
-//! Explains a recorded session: each bad answer, where the session stands there, and why it is bad.
+//! Explains recorded sessions: each bad answer, where its session stands there, and why it is bad.
 //!
-//! `explain` reads a session to its end, behind bad answers too, and writes the report on it.
+//! `explain` reads a session to its end, behind bad answers too, and writes the report on it; `explain_sessions` does so
+//! of several sessions of one spool.
 #![tactic(auto)]
 
 mod ask;
@@ -12,7 +13,8 @@ mod reasons;
 mod said_numbers;
 mod said_parts;
 mod says;
+mod sessions;
 mod standing;
 mod unfitting;
 
-pub use explainer::{Explanation, explain};
+pub use sessions::{Explanation, explain, explain_sessions};

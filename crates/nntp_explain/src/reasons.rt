@@ -1,4 +1,4 @@
-//! Why an answer is bad, as `explain` prints it.
+//! Why an answer is bad, as `explain` prints it. `here` is the number of its session.
 ghost use Rattle.std.specs.Prelude.{◌≡◌, ◌++◌, OnOk, codes, decimal, map};
 ghost use Rattle.std.specs.List.{flat_map};
 ghost use Rattle.std.specs.Option.{option_map};
@@ -8,7 +8,7 @@ ghost use Rattle.nntp_article.specs.Session.MisfitView.{why};
 ghost use Rattle.nntp_facts.specs.PointView.{point_of};
 ghost use Rattle.nntp_printing.specs.Printing.{escaped};
 ghost use Rattle.nntp_explain.specs.Reasons.{about_line, octets_line, current_text, standing_line, allowed_text, misfit_line, misspelling_line, cut_line, surplus_lines};
-ghost use Rattle.nntp_explain.specs.Reasons.{due_word, fault_word, number_line, core_lines, rest_line, index_at, because_at, because_lines};
+ghost use Rattle.nntp_explain.specs.Reasons.{due_word, fault_word, number_line, core_lines, rest_line, answer_at, answer_text, because_at, because_lines};
 ghost use Rattle.nntp_explain.specs.ExplainingView.{standing_of, cited_of};
 
 use crate::standing::{Cited, Standing};
@@ -147,14 +147,15 @@ pub(crate) fn put_cut<A: Allocator + Copy>(
 /// Adds the lines that tell which answer closed the connection, if one did, or else that no line is left to be answered.
 pub(crate) fn put_surplus<A: Allocator + Copy>(
     text: &mut Vec<u8, A>,
+    here: u64,
     closing: &Option<Cited<'_>>,
 ) -> Result<(), AllocError>
-    ensures { OnOk result (text.new.items ≡ text.old.items ++ surplus_lines (option_map cited_of closing.now)) }
+    ensures { OnOk result (text.new.items ≡ text.old.items ++ surplus_lines here (option_map cited_of closing.now)) }
 {
     match closing {
         Some(answer) => {
             text.extend_from_slice(b"why closed\n")?;
-            put_because(text, answer)
+            put_because(text, here, answer)
         }
         None => text.extend_from_slice(b"why no command\n"),
     }
@@ -301,52 +302,77 @@ fn put_named<A: Allocator + Copy>(
 /// Adds the answers of a core, or of the end of one.
 pub(crate) fn put_core<A: Allocator + Copy>(
     text: &mut Vec<u8, A>,
+    here: u64,
     answers: &[Cited<'_>],
     core: &Core<A>,
 ) -> Result<(), AllocError>
-    ensures { OnOk result (text.new.items ≡ text.old.items ++ core_lines (map cited_of answers.now) core.now) }
+    ensures { OnOk result (text.new.items ≡ text.old.items ++ core_lines here (map cited_of answers.now) core.now) }
 {
-    put_rest(text, answers, core.rest())?;
-    put_places(text, answers, core.places())
+    put_rest(text, here, answers, core.rest())?;
+    put_places(text, here, answers, core.places())
 }
 
 /// Adds the line of the answers below a bound, where further reasons are among them.
 pub(crate) fn put_rest<A: Allocator + Copy>(
     text: &mut Vec<u8, A>,
+    here: u64,
     answers: &[Cited<'_>],
     rest: Option<usize>,
 ) -> Result<(), AllocError>
-    ensures { OnOk result (text.new.items ≡ text.old.items ++ rest_line (map cited_of answers.now) rest) }
+    ensures { OnOk result (text.new.items ≡ text.old.items ++ rest_line here (map cited_of answers.now) rest) }
 {
     let Some(bound) = rest else {
         return Ok(());
     };
-    let last = index_at(answers, bound.saturating_sub(1));
-    put_number(text, b"because some of ", index_at(answers, 0))?;
-    put_number_line(text, b" to ", last)?;
+    put_answer_at(text, b"because some of ", here, answers, 0)?;
+    put_answer_at(text, b" to ", here, answers, bound.saturating_sub(1))?;
+    text.push(b'\n')?;
     Ok(())
 }
 
-/// Which answer it is that stands at a place.
-fn index_at(answers: &[Cited<'_>], place: usize) -> u64
-    ensures { result ≡ index_at (map cited_of answers.now) place }
+/// Adds a label, and which answer it is that stands at a place, if one is there.
+fn put_answer_at<A: Allocator + Copy>(
+    text: &mut Vec<u8, A>,
+    label: &[u8],
+    here: u64,
+    answers: &[Cited<'_>],
+    place: usize,
+) -> Result<(), AllocError>
+    ensures { OnOk result (text.new.items ≡ text.old.items ++ label.now ++ answer_at here (map cited_of answers.now) place) }
 {
     match answers.get(place) {
-        Some(answer) => answer.index,
-        None => 0,
+        Some(answer) => put_answer(text, label, here, answer),
+        None => text.extend_from_slice(label),
     }
+}
+
+/// Adds a label, and which answer it is: its index, and the number of its session where that isn't `here`.
+fn put_answer<A: Allocator + Copy>(
+    text: &mut Vec<u8, A>,
+    label: &[u8],
+    here: u64,
+    answer: &Cited<'_>,
+) -> Result<(), AllocError>
+    ensures { OnOk result (text.new.items ≡ text.old.items ++ label.now ++ answer_text here (cited_of answer.now)) }
+{
+    put_number(text, label, answer.index)?;
+    if answer.session == here {
+        return Ok(());
+    }
+    put_number(text, b" of session ", answer.session)
 }
 
 /// Adds the answers at the places, one after the other.
 fn put_places<A: Allocator + Copy>(
     text: &mut Vec<u8, A>,
+    here: u64,
     answers: &[Cited<'_>],
     places: &[usize],
 ) -> Result<(), AllocError>
-    ensures { OnOk result (text.new.items ≡ text.old.items ++ flat_map (because_at (map cited_of answers.now)) places.now) }
+    ensures { OnOk result (text.new.items ≡ text.old.items ++ flat_map (because_at here (map cited_of answers.now)) places.now) }
 {
     for place in places {
-        put_because_at(text, answers, *place)?;
+        put_because_at(text, here, answers, *place)?;
     }
     Ok(())
 }
@@ -354,25 +380,28 @@ fn put_places<A: Allocator + Copy>(
 /// Adds the answer at a place, if one is there.
 pub(crate) fn put_because_at<A: Allocator + Copy>(
     text: &mut Vec<u8, A>,
+    here: u64,
     answers: &[Cited<'_>],
     place: usize,
 ) -> Result<(), AllocError>
-    ensures { OnOk result (text.new.items ≡ text.old.items ++ because_at (map cited_of answers.now) place) }
+    ensures { OnOk result (text.new.items ≡ text.old.items ++ because_at here (map cited_of answers.now) place) }
 {
     match answers.get(place) {
-        Some(answer) => put_because(text, answer),
+        Some(answer) => put_because(text, here, answer),
         None => Ok(()),
     }
 }
 
-/// Adds an answer that is a reason, and where the session stands there.
+/// Adds an answer that is a reason, and where its session stands there.
 fn put_because<A: Allocator + Copy>(
     text: &mut Vec<u8, A>,
+    here: u64,
     answer: &Cited<'_>,
 ) -> Result<(), AllocError>
-    ensures { OnOk result (text.new.items ≡ text.old.items ++ because_lines (cited_of answer.now)) }
+    ensures { OnOk result (text.new.items ≡ text.old.items ++ because_lines here (cited_of answer.now)) }
 {
-    put_number_line(text, b"because answer ", answer.index)?;
+    put_answer(text, b"because answer ", here, answer)?;
+    text.push(b'\n')?;
     put_command(text, shown_line(answer.line))?;
     put_escaped_line(text, b"answer ", shown(answer.initial))?;
     put_standing(text, &answer.standing)?;

@@ -24,13 +24,15 @@ pub(crate) struct Standing<'a> {
 /// An accepted answer as a reason cites it.
 #[derive(Drop)]
 pub(crate) struct Cited<'a> {
+    /// The number of its session, which counts from 1.
+    pub session: u64,
     /// Its index.
     pub index: u64,
     /// The line that it answers; none for the greeting.
     pub line: Option<&'a [u8]>,
     /// Its initial line.
     pub initial: &'a [u8],
-    /// Where the session stands before it; none where no group is selected.
+    /// Where its session stands before it; none where no group is selected.
     pub standing: Option<Standing<'a>>,
 }
 
@@ -102,11 +104,16 @@ pub(crate) fn standing_after<'a>(
 }
 
 impl<'a> Cited<'a> {
-    /// The answer of an exchange before which the session stands there.
-    pub(crate) fn new(standing: Option<Standing<'a>>, exchange: &Exchange<'a>) -> Cited<'a>
-        ensures { cited_of result ≡ cited_at (option_map standing_of standing.entry) exchange.now }
+    /// The answer of an exchange of the session of this number, which stands there before it.
+    pub(crate) fn new(
+        session: u64,
+        standing: Option<Standing<'a>>,
+        exchange: &Exchange<'a>,
+    ) -> Cited<'a>
+        ensures { cited_of result ≡ cited_at session (option_map standing_of standing.entry) exchange.now }
     {
         Cited {
+            session,
             index: exchange.index(),
             line: exchange.line(),
             initial: exchange.initial(),
@@ -115,16 +122,18 @@ impl<'a> Cited<'a> {
     }
 }
 
-/// Keeps an exchange, before which the session stands there, as the one that closed the connection, if it closes it.
+/// Keeps an exchange, before which the session of this number stands there, as the one that closed the connection, if it
+/// closes it.
 pub(crate) fn note_closing<'a>(
     closing: &mut Option<Cited<'a>>,
+    session: u64,
     standing: &Option<Standing<'a>>,
     exchange: &Exchange<'a>,
 )
-    ensures { option_map cited_of closing.new ≡ closing_after (option_map cited_of closing.old) (option_map standing_of standing.now) exchange.now }
+    ensures { option_map cited_of closing.new ≡ closing_after session (option_map cited_of closing.old) (option_map standing_of standing.now) exchange.now }
 {
     if exchange.closes() {
-        *closing = Some(Cited::new(copied(standing), exchange));
+        *closing = Some(Cited::new(session, copied(standing), exchange));
     }
 }
 

@@ -13,21 +13,23 @@ use nntp_facts::Placed;
 use nntp_wire::Answer;
 use std::alloc::{AllocError, Allocator};
 
-/// Adds why an answer doesn't fit behind these, which are placed and cited, if it doesn't.
+/// Adds why an answer of the session `here` doesn't fit behind these of that session, which are placed and cited, if it
+/// doesn't.
 pub(crate) fn put_unfitting<A: Allocator + Copy>(
     text: &mut Vec<u8, A>,
+    here: u64,
     placed: &[Placed<'_>],
     cited: &[Cited<'_>],
     answer: &Answer<'_>,
     reason: Option<Misfit<'_>>,
 ) -> Result<(), AllocError>
     ensures { OnOk result (text.new.items ≡ text.old.items
-        ++ option_map_or (unfitting_lines placed.now (map cited_of cited.now) (response answer.now)) (why_if reason.entry) []) }
+        ++ option_map_or (unfitting_lines here placed.now (map cited_of cited.now) (response answer.now)) (why_if reason.entry) []) }
 {
     match reason {
         Some(Misfit::BelowLow(low)) => {
             put_misfit(text, Misfit::BelowLow(low))?;
-            put_giver(text, placed, cited, answer, low)
+            put_giver(text, here, placed, cited, answer, low)
         }
         Some(misfit) => put_misfit(text, misfit),
         None => Ok(()),
@@ -37,12 +39,13 @@ pub(crate) fn put_unfitting<A: Allocator + Copy>(
 /// Adds the answer that gave the group of a 211 this low mark.
 fn put_giver<A: Allocator + Copy>(
     text: &mut Vec<u8, A>,
+    here: u64,
     placed: &[Placed<'_>],
     cited: &[Cited<'_>],
     answer: &Answer<'_>,
     low: u64,
 ) -> Result<(), AllocError>
-    ensures { OnOk result (text.new.items ≡ text.old.items ++ giver_lines placed.now (map cited_of cited.now) (response answer.now) low) }
+    ensures { OnOk result (text.new.items ≡ text.old.items ++ giver_lines here placed.now (map cited_of cited.now) (response answer.now) low) }
 {
     let giver = match answer {
         Answer::Group { name, .. } | Answer::Numbers { name, .. } => {
@@ -51,7 +54,7 @@ fn put_giver<A: Allocator + Copy>(
         _ => None,
     };
     match giver {
-        Some(place) => put_because_at(text, cited, place),
+        Some(place) => put_because_at(text, here, cited, place),
         None => Ok(()),
     }
 }

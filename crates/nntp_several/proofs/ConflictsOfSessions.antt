@@ -1,26 +1,30 @@
 -- A contradiction conflicts with the accepted answers of all sessions.
-use Rattle.std.proofs.Common.{◌≡◌, List, [], ◌∷◌, ◌++◌, length, map, sym, ap, subst, ◌∙◌, append_assoc}
+use Rattle.std.proofs.Common.{◌≡◌, IsTrue, List, [], ◌∷◌, ◌++◌, length, map, refl, sym, ap, subst, ◌∙◌, append_assoc}
 use Rattle.std.specs.List.{AllByRecursion, flat_map}
 use Rattle.std.proofs.lemmas.Grind.{flat_map-append}
+use Rattle.nntp_wire.specs.Answer.{Asked, Response}
 use Rattle.nntp_article.specs.declared.session.profile.Profile.{Profile}
-use Rattle.nntp_article.specs.Session.Machine.{start}
+use Rattle.nntp_article.specs.Session.Machine.{Visible, start, fits}
 use Rattle.nntp_article.specs.Session.Spool.{Spool}
 use Rattle.nntp_pair.specs.Pairing.{Paired, asked_at, asked_of, responses_of}
 use Rattle.nntp_facts.specs.declared.position.Position.TheVariants.{Nowhere}
 use Rattle.nntp_facts.specs.declared.noted.Noted.TheVariants.{Contradiction}
+use Rattle.nntp_facts.specs.Answered.{Answered, FitEach, facts_of_all}
+use Rattle.nntp_facts.specs.Classes.{visible_from}
 use Rattle.nntp_facts.specs.Conflict.{Placed, placed_of, placed_behind, FitsThere, said as said_there, told, told_at, told_with, below, SomeHas}
 use Rattle.nntp_facts.specs.Facts.{Fact, Holds, FitsAll, facts_of}
-use Rattle.nntp_facts.specs.Together.{Join}
+use Rattle.nntp_facts.specs.Given.{facts_of_session}
+use Rattle.nntp_facts.specs.Noted.{FactsKept, exchanged, said_by, ArePermittedBehind, HasNotedBehind, IsDue, IsNotedBehind}
 use Rattle.nntp_facts.proofs.Conflicts.{session_fits, session_told, there_said, told_own, all_places}
 use Rattle.nntp_facts.proofs.Members.{all_both, all_front, all_back}
+use Rattle.nntp_facts.proofs.Given.GivenPermits.{said}
+use Rattle.nntp_facts.proofs.Given.SessionsByFacts.{stand_each, permits_each}
+use Rattle.nntp_facts.proofs.Keeping.NotedExchange.{Runs, as_many, ends, facts_next}
+use Rattle.nntp_facts.proofs.Keeping.NotedSessions.{facts_behind}
 use Rattle.nntp_facts.proofs.Reading.NotedContradictions.{placed_next}
-use Rattle.nntp_facts.proofs.Together.FactsJoin.{together_more, answer_agrees}
-use Rattle.nntp_facts.proofs.Together.FactsOfASpoolStand.{stand}
-use Rattle.nntp_facts.specs.Answered.{Answered, FitEach, facts_of_all}
+use Rattle.nntp_facts.proofs.Session.LaterPrompts.{next_behind, run_longer, visible_longer}
+use Rattle.nntp_facts.proofs.Session.OneMoreAnswer.{as_few, fitting_grows}
 use Rattle.nntp_several.specs.Conflict.{placed_of_all}
-use Rattle.nntp_facts.specs.Noted.{FactsKept, exchanged, said_by, said_behind, HasNotedBehind, IsNotedBehind, said_then, MayBeNoted}
-use Rattle.nntp_facts.proofs.Keeping.NotedExchange.{stand_together, permitted_if}
-use Rattle.nntp_facts.proofs.Given.SessionsByFacts.{stand_each}
 
 -- the answers of sessions that fit fit where they stand
 all_fit : (profile : Profile) (earlier : List (List Paired)) → FitEach profile (map exchanged earlier) → AllByRecursion (FitsThere profile) (flat_map placed_of earlier)
@@ -56,12 +60,12 @@ told_of_all profile S (pairs ∷ earlier) h =
 
 -- a contradiction fits where it stands, and conflicts with them all
 pub noted_conflicts_behind : (profile : Profile) (facts : FactsKept) (earlier : List (List Paired)) (past : List Paired) (pair : Paired) → HasNotedBehind profile facts earlier past
-    → MayBeNoted profile facts pair → IsNotedBehind profile earlier past pair facts facts Contradiction
+    → IsDue facts pair → IsNotedBehind profile earlier past pair facts facts Contradiction
     → FitsThere profile (placed_behind past pair)
     × (SomeHas profile (told_with profile (placed_behind past pair) (placed_of_all earlier past) (below (length (placed_of_all earlier past)))) → ⊥)
-noted_conflicts_behind profile facts earlier past pair s m noted = (
-  (facts.visible, ap (λ v. v.selected) s.visible, m.fitting),
-  λ h. noted.1 ((permitted_if profile facts earlier past s pair m).1 (joins h)),
+noted_conflicts_behind profile facts earlier past pair s due noted = (
+  (facts.visible, ap (λ v. v.selected) s.visible, noted.0),
+  λ h. noted.1 (permitted h),
 )
   where
     answers : List Placed
@@ -70,24 +74,62 @@ noted_conflicts_behind profile facts earlier past pair s m noted = (
     bad : Placed
     bad = placed_behind past pair
 
-    all : List Fact
-    all = said_behind profile.marks earlier past
+    asked : Asked
+    asked = asked_at pair.line
 
+    before : List Answered
+    before = map exchanged earlier
+
+    Fits : Answered → Type 0
+    Fits s = FitsAll profile start.visible s.prompts s.answers
+
+    -- what is visible where it stands
+    here : Visible
+    here = visible_from start.visible (asked_of past) (responses_of past)
+
+    -- what it says
     new : List Fact
-    new = said_then profile facts pair
+    new = facts_of profile.marks here bad.position asked pair.response
 
-    joins : SomeHas profile (told_with profile bad answers (below (length answers))) → Join all new
-    joins (S, spool, holds) =
+    -- its session fits with it
+    fits_with : Fits (exchanged (past ++ pair ∷ []))
+    fits_with =
+        let ps = asked_of past in
+        let own = responses_of past in
+        let seen = visible_longer start.visible ps (asked ∷ []) own (as_few past) in
+        let run = (all_back (Runs profile s.permitted.0) before (exchanged past ∷ []) s.permitted.2).0 in
+        let fit = (said profile s.permitted.0 (ps ++ asked ∷ []) own (run_longer profile s.permitted.0 start ps (asked ∷ []) own run)).0 in
+        subst (λ (q : List Asked × List Response). FitsAll profile start.visible q.0 q.1) (sym (ends past pair))
+        ((fitting_grows profile start.visible (ps ++ asked ∷ []) own asked pair.response (next_behind ps [] asked own (as_many past))).1 (
+          fit,
+          ap (λ (v : Visible). v.closed) (seen ∙ sym s.visible) ∙ due.is_open,
+          subst (λ v. IsTrue (fits profile v asked pair.response)) (s.visible ∙ sym seen) noted.0,
+        ))
+
+    -- what all sessions say with it
+    said_with : facts_of_all profile.marks (before ++ exchanged (past ++ pair ∷ []) ∷ []) ≡ facts_of_all profile.marks before ++ (said_by profile.marks past ++ new)
+    said_with =
+        facts_behind profile.marks before (exchanged (past ++ pair ∷ []))
+        ∙ ap (λ own. facts_of_all profile.marks before ++ own)
+        (ap (λ (q : List Asked × List Response). facts_of_session profile.marks q.0 q.1) (ends past pair)
+        ∙ facts_next profile.marks (asked_of past) (responses_of past) asked pair.response (as_many past))
+
+    permitted : SomeHas profile (told_with profile bad answers (below (length answers))) → ArePermittedBehind profile earlier (past ++ pair ∷ [])
+    permitted (S, spool, holds) =
         let others = flat_map (told_at profile answers) (below (length answers)) in
         let first = flat_map (told profile) (flat_map placed_of earlier) in
         let second = flat_map (told profile) (placed_of past) in
         let both = subst (AllByRecursion (Holds S)) (flat_map-append (told profile) (flat_map placed_of earlier) (placed_of past))
         (all_places profile S answers (all_back (Holds S) (told profile bad) others holds)) in
-        let before = told_of_all profile S earlier (all_front (Holds S) first second both) in
+        let all = told_of_all profile S earlier (all_front (Holds S) first second both) in
         let own = session_told profile S start.visible Nowhere (asked_of past) (responses_of past) (all_back (Holds S) first second both) in
-        let same : new ≡ said_there profile.marks bad =
-        ap (λ at. facts_of profile.marks facts.visible at (asked_at pair.line) pair.response) s.position ∙ there_said profile.marks bad facts.visible (ap (λ v. v.selected) s.visible) in
-        let last = subst (AllByRecursion (Holds S)) (sym same) (told_own profile S (said_there profile.marks bad) (all_front (Holds S) (told profile bad) others holds)) in
-        let whole = all_both (Holds S) all new (all_both (Holds S) (facts_of_all profile.marks (map exchanged earlier)) (said_by profile.marks past) before own) last in
-        (together_more all new (stand_together profile facts earlier past s) (answer_agrees profile.marks facts.visible facts.position (asked_at pair.line) pair.response)).0
-        (stand profile.limit S (all ++ new) spool whole)
+        let last = subst (AllByRecursion (Holds S)) (sym (there_said profile.marks bad here refl))
+        (told_own profile S (said_there profile.marks bad) (all_front (Holds S) (told profile bad) others holds)) in
+        let whole = all_both (Holds S) (facts_of_all profile.marks before) (said_by profile.marks past ++ new) all (all_both (Holds S) (said_by profile.marks past) new own last) in
+        let fit = (stand_each profile s.permitted.0 (before ++ exchanged past ∷ []) s.permitted.1 s.permitted.2).0 in (
+          S,
+          spool,
+          permits_each profile S (before ++ exchanged (past ++ pair ∷ []) ∷ [])
+              (all_both Fits before (exchanged (past ++ pair ∷ []) ∷ []) (all_front Fits before (exchanged past ∷ []) fit) (fits_with, tt))
+              (subst (AllByRecursion (Holds S)) (sym said_with) whole),
+        )

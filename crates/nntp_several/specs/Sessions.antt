@@ -12,6 +12,15 @@ pub record Recorded : Type 0 where
   pub client : List ℕ
   pub server : List ℕ
 
+-- a session, and what it is called
+pub record Named : Type 0 where
+  pub name : List ℕ
+  pub session : Recorded
+
+-- sessions without their names
+abbrev pub unnamed : List Named → List Recorded
+unnamed sessions = map (λ (s : Named). s.session) sessions
+
 -- the spool explains a session, with some number of answers
 abbrev pub ExplainsIt : Profile → Spool → Recorded → Type 0
 ExplainsIt profile S session = (n : ℕ) × Explains profile S session.client session.server n

@@ -8,7 +8,7 @@ ghost use Rattle.nntp_several.specs.Reading.{ReadSession, IsReadingOfAll, IsGood
 ghost use Rattle.nntp_pair.specs.declared.class.Class.{Class};
 ghost use Rattle.nntp_several.specs.Verifying.{VerifiedOfAll, PermitsAll, IsVerifiedOfAll};
 ghost use Rattle.nntp_pair.specs.declared.class.Class.TheVariants.{OutOfPlace, Contradiction as Contradicts};
-ghost use Rattle.nntp_facts.specs.Noted.{FactsKept, exchanged, said_behind, ArePermittedBehind, HasNotedBehind, IsNotedBehind, begun, MayBeNoted};
+ghost use Rattle.nntp_facts.specs.Noted.{FactsKept, exchanged, said_behind, ArePermittedBehind, HasNotedBehind, IsDue, IsNotedBehind, begun};
 ghost use Rattle.nntp_facts.specs.Conflict.{placed_behind, FitsThere, SomeHas, told_with, below};
 ghost use Rattle.nntp_several.specs.Conflict.{placed_of_all};
 ghost use Rattle.nntp_facts.specs.declared.noted.Noted.TheVariants.{Consistent, OutOfPlace as NotedOutOfPlace, Contradiction};
@@ -112,7 +112,7 @@ pub fn contradiction_conflicts_with_all_sessions()
     ensures accepted { (profile : Profile) (facts : FactsKept) (earlier : List (List Paired)) (past : List Paired) → HasNotedBehind profile facts earlier past
         → AllByRecursion (FitsThere profile) (placed_of_all earlier past) }
     ensures contradiction { (profile : Profile) (facts : FactsKept) (earlier : List (List Paired)) (past : List Paired) (pair : Paired)
-        → HasNotedBehind profile facts earlier past → MayBeNoted profile facts pair → IsNotedBehind profile earlier past pair facts facts Contradiction
+        → HasNotedBehind profile facts earlier past → IsDue facts pair → IsNotedBehind profile earlier past pair facts facts Contradiction
         → FitsThere profile (placed_behind past pair)
         × (SomeHas profile (told_with profile (placed_behind past pair) (placed_of_all earlier past) (below (length (placed_of_all earlier past)))) → ⊥) }
 {}

@@ -7,5 +7,5 @@ pub mod laws;
 mod recorded;
 mod verifying;
 
-pub use recorded::Recorded;
+pub use recorded::{Named, Recorded};
 pub use verifying::{VerifiedSessions, verify_sessions};

@@ -1,4 +1,4 @@
-//! A session as it was recorded.
+//! A session as it was recorded, and its name.
 use std::marker::Model;
 
 /// What client and server sent in one session (RFC 3977, section 3.1), as it was recorded.
@@ -16,4 +16,21 @@ impl<'a> Model for Recorded<'a> {
     ghost Value = { RecordedValue };
 
     ghost view = { λ session. record { client = session.client.now; server = session.server.now } };
+}
+
+/// A session with its name.
+#[derive(Drop)]
+pub struct Named<'a> {
+    /// What a report calls it; any octets, or none.
+    pub name: &'a [u8],
+    /// What was recorded of it.
+    pub session: Recorded<'a>,
+}
+
+impl<'a> Model for Named<'a> {
+    ghost use Rattle.nntp_several.specs.Sessions.{Named as NamedValue};
+
+    ghost Value = { NamedValue };
+
+    ghost view = { λ named. record { name = named.name.now; session = named.session } };
 }

@@ -14,11 +14,11 @@ returns g c =
     let told = map cited_of c.args.cited.now in
     let core = c.args.core.now in
     on_ok c.put_reasons.result
-    (λ put. conflict_told c.args.text.now.items (about_line point) (rest_line told core.rest) (λ k. said_lines c.args.how k point c.args.bad.now)
-    (λ k. flat_map (reason_lines c.args.how k point answers told) core.places)
+    (λ put. conflict_told c.args.text.now.items (about_line point) (rest_line c.args.here told core.rest) (λ k. said_lines c.args.how k point c.args.bad.now)
+    (λ k. flat_map (reason_lines c.args.here c.args.how k point answers told) core.places)
     c.told_line-line.result (told_line point c.args.bad.now answers core.places) c.put_about.new.text.items c.put_said.new.text.items c.put_rest.new.text.items c.put_reasons.new.text.items
     c.in_ok-put_about.ensures c.in_ok-put_said.ensures
-    (c.in_ok-put_rest.ensures ∙ ap (λ rest. c.put_said.new.text.items ++ rest_line told rest) c.rest.ensures)
-    (put ∙ ap (λ places. c.put_rest.new.text.items ++ flat_map (reason_lines c.args.how c.told_line-line.result point answers told) places) c.places-2.ensures)
+    (c.in_ok-put_rest.ensures ∙ ap (λ rest. c.put_said.new.text.items ++ rest_line c.args.here told rest) c.rest.ensures)
+    (put ∙ ap (λ places. c.put_rest.new.text.items ++ flat_map (reason_lines c.args.here c.args.how c.told_line-line.result point answers told) places) c.places-2.ensures)
     (c.told_line-line.ensures.line ∙ ap (told_line point c.args.bad.now answers) c.places.ensures))
     c.put_reasons.ensures

@@ -17,8 +17,8 @@ returns-in-Some g c =
     let core = c.args.core.now in
     let text = c.args.text.now.items in
     let first = c.in_ok-point.ensures profile bad answers taken fit found few (many core.rest core.places most) in
-    let lines = ap (λ (q : Marks × List Placed × List Cited). text ++ conflict_lines q.0 (point_of c.in-Some.point) bad q.1 q.2 core) (λ i. (how i, these i, those i)) in
-    tells profile bad answers told core (Some (point_of c.in-Some.point)) text c.put_conflict.new.text.items
+    let lines = ap (λ (q : Marks × List Placed × List Cited). text ++ conflict_lines c.args.here q.0 (point_of c.in-Some.point) bad q.1 q.2 core) (λ i. (how i, these i, those i)) in
+    tells c.args.here profile bad answers told core (Some (point_of c.in-Some.point)) text c.put_conflict.new.text.items
     (subst (λ o. IsPointOfCore profile bad answers core (option_map point_of o)) c.in-Some.is first) (put ∙ lines))
     c.put_conflict.ensures
 
@@ -29,6 +29,6 @@ returns-in-None g c =
     let core = c.args.core.now in
     let text = c.args.text.now.items in
     let first = c.in_ok-point.ensures profile bad answers taken fit found few (many core.rest core.places most) in
-    tells profile bad answers told core None text c.put_core.new.text.items
-    (subst (λ o. IsPointOfCore profile bad answers core (option_map point_of o)) c.in-None.is first) (put ∙ ap (λ told. text ++ core_lines told core) those))
+    tells c.args.here profile bad answers told core None text c.put_core.new.text.items
+    (subst (λ o. IsPointOfCore profile bad answers core (option_map point_of o)) c.in-None.is first) (put ∙ ap (λ told. text ++ core_lines c.args.here told core) those))
     c.put_core.ensures

@@ -1,22 +1,22 @@
 use Rattle.std.proofs.Common.{◌≡◌, ◌∙◌, ◌++◌, ap, append_assoc, ℕ, List}
-use Rattle.std.specs.Fmt.{decimal}
 use Rattle.std.specs.Option.{option_map, option_copied}
 use Rattle.std.specs.Prelude.{codes}
 use Rattle.nntp_printing.specs.BadAnswer.{command_line, shown}
 use Rattle.nntp_printing.specs.Printing.{escaped}
-use Rattle.nntp_explain.specs.ExplainingView.{standing_of}
-use Rattle.nntp_explain.specs.Reasons.{standing_line}
+use Rattle.nntp_explain.specs.ExplainingView.{cited_of, standing_of}
+use Rattle.nntp_explain.specs.Reasons.{answer_text, standing_line}
 use Rattle.nntp_explain.proofs.reasons.put_because.Goals as goal
 
--- four texts, one behind the other
-joined : (t t1 t2 t3 t4 a b x y z d : List ℕ) → t1 ≡ t ++ a → t2 ≡ t1 ++ b → t3 ≡ t2 ++ x ++ y ++ z → t4 ≡ t3 ++ d → t4 ≡ t ++ (a ++ b ++ x ++ y ++ z ++ d)
-joined t t1 t2 t3 t4 a b x y z d e1 e2 e3 e4 = rw (e4, e3, e2, e1) (simp append_assoc)
+-- five texts, one behind the other
+joined : (t t1 t2 t3 t4 t5 w a n b x y z d : List ℕ) → t1 ≡ t ++ w ++ a → t2 ≡ t1 ++ n → t3 ≡ t2 ++ b → t4 ≡ t3 ++ x ++ y ++ z → t5 ≡ t4 ++ d
+    → t5 ≡ t ++ (w ++ a ++ n ++ b ++ x ++ y ++ z ++ d)
+joined t t1 t2 t3 t4 t5 w a n b x y z d e1 e2 e3 e4 e5 = rw (e5, e4, e3, e2, e1) (simp append_assoc)
 
 pub returns : goal.returns
 returns g c =
     let answer = c.args.answer.now in
-    joined c.args.text.now.items c.put_number_line.new.text.items c.put_command.new.text.items c.put_escaped_line.new.text.items c.put_standing.new.text.items
-    (codes "because answer " ++ decimal answer.index ++ codes "\n") (command_line (option_map shown (option_copied answer.line))) (codes "answer ") (escaped (shown answer.initial.now)) (codes "\n")
-    (standing_line (option_map standing_of answer.standing)) c.in_ok-put_number_line.ensures
-    (c.in_ok-put_command.ensures ∙ ap (λ line. c.put_number_line.new.text.items ++ command_line line) c.shown_line.ensures)
+    joined c.args.text.now.items c.put_answer.new.text.items c.push.new.self.items c.put_command.new.text.items c.put_escaped_line.new.text.items c.put_standing.new.text.items
+    (codes "because answer ") (answer_text c.args.here (cited_of answer)) (codes "\n") (command_line (option_map shown (option_copied answer.line))) (codes "answer ") (escaped (shown answer.initial.now))
+    (codes "\n") (standing_line (option_map standing_of answer.standing)) c.in_ok-put_answer.ensures c.in_ok-push.ensures.items
+    (c.in_ok-put_command.ensures ∙ ap (λ line. c.push.new.self.items ++ command_line line) c.shown_line.ensures)
     (c.in_ok-put_escaped_line.ensures ∙ ap (λ octets. c.put_command.new.text.items ++ codes "answer " ++ escaped octets ++ codes "\n") c.shown.ensures) c.in_ok-put_standing.ensures

@@ -14,5 +14,5 @@ one-more tell xs k text new all within known put =
 
 pub loop-place-preserved : goal.loop-place-preserved
 loop-place-preserved g c =
-    one-more (because_at (map cited_of c.args.answers.now)) c.args.places.now c.loop-place.place-index c.loop-place.text.items c.put_because_at.new.text.items
-    (c.args.text.now.items ++ flat_map (because_at (map cited_of c.args.answers.now)) c.args.places.now) c.loop-place-test.true c.loop-place.invariant c.in_ok-put_because_at.ensures
+    one-more (because_at c.args.here (map cited_of c.args.answers.now)) c.args.places.now c.loop-place.place-index c.loop-place.text.items c.put_because_at.new.text.items
+    (c.args.text.now.items ++ flat_map (because_at c.args.here (map cited_of c.args.answers.now)) c.args.places.now) c.loop-place-test.true c.loop-place.invariant c.in_ok-put_because_at.ensures

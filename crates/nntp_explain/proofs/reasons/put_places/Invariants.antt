@@ -6,4 +6,4 @@ use Rattle.nntp_explain.proofs.reasons.put_places.Given as goal
 
 abbrev pub invariant-loop-place : goal.invariant-loop-place
 invariant-loop-place g l =
-    l.text.items ++ flat_map (because_at (map cited_of l.answers)) (drop l.place-index l.places) ≡ l.fn.text.items ++ flat_map (because_at (map cited_of l.answers)) l.places
+    l.text.items ++ flat_map (because_at l.here (map cited_of l.answers)) (drop l.place-index l.places) ≡ l.fn.text.items ++ flat_map (because_at l.here (map cited_of l.answers)) l.places

@@ -9,7 +9,7 @@ use Rattle.nntp_facts.specs.Noted.{profile_kept}
 use Rattle.nntp_pair.specs.declared.class.Class.TheVariants.{Contradiction}
 use Rattle.nntp_pair.specs.Pairing.{asked_at}
 use Rattle.nntp_explain.specs.Explaining.{front_lines, place_lines, IsConflictOf, TellsCore}
-use Rattle.nntp_explain.specs.ExplainingView.{Kept, standing_of, cited_of, placed_at}
+use Rattle.nntp_explain.specs.ExplainingView.{Kept, kept_of, standing_of, cited_of, placed_at, title_of}
 use Rattle.nntp_explain.specs.Standing.{Cited}
 use Rattle.nntp_explain.proofs.AnswerLemmas.{told_reason}
 use Rattle.nntp_explain.proofs.ExplainLemmas.{on_ok}
@@ -39,10 +39,11 @@ pub returns-then-not-branch-clause-text : goal.returns-then-not-branch-clause-te
 returns-then-not-branch-clause-text g c =
     let pair = c.args.exchange in
     let stands = option_map standing_of c.args.self.now.standing in
-    let lines = ap (λ (q : ℕ × Option (List ℕ) × List ℕ). c.args.self.now.text.items ++ front_lines q.0 Contradiction q.1 q.2 ++ place_lines c.args.self.now.bad stands)
+    let old = c.args.self.now.text.items ++ title_of (kept_of c.args.self.now) in
+    let lines = ap (λ (q : ℕ × Option (List ℕ) × List ℕ). old ++ front_lines q.0 Contradiction q.1 q.2 ++ place_lines c.args.self.now.bad stands)
     (λ i. (c.index.ensures.value i, c.line-line.ensures i, c.initial.ensures i)) in
     told_reason c.args.self.now.bad stands pair.index Contradiction pair.line pair.initial _
-    c.args.self.now.text.items c.put_bad.new.self.text.items [] false
+    old c.put_bad.new.self.text.items [] false
     (sym c.if-not-branch.true ∙ c.in_ok-put_bad.ensures.told)
     (c.in_ok-put_bad.ensures.text ∙ lines ∙ sym (append-nil _))
     refl
@@ -64,16 +65,17 @@ returns-clause-text g c =
     let stands = option_map standing_of self.standing in
     let kept = c.in_ok-put_bad.ensures.kept in
     let core = c.in_ok-core.core in
+    let old = self.text.items ++ title_of (kept_of self) in
     let front = before g (goal.at.returns-clause-text g c).After-deref in
-    let lines = ap (λ (q : ℕ × Option (List ℕ) × List ℕ). self.text.items ++ front_lines q.0 Contradiction q.1 q.2 ++ place_lines self.bad stands)
+    let lines = ap (λ (q : ℕ × Option (List ℕ) × List ℕ). old ++ front_lines q.0 Contradiction q.1 q.2 ++ place_lines self.bad stands)
     (λ i. (c.index.ensures.value i, c.line-line.ensures i, c.initial.ensures i)) in
     let found = subst (λ (q : Front). IsFound q.0 q.1 q.2 core) (given_before g (goal.at.returns-clause-text g c).After-deref) c.in_ok-core.ensures.found in
-    let tells = λ (more : List ℕ). subst (λ (q : Profile × Placed × List Placed × List Cited). TellsCore q.0 q.1 q.2 q.3 core more)
-    (λ i. ((front i).0, (front i).1, (front i).2, ap (λ (k : Kept). k.cited) kept i)) in
+    let tells = λ (more : List ℕ). subst (λ (q : ℕ × Profile × Placed × List Placed × List Cited). TellsCore q.0 q.1 q.2 q.3 q.4 core more)
+    (λ i. (ap (λ (k : Kept). k.session) kept i, (front i).0, (front i).1, (front i).2, ap (λ (k : Kept). k.cited) kept i)) in
     on_ok c.put_found.result c.put_found.ensures.text c.put_found.ensures.text
     (λ goes _. told_reason self.bad stands pair.index Contradiction pair.line pair.initial
-    (IsConflictOf (profile_kept self.facts) (placed_at stands c.args.position pair) self.placed.items (map cited_of self.cited.items))
-    self.text.items c.put_found.new.self.text.items goes.0 true
+    (IsConflictOf self.session (profile_kept self.facts) (placed_at stands c.args.position pair) self.placed.items (map cited_of self.cited.items))
+    old c.put_found.new.self.text.items goes.0 true
     (sym c.if-not-branch.false ∙ c.in_ok-put_bad.ensures.told)
     (goes.1 ∙ ap (λ t. t ++ goes.0) (c.in_ok-put_bad.ensures.text ∙ lines))
     (core, found, c.in_ok-core.ensures.most, tells goes.0 goes.2))

@@ -1,0 +1,160 @@
+-- One session behind others: its answers as they are judged, placed and cited, its title, and what is counted of it.
+use Rattle.std.proofs.Common.{◌≡◌, ◌∙◌, sym, subst, refl, ap, ℕ, zero, suc, ◌+◌, ◌≤◌, false, List, [], ◌∷◌, ◌++◌, Option, None, Some, length, drop, add-one, arith, append_assoc, append-nil, length-append}
+use Rattle.std.proofs.lemmas.Grind.{flat_map-append}
+use Rattle.std.proofs.lemmas.List.{drop_at}
+use Rattle.std.specs.List.{flat_map}
+use Rattle.std.specs.Option.{option_map_or}
+use Rattle.nntp_article.specs.declared.session.profile.Profile.{Profile}
+use Rattle.nntp_article.specs.Session.Machine.{Visible, start, visible_after}
+use Rattle.nntp_pair.specs.Pairing.{Paired, Unpaired, IsNext, Ending, end, bad as ends_at, asked_at, asked_of, responses_of, streams}
+use Rattle.nntp_facts.specs.Asks.{position_after}
+use Rattle.nntp_facts.specs.Conflict.{placed_from, placed_of}
+use Rattle.nntp_facts.specs.Noted.{FactsKept, HasNotedBehind, IsDue}
+use Rattle.nntp_facts.specs.Reading.{Judged, accepted_of, IsJudged, AreJudged}
+use Rattle.nntp_facts.specs.declared.position.Position.{Position}
+use Rattle.nntp_facts.specs.declared.position.Position.TheVariants.{Nowhere}
+use Rattle.nntp_facts.proofs.Reading.JudgedAnswers.{accepted_behind as all_behind, judged_push, judged_count, accepted_few, visible_behind, accepted_open}
+use Rattle.nntp_several.specs.Reading.{ReadSession}
+use Rattle.nntp_explain.specs.Explaining.{counts_behind, title_line}
+use Rattle.nntp_explain.specs.ExplainingView.{untold, title_told, accepted_behind}
+use Rattle.nntp_explain.specs.Standing.{Standing, standing, standing_after, cited, cited_at, cited_from, cited_each, number_behind, cited_of_all}
+use Rattle.nntp_explain.proofs.AnswerLemmas.{cited_push, few_accepted}
+
+-- ---- its answers, whatever decides which exchanges stand
+
+-- one answer more
+pub one_more_behind : (Stand : List Paired → Type 0) (client server : List ℕ) (answers : List Judged) (answer : Judged) (left after : Unpaired)
+    → AreJudged Stand [] (streams client server) answers left → IsJudged Stand (accepted_of answers) left answer after
+    → AreJudged Stand [] (streams client server) (answers ++ answer ∷ []) after
+one_more_behind Stand client server answers answer left after judged is =
+    judged_push Stand [] (streams client server) left after answers answer judged (subst (λ past. IsJudged Stand past left answer after) (sym (all_behind [] answers)) is)
+
+-- the index counts them
+pub index_behind : (Stand : List Paired → Type 0) (client server : List ℕ) (answers : List Judged) (left : Unpaired)
+    → AreJudged Stand [] (streams client server) answers left → left.index ≡ length answers
+index_behind Stand client server answers left judged = let count = judged_count Stand [] (streams client server) left answers judged in omega (arith, count)
+
+-- the next pair may be noted
+pub due_behind : (Stand : List Paired → Type 0) (profile : Profile) (earlier : List (List Paired)) (client server : List ℕ) (answers : List Judged) (left after : Unpaired) (pair : Paired) (facts : FactsKept)
+    → AreJudged Stand [] (streams client server) answers left → HasNotedBehind profile facts earlier (accepted_of answers) → IsNext left pair after → IsDue facts pair
+due_behind Stand profile earlier client server answers left after pair facts judged noted next =
+    let count = index_behind Stand client server answers left judged in
+    let few = accepted_few [] answers in
+    let same = ap length (all_behind [] answers) in
+    record {
+      index = omega (arith, count, few, same, noted.count, next.index);
+      is_open = ap (λ (v : Visible). v.closed) noted.visible ∙ subst (λ past. (visible_behind past).closed ≡ false) (all_behind [] answers)
+          (accepted_open Stand [] (streams client server) left answers (λ e. refl) judged next.is_open);
+    }
+
+-- ---- as they are placed and cited
+
+cited_count : (session : ℕ) (s : Option Standing) (pairs : List Paired) → length (cited_from session s pairs) ≡ length pairs
+cited_count session s [] = refl
+cited_count session s (pair ∷ pairs) = let rest = cited_count session (standing_after s pair) pairs in omega (arith, rest)
+
+placed_count : (v : Visible) (at : Position) (pairs : List Paired) → length (placed_from v at (asked_of pairs) (responses_of pairs)) ≡ length pairs
+placed_count v at [] = refl
+placed_count v at (pair ∷ pairs) =
+    let rest = placed_count (visible_after v (asked_at pair.line) pair.response) (position_after at (asked_at pair.line) pair.response) pairs in
+    omega (arith, rest)
+
+-- as many are cited as are placed
+pub as_many_cited : (session : ℕ) (earlier : List (List Paired)) → length (cited_each session earlier) ≡ length (flat_map placed_of earlier)
+as_many_cited session [] = refl
+as_many_cited session (pairs ∷ earlier) =
+    let these = length-append (cited session pairs) (cited_each (session + 1) earlier) in
+    let those = length-append (placed_of pairs) (flat_map placed_of earlier) in
+    let one = cited_count session None pairs in
+    let other = placed_count start.visible Nowhere pairs in
+    let rest = as_many_cited (session + 1) earlier in
+    omega (arith, these, those, one, other, rest)
+
+-- as many as there are
+pub cited_in_all : (earlier : List (List Paired)) (past : List Paired) → length (cited_of_all earlier past) ≡ length (cited_each 1 earlier) + length past
+cited_in_all earlier past =
+    let both = length-append (cited_each 1 earlier) (cited (number_behind earlier) past) in
+    let own = cited_count (number_behind earlier) None past in
+    omega (arith, both, own)
+
+-- one answer more is cited
+pub cited_next : (earlier : List (List Paired)) (past : List Paired) (pair : Paired)
+    → cited_of_all earlier (past ++ pair ∷ []) ≡ cited_of_all earlier past ++ cited_at (number_behind earlier) (standing past) pair ∷ []
+cited_next earlier past pair =
+    ap (λ own. cited_each 1 earlier ++ own) (cited_push (number_behind earlier) None past pair)
+    ∙ sym (append_assoc (cited_each 1 earlier) (cited (number_behind earlier) past) (cited_at (number_behind earlier) (standing past) pair ∷ []))
+
+-- and one session more
+each_push : (session : ℕ) (earlier : List (List Paired)) (pairs : List Paired) → cited_each session (earlier ++ pairs ∷ []) ≡ cited_each session earlier ++ cited (session + length earlier) pairs
+each_push session [] pairs = let same : session ≡ session + length {A = List Paired} [] = omega arith in append-nil (cited session pairs) ∙ ap (λ n. cited n pairs) same
+each_push session (first ∷ earlier) pairs =
+    let same : session + 1 + length earlier ≡ session + length (first ∷ earlier) = omega arith in
+    ap (λ rest. cited session first ++ rest) (each_push (session + 1) earlier pairs)
+    ∙ sym (append_assoc (cited session first) (cited_each (session + 1) earlier) (cited (session + 1 + length earlier) pairs))
+    ∙ ap (λ n. (cited session first ++ cited_each (session + 1) earlier) ++ cited n pairs) same
+
+pub cited_with : (earlier : List (List Paired)) (past : List Paired) → cited_of_all earlier past ≡ cited_each 1 (earlier ++ past ∷ [])
+cited_with earlier past =
+    let same : 1 + length earlier ≡ number_behind earlier = omega arith in
+    sym (each_push 1 earlier past ∙ ap (λ n. cited_each 1 earlier ++ cited n past) same)
+
+pub placed_with : (earlier : List (List Paired)) (past : List Paired) → flat_map placed_of earlier ++ placed_of past ≡ flat_map placed_of (earlier ++ past ∷ [])
+placed_with earlier past = ap (λ own. flat_map placed_of earlier ++ own) (sym (append-nil (placed_of past))) ∙ sym (flat_map-append placed_of earlier (past ∷ []))
+
+-- those of one more that was read
+pub behind_push : (earlier : List (List Paired)) (readings : List ReadSession) (read : ReadSession)
+    → accepted_behind earlier (readings ++ read ∷ []) ≡ accepted_behind earlier readings ++ accepted_of read.answers ∷ []
+behind_push earlier [] read = refl
+behind_push earlier (first ∷ readings) read = behind_push (earlier ++ accepted_of first.answers ∷ []) readings read
+
+-- behind those of others stand its own
+pub own_part : {T : Type 0} (others : ℕ) (all front own : List T) → others ≡ length front → all ≡ front ++ own → drop others all ≡ own
+own_part others all front own count whole = ap (drop others) whole ∙ drop_at front own others (sym count)
+
+-- ---- its title
+
+-- where nothing is bad, it isn't told
+pub untitled : (number : ℕ) (title : Option (List ℕ)) → title_told number title 0 ≡ []
+untitled number None = refl
+untitled number (Some name) = refl
+
+-- behind a bad answer it is told
+pub told_once : (title : Option (List ℕ)) (bad : ℕ) → None ≡ untold title (bad + 1)
+told_once title bad = ap (untold title) (sym (add-one bad))
+
+-- it stands before what is told of the first bad answer
+title_next : (number : ℕ) (title : Option (List ℕ)) (bad : ℕ) (told : List ℕ) → (bad ≡ 0 → told ≡ [])
+    → title_told number title bad ++ told ++ option_map_or (title_line number) (untold title bad) [] ≡ title_told number title (suc bad) ++ told
+title_next number None zero told silent = append-nil told
+title_next number None (suc bad) told silent = append-nil told
+title_next number (Some name) zero told silent =
+    ap (λ t. t ++ title_line number name) (silent refl) ∙ sym (append-nil (title_line number name)) ∙ ap (λ t. title_line number name ++ t) (sym (silent refl))
+title_next number (Some name) (suc bad) told silent = append-nil (title_line number name ++ told)
+
+title_joins : (number : ℕ) (title : Option (List ℕ)) (bad : ℕ) (told : List ℕ) → (bad ≡ 0 → told ≡ [])
+    → title_told number title bad ++ told ++ option_map_or (title_line number) (untold title bad) [] ≡ title_told number title (bad + 1) ++ told
+title_joins number title bad told silent = title_next number title bad told silent ∙ ap (λ n. title_told number title n ++ told) (sym (add-one bad))
+
+shape : (start front told line more : List ℕ) → ((start ++ front ++ told) ++ line) ++ more ≡ start ++ (front ++ told ++ line) ++ more
+shape start front told line more = simp append_assoc
+
+shape_after : (start front told more : List ℕ) → start ++ (front ++ told) ++ more ≡ start ++ front ++ (told ++ more)
+shape_after start front told more = simp append_assoc
+
+-- so the text goes on
+pub text_grows : (number : ℕ) (title : Option (List ℕ)) (bad : ℕ) (start told line more text : List ℕ) → (bad ≡ 0 → told ≡ [])
+    → text ≡ start ++ title_told number title bad ++ told → line ≡ option_map_or (title_line number) (untold title bad) []
+    → (text ++ line) ++ more ≡ start ++ title_told number title (bad + 1) ++ (told ++ more)
+text_grows number title bad start told line more text silent text-is line-is =
+    ap (λ (q : List ℕ × List ℕ). (q.0 ++ q.1) ++ more) (λ i. (text-is i, line-is i))
+    ∙ shape start (title_told number title bad) told (option_map_or (title_line number) (untold title bad) []) more
+    ∙ ap (λ t. start ++ t ++ more) (title_joins number title bad told silent)
+    ∙ shape_after start (title_told number title (bad + 1)) told more
+
+-- ---- what is counted of it
+
+-- its answers are those that were accepted, and the bad ones
+pub all_counted : (answers : List Judged) (left : Unpaired) (ending : Ending)
+    → (counts_behind answers left ending).answers ≡ length (accepted_of answers) + (counts_behind answers left ending).bad
+all_counted answers left (end unanswered) = let few = few_accepted answers in omega (arith, few)
+all_counted answers left (ends_at class) = let few = few_accepted answers in omega (arith, few)

@@ -1,0 +1,23 @@
+use Rattle.std.proofs.Common.{◌≡◌, ◌≢◌, ◌∙◌, ◌++◌, ◌==◌, if◌then◌else◌, ap, sym, append_assoc, arith, false, ℕ, List, []}
+use Rattle.std.specs.Prelude.{codes, decimal}
+use Rattle.nntp_explain.specs.Reasons.{session_text}
+use Rattle.nntp_explain.proofs.SaysLemmas.{on_ok}
+use Rattle.nntp_explain.proofs.reasons.put_answer.Goals as goal
+
+-- the session is another one
+another : (here session : ℕ) → session ≢ here → codes " of session " ++ decimal session ≡ session_text here session
+another here session other =
+    let not-here : (session == here) ≡ false = grind (arith, other) in
+    ap (λ b. if b then [] else codes " of session " ++ decimal session) (sym not-here)
+
+joined : (text label index word number one two : List ℕ) → one ≡ text ++ label ++ index → two ≡ one ++ word ++ number → two ≡ text ++ label ++ (index ++ (word ++ number))
+joined text label index word number one two e1 e2 = rw (e2, e1) (simp append_assoc)
+
+pub returns : goal.returns
+returns g c =
+    let answer = c.args.answer.now in
+    on_ok c.put_number-2.result
+    (λ put. joined c.args.text.now.items c.args.label.now (decimal answer.index) (codes " of session ") (decimal answer.session) c.put_number.new.text.items c.put_number-2.new.text.items
+    c.in_ok-put_number.ensures put
+    ∙ ap (λ t. c.args.text.now.items ++ c.args.label.now ++ (decimal answer.index ++ t)) (another c.args.here answer.session c.if-answer-here.false))
+    c.put_number-2.ensures
