@@ -1,10 +1,10 @@
 //! Judges recorded NNTP sessions: whether one fixed spool explains all that a server answered.
 //!
-//! `check` judges the two streams of a session, and `Checker` judges them as they come. `run_check`
-//! judges those of a capture and writes the report on them; `run_verify` tells whether the spool of a
-//! capture explains its session; `run_show` writes the session as a reader sees it; `run_explain` writes all
-//! that is bad of it; `run_task` does what a command line asks for. `job` and `status` are the program's
-//! command line and its exit status, and `run_program` is all that `main` does.
+//! `check` judges the two streams of a session, `check_sessions` those of several of one spool, and `Checker` judges
+//! them as they come. `run_check` judges those of a capture and writes the report on them; `run_verify` tells whether
+//! the spool of a capture explains its session; `run_show` writes the session as a reader sees it; `run_explain` writes
+//! all that is bad of it; `run_task` does what a command line asks for. `job` and `status` are the program's command
+//! line and its exit status, and `run_program` is all that `main` does.
 #![tactic(auto)]
 
 mod capture_reader;
@@ -25,7 +25,7 @@ mod streams;
 pub use command_line::{Failure, Task, job, refusal, status};
 pub use nntp_pair::{Class, PairError as CheckError};
 pub use nntp_spool::{Counts, Kind, ReadFault, Spool, Watched, WriteFault};
-pub use nntp_verdict::{Checker, Verdict, check};
+pub use nntp_verdict::{Checker, Recorded, SessionsVerdict, Verdict, check, check_sessions};
 pub use nntp_wire::{Limit, Marks};
 pub use program::run_program;
 pub use run::{run_check, run_explain, run_show, run_task, run_verify};
