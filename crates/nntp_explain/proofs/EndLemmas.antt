@@ -1,8 +1,7 @@
 -- How the reading of a session ends, and how sessions are read one after the other.
-use Rattle.std.proofs.Common.{◌≡◌, ◌≢◌, ◌∙◌, sym, subst, refl, ap, ℕ, zero, suc, ◌+◌, ◌<◌, ◌≤◌, ◌^◌, ◌==◌, Bool, List, [], ◌∷◌, ◌++◌, Option, None, Some, length, map, take, drop, get_or, arith, append_assoc, append-nil, length-append}
+use Rattle.std.proofs.Common.{◌≡◌, ◌≢◌, ◌∙◌, sym, subst, refl, ap, ℕ, ◌+◌, ◌<◌, ◌≤◌, ◌^◌, ◌==◌, Bool, List, [], ◌∷◌, ◌++◌, Option, None, Some, length, take, drop, get_or, arith, append_assoc, append-nil, length-append}
 use Rattle.std.proofs.lemmas.List.{take_more, take_all, length-take-le}
 use Rattle.std.specs.Prelude.{count_by, is_some, codes, decimal}
-use Rattle.std.specs.List.{flat_map}
 use Rattle.nntp_wire.specs.declared.limit.Limit.{Limit}
 use Rattle.nntp_wire.specs.declared.marks.Marks.{Marks}
 use Rattle.nntp_article.specs.declared.session.profile.Profile.{Profile}
@@ -11,16 +10,15 @@ use Rattle.nntp_pair.specs.Pairing.{Paired, Unpaired, end, bad as ends_at, Ends,
 use Rattle.nntp_pair.specs.declared.class.PairClass.{PairClass}
 use Rattle.nntp_pair.specs.declared.class.PairClass.TheVariants.{Malformed as PairMalformed}
 use Rattle.nntp_pair.specs.Classes.{class_of}
-use Rattle.nntp_facts.specs.Conflict.{placed_of}
-use Rattle.nntp_facts.specs.Noted.{ArePermittedBehind, FactsKept, HasNoted, HasNotedBehind, begun}
+use Rattle.nntp_facts.specs.Noted.{ArePermittedBehind, HasNoted}
 use Rattle.nntp_facts.specs.Reading.{accepted_of, IsReadingBy}
 use Rattle.nntp_facts.proofs.Keeping.NotedSessions.{session_begins}
 use Rattle.nntp_printing.specs.BadAnswer.{IsFirstLine}
 use Rattle.nntp_several.specs.Reading.{ReadSession, AreReadings}
 use Rattle.nntp_several.specs.Sessions.{Named, unnamed}
 use Rattle.nntp_explain.specs.Explaining.{IsTold, IsEndReason, IsSessionExplained, Counts, counts_of, counts_text, count_bad, titled, none_counted, counted_with, AreSessionsExplained, IsExplanation, IsExplanationOfAll}
-use Rattle.nntp_explain.specs.ExplainingView.{Kept, Before, begins, refuses, title_of, title_told, accepted_behind, AreKept, AreTold, IsRead, HaveRead, GoesOn}
-use Rattle.nntp_explain.specs.Standing.{Standing, Cited, standing, cited_each, number_behind}
+use Rattle.nntp_explain.specs.ExplainingView.{Kept, Before, begins, refuses, title_of, accepted_behind, AreKept, AreTold, IsRead, HaveRead, GoesOn}
+use Rattle.nntp_explain.specs.Standing.{Standing, Cited, number_behind}
 use Rattle.nntp_explain.proofs.AnswerLemmas.{told_long}
 use Rattle.nntp_explain.proofs.SessionLemmas.{index_behind, cited_in_all, cited_with, placed_with, behind_push, text_grows, all_counted}
 use Rattle.nntp_explain.proofs.ExplainLemmas.{told_first, title_left, few_more}

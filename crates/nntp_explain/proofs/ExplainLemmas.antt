@@ -1,6 +1,6 @@
 -- How an explanation goes through the answers of two streams, behind those of earlier sessions.
 use Rattle.std.proofs.Common.{◌≡◌, ◌≢◌, ◌∙◌, sym, subst, refl, ap, ℕ, ◌+◌, ◌-◌, ◌≤◌, List}
-use Rattle.std.proofs.Common.{[], ◌∷◌, ◌++◌, Option, None, Some, MatchOption, length, drop, arith, append_assoc, append-nil, length-append, Result, Ok, Err}
+use Rattle.std.proofs.Common.{[], ◌∷◌, ◌++◌, Option, None, Some, MatchOption, length, arith, append-nil, length-append, Result, Ok, Err}
 use Rattle.std.specs.Prelude.{OnOk, IfOk}
 use Rattle.std.specs.List.{AllByRecursion, flat_map}
 use Rattle.std.specs.Option.{option_map_or}

@@ -1,7 +1,6 @@
 use Rattle.std.proofs.Common.{◌^◌, ◌<◌, ◌∙◌, ap, subst, length, rules, arith}
 use Rattle.std.proofs.lemmas.Result.{IfOk-weaker}
 use Rattle.nntp_article.specs.Session.Limit.{profile_of}
-use Rattle.nntp_facts.specs.Conflict.{places_of}
 use Rattle.nntp_facts.specs.Points.{AreTaken}
 use Rattle.nntp_explain.proofs.explainer.conflict_of.Goals as goal
 

@@ -1,4 +1,4 @@
-use Rattle.std.proofs.Common.{◌≡◌, ◌<◌, ◌≤◌, ◌∙◌, ◌++◌, ap, sym, append-nil, rules, [], length, Option, None, Some, map, slice_get}
+use Rattle.std.proofs.Common.{◌≡◌, ◌<◌, ◌≤◌, ◌∙◌, ◌++◌, ap, sym, append-nil, rules, [], length, Option, None, Some, slice_get}
 use Rattle.std.proofs.lemmas.Option.{slice_get-get_or, slice_get-map, slice_get_past}
 use Rattle.std.specs.Option.{option_map, option_map_or}
 use Rattle.nntp_explain.specs.ExplainingView.{cited_of}

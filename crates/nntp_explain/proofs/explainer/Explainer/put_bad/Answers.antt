@@ -1,4 +1,4 @@
-use Rattle.std.proofs.Common.{◌≡◌, ◌+◌, ◌≤◌, ◌<◌, ◌^◌, ap, length-append, arith, rules, length}
+use Rattle.std.proofs.Common.{◌≡◌, ◌<◌, ◌^◌, ap, length-append, arith, rules, length}
 use Rattle.std.specs.Option.{option_copied}
 use Rattle.nntp_printing.specs.BadAnswer.{bad_lines}
 use Rattle.nntp_explain.specs.ExplainingView.{Kept, kept_of, title_of}

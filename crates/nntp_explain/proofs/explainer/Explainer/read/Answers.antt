@@ -1,4 +1,4 @@
-use Rattle.std.proofs.Common.{◌≡◌, ◌∙◌, sym, ap, subst}
+use Rattle.std.proofs.Common.{◌∙◌, sym, ap, subst}
 use Rattle.std.specs.Prelude.{count_by, is_some, drop}
 use Rattle.std.specs.Option.{option_copied}
 use Rattle.nntp_article.specs.declared.session.profile.Profile.{Profile}

@@ -1,4 +1,4 @@
-use Rattle.std.proofs.Common.{◌+◌, ◌*◌, ◌<◌, ◌≤◌, ◌^◌, [], length, arith, rules}
+use Rattle.std.proofs.Common.{◌<◌, ◌^◌, [], length, arith, rules}
 use Rattle.nntp_facts.specs.Noted.{profile_kept}
 use Rattle.nntp_explain.specs.ExplainingView.{kept_of, accepted_behind}
 use Rattle.nntp_explain.proofs.EndLemmas.{none_read, number_small, next_read, last_read}

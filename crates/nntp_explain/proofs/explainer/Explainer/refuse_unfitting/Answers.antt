@@ -1,4 +1,4 @@
-use Rattle.std.proofs.Common.{◌≡◌, ◌≤◌, ◌∙◌, ◌++◌, sym, ap, true, false, refl, append-nil, ℕ, List, [], Option, length, map, drop, arith}
+use Rattle.std.proofs.Common.{◌≡◌, ◌∙◌, ◌++◌, sym, ap, true, false, refl, append-nil, ℕ, List, [], Option, length, map, drop, arith}
 use Rattle.std.proofs.lemmas.List.{drop-map, length-map}
 use Rattle.std.specs.Option.{option_map, option_map_or}
 use Rattle.nntp_wire.specs.Answer.{Response}
