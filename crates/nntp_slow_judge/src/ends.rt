@@ -60,13 +60,3 @@ fn add(numbers: &mut Vec<u64>, number: u64) -> Result<(), AllocError> {
     }
     Ok(())
 }
-
-/// Whether the marks of each 211 of a group are its first and its last number, where it has some.
-pub(crate) fn are_ends(said: &Said<'_>, group: &[u8], numbers: &[u64]) -> bool {
-    let (Some(first), Some(last)) = (numbers.first(), numbers.last()) else {
-        return true;
-    };
-    said.reported.iter().all(|reported| {
-        reported.group != group || (reported.low == *first && reported.high == *last)
-    })
-}

@@ -1,15 +1,12 @@
 //! The spool that is given for what answers say.
-use crate::ends::{add_marks, are_ends, unseen_marks};
+use crate::ends::{add_marks, unseen_marks};
 use crate::lines::{push_name, push_number, push_unseen};
 use crate::numbers::least_free;
 use crate::said::Said;
+use crate::spool::{Article, Group, Numbered, Spool};
 use nntp_sessions::Choice;
-use nntp_spool::{Article, Spool, SpoolBuilder, SpoolFault};
 use nntp_wire::Marks;
 use std::alloc::{AllocError, Global};
-
-/// A number and its id, where it is shown.
-type Number<'a> = (u64, Option<&'a [u8]>);
 
 /// The spool that is given, or none where what is said makes no spool.
 pub(crate) fn given_spool(
@@ -17,85 +14,84 @@ pub(crate) fn given_spool(
     choice: Choice,
     said: &Said<'_>,
 ) -> Result<Option<Spool>, AllocError> {
-    let mut builder = SpoolBuilder::new(alloc, choice.limit);
-    if !build(alloc, choice.marks, said, &mut builder)? {
-        return Ok(None);
-    }
-    match builder.finish() {
-        Ok(spool) => Ok(Some(spool)),
-        Err(_) => Ok(None),
+    let mut spool = Spool::new(alloc, choice.limit);
+    build(alloc, choice.marks, said, &mut spool)?;
+    if spool.is_spool() {
+        Ok(Some(spool))
+    } else {
+        Ok(None)
     }
 }
 
-/// Builds the groups and the articles, and tells whether the builder takes all of them.
+/// Builds the groups and the articles.
 fn build(
     alloc: Global,
     marks: Marks,
     said: &Said<'_>,
-    builder: &mut SpoolBuilder,
-) -> Result<bool, AllocError> {
+    spool: &mut Spool,
+) -> Result<(), AllocError> {
     let mut ids = Vec::new(alloc);
     let mut next = 0;
     for name in names(alloc, said)? {
-        if !build_group(alloc, marks, said, name, builder, &mut ids, &mut next)? {
-            return Ok(false);
-        }
+        let group = group(alloc, marks, said, name, &mut next)?;
+        add_ids(alloc, &mut ids, &group)?;
+        spool.groups.push(group)?;
     }
-    for sent in &said.sent {
-        add(&mut ids, Vec::from_slice(alloc, sent.id)?)?;
-    }
-    build_articles(alloc, said, builder, &ids)
+    add_sent(alloc, &mut ids, said)?;
+    ids.sort_unstable();
+    ids.dedup();
+    add_articles(alloc, said, &ids, &mut spool.articles)
 }
 
-/// Builds a group with its numbers, and adds their ids. The next id that is invented has this number.
-fn build_group(
+/// A group with its numbers, each with its id. The next id that is invented has this number.
+fn group(
     alloc: Global,
     marks: Marks,
     said: &Said<'_>,
     name: &[u8],
-    builder: &mut SpoolBuilder,
-    ids: &mut Vec<Vec<u8>>,
     next: &mut u64,
-) -> Result<bool, AllocError> {
-    if !is_done(builder.group(name))? {
-        return Ok(false);
-    }
-    for (number, shown) in with_ids(alloc, marks, said, name)? {
-        let id = match shown {
+) -> Result<Group, AllocError> {
+    let mut group = Group {
+        name: Vec::from_slice(alloc, name)?,
+        numbers: Vec::new(alloc),
+    };
+    for number in numbers(alloc, marks, said, name)? {
+        let id = match shown_id(said, name, number) {
             Some(id) => Vec::from_slice(alloc, id)?,
             None => invented(alloc, said, next)?,
         };
-        if !is_done(builder.number(name, number, &id))? {
-            return Ok(false);
-        }
-        add(ids, id)?;
+        group.numbers.push(Numbered { number, id })?;
     }
-    Ok(true)
+    Ok(group)
 }
 
-/// Builds the articles of these ids.
-fn build_articles(
+/// Adds the ids of a group.
+fn add_ids(alloc: Global, ids: &mut Vec<Vec<u8>>, group: &Group) -> Result<(), AllocError> {
+    for numbered in &group.numbers {
+        ids.push(Vec::from_slice(alloc, numbered.id.as_slice())?)?;
+    }
+    Ok(())
+}
+
+/// Adds the ids of which something was sent.
+fn add_sent(alloc: Global, ids: &mut Vec<Vec<u8>>, said: &Said<'_>) -> Result<(), AllocError> {
+    for sent in &said.sent {
+        ids.push(Vec::from_slice(alloc, sent.id)?)?;
+    }
+    Ok(())
+}
+
+/// Adds the articles of these ids.
+fn add_articles(
     alloc: Global,
     said: &Said<'_>,
-    builder: &mut SpoolBuilder,
     ids: &[Vec<u8>],
-) -> Result<bool, AllocError> {
+    articles: &mut Vec<Article>,
+) -> Result<(), AllocError> {
     for id in ids {
-        let article = article(alloc, said, id)?;
-        if !is_done(builder.article(id, article))? {
-            return Ok(false);
-        }
+        articles.push(article(alloc, said, id.as_slice())?)?;
     }
-    Ok(true)
-}
-
-/// Whether a call of the builder was done; want of memory is an error.
-fn is_done(outcome: Result<(), SpoolFault>) -> Result<bool, AllocError> {
-    match outcome {
-        Ok(()) => Ok(true),
-        Err(SpoolFault::Memory) => Err(AllocError),
-        Err(_) => Ok(false),
-    }
+    Ok(())
 }
 
 /// The groups that are shown, in the order of their octets.
@@ -124,7 +120,7 @@ fn shown_numbers(alloc: Global, said: &Said<'_>, group: &[u8]) -> Result<Vec<u64
 
 /// The numbers of a group, ascending: those that are shown, its marks where they are strict and it has a number, and
 /// one more where one is needed.
-pub(crate) fn numbers(
+fn numbers(
     alloc: Global,
     marks: Marks,
     said: &Said<'_>,
@@ -139,16 +135,6 @@ pub(crate) fn numbers(
     }
     numbers.sort_unstable();
     Ok(numbers)
-}
-
-/// Whether the strict marks of each group are the least and the greatest of its numbers, where it has some.
-pub(crate) fn have_ends(alloc: Global, said: &Said<'_>) -> Result<bool, AllocError> {
-    let mut have_ends = true;
-    for name in names(alloc, said)? {
-        let numbers = numbers(alloc, Marks::Strict, said, name)?;
-        have_ends = have_ends && are_ends(said, name, &numbers);
-    }
-    Ok(have_ends)
 }
 
 /// A line for each group: its numbers that are shown, and those that are given beside them.
@@ -184,20 +170,6 @@ fn push_numbers(
     push_unseen(alloc, text, low, high)
 }
 
-/// The numbers of a group with their ids.
-fn with_ids<'a>(
-    alloc: Global,
-    marks: Marks,
-    said: &Said<'a>,
-    group: &[u8],
-) -> Result<Vec<Number<'a>>, AllocError> {
-    let mut with_ids = Vec::new(alloc);
-    for number in &numbers(alloc, marks, said, group)? {
-        with_ids.push((*number, shown_id(said, group, *number)))?;
-    }
-    Ok(with_ids)
-}
-
 /// The one number more that is needed, if it is there.
 fn one_more(said: &Said<'_>, group: &[u8], numbers: &[u64]) -> Option<u64> {
     let least = least_free(&said.denied, group);
@@ -216,7 +188,7 @@ fn one_more(said: &Said<'_>, group: &[u8], numbers: &[u64]) -> Option<u64> {
 }
 
 /// The id that is shown for a number.
-pub(crate) fn shown_id<'a>(said: &Said<'a>, group: &[u8], number: u64) -> Option<&'a [u8]> {
+fn shown_id<'a>(said: &Said<'a>, group: &[u8], number: u64) -> Option<&'a [u8]> {
     for shown in &said.shown {
         if shown.group == group && shown.number == number && shown.id.is_some() {
             return shown.id;
@@ -243,14 +215,6 @@ fn spelled(alloc: Global, number: u64) -> Result<Vec<u8>, AllocError> {
     Ok(format!(in alloc; "<w{number}@invented.invalid>")?.into_bytes())
 }
 
-/// Adds an id, if it isn't there.
-fn add(ids: &mut Vec<Vec<u8>>, id: Vec<u8>) -> Result<(), AllocError> {
-    if !ids.iter().any(|other| *other == id) {
-        ids.push(id)?;
-    }
-    Ok(())
-}
-
 /// The article of an id, by what was sent of it.
 fn article(alloc: Global, said: &Said<'_>, id: &[u8]) -> Result<Article, AllocError> {
     let head = match head_sent(said, id) {
@@ -261,7 +225,11 @@ fn article(alloc: Global, said: &Said<'_>, id: &[u8]) -> Result<Article, AllocEr
         Some(lines) => copied(alloc, lines)?,
         None => Vec::new(alloc),
     };
-    Ok(Article { head, body })
+    Ok(Article {
+        id: Vec::from_slice(alloc, id)?,
+        head,
+        body,
+    })
 }
 
 /// The first head that was sent of an id.

@@ -1,27 +1,33 @@
 //! A slow judge of sessions, by plain lists. It works out anew from all answers what is shown and what
-//! is denied, makes the spool that is given for them, and asks `verify` of it. Where marks are strict, it sees
-//! for itself whether those of each 211 are the least and the greatest number of the group. It reads a session on
-//! behind bad answers too, and tells whether some spool has what answers say by themselves.
+//! is denied, makes the spool that is given for them, and looks up in it what each answer says. It reads a session on
+//! behind bad answers too, and tells whether some spool has what answers say by themselves. A spool that comes as a
+//! text it puts to a session. Of what it judges it calls nothing but what reads octets and pairs answers.
 #![tactic(auto)]
 
+mod blocks;
 mod ends;
 mod given;
 mod lines;
 mod numbers;
 mod reading;
+mod rules;
 mod said;
+mod spool;
+mod standing;
+mod text;
 mod told;
 mod visible;
 
-use given::{given_spool, have_ends};
+use given::given_spool;
 pub use lines::{push_name, push_number, push_unseen};
 use nntp_pair::{Exchange, Pairs, Step};
-use nntp_sessions::{Choice, spool_text};
-use nntp_spool::{Verified, verify};
-use nntp_wire::Marks;
+use nntp_sessions::Choice;
+use nntp_wire::{Limit, Marks};
 pub use reading::{Reading, read};
 use said::Said;
+use standing::count_permitted;
 use std::alloc::{AllocError, Global};
+use text::{read_text, text_of};
 use visible::Visible;
 
 /// An exchange, and how many octets the server has sent up to its end.
@@ -57,22 +63,38 @@ pub enum Judged {
     Contradiction,
 }
 
+/// The exchanges alone.
+fn listed<'e, 'a>(
+    alloc: Global,
+    answered: &'e [Answered<'a>],
+) -> Result<Vec<&'e Exchange<'a>>, AllocError> {
+    let mut exchanges = Vec::new(alloc);
+    for answered in answered {
+        exchanges.push(&answered.exchange)?;
+    }
+    Ok(exchanges)
+}
+
 /// What is said of the last of these exchanges, where some spool explains those before it; and the text
 /// of the spool that is given for all of them, where that one explains them.
 pub fn judge(
     alloc: Global,
     choice: Choice,
-    client: &[u8],
-    server: &[u8],
     exchanges: &[Answered<'_>],
 ) -> Result<(Judged, Vec<u8>), AllocError> {
-    if !fits(alloc, choice, exchanges)? {
+    judge_listed(alloc, choice, &listed(alloc, exchanges)?)
+}
+
+/// The same of exchanges alone.
+pub(crate) fn judge_listed(
+    alloc: Global,
+    choice: Choice,
+    exchanges: &[&Exchange<'_>],
+) -> Result<(Judged, Vec<u8>), AllocError> {
+    if !fits(alloc, choice.limit, exchanges)? {
         return Ok((Judged::OutOfPlace, Vec::new(alloc)));
     }
-    let said = hear(alloc, exchanges)?;
-    let end = exchanges.last().map_or(0, |answered| answered.end);
-    let (front, _) = server.split_at(end.min(server.len()));
-    match explaining_text(alloc, choice, &said, client, front)? {
+    match explaining_text(alloc, choice, exchanges)? {
         Some(text) => Ok((Judged::Consistent, text)),
         None => Ok((Judged::Contradiction, Vec::new(alloc))),
     }
@@ -85,46 +107,68 @@ pub fn group_lines(
     marks: Marks,
     exchanges: &[Answered<'_>],
 ) -> Result<String, AllocError> {
-    given::group_lines(alloc, marks, &hear(alloc, exchanges)?)
+    let said = hear(alloc, &listed(alloc, exchanges)?)?;
+    given::group_lines(alloc, marks, &said)
+}
+
+/// How many answers of a session a spool explains, and whether the server sent nothing else.
+#[derive(Clone, Copy, Debug, PartialEq, Eq)]
+pub struct Put {
+    pub answers: u64,
+    pub are_all: bool,
+}
+
+/// Puts the spool of this text to a session. None where the octets are the text of no spool.
+pub fn put_spool(
+    alloc: Global,
+    marks: Marks,
+    text: &[u8],
+    (client, server): (&[u8], &[u8]),
+) -> Result<Option<Put>, AllocError> {
+    let Some(spool) = read_text(alloc, text)? else {
+        return Ok(None);
+    };
+    let answered = exchanges(alloc, client, server)?;
+    let count = count_permitted(alloc, &spool, marks, &listed(alloc, &answered)?)?;
+    let end = answered.last().map_or(0, |answered| answered.end);
+    Ok(Some(Put {
+        answers: count as u64,
+        are_all: count == answered.len() && end == server.len(),
+    }))
 }
 
 /// What all of the exchanges say.
-fn hear<'a>(alloc: Global, exchanges: &[Answered<'a>]) -> Result<Said<'a>, AllocError> {
+fn hear<'a>(alloc: Global, exchanges: &[&Exchange<'a>]) -> Result<Said<'a>, AllocError> {
     let mut said = Said::new(alloc);
-    for answered in exchanges {
-        said.hear(&answered.exchange)?;
+    for exchange in exchanges {
+        said.hear(*exchange)?;
     }
     Ok(said)
 }
 
 /// Whether the last exchange fits the visible state that those before it leave.
-fn fits(alloc: Global, choice: Choice, exchanges: &[Answered<'_>]) -> Result<bool, AllocError> {
-    let mut visible = Visible::new(alloc, choice.limit);
+fn fits(alloc: Global, limit: Limit, exchanges: &[&Exchange<'_>]) -> Result<bool, AllocError> {
+    let mut visible = Visible::new(alloc, limit);
     let mut fits = true;
-    for answered in exchanges {
-        fits = visible.fits(&answered.exchange);
-        visible.pass(&answered.exchange)?;
+    for exchange in exchanges {
+        fits = visible.fits(*exchange);
+        visible.pass(*exchange)?;
     }
     Ok(fits)
 }
 
-/// The text of the spool that is given for what was said, if it explains both streams. `verify` reads the marks
-/// as they may be read at least, and strict ones are looked at here.
+/// The text of the spool that is given for these exchanges, if it explains them.
 fn explaining_text(
     alloc: Global,
     choice: Choice,
-    said: &Said<'_>,
-    client: &[u8],
-    server: &[u8],
+    exchanges: &[&Exchange<'_>],
 ) -> Result<Option<Vec<u8>>, AllocError> {
-    let Some(spool) = given_spool(alloc, choice, said)? else {
+    let said = hear(alloc, exchanges)?;
+    let Some(spool) = given_spool(alloc, choice, &said)? else {
         return Ok(None);
     };
-    if choice.marks == Marks::Strict && !have_ends(alloc, said)? {
+    if count_permitted(alloc, &spool, choice.marks, exchanges)? < exchanges.len() {
         return Ok(None);
     }
-    if let Verified::Refuses { .. } = verify(alloc, Marks::Lenient, &spool, client, server)? {
-        return Ok(None);
-    }
-    Ok(Some(spool_text(alloc, &spool)?))
+    Ok(Some(text_of(alloc, &spool)?))
 }

@@ -1,12 +1,11 @@
 //! A session that is read on behind bad answers: one that no spool permits with those accepted before is left out.
-use crate::given::{given_spool, have_ends};
+use crate::given::given_spool;
 use crate::said::Said;
+use crate::spool::Spool;
 use crate::told::Told;
-use crate::{Judged, exchanges, judge};
+use crate::{Judged, judge_listed};
 use nntp_pair::{Exchange, PairClass, Pairs, Step};
 use nntp_sessions::Choice;
-use nntp_spool::Spool;
-use nntp_wire::Marks;
 use std::alloc::{AllocError, Global};
 
 /// What was read of a session.
@@ -14,9 +13,6 @@ use std::alloc::{AllocError, Global};
 pub struct Reading<'a> {
     alloc: Global,
     choice: Choice,
-    /// Both streams, of the accepted exchanges alone.
-    client: Vec<u8>,
-    server: Vec<u8>,
     /// What the accepted answers say.
     said: Said<'a>,
     /// The accepted answers.
@@ -46,8 +42,6 @@ impl<'a> Reading<'a> {
         Reading {
             alloc,
             choice,
-            client: Vec::new(alloc),
-            server: Vec::new(alloc),
             said: Said::new(alloc),
             accepted: Vec::new(alloc),
             refused: Vec::new(alloc),
@@ -60,13 +54,8 @@ impl<'a> Reading<'a> {
     fn read(&mut self, client: &'a [u8], server: &'a [u8]) -> Result<(), AllocError> {
         let mut pairs = Pairs::new(client, server);
         for _ in 0..=server.len() {
-            let rest = pairs.ahead().rest;
             match pairs.next() {
-                Step::Exchange(exchange) => {
-                    let left = pairs.ahead().rest.len();
-                    let (octets, _) = rest.split_at(rest.len().saturating_sub(left));
-                    self.judge(exchange, octets)?;
-                }
+                Step::Exchange(exchange) => self.judge(exchange)?,
                 Step::Bad { index, class } => match class {
                     PairClass::Malformed => {
                         pairs.pass_over();
@@ -119,7 +108,9 @@ impl<'a> Reading<'a> {
             return Ok(None);
         }
         let is_had = match given_spool(self.alloc, self.choice, &said)? {
-            Some(spool) => self.has(&spool, told, reasons, left_out, &said)?,
+            Some(spool) => {
+                told.is_had(&spool, self.choice.marks) && self.are_had(reasons, left_out, &spool)
+            }
             None => false,
         };
         Ok(Some(is_had))
@@ -146,53 +137,25 @@ impl<'a> Reading<'a> {
         Ok(true)
     }
 
-    /// Whether the spool that is given for what is said has what these answers say.
-    fn has(
-        &self,
-        spool: &Spool,
-        bad: &Told<'a>,
-        reasons: &[u64],
-        left_out: Option<u64>,
-        said: &Said<'_>,
-    ) -> Result<bool, AllocError> {
-        if self.choice.marks == Marks::Strict && !have_ends(self.alloc, said)? {
-            return Ok(false);
-        }
-        Ok(
-            bad.is_had(self.alloc, self.choice, said, spool)?
-                && self.are_had(reasons, left_out, said, spool)?,
-        )
-    }
-
-    /// Whether the spool that is given for what is said has what the accepted answers of these indexes say.
-    fn are_had(
-        &self,
-        indexes: &[u64],
-        left_out: Option<u64>,
-        said: &Said<'_>,
-        spool: &Spool,
-    ) -> Result<bool, AllocError> {
+    /// Whether the spool has what the accepted answers of these indexes say.
+    fn are_had(&self, indexes: &[u64], left_out: Option<u64>, spool: &Spool) -> bool {
         for index in indexes {
-            if left_out != Some(*index) {
-                let Some(told) = self.accepted(*index) else {
-                    return Ok(false);
-                };
-                if !told.is_had(self.alloc, self.choice, said, spool)? {
-                    return Ok(false);
-                }
+            let is_had = match self.accepted(*index) {
+                Some(told) => told.is_had(spool, self.choice.marks),
+                None => false,
+            };
+            if left_out != Some(*index) && !is_had {
+                return false;
             }
         }
-        Ok(true)
+        true
     }
 
-    /// Accepts the next exchange, of which the answer is in these octets, or leaves it out.
-    fn judge(&mut self, exchange: Exchange<'a>, octets: &'a [u8]) -> Result<(), AllocError> {
-        let asked = self.client.len();
-        let answered = self.server.len();
-        self.join(exchange.line(), octets)?;
+    /// Accepts the next exchange, or leaves it out.
+    fn judge(&mut self, exchange: Exchange<'a>) -> Result<(), AllocError> {
         let index = exchange.index();
-        let told = Told::new(&self.said, exchange, octets);
-        let class = match self.judged()? {
+        let told = Told::new(&self.said, exchange);
+        let class = match self.judged(&told)? {
             Judged::Consistent => {
                 told.hear(&mut self.said)?;
                 self.accepted.push(told)?;
@@ -202,38 +165,22 @@ impl<'a> Reading<'a> {
             Judged::Contradiction => "Contradiction",
         };
         self.refused.push(told)?;
-        self.client.truncate(asked);
-        self.server.truncate(answered);
         self.leave_out(index, class)
     }
 
-    /// Adds a line of the client and the octets of its answer to the accepted streams.
-    fn join(&mut self, line: Option<&[u8]>, octets: &[u8]) -> Result<(), AllocError> {
-        if let Some(line) = line {
-            self.client.extend_from_slice(line)?;
-            self.client.extend_from_slice(b"\r\n")?;
+    /// What is said of an answer behind the accepted ones.
+    fn judged(&self, told: &Told<'a>) -> Result<Judged, AllocError> {
+        let mut exchanges = Vec::new(self.alloc);
+        for accepted in &self.accepted {
+            exchanges.push(&accepted.exchange)?;
         }
-        self.server.extend_from_slice(octets)
-    }
-
-    /// What is said of the last answer of the accepted streams.
-    fn judged(&self) -> Result<Judged, AllocError> {
-        let exchanges = exchanges(self.alloc, &self.client, &self.server)?;
-        let (judged, _) = judge(
-            self.alloc,
-            self.choice,
-            &self.client,
-            &self.server,
-            &exchanges,
-        )?;
+        exchanges.push(&told.exchange)?;
+        let (judged, _) = judge_listed(self.alloc, self.choice, &exchanges)?;
         Ok(judged)
     }
 
-    /// Tells that an answer is bad. In the place of a greeting there is one that says nothing.
+    /// Tells that an answer is bad.
     fn leave_out(&mut self, index: u64, class: &str) -> Result<(), AllocError> {
-        if self.server.is_empty() {
-            self.server.extend_from_slice(b"200 hi\r\n")?;
-        }
         self.bad = self.bad.saturating_add(1);
         let line = format!(in self.alloc; "bad answer {index} {class}\n")?;
         self.lines.push_str(line.as_str())

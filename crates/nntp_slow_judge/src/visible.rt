@@ -24,7 +24,8 @@ pub(crate) fn greatest(limit: Limit) -> u64 {
     }
 }
 
-fn is_generic(code: u64) -> bool {
+/// Whether any command may be answered so.
+pub(crate) fn is_generic(code: u64) -> bool {
     matches!(
         code,
         400 | 401 | 403 | 480 | 483 | 500 | 501 | 502 | 503 | 504

@@ -2,7 +2,7 @@
 //! all judges agree, and each spool that is given is read back and permitted.
 use crate::checkers::expect_split;
 use crate::expectations::{expect_verified, expect_written};
-use crate::given_spools::put;
+use crate::given_spools::{put, put_slowly};
 use crate::slowly_judged::compare_report;
 use crate::written::written;
 use nntp_check::Task;
@@ -100,6 +100,13 @@ impl Recording {
         Ok(())
     }
 
+    /// What is answered where a spool permits it.
+    fn permitted(&self) -> Verified {
+        Verified::Permits {
+            answers: self.answers as u64,
+        }
+    }
+
     /// Reads the text of the given spool back, which has to be permitted.
     fn put_given(
         &self,
@@ -109,10 +116,9 @@ impl Recording {
         text: &str,
     ) -> Result<(), Fail> {
         let name = self.client.as_str();
-        let wanted = Verified::Permits {
-            answers: self.answers as u64,
-        };
-        let verified = put(alloc, choice.marks, text, self.streams())?;
+        let wanted = self.permitted();
+        let octets = text.as_bytes();
+        let verified = put(rt, alloc, name, choice.marks, octets, self.streams())?;
         expect_verified(rt, name, verified, wanted);
         let streams = self.capture(alloc)?;
         let capture = with_spool(alloc, streams.as_str(), text)?;
@@ -136,6 +142,8 @@ impl Recording {
             return Err("a report has no line".into());
         };
         self.put_given(rt, alloc, choice, text)?;
+        let slow = put_slowly(alloc, choice.marks, text.as_bytes(), streams)?;
+        expect_verified(rt, name, slow, self.permitted());
         Ok(1)
     }
 }
@@ -168,7 +176,7 @@ fn count_third(
 
 /// How many sessions are consistent: of at most two exchanges, and of three by what the first of them is. The tests
 /// want as many as `bench/small_spools` counts, which tries each spool of one group with numbers from 1 to 5, each at
-/// `<a@b>`, `<b@x>`, `<w0@invented.invalid>` or another id.
+/// `<a@b>`, `<b@x>`, `<w0@invented.invalid>` or another id: `tools/test` compares the lines of both constants.
 #[derive(Clone, Copy, Debug, PartialEq, Eq)]
 struct Family {
     at_most_two: u64,

@@ -1,5 +1,6 @@
 //! Sessions that the slow judge judges too, answer by answer.
 use crate::expectations::{expect_front, expect_octets, expect_verified};
+use crate::given_spools::put_to_both;
 use crate::slowly_noted::compare_noted;
 use nntp_check::Verdict;
 use nntp_fixtures::{check_by, shown};
@@ -24,13 +25,8 @@ struct Slow {
 
 impl Slow {
     /// Judges one exchange more. `good` is the number of those before it.
-    fn next(
-        alloc: Global,
-        choice: Choice,
-        (client, server): (&[u8], &[u8]),
-        exchanges: &[Answered<'_>],
-    ) -> Result<Slow, AllocError> {
-        let (judged, text) = judge(alloc, choice, client, server, exchanges)?;
+    fn next(alloc: Global, choice: Choice, exchanges: &[Answered<'_>]) -> Result<Slow, AllocError> {
+        let (judged, text) = judge(alloc, choice, exchanges)?;
         let good = match judged {
             Judged::Consistent => exchanges.len(),
             _ => exchanges.len().saturating_sub(1),
@@ -39,17 +35,12 @@ impl Slow {
     }
 
     /// Judges one exchange after the other.
-    fn all(
-        alloc: Global,
-        choice: Choice,
-        streams: (&[u8], &[u8]),
-        exchanges: &[Answered<'_>],
-    ) -> Result<Slow, AllocError> {
-        let mut slow = Slow::next(alloc, choice, streams, &[])?;
+    fn all(alloc: Global, choice: Choice, exchanges: &[Answered<'_>]) -> Result<Slow, AllocError> {
+        let mut slow = Slow::next(alloc, choice, &[])?;
         for count in 1..=exchanges.len() {
             if slow.judged == Judged::Consistent {
                 let (front, _) = exchanges.split_at(count);
-                slow = Slow::next(alloc, choice, streams, front)?;
+                slow = Slow::next(alloc, choice, front)?;
             }
         }
         Ok(slow)
@@ -116,7 +107,7 @@ pub(crate) fn compare_report(
 ) -> Result<(), Fail> {
     let exchanges = exchanges(alloc, streams.0, streams.1)?;
     assert_eq!(rt; exchanges.len(), count, "{name}, exchanges");
-    let slow = Slow::all(alloc, choice, streams, &exchanges)?;
+    let slow = Slow::all(alloc, choice, &exchanges)?;
     slow.compare(rt, alloc, name, report)
 }
 
@@ -128,9 +119,9 @@ fn judge_streams(
     (client, server): (&[u8], &[u8]),
 ) -> Result<(Slow, Vec<u8>), AllocError> {
     let exchanges = exchanges(alloc, client, server)?;
-    let slow = Slow::all(alloc, choice, (client, server), &exchanges)?;
+    let slow = Slow::all(alloc, choice, &exchanges)?;
     let (front, _) = exchanges.split_at(slow.good.min(exchanges.len()));
-    let (_, text) = judge(alloc, choice, client, server, front)?;
+    let (_, text) = judge(alloc, choice, front)?;
     Ok((slow, text))
 }
 
@@ -155,7 +146,7 @@ fn judge_front(
     let end = front.last().map_or(0, |answered| answered.end);
     let (server, _) = server.split_at(end.min(server.len()));
     for choice in CHOICES {
-        let slow = Slow::all(alloc, choice, (client, server), front)?;
+        let slow = Slow::all(alloc, choice, front)?;
         slow.compare_check(rt, alloc, choice, name, (client, server), front)?;
     }
     Ok(())
@@ -220,20 +211,23 @@ impl Counts {
     }
 }
 
-/// What both judges say of the last of so many exchanges, where those before it are consistent.
+/// What both judges say of the last of so many exchanges, where those before it are consistent. The spool that was given
+/// for those is put to all of them.
 fn judge_last(
     rt: &impl Abort,
     alloc: Global,
     choice: Choice,
     streams: (&[u8], &[u8]),
     count: usize,
-) -> Result<Judged, Fail> {
+    given: &[u8],
+) -> Result<Slow, Fail> {
     let exchanges = exchanges(alloc, streams.0, streams.1)?;
     assert_eq!(rt; exchanges.len(), count);
-    let slow = Slow::next(alloc, choice, streams, &exchanges)?;
+    let slow = Slow::next(alloc, choice, &exchanges)?;
     let name = format!(in alloc; "{choice:?}: {}", streams.0.escape_ascii())?;
     slow.compare_check(rt, alloc, choice, name.as_str(), streams, &exchanges)?;
-    Ok(slow.judged)
+    put_to_both(rt, alloc, name.as_str(), choice.marks, given, streams)?;
+    Ok(slow)
 }
 
 /// Goes on with a session: each answer that isn't consistent with those before it is taken back.
@@ -246,12 +240,15 @@ fn wander(
 ) -> Result<(), Fail> {
     let mut session = Wandering::new(alloc)?;
     let mut count = 2usize;
+    let mut given = Vec::from_slice(alloc, b"spool 1\nend\n")?;
     for _ in 0..12 {
         session.go_on(alloc, random)?;
-        let judged = judge_last(rt, alloc, choice, session.streams(), count)?;
-        counts.add(judged);
-        if judged == Judged::Consistent {
+        let slow = judge_last(rt, alloc, choice, session.streams(), count, &given)?;
+        counts.add(slow.judged);
+        if slow.judged == Judged::Consistent {
             count = count.saturating_add(1);
+            given.clear();
+            given.extend_from_slice(&slow.text)?;
         } else {
             session.go_back();
         }

@@ -1,8 +1,9 @@
 //! Spools that are widened: they have the same groups and articles, and the greater limit.
 use crate::expectations::{expect_octets, expect_verified};
-use nntp_check::Limit;
+use crate::given_spools::put_to_both;
+use nntp_check::{Limit, Marks};
 use nntp_sessions::{Session, each_session, spool_text};
-use nntp_spool::{Spool, Verified, verify};
+use nntp_spool::{Spool, Verified};
 use std::alloc::Global;
 use std::process::Abort;
 use std::test::Fail;
@@ -20,8 +21,8 @@ fn limit_and_content(text: &str) -> Option<(Limit, &str)> {
     }
 }
 
-/// Widens the spool of this text, which is then written with the same content.
-fn widen(rt: &impl Abort, alloc: Global, text: &str) -> Result<Spool, Fail> {
+/// The text of the spool of this text when it is widened: it has the same content.
+fn widen(rt: &impl Abort, alloc: Global, text: &str) -> Result<Vec<u8>, Fail> {
     let Some((limit, content)) = limit_and_content(text) else {
         return Err("a text with another first line".into());
     };
@@ -32,26 +33,35 @@ fn widen(rt: &impl Abort, alloc: Global, text: &str) -> Result<Spool, Fail> {
     let wanted = format!(in alloc; "{WIDE}{content}")?;
     let written = spool_text(alloc, &widened)?;
     expect_octets(rt, text, &written, wanted.as_bytes());
-    Ok(Spool::read(alloc, &written)?)
+    Ok(written)
 }
 
 #[test]
 fn a_group_without_numbers(rt: HostRuntime) -> Result<(), Fail> {
     let wide = widen(&rt, rt.alloc(), "spool 1\ngroup g 0\nend\n")?;
     let wanted = b"spool 2\nlimit 9999999999999999\ngroup g 0\nend\n";
-    let written = spool_text(rt.alloc(), &wide)?;
-    expect_octets(&rt, "a group", &written, wanted.as_slice());
+    expect_octets(&rt, "a group", &wide, wanted.as_slice());
+    let verified = put_to_both(
+        &rt,
+        rt.alloc(),
+        "a group",
+        Marks::Lenient,
+        &wide,
+        (b"".as_slice(), b"".as_slice()),
+    )?;
+    expect_verified(&rt, "a group", verified, Verified::Permits { answers: 0 });
     Ok(())
 }
 
 /// Widens the spool that is given for a session. It permits the session still, if it did.
 fn widen_given(rt: &impl Abort, alloc: Global, session: &Session) -> Result<(), Fail> {
     let (text, verified) = session.given;
+    let name = session.name;
+    let marks = session.choice.marks;
     let wide = widen(rt, alloc, text)?;
+    let again = put_to_both(rt, alloc, name, marks, &wide, session.streams())?;
     if let Verified::Permits { .. } = verified {
-        let (client, server) = session.streams();
-        let again = verify(alloc, session.choice.marks, &wide, client, server)?;
-        expect_verified(rt, session.name, again, verified);
+        expect_verified(rt, name, again, verified);
     }
     Ok(())
 }
