@@ -1,9 +1,8 @@
 -- What is bad of several sessions for good stays so, and one answer is told.
-use Rattle.std.proofs.Common.{◌≡◌, ◌⊎◌, ℕ, zero, suc, ◌+◌, ◌<◌, ◌≤◌, List, [], ◌∷◌, ◌++◌, length, take, Option, None, Some, slice_get, inl, inr, refl, sym, ap, subst, ◌∙◌, arith}
+use Rattle.std.proofs.Common.{◌≡◌, ◌⊎◌, ℕ, zero, suc, ◌<◌, ◌≤◌, List, [], ◌∷◌, ◌++◌, length, take, Option, None, Some, slice_get, inl, inr, refl, sym, ap, subst, ◌∙◌, arith}
 use Rattle.std.specs.Prelude.{MatchOption}
 use Rattle.std.proofs.lemmas.Bool.{cases_lt}
 use Rattle.nntp_article.specs.declared.session.profile.Profile.{Profile}
-use Rattle.nntp_pair.specs.Pairing.{end}
 use Rattle.nntp_pair.specs.declared.class.Class.{Class}
 use Rattle.nntp_facts.specs.Classes.{HasClass, IsSettled}
 use Rattle.nntp_facts.proofs.Streams.OneClass.{bad_stays, class_stays}

@@ -4,6 +4,6 @@ pub mod SessionsRead
 pub mod WaysToOutcome
 pub mod ConflictsOfSessions
 pub mod AnyOrder
-pub mod VerifiedSessions
+pub mod SessionsVerified
 pub mod PassingSessions
 pub mod BadForGood

@@ -38,7 +38,7 @@ as_many_sessions (r ∷ before) [] p = absurd p
 as_many_sessions (r ∷ before) (x ∷ earlier) p = let rest = as_many_sessions before earlier p.1 in omega (arith, rest)
 
 -- some spool permits the exchanges of earlier sessions
-earlier_permitted : (profile : Profile) (facts : FactsKept) (earlier : List (List Paired)) (past : List Paired) → HasNotedBehind profile facts earlier past → SomePermitsEach profile (map exchanged earlier)
+pub earlier_permitted : (profile : Profile) (facts : FactsKept) (earlier : List (List Paired)) (past : List Paired) → HasNotedBehind profile facts earlier past → SomePermitsEach profile (map exchanged earlier)
 earlier_permitted profile facts earlier past h =
     let p = h.permitted in
     (p.0, p.1, all_front (λ (s : Answered). Run profile p.0 start s.prompts s.answers) (map exchanged earlier) (exchanged past ∷ []) p.2)

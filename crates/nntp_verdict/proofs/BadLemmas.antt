@@ -1,12 +1,13 @@
--- What a checker tells as bad: the answer at the end of the pairing, if that end stays.
-use Rattle.std.proofs.Common.{◌≡◌, ◌⊎◌, ◌∙◌, sym, ap, subst, refl, ℕ, List, ◌++◌, length, Option, None, Some, inl, inr}
+-- What a checker tells as bad: an answer of a session that has ended, or the one at the end of the pairing, if that end stays.
+use Rattle.std.proofs.Common.{◌≡◌, ◌⊎◌, ◌∙◌, sym, ap, subst, refl, ℕ, zero, suc, ◌<◌, List, [], ◌∷◌, ◌++◌, length, Option, None, Some, inl, inr, arith}
 use Rattle.std.specs.Prelude.{IsTrue, is_some, ⊤}
 use Rattle.nntp_wire.specs.declared.limit.Limit.{Limit}
 use Rattle.nntp_wire.specs.declared.marks.Marks.{Marks}
 use Rattle.nntp_article.specs.Session.Limit.{profile_of}
 use Rattle.nntp_article.specs.declared.session.profile.Profile.{Profile}
 use Rattle.nntp_pair.specs.declared.class.PairClass.{PairClass}
-use Rattle.nntp_pair.specs.Pairing.{Unpaired, Ends, Ending, end, bad as pair_end}
+use Rattle.nntp_pair.specs.declared.octet_counts.OctetCounts.{OctetCounts}
+use Rattle.nntp_pair.specs.Pairing.{Unpaired, Ends, Ending, IsLasting, end, bad as pair_end}
 use Rattle.nntp_pair.specs.Feeding.{HasNext, EndsForGood}
 use Rattle.nntp_pair.proofs.NextDecided.{next-or-end}
 use Rattle.nntp_pair.proofs.PairingLemmas.{index-counts}
@@ -14,67 +15,103 @@ use Rattle.nntp_pair.specs.declared.class.Class.{Class}
 use Rattle.nntp_pair.specs.declared.class.Class.TheVariants as class
 use Rattle.nntp_facts.specs.Classes.{IsSettled}
 use Rattle.nntp_pair.specs.Classes.{class_of}
-use Rattle.nntp_facts.specs.Outcome.{No, IsOutcome}
-use Rattle.nntp_facts.specs.Noted.{FactsKept, exchanged}
+use Rattle.nntp_facts.specs.Outcome.{No}
+use Rattle.nntp_facts.specs.Noted.{FactsKept}
 use Rattle.nntp_facts.proofs.Streams.OneClass.{bad_stays as answer_stays, class_stays, settled_stays}
-use Rattle.nntp_facts.proofs.Given.SessionsByFacts.{permits_alone}
-use Rattle.nntp_facts.proofs.Session.OneMoreAnswer.{pairs_permitted}
-use Rattle.nntp_facts.proofs.Streams.OneOutcome.{one_outcome}
-use Rattle.nntp_facts.proofs.Streams.ExplainedOrBad.{explained_not_bad}
-use Rattle.nntp_facts.proofs.Streams.PairedStreams.{explained_end}
 use Rattle.nntp_facts.proofs.Streams.ClassAtTheEnd.{settled_lasts}
-use Rattle.nntp_verdict.specs.Judging.{Passed, IsVerdict, IsNoForGood}
-use Rattle.nntp_verdict.specs.Verdict.{Judgement, consistent, bad}
-use Rattle.nntp_verdict.specs.Checking.{IsBadForGood, IsToldBad, told_bad}
+use Rattle.nntp_several.specs.Outcome.{NoOfAll}
+use Rattle.nntp_several.specs.Passing.{PassedOfAll}
+use Rattle.nntp_several.specs.Sessions.{Recorded}
+use Rattle.nntp_several.specs.Told.{IsBadForGoodOfAll, IsToldBadOfAll}
+use Rattle.nntp_several.proofs.BadForGood.{one_told_of_all}
+use Rattle.nntp_several.proofs.ExplainedSessions.{explained_not_bad_of_all}
+use Rattle.nntp_several.proofs.OneOutcomeOfAll.{one_outcome_of_all, one_session_outcome}
+use Rattle.nntp_several.proofs.PassingSessions.{paired_push}
+use Rattle.nntp_several.proofs.SessionsRead.{earlier_then}
+use Rattle.nntp_several.proofs.WaysToOutcome.{follows}
+use Rattle.nntp_verdict.specs.Judging.{is_whole}
+use Rattle.nntp_verdict.specs.Verdict.{JudgementOfAll, consistent_of_all, bad_of_all}
+use Rattle.nntp_verdict.specs.Checking.{StandsForAll, IsBadForGood, IsToldBad, decided, told_bad, without_session}
+use Rattle.nntp_verdict.proofs.CheckerLemmas.{decided-verdict}
 use Rattle.nntp_verdict.proofs.JudgeLemmas.{octets-right}
 
-module _ (profile : Profile) (client server : List ℕ) (facts : FactsKept) (left : Unpaired) (p : Passed profile client server facts left) where
+module _ (profile : Profile) (before : List Recorded) (session : Recorded) (facts : FactsKept) (left : Unpaired) (p : PassedOfAll profile before session facts left) where
   -- an end that stays is bad for good
-  pub told : (class : PairClass) → EndsForGood class left → (index : ℕ) → index ≡ left.index → (of : Class) → of ≡ class_of class → IsBadForGood profile client server index of
-  told class ends index at of is = (
-    octets-right profile client server facts left class p ends.0 index at of is,
-    subst (λ (x : ℕ × Class). IsSettled client server x.0 x.1) (λ i. (sym (at ∙ index-counts client server p.pairs left p.before) i, sym is i))
-        ((settled_lasts client server p.pairs left class p.before).1 ends.1),
+  pub told : (class : PairClass) → EndsForGood class left → (j : ℕ) → j ≡ length before → (index : ℕ) → index ≡ left.index → (of : Class) → of ≡ class_of class → IsBadForGoodOfAll profile before session j index of
+  told class ends j is index at of of-is = subst (λ j. IsBadForGoodOfAll profile before session j index of) (sym is) (
+    octets-right profile before session [] facts left class p ends.0 index at of of-is,
+    inr (subst (λ (x : ℕ × Class). IsSettled session.client session.server x.0 x.1) (λ i. (sym (at ∙ index-counts session.client session.server p.pairs left p.next) i, sym of-is i))
+        ((settled_lasts session.client session.server p.pairs left class p.next).1 ends.1)),
   )
 
   -- where all answers are explained none is bad
-  no-bad-explained : (unanswered : ℕ) → Ends left (end unanswered) → (answer : ℕ) (class : Class) → IsOutcome profile client server (No answer class) → ⊥
-  no-bad-explained unanswered ends answer class outcome =
-      let some = (pairs_permitted profile client server p.pairs left p.before).1 ((permits_alone profile (exchanged p.pairs)).0 p.stands.permitted) in
-      explained_not_bad profile some.0 client server (length p.pairs) answer
-      (explained_end profile some.0 client server p.pairs unanswered (record { left = left; paired = p.before; ends = ends }) some.1 some.2) outcome.0
+  no-bad-explained : (unanswered : ℕ) → Ends left (end unanswered) → (j answer : ℕ) (class : Class) → IsBadForGoodOfAll profile before session j answer class → ⊥
+  no-bad-explained unanswered ends j answer class is_bad =
+      let some = earlier_then profile p.earlier p.pairs p.stands.permitted in
+      let paired = paired_push before p.earlier session p.pairs p.ended (unanswered, record { left = left; paired = p.next; ends = ends }) in
+      explained_not_bad_of_all profile some.0 (before ++ session ∷ []) j answer
+      ((follows profile (before ++ session ∷ []) (p.earlier ++ p.pairs ∷ []) paired some.0 some.1).0 some.2) is_bad.0.0
 
   -- and what is bad for good is at an end that stays
-  stays : (class : PairClass) → Ends left (pair_end class) → (answer : ℕ) (of : Class) → IsBadForGood profile client server answer of → EndsForGood class left
-  stays class ends answer of (outcome, settled) =
-      let e = one_outcome profile client server (No answer of) (No left.index (class_of class)) outcome
-      (octets-right profile client server facts left class p ends left.index refl (class_of class) refl) in
-      let place : answer ≡ length p.pairs = (let at : answer ≡ left.index = cc in at) ∙ index-counts client server p.pairs left p.before in
-      let same : of ≡ class_of class = cc in
-      (ends, (settled_lasts client server p.pairs left class p.before).0 (subst (λ (x : ℕ × Class). IsSettled client server x.0 x.1) (λ i. (place i, same i)) settled))
+  stays : (class : PairClass) → Ends left (pair_end class) → (j answer : ℕ) (of : Class) → IsBadForGoodOfAll profile before session j answer of → EndsForGood class left
+  stays class ends j answer of (outcome, settled) = (ends, by settled)
+    where
+      same : NoOfAll j answer of ≡ NoOfAll (length before) left.index (class_of class)
+      same = one_outcome_of_all profile (before ++ session ∷ []) (NoOfAll j answer of) (NoOfAll (length before) left.index (class_of class)) outcome
+          (octets-right profile before session [] facts left class p ends left.index refl (class_of class) refl)
+
+      by : (j < length before) ⊎ IsSettled session.client session.server answer of → IsLasting class left
+      by (inl less) = let place : j ≡ length before = (let e = same in cc) in absurd (omega (arith, less, place))
+      by (inr settled) =
+          let place : answer ≡ length p.pairs = (let at : answer ≡ left.index = (let e = same in cc) in at) ∙ index-counts session.client session.server p.pairs left p.next in
+          let class-is : of ≡ class_of class = (let e = same in cc) in
+          (settled_lasts session.client session.server p.pairs left class p.next).0
+          (subst (λ (x : ℕ × Class). IsSettled session.client session.server x.0 x.1) (λ i. (place i, class-is i)) settled)
 
   -- so where none stays, nothing is bad for good
-  pub untold : (HasNext left → ⊥) → ((class : PairClass) → EndsForGood class left → ⊥) → (answer : ℕ) (class : Class) → IsBadForGood profile client server answer class → ⊥
-  untold no_next no_end answer class is_bad = by (next-or-end left)
+  pub untold : (HasNext left → ⊥) → ((class : PairClass) → EndsForGood class left → ⊥) → (j answer : ℕ) (class : Class) → IsBadForGoodOfAll profile before session j answer class → ⊥
+  untold no_next no_end j answer class is_bad = by (next-or-end left)
     where
       by : HasNext left ⊎ ((e : Ending) × Ends left e) → ⊥
       by (inl next) = no_next next
-      by (inr (end unanswered, ends)) = no-bad-explained unanswered ends answer class is_bad.0
-      by (inr (pair_end c, ends)) = no_end c (stays c ends answer class is_bad)
+      by (inr (end unanswered, ends)) = no-bad-explained unanswered ends j answer class is_bad
+      by (inr (pair_end c, ends)) = no_end c (stays c ends j answer class is_bad)
 
 -- a no at a whole answer is settled
-settled-whole : (client server : List ℕ) (answer : ℕ) (c : Class) (command : Option (List ℕ)) (reply : List ℕ) → IsNoForGood (bad answer c command reply) → IsSettled client server answer c
-settled-whole client server answer class.Surplus command reply whole = cc
-settled-whole client server answer class.Cut command reply whole = cc
-settled-whole client server answer class.Malformed command reply whole = tt
-settled-whole client server answer class.OutOfPlace command reply whole = tt
-settled-whole client server answer class.Contradiction command reply whole = tt
+settled-whole : (client server : List ℕ) (answer : ℕ) (c : Class) → IsTrue (is_whole c) → IsSettled client server answer c
+settled-whole client server answer class.Surplus whole = cc
+settled-whole client server answer class.Cut whole = cc
+settled-whole client server answer class.Malformed whole = tt
+settled-whole client server answer class.OutOfPlace whole = tt
+settled-whole client server answer class.Contradiction whole = tt
 
--- and told as bad
-pub decided-told : (limit : Limit) (marks : Marks) (client server : List ℕ) (j : Judgement) → IsNoForGood j
-    → IsVerdict limit marks client server j → IsToldBad (profile_of limit marks) client server (told_bad j)
-decided-told limit marks client server (consistent L answers) whole verdict = absurd whole
-decided-told limit marks client server (bad answer class command reply) whole verdict = (verdict.outcome, settled-whole client server answer class command reply whole)
+-- what is decided is told as bad
+pub decided-told : (limit : Limit) (marks : Marks) (j : JudgementOfAll) (counts : OctetCounts) (before : List Recorded) (session : Recorded) → StandsForAll limit marks (decided j counts) before session
+    → IsToldBadOfAll (profile_of limit marks) before session (told_bad j)
+decided-told limit marks (consistent_of_all L answers) counts before session stands = absurd stands.0.for_good
+decided-told limit marks (bad_of_all j k class command reply) counts before session stands =
+    ((decided-verdict limit marks (bad_of_all j k class command reply) counts before session stands).outcome, settled stands.0.for_good)
+  where
+    settled : (j < length before) ⊎ IsTrue (is_whole class) → (j < length before) ⊎ IsSettled session.client session.server k class
+    settled (inl less) = inl less
+    settled (inr whole) = inr (settled-whole session.client session.server k class whole)
+
+-- ---- of one session
+
+-- an answer of one session is bad for good as it is of the only one
+bad-alone : (profile : Profile) (client server : List ℕ) (k : ℕ) (c : Class) → IsBadForGood profile client server k c → IsBadForGoodOfAll profile [] (record { client = client; server = server }) 0 k c
+bad-alone profile client server k c (outcome, settled) = ((one_session_outcome profile (record { client = client; server = server }) (No k c)).1 outcome, inr settled)
+
+only-bad : (profile : Profile) (client server : List ℕ) (j k : ℕ) (c : Class) → IsBadForGoodOfAll profile [] (record { client = client; server = server }) j k c → IsBadForGood profile client server k c
+only-bad profile client server zero k c (outcome, inl less) = absurd (omega (arith, less))
+only-bad profile client server zero k c (outcome, inr settled) = ((one_session_outcome profile (record { client = client; server = server }) (No k c)).0 outcome, settled)
+only-bad profile client server (suc j) k c (outcome, settled) = absurd outcome.0
+
+-- and is told so
+pub told-alone : (profile : Profile) (client server : List ℕ) (told : Option (ℕ × ℕ × Class)) → IsToldBadOfAll profile [] (record { client = client; server = server }) told
+    → IsToldBad profile client server (without_session told)
+told-alone profile client server None told = λ k c is_bad. told 0 k c (bad-alone profile client server k c is_bad)
+told-alone profile client server (Some bad) told = only-bad profile client server bad.0 bad.1 bad.2 told
 
 -- ---- laws
 
@@ -89,20 +126,23 @@ bad-stays profile client server client_more server_more answer c (outcome, settl
   settled_stays client server client_more server_more answer c settled,
 )
 
--- one answer is
-one-bad : (profile : Profile) (client server : List ℕ) (x y : ℕ × Class) → IsBadForGood profile client server x.0 x.1 → IsBadForGood profile client server y.0 y.1 → x ≡ y
-one-bad profile client server (k, c) (j, d) p q =
-    let e = one_outcome profile client server (No k c) (No j d) p.0 q.0 in
-    let place : k ≡ j = cc in
-    let same : c ≡ d = cc in
-    λ i. (place i, same i)
-
--- so one thing is told
+-- one thing is told
 pub one-told : (profile : Profile) (client server : List ℕ) (x y : Option (ℕ × Class)) → IsToldBad profile client server x → IsToldBad profile client server y → x ≡ y
-one-told profile client server None None p q = refl
-one-told profile client server None (Some y) p q = absurd (p y.0 y.1 q)
-one-told profile client server (Some x) None p q = absurd (q x.0 x.1 p)
-one-told profile client server (Some x) (Some y) p q = ap Some (one-bad profile client server x y p q)
+one-told profile client server x y p q =
+    let session : Recorded = record { client = client; server = server } in
+    sym (back x) ∙ ap without_session (one_told_of_all profile [] session (there x) (there y) (as-all x p) (as-all y q)) ∙ back y
+  where
+    there : Option (ℕ × Class) → Option (ℕ × ℕ × Class)
+    there None = None
+    there (Some bad) = Some (0, bad.0, bad.1)
+
+    back : (x : Option (ℕ × Class)) → without_session (there x) ≡ x
+    back None = refl
+    back (Some bad) = refl
+
+    as-all : (x : Option (ℕ × Class)) → IsToldBad profile client server x → IsToldBadOfAll profile [] (record { client = client; server = server }) (there x)
+    as-all None p = λ j k c is_bad. p k c (only-bad profile client server j k c is_bad)
+    as-all (Some bad) p = bad-alone profile client server bad.0 bad.1 p
 
 -- and it stays
 pub told-stays : (profile : Profile) (client server client_more server_more : List ℕ) (x y : Option (ℕ × Class))

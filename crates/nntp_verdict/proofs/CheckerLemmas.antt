@@ -1,8 +1,9 @@
--- What a checker holds, as octets come.
-use Rattle.std.proofs.Common.{◌≡◌, ◌≢◌, ◌∙◌, refl, sym, ap, subst, ℕ, ◌+◌, false, List, [], ◌∷◌, ◌++◌, length, arith}
-use Rattle.std.proofs.Common.{append_assoc, length-append, Result, Ok, Err, MatchResult, OnOk, IfErr, ◌^◌, ◌<◌, ◌≤◌}
+-- What a checker holds, as octets and sessions come.
+use Rattle.std.proofs.Common.{◌≡◌, ◌≢◌, ◌∙◌, refl, sym, ap, subst, ℕ, ◌+◌, ◌<◌, ◌≤◌, ◌^◌, false, List, [], ◌∷◌, ◌++◌, length, take, Option, None, Some, slice_get, inl, inr, arith}
+use Rattle.std.specs.Prelude.{MatchOption}
+use Rattle.std.proofs.Common.{append_assoc, append-nil, length-append, Result, Ok, Err, MatchResult, OnOk, IfErr}
 use Rattle.std.proofs.lemmas.Bool.{false≢true, true≢false}
-use Rattle.std.proofs.lemmas.List.{append-nil}
+use Rattle.std.proofs.lemmas.Option.{slice_get_within}
 use Rattle.nntp_article.specs.Session.Limit.{profile_of}
 use Rattle.nntp_article.specs.declared.session.profile.Profile.{Profile}
 use Rattle.nntp_wire.specs.declared.limit.Limit.{Limit}
@@ -16,56 +17,68 @@ use Rattle.nntp_pair.specs.declared.peek.Peek.{Peek}
 use Rattle.nntp_pair.specs.declared.peek.Peek.TheVariants as peek
 use Rattle.nntp_pair.specs.declared.side.Side.{Side}
 use Rattle.nntp_pair.specs.declared.side.Side.TheVariants.{Client, Server}
+use Rattle.nntp_pair.specs.declared.pair_error.PairError.{PairError}
+use Rattle.nntp_pair.specs.declared.pair_error.PairError.TheVariants as errors
 use Rattle.nntp_pair.proofs.FedLaws.{fed-paired}
 use Rattle.nntp_pair.proofs.NextLemmas.{next-no-end, next-shorter}
 use Rattle.nntp_facts.specs.Noted.{FactsKept, IsDue}
-use Rattle.nntp_verdict.specs.Judging.{IsVerdict, IsNoForGood, Passed}
-use Rattle.nntp_verdict.specs.Verdict.{Judgement}
-use Rattle.nntp_verdict.specs.Checking.{Checked, judging, decided, failed, Keeps, HasPassed, IsHeld, StandsFor, has_failed, counts_of, IsTaken as IsTakenBy}
+use Rattle.nntp_several.specs.Sessions.{Recorded, BadBehind}
+use Rattle.nntp_several.specs.Told.{with_more}
+use Rattle.nntp_several.proofs.SessionsVerified.{as_many_counts}
+use Rattle.nntp_verdict.specs.Judging.{IsAnsweredThroughout, IsVerdictOfAll, IsVerdictFrom, IsNoForGood, IsNoAtWholeAnswer, HaveEnded, Passed}
+use Rattle.nntp_verdict.specs.Verdict.{JudgementOfAll, consistent_of_all, bad_of_all, verdict_of_last}
+use Rattle.nntp_verdict.specs.Checking.{Checked, judging, decided, failed, Keeps, HasPassed, IsHeld, StandsFor, StandsForAll, HasBegun, IsFinished, IsFinishedOfAll, has_failed, counts_of, unrecorded, IsTaken as IsTakenBy}
 use Rattle.nntp_verdict.specs.CheckerView.{IsUntaken, checked}
 use Rattle.nntp_verdict.specs.declared.checker.Checker.{Checker}
-use Rattle.nntp_pair.specs.declared.pair_error.PairError.{PairError}
-use Rattle.nntp_pair.specs.declared.pair_error.PairError.TheVariants as errors
-use Rattle.nntp_verdict.proofs.JudgeLemmas.{is-due}
+use Rattle.nntp_verdict.proofs.JudgeLemmas.{is-due, alone}
 
-module _ (profile : Profile) (facts : FactsKept) (fed : Fed) (client server : List ℕ) (k : Keeps profile facts fed client server) where
+module _ (profile : Profile) (before : List Recorded) (session : Recorded) (facts : FactsKept) (answers : List ℕ) (fed : Fed) (k : Keeps profile before session facts answers fed) where
   -- the exchanges have passed
-  abbrev pub passed-now : Passed profile client server facts (left_of fed)
-  passed-now = record { pairs = k.pairs; before = (fed-paired fed client server k.pairs k.fed_is).0; stands = k.stands }
+  abbrev pub passed-now : Passed profile before session facts answers (left_of fed)
+  passed-now = record {
+    passed = record { earlier = k.earlier; ended = k.ended; pairs = k.pairs; next = (fed-paired fed session.client session.server k.pairs k.fed_is).0; stands = k.stands };
+    answers_are = k.answers_are;
+  }
 
   -- whatever follows
-  abbrev pub passed-longer : (client_more server_more : List ℕ) → Passed profile (client ++ client_more) (server ++ server_more) facts (left_of (with_octets client_more server_more fed))
-  passed-longer client_more server_more = record { pairs = k.pairs; before = k.fed_is.paired client_more server_more; stands = k.stands }
+  abbrev pub passed-longer : (client server : List ℕ) → Passed profile before (with_more session client server) facts answers (left_of (with_octets client server fed))
+  passed-longer client server = record {
+    passed = record { earlier = k.earlier; ended = k.ended; pairs = k.pairs; next = k.fed_is.paired client server; stands = k.stands };
+    answers_are = k.answers_are;
+  }
 
   -- the next one is due
   pub next-due : (x : Paired) (behind : Unpaired) → IsNext (left_of fed) x behind → IsDue facts x
-  next-due x behind next = is-due profile client server facts (left_of fed) behind x passed-now next
+  next-due x behind next = is-due profile before session facts answers (left_of fed) behind x passed-now next
 
   -- and one more passes
-  pub keeps-one-more : (new : FactsKept) (then : Fed) (x : Paired) (behind : Unpaired) → IsNext (left_of fed) x behind
-      → (now : Passed profile client server new behind) → now.pairs ≡ k.pairs ++ (x ∷ [])
+  pub keeps-one-more : (new : FactsKept) (counts : List ℕ) (then : Fed) (x : Paired) (behind : Unpaired) → IsNext (left_of fed) x behind
+      → (now : Passed profile before session new counts behind) → now.passed.pairs ≡ k.pairs ++ x ∷ []
       → ((client server : List ℕ) (pairs : List Paired) (pair : Paired) (behind : Unpaired) → IsFed fed client server pairs
-      → IsNext (left_of fed) pair behind → IsFed then client server (pairs ++ (pair ∷ [])))
-      → then.has_failed ≡ fed.has_failed → Keeps profile new then client server
-  keeps-one-more new then x behind next now pairs advanced same = record {
-    pairs = now.pairs;
-    fed_is = subst (IsFed then client server) (sym pairs) (advanced client server k.pairs x behind k.fed_is next);
-    stands = now.stands;
-    is_whole = same ∙ k.is_whole;
+      → IsNext (left_of fed) pair behind → IsFed then client server (pairs ++ pair ∷ [])) → Keeps profile before session new counts then
+  keeps-one-more new counts then x behind next now pairs advanced = record {
+    earlier = now.passed.earlier;
+    ended = now.passed.ended;
+    answers_are = now.answers_are;
+    pairs = now.passed.pairs;
+    fed_is = subst (IsFed then session.client session.server) (sym pairs) (advanced session.client session.server k.pairs x behind k.fed_is next);
+    stands = now.passed.stands;
   }
 
-  -- where none is whole, all have passed
-  pub all-passed : ¬ (HasNext (left_of fed)) → HasPassed profile facts fed client server
-  all-passed none = record { pairs = k.pairs; fed_is = k.fed_is; stands = k.stands; all = none }
+  -- a no for good decides
+  pub decides : (limit : Limit) (marks : Marks) (j : JudgementOfAll) → IsNoForGood before j
+      → ((client server : List ℕ) → IsVerdictFrom limit marks before (with_more session client server) j) → StandsForAll limit marks (decided j fed.counts) before session
+  decides limit marks j for_good verdict = (record { for_good = for_good; verdict = verdict }, k.fed_is.client_came, k.fed_is.server_came)
 
-  pub held : HasPassed profile facts fed client server → IsHeld facts fed
-  held passed = record { client = client; server = server; passed = subst (λ p. HasPassed p facts fed client server) (sym k.stands.profile_is) passed; is_whole = k.is_whole }
-
-  -- and a no for good decides
-  pub decides : (limit : Limit) (marks : Marks) (state : Checked) (j : Judgement) → state ≡ decided j fed.counts → IsNoForGood j
-      → ((client_more server_more : List ℕ) → IsVerdict limit marks (client ++ client_more) (server ++ server_more) j) → StandsFor limit marks state client server
-  decides limit marks state j is for_good verdict = subst (λ s. StandsFor limit marks s client server) (sym is)
-      (record { for_good = for_good; verdict = verdict }, k.fed_is.client_came, k.fed_is.server_came)
+-- what has passed is held
+pub held : (profile : Profile) (before : List Recorded) (session : Recorded) (facts : FactsKept) (answers : List ℕ) (fed : Fed) → HasPassed profile before session facts answers fed → fed.has_failed ≡ false
+    → IsHeld facts answers fed
+held profile before session facts answers fed p whole = record {
+  before = before;
+  session = session;
+  passed = subst (λ p. HasPassed p before session facts answers fed) (sym p.keeps.stands.profile_is) p;
+  is_whole = whole;
+}
 
 -- where nothing has come, nothing is next
 pub nothing-next : (fed : Fed) → fed ≡ unfed → ¬ (HasNext (left_of fed))
@@ -74,20 +87,30 @@ nothing-next fed none (x, behind, next) =
     let nothing : length fed.server ≡ 0 = ap (λ (f : Fed). length f.server) none in
     omega arith
 
--- what is held is kept, with the octets that came behind it
-pub keeps-more : (profile : Profile) (facts : FactsKept) (fed then : Fed) (client server client_now server_now : List ℕ) → HasPassed profile facts fed client server
-    → ((pairs : List Paired) → IsFed fed client server pairs → IsFed then client_now server_now pairs) → then.has_failed ≡ false → Keeps profile facts then client_now server_now
-keeps-more profile facts fed then client server client_now server_now p came whole = record { pairs = p.pairs; fed_is = came p.pairs p.fed_is; stands = p.stands; is_whole = whole }
+-- a session begins behind those that have ended
+pub session-begins : (profile : Profile) (before : List Recorded) (facts : FactsKept) (answers : List ℕ) (fed : Fed) → fed ≡ unfed → IsFed fed [] [] [] → HaveEnded profile before facts answers
+    → HasPassed profile before unrecorded facts answers fed
+session-begins profile before facts answers fed is fed_is e = record {
+  keeps = record { earlier = e.earlier; ended = e.ended; answers_are = e.answers_are; pairs = []; fed_is = fed_is; stands = e.stands };
+  all = nothing-next fed is;
+}
 
--- so it is where octets of a side are taken
-pub keeps-taken : (profile : Profile) (facts : FactsKept) (fed then : Fed) (side : Side) (octets client server : List ℕ) → HasPassed profile facts fed client server → IsTaken side octets fed then
-    → Keeps profile facts then (client ++ given Client side octets) (server ++ given Server side octets)
-keeps-taken profile facts fed then side octets client server p taken =
-    keeps-more profile facts fed then client server (client ++ given Client side octets) (server ++ given Server side octets) p
-    (taken.fed client server) (ap (λ (f : Fed). f.has_failed) taken.value ∙ taken.worked)
+-- what is held is kept, with octets of a side that are taken
+pub keeps-taken : (profile : Profile) (before : List Recorded) (session : Recorded) (facts : FactsKept) (answers : List ℕ) (fed then : Fed) (side : Side) (octets : List ℕ)
+    → HasPassed profile before session facts answers fed → IsTaken side octets fed then
+    → Keeps profile before (with_more session (given Client side octets) (given Server side octets)) facts answers then
+keeps-taken profile before session facts answers fed then side octets p taken = record {
+  earlier = p.keeps.earlier;
+  ended = p.keeps.ended;
+  answers_are = p.keeps.answers_are;
+  pairs = p.keeps.pairs;
+  fed_is = taken.fed session.client session.server p.keeps.pairs p.keeps.fed_is;
+  stands = p.keeps.stands;
+}
 
-pub kept : (profile : Profile) (facts : FactsKept) (fed : Fed) (client server : List ℕ) → HasPassed profile facts fed client server → fed.has_failed ≡ false → Keeps profile facts fed client server
-kept profile facts fed client server p whole = keeps-more profile facts fed fed client server client server p (λ pairs is. is) whole
+-- and memory wasn't refused
+pub taken-whole : (side : Side) (octets : List ℕ) (fed then : Fed) → IsTaken side octets fed then → then.has_failed ≡ false
+taken-whole side octets fed then taken = ap (λ (f : Fed). f.has_failed) taken.value ∙ taken.worked
 
 -- nothing is next where octets answer nothing
 pub none-next : (class : PairClass) (left : Unpaired) → EndsForGood class left → (x : Paired) (behind : Unpaired) → IsNext left x behind → ⊥
@@ -100,46 +123,94 @@ no-next fed peek.Nothing is works none = is.1
 no-next fed (peek.Bad index class) is works none = λ next. none-next class (left_of fed) is.2 next.0 next.1 next.2
 no-next fed peek.Failed is works none = absurd (true≢false (sym is ∙ works))
 
+-- ---- what is decided
+
+-- a no at a whole answer is one for good, whatever has ended
+pub whole-for-good : (ended : List Recorded) (j : JudgementOfAll) → IsNoAtWholeAnswer j → IsNoForGood ended j
+whole-for-good ended (consistent_of_all L answers) whole = whole
+whole-for-good ended (bad_of_all j k class command reply) whole = inr whole
+
 -- what is decided stays so with more octets of both streams
-pub decided-more : (limit : Limit) (marks : Marks) (j : Judgement) (counts : OctetCounts) (client server client_piece server_piece : List ℕ) → StandsFor limit marks (decided j counts) client server
-    → StandsFor limit marks (decided j (counted client_piece server_piece counts)) (client ++ client_piece) (server ++ server_piece)
-decided-more limit marks j counts client server client_piece server_piece (d, came_client, came_server) = (
+pub decided-more : (limit : Limit) (marks : Marks) (j : JudgementOfAll) (counts : OctetCounts) (before : List Recorded) (session : Recorded) (client server : List ℕ) → StandsForAll limit marks (decided j counts) before session
+    → StandsForAll limit marks (decided j (counted client server counts)) before (with_more session client server)
+decided-more limit marks j counts before session client server (d, came_client, came_server) = (
   record {
     for_good = d.for_good;
-    verdict = λ client_more server_more. subst (λ (x : List ℕ × List ℕ). IsVerdict limit marks x.0 x.1 j)
-        (λ i. (sym (append_assoc client client_piece client_more) i, sym (append_assoc server server_piece server_more) i))
-        (d.verdict (client_piece ++ client_more) (server_piece ++ server_more));
+    verdict = λ client_more server_more.
+        let longer : with_more session (client ++ client_more) (server ++ server_more) ≡ with_more (with_more session client server) client_more server_more =
+        (λ i. record { client = sym (append_assoc session.client client client_more) i; server = sym (append_assoc session.server server server_more) i }) in
+        subst (λ session. IsVerdictFrom limit marks before session j) longer (d.verdict (client ++ client_more) (server ++ server_more));
   },
-  ap (λ n. n + length client_piece) came_client ∙ sym (length-append client client_piece),
-  ap (λ n. n + length server_piece) came_server ∙ sym (length-append server server_piece),
+  ap (λ n. n + length client) came_client ∙ sym (length-append session.client client),
+  ap (λ n. n + length server) came_server ∙ sym (length-append session.server server),
 )
 
--- and its judgement is the verdict on what came
-pub decided-verdict : (limit : Limit) (marks : Marks) (j : Judgement) (counts : OctetCounts) (client server : List ℕ)
-    → StandsFor limit marks (decided j counts) client server → IsVerdict limit marks client server j
-decided-verdict limit marks j counts client server (d, came_client, came_server) =
-    subst (λ (x : List ℕ × List ℕ). IsVerdict limit marks x.0 x.1 j) (λ i. (append-nil client i, append-nil server i)) (d.verdict [] [])
+-- and its judgement is the verdict on what came, whatever sessions follow
+decided-from : (limit : Limit) (marks : Marks) (j : JudgementOfAll) (counts : OctetCounts) (before : List Recorded) (session : Recorded)
+    → StandsForAll limit marks (decided j counts) before session → IsVerdictFrom limit marks before session j
+decided-from limit marks j counts before session (d, came_client, came_server) =
+    let same : with_more session [] [] ≡ session = (λ i. record { client = append-nil session.client i; server = append-nil session.server i }) in
+    subst (λ session. IsVerdictFrom limit marks before session j) same (d.verdict [] [])
+
+pub decided-verdict : (limit : Limit) (marks : Marks) (j : JudgementOfAll) (counts : OctetCounts) (before : List Recorded) (session : Recorded)
+    → StandsForAll limit marks (decided j counts) before session → IsVerdictOfAll limit marks (before ++ session ∷ []) j
+decided-verdict limit marks j counts before session stands = decided-from limit marks j counts before session stands []
+
+-- what is the verdict whatever sessions follow is a no at an answer of one that came
+stays-no : (limit : Limit) (marks : Marks) (before : List Recorded) (session : Recorded) (j : JudgementOfAll) → IsVerdictFrom limit marks before session j → IsNoForGood (before ++ session ∷ []) j
+stays-no limit marks before session (consistent_of_all L answers) verdict =
+    let P : Recorded → ℕ → Type 0 = λ s n. IsAnsweredThroughout s.client s.server n in
+    let some = as_many_counts P (before ++ session ∷ []) answers (verdict []).throughout in
+    let more = as_many_counts P (before ++ session ∷ unrecorded ∷ []) answers (verdict (unrecorded ∷ [])).throughout in
+    absurd (omega (arith, some, more, length-append before (session ∷ []), length-append before (session ∷ unrecorded ∷ [])))
+stays-no limit marks before session (bad_of_all j k class command reply) verdict = inl (placed (slice_get (before ++ session ∷ []) j) refl (verdict []).outcome.0)
+  where
+    placed : (o : Option Recorded) → slice_get (before ++ session ∷ []) j ≡ o
+        → MatchOption o ⊥ (λ s. BadBehind (profile_of limit marks) (take j (before ++ session ∷ [])) s k) → j < length (before ++ session ∷ [])
+    placed None e h = absurd h
+    placed (Some s) e h = slice_get_within (before ++ session ∷ []) j s e
+
+-- so it stays where the session has ended
+pub decided-ended : (limit : Limit) (marks : Marks) (j : JudgementOfAll) (before : List Recorded) (session : Recorded) → IsVerdictFrom limit marks before session j
+    → StandsForAll limit marks (decided j (record { client = 0; server = 0 })) (before ++ session ∷ []) unrecorded
+decided-ended limit marks j before session verdict = (
+  record {
+    for_good = stays-no limit marks before session j verdict;
+    verdict = λ client server more.
+        let rest = with_more unrecorded client server ∷ more in
+        subst (λ sessions. IsVerdictOfAll limit marks sessions j) (sym (append_assoc before (session ∷ []) rest)) (verdict rest);
+  },
+  refl,
+  refl,
+)
+
+-- so it does where it was decided before
+pub decided-goes-on : (limit : Limit) (marks : Marks) (j : JudgementOfAll) (counts : OctetCounts) (before : List Recorded) (session : Recorded) → StandsForAll limit marks (decided j counts) before session
+    → StandsForAll limit marks (decided j (record { client = 0; server = 0 })) (before ++ session ∷ []) unrecorded
+decided-goes-on limit marks j counts before session stands =
+    decided-ended limit marks j before session (decided-from limit marks j counts before session stands)
 
 -- ---- what isn't taken
 
 -- a checker that stands for some octets works, and counts them
-stands-counts : (limit : Limit) (marks : Marks) (held : Checked) (client server : List ℕ) → StandsFor limit marks held client server
-    → (has_failed held ≡ false) × ((counts_of held).client ≡ length client) × ((counts_of held).server ≡ length server)
-stands-counts limit marks (judging facts fed) client server s = (refl, s.fed_is.client_came, s.fed_is.server_came)
-stands-counts limit marks (decided j counts) client server s = (refl, s.1, s.2)
-stands-counts limit marks failed client server s = absurd s
+stands-counts : (limit : Limit) (marks : Marks) (held : Checked) (before : List Recorded) (session : Recorded) → StandsForAll limit marks held before session
+    → (has_failed held ≡ false) × ((counts_of held).client ≡ length session.client) × ((counts_of held).server ≡ length session.server)
+stands-counts limit marks (judging facts answers fed) before session s = (refl, s.keeps.fed_is.client_came, s.keeps.fed_is.server_came)
+stands-counts limit marks (decided j counts) before session s = (refl, s.1, s.2)
+stands-counts limit marks failed before session s = absurd s
 
 -- where there is room for octets, none but want of memory keeps it from taking them
 pub untaken-memory : {A : Type 0} (error : PairError) (side : Side) (octets : List ℕ) (before after : Checker A) (limit : Limit) (marks : Marks) (client server : List ℕ)
     → StandsFor limit marks (checked before) client server → length client + length server + length octets < 2 ^ 64 → IsUntaken error side octets before after → error ≡ errors.Memory
 untaken-memory errors.Memory side octets before after limit marks client server stands room is = refl
-untaken-memory errors.Failed side octets before after limit marks client server stands room is = absurd (false≢true (sym (stands-counts limit marks (checked before) client server stands).0 ∙ is.0))
+untaken-memory errors.Failed side octets before after limit marks client server stands room is =
+    absurd (false≢true (sym (stands-counts limit marks (checked before) [] (record { client = client; server = server }) stands).0 ∙ is.0))
 untaken-memory errors.TooLong Client octets before after limit marks client server stands room is =
-    let count : (counts_of (checked before)).client ≡ length client = (stands-counts limit marks (checked before) client server stands).1 in
+    let count : (counts_of (checked before)).client ≡ length client = (stands-counts limit marks (checked before) [] (record { client = client; server = server }) stands).1 in
     let many : 2 ^ 64 ≤ (counts_of (checked before)).client + length octets = is.1 in
     absurd (omega arith)
 untaken-memory errors.TooLong Server octets before after limit marks client server stands room is =
-    let count : (counts_of (checked before)).server ≡ length server = (stands-counts limit marks (checked before) client server stands).2 in
+    let count : (counts_of (checked before)).server ≡ length server = (stands-counts limit marks (checked before) [] (record { client = client; server = server }) stands).2 in
     let many : 2 ^ 64 ≤ (counts_of (checked before)).server + length octets = is.1 in
     absurd (omega arith)
 
@@ -152,26 +223,47 @@ pub if-err : {T E : Type 0} (P : T → Type 0) (R S : E → Type 0) (r : Result 
 if-err P R S (Ok x) p f = tt
 if-err P R S (Err e) p f = f e p
 
--- ---- what a step of a checker does with octets
+-- ---- what a step of a checker does
 
 -- octets are taken by a judgement that goes on, where what is kept then stands for them
-pub taken-judging : (side : Side) (octets : List ℕ) (facts : FactsKept) (fed then : Fed) (after : Checked) → IsTaken side octets fed then
-    → ((limit : Limit) (marks : Marks) (client server : List ℕ) → Keeps (profile_of limit marks) facts then client server → StandsFor limit marks after client server)
-    → IsTakenBy side octets (judging facts fed) after
-taken-judging side octets facts fed then after taken stands = record {
+pub taken-judging : (side : Side) (octets : List ℕ) (facts : FactsKept) (answers : List ℕ) (fed then : Fed) (after : Checked) → IsTaken side octets fed then
+    → ((limit : Limit) (marks : Marks) (before : List Recorded) (session : Recorded) → Keeps (profile_of limit marks) before session facts answers then → StandsForAll limit marks after before session)
+    → IsTakenBy side octets (judging facts answers fed) after
+taken-judging side octets facts answers fed then after taken stands = record {
   worked = refl;
   room = taken.room;
-  stands = λ limit marks client server passed. stands limit marks (client ++ given Client side octets) (server ++ given Server side octets)
-      (keeps-taken (profile_of limit marks) facts fed then side octets client server passed taken);
+  stands = λ limit marks ended session passed. stands limit marks ended (with_more session (given Client side octets) (given Server side octets))
+      (keeps-taken (profile_of limit marks) ended session facts answers fed then side octets passed taken);
 }
 
 -- and by one that is decided, where they are counted
-pub taken-decided : (side : Side) (octets : List ℕ) (j : Judgement) (counts more : OctetCounts) → count_of side counts + length octets < 2 ^ 64
+pub taken-decided : (side : Side) (octets : List ℕ) (j : JudgementOfAll) (counts more : OctetCounts) → count_of side counts + length octets < 2 ^ 64
     → more ≡ counted (given Client side octets) (given Server side octets) counts → IsTakenBy side octets (decided j counts) (decided j more)
 taken-decided side octets j counts more room is = record {
   worked = refl;
   room = room;
-  stands = λ limit marks client server stands.
-      subst (λ c. StandsFor limit marks (decided j c) (client ++ given Client side octets) (server ++ given Server side octets)) (sym is)
-      (decided-more limit marks j counts client server (given Client side octets) (given Server side octets) stands);
+  stands = λ limit marks ended session stands.
+      subst (λ c. StandsForAll limit marks (decided j c) ended (with_more session (given Client side octets) (given Server side octets))) (sym is)
+      (decided-more limit marks j counts ended session (given Client side octets) (given Server side octets) stands);
+}
+
+-- the next session begins where a verdict stands
+pub begun-decided : (j : JudgementOfAll) (counts : OctetCounts) → HasBegun (decided j counts) (decided j (record { client = 0; server = 0 }))
+begun-decided j counts = record { worked = refl; stands = λ limit marks ended session stands. decided-goes-on limit marks j counts ended session stands }
+
+-- and where octets of the session that ends answer nothing
+pub begun-told : (facts : FactsKept) (answers : List ℕ) (fed : Fed) (j : JudgementOfAll)
+    → ((limit : Limit) (marks : Marks) (ended : List Recorded) (session : Recorded) → HasPassed (profile_of limit marks) ended session facts answers fed
+    → IsVerdictFrom limit marks ended session j)
+    → HasBegun (judging facts answers fed) (decided j (record { client = 0; server = 0 }))
+begun-told facts answers fed j told = record {
+  worked = refl;
+  stands = λ limit marks ended session passed. decided-ended limit marks j ended session (told limit marks ended session passed);
+}
+
+-- what a checker gives of several sessions is what it gives of one
+pub finished-alone : (held : Checked) (j : JudgementOfAll) → IsFinishedOfAll held j → IsFinished held (verdict_of_last j)
+finished-alone held j finished = record {
+  worked = finished.worked;
+  verdict = λ limit marks client server stands. alone limit marks client server j (finished.verdict limit marks [] (record { client = client; server = server }) stands);
 }

@@ -11,7 +11,7 @@ use Rattle.nntp_pair.specs.Feeding.{Fed, EndsForGood, left_of, with_octets}
 use Rattle.nntp_pair.proofs.PairingLemmas.{next-more, bad-stays, some-stay}
 use Rattle.nntp_printing.specs.BadAnswer.{IsFirstLine}
 use Rattle.nntp_verdict.specs.Judging.{StopsHere}
-use Rattle.nntp_verdict.proofs.VerdictLaws.{no-line}
+use Rattle.nntp_verdict.proofs.ShownPlaces.{no-line}
 
 -- the lines and the places of a longer stream
 lines-longer : (client more : List ℕ) → map Some (lines_of_stream (client ++ more)) ≡ map Some (lines_of_stream client) ++ map Some (lines-joined client more).0

@@ -1,51 +1,46 @@
--- How a judgement goes through the exchanges of two streams.
-use Rattle.std.proofs.Common.{◌≡◌, ◌≢◌, ◌∙◌, sym, subst, refl, ℕ, List, [], ◌∷◌, ◌++◌, Option, None, Some, MatchOption, Result, Ok, Err, IfOk, length, ap, inr, arith}
+-- How a judgement goes through the exchanges of sessions.
+use Rattle.std.proofs.Common.{◌≡◌, ◌≢◌, ◌∙◌, sym, subst, refl, ℕ, zero, suc, ◌+◌, ◌<◌, ◌≤◌, ◌^◌, List, [], ◌∷◌, ◌++◌, map, take, drop, get_or, Option, None, Some, MatchOption, Result, Ok, Err, IfOk, length, ap, ap₂, inr, arith, append_assoc, append-nil, length-append}
 use Rattle.std.specs.Option.{option_map}
-use Rattle.std.proofs.lemmas.List.{append_assoc}
+use Rattle.std.proofs.lemmas.List.{length-map, map-append, take_more, take_all, drop_more, take-append-drop}
 use Rattle.nntp_wire.specs.Limit.{greatest}
 use Rattle.nntp_wire.specs.Octets.{crlf}
 use Rattle.nntp_wire.specs.declared.limit.Limit.{Limit}
 use Rattle.nntp_wire.specs.declared.marks.Marks.{Marks}
 use Rattle.nntp_wire.specs.declared.limit.Limit.TheVariants.{Narrow, Wide}
 use Rattle.nntp_wire.specs.Frame.{framed, frame_octets}
-use Rattle.nntp_article.specs.Session.Explains.{Explains}
 use Rattle.nntp_article.specs.Session.Limit.{profile_of}
 use Rattle.nntp_article.specs.declared.session.profile.Profile.{Profile}
-use Rattle.nntp_article.specs.Session.Machine.{Visible, visible_after, start, fits}
-use Rattle.nntp_article.specs.Session.Spool.{Spool}
+use Rattle.nntp_article.specs.Session.Machine.{Visible, visible_after, start}
 use Rattle.nntp_article.proofs.SessionLemmas.ClosingAnswers.{after-closes}
-use Rattle.nntp_pair.specs.Pairing.{Paired, Unpaired, IsNext, AreNext, Ends, IsBad, IsPairing, end, bad as pair_end, line_ahead, streams, asked_at, asked_of, responses_of}
+use Rattle.nntp_pair.specs.Pairing.{Paired, Unpaired, IsNext, AreNext, Ends, IsBad, end, bad as pair_end, line_ahead, streams, asked_at, asked_of, responses_of}
 use Rattle.nntp_pair.specs.declared.class.PairClass.{PairClass}
 use Rattle.nntp_pair.specs.declared.class.PairClass.TheVariants as pair
 use Rattle.nntp_pair.proofs.PairingLemmas.{AreNext-push, index-counts}
 use Rattle.nntp_pair.specs.declared.class.Class.{Class}
 use Rattle.nntp_pair.specs.declared.class.Class.TheVariants.{OutOfPlace, Contradiction}
+use Rattle.nntp_pair.specs.Feeding.{HasNext}
 use Rattle.nntp_facts.specs.declared.noted.Noted.{Noted}
 use Rattle.nntp_facts.specs.declared.noted.Noted.TheVariants as kinds
-use Rattle.nntp_facts.specs.Classes.{class_by, visible_from}
+use Rattle.nntp_facts.specs.Answered.{facts_of_all}
+use Rattle.nntp_facts.specs.Classes.{visible_from}
 use Rattle.nntp_pair.specs.Classes.{class_of}
-use Rattle.nntp_facts.specs.Outcome.{Yes, No, IsOutcome}
-use Rattle.nntp_facts.specs.Noted.{FactsKept, exchanged, HasNoted, IsDue, IsNoted}
-use Rattle.nntp_facts.proofs.Given.SessionsByFacts.{permits_alone}
-use Rattle.nntp_facts.proofs.Ids.SizeOfASession.{pairs_size}
-use Rattle.nntp_facts.proofs.Streams.OneOutcome.{same_answers, outcome_at_end, outcome_at_octets, outcome_at_response, outcome_at_unfitting}
+use Rattle.nntp_facts.specs.Given.{IsGiven, size}
+use Rattle.nntp_facts.specs.Noted.{FactsKept, exchanged, HasNotedBehind, IsDue, IsNotedBehind, begun}
+use Rattle.nntp_facts.proofs.Keeping.NotedSessions.{facts_behind, small_behind, session_begins}
 use Rattle.nntp_spool.specs.Limited.{LimitedSpool}
 use Rattle.nntp_spool.specs.Text.{IsWritten}
-use Rattle.nntp_spool.specs.Verifying.{IsVerified}
-use Rattle.nntp_spool.specs.declared.verification.verified.Verified.{Verified}
-use Rattle.nntp_spool.specs.declared.verification.verified.Verified.TheVariants.{Permits, Refuses}
-use Rattle.nntp_spool.proofs.PermittedPairs.{explained-unrefused}
 use Rattle.nntp_spool.proofs.WholeSpools.{written_is_read}
+use Rattle.nntp_several.specs.Outcome.{NoOfAll, IsOutcomeOfAll}
+use Rattle.nntp_several.specs.Paired.{ArePaired}
+use Rattle.nntp_several.specs.Passing.{PassedOfAll}
+use Rattle.nntp_several.specs.Sessions.{Recorded}
+use Rattle.nntp_several.proofs.PassingSessions.{paired_push, as_many_sessions, earlier_permitted, passing_stops, passing_contradicted, passing_unfitting}
 use Rattle.nntp_witness.specs.Witness.{IsWitnessWithin}
-use Rattle.nntp_verdict.specs.declared.verdict.Verdict.{Verdict}
 use Rattle.nntp_printing.specs.BadAnswer.{IsFirstLine, shown}
-use Rattle.nntp_verdict.specs.Judging.{StopsAt, IsYes, IsVerdict, SuitsClass, Passed, StopsHere, pair_class_of, class_noted}
-use Rattle.nntp_pair.specs.Feeding.{HasNext}
-use Rattle.nntp_verdict.specs.Verdict.{Judgement, bad, verdict_shown}
-
--- the visible state that the exchanges leave
-abbrev visible_left : List Paired → Visible
-visible_left pairs = visible_from start.visible (asked_of pairs) (responses_of pairs)
+use Rattle.nntp_verdict.specs.declared.sessions_verdict.SessionsVerdict.{SessionsVerdict}
+use Rattle.nntp_verdict.specs.Judging.{StopsAt, SuitsClass, IsVerdict, IsVerdictOfAll, IsVerdictFrom, HaveEnded, Passed, StopsHere, pair_class_of, class_noted}
+use Rattle.nntp_verdict.specs.Verdict.{consistent, bad, JudgementOfAll, consistent_of_all, bad_of_all, sessions_verdict_shown, verdict_of_last}
+use Rattle.nntp_verdict.proofs.VerdictLaws.{one_session_verdict, verdict_at_ends, verdict_within}
 
 -- what is left of both streams is closed exactly if the visible state is
 closed-by : (v : Visible) (before left : Unpaired) (pairs : List Paired) → before.is_closed ≡ v.closed
@@ -55,25 +50,36 @@ closed-by v before left (pair ∷ pairs) same (between, first, more) =
     closed-by (visible_after v (asked_at pair.line) pair.response) between left pairs (first.closing ∙ sym (after-closes v (asked_at pair.line) pair.response (sym same ∙ first.is_open))) more
 
 -- the next exchange is due
-pub is-due : (profile : Profile) (client server : List ℕ) (facts : FactsKept) (left behind : Unpaired) (x : Paired) → Passed profile client server facts left → IsNext left x behind → IsDue facts x
-is-due profile client server facts left behind x p next = record {
-  index = omega (arith, next.index, index-counts client server p.pairs left p.before, p.stands.count);
-  is_open = ap (λ (v : Visible). v.closed) p.stands.visible ∙ sym (closed-by start.visible (streams client server) left p.pairs refl p.before) ∙ next.is_open;
+pub is-due : (profile : Profile) (before : List Recorded) (session : Recorded) (facts : FactsKept) (answers : List ℕ) (left behind : Unpaired) (x : Paired)
+    → Passed profile before session facts answers left → IsNext left x behind → IsDue facts x
+is-due profile before session facts answers left behind x p next = record {
+  index = omega (arith, next.index, index-counts session.client session.server p.passed.pairs left p.passed.next, p.passed.stands.count);
+  is_open = ap (λ (v : Visible). v.closed) p.passed.stands.visible
+      ∙ sym (closed-by start.visible (streams session.client session.server) left p.passed.pairs refl p.passed.next) ∙ next.is_open;
 }
 
+-- what is noted of an exchange behind facts
+abbrev pub Notes : Profile → FactsKept → FactsKept → Paired → Noted → Type 0
+Notes profile old new x noted = (earlier : List (List Paired)) (past : List Paired) → HasNotedBehind profile old earlier past → IsNotedBehind profile earlier past x old new noted
+
 -- and then it has passed
-pub one-more : (profile : Profile) (client server : List ℕ) (old new : FactsKept) (left behind : Unpaired) (x : Paired)
-    (noted : Noted) → (p : Passed profile client server old left) → IsNext left x behind
-    → ((past : List Paired) → HasNoted profile old past → IsNoted profile past x old new noted) → class_noted noted ≡ None
-    → (now : Passed profile client server new behind) × (now.pairs ≡ p.pairs ++ (x ∷ []))
-one-more profile client server old new left behind x noted p next notes good = by noted good (notes p.pairs p.stands)
+pub one-more : (profile : Profile) (before : List Recorded) (session : Recorded) (old new : FactsKept) (answers : List ℕ) (left behind : Unpaired) (x : Paired)
+    (noted : Noted) → (p : Passed profile before session old answers left) → IsNext left x behind → Notes profile old new x noted → class_noted noted ≡ None
+    → (now : Passed profile before session new answers behind) × (now.passed.pairs ≡ p.passed.pairs ++ x ∷ [])
+one-more profile before session old new answers left behind x noted p next notes good = by noted good (notes p.passed.earlier p.passed.pairs p.passed.stands)
   where
-    by : (noted : Noted) → class_noted noted ≡ None → IsNoted profile p.pairs x old new noted → (now : Passed profile client server new behind) × (now.pairs ≡ p.pairs ++ (x ∷ []))
+    by : (noted : Noted) → class_noted noted ≡ None → IsNotedBehind profile p.passed.earlier p.passed.pairs x old new noted
+        → (now : Passed profile before session new answers behind) × (now.passed.pairs ≡ p.passed.pairs ++ x ∷ [])
     by kinds.Consistent none h = (
       record {
-        pairs = p.pairs ++ (x ∷ []);
-        before = AreNext-push p.pairs (streams client server) left behind x p.before next;
-        stands = h.1;
+        passed = record {
+          earlier = p.passed.earlier;
+          ended = p.passed.ended;
+          pairs = p.passed.pairs ++ x ∷ [];
+          next = AreNext-push p.passed.pairs (streams session.client session.server) left behind x p.passed.next next;
+          stands = h.1;
+        };
+        answers_are = p.answers_are;
       },
       refl,
     )
@@ -94,24 +100,24 @@ of-exchange kinds.OutOfPlace class is = let same : class ≡ OutOfPlace = cc in 
 of-exchange kinds.Contradiction class is = let same : class ≡ Contradiction = cc in ap pair_class_of same
 
 -- a bad exchange
-pub at-exchange : (profile : Profile) (client server : List ℕ) (facts : FactsKept) (left behind : Unpaired) (x : Paired)
-    (noted : Noted) (class : Class) → Passed profile client server facts left → IsNext left x behind
+pub at-exchange : (client server : List ℕ) (pairs : List Paired) (left behind : Unpaired) (x : Paired)
+    (noted : Noted) (class : Class) → AreNext (streams client server) pairs left → IsNext left x behind
     → Some class ≡ class_noted noted
     → (k : ℕ) → k ≡ x.index → (line : Option (List ℕ)) → line ≡ x.line → (initial : List ℕ) → initial ≡ x.initial
     → StopsAt client server k class (option_map shown line) (shown initial)
-at-exchange profile client server facts left behind x noted class p next judged k at line line-is initial initial-is =
+at-exchange client server pairs left behind x noted class first next judged k at line line-is initial initial-is =
     let frame = next.answered.frame in
-    let first = frame-first left.server x.initial behind.server next.answered.block frame.whole in
+    let whole = frame-first left.server x.initial behind.server next.answered.block frame.whole in
     record {
-      pairs = p.pairs;
+      pairs = pairs;
       left = left;
-      before = p.before;
-      place = at ∙ next.index ∙ index-counts client server p.pairs left p.before;
-      some = λ none. some-octets x.initial _ (sym first ∙ none);
+      before = first;
+      place = at ∙ next.index ∙ index-counts client server pairs left first;
+      some = λ none. some-octets x.initial _ (sym whole ∙ none);
       suits = subst (λ o. MatchOption o (HasNext left) (λ c. IsBad c left)) (sym (of-exchange noted class judged)) (x, behind, next);
       command_is = ap (λ places. option_map shown places) (line-is ∙ sym (ap line_ahead next.place));
       line = x.initial;
-      first = (frame.is_line, inr (_, first));
+      first = (frame.is_line, inr (_, whole));
       reply_is = ap shown initial-is;
     }
 
@@ -121,14 +127,14 @@ of-pair pair.Cut left is = is
 of-pair pair.Malformed left is = is
 
 -- octets that answer nothing
-pub at-octets : (profile : Profile) (client server : List ℕ) (facts : FactsKept) (left : Unpaired) (index : ℕ) (class : PairClass) (line : Option (List ℕ)) (octets first : List ℕ)
-    → Passed profile client server facts left → StopsHere left index class line octets → (of : Class) → of ≡ class_of class → IsFirstLine octets first
+pub at-octets : (client server : List ℕ) (pairs : List Paired) (left : Unpaired) (index : ℕ) (class : PairClass) (line : Option (List ℕ)) (octets first : List ℕ)
+    → AreNext (streams client server) pairs left → StopsHere left index class line octets → (of : Class) → of ≡ class_of class → IsFirstLine octets first
     → StopsAt client server index of (option_map shown line) (shown first)
-at-octets profile client server facts left index class line octets first p stop of of-is is-first = record {
-  pairs = p.pairs;
+at-octets client server pairs left index class line octets first before stop of of-is is-first = record {
+  pairs = pairs;
   left = left;
-  before = p.before;
-  place = stop.index_is ∙ index-counts client server p.pairs left p.before;
+  before = before;
+  place = stop.index_is ∙ index-counts client server pairs left before;
   some = stop.ends.0;
   suits = subst (λ c. SuitsClass c left) (sym of-is) (of-pair class left stop.ends.1);
   command_is = ap (option_map shown) stop.line_is;
@@ -139,44 +145,36 @@ at-octets profile client server facts left index class line octets first p stop 
 
 -- ---- what a verdict says
 
--- `verify` answers of a spool that explains both streams that it permits as many answers
-only-permits : (profile : Profile) (S : Spool) (client server : List ℕ) (n : ℕ) → Explains profile S client server n
-    → (verified : Verified) → IsVerified profile S client server verified → verified ≡ Permits n
-only-permits profile S client server n x (Permits m) y = ap Permits (sym y.count ∙ ap length (same_answers profile S S client server m n y x) ∙ x.count)
-only-permits profile S client server n x (Refuses k) r = absurd (explained-unrefused profile S x.is_spool client server n k x r)
-
 -- an exchange that isn't accepted is bad, of its class
-pub exchange-right : (profile : Profile) (client server : List ℕ) (old new : FactsKept) (left behind : Unpaired) (x : Paired)
-    (noted : Noted) (class : Class) → Passed profile client server old left → IsNext left x behind
-    → ((past : List Paired) → HasNoted profile old past → IsNoted profile past x old new noted) → Some class ≡ class_noted noted → (k : ℕ) → k ≡ x.index → IsOutcome profile client server (No k class)
-exchange-right profile client server old new left behind x noted class p next notes judged k at =
-    subst (λ n. IsOutcome profile client server (No n class)) (sym place) (by noted judged (notes p.pairs p.stands))
+pub exchange-right : (profile : Profile) (before : List Recorded) (session : Recorded) (more : List Recorded) (old new : FactsKept) (left behind : Unpaired) (x : Paired)
+    (noted : Noted) (class : Class) → PassedOfAll profile before session old left → IsNext left x behind → Notes profile old new x noted → Some class ≡ class_noted noted
+    → (k : ℕ) → k ≡ x.index → IsOutcomeOfAll profile (before ++ session ∷ more) (NoOfAll (length before) k class)
+exchange-right profile before session more old new left behind x noted class p next notes judged k at =
+    subst (λ n. IsOutcomeOfAll profile (before ++ session ∷ more) (NoOfAll (length before) n class)) (sym place) (by noted judged (notes p.earlier p.pairs p.stands))
   where
     place : k ≡ length p.pairs
-    place = at ∙ next.index ∙ index-counts client server p.pairs left p.before
+    place = at ∙ next.index ∙ index-counts session.client session.server p.pairs left p.next
 
-    fitting : fits profile old.visible (asked_at x.line) x.response ≡ fits profile (visible_left p.pairs) (asked_at x.line) x.response
-    fitting i = fits profile (p.stands.visible i) (asked_at x.line) x.response
-
-    by : (noted : Noted) → Some class ≡ class_noted noted → IsNoted profile p.pairs x old new noted → IsOutcome profile client server (No (length p.pairs) class)
+    by : (noted : Noted) → Some class ≡ class_noted noted → IsNotedBehind profile p.earlier p.pairs x old new noted
+        → IsOutcomeOfAll profile (before ++ session ∷ more) (NoOfAll (length before) (length p.pairs) class)
     by kinds.Consistent judged h = cc
     by kinds.OutOfPlace judged h =
         let same : OutOfPlace ≡ class = cc in
-        subst (λ c. IsOutcome profile client server (No (length p.pairs) c)) same
-        (outcome_at_unfitting profile client server p.pairs x left behind p.before next ((permits_alone profile (exchanged p.pairs)).0 p.stands.permitted) (sym fitting ∙ h.0))
+        subst (λ c. IsOutcomeOfAll profile (before ++ session ∷ more) (NoOfAll (length before) (length p.pairs) c)) same
+        (passing_unfitting profile before session more old new left behind x p next h)
     by kinds.Contradiction judged h =
-        let same : class_by (fits profile (visible_left p.pairs) (asked_at x.line) x.response) ≡ class = ap class_by (sym fitting ∙ h.0) ∙ (let c : Contradiction ≡ class = cc in c) in
-        subst (λ c. IsOutcome profile client server (No (length p.pairs) c)) same
-        (outcome_at_response profile client server p.pairs x left behind p.before next
-        ((permits_alone profile (exchanged p.pairs)).0 p.stands.permitted) (λ q. h.1 ((permits_alone profile (exchanged (p.pairs ++ x ∷ []))).1 q)))
+        let same : Contradiction ≡ class = cc in
+        subst (λ c. IsOutcomeOfAll profile (before ++ session ∷ more) (NoOfAll (length before) (length p.pairs) c)) same
+        (passing_contradicted profile before session more old new left behind x p next h)
 
 -- octets that answer nothing are bad, of their class
-pub octets-right : (profile : Profile) (client server : List ℕ) (facts : FactsKept) (left : Unpaired) (class : PairClass) → Passed profile client server facts left → Ends left (pair_end class)
-    → (k : ℕ) → k ≡ left.index → (of : Class) → of ≡ class_of class → IsOutcome profile client server (No k of)
-octets-right profile client server facts left class p ends k at of is =
-    let place : length p.pairs ≡ k = sym (at ∙ index-counts client server p.pairs left p.before) in
-    subst (λ (x : ℕ × Class). IsOutcome profile client server (No x.0 x.1)) (λ i. (place i, sym is i))
-    (outcome_at_octets profile client server p.pairs class (record { left = left; paired = p.before; ends = ends }) ((permits_alone profile (exchanged p.pairs)).0 p.stands.permitted))
+pub octets-right : (profile : Profile) (before : List Recorded) (session : Recorded) (more : List Recorded) (facts : FactsKept) (left : Unpaired) (class : PairClass)
+    → PassedOfAll profile before session facts left → Ends left (pair_end class)
+    → (k : ℕ) → k ≡ left.index → (of : Class) → of ≡ class_of class → IsOutcomeOfAll profile (before ++ session ∷ more) (NoOfAll (length before) k of)
+octets-right profile before session more facts left class p ends k at of is =
+    let place : length p.pairs ≡ k = sym (at ∙ index-counts session.client session.server p.pairs left p.next) in
+    subst (λ (x : ℕ × Class). IsOutcomeOfAll profile (before ++ session ∷ more) (NoOfAll (length before) x.0 x.1)) (λ i. (place i, sym is i))
+    (passing_stops profile before session more facts left class p ends)
 
 -- limits of which the greatest numbers are one are one
 same-limit : (limit other : Limit) → greatest limit ≡ greatest other → limit ≡ other
@@ -186,53 +184,106 @@ same-limit Wide Narrow e = absurd (omega (arith, e))
 same-limit Wide Wide e = refl
 
 -- facts that are judged by a limit hold it
-limit-kept : (limit : Limit) (marks : Marks) (facts : FactsKept) (past : List Paired) → HasNoted (profile_of limit marks) facts past → facts.limit ≡ limit
-limit-kept limit marks facts past noted = same-limit facts.limit limit (ap (λ (p : Profile). p.limit) noted.profile_is)
+limit-kept : (limit : Limit) (marks : Marks) (facts : FactsKept) (earlier : List (List Paired)) (past : List Paired) → HasNotedBehind (profile_of limit marks) facts earlier past → facts.limit ≡ limit
+limit-kept limit marks facts earlier past noted = same-limit facts.limit limit (ap (λ (p : Profile). p.limit) noted.profile_is)
 
--- where no octet is left, and the spool is a witness of the exchanges that passed, it is a yes
-pub at-end : (limit : Limit) (marks : Marks) (client server : List ℕ) (facts : FactsKept) (left : Unpaired)
-    (answers unanswered : ℕ) (L : LimitedSpool) → (p : Passed (profile_of limit marks) client server facts left)
-    → answers ≡ left.index → Ends left (end unanswered)
-    → IsWitnessWithin facts.limit (profile_of limit marks) [] p.pairs L → IsWritten L → IsYes limit marks client server L answers
-at-end limit marks client server facts left answers unanswered L p at ends witness written =
+-- as many sessions have ended as there are numbers of answers
+pub as-many-ended : (before : List Recorded) (earlier : List (List Paired)) (answers : List ℕ) → ArePaired before earlier → answers ≡ map length earlier → length answers ≡ length before
+as-many-ended before earlier answers ended are = ap length are ∙ length-map earlier length ∙ sym (as_many_sessions before earlier ended)
+
+-- where all sessions have ended, and the spool is a witness of their exchanges, it is a yes
+pub at-end : (limit : Limit) (marks : Marks) (sessions : List Recorded) (facts : FactsKept) (answers : List ℕ) (L : LimitedSpool) → (e : HaveEnded (profile_of limit marks) sessions facts answers)
+    → IsWitnessWithin facts.limit (profile_of limit marks) e.earlier [] L → IsWritten L → IsVerdictOfAll limit marks sessions (consistent_of_all L answers)
+at-end limit marks sessions facts answers L e witness written =
     let profile = profile_of limit marks in
-    let count : answers ≡ length p.pairs = at ∙ index-counts client server p.pairs left p.before in
-    let pairing : IsPairing client server p.pairs (end unanswered) = record { left = left; paired = p.before; ends = ends } in
-    let outcome = subst (λ n. IsOutcome profile client server (Yes L.spool n)) (sym count)
-    (outcome_at_end profile client server p.pairs unanswered L.spool
-    (pairs_size marks p.pairs p.stands.lines p.stands.few) pairing ((permits_alone profile (exchanged p.pairs)).0 p.stands.permitted) witness.0.given) in
-    record {
-      limit_is = witness.1 ∙ limit-kept limit marks facts p.pairs p.stands;
-      outcome = outcome;
-      throughout = record { pairs = p.pairs; unanswered = unanswered; pairing = pairing; count = count };
-      read_back = written_is_read L written;
-      permits = only-permits profile L.spool client server answers outcome.explains;
-    }
+    let said = append-nil (facts_of_all marks (map exchanged e.earlier)) in
+    let all = facts_behind marks (map exchanged e.earlier) (exchanged []) ∙ said in
+    let small = subst (λ facts. size facts < 2 ^ 210) all (small_behind marks e.earlier [] e.stands.sessions e.stands.earlier_few (record { lines = tt; few = omega arith })) in
+    subst (λ ns. IsVerdictOfAll limit marks sessions (consistent_of_all L ns)) (sym e.answers_are)
+    (verdict_at_ends limit marks sessions e.earlier L (witness.1 ∙ limit-kept limit marks facts e.earlier [] e.stands) (written_is_read L written) e.ended
+    (earlier_permitted profile facts e.earlier [] e.stands) small (subst (λ facts. IsGiven facts L.spool) said witness.0.given))
 
 -- what is so of a judgement is so of a verdict that shows it
-pub told : {A E : Type 0} (r : Result (Verdict A) E) (P : Judgement → Type 0) (j : Judgement) → P j → IfOk r (λ v. verdict_shown v ≡ j) → IfOk r (λ v. P (verdict_shown v))
+pub told : {A E : Type 0} (r : Result (SessionsVerdict A) E) (P : JudgementOfAll → Type 0) (j : JudgementOfAll) → P j → IfOk r (λ v. sessions_verdict_shown v ≡ j) → IfOk r (λ v. P (sessions_verdict_shown v))
 told (Ok v) P j p ok = subst P (sym ok) p
 told (Err e) P j p ok = ok
 
--- an exchange that isn't accepted, with what is shown of it, is a verdict
-pub refused : (limit : Limit) (marks : Marks) (client server : List ℕ) (old new : FactsKept) (left behind : Unpaired)
-    (x : Paired) (noted : Noted) (class : Class) → Passed (profile_of limit marks) client server old left → IsNext left x behind
-    → ((past : List Paired) → HasNoted (profile_of limit marks) old past → IsNoted (profile_of limit marks) past x old new noted) → Some class ≡ class_noted noted → (k : ℕ) → k ≡ x.index
-    → (line : Option (List ℕ)) → line ≡ x.line → (initial : List ℕ) → initial ≡ x.initial → IsVerdict limit marks client server (bad k class (option_map shown line) (shown initial))
-refused limit marks client server old new left behind x noted class p next notes judged k at line line-is initial initial-is = record {
-  outcome = exchange-right (profile_of limit marks) client server old new left behind x noted class p next notes judged k at;
-  place = at-exchange (profile_of limit marks) client server old left behind x noted class p next judged k at line line-is initial initial-is;
-}
+-- a no of the session behind those that ended, of which this is the number of answers
+no-here : (limit : Limit) (marks : Marks) (before : List Recorded) (session : Recorded) (more : List Recorded) (j k : ℕ) (class : Class) (command : Option (List ℕ)) (reply : List ℕ) → j ≡ length before
+    → IsOutcomeOfAll (profile_of limit marks) (before ++ session ∷ more) (NoOfAll (length before) k class) → StopsAt session.client session.server k class command reply
+    → IsVerdictOfAll limit marks (before ++ session ∷ more) (bad_of_all j k class command reply)
+no-here limit marks before session more j k class command reply is outcome place =
+    subst (λ j. IsVerdictOfAll limit marks (before ++ session ∷ more) (bad_of_all j k class command reply)) (sym is)
+    (verdict_within limit marks before session more k class command reply outcome place)
 
--- and so are octets that answer nothing
-pub stopped : (limit : Limit) (marks : Marks) (client server : List ℕ) (facts : FactsKept) (left : Unpaired) (index : ℕ) (class : PairClass) (line : Option (List ℕ)) (octets first : List ℕ)
-    → Passed (profile_of limit marks) client server facts left → StopsHere left index class line octets → (of : Class)
-    → of ≡ class_of class → IsFirstLine octets first
-    → IsVerdict limit marks client server (bad index of (option_map shown line) (shown first))
-stopped limit marks client server facts left index class line octets first p stop of of-is is-first = record {
-  outcome = octets-right (profile_of limit marks) client server facts left class p stop.ends index stop.index_is of of-is;
-  place = at-octets (profile_of limit marks) client server facts left index class line octets first p stop of of-is is-first;
-}
+module _ (limit : Limit) (marks : Marks) (before : List Recorded) (session : Recorded) (answers : List ℕ) where
+  -- an exchange that isn't accepted, with what is shown of it, is a verdict
+  pub refused : (old new : FactsKept) (left behind : Unpaired)
+      (x : Paired) (noted : Noted) (class : Class) → Passed (profile_of limit marks) before session old answers left → IsNext left x behind
+      → Notes (profile_of limit marks) old new x noted → Some class ≡ class_noted noted → (j : ℕ) → j ≡ length answers → (k : ℕ) → k ≡ x.index
+      → (line : Option (List ℕ)) → line ≡ x.line → (initial : List ℕ) → initial ≡ x.initial → IsVerdictFrom limit marks before session (bad_of_all j k class (option_map shown line) (shown initial))
+  refused old new left behind x noted class p next notes judged j is k at line line-is initial initial-is more =
+      no-here limit marks before session more j k class (option_map shown line) (shown initial) (is ∙ as-many-ended before p.passed.earlier answers p.passed.ended p.answers_are)
+      (exchange-right (profile_of limit marks) before session more old new left behind x noted class p.passed next notes judged k at)
+      (at-exchange session.client session.server p.passed.pairs left behind x noted class p.passed.next next judged k at line line-is initial initial-is)
+
+  -- and so are octets that answer nothing
+  pub stopped : (facts : FactsKept) (left : Unpaired) (index : ℕ) (class : PairClass) (line : Option (List ℕ)) (octets first : List ℕ)
+      → Passed (profile_of limit marks) before session facts answers left → StopsHere left index class line octets → (j : ℕ) → j ≡ length answers → (of : Class)
+      → of ≡ class_of class → IsFirstLine octets first
+      → IsVerdictFrom limit marks before session (bad_of_all j index of (option_map shown line) (shown first))
+  stopped facts left index class line octets first p stop j is of of-is is-first more =
+      no-here limit marks before session more j index of (option_map shown line) (shown first) (is ∙ as-many-ended before p.passed.earlier answers p.passed.ended p.answers_are)
+      (octets-right (profile_of limit marks) before session more facts left class p.passed stop.ends index stop.index_is of of-is)
+      (at-octets session.client session.server p.passed.pairs left index class line octets first p.passed.next stop of of-is is-first)
+
+-- ---- from one session to the next
+
+-- a session has ended where no octet is left
+pub ends : (profile : Profile) (before : List Recorded) (session : Recorded) (old new : FactsKept) (answers counts : List ℕ) (n unanswered : ℕ) (left : Unpaired) → Passed profile before session old answers left
+    → n ≡ left.index → Ends left (end unanswered) → counts ≡ answers ++ n ∷ [] → length counts < 2 ^ 64 → new ≡ begun old → HaveEnded profile (before ++ session ∷ []) new counts
+ends profile before session old new answers counts n unanswered left p at ended pushed few is =
+    let q = p.passed in
+    let count : n ≡ length q.pairs = at ∙ index-counts session.client session.server q.pairs left q.next in
+    let many = ap length pushed ∙ length-append answers (n ∷ []) in
+    let earlier = ap length p.answers_are ∙ length-map q.earlier length in
+    record {
+      earlier = q.earlier ++ q.pairs ∷ [];
+      ended = paired_push before q.earlier session q.pairs q.ended (unanswered, record { left = left; paired = q.next; ends = ended });
+      answers_are = pushed ∙ ap₂ (λ ns n. ns ++ n ∷ []) p.answers_are count ∙ sym (map-append length q.earlier (q.pairs ∷ []));
+      stands = subst (λ facts. HasNotedBehind profile facts (q.earlier ++ q.pairs ∷ []) []) (sym is) (session_begins profile old q.earlier q.pairs q.stands (omega (arith, few, many, earlier)));
+    }
+
+-- what a verdict says from here on is the verdict on all sessions
+pub from-here : (limit : Limit) (marks : Marks) (sessions : List Recorded) (i : ℕ) (s : Recorded) (j : JudgementOfAll) → i < length sessions → s ≡ get_or sessions i s
+    → IsVerdictFrom limit marks (take i sessions) s j → IsVerdictOfAll limit marks sessions j
+from-here limit marks sessions i s j within is verdict =
+    let next : take i sessions ++ s ∷ drop (i + 1) sessions ≡ sessions =
+    ap (λ s. take i sessions ++ s ∷ drop (i + 1) sessions) is ∙ ap (λ rest. take i sessions ++ rest) (sym (drop_more sessions i s within)) ∙ take-append-drop i sessions in
+    subst (λ sessions. IsVerdictOfAll limit marks sessions j) next (verdict (drop (i + 1) sessions))
+
+-- one session more of those that have ended
+pub ended-next : (profile : Profile) (sessions : List Recorded) (i : ℕ) (s : Recorded) (facts : FactsKept) (answers : List ℕ) → i < length sessions → s ≡ get_or sessions i s
+    → HaveEnded profile (take i sessions ++ s ∷ []) facts answers → HaveEnded profile (take (i + 1) sessions) facts answers
+ended-next profile sessions i s facts answers within is e =
+    let next = take_more sessions i s within ∙ ap (λ s. take i sessions ++ s ∷ []) (sym is) in
+    subst (λ sessions. HaveEnded profile sessions facts answers) (sym next) e
+
+-- and of all of them
+pub ended-all : (profile : Profile) (sessions : List Recorded) (i : ℕ) (facts : FactsKept) (answers : List ℕ) → length sessions ≤ i
+    → HaveEnded profile (take i sessions) facts answers → HaveEnded profile sessions facts answers
+ended-all profile sessions i facts answers past e = subst (λ sessions. HaveEnded profile sessions facts answers) (take_all i sessions past) e
+
+-- of one session, what is said of several is what is said of that
+pub alone : (limit : Limit) (marks : Marks) (client server : List ℕ) (j : JudgementOfAll) → IsVerdictOfAll limit marks (record { client = client; server = server } ∷ []) j
+    → IsVerdict limit marks client server (verdict_of_last j)
+alone limit marks client server (consistent_of_all L []) v = absurd v.throughout
+alone limit marks client server (consistent_of_all L (n ∷ [])) v = (one_session_verdict limit marks (record { client = client; server = server }) (consistent L n)).0 v
+alone limit marks client server (consistent_of_all L (n ∷ m ∷ ns)) v = absurd v.throughout.1
+alone limit marks client server (bad_of_all zero k class command reply) v = (one_session_verdict limit marks (record { client = client; server = server }) (bad k class command reply)).0 v
+alone limit marks client server (bad_of_all (suc j) k class command reply) v = absurd v.outcome.0
+
+-- ---- what is told
 
 -- what follows of each value from what is so of it
 pub told_of : {T E : Type 0} (r : Result T E) (P Q : T → Type 0) → IfOk r P → ((v : T) → P v → Q v) → IfOk r Q
@@ -240,8 +291,8 @@ told_of (Ok v) P Q p then = then v p
 told_of (Err e) P Q p then = p
 
 -- where a verdict is told it is so of it, and else of what is left
-pub refuses : {A : Type 0} (told : Option (Verdict A)) (v : Verdict A) (N : Type 0) (P : Verdict A → Type 0) → told ≡ Some v → MatchOption told N P → P v
+pub refuses : {A : Type 0} (told : Option (SessionsVerdict A)) (v : SessionsVerdict A) (N : Type 0) (P : SessionsVerdict A → Type 0) → told ≡ Some v → MatchOption told N P → P v
 refuses told v N P is h = subst (λ o. MatchOption o N P) is h
 
-pub passes : {A : Type 0} (told : Option (Verdict A)) (N : Type 0) (P : Verdict A → Type 0) → told ≡ None → MatchOption told N P → N
+pub passes : {A : Type 0} (told : Option (SessionsVerdict A)) (N : Type 0) (P : SessionsVerdict A → Type 0) → told ≡ None → MatchOption told N P → N
 passes told N P is h = subst (λ o. MatchOption o N P) is h

@@ -1,7 +1,6 @@
-pub mod JudgeLemmas
+pub mod ShownPlaces
 pub mod VerdictLaws
+pub mod JudgeLemmas
 pub mod FedLemmas
 pub mod CheckerLemmas
 pub mod BadLemmas
-pub mod OneVerdictOfAll
-pub mod CheckedSessions

@@ -1,83 +1,157 @@
--- Two streams have one verdict, and it is a yes exactly if some spool explains them.
-use Rattle.std.proofs.Common.{◌≡◌, ◌∙◌, ◌↔◌, sym, ap, subst, ℕ, IsTrue, List, [], ◌∷◌, ◌++◌, length, Option, None, inl, inr, append_assoc}
-use Rattle.std.specs.Option.{option_map}
-use Rattle.nntp_wire.specs.Octets.{crlf}
+-- Sessions have one verdict, and it is a yes exactly if some spool explains them; that of one session is that of its two streams.
+use Rattle.std.proofs.Common.{◌++◌, refl, ◌≡◌, ◌∙◌, ◌↔◌, sym, ap, subst, ℕ, zero, suc, IsTrue, List, [], ◌∷◌, length, Option, None, Some, slice_get, ◌<◌, ◌^◌, map, Ok}
+use Rattle.std.specs.Prelude.{MatchOption}
 use Rattle.nntp_wire.specs.declared.limit.Limit.{Limit}
 use Rattle.nntp_wire.specs.declared.marks.Marks.{Marks}
-use Rattle.nntp_wire.specs.Lines.{HasNoCrlf}
-use Rattle.memchr.specs.Find.{OccursAt}
-use Rattle.nntp_wire.proofs.FrameLemmas.{one_line, occurs-behind}
 use Rattle.nntp_article.specs.Session.Explains.{Explains}
 use Rattle.nntp_article.specs.Session.Limit.{profile_of}
 use Rattle.nntp_article.specs.Session.Spool.{Spool}
-use Rattle.nntp_pair.specs.Pairing.{Paired, Unpaired, AreNext, line_ahead, streams}
-use Rattle.nntp_pair.proofs.NextLemmas.{one-next}
+use Rattle.nntp_pair.specs.Pairing.{Paired}
 use Rattle.nntp_pair.specs.declared.class.Class.{Class}
-use Rattle.nntp_facts.specs.Outcome.{Outcome, Yes, No}
-use Rattle.nntp_facts.proofs.Streams.OneOutcome.{one_outcome, yes_explained}
+use Rattle.nntp_facts.specs.Outcome.{Yes, No}
 use Rattle.nntp_spool.specs.Limited.{LimitedSpool}
-use Rattle.nntp_printing.specs.BadAnswer.{IsFirstLine, shown}
-use Rattle.nntp_verdict.specs.Judging.{StopsAt, IsVerdict}
-use Rattle.nntp_verdict.specs.Verdict.{Judgement, consistent, bad, is_consistent}
+use Rattle.nntp_spool.specs.Verifying.{IsVerified}
+use Rattle.nntp_several.specs.Verifying.{VerifiedOfAll, PermitsAll, RefusesOne, IsVerifiedOfAll}
+use Rattle.nntp_spool.specs.declared.verification.verified.Verified.{Verified}
+use Rattle.nntp_spool.specs.declared.verification.verified.Verified.TheVariants.{Permits, Refuses}
+use Rattle.nntp_verdict.specs.Judging.{StopsAt, IsVerdict, IsVerdictOfAll, IsAnsweredThroughout}
+use Rattle.nntp_verdict.proofs.ShownPlaces.{one-place}
+use Rattle.nntp_several.specs.Sessions.{Recorded, ExplainsAll, OfEach}
+use Rattle.nntp_several.specs.Outcome.{OutcomeOfAll, YesOfAll, NoOfAll, IsOutcomeOfAll}
+use Rattle.nntp_facts.specs.Given.{IsGiven, size}
+use Rattle.nntp_spool.specs.Reading.{spool_at}
+use Rattle.nntp_spool.specs.Text.{spool_text}
+use Rattle.nntp_facts.specs.Answered.{SomePermitsEach, facts_of_all}
+use Rattle.nntp_facts.specs.Noted.{exchanged}
+use Rattle.nntp_several.specs.Paired.{ArePaired}
+use Rattle.nntp_several.proofs.ExplainedSessions.{there}
+use Rattle.nntp_several.proofs.SessionsVerified.{permits_alone}
+use Rattle.nntp_several.proofs.WaysToOutcome.{outcome_at_all_ends}
+use Rattle.nntp_verdict.specs.Verdict.{Judgement, consistent, bad, is_consistent, JudgementOfAll, consistent_of_all, bad_of_all, is_consistent_of_all, verdict_of_one, verdict_of_last}
+use Rattle.nntp_several.proofs.OneOutcomeOfAll.{one_outcome_of_all, yes_explained_of_all, one_explained, one_session_outcome}
 
--- as many pairs leave the same
-same-left : (pairs others : List Paired) (a b c : Unpaired) → length pairs ≡ length others → AreNext a pairs b → AreNext a others c → b ≡ c
-same-left [] [] a b c e p q = sym p ∙ q
-same-left [] (y ∷ others) a b c e p q = cc
-same-left (x ∷ pairs) [] a b c e p q = cc
-same-left (x ∷ pairs) (y ∷ others) a b c e (m, first, more) (n, also, rest) =
-    let same : m ≡ n = (one-next a m n x y first also).1 in
-    let few : length pairs ≡ length others = cc in
-    same-left pairs others n b c few (subst (λ (u : Unpaired). AreNext u pairs b) same more) rest
-
--- a line with CRLF behind it has one
-pub no-line : (octets line rest : List ℕ) → HasNoCrlf octets → octets ≡ line ++ crlf ++ rest → ⊥
-no-line octets line rest none e = none (length line) (subst (λ (o : List ℕ). OccursAt o crlf (length line)) (sym (append_assoc line crlf rest) ∙ sym e) (occurs-behind line crlf rest))
-
--- octets have one first line
-one-first : (octets l m : List ℕ) → IsFirstLine octets l → IsFirstLine octets m → l ≡ m
-one-first octets l m (p, inl e) (q, inl f) = sym e ∙ f
-one-first octets l m (p, inl e) (q, inr (t, f)) = absurd (no-line octets m t (subst HasNoCrlf (sym e) p) f)
-one-first octets l m (p, inr (r, e)) (q, inl f) = absurd (no-line octets l r (subst HasNoCrlf (sym f) q) e)
-one-first octets l m (p, inr (r, e)) (q, inr (t, f)) = (one_line l m r t p q (sym e ∙ f)).0
-
--- a place shows one command and one reply
-pub one-place : (client server : List ℕ) (k : ℕ) (class other : Class) (command also : Option (List ℕ)) (reply again : List ℕ)
-    → StopsAt client server k class command reply → StopsAt client server k other also again
-    → (command ≡ also) × (reply ≡ again)
-one-place client server k class other command also reply again x y =
-    let left = same-left x.pairs y.pairs (streams client server) x.left y.left (sym x.place ∙ y.place) x.before y.before in
-    let line = one-first y.left.server x.line y.line (subst (λ (u : Unpaired). IsFirstLine u.server x.line) left x.first) y.first in
-    (x.command_is ∙ ap (λ (u : Unpaired). option_map shown (line_ahead u.places)) left ∙ sym y.command_is, x.reply_is ∙ ap shown line ∙ sym y.reply_is)
+-- ---- one verdict
 
 -- a verdict is one by its limit, its outcome, and by what is shown at its place
-abbrev with-place : Limit → Outcome → Option (List ℕ) → List ℕ → Judgement
-with-place limit (Yes S n) command reply = consistent (record { limit = limit; spool = S }) n
-with-place limit (No k class) command reply = bad k class command reply
+abbrev with_place : Limit → OutcomeOfAll → Option (List ℕ) → List ℕ → JudgementOfAll
+with_place limit (YesOfAll S ns) command reply = consistent_of_all (record { limit = limit; spool = S }) ns
+with_place limit (NoOfAll j k class) command reply = bad_of_all j k class command reply
 
 -- a yes with the limit that it has
-own-limit : (limit : Limit) (L : LimitedSpool) (n : ℕ) → L.limit ≡ limit → consistent L n ≡ with-place limit (Yes L.spool n) None []
-own-limit limit L n is = ap (λ l. consistent (record { limit = l; spool = L.spool }) n) is
+own_limit : (limit : Limit) (L : LimitedSpool) (ns : List ℕ) → L.limit ≡ limit → consistent_of_all L ns ≡ with_place limit (YesOfAll L.spool ns) None []
+own_limit limit L ns is = ap (λ l. consistent_of_all (record { limit = l; spool = L.spool }) ns) is
 
--- two streams have one verdict
+pub one_verdict_of_all : (limit : Limit) (marks : Marks) (sessions : List Recorded) (j l : JudgementOfAll) → IsVerdictOfAll limit marks sessions j → IsVerdictOfAll limit marks sessions l → j ≡ l
+one_verdict_of_all limit marks sessions (consistent_of_all K ns) (consistent_of_all L ms) x y =
+    own_limit limit K ns x.limit_is ∙ ap (λ h. with_place limit h None [])
+    (one_outcome_of_all (profile_of limit marks) sessions (YesOfAll K.spool ns) (YesOfAll L.spool ms) x.outcome y.outcome)
+    ∙ sym (own_limit limit L ms y.limit_is)
+one_verdict_of_all limit marks sessions (consistent_of_all L ns) (bad_of_all j k class command reply) x y =
+    let e = one_outcome_of_all (profile_of limit marks) sessions (YesOfAll L.spool ns) (NoOfAll j k class) x.outcome y.outcome in cc
+one_verdict_of_all limit marks sessions (bad_of_all j k class command reply) (consistent_of_all L ns) x y =
+    let e = one_outcome_of_all (profile_of limit marks) sessions (NoOfAll j k class) (YesOfAll L.spool ns) x.outcome y.outcome in cc
+one_verdict_of_all limit marks sessions (bad_of_all j k c command reply) (bad_of_all i l d also again) x y =
+    let e = one_outcome_of_all (profile_of limit marks) sessions (NoOfAll j k c) (NoOfAll i l d) x.outcome y.outcome in
+    let session : j ≡ i = cc in
+    let answer : k ≡ l = cc in
+    let here = subst (λ (p : ℕ × ℕ). MatchOption (slice_get sessions p.0) ⊥ (λ s. StopsAt s.client s.server p.1 c command reply)) (λ t. (session t, answer t)) x.place in
+    let shown = by (slice_get sessions i) here y.place in
+    λ t. with_place limit (e t) (shown.0 t) (shown.1 t)
+  where
+    by : (o : Option Recorded) → MatchOption o ⊥ (λ s. StopsAt s.client s.server l c command reply) → MatchOption o ⊥ (λ s. StopsAt s.client s.server l d also again)
+        → (command ≡ also) × (reply ≡ again)
+    by None h g = absurd h
+    by (Some s) h g = one-place s.client s.server l c d command also reply again h g
+
+pub yes_if_explained_of_all : (limit : Limit) (marks : Marks) (sessions : List Recorded) (j : JudgementOfAll) → IsVerdictOfAll limit marks sessions j
+    → IsTrue (is_consistent_of_all j) ↔ ((S : Spool) × ExplainsAll (profile_of limit marks) S sessions)
+yes_if_explained_of_all limit marks sessions (consistent_of_all L ns) x = yes_explained_of_all (profile_of limit marks) sessions (YesOfAll L.spool ns) x.outcome
+yes_if_explained_of_all limit marks sessions (bad_of_all j k class command reply) x = yes_explained_of_all (profile_of limit marks) sessions (NoOfAll j k class) x.outcome
+
+-- ---- one session
+
+pub one_session_verdict : (limit : Limit) (marks : Marks) (s : Recorded) (j : Judgement)
+    → IsVerdictOfAll limit marks (s ∷ []) (verdict_of_one j) ↔ IsVerdict limit marks s.client s.server j
+one_session_verdict limit marks s (consistent L n) = let o = one_session_outcome (profile_of limit marks) s (Yes L.spool n) in (
+  λ x. record { limit_is = x.limit_is; outcome = o.0 x.outcome; throughout = x.throughout.0; read_back = x.read_back; permits = λ v. to x.permits v },
+  λ x. record { limit_is = x.limit_is; outcome = o.1 x.outcome; throughout = (x.throughout, tt); read_back = x.read_back; permits = λ v. back x.permits v },
+)
+  where
+    to : ((v : VerifiedOfAll) → IsVerifiedOfAll (profile_of limit marks) L.spool (s ∷ []) v → v ≡ PermitsAll (n ∷ []))
+        → (v : Verified) → IsVerified (profile_of limit marks) L.spool s.client s.server v → v ≡ Permits n
+    to h (Permits m) x = let e = h (PermitsAll (m ∷ [])) (x, tt) in cc
+    to h (Refuses k) x = let e = h (RefusesOne 0 k) (tt, x) in cc
+
+    back : ((v : Verified) → IsVerified (profile_of limit marks) L.spool s.client s.server v → v ≡ Permits n)
+        → (v : VerifiedOfAll) → IsVerifiedOfAll (profile_of limit marks) L.spool (s ∷ []) v → v ≡ PermitsAll (n ∷ [])
+    back h (PermitsAll []) x = absurd x
+    back h (PermitsAll (m ∷ [])) x = let e = h (Permits m) x.0 in cc
+    back h (PermitsAll (m ∷ l ∷ ms)) x = absurd x.1
+    back h (RefusesOne zero k) x = let e = h (Refuses k) x.1 in cc
+    back h (RefusesOne (suc j) k) x = absurd x
+one_session_verdict limit marks s (bad k class command reply) = let o = one_session_outcome (profile_of limit marks) s (No k class) in (
+  λ x. record { outcome = o.0 x.outcome; place = x.place },
+  λ x. record { outcome = o.1 x.outcome; place = x.place },
+)
+
+-- so two streams have one verdict
 pub one-verdict : (limit : Limit) (marks : Marks) (client server : List ℕ) (j l : Judgement) → IsVerdict limit marks client server j → IsVerdict limit marks client server l → j ≡ l
-one-verdict limit marks client server (consistent K n) (consistent L m) x y =
-    own-limit limit K n x.limit_is ∙ ap (λ h. with-place limit h None [])
-    (one_outcome (profile_of limit marks) client server (Yes K.spool n) (Yes L.spool m) x.outcome y.outcome)
-    ∙ sym (own-limit limit L m y.limit_is)
-one-verdict limit marks client server (consistent L n) (bad k class command reply) x y = let e = one_outcome
-    (profile_of limit marks) client server (Yes L.spool n) (No k class) x.outcome y.outcome in cc
-one-verdict limit marks client server (bad k class command reply) (consistent L n) x y = let e = one_outcome
-    (profile_of limit marks) client server (No k class) (Yes L.spool n) x.outcome y.outcome in cc
-one-verdict limit marks client server (bad k c command reply) (bad j d also again) x y =
-    let e = one_outcome (profile_of limit marks) client server (No k c) (No j d) x.outcome y.outcome in
-    let place : k ≡ j = cc in
-    let shown = one-place client server j c d command also reply again (subst (λ k. StopsAt client server k c command reply) place x.place) y.place in
-    λ i. with-place limit (e i) (shown.0 i) (shown.1 i)
+one-verdict limit marks client server j l x y =
+    let s : Recorded = record { client = client; server = server } in
+    sym (same j) ∙ ap verdict_of_last
+    (one_verdict_of_all limit marks (s ∷ []) (verdict_of_one j) (verdict_of_one l) ((one_session_verdict limit marks s j).1 x) ((one_session_verdict limit marks s l).1 y)) ∙ same l
+  where
+    same : (j : Judgement) → verdict_of_last (verdict_of_one j) ≡ j
+    same (consistent L n) = refl
+    same (bad k class command reply) = refl
 
--- a verdict is a yes exactly if some spool explains the streams
+-- and it is a yes exactly if some spool explains them
 pub yes-if-explained : (limit : Limit) (marks : Marks) (client server : List ℕ) (j : Judgement)
     → IsVerdict limit marks client server j → IsTrue (is_consistent j)
     ↔ ((S : Spool) × (n : ℕ) × Explains (profile_of limit marks) S client server n)
-yes-if-explained limit marks client server (consistent L n) x = yes_explained (profile_of limit marks) client server (Yes L.spool n) x.outcome
-yes-if-explained limit marks client server (bad k class command reply) x = yes_explained (profile_of limit marks) client server (No k class) x.outcome
+yes-if-explained limit marks client server j x =
+    let s : Recorded = record { client = client; server = server } in
+    let all = yes_if_explained_of_all limit marks (s ∷ []) (verdict_of_one j) ((one_session_verdict limit marks s j).1 x) in (
+      λ yes.
+          let e = all.0 (subst IsTrue (sym (same j)) yes) in
+          let x = (one_explained (profile_of limit marks) e.0 s).0 e.1 in
+          (e.0, x.0, x.1),
+      λ e. subst IsTrue (same j) (all.1 (e.0, (one_explained (profile_of limit marks) e.0 s).1 (e.1, e.2))),
+    )
+  where
+    same : (j : Judgement) → is_consistent_of_all (verdict_of_one j) ≡ is_consistent j
+    same (consistent L n) = refl
+    same (bad k class command reply) = refl
+
+-- ---- the ways to it
+
+-- the pairings of sessions end with no octet left
+ended_throughout : (sessions : List Recorded) (exchanges : List (List Paired)) → ArePaired sessions exchanges → OfEach (λ s n. IsAnsweredThroughout s.client s.server n) sessions (map length exchanges)
+ended_throughout [] [] p = tt
+ended_throughout [] (pairs ∷ exchanges) p = absurd p
+ended_throughout (s ∷ more) [] p = absurd p
+ended_throughout (s ∷ more) (pairs ∷ exchanges) p = (record { pairs = pairs; unanswered = p.0.0; pairing = p.0.1; count = refl }, ended_throughout more exchanges p.1)
+
+-- at the ends of all sessions
+pub verdict_at_ends : (limit : Limit) (marks : Marks) (sessions : List Recorded) (exchanges : List (List Paired)) (L : LimitedSpool)
+    → L.limit ≡ limit → spool_at (spool_text L) ≡ Ok L → ArePaired sessions exchanges → SomePermitsEach (profile_of limit marks) (map exchanged exchanges)
+    → size (facts_of_all (profile_of limit marks).marks (map exchanged exchanges)) < 2 ^ 210 → IsGiven (facts_of_all (profile_of limit marks).marks (map exchanged exchanges)) L.spool
+    → IsVerdictOfAll limit marks sessions (consistent_of_all L (map length exchanges))
+verdict_at_ends limit marks sessions exchanges L is read_back paired permitted small given =
+    let outcome = outcome_at_all_ends (profile_of limit marks) sessions exchanges L.spool small paired permitted given in
+    record {
+      limit_is = is;
+      outcome = outcome;
+      throughout = ended_throughout sessions exchanges paired;
+      read_back = read_back;
+      permits = λ v h. permits_alone (profile_of limit marks) L.spool sessions outcome.explains.1 v h ∙ ap PermitsAll (sym outcome.count);
+    }
+
+-- within a session
+pub verdict_within : (limit : Limit) (marks : Marks) (before : List Recorded) (s : Recorded) (more : List Recorded) (k : ℕ) (class : Class) (command : Option (List ℕ)) (reply : List ℕ)
+    → IsOutcomeOfAll (profile_of limit marks) (before ++ s ∷ more) (NoOfAll (length before) k class) → StopsAt s.client s.server k class command reply
+    → IsVerdictOfAll limit marks (before ++ s ∷ more) (bad_of_all (length before) k class command reply)
+verdict_within limit marks before s more k class command reply outcome place = record {
+  outcome = outcome;
+  place = subst (λ o. MatchOption o ⊥ (λ s. StopsAt s.client s.server k class command reply)) (sym (there before s more (length before) refl).0) place;
+}

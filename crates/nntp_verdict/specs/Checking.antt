@@ -1,5 +1,5 @@
--- Judging both streams as they come, in pieces.
-use Rattle.std.specs.Prelude.{◌≡◌, ℕ, ◌+◌, ◌^◌, ◌<◌, Bool, true, false, List, ◌++◌, length, Option, None, Some, MatchOption}
+-- Judging the streams of sessions as they come, in pieces.
+use Rattle.std.specs.Prelude.{◌≡◌, ℕ, ◌+◌, ◌^◌, ◌<◌, Bool, true, false, List, [], ◌∷◌, ◌++◌, length, map, Option, None, Some, MatchOption}
 use Rattle.nntp_wire.specs.declared.limit.Limit.{Limit}
 use Rattle.nntp_wire.specs.declared.marks.Marks.{Marks}
 use Rattle.nntp_article.specs.Session.Limit.{profile_of}
@@ -15,15 +15,21 @@ use Rattle.nntp_pair.specs.Feeding.{Fed, IsFed, HasNext, left_of}
 use Rattle.nntp_pair.specs.declared.class.Class.{Class}
 use Rattle.nntp_facts.specs.Classes.{IsSettled}
 use Rattle.nntp_facts.specs.Outcome.{No, IsOutcome}
-use Rattle.nntp_facts.specs.Noted.{FactsKept, HasNoted, profile_kept}
-use Rattle.nntp_verdict.specs.Judging.{IsVerdict, IsNoForGood}
-use Rattle.nntp_verdict.specs.Verdict.{Judgement, consistent, bad}
+use Rattle.nntp_facts.specs.Noted.{FactsKept, HasNotedBehind, profile_kept}
+use Rattle.nntp_several.specs.Paired.{ArePaired}
+use Rattle.nntp_several.specs.Sessions.{Recorded}
+use Rattle.nntp_several.specs.Told.{with_more, IsToldBadOfAll}
+use Rattle.nntp_verdict.specs.Judging.{IsVerdict, IsVerdictOfAll, IsVerdictFrom, IsNoForGood}
+use Rattle.nntp_verdict.specs.Verdict.{Judgement, JudgementOfAll, consistent_of_all, bad_of_all}
 
--- what a checker holds: the facts of the exchanges that passed, and what has come behind them; or the judgement, once
--- no octet can change it, and how many octets came of each stream; or that memory was refused
+-- ---- what a checker holds
+
+-- the facts of the exchanges that passed, how many answers each session has that ended, and what has come of the last
+-- session behind them; or the judgement, once nothing that follows can change it, and how many octets came of each stream
+-- of that session; or that memory was refused
 pub data Checked : Type 0 where
-  judging : (facts : FactsKept) → (fed : Fed) → Checked
-  decided : (judgement : Judgement) → (counts : OctetCounts) → Checked
+  judging : (facts : FactsKept) → (answers : List ℕ) → (fed : Fed) → Checked
+  decided : (judgement : JudgementOfAll) → (counts : OctetCounts) → Checked
   failed : Checked
 
 -- memory was refused
@@ -31,58 +37,83 @@ abbrev pub has_failed : Checked → Bool
 has_failed failed = true
 has_failed held = false
 
--- how many octets came of each stream
+-- how many octets came of each stream of the last session
 abbrev pub counts_of : Checked → OctetCounts
-counts_of (judging facts fed) = fed.counts
+counts_of (judging facts answers fed) = fed.counts
 counts_of (decided judgement counts) = counts
 counts_of failed = record { client = 0; server = 0 }
 
--- the exchanges of both streams that are whole have passed, some spool permits them, and the facts are theirs
-pub record HasPassed (profile : Profile) (facts : FactsKept) (fed : Fed) (client server : List ℕ) : Type 0 where
+-- ---- what that stands for
+
+-- a session of which nothing came yet
+abbrev pub unrecorded : Recorded
+unrecorded = record { client = []; server = [] }
+
+-- sessions have ended, each with so many answers, and exchanges of one more have passed; some spool permits all of these, and the facts are theirs
+pub record Keeps (profile : Profile) (before : List Recorded) (session : Recorded) (facts : FactsKept) (answers : List ℕ) (fed : Fed) : Type 0 where
+  pub earlier : List (List Paired)
+  pub ended : ArePaired before earlier
+  pub answers_are : answers ≡ map length earlier
   pub pairs : List Paired
-  pub fed_is : IsFed fed client server pairs
-  pub stands : HasNoted profile facts pairs
+  pub fed_is : IsFed fed session.client session.server pairs
+  pub stands : HasNotedBehind profile facts earlier pairs
+
+-- and all exchanges that are whole have passed
+pub record HasPassed (profile : Profile) (before : List Recorded) (session : Recorded) (facts : FactsKept) (answers : List ℕ) (fed : Fed) : Type 0 where
+  pub keeps : Keeps profile before session facts answers fed
   pub all : ¬ (HasNext (left_of fed))
 
--- some spool permits the exchanges that passed, and the facts are theirs
-pub record Keeps (profile : Profile) (facts : FactsKept) (fed : Fed) (client server : List ℕ) : Type 0 where
-  pub pairs : List Paired
-  pub fed_is : IsFed fed client server pairs
-  pub stands : HasNoted profile facts pairs
-  pub is_whole : fed.has_failed ≡ false
-
--- what is held of both streams while the judgement goes on
+-- what is held of sessions while the judgement goes on
 pub record Held : Type 0 where
   pub facts : FactsKept
+  pub answers : List ℕ
   pub fed : Fed
 
--- it is held of some octets, by the limit and the marks that the facts hold, and memory wasn't refused
-pub record IsHeld (facts : FactsKept) (fed : Fed) : Type 0 where
-  pub client : List ℕ
-  pub server : List ℕ
-  pub passed : HasPassed (profile_kept facts) facts fed client server
+-- it is held of some sessions, by the limit and the marks that the facts hold, and memory wasn't refused
+pub record IsHeld (facts : FactsKept) (answers : List ℕ) (fed : Fed) : Type 0 where
+  pub before : List Recorded
+  pub session : Recorded
+  pub passed : HasPassed (profile_kept facts) before session facts answers fed
   pub is_whole : fed.has_failed ≡ false
 
--- the judgement is the verdict on both streams, whatever follows them: a no that nothing can mend
-pub record IsDecided (limit : Limit) (marks : Marks) (judgement : Judgement) (client server : List ℕ) : Type 0 where
-  pub for_good : IsNoForGood judgement
-  pub verdict : (client_more server_more : List ℕ) → IsVerdict limit marks (client ++ client_more) (server ++ server_more) judgement
+-- the judgement is the verdict, whatever octets of the last session and whatever sessions follow: a no that nothing can mend
+pub record IsDecided (limit : Limit) (marks : Marks) (judgement : JudgementOfAll) (before : List Recorded) (session : Recorded) : Type 0 where
+  pub for_good : IsNoForGood before judgement
+  pub verdict : (client server : List ℕ) → IsVerdictFrom limit marks before (with_more session client server) judgement
 
--- these octets of both streams came, joined, and the checker holds what it has to of them, to judge them by this limit and these marks
+-- these sessions came, and octets of one more, joined, and the checker holds what it has to of them, to judge them by this limit and these marks
+abbrev pub StandsForAll : Limit → Marks → Checked → List Recorded → Recorded → Type 0
+StandsForAll limit marks (judging facts answers fed) before session = HasPassed (profile_of limit marks) before session facts answers fed
+StandsForAll limit marks (decided judgement counts) before session =
+    IsDecided limit marks judgement before session × (counts.client ≡ length session.client) × (counts.server ≡ length session.server)
+StandsForAll limit marks failed before session = ⊥
+
+-- these octets of both streams of one session came, and no session before it
 abbrev pub StandsFor : Limit → Marks → Checked → List ℕ → List ℕ → Type 0
-StandsFor limit marks (judging facts fed) client server = HasPassed (profile_of limit marks) facts fed client server
-StandsFor limit marks (decided judgement counts) client server =
-    IsDecided limit marks judgement client server × (counts.client ≡ length client) × (counts.server ≡ length server)
-StandsFor limit marks failed client server = ⊥
+StandsFor limit marks held client server = StandsForAll limit marks held [] (record { client = client; server = server })
+
+-- ---- what its calls do
 
 -- octets of this side were taken: the checker holds what it has to of those that came before with these behind
 pub record IsTaken (side : Side) (octets : List ℕ) (before after : Checked) : Type 0 where
   pub worked : has_failed before ≡ false
   pub room : count_of side (counts_of before) + length octets < 2 ^ 64
-  pub stands : (limit : Limit) (marks : Marks) (client server : List ℕ) → StandsFor limit marks before client server
-      → StandsFor limit marks after (client ++ given Client side octets) (server ++ given Server side octets)
+  pub stands : (limit : Limit) (marks : Marks) (ended : List Recorded) (session : Recorded) → StandsForAll limit marks before ended session
+      → StandsForAll limit marks after ended (with_more session (given Client side octets) (given Server side octets))
 
--- the judgement is the verdict on the octets that came
+-- the next session has begun: the checker holds what it has to of those that came before, and of one of which nothing came
+pub record HasBegun (before after : Checked) : Type 0 where
+  pub worked : has_failed before ≡ false
+  pub stands : (limit : Limit) (marks : Marks) (ended : List Recorded) (session : Recorded) → StandsForAll limit marks before ended session
+      → StandsForAll limit marks after (ended ++ session ∷ []) unrecorded
+
+-- the judgement is the verdict on the sessions that came
+pub record IsFinishedOfAll (held : Checked) (judgement : JudgementOfAll) : Type 0 where
+  pub worked : has_failed held ≡ false
+  pub verdict : (limit : Limit) (marks : Marks) (before : List Recorded) (session : Recorded) → StandsForAll limit marks held before session
+      → IsVerdictOfAll limit marks (before ++ session ∷ []) judgement
+
+-- it is the verdict on the octets that came of one
 pub record IsFinished (held : Checked) (judgement : Judgement) : Type 0 where
   pub worked : has_failed held ≡ false
   pub verdict : (limit : Limit) (marks : Marks) (client server : List ℕ) → StandsFor limit marks held client server → IsVerdict limit marks client server judgement
@@ -93,6 +124,22 @@ IsUnfinished errors.Memory held = has_failed held ≡ false
 IsUnfinished errors.Failed held = has_failed held ≡ true
 IsUnfinished errors.TooLong held = ⊥
 
+-- ---- what is told as bad
+
+-- the answer that a judgement calls bad, its session and its class
+abbrev pub told_bad : JudgementOfAll → Option (ℕ × ℕ × Class)
+told_bad (consistent_of_all L answers) = None
+told_bad (bad_of_all j k class command reply) = Some (j, k, class)
+
+-- the answer and the class without the session
+abbrev pub without_session : Option (ℕ × ℕ × Class) → Option (ℕ × Class)
+without_session None = None
+without_session (Some bad) = Some (bad.1, bad.2)
+
+-- what is told of the sessions that came: without its session the answer that is bad for good, if there is one
+abbrev pub IsToldWithoutSession : Profile → List Recorded → Recorded → Option (ℕ × Class) → Type 0
+IsToldWithoutSession profile before session told = (bad : Option (ℕ × ℕ × Class)) × IsToldBadOfAll profile before session bad × (told ≡ without_session bad)
+
 -- the answer is bad, of its class, and no octets that follow change that
 abbrev pub IsBadForGood : Profile → List ℕ → List ℕ → ℕ → Class → Type 0
 IsBadForGood profile client server answer class = IsOutcome profile client server (No answer class) × IsSettled client server answer class
@@ -100,8 +147,3 @@ IsBadForGood profile client server answer class = IsOutcome profile client serve
 -- what is told of the octets that came: the answer that is bad for good, if there is one
 abbrev pub IsToldBad : Profile → List ℕ → List ℕ → Option (ℕ × Class) → Type 0
 IsToldBad profile client server told = MatchOption told ((answer : ℕ) (class : Class) → ¬ (IsBadForGood profile client server answer class)) (λ bad. IsBadForGood profile client server bad.0 bad.1)
-
--- the answer that a judgement calls bad, and its class
-abbrev pub told_bad : Judgement → Option (ℕ × Class)
-told_bad (consistent L answers) = None
-told_bad (bad answer class command reply) = Some (answer, class)

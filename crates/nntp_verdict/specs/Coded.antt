@@ -12,4 +12,6 @@ coded_fed =
     (λ p. record { index = p.0.0; client = p.0.1.0; server = p.0.1.1; is_closed = p.1.0.0; has_failed = p.1.0.1; counts = record { client = p.1.1.0; server = p.1.1.1 } }) (λ _. refl)
 
 abbrev pub coded_held : Coded Held
-coded_held = code_by _ (coded× coded_facts coded_fed) (λ h. (h.facts, h.fed)) (λ p. record { facts = p.0; fed = p.1 }) (λ _. refl)
+coded_held =
+    code_by _ (coded× coded_facts (coded× (coded_list coded_ℕ) coded_fed)) (λ h. (h.facts, (h.answers, h.fed)))
+    (λ p. record { facts = p.0; answers = p.1.0; fed = p.1.1 }) (λ _. refl)

@@ -3,4 +3,3 @@ pub mod Judging
 pub mod Checking
 pub mod Coded
 pub mod CheckerView
-pub mod Sessions

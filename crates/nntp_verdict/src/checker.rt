@@ -1,14 +1,18 @@
-//! The verdict on two streams as they come, in pieces.
-ghost use Rattle.std.specs.Prelude.{◌≡◌, [], ℕ, List, true, false, None, IfOk, MatchOption, MatchResult};
+//! The verdict on streams as they come, in pieces.
+ghost use Rattle.std.specs.Prelude.{◌≡◌, [], ◌∷◌, ◌++◌, ℕ, List, true, false, None, IfOk, MatchOption, MatchResult};
 ghost use Rattle.nntp_article.specs.Session.Limit.{profile_of};
 ghost use Rattle.nntp_article.specs.declared.session.profile.Profile.{Profile};
+ghost use Rattle.nntp_pair.specs.Feeding.{HasNext, left_of};
 ghost use Rattle.nntp_pair.specs.declared.side.Side.TheVariants.{Client, Server};
-ghost use Rattle.nntp_verdict.specs.Checking.{Keeps, HasPassed, StandsFor, IsTaken, IsToldBad, IsFinished, IsUnfinished, judging, decided, told_bad, has_failed, counts_of};
-ghost use Rattle.nntp_verdict.specs.CheckerView.{IsUntaken, checked, of_state};
-ghost use Rattle.nntp_verdict.specs.Judging.{IsVerdict};
-ghost use Rattle.nntp_verdict.specs.Verdict.{verdict_shown};
+ghost use Rattle.nntp_several.specs.Sessions.{Recorded};
+ghost use Rattle.nntp_several.specs.Told.{IsToldBadOfAll};
+ghost use Rattle.nntp_verdict.specs.Checking.{Keeps, HasPassed, StandsFor, StandsForAll, IsTaken, HasBegun, IsToldBad, IsToldWithoutSession, IsFinished, IsFinishedOfAll, IsUnfinished, judging, decided, told_bad, without_session, has_failed, counts_of, unrecorded};
+ghost use Rattle.nntp_verdict.specs.CheckerView.{IsUntaken, IsUnbegun, checked, of_state};
+ghost use Rattle.nntp_verdict.specs.Judging.{IsVerdictOfAll, IsVerdictFrom, HaveEnded};
+ghost use Rattle.nntp_verdict.specs.Verdict.{JudgementOfAll, sessions_verdict_shown, verdict_of_last, verdict_shown};
 
 use crate::judge::Judge;
+use crate::sessions_verdict::SessionsVerdict;
 use crate::verdict::Verdict;
 use nntp_pair::{Class, Ending, Feed, OctetCounts, PairClass, PairError, Peek, Side};
 use nntp_wire::{Limit, Marks};
@@ -16,8 +20,9 @@ use std::alloc::{AllocError, Allocator, Global};
 use std::marker::Model;
 use std::mem;
 
-/// Judges both streams of a session as they come, in pieces of any size and in any order between the streams. It holds
-/// what the exchanges say that have passed, and the octets behind them.
+/// Judges both streams of a session as they come, in pieces of any size and in any order between the streams, and then
+/// those of a further session, if one [begins](Checker::begin_session). It holds what the exchanges say that have passed,
+/// and the octets of the last session behind them.
 #[derive(Drop)]
 pub struct Checker<A: Allocator = Global> {
     state: State<A>,
@@ -28,9 +33,9 @@ pub struct Checker<A: Allocator = Global> {
 enum State<A: Allocator> {
     /// So far the answers are consistent.
     Judging(Ongoing<A>),
-    /// An answer is bad, whatever follows. So many octets came of each stream.
+    /// An answer is bad, whatever follows. So many octets came of each stream of the last session.
     Decided {
-        verdict: Verdict<A>,
+        verdict: SessionsVerdict<A>,
         counts: OctetCounts,
     },
     /// Memory was refused.
@@ -52,9 +57,9 @@ impl<A: Allocator> Model for Ongoing<A> {
 
     ghost coded = { coded_held };
 
-    ghost view = { λ o. record { facts = o.judge.facts; fed = o.feed } };
+    ghost view = { λ o. record { facts = o.judge.facts; answers = o.judge.answers.items; fed = o.feed } };
 
-    ghost invariant = { λ o. IsHeld o.judge.facts o.feed };
+    ghost invariant = { λ o. IsHeld o.judge.facts o.judge.answers.items o.feed };
 }
 
 impl<A: Allocator + Copy> Checker<A> {
@@ -117,13 +122,47 @@ impl<A: Allocator + Copy> Checker<A> {
         self.state = state;
     }
 
-    /// The verdict on the octets that came, as [`check`](crate::check) gives it of the joined pieces.
+    /// Ends the session, and begins a further one of the same spool, of which no octet has come: the octets that
+    /// follow are its. What the exchanges that passed say of the spool goes on to it, and nothing else. Where octets of
+    /// the ended session are left that answer nothing, that is decided then, and so is all that follows.
+    ///
+    /// # Errors
+    ///
+    /// `Failed` where memory was refused to an earlier call: that leaves the checker as it was. `Memory` where memory is
+    /// refused: then each later call answers `Failed`, and [`bad`](Checker::bad) tells of no answer.
+    pub fn begin_session(&mut self) -> Result<(), PairError>
+        ensures { MatchResult result (λ _. HasBegun (checked self.old) (checked self.new)) (λ error. IsUnbegun error self.old self.new) }
+    {
+        match mem::replace(&mut self.state, State::Failed) {
+            State::Judging(ongoing) => self.hold(ongoing.begin_session()?),
+            State::Decided { verdict, .. } => self.hold(unfed(verdict)),
+            State::Failed => return Err(PairError::Failed),
+        }
+        Ok(())
+    }
+
+    /// The verdict on the octets that came, as [`check`](crate::check) gives it of the joined pieces. Of several sessions
+    /// it is what their verdict says of the last one, or of the bad answer without its session.
     ///
     /// # Errors
     ///
     /// `Failed` where memory was refused to an earlier call, `Memory` where memory is refused to this one.
     pub fn finish(self) -> Result<Verdict<A>, PairError>
-        ensures { MatchResult result (λ verdict. IsFinished (checked self) (verdict_shown verdict)) (λ error. IsUnfinished error (checked self)) }
+        ensures alone { MatchResult result (λ verdict. IsFinished (checked self) (verdict_shown verdict)) (λ error. IsUnfinished error (checked self)) }
+        ensures sessions { IfOk result (λ verdict. (all : JudgementOfAll) × IsFinishedOfAll (checked self) all × (verdict_shown verdict ≡ verdict_of_last all)) }
+    {
+        let verdict = self.finish_sessions()?;
+        Ok(verdict.of_last())
+    }
+
+    /// The verdict on the sessions that came, as [`check_sessions`](crate::check_sessions) gives it of the joined pieces
+    /// of each.
+    ///
+    /// # Errors
+    ///
+    /// Those of [`finish`](Checker::finish).
+    pub fn finish_sessions(self) -> Result<SessionsVerdict<A>, PairError>
+        ensures { MatchResult result (λ verdict. IsFinishedOfAll (checked self) (sessions_verdict_shown verdict)) (λ error. IsUnfinished error (checked self)) }
     {
         match self.state {
             State::Judging(ongoing) => Ok(ongoing.finish()?),
@@ -134,9 +173,23 @@ impl<A: Allocator + Copy> Checker<A> {
 
     /// The number of the answer that is bad, and its class, where no octets that follow can change that: an answer of
     /// class Cut isn't told, nor one of class Surplus while the connection is open. The greeting is answer 0, and answer k
-    /// is for the k-th line of the client, counted from 1. None where memory was refused.
+    /// is for the k-th line of the client, counted from 1. None where memory was refused. Of several sessions it is what
+    /// [`bad_of_sessions`](Checker::bad_of_sessions) tells, without the session.
     pub fn bad(&self) -> Option<(u64, Class)>
         ensures told { (limit : Limit) (marks : Marks) (client server : List ℕ) → StandsFor limit marks (checked self.now) client server → IsToldBad (profile_of limit marks) client server result }
+        ensures failed { has_failed (checked self.now) ≡ true → result ≡ None }
+        ensures sessions { (limit : Limit) (marks : Marks) (before : List Recorded) (session : Recorded)
+            → StandsForAll limit marks (checked self.now) before session → IsToldWithoutSession (profile_of limit marks) before session result }
+    {
+        without_session(self.bad_of_sessions())
+    }
+
+    /// The index of the session of which an answer is bad, counted from 0, the number of the answer, and its class, where
+    /// nothing that follows can change that: of the last session as [`bad`](Checker::bad) tells it, and of one that has
+    /// ended any bad answer. None where memory was refused.
+    pub fn bad_of_sessions(&self) -> Option<(u64, u64, Class)>
+        ensures told { (limit : Limit) (marks : Marks) (before : List Recorded) (session : Recorded)
+            → StandsForAll limit marks (checked self.now) before session → IsToldBadOfAll (profile_of limit marks) before session result }
         ensures failed { has_failed (checked self.now) ≡ true → result ≡ None }
     {
         match &self.state {
@@ -161,20 +214,46 @@ impl<A: Allocator + Copy> State<A> {
     }
 }
 
-/// The answer that a verdict calls bad, and its class.
-fn bad_answer<A: Allocator>(verdict: &Verdict<A>) -> Option<(u64, Class)>
-    ensures { result ≡ told_bad (verdict_shown verdict.now) }
+/// The state of a verdict that stands, where no octets of the last session have come.
+fn unfed<A: Allocator>(verdict: SessionsVerdict<A>) -> State<A>
+    ensures { of_state result ≡ decided (sessions_verdict_shown verdict) (record { client = 0; server = 0 }) }
+{
+    let counts = OctetCounts {
+        client: 0,
+        server: 0,
+    };
+    State::Decided { verdict, counts }
+}
+
+/// The answer that a verdict calls bad, its session and its class.
+fn bad_answer<A: Allocator>(verdict: &SessionsVerdict<A>) -> Option<(u64, u64, Class)>
+    ensures { result ≡ told_bad (sessions_verdict_shown verdict.now) }
 {
     match verdict {
-        Verdict::Consistent { .. } => None,
-        Verdict::Bad { answer, class, .. } => Some((*answer, *class)),
+        SessionsVerdict::Consistent { .. } => None,
+        SessionsVerdict::Bad {
+            session,
+            answer,
+            class,
+            ..
+        } => Some((*session, *answer, *class)),
+    }
+}
+
+/// The answer that is bad and its class, without its session.
+fn without_session(bad: Option<(u64, u64, Class)>) -> Option<(u64, Class)>
+    ensures { result ≡ without_session bad }
+{
+    match bad {
+        Some((_, answer, class)) => Some((answer, class)),
+        None => None,
     }
 }
 
 impl<A: Allocator + Copy> Ongoing<A> {
     /// Nothing has come.
     fn new(alloc: A, limit: Limit, marks: Marks) -> Ongoing<A>
-        ensures { HasPassed (profile_of limit marks) result.facts result.fed [] [] }
+        ensures { HasPassed (profile_of limit marks) [] unrecorded result.facts result.answers result.fed }
     {
         Ongoing {
             judge: Judge::new(alloc, limit, marks),
@@ -184,7 +263,7 @@ impl<A: Allocator + Copy> Ongoing<A> {
 
     /// Takes the next octets of a side's stream, for which there is room, and judges the answers that are whole then.
     fn take(self, side: Side, piece: &[u8]) -> Result<State<A>, AllocError>
-        ensures { IfOk result (λ state. IsTaken side piece.now (judging self.facts self.fed) (of_state state)) }
+        ensures { IfOk result (λ state. IsTaken side piece.now (judging self.facts self.answers self.fed) (of_state state)) }
     {
         let Ongoing {
             mut judge,
@@ -203,28 +282,69 @@ impl<A: Allocator + Copy> Ongoing<A> {
         }
     }
 
-    /// The verdict, if no more octets come.
-    fn finish(self) -> Result<Verdict<A>, AllocError>
-        ensures { IfOk result (λ verdict. (limit : Limit) (marks : Marks) (client server : List ℕ)
-            → HasPassed (profile_of limit marks) self.facts self.fed client server
-            → IsVerdict limit marks client server (verdict_shown verdict)) }
+    /// Ends the session, and begins the next one, of which nothing has come.
+    fn begin_session(self) -> Result<State<A>, AllocError>
+        ensures { IfOk result (λ state. HasBegun (judging self.facts self.answers self.fed) (of_state state)) }
     {
-        match self.feed.finish() {
-            Ending::End { .. } => self.judge.ended(self.feed.index()),
-            Ending::Bad { index, class } => self.judge.stopped(index, class, self.feed.ahead()),
-            Ending::More | Ending::Failed => unreachable!(),
+        let Ongoing { mut judge, feed } = self;
+        match end_session(&mut judge, &feed)? {
+            Some(verdict) => Ok(unfed(verdict)),
+            None => {
+                let feed = Feed::new(judge.alloc());
+                Ok(State::Judging(Ongoing { judge, feed }))
+            }
+        }
+    }
+
+    /// The verdict, if no more octets come.
+    fn finish(self) -> Result<SessionsVerdict<A>, AllocError>
+        ensures { IfOk result (λ verdict. (limit : Limit) (marks : Marks) (before : List Recorded) (session : Recorded)
+            → HasPassed (profile_of limit marks) before session self.facts self.answers self.fed
+            → IsVerdictOfAll limit marks (before ++ session ∷ []) (sessions_verdict_shown verdict)) }
+    {
+        let Ongoing { mut judge, feed } = self;
+        match end_session(&mut judge, &feed)? {
+            Some(verdict) => Ok(verdict),
+            None => judge.finish(),
         }
     }
 
     /// The place of octets that answer nothing, whatever follows, and their class.
-    fn bad(&self) -> Option<(u64, Class)>
-        ensures { (profile : Profile) (client server : List ℕ) → HasPassed profile self.now.facts self.now.fed client server → IsToldBad profile client server result }
+    fn bad(&self) -> Option<(u64, u64, Class)>
+        ensures { (profile : Profile) (before : List Recorded) (session : Recorded) → HasPassed profile before session self.now.facts self.now.answers self.now.fed
+            → IsToldBadOfAll profile before session result }
     {
         match self.feed.peek() {
-            Peek::Bad { index, class } => Some((index, Class::from(class))),
+            Peek::Bad { index, class } => Some((self.judge.index(), index, Class::from(class))),
             Peek::Nothing => None,
             Peek::Whole(_) | Peek::Failed => unreachable!(),
         }
+    }
+}
+
+/// Ends the session: the next one has begun, or its last octets answer nothing. Then it gives the verdict. All exchanges
+/// that are whole have passed, and memory wasn't refused.
+fn end_session<A: Allocator + Copy>(
+    judge: &mut Judge<A>,
+    feed: &Feed<A>,
+) -> Result<Option<SessionsVerdict<A>>, AllocError>
+    requires all { HasNext (left_of feed.now) → ⊥ }
+    requires whole { feed.now.has_failed ≡ false }
+    ensures { IfOk result (λ told. (limit : Limit) (marks : Marks) (before : List Recorded) (session : Recorded)
+        → Keeps (profile_of limit marks) before session judge.old.facts judge.old.answers.items feed.now
+        → MatchOption told (HaveEnded (profile_of limit marks) (before ++ session ∷ []) judge.new.facts judge.new.answers.items)
+        (λ verdict. IsVerdictFrom limit marks before session (sessions_verdict_shown verdict))) }
+{
+    match feed.finish() {
+        Ending::End { .. } => {
+            judge.ended(feed.index())?;
+            Ok(None)
+        }
+        Ending::Bad { index, class } => {
+            let verdict = judge.stopped(index, class, feed.ahead())?;
+            Ok(Some(verdict))
+        }
+        Ending::More | Ending::Failed => unreachable!(),
     }
 }
 
@@ -232,11 +352,14 @@ impl<A: Allocator + Copy> Ongoing<A> {
 fn go_on<A: Allocator + Copy>(
     judge: &mut Judge<A>,
     feed: &mut Feed<A>,
-) -> Result<Option<Verdict<A>>, AllocError>
-    requires { (limit : Limit) × (marks : Marks) × (client : List ℕ) × (server : List ℕ) × Keeps (profile_of limit marks) judge.old.facts feed.old client server }
-    ensures { IfOk result (λ told. (limit : Limit) (marks : Marks) (client server : List ℕ) → Keeps (profile_of limit marks) judge.old.facts feed.old client server
-        → MatchOption told (HasPassed (profile_of limit marks) judge.new.facts feed.new client server × (feed.new.has_failed ≡ false))
-        (λ verdict. StandsFor limit marks (decided (verdict_shown verdict) feed.new.counts) client server)) }
+) -> Result<Option<SessionsVerdict<A>>, AllocError>
+    requires kept { (limit : Limit) × (marks : Marks) × (before : List Recorded) × (session : Recorded)
+        × Keeps (profile_of limit marks) before session judge.old.facts judge.old.answers.items feed.old }
+    requires whole { feed.old.has_failed ≡ false }
+    ensures { IfOk result (λ told. (limit : Limit) (marks : Marks) (before : List Recorded) (session : Recorded)
+        → Keeps (profile_of limit marks) before session judge.old.facts judge.old.answers.items feed.old
+        → MatchOption told (HasPassed (profile_of limit marks) before session judge.new.facts judge.new.answers.items feed.new × (feed.new.has_failed ≡ false))
+        (λ verdict. StandsForAll limit marks (decided (sessions_verdict_shown verdict) feed.new.counts) before session)) }
 {
     loop {
         let exchange = match feed.peek() {

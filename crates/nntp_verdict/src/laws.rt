@@ -1,5 +1,5 @@
 //! Laws of verdicts: two streams have one, and it is a yes exactly if some spool explains them; and what is bad for
-//! good stays so.
+//! good stays so. And those of verdicts on several sessions.
 ghost use Rattle.std.specs.Prelude.{◌≡◌, ◌↔◌, ◌++◌, ℕ, List, Option, is_some, IsTrue};
 ghost use Rattle.nntp_wire.specs.declared.limit.Limit.{Limit};
 ghost use Rattle.nntp_wire.specs.declared.marks.Marks.{Marks};
@@ -14,7 +14,7 @@ ghost use Rattle.nntp_verdict.specs.Verdict.{Judgement, is_consistent};
 
 mod sessions;
 
-pub use sessions::{checker_goes_on_to_the_next_session, sessions_have_one_verdict, verdict_follows_the_outcome};
+pub use sessions::{sessions_have_one_verdict, verdict_follows_the_outcome};
 
 /// Two streams have one verdict by a limit and marks.
 pub fn one_verdict()

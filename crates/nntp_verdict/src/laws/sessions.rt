@@ -1,23 +1,18 @@
 //! Laws of verdicts on several sessions of one spool.
-ghost use Rattle.std.specs.Prelude.{◌≡◌, ◌↔◌, ◌<◌, ◌^◌, ◌+◌, ℕ, List, [], ◌∷◌, ◌++◌, length, map, Option, Ok, IsTrue};
+ghost use Rattle.std.specs.Prelude.{◌≡◌, ◌↔◌, ◌<◌, ◌^◌, ℕ, List, [], ◌∷◌, ◌++◌, length, map, Option, Ok, IsTrue};
 ghost use Rattle.nntp_article.specs.Session.Spool.{Spool};
-ghost use Rattle.nntp_article.specs.declared.session.profile.Profile.{Profile};
 ghost use Rattle.nntp_facts.specs.Given.{IsGiven, size};
 ghost use Rattle.nntp_pair.specs.declared.class.Class.{Class};
-ghost use Rattle.nntp_verdict.specs.Sessions.{JudgementOfAll, consistent_of_all, bad_of_all, is_consistent_of_all, IsVerdictOfAll, verdict_of_one, unrecorded, HasPassedOfAll, StandsForAll, decided_all};
-ghost use Rattle.nntp_verdict.specs.Judging.{IsVerdict, StopsAt};
+ghost use Rattle.nntp_verdict.specs.Judging.{IsVerdict, IsVerdictOfAll, StopsAt};
 ghost use Rattle.nntp_spool.specs.Limited.{LimitedSpool};
 ghost use Rattle.nntp_spool.specs.Reading.{spool_at};
 ghost use Rattle.nntp_spool.specs.Text.{spool_text};
-ghost use Rattle.nntp_verdict.specs.Verdict.{Judgement};
+ghost use Rattle.nntp_verdict.specs.Verdict.{Judgement, JudgementOfAll, consistent_of_all, bad_of_all, is_consistent_of_all, verdict_of_one};
 ghost use Rattle.nntp_wire.specs.declared.limit.Limit.{Limit};
 ghost use Rattle.nntp_article.specs.Session.Limit.{profile_of};
-ghost use Rattle.nntp_facts.specs.Noted.{FactsKept, exchanged, HasNotedBehind, begun};
-ghost use Rattle.nntp_pair.specs.Pairing.{Paired, Ends, end, streams};
+ghost use Rattle.nntp_facts.specs.Noted.{exchanged};
+ghost use Rattle.nntp_pair.specs.Pairing.{Paired};
 ghost use Rattle.nntp_several.specs.Paired.{ArePaired};
-ghost use Rattle.nntp_several.specs.Passing.{PassedOfAll};
-ghost use Rattle.nntp_pair.specs.Feeding.{Fed, left_of, unfed};
-ghost use Rattle.nntp_pair.specs.declared.octet_counts.OctetCounts.{OctetCounts};
 ghost use Rattle.nntp_wire.specs.declared.marks.Marks.{Marks};
 ghost use Rattle.nntp_facts.specs.Answered.{SomePermitsEach, facts_of_all};
 ghost use Rattle.nntp_several.specs.Sessions.{Recorded, ExplainsAll};
@@ -46,17 +41,4 @@ pub fn verdict_follows_the_outcome()
     ensures no { (limit : Limit) (marks : Marks) (before : List Recorded) (s : Recorded) (more : List Recorded) (answer : ℕ) (class : Class) (command : Option (List ℕ)) (reply : List ℕ)
         → IsOutcomeOfAll (profile_of limit marks) (before ++ s ∷ more) (NoOfAll (length before) answer class) → StopsAt s.client s.server answer class command reply
         → IsVerdictOfAll limit marks (before ++ s ∷ more) (bad_of_all (length before) answer class command reply) }
-{}
-
-/// What a checker of sessions holds: nothing at first; and where the pairing of the last session ends
-/// with no octet left, the same facts as the next one begins. A judgement that is decided stays.
-pub fn checker_goes_on_to_the_next_session()
-    ensures begins { (profile : Profile) (facts : FactsKept) → HasNotedBehind profile facts [] [] → HasPassedOfAll profile [] unrecorded facts unfed }
-    ensures passed { (profile : Profile) (before : List Recorded) (s : Recorded) (facts : FactsKept) (fed : Fed)
-        → HasPassedOfAll profile before s facts fed → PassedOfAll profile before s facts (left_of fed) }
-    ensures goes_on { (profile : Profile) (before : List Recorded) (s : Recorded) (facts : FactsKept) (fed : Fed) (unanswered : ℕ) → HasPassedOfAll profile before s facts fed
-        → Ends (left_of fed) (end unanswered) → length before + 1 < 2 ^ 64 → HasPassedOfAll profile (before ++ s ∷ []) unrecorded (begun facts) unfed }
-    ensures decided { (limit : Limit) (marks : Marks) (judgement : JudgementOfAll) (counts : OctetCounts) (before : List Recorded) (s : Recorded)
-        → StandsForAll limit marks (decided_all judgement counts) before s
-        → StandsForAll limit marks (decided_all judgement (record { client = 0; server = 0 })) (before ++ s ∷ []) unrecorded }
 {}

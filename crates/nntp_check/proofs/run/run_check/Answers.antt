@@ -23,7 +23,7 @@ returns-clause-ok g c =
       text = report_of judgement;
       reports = record {
         judgement = judgement;
-        verdict = c.in_ok-verdict.ensures.verdict c.args.limit c.args.marks read.0 read.1 read.4;
+        verdict = c.in_ok-verdict.ensures.alone.verdict c.args.limit c.args.marks read.0 read.1 read.4;
         text_is = refl;
         answer_is = told.0;
       };
@@ -42,7 +42,7 @@ returns-clause-err g c =
     read.0 read.1 read.2 (report_of judgement) (is_consistent judgement) fault read.3
     (record {
       judgement = judgement;
-      verdict = c.in_ok-verdict.ensures.verdict c.args.limit c.args.marks read.0 read.1 read.4;
+      verdict = c.in_ok-verdict.ensures.alone.verdict c.args.limit c.args.marks read.0 read.1 read.4;
       text_is = refl;
       answer_is = refl;
     })
@@ -56,4 +56,4 @@ returns-in_err-verdict-clause-err g c =
     let input = (read_by g.R.Read.remaining c.args.input.now c.read_capture.new.input c.args.most) in
     rw (exit.1, exit.2)
     (unfinished-front (CheckReports c.args.limit c.args.marks) input (written_by g.W.Write.contents c.args.output.now c.args.output.now)
-    c.in_err-verdict.field-0.0 (checked c.read_capture.new.sink) c.in_err-verdict.ensures (whole-front input read.0 read.1 read.2 read.3))
+    c.in_err-verdict.field-0.0 (checked c.read_capture.new.sink) c.in_err-verdict.ensures.alone (whole-front input read.0 read.1 read.2 read.3))

@@ -1,4 +1,4 @@
-use Rattle.std.proofs.Common.{sym, [], ap}
+use Rattle.std.proofs.Common.{refl, sym, [], ap}
 use Rattle.nntp_article.specs.Session.Limit.{profile_of}
 use Rattle.nntp_witness.proofs.Aims.{noted_as_kept}
 use Rattle.nntp_verdict.specs.Judging.{class_noted}
@@ -6,21 +6,24 @@ use Rattle.nntp_verdict.proofs.JudgeLemmas.{is-due, one-more}
 use Rattle.nntp_fixtures.proofs.notes.note_all.Goals as goal
 
 pub loop-exchange-init : goal.loop-exchange-init
-loop-exchange-init g c = record { pairs = []; before = sym c.new-pairs.ensures; stands = c.new-facts.ensures.stands }
+loop-exchange-init g c = record {
+  passed = record { earlier = []; ended = tt; pairs = []; next = sym c.new-pairs.ensures; stands = c.new-facts.ensures.stands };
+  answers_are = refl;
+}
 
 pub returns-in-Bad : goal.returns-in-Bad
 returns-in-Bad g c =
-    let passed = c.loop-exchange.invariant in
-    ([], passed.pairs, noted_as_kept (profile_of c.args.limit c.args.marks) c.loop-exchange.facts [] passed.pairs passed.stands)
+    let passed = c.loop-exchange.invariant.passed in
+    (passed.earlier, passed.pairs, noted_as_kept (profile_of c.args.limit c.args.marks) c.loop-exchange.facts passed.earlier passed.pairs passed.stands)
 
 pub returns-in-End : goal.returns-in-End
 returns-in-End g c =
-    let passed = c.loop-exchange.invariant in
-    ([], passed.pairs, noted_as_kept (profile_of c.args.limit c.args.marks) c.loop-exchange.facts [] passed.pairs passed.stands)
+    let passed = c.loop-exchange.invariant.passed in
+    (passed.earlier, passed.pairs, noted_as_kept (profile_of c.args.limit c.args.marks) c.loop-exchange.facts passed.earlier passed.pairs passed.stands)
 
 pub note-requires : goal.note-requires
 note-requires g c =
-    λ whole. is-due (profile_of c.args.limit c.args.marks) c.args.client.now c.args.server.now c.loop-exchange.facts
+    λ whole. is-due (profile_of c.args.limit c.args.marks) [] (record { client = c.args.client.now; server = c.args.server.now }) c.loop-exchange.facts []
     c.loop-exchange.pairs c.next.new.self c.in-Exchange.exchange c.loop-exchange.invariant
     c.in-Exchange.ensures.step
 
@@ -29,11 +32,13 @@ loop-exchange-smaller g c = c.in-Exchange.ensures.progress
 
 pub loop-exchange-preserved : goal.loop-exchange-preserved
 loop-exchange-preserved g c =
-    (one-more (profile_of c.args.limit c.args.marks) c.args.client.now c.args.server.now c.loop-exchange.facts c.note.new.self
+    (one-more (profile_of c.args.limit c.args.marks) [] (record { client = c.args.client.now; server = c.args.server.now }) c.loop-exchange.facts c.note.new.self []
     c.loop-exchange.pairs c.next.new.self c.in-Exchange.exchange c.in-Ok-Consistent.field-0
     c.loop-exchange.invariant c.in-Exchange.ensures.step
-    (c.in-Ok-Consistent.ensures.noted (profile_of c.args.limit c.args.marks) [])
+    (c.in-Ok-Consistent.ensures.noted (profile_of c.args.limit c.args.marks))
     (ap class_noted c.in-Ok-Consistent.field-0-is)).0
 
 pub after_want-requires : goal.after_want-requires
-after_want-requires g c = (c.in-Err-Memory.ensures.noted (profile_of c.args.limit c.args.marks) [] c.loop-exchange.invariant.pairs c.loop-exchange.invariant.stands).1
+after_want-requires g c =
+    let passed = c.loop-exchange.invariant.passed in
+    (c.in-Err-Memory.ensures.noted (profile_of c.args.limit c.args.marks) passed.earlier passed.pairs passed.stands).1

@@ -1,4 +1,4 @@
-use Rattle.nntp_several.proofs.VerifiedSessions.{one_verified, permits_alone}
+use Rattle.nntp_several.proofs.SessionsVerified.{one_verified, permits_alone}
 use Rattle.nntp_several.proofs.laws.sessions_are_verified_in_one_way.Goals as goal
 
 pub returns : goal.returns

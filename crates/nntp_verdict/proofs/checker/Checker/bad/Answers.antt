@@ -1,15 +1,16 @@
-use Rattle.std.proofs.Common.{sym, subst}
+use Rattle.std.proofs.Common.{[], ◌∙◌, ap, sym, subst}
 use Rattle.nntp_article.specs.Session.Limit.{profile_of}
-use Rattle.nntp_verdict.specs.Checking.{StandsFor, IsToldBad}
-use Rattle.nntp_verdict.specs.CheckerView.{of_state}
-use Rattle.nntp_verdict.specs.Verdict.{verdict_shown}
-use Rattle.nntp_verdict.proofs.BadLemmas.{decided-told}
-use Rattle.nntp_verdict.proofs.CheckerLemmas.{decided-verdict}
+use Rattle.nntp_verdict.specs.Checking.{IsToldBad, without_session}
+use Rattle.nntp_verdict.proofs.BadLemmas.{told-alone}
 use Rattle.nntp_verdict.proofs.checker.Checker.bad.Goals as goal
 
-pub returns-in-Decided-clause-told : goal.returns-in-Decided-clause-told
-returns-in-Decided-clause-told g c = λ limit marks client server stands.
-    let here = subst (λ s. StandsFor limit marks (of_state s) client server) c.in-Decided.is stands in
-    subst (IsToldBad (profile_of limit marks) client server) (sym c.bad_answer.ensures)
-    (decided-told limit marks client server (verdict_shown c.in-Decided.verdict) here.0.for_good
-    (decided-verdict limit marks (verdict_shown c.in-Decided.verdict) c.in-Decided.counts client server here))
+pub returns : goal.returns
+returns g c =
+    let bad = c.bad_of_sessions.result in
+    record {
+      told = λ limit marks client server stands.
+          subst (IsToldBad (profile_of limit marks) client server) (sym c.without_session.ensures)
+          (told-alone (profile_of limit marks) client server bad (c.bad_of_sessions.ensures.told limit marks [] (record { client = client; server = server }) stands));
+      failed = λ has. c.without_session.ensures ∙ ap without_session (c.bad_of_sessions.ensures.failed has);
+      sessions = λ limit marks before session stands. (bad, c.bad_of_sessions.ensures.told limit marks before session stands, c.without_session.ensures);
+    }

@@ -3,7 +3,7 @@ use Rattle.nntp_pair.specs.Sides.{given, count_of, counted}
 use Rattle.nntp_pair.specs.declared.side.Side.TheVariants.{Client, Server}
 use Rattle.nntp_verdict.specs.Checking.{IsTaken, decided, counts_of}
 use Rattle.nntp_verdict.specs.CheckerView.{checked, of_state}
-use Rattle.nntp_verdict.specs.Verdict.{verdict_shown}
+use Rattle.nntp_verdict.specs.Verdict.{sessions_verdict_shown}
 use Rattle.nntp_verdict.proofs.CheckerLemmas.{taken-decided}
 use Rattle.nntp_verdict.proofs.checker.Checker.take.Goals as goal
 
@@ -11,7 +11,7 @@ pub returns-in-Decided : goal.returns-in-Decided
 returns-in-Decided g c =
     let side = c.args.side in
     let octets = c.args.piece.now in
-    let j = verdict_shown c.in-Decided.verdict in
+    let j = sessions_verdict_shown c.in-Decided.verdict in
     let counts = c.in-Decided.counts in
     let is : checked c.args.self.now ≡ decided j counts = ap of_state (sym c.replace.ensures.value ∙ c.in-Decided.is) in
     let at = c.in-Some.ensures.1 ∙ ap counts_of is in

@@ -1,22 +1,25 @@
-use Rattle.std.proofs.Common.{sym, subst}
+use Rattle.std.proofs.Common.{sym, subst, ◌∙◌}
 use Rattle.nntp_pair.specs.Feeding.{left_of}
 use Rattle.nntp_verdict.specs.Checking.{Held, HasPassed}
-use Rattle.nntp_verdict.proofs.CheckerLemmas.{kept, passed-now}
+use Rattle.nntp_verdict.proofs.JudgeLemmas.{as-many-ended}
+use Rattle.nntp_verdict.proofs.CheckerLemmas.{passed-now}
 use Rattle.nntp_verdict.proofs.BadLemmas.{told, untold}
 use Rattle.nntp_verdict.proofs.checker.Ongoing.bad.Goals as goal
 
 pub returns-in-Bad : goal.returns-in-Bad
-returns-in-Bad g c = λ profile client server passed.
+returns-in-Bad g c = λ profile before session passed.
     let judge = c.self.inside.judge in
     let fed = c.self.inside.feed in
-    let here = subst (λ (h : Held). HasPassed profile h.facts h.fed client server) (sym c.self.view_is) passed in
-    told profile client server judge.facts (left_of fed) (passed-now profile judge.facts fed client server (kept profile judge.facts fed client server here c.self.invariant.is_whole))
-    c.in-Bad.class c.in-Bad.ensures.2 c.in-Bad.index c.in-Bad.ensures.1 c.from.result c.from.ensures
+    let here = (subst (λ (h : Held). HasPassed profile before session h.facts h.answers h.fed) (sym c.self.view_is) passed).keeps in
+    let p = passed-now profile before session judge.facts judge.answers.items fed here in
+    told profile before session judge.facts (left_of fed) p.passed c.in-Bad.class c.in-Bad.ensures.2
+    c.index.result (c.index.ensures ∙ as-many-ended before here.earlier judge.answers.items here.ended here.answers_are)
+    c.in-Bad.index c.in-Bad.ensures.1 c.from.result c.from.ensures
 
 pub returns-in-Nothing : goal.returns-in-Nothing
-returns-in-Nothing g c = λ profile client server passed.
+returns-in-Nothing g c = λ profile before session passed.
     let judge = c.self.inside.judge in
     let fed = c.self.inside.feed in
-    let here = subst (λ (h : Held). HasPassed profile h.facts h.fed client server) (sym c.self.view_is) passed in
-    untold profile client server judge.facts (left_of fed) (passed-now profile judge.facts fed client server (kept profile judge.facts fed client server here c.self.invariant.is_whole))
-    c.in-Nothing.ensures.1 c.in-Nothing.ensures.2
+    let here = (subst (λ (h : Held). HasPassed profile before session h.facts h.answers h.fed) (sym c.self.view_is) passed).keeps in
+    let p = passed-now profile before session judge.facts judge.answers.items fed here in
+    untold profile before session judge.facts (left_of fed) p.passed c.in-Nothing.ensures.1 c.in-Nothing.ensures.2

@@ -1,9 +1,10 @@
-use Rattle.std.proofs.Common.{[]}
+use Rattle.std.proofs.Common.{arith}
 use Rattle.nntp_article.specs.Session.Limit.{profile_of}
-use Rattle.nntp_verdict.proofs.JudgeLemmas.{at-end}
+use Rattle.nntp_verdict.proofs.JudgeLemmas.{ends}
 use Rattle.nntp_verdict.proofs.judge.Judge.ended.Goals as goal
 
 pub returns : goal.returns
-returns g c = λ limit marks client server left unanswered p at ends.
-    at-end limit marks client server c.args.self.now.facts left c.args.answers unanswered c.in_ok-spool.spool p at ends
-    (c.in_ok-spool.ensures.given (profile_of limit marks) [] p.pairs p.stands) c.in_ok-spool.ensures.is_written
+returns g c = λ limit marks before session left unanswered p at end.
+    let counts = c.push.new.self in
+    ends (profile_of limit marks) before session c.args.self.now.facts c.begin_session.new.self c.args.self.now.answers.items counts.items c.args.answers unanswered left p at end
+    c.in_ok-push.ensures.items (omega (arith, counts.ok.0, counts.ok.1, counts.small)) c.begin_session.ensures

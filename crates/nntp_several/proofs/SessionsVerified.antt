@@ -1,15 +1,18 @@
 -- What `verify` answers of several sessions is one; and of a spool that explains them all it is that it permits them.
-use Rattle.std.proofs.Common.{◌≡◌, ℕ, ◌+◌, ◌<◌, List, [], ◌∷◌, length, take, Option, None, Some, slice_get, inl, inr, refl, sym, ap, ap₂, subst, ◌∙◌, arith}
+use Rattle.std.proofs.Common.{◌≡◌, ℕ, ◌+◌, ◌<◌, ◌≤◌, List, [], ◌∷◌, ◌++◌, length, take, get_or, Option, None, Some, slice_get, inl, inr, refl, sym, ap, ap₂, subst, ◌∙◌, arith}
 use Rattle.std.specs.Prelude.{MatchOption}
 use Rattle.std.proofs.lemmas.Bool.{cases_order}
+use Rattle.std.proofs.lemmas.List.{take_more, take_all, length-take-le}
+use Rattle.std.proofs.lemmas.Option.{slice_get-get_or}
 use Rattle.nntp_article.specs.Session.Spool.{Spool}
 use Rattle.nntp_article.specs.declared.session.profile.Profile.{Profile}
+use Rattle.nntp_article.specs.Session.Explains.{Explains}
 use Rattle.nntp_facts.proofs.Streams.ExplainedOrBad.{first_explained}
 use Rattle.nntp_facts.proofs.Streams.OneOutcome.{same_answers}
 use Rattle.nntp_spool.specs.Sessions.{RefusesAt}
 use Rattle.nntp_spool.proofs.PermittedPairs.{explained-unrefused}
 use Rattle.nntp_several.specs.Verifying.{VerifiedOfAll, PermitsAll, RefusesOne, IsVerifiedOfAll}
-use Rattle.nntp_several.specs.Sessions.{Recorded, ExplainsIt, ExplainsEach, answered_by, counts_of}
+use Rattle.nntp_several.specs.Sessions.{Recorded, ExplainsIt, ExplainsEach, OfEach, answered_by, counts_of}
 use Rattle.nntp_several.proofs.ExplainedSessions.{each_to, taken_to}
 
 -- an answer of a session is refused
@@ -91,3 +94,44 @@ one_verified profile S sessions (RefusesOne j k) (RefusesOne i l) h g = elim (ca
   | inr (inl less) ↦ absurd (not_later profile S sessions j i k l less h g)
   | inr (inr more) ↦ absurd (not_later profile S sessions i j l k more g h)
 ]
+
+-- ---- one session after the other
+
+-- there are as many numbers as sessions
+pub as_many_counts : (P : Recorded → ℕ → Type 0) (sessions : List Recorded) (ns : List ℕ) → OfEach P sessions ns → length ns ≡ length sessions
+as_many_counts P [] [] h = refl
+as_many_counts P [] (n ∷ ns) h = absurd h
+as_many_counts P (s ∷ more) [] h = absurd h
+as_many_counts P (s ∷ more) (n ∷ ns) h = let rest = as_many_counts P more ns h.1 in omega (arith, rest)
+
+-- one session more
+of_each_push : (P : Recorded → ℕ → Type 0) (sessions : List Recorded) (ns : List ℕ) (s : Recorded) (n : ℕ) → OfEach P sessions ns → P s n → OfEach P (sessions ++ s ∷ []) (ns ++ n ∷ [])
+of_each_push P [] [] s n h x = (x, tt)
+of_each_push P [] (m ∷ ns) s n h x = absurd h
+of_each_push P (r ∷ more) [] s n h x = absurd h
+of_each_push P (r ∷ more) (m ∷ ns) s n h x = (h.0, of_each_push P more ns s n h.1 x)
+
+module _ (profile : Profile) (S : Spool) (sessions : List Recorded) (i : ℕ) (ns : List ℕ) (before : IsVerifiedOfAll profile S (take i sessions) (PermitsAll ns)) where
+  -- the next session is permitted, too
+  pub permits_next : (s : Recorded) (new : List ℕ) (n : ℕ) → i < length sessions → s ≡ get_or sessions i s → Explains profile S s.client s.server n → new ≡ ns ++ n ∷ []
+      → IsVerifiedOfAll profile S (take (i + 1) sessions) (PermitsAll new)
+  permits_next s new n within is x pushed =
+      let here = take_more sessions i s within ∙ ap (λ s. take i sessions ++ s ∷ []) (sym is) in
+      subst (λ (p : List Recorded × List ℕ). OfEach (λ s n. Explains profile S s.client s.server n) p.0 p.1) (λ t. (sym here t, sym pushed t))
+      (of_each_push (λ s n. Explains profile S s.client s.server n) (take i sessions) ns s n before x)
+
+  -- or an answer of it is refused
+  pub refuses_next : (s : Recorded) (j k : ℕ) → i < length sessions → s ≡ get_or sessions i s → j ≡ length ns → RefusesAt profile S s.client s.server k
+      → IsVerifiedOfAll profile S sessions (RefusesOne j k)
+  refuses_next s j k within is at refused =
+      let count = as_many_counts (λ s n. Explains profile S s.client s.server n) (take i sessions) ns before in
+      let whole = length-take-le i sessions (omega (arith, within)) in
+      let place : i ≡ j = omega (arith, at, count, whole) in
+      let there = slice_get-get_or sessions i s within ∙ ap (λ s. Some s) (sym is) in
+      subst (λ j. IsVerifiedOfAll profile S sessions (RefusesOne j k)) place
+      (subst (λ o. MatchOption o ⊥ (λ s. ExplainsEach profile S (take i sessions) × RefusesAt profile S s.client s.server k)) (sym there)
+      (explained_by profile S (take i sessions) ns before, refused))
+
+  -- behind the last one all are
+  pub permits_last : length sessions ≤ i → IsVerifiedOfAll profile S sessions (PermitsAll ns)
+  permits_last end = subst (λ sessions. IsVerifiedOfAll profile S sessions (PermitsAll ns)) (take_all i sessions end) before

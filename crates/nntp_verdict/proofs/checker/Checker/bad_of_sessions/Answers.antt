@@ -1,0 +1,14 @@
+use Rattle.std.proofs.Common.{sym, subst}
+use Rattle.nntp_article.specs.Session.Limit.{profile_of}
+use Rattle.nntp_several.specs.Told.{IsToldBadOfAll}
+use Rattle.nntp_verdict.specs.Checking.{StandsForAll}
+use Rattle.nntp_verdict.specs.CheckerView.{of_state}
+use Rattle.nntp_verdict.specs.Verdict.{sessions_verdict_shown}
+use Rattle.nntp_verdict.proofs.BadLemmas.{decided-told}
+use Rattle.nntp_verdict.proofs.checker.Checker.bad_of_sessions.Goals as goal
+
+pub returns-in-Decided-clause-told : goal.returns-in-Decided-clause-told
+returns-in-Decided-clause-told g c = λ limit marks before session stands.
+    let here = subst (λ s. StandsForAll limit marks (of_state s) before session) c.in-Decided.is stands in
+    subst (IsToldBadOfAll (profile_of limit marks) before session) (sym c.bad_answer.ensures)
+    (decided-told limit marks (sessions_verdict_shown c.in-Decided.verdict) c.in-Decided.counts before session here)
