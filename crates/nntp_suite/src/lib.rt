@@ -19,6 +19,8 @@ mod limits;
 #[cfg(test)]
 mod marks;
 #[cfg(test)]
+mod several;
+#[cfg(test)]
 mod slowly_explained;
 #[cfg(test)]
 mod slowly_judged;
