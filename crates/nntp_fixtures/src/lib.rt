@@ -5,9 +5,11 @@
 mod choices;
 mod notes;
 mod pieces;
+mod several;
 mod verdicts;
 
 pub use choices::{check_by, check_task, checker_by, explain_task, verify_task};
 pub use notes::{Stop, Whole, bad_of, beginning, note_all};
 pub use pieces::feed_split;
+pub use several::{check_sessions_by, feed_sessions, recorded, sessions_shown, verified_shown};
 pub use verdicts::shown;

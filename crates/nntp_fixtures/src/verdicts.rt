@@ -4,7 +4,7 @@ use nntp_sessions::with_spool_text;
 use std::alloc::{AllocError, Allocator, Global};
 
 /// Writes the first line of the report on a bad answer, and the answer with nothing escaped.
-fn show_bad<A: Allocator>(
+pub(crate) fn show_bad<A: Allocator>(
     shown: &mut Vec<u8>,
     first: &str,
     command: Option<&Vec<u8, A>>,

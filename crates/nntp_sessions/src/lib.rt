@@ -1,5 +1,5 @@
-//! Worked sessions of a news reader and a server, with what is to be said of each, and sessions made at random; and readers
-//! and writers for runs over them.
+//! Worked sessions of a news reader and a server, with what is to be said of each and of several; sessions made at random;
+//! and readers and writers for runs over them.
 #![tactic(auto)]
 
 mod choice;
@@ -7,6 +7,7 @@ mod fakes;
 mod marks;
 mod random;
 mod sessions;
+mod several;
 mod written;
 
 pub use choice::{CHOICES, Choice, NARROW_LENIENT, NARROW_STRICT, WIDE_LENIENT, WIDE_STRICT};
@@ -15,5 +16,6 @@ pub use fakes::{
 };
 pub use marks::{Outcome, Row, each_row};
 pub use random::{BASES, Random, Wandering};
-pub use sessions::{Session, capture, each_session, verified_report, with_spool};
+pub use sessions::{Session, capture, each_session, report, verified_report, with_spool};
+pub use several::{Alone, SessionList, SessionPair, session_lists, session_pairs};
 pub use written::{spool_text, with_spool_text};

@@ -7,7 +7,7 @@ mod lists_of_groups;
 mod lists_of_numbers;
 mod numbers;
 mod strict_marks;
-mod texts;
+pub(crate) mod texts;
 mod wide_numbers;
 
 use crate::choice::Choice;
@@ -69,17 +69,22 @@ impl Session {
 
     /// The report of `check` on it.
     pub fn report(&self, alloc: Global) -> Result<String, AllocError> {
-        let mut report = String::from_str(alloc, self.verdict)?;
-        if self.is_consistent() {
-            report.push_str(self.given.0)?;
-        }
-        Ok(report)
+        report(alloc, self.verdict, self.given.0)
     }
 
     /// The capture of both streams, each in one piece.
     pub fn capture(&self, alloc: Global) -> Result<String, AllocError> {
         capture(alloc, self.client, self.server)
     }
+}
+
+/// The lines of a verdict, and behind a yes the text of the given spool.
+pub fn report(alloc: Global, verdict: &str, given: &str) -> Result<String, AllocError> {
+    let mut report = String::from_str(alloc, verdict)?;
+    if verdict.starts_with("consistent ") {
+        report.push_str(given)?;
+    }
+    Ok(report)
 }
 
 /// The capture of two streams, each in one piece.

@@ -19,6 +19,8 @@ mod limits;
 #[cfg(test)]
 mod marks;
 #[cfg(test)]
+mod several;
+#[cfg(test)]
 mod short_sessions;
 #[cfg(test)]
 mod slowly_explained;
