@@ -4,6 +4,7 @@ mod endings;
 mod kinds;
 mod misfits;
 mod misspellings;
+mod several;
 
 use crate::reported::Reported;
 use crate::runs::Run;
