@@ -8,7 +8,7 @@ use Rattle.std.specs.List.{list_all}
 use Rattle.std.specs.Char.{is_ascii_digit}
 use Rattle.nntp_check.specs.Capture.{Part, word_of, spelled, count_of, BeginsNoPiece, Begins, BeginsCapture, IsBadPieceForGood}
 use Rattle.nntp_check.specs.declared.source.Source.{Source}
-use Rattle.nntp_check.specs.declared.source.Source.TheVariants.{Client, Server, Spool}
+use Rattle.nntp_check.specs.declared.source.Source.TheVariants.{Client, Server, Spool, Session}
 use Rattle.nntp_check.proofs.CaptureLemmas.{one_word, spelled-append, counted}
 use Rattle.nntp_check.proofs.CaptureLaws.{HasEnd, has-end}
 use Rattle.nntp_check.proofs.ReadingLemmas.{front-nil, counted-few, digits-then}
@@ -109,24 +109,27 @@ behind-word s octets line is none = elim (first-other line) [
 
 -- octets that are no piece are completed to one, or never begin one
 begun-or-never : (octets : List ℕ) → BeginsNoPiece octets → Completes octets ⊎ NeverBegins octets
-begun-or-never octets none = by (fork (word_of Client) octets) (fork (word_of Server) octets) (fork (word_of Spool) octets)
+begun-or-never octets none = by (fork (word_of Client) octets) (fork (word_of Server) octets) (fork (word_of Spool) octets) (fork (word_of Session) octets)
   where
     Forks : Source → Type 0
     Forks s = ((more : List ℕ) × (octets ++ more ≡ word_of s)) ⊎ (((line : List ℕ) × (octets ≡ word_of s ++ line)) ⊎ ((more other : List ℕ) → octets ++ more ≢ word_of s ++ other))
 
-    by : Forks Client → Forks Server → Forks Spool → Completes octets ⊎ NeverBegins octets
-    by (inl (more, e)) server spool = inl (complete-word octets more Client e)
-    by (inr (inl (line, e))) server spool = behind-word Client octets line e none
-    by client (inl (more, e)) spool = inl (complete-word octets more Server e)
-    by client (inr (inl (line, e))) spool = behind-word Server octets line e none
-    by client server (inl (more, e)) = inl (complete-word octets more Spool e)
-    by client server (inr (inl (line, e))) = behind-word Spool octets line e none
-    by (inr (inr client)) (inr (inr server)) (inr (inr spool)) = inr (λ more p after piece e. never more p.source (p.digits ++ 10 ∷ (p.octets ++ after)) (e ∙ spelled-append p after))
+    by : Forks Client → Forks Server → Forks Spool → Forks Session → Completes octets ⊎ NeverBegins octets
+    by (inl (more, e)) server spool session = inl (complete-word octets more Client e)
+    by (inr (inl (line, e))) server spool session = behind-word Client octets line e none
+    by client (inl (more, e)) spool session = inl (complete-word octets more Server e)
+    by client (inr (inl (line, e))) spool session = behind-word Server octets line e none
+    by client server (inl (more, e)) session = inl (complete-word octets more Spool e)
+    by client server (inr (inl (line, e))) session = behind-word Spool octets line e none
+    by client server spool (inl (more, e)) = inl (complete-word octets more Session e)
+    by client server spool (inr (inl (line, e))) = behind-word Session octets line e none
+    by (inr (inr client)) (inr (inr server)) (inr (inr spool)) (inr (inr session)) = inr (λ more p after piece e. never more p.source (p.digits ++ 10 ∷ (p.octets ++ after)) (e ∙ spelled-append p after))
       where
         never : (more : List ℕ) (s : Source) (line : List ℕ) → octets ++ more ≢ word_of s ++ line
         never more Client line = client more line
         never more Server line = server more line
         never more Spool line = spool more line
+        never more Session line = session more line
 
 -- a capture is begun, or a piece is bad for good
 pub begun-or-bad : (octets : List ℕ) → BeginsCapture octets ⊎ ((number : ℕ) × IsBadPieceForGood octets number)

@@ -4,10 +4,10 @@ use Rattle.std.proofs.lemmas.List.{append-nil}
 use Rattle.std.specs.List.{AllByRecursion, list_all}
 use Rattle.std.specs.Char.{is_ascii_digit}
 use Rattle.nntp_wire.specs.Number.{number_value}
-use Rattle.nntp_check.specs.Capture.{Part, word_of, spelled, IsPiece, octets_from, Begins, IsCapture, BeginsCapture}
+use Rattle.nntp_check.specs.Capture.{Part, word_of, spelled, IsPiece, Begins, Captured, captured_by, IsCapture, BeginsCapture}
 use Rattle.nntp_check.specs.CaptureReading.{IsAt, HasCome}
 use Rattle.nntp_check.specs.declared.source.Source.{Source}
-use Rattle.nntp_check.specs.declared.source.Source.TheVariants.{Client, Server, Spool}
+use Rattle.nntp_check.specs.declared.source.Source.TheVariants.{Server}
 use Rattle.nntp_check.specs.declared.capture_reader.Place.{Place}
 use Rattle.nntp_check.specs.declared.capture_reader.Place.TheVariants as places
 use Rattle.nntp_check.proofs.CaptureLemmas.{flat_map-snoc, each-snoc}
@@ -59,6 +59,7 @@ complete-word octets rest source word = (
 complete : (place : Place) (octets : List ℕ) (begun : List Part) → IsAt place octets begun → (octets ≡ []) ⊎ Completes octets
 complete places.Start octets begun at = inl at.0
 complete places.LetterS octets begun at = inr (codes "erver 0\n", record { source = Server; digits = 48 ∷ []; octets = [] }, empty-piece Server, ap (λ t. t ++ codes "erver 0\n") at.0)
+complete places.LettersSe octets begun at = inr (codes "rver 0\n", record { source = Server; digits = 48 ∷ []; octets = [] }, empty-piece Server, ap (λ t. t ++ codes "rver 0\n") at.0)
 complete (places.Word source rest) octets begun at = inr (complete-word octets rest.now source at.0.word)
 complete (places.Digits source many value) octets begun at =
     let many-is = at.0.many_is in
@@ -74,12 +75,7 @@ complete (places.Octets source left) octets begun at =
 
 -- a capture of these pieces
 of-pieces : (octets : List ℕ) (parts : List Part) → Begins octets parts [] → IsCapture octets
-of-pieces octets parts pieces = (
-  flat_map (octets_from Client) parts,
-  flat_map (octets_from Server) parts,
-  flat_map (octets_from Spool) parts,
-  record { parts = parts; pieces = pieces; from_client = refl; from_server = refl; from_spool = refl },
-)
+of-pieces octets parts pieces = (captured_by parts, record { parts = parts; pieces = pieces; captured_is = refl })
 
 -- pieces, and octets that are completed to one
 pub completed : (came : List ℕ) (parts : List Part) (octets : List ℕ) → came ≡ flat_map spelled parts ++ octets → AllByRecursion IsPiece parts → Completes octets → BeginsCapture came
@@ -97,8 +93,8 @@ pub completed-whole : (came : List ℕ) (parts : List Part) (octets : List ℕ) 
 completed-whole came parts octets is each none = ([], of-pieces (came ++ []) parts (record { whole = append-nil came ∙ is ∙ ap (λ t. flat_map spelled parts ++ t) none; each = each }))
 
 -- what came begins a capture
-pub begins-capture : (number : ℕ) (place : Place) (came client server spool : List ℕ) → HasCome number place came client server spool → BeginsCapture came
-begins-capture number place came client server spool h = elim (complete place h.octets h.begun h.at) [
+pub begins-capture : (number : ℕ) (place : Place) (came : List ℕ) (captured : Captured) → HasCome number place came captured → BeginsCapture came
+begins-capture number place came captured h = elim (complete place h.octets h.begun h.at) [
   | inl none ↦ completed-whole came h.parts h.octets h.whole h.each none
   | inr more ↦ completed came h.parts h.octets h.whole h.each more
 ]

@@ -1,8 +1,7 @@
 -- Octets are a capture or have a first bad piece, and that in one way.
 use Rattle.std.proofs.Common.{◌≡◌, ◌≢◌, ◌⊎◌, ℕ, zero, suc, ◌+◌, ◌≤◌, List, [], ◌∷◌, ◌++◌, length, flat_map, inl, inr, refl, sym, ap, subst, ◌∙◌, append_assoc, arith, length-append}
 use Rattle.std.specs.List.{AllByRecursion}
-use Rattle.nntp_check.specs.Capture.{Part, spelled, IsPiece, BeginsNoPiece, octets_from, Begins, AreStreams, IsCapture, IsBadPiece, BeginsCapture, IsBadPieceForGood}
-use Rattle.nntp_check.specs.declared.source.Source.TheVariants.{Client, Server, Spool}
+use Rattle.nntp_check.specs.Capture.{Part, spelled, IsPiece, BeginsNoPiece, Begins, Captured, captured_by, AreCapture, IsCapture, IsBadPiece, BeginsCapture, IsBadPieceForGood}
 use Rattle.nntp_check.proofs.CaptureLemmas.{spelled-length}
 use Rattle.nntp_check.proofs.FirstPiece.{one-piece, dec_piece}
 
@@ -43,12 +42,7 @@ pub capture-or-bad : (octets : List ℕ) → IsCapture octets ⊎ ((number : ℕ
 capture-or-bad octets = by (has-end (length octets) octets (omega arith))
   where
     by : HasEnd octets → IsCapture octets ⊎ ((number : ℕ) × IsBadPiece octets number)
-    by (parts, rest, pieces, inl end) = inl (
-      flat_map (octets_from Client) parts,
-      flat_map (octets_from Server) parts,
-      flat_map (octets_from Spool) parts,
-      record { parts = parts; pieces = subst (Begins octets parts) end pieces; from_client = refl; from_server = refl; from_spool = refl },
-    )
+    by (parts, rest, pieces, inl end) = inl (captured_by parts, record { parts = parts; pieces = subst (Begins octets parts) end pieces; captured_is = refl })
     by (parts, rest, pieces, inr (some, none)) = inr (length parts + 1, record { parts = parts; rest = rest; pieces = pieces; some = some; none = none; place = refl })
 
 -- ---- in one way
@@ -79,17 +73,11 @@ one-begin octets parts others rest left b c none no_more = same-parts parts othe
 
 -- never a capture with a bad piece
 pub not-both : (octets : List ℕ) (number : ℕ) → IsCapture octets → IsBadPiece octets number → ⊥
-not-both octets number (client, server, spool, s) b = b.some (sym (one-begin octets s.parts b.parts [] b.rest s.pieces b.pieces nil-no-piece b.none).1)
+not-both octets number (captured, s) b = b.some (sym (one-begin octets s.parts b.parts [] b.rest s.pieces b.pieces nil-no-piece b.none).1)
 
--- its streams are determined
-pub one-capture : (octets client other_client server other_server spool other_spool : List ℕ) → AreStreams octets client server spool → AreStreams octets other_client other_server other_spool
-    → (client ≡ other_client) × (server ≡ other_server) × (spool ≡ other_spool)
-one-capture octets client other_client server other_server spool other_spool s t =
-    let same = (one-begin octets s.parts t.parts [] [] s.pieces t.pieces nil-no-piece nil-no-piece).0 in (
-      s.from_client ∙ ap (flat_map (octets_from Client)) same ∙ sym t.from_client,
-      s.from_server ∙ ap (flat_map (octets_from Server)) same ∙ sym t.from_server,
-      s.from_spool ∙ ap (flat_map (octets_from Spool)) same ∙ sym t.from_spool,
-    )
+-- what it holds is determined
+pub one-capture : (octets : List ℕ) (captured other : Captured) → AreCapture octets captured → AreCapture octets other → captured ≡ other
+one-capture octets captured other s t = s.captured_is ∙ ap captured_by (one-begin octets s.parts t.parts [] [] s.pieces t.pieces nil-no-piece nil-no-piece).0 ∙ sym t.captured_is
 
 -- and so is the number of the first bad piece
 pub one-bad-piece : (octets : List ℕ) (number other : ℕ) → IsBadPiece octets number → IsBadPiece octets other → number ≡ other

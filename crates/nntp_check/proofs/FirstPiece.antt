@@ -8,7 +8,7 @@ use Rattle.std.specs.Char.{is_ascii_digit}
 use Rattle.nntp_wire.proofs.Decide.{Dec, dec_by}
 use Rattle.nntp_check.specs.Capture.{Part, word_of, spelled, IsPiece, BeginsNoPiece, count_of}
 use Rattle.nntp_check.specs.declared.source.Source.{Source}
-use Rattle.nntp_check.specs.declared.source.Source.TheVariants.{Client, Server, Spool}
+use Rattle.nntp_check.specs.declared.source.Source.TheVariants.{Client, Server, Spool, Session}
 use Rattle.nntp_check.proofs.CaptureLemmas.{one_word, spelled-append, counted, piece_line}
 
 -- ---- one piece
@@ -60,18 +60,20 @@ HasWord bytes s = (line : List ℕ) × (bytes ≡ word_of s ++ line)
 
 -- whether they begin with a word
 dec_word : (bytes : List ℕ) → ((s : Source) × HasWord bytes s) ⊎ BeginsNoWord bytes
-dec_word bytes = by (dec_front (word_of Client) bytes) (dec_front (word_of Server) bytes) (dec_front (word_of Spool) bytes)
+dec_word bytes = by (dec_front (word_of Client) bytes) (dec_front (word_of Server) bytes) (dec_front (word_of Spool) bytes) (dec_front (word_of Session) bytes)
   where
-    none : (HasWord bytes Client → ⊥) → (HasWord bytes Server → ⊥) → (HasWord bytes Spool → ⊥) → BeginsNoWord bytes
-    none client server spool Client line e = client (line, e)
-    none client server spool Server line e = server (line, e)
-    none client server spool Spool line e = spool (line, e)
+    none : (HasWord bytes Client → ⊥) → (HasWord bytes Server → ⊥) → (HasWord bytes Spool → ⊥) → (HasWord bytes Session → ⊥) → BeginsNoWord bytes
+    none client server spool session Client line e = client (line, e)
+    none client server spool session Server line e = server (line, e)
+    none client server spool session Spool line e = spool (line, e)
+    none client server spool session Session line e = session (line, e)
 
-    by : Dec (HasWord bytes Client) → Dec (HasWord bytes Server) → Dec (HasWord bytes Spool) → ((s : Source) × HasWord bytes s) ⊎ BeginsNoWord bytes
-    by (inl client) server spool = inl (Client, client)
-    by (inr client) (inl server) spool = inl (Server, server)
-    by (inr client) (inr server) (inl spool) = inl (Spool, spool)
-    by (inr client) (inr server) (inr spool) = inr (none client server spool)
+    by : Dec (HasWord bytes Client) → Dec (HasWord bytes Server) → Dec (HasWord bytes Spool) → Dec (HasWord bytes Session) → ((s : Source) × HasWord bytes s) ⊎ BeginsNoWord bytes
+    by (inl client) server spool session = inl (Client, client)
+    by (inr client) (inl server) spool session = inl (Server, server)
+    by (inr client) (inr server) (inl spool) session = inl (Spool, spool)
+    by (inr client) (inr server) (inr spool) (inl session) = inl (Session, session)
+    by (inr client) (inr server) (inr spool) (inr session) = inr (none client server spool session)
 
 -- digits up to LF
 abbrev HasDigits : List ℕ → Type 0

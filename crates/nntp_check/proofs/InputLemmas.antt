@@ -7,7 +7,7 @@ use Rattle.std.specs.Io.KnownBytes.{Consumes, Keeps, IsAtEnd}
 use Rattle.std.proofs.KnownBytes.{Consumes-trans}
 use Rattle.std.proofs.lemmas.List.{append-nil, take-append-drop, take-take}
 use Rattle.std.proofs.Math.Seq.{take-append_seam}
-use Rattle.nntp_check.specs.Capture.{BeginsCapture, IsBadPiece}
+use Rattle.nntp_check.specs.Capture.{Held, BeginsCapture, IsBadPiece}
 use Rattle.nntp_check.specs.CaptureReading.{HasBadFront}
 use Rattle.nntp_check.specs.Run.{ReadsFront, ReadsMore, ReadsBadPiece, IsInputFault}
 use Rattle.nntp_check.specs.Sinks.{StopsWithin, BothStand, PassesOn}
@@ -20,7 +20,7 @@ pub take-split : (n m : ℕ) (xs : List ℕ) → n ≤ m → take m xs ≡ take 
 take-split n m xs le = sym (take-append-drop n (take m xs)) ∙ ap (λ t. t ++ drop n (take m xs)) (take-take n m xs le)
 
 -- where all octets are passed on, both stand for them
-pub all-passed : (before after : CaptureReader) (Stood Stands : List ℕ → List ℕ → List ℕ → Type 0) (came octets : List ℕ)
+pub all-passed : (before after : CaptureReader) (Stood Stands : Held → Type 0) (came octets : List ℕ)
     → PassesOn before after Stood Stands octets [] → BothStand before Stood came → BothStand after Stands (came ++ octets)
 all-passed before after Stood Stands came octets p both = subst (λ (front : List ℕ). BothStand after Stands (came ++ front)) (sym (p.cut ∙ append-nil p.front)) (p.stands came both)
 

@@ -3,7 +3,7 @@ use Rattle.std.proofs.Common.{◌≡◌, ◌≢◌, ◌⊎◌, ◌∙◌, ℕ, �
 use Rattle.std.proofs.Common.{take, drop, get_or, nat_lt, nat_le, inl, inr, refl, sym, ap, subst, append_assoc, arith}
 use Rattle.std.proofs.Common.{length-append, flat_map}
 use Rattle.std.proofs.lemmas.List.{append-nil, append_cancel_left}
-use Rattle.std.proofs.lemmas.Bool.{cases_Bool, and_parts, true≢false}
+use Rattle.std.proofs.lemmas.Bool.{and_parts, true≢false}
 use Rattle.std.specs.List.{list_all}
 use Rattle.std.specs.Char.{is_ascii_digit}
 use Rattle.std.proofs.Math.Nat.{pow-le-pow_right}
@@ -13,14 +13,16 @@ use Rattle.std.proofs.lemmas.Int.Digits.{digits_value_push}
 use Rattle.std.proofs.lemmas.List.Folds.{list_all-append}
 use Rattle.nntp_wire.specs.Number.{number_value}
 use Rattle.nntp_wire.proofs.NumberLemmas.{one_digit_more, digit_range}
-use Rattle.nntp_check.specs.Capture.{Part, word_of, spelled, count_of, is_same_source, given, octets_from, AreStreams, BeginsNoPiece, IsBadPiece}
-use Rattle.nntp_check.specs.CaptureReading.{IsAt, IsInWord, IsInDigits, IsInOctets, IsInLine, IsOpen, HasCome, HasBadFront, CantGoOn, GoesOn}
+use Rattle.nntp_check.specs.Capture.{Part, Captured, word_of, spelled, count_of, continued, captured_by, has_session, AreCapture, BeginsNoPiece, IsBadPiece}
+use Rattle.nntp_check.specs.CaptureReading.{IsAt, IsInWord, IsInDigits, IsInOctets, IsInLine, IsOpen, HasCome, HasRead, HasBadFront, CantGoOn, GoesOn, captured, reached}
 use Rattle.nntp_check.specs.declared.source.Source.{Source}
-use Rattle.nntp_check.specs.declared.source.Source.TheVariants.{Client, Server, Spool}
+use Rattle.nntp_check.specs.declared.source.Source.TheVariants.{Client, Server, Spool, Session}
+use Rattle.nntp_check.specs.declared.capture_reader.CaptureReader.{CaptureReader}
 use Rattle.nntp_check.specs.declared.capture_reader.Place.{Place}
 use Rattle.nntp_check.specs.declared.capture_reader.Place.TheVariants as places
-use Rattle.nntp_check.proofs.CaptureLemmas.{one_word, spelled-append, counted, flat_map-snoc}
+use Rattle.nntp_check.proofs.CaptureLemmas.{one_word, spelled-append, counted}
 use Rattle.nntp_check.proofs.FirstPiece.{one_line}
+use Rattle.nntp_check.proofs.HoldingLemmas.{captured-snoc, piece-begins, piece-grows}
 
 -- ---- what came of a piece that has begun
 
@@ -28,6 +30,7 @@ use Rattle.nntp_check.proofs.FirstPiece.{one_line}
 pub none-begun : (place : Place) (octets : List ℕ) (begun : List Part) → IsInLine place → IsAt place octets begun → begun ≡ []
 none-begun places.Start octets begun line at = at.1
 none-begun places.LetterS octets begun line at = at.1
+none-begun places.LettersSe octets begun line at = at.1
 none-begun (places.Word source rest) octets begun line at = at.1
 none-begun (places.Digits source many value) octets begun line at = at.1
 none-begun (places.Octets source left) octets begun line at = absurd line
@@ -37,36 +40,29 @@ pub flat_map-append : {X : Type 0} (f : X → List ℕ) (xs ys : List X) → fla
 flat_map-append f [] ys = refl
 flat_map-append f (x ∷ xs) ys = ap (λ t. f x ++ t) (flat_map-append f xs ys) ∙ sym (append_assoc (f x) (flat_map f xs) (flat_map f ys))
 
--- no octets are none of any source
-given-nil : (s t : Source) → given s t [] ≡ []
-given-nil s t = elim (cases_Bool (is_same_source s t)) [ inl is ↦ rw is refl | inr is ↦ rw is refl ]
-
 -- a front of no octets is none
 pub front-nil : (a b : List ℕ) → a ++ b ≡ [] → (a ≡ []) × (b ≡ [])
 front-nil [] b e = (refl, e)
 front-nil (x ∷ a) b e = cc
 
--- pieces without octets have none of any source
-from-none : (s : Source) (ps : List Part) → flat_map (λ p. p.octets) ps ≡ [] → flat_map (octets_from s) ps ≡ []
-from-none s [] e = refl
-from-none s (p ∷ ps) e =
-    let both = front-nil p.octets (flat_map (λ q. q.octets) ps) e in
-    let first : octets_from s p ≡ [] = ap (given s p.source) both.0 ∙ given-nil s p.source in
-    ap (λ t. t ++ flat_map (octets_from s) ps) first ∙ from-none s ps both.1
-
--- a stream stays as it is
-stream-stays : (s : Source) (parts begun next : List Part) (stream : List ℕ) → begun ≡ [] → flat_map (λ p. p.octets) next ≡ []
-    → stream ≡ flat_map (octets_from s) (parts ++ begun) → stream ++ [] ≡ flat_map (octets_from s) (parts ++ next)
-stream-stays s parts begun next stream none also e =
-    append-nil stream ∙ e ∙ ap (λ b. flat_map (octets_from s) (parts ++ b)) none ∙ flat_map-append (octets_from s) parts []
-    ∙ ap (λ t. flat_map (octets_from s) parts ++ t) (sym (from-none s next also)) ∙ sym (flat_map-append (octets_from s) parts next)
-
 -- ---- an octet of a first line
 
+-- what pieces are, with one of which no octet has come
+reaches : (place : Place) (octets : List ℕ) (begun parts : List Part) → IsAt place octets begun → flat_map (λ p. p.octets) begun ≡ [] → reached place (captured_by parts) ≡ captured_by (parts ++ begun)
+reaches places.Start octets begun parts at none = ap captured_by (sym (append-nil parts) ∙ ap (λ b. parts ++ b) (sym at.1))
+reaches places.LetterS octets begun parts at none = ap captured_by (sym (append-nil parts) ∙ ap (λ b. parts ++ b) (sym at.1))
+reaches places.LettersSe octets begun parts at none = ap captured_by (sym (append-nil parts) ∙ ap (λ b. parts ++ b) (sym at.1))
+reaches (places.Word source rest) octets begun parts at none = ap captured_by (sym (append-nil parts) ∙ ap (λ b. parts ++ b) (sym at.1))
+reaches (places.Digits source many value) octets begun parts at none = ap captured_by (sym (append-nil parts) ∙ ap (λ b. parts ++ b) (sym at.1))
+reaches (places.Octets source left) octets begun parts at none =
+    let p = at.piece in
+    let no_octets : p.octets ≡ [] = (front-nil p.octets [] (sym (ap (flat_map (λ (q : Part). q.octets)) at.begun_is) ∙ none)).0 in
+    sym (ap (λ b. captured_by (parts ++ b)) at.begun_is ∙ captured-snoc parts p ∙ piece-begins (captured_by parts) p source at.source_is no_octets)
+
 -- the next place
-pub goes-on : (number octet : ℕ) (place next : Place) (came client server spool : List ℕ) → IsInLine place → HasCome number place came client server spool → GoesOn place octet next
-    → HasCome number next (came ++ octet ∷ []) (client ++ []) (server ++ []) (spool ++ [])
-goes-on number octet place next came client server spool line h on =
+pub goes-on : (number octet : ℕ) (place next : Place) (came : List ℕ) (captured : Captured) → IsInLine place → HasCome number place came captured → GoesOn place octet next
+    → HasCome number next (came ++ octet ∷ []) (reached next captured)
+goes-on number octet place next came captured line h on =
     let none = none-begun place h.octets h.begun line h.at in
     let then = on h.octets (subst (IsAt place h.octets) none h.at) in
     record {
@@ -77,9 +73,8 @@ goes-on number octet place next came client server spool line h on =
       begun = then.0;
       at = then.1;
       whole = ap (λ t. t ++ octet ∷ []) h.whole ∙ append_assoc (flat_map spelled h.parts) h.octets (octet ∷ []);
-      from_client = stream-stays Client h.parts h.begun then.0 client none then.2 h.from_client;
-      from_server = stream-stays Server h.parts h.begun then.0 server none then.2 h.from_server;
-      from_spool = stream-stays Spool h.parts h.begun then.0 spool none then.2 h.from_spool;
+      captured_is = ap (reached next) (h.captured_is ∙ ap (λ b. captured_by (h.parts ++ b)) none ∙ ap captured_by (append-nil h.parts))
+          ∙ reaches next (h.octets ++ octet ∷ []) then.0 h.parts then.1 then.2;
     }
 
 -- the first octet of some
@@ -95,10 +90,10 @@ not-nil [] x ys e = cc
 not-nil (z ∷ xs) x ys e = cc
 
 -- or none
-pub cant-go-on : (number octet : ℕ) (place : Place) (came client server spool octets rest : List ℕ) → IsInLine place
-    → HasCome number place came client server spool → CantGoOn place octet → octets ≡ (octet ∷ []) ++ rest
+pub cant-go-on : (number octet : ℕ) (place : Place) (came : List ℕ) (captured : Captured) (octets rest : List ℕ) → IsInLine place
+    → HasCome number place came captured → CantGoOn place octet → octets ≡ (octet ∷ []) ++ rest
     → HasBadFront came octets number
-cant-go-on number octet place came client server spool octets rest line h cant cut =
+cant-go-on number octet place came captured octets rest line h cant cut =
     let none = none-begun place h.octets h.begun line h.at in
     record {
       front = octet ∷ [];
@@ -119,24 +114,11 @@ cant-go-on number octet place came client server spool octets rest line h cant c
 
 -- ---- octets of a source
 
--- octets of a source, and more of them
-given-append : (s t : Source) (xs ys : List ℕ) → given s t (xs ++ ys) ≡ given s t xs ++ given s t ys
-given-append s t xs ys = elim (cases_Bool (is_same_source s t)) [ inl is ↦ rw is refl | inr is ↦ rw is refl ]
-
--- a stream with more octets of its piece
-stream-grows : (s source : Source) (parts begun : List Part) (p : Part) (stream front : List ℕ) → begun ≡ p ∷ [] → p.source ≡ source → stream ≡ flat_map (octets_from s) (parts ++ begun)
-    → stream ++ given s source front ≡ flat_map (octets_from s) (parts ++ (record p { octets = p.octets ++ front }) ∷ [])
-stream-grows s source parts begun p stream front begun-is source-is e =
-    ap (λ t. t ++ given s source front) (e ∙ ap (λ b. flat_map (octets_from s) (parts ++ b)) begun-is ∙ flat_map-snoc (octets_from s) parts p)
-    ∙ append_assoc (flat_map (octets_from s) parts) (octets_from s p) (given s source front)
-    ∙ ap (λ t. flat_map (octets_from s) parts ++ t) (ap (λ t. given s p.source p.octets ++ given s t front) (sym source-is) ∙ sym (given-append s p.source p.octets front))
-    ∙ sym (flat_map-snoc (octets_from s) parts (record p { octets = p.octets ++ front }))
-
 -- some of the octets that are to come
-pub octets-come : (number left : ℕ) (source : Source) (came client server spool front : List ℕ) (behind : ℕ)
-    → HasCome number (places.Octets source left) came client server spool → behind + length front ≡ left
-    → HasCome number (places.Octets source behind) (came ++ front) (client ++ given Client source front) (server ++ given Server source front) (spool ++ given Spool source front)
-octets-come number left source came client server spool front behind h many =
+pub octets-come : (number left : ℕ) (source : Source) (came : List ℕ) (captured : Captured) (front : List ℕ) (behind : ℕ)
+    → HasCome number (places.Octets source left) came captured → behind + length front ≡ left
+    → HasCome number (places.Octets source behind) (came ++ front) (continued source front captured)
+octets-come number left source came captured front behind h many =
     let at = h.at in
     let p = at.piece in
     let q : Part = record p { octets = p.octets ++ front } in
@@ -154,9 +136,8 @@ octets-come number left source came client server spool front behind h many =
         count = at.count ∙ ap Some (omega (arith, length-append p.octets front));
       };
       whole = ap (λ t. t ++ front) h.whole ∙ append_assoc (flat_map spelled h.parts) h.octets front;
-      from_client = stream-grows Client source h.parts h.begun p client front at.begun_is at.source_is h.from_client;
-      from_server = stream-grows Server source h.parts h.begun p server front at.begun_is at.source_is h.from_server;
-      from_spool = stream-grows Spool source h.parts h.begun p spool front at.begun_is at.source_is h.from_spool;
+      captured_is = ap (continued source front) (h.captured_is ∙ ap (λ b. captured_by (h.parts ++ b)) at.begun_is ∙ captured-snoc h.parts p)
+          ∙ piece-grows (captured_by h.parts) p source front at.source_is ∙ sym (captured-snoc h.parts q);
     }
 
 -- a piece has more than one octet
@@ -167,6 +148,7 @@ spelled-longer p = by p.source p.digits p.octets
     by Client ds os = simp length-append (omega arith)
     by Server ds os = simp length-append (omega arith)
     by Spool ds os = simp length-append (omega arith)
+    by Session ds os = simp length-append (omega arith)
 
 -- so pieces are at most half as many as octets
 pieces-few : (ps : List Part) → length ps + length ps ≤ length (flat_map spelled ps)
@@ -178,10 +160,10 @@ pieces-few (p ∷ ps) =
     omega arith
 
 -- and the number of a piece that has begun fits
-pub number-fits : (number left : ℕ) (source : Source) (place : Place) (came client server spool : List ℕ)
-    → place ≡ places.Octets source left → HasCome number place came client server spool → number + number ≤ length came
-number-fits number left source place came client server spool is of-place =
-    let h = subst (λ (p : Place). HasCome number p came client server spool) is of-place in
+pub number-fits : (number left : ℕ) (source : Source) (place : Place) (came : List ℕ) (captured : Captured)
+    → place ≡ places.Octets source left → HasCome number place came captured → number + number ≤ length came
+number-fits number left source place came captured is of-place =
+    let h = subst (λ (p : Place). HasCome number p came captured) is of-place in
     let behind = pieces-few h.parts in
     let first = spelled-longer h.at.piece in
     let all : length came ≡ length (flat_map spelled h.parts) + length (spelled h.at.piece) = ap length
@@ -190,20 +172,24 @@ number-fits number left source place came client server spool is of-place =
     let is = h.number_is in
     omega arith
 
+-- ---- what a reader has read
+
+-- where it stands, and what it notes of sessions
+pub read-on : (after : CaptureReader) (came : List ℕ) (c : Captured) → HasCome after.piece after.place came c → IsOpen after.place → after.is_several ≡ c.is_several
+    → after.has_session ≡ has_session c → HasRead after came c.held
+read-on after came c come open_there several session =
+    let same : c ≡ captured after c.held = λ k. record { held = c.held; is_several = sym several k } in
+    record { come = subst (HasCome after.piece after.place came) same come; is_open = open_there; session = session ∙ ap has_session same }
+
 -- ---- at the end
 
 -- behind whole pieces the octets are a capture
-pub ends-whole : (number : ℕ) (came client server spool : List ℕ) → HasCome number places.Start came client server spool → AreStreams came client server spool
-ends-whole number came client server spool h = record {
+pub ends-whole : (number : ℕ) (came : List ℕ) (captured : Captured) → HasCome number places.Start came captured → AreCapture came captured
+ends-whole number came captured h = record {
   parts = h.parts;
   pieces = record { whole = h.whole ∙ ap (λ t. flat_map spelled h.parts ++ t) h.at.0; each = h.each };
-  from_client = stream Client client h.from_client;
-  from_server = stream Server server h.from_server;
-  from_spool = stream Spool spool h.from_spool;
+  captured_is = h.captured_is ∙ ap (λ b. captured_by (h.parts ++ b)) h.at.1 ∙ ap captured_by (append-nil h.parts);
 }
-  where
-    stream : (s : Source) (octets : List ℕ) → octets ≡ flat_map (octets_from s) (h.parts ++ h.begun) → octets ≡ flat_map (octets_from s) h.parts
-    stream s octets e = e ∙ ap (λ b. flat_map (octets_from s) (h.parts ++ b)) h.at.1 ∙ ap (flat_map (octets_from s)) (append-nil h.parts)
 
 -- digits have no line feed
 no-line-feed : (es ds more : List ℕ) → list_all is_ascii_digit ds ≡ true → es ++ 10 ∷ more ≢ ds
@@ -216,6 +202,13 @@ no-line-feed (c ∷ es) (d ∷ ds) more each e =
     let behind : es ++ 10 ∷ more ≡ ds = cc in
     no-line-feed es ds more (and_parts (is_ascii_digit d) (list_all is_ascii_digit ds) each).1 behind
 
+-- two letters begin no piece
+cut-letters : (s : Source) (ds os more : List ℕ) → 115 ∷ 101 ∷ [] ≢ (word_of s ++ ds ++ 10 ∷ os) ++ more
+cut-letters Client ds os more e = cc
+cut-letters Server ds os more e = cc
+cut-letters Spool ds os more e = cc
+cut-letters Session ds os more e = cc
+
 -- octets of a first line that is not whole begin no piece
 cut-line : (place : Place) (octets : List ℕ) (begun : List Part) → IsAt place octets begun → IsOpen place → BeginsNoPiece octets
 cut-line places.Start octets begun at cut p more is e =
@@ -226,6 +219,7 @@ cut-line places.LetterS octets begun at cut p more is e =
     let some = spelled-longer p in
     let one : 1 ≡ length (spelled p) + length more = ap length (sym at.0 ∙ e) ∙ length-append (spelled p) more in
     omega arith
+cut-line places.LettersSe octets begun at cut p more is e = cut-letters p.source p.digits p.octets more (sym at.0 ∙ e)
 cut-line (places.Word source rest) octets begun at cut p more is e =
     let word = at.0.word in
     let whole : word_of p.source ++ ((p.digits ++ 10 ∷ (p.octets ++ more)) ++ rest.now) ≡ word_of source ++ [] =
@@ -246,12 +240,13 @@ cut-line (places.Octets source left) octets begun at cut p more is e =
 
 -- the client is not the server
 two-sources : Client ≢ Server
-two-sources e = true≢false (ap (is_same_source Client) e)
+two-sources e = cc
 
 -- some octets came of a piece that has begun
 some-octets : (place : Place) (octets : List ℕ) (begun : List Part) → IsAt place octets begun → place ≢ places.Start → octets ≢ []
 some-octets places.Start octets begun at other e = other refl
 some-octets places.LetterS octets begun at other e = let is : ◌≡◌ {A = List ℕ} (115 ∷ []) [] = sym at.0 ∙ e in cc
+some-octets places.LettersSe octets begun at other e = let is : ◌≡◌ {A = List ℕ} (115 ∷ 101 ∷ []) [] = sym at.0 ∙ e in cc
 some-octets (places.Word source rest) octets begun at other e =
     absurd (two-sources (at.0.one Client (word_of Client) []
     (ap (λ t. t ++ word_of Client) e ∙ sym (append-nil (word_of Client)))
@@ -264,14 +259,15 @@ some-octets (places.Digits source many value) octets begun at other e =
     by Client ds e = cc
     by Server ds e = cc
     by Spool ds e = cc
+    by Session ds e = cc
 some-octets (places.Octets source left) octets begun at other e =
     let some = spelled-longer at.piece in
     let none : length (spelled at.piece) ≡ 0 = ap length (sym at.whole ∙ e) in
     omega arith
 
 -- where a piece has begun and isn't whole, it is bad
-pub ends-cut : (number : ℕ) (place : Place) (came client server spool : List ℕ) → HasCome number place came client server spool → IsOpen place → place ≢ places.Start → IsBadPiece came number
-ends-cut number place came client server spool h cut other = record {
+pub ends-cut : (number : ℕ) (place : Place) (came : List ℕ) (captured : Captured) → HasCome number place came captured → IsOpen place → place ≢ places.Start → IsBadPiece came number
+ends-cut number place came captured h cut other = record {
   parts = h.parts;
   rest = h.octets;
   pieces = record { whole = h.whole; each = h.each };

@@ -1,15 +1,24 @@
 -- What a run writes, and reports on streams that are borrowed.
-use Rattle.std.proofs.Common.{◌≡◌, ◌⊎◌, ◌∙◌, arith, inl, inr, refl, sym, subst, ℕ, Bool, List, [], Option, None, Some, Result, Ok, Err}
-use Rattle.std.proofs.lemmas.List.{append-nil}
+use Rattle.std.proofs.Common.{◌≡◌, ◌<◌, ◌⊎◌, ◌∙◌, arith, inl, inr, refl, sym, ap, subst, get_or, ℕ, Bool, List, [], Option, None, Some, Result, Ok, Err, length, slice_get}
+use Rattle.std.specs.Prelude.{MatchOption, Vec, unwrap_or}
+use Rattle.std.specs.Option.{option_map}
+use Rattle.nntp_wire.specs.Held.{held as names_in}
 use Rattle.std.specs.Io.KnownBytes.{Appends, Consumes, Keeps}
 use Rattle.nntp_spool.specs.Writing.{Wrote, Writes}
 use Rattle.nntp_spool.proofs.Written.{Wrote-last}
+use Rattle.std.proofs.lemmas.List.{append-nil, length-map}
+use Rattle.std.proofs.lemmas.Option.{slice_get-get_or, slice_get-map, slice_get_within}
+use Rattle.nntp_wire.specs.declared.limit.Limit.{Limit}
+use Rattle.nntp_wire.specs.declared.marks.Marks.{Marks}
+use Rattle.nntp_several.specs.Sessions.{Named, Recorded, unnamed}
+use Rattle.nntp_verdict.specs.Judging.{IsVerdictOfAll, StopsAt}
+use Rattle.nntp_verdict.specs.Verdict.{JudgementOfAll, consistent_of_all, bad_of_all}
 use Rattle.nntp_pair.specs.declared.pair_error.PairError.{PairError}
 use Rattle.nntp_pair.specs.declared.pair_error.PairError.TheVariants as errors
-use Rattle.nntp_verdict.specs.Checking.{Checked, IsUnfinished}
 use Rattle.nntp_check.specs.Faults.{of_error}
 use Rattle.nntp_check.specs.Run.{Input, Output, ReadsCapture, ReadsFrontBut, IsCutShort, IsFaultOf}
-use Rattle.nntp_check.specs.Capture.{AreStreams}
+use Rattle.nntp_check.specs.Capture.{Captured, AreCapture}
+use Rattle.nntp_check.specs.Report.{IsWithin, names_of}
 use Rattle.nntp_check.specs.declared.run_fault.RunFault.{RunFault}
 use Rattle.nntp_check.specs.declared.run_fault.RunFault.TheVariants as faults
 
@@ -26,14 +35,30 @@ pub Writes-kept : {A E : Type 0} (r : Result A E) (a b c : Option (List ℕ)) (o
 Writes-kept (Ok x) a b c octets wrote kept = Wrote-last a b c octets [] [] wrote ([], refl, Keeps-appends b c kept)
 Writes-kept (Err e) a b c octets wrote kept = ([], Wrote-last a b c octets [] [] wrote ([], refl, Keeps-appends b c kept))
 
+-- a name among others
+pub named-there : {A : Type 0} (names : List (Vec ℕ A)) (j : ℕ) (name : Vec ℕ A) → j < length names → name ≡ get_or names j name → unwrap_or (slice_get (names_in names) j) [] ≡ name.items
+named-there names j name within is =
+    ap (λ o. unwrap_or o []) (slice_get-map (λ n. n.items) names j ∙ ap (option_map (λ n. n.items)) (slice_get-get_or names j name within ∙ ap Some (sym is)))
+
+-- the bad answer of a verdict is of one of the sessions
+pub verdict-within : (limit : Limit) (marks : Marks) (sessions : List Named) (judgement : JudgementOfAll) → IsVerdictOfAll limit marks (unnamed sessions) judgement → IsWithin (length (names_of sessions)) judgement
+verdict-within limit marks sessions (consistent_of_all L answers) verdict = tt
+verdict-within limit marks sessions (bad_of_all j k class command reply) verdict = by (slice_get (unnamed sessions) j) refl verdict.place
+  where
+    by : (o : Option Recorded) → slice_get (unnamed sessions) j ≡ o → MatchOption o ⊥ (λ s. StopsAt s.client s.server k class command reply) → j < length (names_of sessions)
+    by None e p = absurd p
+    by (Some s) e p =
+        let within = slice_get_within (unnamed sessions) j s e in
+        let recorded = length-map sessions (λ (n : Named). n.session) in
+        let named = length-map sessions (λ (n : Named). n.name) in
+        omega arith
+
 -- a report of which the writer took a front is cut short
-pub cut-short : (Reports : List ℕ → List ℕ → List ℕ → List ℕ → Bool → Type 0) (input : Input) (old new : Option (List ℕ)) (client server spool text lent left : List ℕ) (answer : Bool)
-    → ReadsCapture input client server spool → Reports client server spool text answer → lent ≡ text → Wrote old new lent left
+pub cut-short : (Reports : Captured → List ℕ → Bool → Type 0) (input : Input) (old new : Option (List ℕ)) (captured : Captured) (text lent left : List ℕ) (answer : Bool)
+    → ReadsCapture input captured → Reports captured text answer → lent ≡ text → Wrote old new lent left
     → IsCutShort Reports input (record { before = old; after = new })
-cut-short Reports input old new client server spool text lent left answer capture reports is wrote = record {
-  client = client;
-  server = server;
-  spool = spool;
+cut-short Reports input old new captured text lent left answer capture reports is wrote = record {
+  captured = captured;
   capture = capture;
   text = text;
   answer = answer;
@@ -43,30 +68,28 @@ cut-short Reports input old new client server spool text lent left answer captur
 }
 
 -- a whole capture is the front of one
-pub whole-front : (input : Input) (client server spool : List ℕ) → ReadsCapture input client server spool → ReadsFrontBut input
-whole-front input client server spool read = record {
+pub whole-front : (input : Input) (captured : Captured) → ReadsCapture input captured → ReadsFrontBut input
+whole-front input captured read = record {
   front = read.octets;
   last = [];
   consumed = subst (Consumes input.before input.after) (sym (append-nil read.octets)) read.all.consumed;
   few = read.all.few;
-  begun = ([], (client, server, spool, subst (λ (octets : List ℕ). AreStreams octets client server spool) (sym (append-nil read.octets)) read.capture));
+  begun = ([], (captured, subst (λ (octets : List ℕ). AreCapture octets captured) (sym (append-nil read.octets)) read.capture));
   near = omega arith;
 }
 
 -- why a report on a capture is not written whole: memory is refused, or the writer took a front of it
-pub unwritten-whole : (Reports : List ℕ → List ℕ → List ℕ → List ℕ → Bool → Type 0) (input : Input) (old new : Option (List ℕ)) (client server spool text : List ℕ) (answer : Bool) (fault : RunFault)
-    → ReadsCapture input client server spool → Reports client server spool text answer
+pub unwritten-whole : (Reports : Captured → List ℕ → Bool → Type 0) (input : Input) (old new : Option (List ℕ)) (captured : Captured) (text : List ℕ) (answer : Bool) (fault : RunFault)
+    → ReadsCapture input captured → Reports captured text answer
     → (fault ≡ faults.Memory) ⊎ ((fault ≡ faults.Write) × ((left : List ℕ) × Wrote old new text left))
     → IsFaultOf Reports input (record { before = old; after = new }) fault
-unwritten-whole Reports input old new client server spool text answer fault capture reports (inl is) =
-    subst (IsFaultOf Reports input (record { before = old; after = new })) (sym is) (whole-front input client server spool capture)
-unwritten-whole Reports input old new client server spool text answer fault capture reports (inr (is, wrote)) =
+unwritten-whole Reports input old new captured text answer fault capture reports (inl is) =
+    subst (IsFaultOf Reports input (record { before = old; after = new })) (sym is) (whole-front input captured capture)
+unwritten-whole Reports input old new captured text answer fault capture reports (inr (is, wrote)) =
     subst (IsFaultOf Reports input (record { before = old; after = new })) (sym is)
-    (cut-short Reports input old new client server spool text text wrote.0 answer capture reports refl wrote.1)
+    (cut-short Reports input old new captured text text wrote.0 answer capture reports refl wrote.1)
 
--- why a checker that has taken a whole capture gives no verdict
-pub unfinished-front : (Reports : List ℕ → List ℕ → List ℕ → List ℕ → Bool → Type 0) (input : Input) (output : Output) (error : PairError) (held : Checked)
-    → IsUnfinished error held → ReadsFrontBut input → IsFaultOf Reports input output (of_error error)
-unfinished-front Reports input output errors.Memory held why front = front
-unfinished-front Reports input output errors.Failed held why front = front
-unfinished-front Reports input output errors.TooLong held why front = absurd why
+-- why nothing is said of a whole capture: memory is refused
+pub unfinished-front : (Reports : Captured → List ℕ → Bool → Type 0) (input : Input) (output : Output) (error : PairError)
+    → error ≡ errors.Memory → ReadsFrontBut input → IsFaultOf Reports input output (of_error error)
+unfinished-front Reports input output error is front = subst (λ e. IsFaultOf Reports input output (of_error e)) (sym is) front

@@ -1,8 +1,9 @@
--- How a report goes on, exchange by exchange.
-use Rattle.std.proofs.Common.{◌≡◌, ◌∙◌, sym, ap, refl, ℕ, ◌+◌, ◌^◌, ◌<◌, ◌≤◌, false, List, [], ◌∷◌, ◌++◌, length, arith}
+-- How a report goes on, exchange by exchange and session by session.
+use Rattle.std.proofs.Common.{◌≡◌, ◌∙◌, sym, ap, refl, subst, ℕ, ◌+◌, ◌^◌, ◌<◌, ◌≤◌, ◌&&◌, Bool, true, false, List, [], ◌∷◌, ◌++◌, length, arith, append_assoc, length-append}
 use Rattle.std.specs.List.{flat_map}
 use Rattle.std.proofs.lemmas.Bool.{true≢false}
-use Rattle.std.proofs.lemmas.List.{flat_map_more}
+use Rattle.std.proofs.lemmas.List.{append-nil, flat_map_more}
+use Rattle.std.proofs.lemmas.List.Folds.{list_all-append}
 use Rattle.nntp_pair.specs.Pairing.{Paired, Unpaired, IsNext, Ends, Ending, bad}
 use Rattle.nntp_pair.specs.Feeding.{Fed, IsFed, IsTaken, IsUntaken, left_of}
 use Rattle.nntp_pair.specs.Sides.{given}
@@ -15,15 +16,21 @@ use Rattle.nntp_pair.proofs.FedLaws.{fed-paired}
 use Rattle.nntp_pair.specs.Classes.{class_of}
 use Rattle.nntp_pair.specs.declared.class.Class.{Class}
 use Rattle.nntp_printing.specs.BadAnswer.{bad_line}
+use Rattle.nntp_printing.specs.Title.{title_line}
+use Rattle.nntp_several.specs.Sessions.{Named, Recorded}
+use Rattle.nntp_several.specs.Told.{with_more}
+use Rattle.nntp_check.specs.Capture.{Captured, IsAlone, sessions_of}
 use Rattle.nntp_check.specs.Run.{ShowReports}
-use Rattle.nntp_check.specs.Show.{exchange_text, ending_line, is_end}
-use Rattle.nntp_check.specs.Showing.{IsShown}
+use Rattle.nntp_check.specs.Show.{ShownSession, AreShown, IsShownAs, are_answered, exchange_text, ending_line, is_end, session_text, shown_report}
+use Rattle.nntp_check.specs.Showing.{AreReported, IsShown, IsShownWhole}
+
+-- ---- a session
 
 -- one exchange more is shown
-pub one-more : (fed new : Fed) (text shown : List ℕ) (x : Paired) (behind : Unpaired) (client server : List ℕ) → IsShown fed text client server → IsNext (left_of fed) x behind
-    → ((pairs : List Paired) → IsFed fed client server pairs → IsFed new client server (pairs ++ x ∷ []))
-    → new.has_failed ≡ fed.has_failed → shown ≡ text ++ exchange_text x → IsShown new shown client server
-one-more fed new text shown x behind client server p next feeds works more = record {
+pub one-more : (fed new : Fed) (text shown : List ℕ) (x : Paired) (behind : Unpaired) (session : Recorded) → IsShown fed text session → IsNext (left_of fed) x behind
+    → ((pairs : List Paired) → IsFed fed session.client session.server pairs → IsFed new session.client session.server (pairs ++ x ∷ []))
+    → new.has_failed ≡ fed.has_failed → shown ≡ text ++ exchange_text x → IsShown new shown session
+one-more fed new text shown x behind session p next feeds works more = record {
   pairs = p.pairs ++ x ∷ [];
   fed_is = feeds p.pairs p.fed_is;
   works = works ∙ p.works;
@@ -31,42 +38,141 @@ one-more fed new text shown x behind client server p next feeds works more = rec
 }
 
 -- behind the last one the ending is shown
-pub at-ending : (fed : Fed) (text shown client server : List ℕ) (ending : Ending) → IsShown fed text client server → Ends (left_of fed) ending → shown ≡ text ++ ending_line fed.index ending
-    → (spool : List ℕ) → ShowReports client server spool shown (is_end ending)
-at-ending fed text shown client server ending p ends more spool = record {
-  pairs = p.pairs;
-  ending = ending;
-  pairing = record { left = left_of fed; paired = (fed-paired fed client server p.pairs p.fed_is).0; ends = ends };
-  text_is = more ∙ ap (λ octets. octets ++ ending_line fed.index ending) p.text_is ∙ ap (λ n. flat_map exchange_text p.pairs ++ ending_line n ending) (fed-paired fed client server p.pairs p.fed_is).1;
-  answer_is = refl;
-}
+pub at-ending : (fed : Fed) (text shown : List ℕ) (named : Named) (ending : Ending) → IsShown fed text named.session → Ends (left_of fed) ending → shown ≡ text ++ ending_line fed.index ending
+    → IsShownWhole named shown (is_end ending)
+at-ending fed text shown named ending p ends more =
+    let paired = fed-paired fed named.session.client named.session.server p.pairs p.fed_is in
+    record {
+      shown = record { name = named.name; pairs = p.pairs; ending = ending };
+      is_shown = (refl, record { left = left_of fed; paired = paired.0; ends = ends });
+      text_is = more ∙ ap (λ octets. octets ++ ending_line fed.index ending) p.text_is ∙ ap (λ n. flat_map exchange_text p.pairs ++ ending_line n ending) paired.1;
+      answered_is = refl;
+    }
 
 -- the same at octets that answer nothing
-pub at-octets : (fed : Fed) (text shown client server : List ℕ) (class : PairClass) → IsShown fed text client server → Ends (left_of fed) (bad class)
-    → (index : ℕ) → index ≡ fed.index → (of : Class) → of ≡ class_of class → shown ≡ text ++ bad_line index of → (spool : List ℕ) → ShowReports client server spool shown false
-at-octets fed text shown client server class p ends index at of is more =
-    at-ending fed text shown client server (bad class) p ends (more ∙ ap (λ c. text ++ bad_line index c) is ∙ ap (λ n. text ++ bad_line n (class_of class)) at)
+pub at-octets : (fed : Fed) (text shown : List ℕ) (named : Named) (class : PairClass) → IsShown fed text named.session → Ends (left_of fed) (bad class)
+    → (index : ℕ) → index ≡ fed.index → (of : Class) → of ≡ class_of class → shown ≡ text ++ bad_line index of → IsShownWhole named shown false
+at-octets fed text shown named class p ends index at of is more =
+    at-ending fed text shown named (bad class) p ends (more ∙ ap (λ c. text ++ bad_line index c) is ∙ ap (λ n. text ++ bad_line n (class_of class)) at)
 
 -- where there is room for octets, none but want of memory keeps a feed from taking them
-pub untaken-memory : (error : PairError) (side : Side) (octets : List ℕ) (before after : Fed) (text client server : List ℕ) → IsShown before text client server
-    → length client + length server + length octets < 2 ^ 64 → IsUntaken error side octets before after → error ≡ errors.Memory
-untaken-memory errors.Memory side octets before after text client server p room is = refl
-untaken-memory errors.Failed side octets before after text client server p room is = absurd (true≢false (sym is.0 ∙ p.works))
-untaken-memory errors.TooLong Client octets before after text client server p room is =
-    let count : before.counts.client ≡ length client = p.fed_is.client_came in
+pub untaken-memory : (error : PairError) (side : Side) (octets : List ℕ) (before after : Fed) (text : List ℕ) (session : Recorded) → IsShown before text session
+    → length session.client + length session.server + length octets < 2 ^ 64 → IsUntaken error side octets before after → error ≡ errors.Memory
+untaken-memory errors.Memory side octets before after text session p room is = refl
+untaken-memory errors.Failed side octets before after text session p room is = absurd (true≢false (sym is.0 ∙ p.works))
+untaken-memory errors.TooLong Client octets before after text session p room is =
+    let count : before.counts.client ≡ length session.client = p.fed_is.client_came in
     let many : 2 ^ 64 ≤ before.counts.client + length octets = is.1 in
     absurd (omega arith)
-untaken-memory errors.TooLong Server octets before after text client server p room is =
-    let count : before.counts.server ≡ length server = p.fed_is.server_came in
+untaken-memory errors.TooLong Server octets before after text session p room is =
+    let count : before.counts.server ≡ length session.server = p.fed_is.server_came in
     let many : 2 ^ 64 ≤ before.counts.server + length octets = is.1 in
     absurd (omega arith)
 
 -- octets that are taken are behind those that came
-pub shown-more : (before after : Fed) (side : Side) (octets text client server : List ℕ) → IsTaken side octets before after → IsShown before text client server
-    → IsShown after text (client ++ given Client side octets) (server ++ given Server side octets)
-shown-more before after side octets text client server taken p = record {
+pub shown-more : (before after : Fed) (side : Side) (octets text : List ℕ) (session : Recorded) → IsTaken side octets before after → IsShown before text session
+    → IsShown after text (with_more session (given Client side octets) (given Server side octets))
+shown-more before after side octets text session taken p = record {
   pairs = p.pairs;
-  fed_is = taken.fed client server p.pairs p.fed_is;
+  fed_is = taken.fed session.client session.server p.pairs p.fed_is;
   works = ap (λ (f : Fed). f.has_failed) taken.value ∙ p.works;
   text_is = p.text_is;
 }
+
+-- ---- sessions
+
+-- the title of a session has more than one octet
+title-length : (number : ℕ) (name : List ℕ) → 8 ≤ length (title_line number name)
+title-length number [] = simp length-append (omega arith)
+title-length number (octet ∷ name) = simp length-append (omega arith)
+
+-- so a report is longer than there are sessions
+report-long : (number : ℕ) (shown : List ShownSession) → length shown + length shown ≤ length (shown_report true number shown)
+report-long number [] = omega arith
+report-long number (s ∷ shown) =
+    let behind = report-long (number + 1) shown in
+    let title = title-length number s.name in
+    let all : length (shown_report true number (s ∷ shown)) ≡ length (title_line number s.name ++ session_text s) + length (shown_report true (number + 1) shown) =
+    length-append (title_line number s.name ++ session_text s) (shown_report true (number + 1) shown) in
+    let first = length-append (title_line number s.name) (session_text s) in
+    omega arith
+
+-- and the number of the next one fits
+pub many-fits : (many : ℕ) (text : List ℕ) (answered : Bool) (sessions : List Named) → AreReported many text answered sessions → length text < 2 ^ 64 → many + 1 < 2 ^ 64
+many-fits many text answered sessions h small =
+    let long = report-long 1 h.shown in
+    let same : length text ≡ length (shown_report true 1 h.shown) = ap length h.text_is in
+    let is = h.many_is in
+    omega arith
+
+-- the report on one session more
+report-snoc : (number : ℕ) (shown : List ShownSession) (s : ShownSession)
+    → shown_report true number (shown ++ s ∷ []) ≡ shown_report true number shown ++ (title_line (length shown + number) s.name ++ session_text s)
+report-snoc number [] s =
+    let place : number ≡ 0 + number = omega arith in
+    append-nil (title_line number s.name ++ session_text s) ∙ ap (λ n. title_line n s.name ++ session_text s) place
+report-snoc number (x ∷ shown) s =
+    let first = title_line number x.name ++ session_text x in
+    let rest = shown_report true (number + 1) shown in
+    let place : length shown + (number + 1) ≡ length (x ∷ shown) + number = omega arith in
+    ap (λ t. first ++ t) (report-snoc (number + 1) shown s) ∙ sym (append_assoc first rest (title_line (length shown + (number + 1)) s.name ++ session_text s))
+    ∙ ap (λ n. (first ++ rest) ++ (title_line n s.name ++ session_text s)) place
+
+-- sessions as they are shown, and one more
+shown-snoc : (sessions : List Named) (shown : List ShownSession) (named : Named) (s : ShownSession) → AreShown sessions shown → IsShownAs named s → AreShown (sessions ++ named ∷ []) (shown ++ s ∷ [])
+shown-snoc [] [] named s are is = (is, tt)
+shown-snoc [] (x ∷ shown) named s are is = absurd are
+shown-snoc (n ∷ sessions) [] named s are is = absurd are
+shown-snoc (n ∷ sessions) (x ∷ shown) named s are is = (are.0, shown-snoc sessions shown named s are.1 is)
+
+-- a session that is shown to its end stands behind those that have ended
+pub session-ended : (many : ℕ) (before : List ℕ) (were : Bool) (sessions : List Named) (named : Named) (text : List ℕ) (answered : Bool) → AreReported many before were sessions → IsShownWhole named text answered
+    → AreReported (many + 1) ((before ++ title_line (many + 1) named.name) ++ text) (were && answered) (sessions ++ named ∷ [])
+session-ended many before were sessions named text answered h last =
+    let s = last.shown in
+    let number : many + 1 ≡ length h.shown + 1 = ap (λ n. n + 1) h.many_is in
+    record {
+      shown = h.shown ++ s ∷ [];
+      are_shown = shown-snoc sessions h.shown named s h.are_shown last.is_shown;
+      many_is = number ∙ sym (length-append h.shown (s ∷ []));
+      text_is = append_assoc before (title_line (many + 1) named.name) text
+          ∙ ap (λ t. t ++ (title_line (many + 1) named.name ++ text)) h.text_is
+          ∙ ap (λ n. shown_report true 1 h.shown ++ (title_line n named.name ++ text)) number
+          ∙ ap (λ t. shown_report true 1 h.shown ++ (title_line (length h.shown + 1) named.name ++ t)) last.text_is
+          ∙ ap (λ name. shown_report true 1 h.shown ++ (title_line (length h.shown + 1) name ++ session_text s)) (sym last.is_shown.0)
+          ∙ sym (report-snoc 1 h.shown s);
+      answered_is = ap (λ b. b && answered) h.answered_is ∙ ap (λ b. are_answered h.shown && b) last.answered_is ∙ answered-snoc h.shown s;
+    }
+  where
+    answered-snoc : (shown : List ShownSession) (s : ShownSession) → (are_answered shown && is_end s.ending) ≡ are_answered (shown ++ s ∷ [])
+    answered-snoc shown s = by (is_end s.ending) ∙ sym (list_all-append (λ (x : ShownSession). is_end x.ending) shown (s ∷ []))
+      where
+        by : (b : Bool) → (are_answered shown && b) ≡ (are_answered shown && (b && true))
+        by true = refl
+        by false = refl
+
+-- ---- the report on all of them
+
+-- of several
+pub several-reported : (c : Captured) (many : ℕ) (text : List ℕ) (answered : Bool) → AreReported many text answered (sessions_of c.held) → c.is_several ≡ true → ShowReports c text answered
+several-reported c many text answered h several = record {
+  shown = h.shown;
+  are_shown = h.are_shown;
+  text_is = h.text_is ∙ ap (λ b. shown_report b 1 h.shown) (sym several);
+  answer_is = h.answered_is;
+}
+
+-- of the only one
+pub one-reported : (c : Captured) (text : List ℕ) (answered : Bool) → IsAlone c → c.is_several ≡ false → IsShownWhole c.held.last text answered → ShowReports c text answered
+one-reported c text answered alone one last =
+    let s = last.shown in
+    record {
+      shown = s ∷ [];
+      are_shown = subst (λ ended. AreShown (ended ++ c.held.last ∷ []) (s ∷ [])) (sym (alone one)) (last.is_shown, tt);
+      text_is = last.text_is ∙ sym (append-nil (session_text s)) ∙ ap (λ b. shown_report b 1 (s ∷ [])) (sym one);
+      answer_is = last.answered_is ∙ and-nothing (is_end s.ending);
+    }
+  where
+    and-nothing : (b : Bool) → b ≡ (b && true)
+    and-nothing true = refl
+    and-nothing false = refl

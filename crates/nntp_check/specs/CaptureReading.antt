@@ -1,13 +1,15 @@
 -- How far a capture has been read.
-use Rattle.std.specs.Prelude.{◌≡◌, ◌≢◌, ℕ, ◌+◌, ◌<◌, ◌≤◌, ◌^◌, true, List, [], ◌∷◌, ◌++◌, length, Option, Some, None, flat_map, ⊤}
+use Rattle.std.specs.Prelude.{◌≡◌, ◌≢◌, ℕ, ◌+◌, ◌<◌, ◌≤◌, ◌^◌, true, List, [], ◌∷◌, ◌++◌, length, Some, flat_map, ⊤}
 use Rattle.std.specs.List.{AllByRecursion, list_all}
 use Rattle.std.specs.Char.{is_ascii_digit}
 use Rattle.nntp_wire.specs.Number.{number_value}
-use Rattle.nntp_check.specs.Capture.{Part, word_of, spelled, IsPiece, count_of, given, octets_from, BeginsNoPiece, IsBadPieceForGood}
+use Rattle.nntp_check.specs.Capture.{Part, word_of, spelled, IsPiece, count_of, BeginsNoPiece, IsBadPieceForGood}
+use Rattle.nntp_check.specs.Capture.{Held, Captured, with_octets, with_another, has_session, at_piece, captured_by}
 use Rattle.nntp_check.specs.declared.source.Source.{Source}
-use Rattle.nntp_check.specs.declared.source.Source.TheVariants.{Client, Server, Spool}
 use Rattle.nntp_check.specs.declared.capture_reader.Place.{Place}
 use Rattle.nntp_check.specs.declared.capture_reader.Place.TheVariants as places
+use Rattle.nntp_check.specs.declared.capture_reader.Passage.{Passage}
+use Rattle.nntp_check.specs.declared.capture_reader.Passage.TheVariants.{FirstLine, NextSession, From}
 use Rattle.nntp_check.specs.declared.capture_reader.CaptureReader.{CaptureReader}
 
 -- only one word begins with these letters
@@ -42,12 +44,13 @@ pub record IsInOctets (octets : List ℕ) (begun : List Part) (source : Source) 
 abbrev pub IsAt : Place → List ℕ → List Part → Type 0
 IsAt places.Start octets begun = (octets ≡ []) × (begun ≡ [])
 IsAt places.LetterS octets begun = (octets ≡ 115 ∷ []) × (begun ≡ [])
+IsAt places.LettersSe octets begun = (octets ≡ 115 ∷ 101 ∷ []) × (begun ≡ [])
 IsAt (places.Word source rest) octets begun = IsInWord octets rest.now source × (begun ≡ [])
 IsAt (places.Digits source many value) octets begun = IsInDigits octets source many value × (begun ≡ [])
 IsAt (places.Octets source left) octets begun = IsInOctets octets begun source left
 
--- these octets came: whole pieces, the next of which has this number, and then what leads to this place; and these are the octets of each source among them
-pub record HasCome (number : ℕ) (place : Place) (came client server spool : List ℕ) : Type 0 where
+-- these octets came: whole pieces, the next of which has this number, and then what leads to this place; and this is what they are of a capture
+pub record HasCome (number : ℕ) (place : Place) (came : List ℕ) (captured : Captured) : Type 0 where
   pub parts : List Part
   pub each : AllByRecursion IsPiece parts
   pub number_is : number ≡ length parts + 1
@@ -55,9 +58,7 @@ pub record HasCome (number : ℕ) (place : Place) (came client server spool : Li
   pub begun : List Part
   pub at : IsAt place octets begun
   pub whole : came ≡ flat_map spelled parts ++ octets
-  pub from_client : client ≡ flat_map (octets_from Client) (parts ++ begun)
-  pub from_server : server ≡ flat_map (octets_from Server) (parts ++ begun)
-  pub from_spool : spool ≡ flat_map (octets_from Spool) (parts ++ begun)
+  pub captured_is : captured ≡ captured_by (parts ++ begun)
 
 -- a piece that has begun isn't whole
 abbrev pub IsOpen : Place → Type 0
@@ -69,19 +70,25 @@ abbrev pub IsInLine : Place → Type 0
 IsInLine (places.Octets source left) = ⊥
 IsInLine place = ⊤
 
--- these octets came to a reader, and these are the octets of each source among them
-abbrev pub HasRead : CaptureReader → List ℕ → List ℕ → List ℕ → List ℕ → Type 0
-HasRead reader came client server spool = HasCome reader.piece reader.place came client server spool × IsOpen reader.place
+-- what a reader has read, where this is what pieces hold
+abbrev pub captured : CaptureReader → Held → Captured
+captured reader held = record { held = held; is_several = reader.is_several }
+
+-- these octets came to a reader, and this is what they hold
+pub record HasRead (reader : CaptureReader) (came : List ℕ) (held : Held) : Type 0 where
+  pub come : HasCome reader.piece reader.place came (captured reader held)
+  pub is_open : IsOpen reader.place
+  pub session : reader.has_session ≡ has_session (captured reader held)
 
 -- ---- the next octets
 
 -- some octets lead to this place, with these fewer than 2^64
 abbrev pub HasRoomAt : ℕ → Place → List ℕ → Type 0
-HasRoomAt number place octets = (came : List ℕ) × (client : List ℕ) × (server : List ℕ) × (spool : List ℕ) × HasCome number place came client server spool × (length came + length octets < 2 ^ 64)
+HasRoomAt number place octets = (came : List ℕ) × (captured : Captured) × HasCome number place came captured × (length came + length octets < 2 ^ 64)
 
 -- the same of what came to a reader
 abbrev pub HasRoomFor : CaptureReader → List ℕ → Type 0
-HasRoomFor reader octets = (came : List ℕ) × (client : List ℕ) × (server : List ℕ) × (spool : List ℕ) × HasRead reader came client server spool × (length came + length octets < 2 ^ 64)
+HasRoomFor reader octets = (came : List ℕ) × (held : Held) × HasRead reader came held × (length came + length octets < 2 ^ 64)
 
 -- with the next octet of a first line no piece is there, whatever follows
 abbrev pub CantGoOn : Place → ℕ → Type 0
@@ -91,15 +98,20 @@ CantGoOn place octet = (line : List ℕ) → IsAt place line [] → (more : List
 abbrev pub GoesOn : Place → ℕ → Place → Type 0
 GoesOn place octet next = (line : List ℕ) → IsAt place line [] → (begun : List Part) × IsAt next (line ++ octet ∷ []) begun × (flat_map (λ p. p.octets) begun ≡ [])
 
--- octets of this source among some that are of one source, or of a first line
-abbrev pub taken_from : Source → Option Source → List ℕ → List ℕ
-taken_from source None octets = []
-taken_from source (Some other) octets = given source other octets
+-- what octets of a capture are at a place to which an octet of a first line leads
+abbrev pub reached : Place → Captured → Captured
+reached (places.Octets source left) c = at_piece source c
+reached place c = c
 
--- a reader took these octets, of one source or of a first line
-abbrev pub Reads : CaptureReader → CaptureReader → Option Source → List ℕ → Type 0
-Reads before after source front = (came client server spool : List ℕ) → HasRead before came client server spool
-    → HasRead after (came ++ front) (client ++ taken_from Client source front) (server ++ taken_from Server source front) (spool ++ taken_from Spool source front)
+-- what pieces hold with octets that are passed on
+abbrev pub passed : Passage → List ℕ → Held → Held
+passed FirstLine octets held = held
+passed NextSession octets held = with_another held
+passed (From source) octets held = with_octets source octets held
+
+-- a reader took these octets, which are of this kind
+abbrev pub Reads : CaptureReader → CaptureReader → Passage → List ℕ → Type 0
+Reads before after passage front = (came : List ℕ) (held : Held) → HasRead before came held → HasRead after (came ++ front) (passed passage front held)
 
 -- a front of the octets makes this piece bad, whatever follows, behind those that came
 pub record HasBadFront (came octets : List ℕ) (number : ℕ) : Type 0 where
@@ -110,4 +122,4 @@ pub record HasBadFront (came octets : List ℕ) (number : ℕ) : Type 0 where
 
 -- the same behind all that a reader took
 abbrev pub IsBadBehind : CaptureReader → List ℕ → ℕ → Type 0
-IsBadBehind reader octets number = (came client server spool : List ℕ) → HasRead reader came client server spool → HasBadFront came octets number
+IsBadBehind reader octets number = (came : List ℕ) (held : Held) → HasRead reader came held → HasBadFront came octets number

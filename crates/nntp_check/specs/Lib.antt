@@ -1,6 +1,7 @@
 pub mod Capture
 pub mod CaptureReading
 pub mod Sinks
+pub mod Collecting
 pub mod Report
 pub mod Show
 pub mod Showing

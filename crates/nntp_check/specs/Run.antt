@@ -1,26 +1,25 @@
 -- What a run reads and writes, at any reader and writer: known octets are those of the traits.
-use Rattle.std.specs.Prelude.{◌≡◌, ◌⊎◌, ℕ, ◌+◌, ◌≤◌, ◌<◌, ◌^◌, Bool, List, [], ◌++◌, length, take, Option, Result, Ok, Err}
+use Rattle.std.specs.Prelude.{◌≡◌, ◌⊎◌, ℕ, ◌+◌, ◌≤◌, ◌<◌, ◌^◌, Bool, true, false, List, [], ◌++◌, length, take, Option, Result, Ok, Err}
 use Rattle.std.specs.Io.KnownBytes.{Appends, Consumes, IsAtEnd}
 use Rattle.nntp_wire.specs.declared.limit.Limit.{Limit}
 use Rattle.nntp_wire.specs.declared.marks.Marks.{Marks}
-use Rattle.nntp_pair.specs.Pairing.{Paired, Ending, IsPairing}
 use Rattle.nntp_spool.specs.Faults.{IsFirstFault}
 use Rattle.nntp_article.specs.Session.Limit.{profile_of}
 use Rattle.nntp_spool.specs.Limited.{LimitedSpool, IsWithinLimit}
 use Rattle.nntp_spool.specs.Text.{spool_text}
-use Rattle.nntp_spool.specs.Verifying.{IsVerified}
 use Rattle.nntp_spool.specs.Watched.{inner_of}
 use Rattle.nntp_spool.specs.Writing.{Wrote}
 use Rattle.nntp_spool.specs.declared.text.read_fault.ReadFault.{ReadFault}
-use Rattle.nntp_spool.specs.declared.verification.verified.Verified.{Verified}
 use Rattle.nntp_spool.specs.declared.watched.Watched.{Watched}
-use Rattle.nntp_explain.specs.Explaining.{IsExplanation}
+use Rattle.nntp_several.specs.Sessions.{unnamed}
+use Rattle.nntp_several.specs.Verifying.{VerifiedOfAll, IsVerifiedOfAll}
+use Rattle.nntp_explain.specs.Explaining.{IsExplanation, IsExplanationOfAll}
 use Rattle.nntp_check.specs.CommandLine.{MatchFailure, MayEndWith}
-use Rattle.nntp_check.specs.Capture.{AreStreams, BeginsCapture, IsBadPieceForGood, IsBadPiece}
-use Rattle.nntp_verdict.specs.Judging.{IsVerdict}
-use Rattle.nntp_check.specs.Report.{report_of, verified_report, is_permitted}
-use Rattle.nntp_check.specs.Show.{shown_report, is_end}
-use Rattle.nntp_verdict.specs.Verdict.{Judgement, is_consistent}
+use Rattle.nntp_check.specs.Capture.{Captured, Held, sessions_of, AreCapture, BeginsCapture, IsBadPieceForGood, IsBadPiece}
+use Rattle.nntp_verdict.specs.Judging.{IsVerdictOfAll}
+use Rattle.nntp_check.specs.Report.{names_of, report_of, verified_report, is_permitted}
+use Rattle.nntp_check.specs.Show.{ShownSession, AreShown, shown_report, are_answered}
+use Rattle.nntp_verdict.specs.Verdict.{JudgementOfAll, is_consistent_of_all}
 use Rattle.nntp_check.specs.declared.command_line.Failure.{Failure}
 use Rattle.nntp_check.specs.declared.command_line.Task.{Task}
 use Rattle.nntp_check.specs.declared.run_fault.RunFault.{RunFault}
@@ -76,11 +75,11 @@ pub record ReadsMore (input : Input) : Type 0 where
   pub near : length octets ≤ input.most + 2 ^ 16
   pub begun : BeginsCapture (take input.most octets)
 
--- what was read is a capture of these streams
-pub record ReadsCapture (input : Input) (client server spool : List ℕ) : Type 0 where
+-- what was read is this capture
+pub record ReadsCapture (input : Input) (captured : Captured) : Type 0 where
   pub octets : List ℕ
   pub all : ReadsAll input octets
-  pub capture : AreStreams octets client server spool
+  pub capture : AreCapture octets captured
 
 -- what was read has this bad piece: a front of it, of no more octets than may be, whatever follows; or all of it, if the input ends there. No more is behind the front than one read gives
 pub record ReadsBadPiece (input : Input) (piece : ℕ) : Type 0 where
@@ -100,67 +99,65 @@ IsInputFault input (faults.Spool fault) = ⊥
 IsInputFault input faults.Memory = ReadsFrontBut input
 IsInputFault input faults.Write = ⊥
 
--- the report of `check` on a client's and a server's octets, by the limit and the marks, and its answer
-pub record CheckReports (limit : Limit) (marks : Marks) (client server spool text : List ℕ) (answer : Bool) : Type 0 where
-  pub judgement : Judgement
-  pub verdict : IsVerdict limit marks client server judgement
-  pub text_is : text ≡ report_of judgement
-  pub answer_is : answer ≡ is_consistent judgement
+-- the report of `check` on the sessions of a capture, by the limit and the marks, and its answer
+pub record CheckReports (limit : Limit) (marks : Marks) (c : Captured) (text : List ℕ) (answer : Bool) : Type 0 where
+  pub judgement : JudgementOfAll
+  pub verdict : IsVerdictOfAll limit marks (unnamed (sessions_of c.held)) judgement
+  pub text_is : text ≡ report_of c.is_several (names_of (sessions_of c.held)) judgement
+  pub answer_is : answer ≡ is_consistent_of_all judgement
 
--- the report of `verify` on them and on a spool's text, by the spool's limit and by the marks, and its answer
-pub record VerifyReports (marks : Marks) (client server spool text : List ℕ) (answer : Bool) : Type 0 where
+-- the report of `verify` on them and on the spool's text, by the spool's limit and by the marks, and its answer
+pub record VerifyReports (marks : Marks) (c : Captured) (text : List ℕ) (answer : Bool) : Type 0 where
   pub value : LimitedSpool
   pub is_spool : IsWithinLimit value
-  pub spool_is : spool ≡ spool_text value
-  pub verified : Verified
-  pub exact : IsVerified (profile_of value.limit marks) value.spool client server verified
-  pub text_is : text ≡ verified_report verified
+  pub spool_is : c.held.spool ≡ spool_text value
+  pub verified : VerifiedOfAll
+  pub exact : IsVerifiedOfAll (profile_of value.limit marks) value.spool (unnamed (sessions_of c.held)) verified
+  pub text_is : text ≡ verified_report c.is_several (names_of (sessions_of c.held)) verified
   pub answer_is : answer ≡ is_permitted verified
 
 -- the report of `show` on them, and its answer: the spool's text makes no difference
-pub record ShowReports (client server spool text : List ℕ) (answer : Bool) : Type 0 where
-  pub pairs : List Paired
-  pub ending : Ending
-  pub pairing : IsPairing client server pairs ending
-  pub text_is : text ≡ shown_report pairs ending
-  pub answer_is : answer ≡ is_end ending
+pub record ShowReports (c : Captured) (text : List ℕ) (answer : Bool) : Type 0 where
+  pub shown : List ShownSession
+  pub are_shown : AreShown (sessions_of c.held) shown
+  pub text_is : text ≡ shown_report c.is_several 1 shown
+  pub answer_is : answer ≡ are_answered shown
+
+-- the report of `explain` on what pieces hold: on several sessions, or on the only one
+abbrev pub ExplainsHeld : Limit → Marks → Bool → Held → List ℕ → Bool → Type 0
+ExplainsHeld limit marks true held text answer = IsExplanationOfAll limit marks (sessions_of held) text answer
+ExplainsHeld limit marks false held text answer = IsExplanation limit marks held.last.session.client held.last.session.server text answer
 
 -- the report of `explain` on them, by the limit and the marks, and its answer: the spool's text makes no difference
-abbrev pub ExplainReports : Limit → Marks → List ℕ → List ℕ → List ℕ → List ℕ → Bool → Type 0
-ExplainReports limit marks client server spool text answer = IsExplanation limit marks client server text answer
+abbrev pub ExplainReports : Limit → Marks → Captured → List ℕ → Bool → Type 0
+ExplainReports limit marks c text answer = ExplainsHeld limit marks c.is_several c.held text answer
 
 -- what was read is a capture, and what was written is the report on it
-pub record IsReported (Reports : List ℕ → List ℕ → List ℕ → List ℕ → Bool → Type 0) (input : Input) (output : Output) (answer : Bool) : Type 0 where
-  pub client : List ℕ
-  pub server : List ℕ
-  pub spool : List ℕ
-  pub capture : ReadsCapture input client server spool
+pub record IsReported (Reports : Captured → List ℕ → Bool → Type 0) (input : Input) (output : Output) (answer : Bool) : Type 0 where
+  pub captured : Captured
+  pub capture : ReadsCapture input captured
   pub text : List ℕ
-  pub reports : Reports client server spool text answer
+  pub reports : Reports captured text answer
   pub whole : Appends output.before output.after text
 
 -- the writer took a front of the report
-pub record IsCutShort (Reports : List ℕ → List ℕ → List ℕ → List ℕ → Bool → Type 0) (input : Input) (output : Output) : Type 0 where
-  pub client : List ℕ
-  pub server : List ℕ
-  pub spool : List ℕ
-  pub capture : ReadsCapture input client server spool
+pub record IsCutShort (Reports : Captured → List ℕ → Bool → Type 0) (input : Input) (output : Output) : Type 0 where
+  pub captured : Captured
+  pub capture : ReadsCapture input captured
   pub text : List ℕ
   pub answer : Bool
-  pub reports : Reports client server spool text answer
+  pub reports : Reports captured text answer
   pub left : List ℕ
   pub front : Wrote output.before output.after text left
 
 -- what was read is a capture, and its spool pieces are the text of no spool, by this fault
 pub record ReadsNoSpool (input : Input) (fault : ReadFault) : Type 0 where
-  pub client : List ℕ
-  pub server : List ℕ
-  pub spool : List ℕ
-  pub capture : ReadsCapture input client server spool
-  pub first : IsFirstFault spool fault
+  pub captured : Captured
+  pub capture : ReadsCapture input captured
+  pub first : IsFirstFault captured.held.spool fault
 
 -- why a run that reads no spool gives no answer: a fault of the input, or a report that is cut short
-abbrev pub IsFaultOf : (List ℕ → List ℕ → List ℕ → List ℕ → Bool → Type 0) → Input → Output → RunFault → Type 0
+abbrev pub IsFaultOf : (Captured → List ℕ → Bool → Type 0) → Input → Output → RunFault → Type 0
 IsFaultOf Reports input output faults.Write = IsCutShort Reports input output
 IsFaultOf Reports input output fault = IsInputFault input fault
 
@@ -182,7 +179,7 @@ abbrev pub IsExplainFault : Limit → Marks → Input → Output → RunFault �
 IsExplainFault limit marks = IsFaultOf (ExplainReports limit marks)
 
 -- the report of a task, and its answer
-abbrev pub TaskReports : Task → List ℕ → List ℕ → List ℕ → List ℕ → Bool → Type 0
+abbrev pub TaskReports : Task → Captured → List ℕ → Bool → Type 0
 TaskReports (tasks.Check limit marks) = CheckReports limit marks
 TaskReports (tasks.Verify marks) = VerifyReports marks
 TaskReports tasks.Show = ShowReports

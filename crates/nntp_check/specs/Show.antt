@@ -1,8 +1,9 @@
--- What `show` prints of a session: its exchanges, and how their pairing ends.
-use Rattle.std.specs.Prelude.{ℕ, Bool, true, false, ◌==◌, ◌||◌, if◌then◌else◌, List, [], ◌∷◌, ◌++◌, length, Option, None, Some, codes, decimal}
-use Rattle.std.specs.List.{flat_map, list_any}
+-- What `show` prints of sessions: their exchanges, and how their pairings end.
+use Rattle.std.specs.Prelude.{◌≡◌, ℕ, ◌+◌, ⊤, Bool, true, false, ◌==◌, ◌||◌, if◌then◌else◌, List, [], ◌∷◌, ◌++◌, length, Option, None, Some, codes, decimal}
+use Rattle.std.specs.List.{flat_map, list_all, list_any}
 use Rattle.nntp_wire.specs.Answer.{Response, group_is, numbers_are, sends, active_are, plain}
-use Rattle.nntp_pair.specs.Pairing.{Paired, Ending, end, bad}
+use Rattle.nntp_pair.specs.Pairing.{Paired, Ending, IsPairing, end, bad}
+use Rattle.nntp_several.specs.Sessions.{Named}
 use Rattle.nntp_article.specs.Article.Parts.{Line, is_empty, is_head, head_part}
 use Rattle.nntp_article.specs.Article.Control.{ControlValue, cancel, new_group, rm_group, other, controls_of}
 use Rattle.nntp_article.specs.Article.Required.{missing_of}
@@ -10,6 +11,8 @@ use Rattle.nntp_article.specs.declared.article.missing_headers.Missing.{Missing}
 use Rattle.nntp_pair.specs.Classes.{class_of}
 use Rattle.nntp_printing.specs.BadAnswer.{bad_line}
 use Rattle.nntp_printing.specs.Printing.{escaped}
+use Rattle.nntp_printing.specs.Title.{title_line}
+use Rattle.nntp_check.specs.Report.{if_several}
 
 -- what is answered: the greeting, or the line of the client
 abbrev pub prompt_text : Option (List ℕ) → List ℕ
@@ -102,11 +105,36 @@ abbrev pub ending_line : ℕ → Ending → List ℕ
 ending_line answers (end unanswered) = end_line answers unanswered
 ending_line answers (bad class) = bad_line answers (class_of class)
 
--- the report on a session: its exchanges, and how it ends
-abbrev pub shown_report : List Paired → Ending → List ℕ
-shown_report pairs ending = flat_map exchange_text pairs ++ ending_line (length pairs) ending
-
 -- no octet of the server is left
 abbrev pub is_end : Ending → Bool
 is_end (end unanswered) = true
 is_end (bad class) = false
+
+-- a session as it is shown: its name, its exchanges, and how their pairing ends
+pub record ShownSession : Type 0 where
+  pub name : List ℕ
+  pub pairs : List Paired
+  pub ending : Ending
+
+-- its lines
+abbrev pub session_text : ShownSession → List ℕ
+session_text s = flat_map exchange_text s.pairs ++ ending_line (length s.pairs) s.ending
+
+-- this is a session as it is shown
+abbrev pub IsShownAs : Named → ShownSession → Type 0
+IsShownAs named s = (s.name ≡ named.name) × IsPairing named.session.client named.session.server s.pairs s.ending
+
+-- these are sessions as they are shown
+abbrev pub AreShown : List Named → List ShownSession → Type 0
+AreShown [] [] = ⊤
+AreShown (named ∷ more) (s ∷ shown) = IsShownAs named s × AreShown more shown
+AreShown sessions shown = ⊥
+
+-- the report on sessions, of which the first has this number: the lines of each, of several behind its title
+abbrev pub shown_report : Bool → ℕ → List ShownSession → List ℕ
+shown_report is_several number [] = []
+shown_report is_several number (s ∷ shown) = if_several is_several (title_line number s.name) ++ session_text s ++ shown_report is_several (number + 1) shown
+
+-- no octet of a server is left
+abbrev pub are_answered : List ShownSession → Bool
+are_answered shown = list_all (λ (s : ShownSession). is_end s.ending) shown

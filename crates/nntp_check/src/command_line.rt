@@ -12,13 +12,13 @@ use thiserror::Error;
 /// What the words ask for.
 #[derive(Clone, Copy, Debug, PartialEq, Eq)]
 pub enum Task {
-    /// Judge a session by the limit and the marks, as `run_check` does.
+    /// Judge the sessions of a capture by the limit and the marks, as `run_check` does.
     Check { limit: Limit, marks: Marks },
-    /// Tell whether a given spool explains a session, as `run_verify` does, by the marks.
+    /// Tell whether a given spool explains them, as `run_verify` does, by the marks.
     Verify { marks: Marks },
-    /// Show a session as a reader sees it, as `run_show` does.
+    /// Show them as a reader sees them, as `run_show` does.
     Show,
-    /// Tell all that is bad of a session by the limit and the marks, as `run_explain` does.
+    /// Tell all that is bad of them by the limit and the marks, as `run_explain` does.
     Explain { limit: Limit, marks: Marks },
 }
 
@@ -26,22 +26,25 @@ pub enum Task {
 const CHECK_HELP: &str = "\
 Reads a capture from standard input, to its end, and passes over its spool pieces.
 Writes to standard output how many answers are consistent, and a spool; or the bad answer with its
-class, the command that it answers, and the reply.
-Exit status: 0 if a spool explains the session, 1 if none does, 2 if the command line is refused,
+class, the command that it answers, and the reply. Several sessions are judged together, and the bad
+answer stands behind the number and the name of its session.
+Exit status: 0 if a spool explains all sessions, 1 if none does, 2 if the command line is refused,
 3 after a fault, which is told on standard error.";
 
 const VERIFY_HELP: &str = "\
 Reads a capture from standard input, to its end; its joined spool pieces are the text of a spool, which
 says how large article numbers may be.
-Writes to standard output one line: how many answers the spool permits, or the first that it doesn't.
-Exit status: 0 if the spool explains the session, 1 if it doesn't, 2 if the command line is refused,
+Writes to standard output how many answers the spool permits, or the first that it doesn't; of several
+sessions that stands behind the number and the name of its session.
+Exit status: 0 if the spool explains all sessions, 1 if it doesn't, 2 if the command line is refused,
 3 after a fault, which is told on standard error.";
 
 const SHOW_HELP: &str = "\
 Reads a capture from standard input, to its end, and passes over its spool pieces.
 Writes to standard output a line for each answer, with the command line that it answers, and under
 it the group that it names, or what the head that it sends says: its control messages, and which
-required headers are missing. The last line tells how the session ends.
+required headers are missing. The last line tells how the session ends. Each of several sessions stands
+behind its number and its name.
 A capture has all that was sent, passwords too, and this prints them.
 Exit status: 0 if all octets of the server are answers, 1 if some are not, 2 if the command line is
 refused, 3 after a fault, which is told on standard error.";
@@ -49,8 +52,9 @@ refused, 3 after a fault, which is told on standard error.";
 const EXPLAIN_HELP: &str = "\
 Reads a capture from standard input, to its end, and passes over its spool pieces.
 Writes to standard output each bad answer with its class, the command that it answers, and the reply,
-and where the session stands there: the selected group, the current article, and the answers that made
-them so. A bad answer is passed over, so that what follows is judged too. The last line tells how many
+and where its session stands there: the selected group, the current article, and the answers that made
+them so. A bad answer is passed over, so that what follows is judged too. Several sessions are judged
+together, and the bad answers of each stand behind its number and its name. The last line tells how many
 answers there are, how many of them are bad, and how many commands have none.
 Exit status: 0 if no answer is bad, 1 if some are, 2 if the command line is refused, 3 after a fault,
 which is told on standard error.";
@@ -117,7 +121,7 @@ fn strict_marks<'a>(alloc: Global) -> Arg<'a> {
 fn check<'a>(alloc: Global) -> Result<Command<'a>, AllocError> {
     Command::new(alloc, "check")
         .about(
-            "Judge the capture on standard input: write a spool that explains the session, or name the first answer that none explains",
+            "Judge the capture on standard input: write a spool that explains its sessions, or name the first answer that none explains",
         )
         .override_usage("nntpcheck check [OPTIONS] < CAPTURE")
         .after_help(CHECK_HELP)
@@ -129,7 +133,7 @@ fn check<'a>(alloc: Global) -> Result<Command<'a>, AllocError> {
 fn verify<'a>(alloc: Global) -> Result<Command<'a>, AllocError> {
     Command::new(alloc, "verify")
         .about(
-            "Tell whether the spool in the capture on standard input explains its session, or name the first answer that it doesn't explain",
+            "Tell whether the spool in the capture on standard input explains its sessions, or name the first answer that it doesn't explain",
         )
         .override_usage("nntpcheck verify [OPTIONS] < CAPTURE")
         .after_help(VERIFY_HELP)
@@ -140,7 +144,7 @@ fn verify<'a>(alloc: Global) -> Result<Command<'a>, AllocError> {
 fn show<'a>(alloc: Global) -> Command<'a> {
     Command::new(alloc, "show")
         .about(
-            "Show the session of the capture on standard input as a reader sees it, and judge nothing else",
+            "Show the sessions of the capture on standard input as a reader sees them, and judge nothing else",
         )
         .override_usage("nntpcheck show < CAPTURE")
         .after_help(SHOW_HELP)
@@ -150,7 +154,7 @@ fn show<'a>(alloc: Global) -> Command<'a> {
 fn explain<'a>(alloc: Global) -> Result<Command<'a>, AllocError> {
     Command::new(alloc, "explain")
         .about(
-            "Tell all bad answers of the session in the capture on standard input, and where the session stands at each",
+            "Tell all bad answers of the sessions in the capture on standard input, and where its session stands at each",
         )
         .override_usage("nntpcheck explain [OPTIONS] < CAPTURE")
         .after_help(EXPLAIN_HELP)

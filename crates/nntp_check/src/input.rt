@@ -1,27 +1,31 @@
 //! What a run reads: a capture, to its end.
 ghost use Rattle.std.specs.Prelude.{◌≡◌, ◌↔◌, ◌<◌, [], ℕ, List, length, false, true, IfOk, OnOk, IfErr, IsErrOf};
+ghost use Rattle.nntp_pair.specs.declared.pair_error.PairError.TheVariants.{Memory};
 ghost use Rattle.nntp_spool.specs.Watched.{has_failed_of};
+ghost use Rattle.nntp_check.specs.Capture.{Held, nothing};
 ghost use Rattle.nntp_check.specs.Run.{read_by, ReadsCapture, IsInputFault};
-ghost use Rattle.nntp_check.specs.Sinks.{FitBehind, PassesOn, StopsBehind};
+ghost use Rattle.nntp_check.specs.Sinks.{FitBehind, HasRoom, PassesOn, StopsBehind, Takes};
 
-use crate::capture_reader::CaptureReader;
+use crate::capture_reader::{CaptureReader, Passage};
 use crate::run_fault::RunFault;
 use crate::sink::Sink;
+use nntp_pair::PairError;
 use nntp_spool::Watched;
 use std::io::Read;
 
 /// How many octets are asked for at a read.
 const READ_OCTETS: usize = 1 << 16;
 
-/// Reads the capture that the input has into a sink, at most `most` octets. Behind a fault nothing more is read.
+/// Reads the capture that the input has into a sink, at most `most` octets, and tells whether a piece of it begins a
+/// session. Behind a fault nothing more is read.
 pub(crate) fn read_capture<R: Read, S: Sink>(
     input: &mut Watched<R>,
     sink: &mut S,
     most: u64,
-) -> Result<(), RunFault>
-    requires { (by : S.By) × S.stands by sink.old [] [] [] }
-    ensures ok { OnOk result ((by : S.By) → S.stands by sink.old [] [] []
-        → (client : List ℕ) × (server : List ℕ) × (spool : List ℕ) × ReadsCapture (read_by R.remaining input.old input.new most) client server spool × S.stands by sink.new client server spool) }
+) -> Result<bool, RunFault>
+    requires { (by : S.By) × S.stands by sink.old nothing }
+    ensures ok { IfOk result (λ is_several. (by : S.By) → S.stands by sink.old nothing
+        → (held : Held) × ReadsCapture (read_by R.remaining input.old input.new most) (record { held = held; is_several = is_several }) × S.stands by sink.new held) }
     ensures err { IfErr result (IsInputFault (read_by R.remaining input.old input.new most)) }
     ensures failed { has_failed_of input.old ≡ false → (IsErrOf result RunFault.Read ↔ (has_failed_of input.new ≡ true)) }
 {
@@ -33,8 +37,7 @@ pub(crate) fn read_capture<R: Read, S: Sink>(
             return Err(RunFault::Read);
         };
         if count == 0 {
-            reader.finish()?;
-            return Ok(());
+            return Ok(reader.finish()?);
         }
         let fitting = (count as u64).min(most - came);
         pass_on(&mut reader, sink, &buffer[..fitting as usize])?;
@@ -70,8 +73,19 @@ fn pass_front<'a, S: Sink>(
     ensures err { IfErr result (λ fault. (by : S.By) → StopsBehind reader.old (S.stands by sink.old) octets.now fault) }
 {
     let taken = reader.take(octets)?;
-    if let Some(source) = taken.source {
-        sink.take(source, taken.octets)?;
-    }
+    pass(sink, taken.passage, taken.octets)?;
     Ok(taken.rest)
+}
+
+/// Passes octets on to a sink, if they are of a source, and where the next session begins.
+fn pass<S: Sink>(sink: &mut S, passage: Passage, octets: &[u8]) -> Result<(), PairError>
+    requires { (by : S.By) × HasRoom (S.stands by sink.old) octets.now }
+    ensures ok { OnOk result ((by : S.By) → Takes (S.stands by sink.old) (S.stands by sink.new) passage octets.now) }
+    ensures err { IfErr result (λ error. error ≡ Memory) }
+{
+    match passage {
+        Passage::FirstLine => Ok(()),
+        Passage::NextSession => sink.begin_session(),
+        Passage::From(source) => sink.take(source, octets),
+    }
 }

@@ -1,6 +1,12 @@
 //! Laws of captures: octets are pieces, one after the other, in one way. And those of verdicts.
-ghost use Rattle.std.specs.Prelude.{◌≡◌, ◌++◌, ◌⊎◌, ℕ, List};
-ghost use Rattle.nntp_check.specs.Capture.{AreStreams, BeginsCapture, IsBadPieceForGood, IsBadPiece, IsCapture, IsPiece, Part, spelled};
+ghost use Rattle.std.specs.Prelude.{◌≡◌, ◌++◌, ◌⊎◌, ◌↔◌, [], ℕ, Bool, List, false};
+ghost use Rattle.nntp_check.specs.Capture.{AreCapture, BeginsCapture, Captured, IsBadPieceForGood, IsBadPiece, IsCapture, IsPiece, Part, spelled};
+ghost use Rattle.nntp_check.specs.Report.{report_of};
+ghost use Rattle.nntp_check.specs.Run.{CheckReports};
+ghost use Rattle.nntp_verdict.specs.Judging.{IsVerdict};
+ghost use Rattle.nntp_verdict.specs.Verdict.{Judgement, is_consistent, verdict_of_one};
+ghost use Rattle.nntp_wire.specs.declared.limit.Limit.{Limit};
+ghost use Rattle.nntp_wire.specs.declared.marks.Marks.{Marks};
 
 pub use nntp_verdict::laws::{
     bad_for_good_stays, one_is_told_bad, one_verdict, yes_where_a_spool_explains,
@@ -22,11 +28,9 @@ pub fn never_both()
     ensures { (octets : List ℕ) (number : ℕ) → IsCapture octets → ¬ (IsBadPiece octets number) }
 {}
 
-/// A capture has one stream of each source.
+/// Octets are one capture.
 pub fn one_capture()
-    ensures { (octets client other_client server other_server spool other_spool : List ℕ)
-        → AreStreams octets client server spool → AreStreams octets other_client other_server other_spool
-        → (client ≡ other_client) × (server ≡ other_server) × (spool ≡ other_spool) }
+    ensures { (octets : List ℕ) (captured other : Captured) → AreCapture octets captured → AreCapture octets other → captured ≡ other }
 {}
 
 /// One piece is the first that is bad.
@@ -42,4 +46,13 @@ pub fn begun_or_bad()
 /// A piece that is bad whatever follows stays bad, and the octets begin no capture.
 pub fn bad_piece_for_good()
     ensures { (octets : List ℕ) (number : ℕ) → IsBadPieceForGood octets number → ((more : List ℕ) → IsBadPieceForGood (octets ++ more) number) × (¬ (BeginsCapture octets)) }
+{}
+
+/// Where no piece of a capture begins a session, there is one, and the report of `check` is that of the verdict on its two
+/// streams.
+pub fn one_session_is_reported_alone()
+    ensures alone { (octets : List ℕ) (c : Captured) → AreCapture octets c → c.is_several ≡ false → c.held.ended ≡ [] }
+    ensures report { (limit : Limit) (marks : Marks) (c : Captured) (verdict : Judgement) (text : List ℕ) (answer : Bool) → c.is_several ≡ false → c.held.ended ≡ []
+        → IsVerdict limit marks c.held.last.session.client c.held.last.session.server verdict
+        → CheckReports limit marks c text answer ↔ ((text ≡ report_of false [] (verdict_of_one verdict)) × (answer ≡ is_consistent verdict)) }
 {}

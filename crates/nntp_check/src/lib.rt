@@ -2,13 +2,13 @@
 //!
 //! `check` judges the two streams of a session, `check_sessions` those of several of one spool, and `Checker` judges
 //! them as they come. `run_check` judges those of a capture and writes the report on them; `run_verify` tells whether
-//! the spool of a capture explains its session; `run_show` writes the session as a reader sees it; `run_explain` writes
-//! all that is bad of it; `run_task` does what a command line asks for. `job` and `status` are the program's command
-//! line and its exit status, and `run_program` is all that `main` does.
+//! the spool of a capture explains its sessions; `run_show` writes the sessions as a reader sees them; `run_explain`
+//! writes all that is bad of them; `run_task` does what a command line asks for. `job` and `status` are the program's
+//! command line and its exit status, and `run_program` is all that `main` does.
 #![tactic(auto)]
 
+mod capture_checker;
 mod capture_reader;
-mod checker_sink;
 mod command_line;
 mod input;
 pub mod laws;
@@ -24,8 +24,9 @@ mod streams;
 
 pub use command_line::{Failure, Task, job, refusal, status};
 pub use nntp_pair::{Class, PairError as CheckError};
+pub use nntp_several::Recorded;
 pub use nntp_spool::{Counts, Kind, ReadFault, Spool, Watched, WriteFault};
-pub use nntp_verdict::{Checker, Recorded, SessionsVerdict, Verdict, check, check_sessions};
+pub use nntp_verdict::{Checker, SessionsVerdict, Verdict, check, check_sessions};
 pub use nntp_wire::{Limit, Marks};
 pub use program::run_program;
 pub use run::{run_check, run_explain, run_show, run_task, run_verify};

@@ -1,92 +1,161 @@
 //! The reports of `check` and `verify`.
-ghost use Rattle.std.specs.Prelude.{◌≡◌, ◌++◌, ◌||◌, is_err, IfOk, codes, decimal};
+ghost use Rattle.std.specs.Prelude.{◌≡◌, ◌+◌, ◌<◌, ◌^◌, ◌++◌, ◌||◌, is_err, IfOk, OnOk, codes, decimal, length, sum};
+ghost use Rattle.std.specs.Option.{option_copied, option_map};
+ghost use Rattle.nntp_printing.specs.Title.{title_line};
+ghost use Rattle.nntp_several.specs.VerifyingView.{verified_shown};
 ghost use Rattle.nntp_spool.specs.Watched.{inner_of, has_failed_of};
 ghost use Rattle.nntp_spool.specs.Writing.{Writes};
-ghost use Rattle.nntp_check.specs.Report.{report_of, text_behind, verified_report};
-ghost use Rattle.nntp_verdict.specs.Verdict.{verdict_shown};
+ghost use Rattle.nntp_wire.specs.Held.{held as names_in};
+ghost use Rattle.nntp_check.specs.Report.{IsVerifiedWithin, IsWithin, answers_text, if_several, names_of, report_of, text_behind, verified_report};
+ghost use Rattle.nntp_verdict.specs.Verdict.{sessions_verdict_shown};
 
-use itoa::Buffer;
-use nntp_printing::{put_bad_answer, put_number};
-use nntp_spool::{Counts, Verified, Watched, WriteFault};
-use nntp_verdict::Verdict;
+use nntp_printing::{put_bad_answer, put_number, put_sum, put_title};
+use nntp_several::{Named, VerifiedSessions};
+use nntp_spool::{Counts, Watched, WriteFault};
+use nntp_verdict::SessionsVerdict;
 use std::alloc::{AllocError, Allocator};
 use std::io::Write;
 
-/// The lines of the report on a verdict that stand before the spool's text, or all of them where there is none.
+/// The lines of the report on a verdict that stand before the spool's text, or all of them where there is none. What is
+/// told of several sessions alone is told if these are several, and their names are these.
 pub(crate) fn first_lines<A: Allocator + Copy>(
     alloc: A,
-    verdict: &Verdict<A>,
+    is_several: bool,
+    names: &[Vec<u8, A>],
+    verdict: &SessionsVerdict<A>,
 ) -> Result<Vec<u8, A>, AllocError>
-    ensures { IfOk result (λ first. first.items ++ text_behind (verdict_shown verdict.now) ≡ report_of (verdict_shown verdict.now)) }
+    requires { IsWithin (length names.now) (sessions_verdict_shown verdict.now) }
+    ensures { IfOk result (λ first. first.items ++ text_behind (sessions_verdict_shown verdict.now)
+        ≡ report_of is_several (names_in names.now) (sessions_verdict_shown verdict.now)) }
 {
+    let mut text = Vec::new(alloc);
     match verdict {
-        Verdict::Consistent { spool, answers } => consistent_line(alloc, *answers, spool.counts()),
-        Verdict::Bad {
+        SessionsVerdict::Consistent { spool, answers } => {
+            put_consistent(&mut text, is_several, answers, spool.counts())?;
+            Ok(text)
+        }
+        SessionsVerdict::Bad {
+            session,
             answer,
             class,
             command,
             reply,
         } => {
-            let command = match command {
-                Some(line) => Some(line.as_slice()),
-                None => None,
-            };
-            let mut text = Vec::new(alloc);
-            put_bad_answer(&mut text, *answer, *class, command, reply)?;
+            let name = &names[*session as usize];
+            put_title_if(&mut text, is_several, *session, name)?;
+            put_bad_answer(&mut text, *answer, *class, line_of(command), reply)?;
             Ok(text)
         }
     }
 }
 
-/// Writes what of the report on a verdict stands behind its first lines: the text of the spool, where there is one.
-pub(crate) fn put_text_behind<A: Allocator, W: Write>(
-    verdict: &Verdict<A>,
-    output: &mut Watched<W>,
-) -> Result<(), WriteFault>
-    ensures text { Writes result (W.contents (inner_of output.old)) (W.contents (inner_of output.new)) (text_behind (verdict_shown verdict.now)) }
-    ensures failed { has_failed_of output.new ≡ (has_failed_of output.old || is_err result) }
+/// The line of the client that a verdict shows.
+fn line_of<A: Allocator>(command: &Option<Vec<u8, A>>) -> Option<&[u8]>
+    ensures { option_copied result ≡ option_map (λ line. line.items) command.now }
 {
-    match verdict {
-        Verdict::Consistent { spool, .. } => spool.write(output),
-        Verdict::Bad { .. } => Ok(()),
+    match command {
+        Some(line) => Some(line.as_slice()),
+        None => None,
     }
 }
 
-/// The report on what `verify` answers.
+/// Writes what of the report on a verdict stands behind its first lines: the text of the spool, where there is one.
+pub(crate) fn put_text_behind<A: Allocator, W: Write>(
+    verdict: &SessionsVerdict<A>,
+    output: &mut Watched<W>,
+) -> Result<(), WriteFault>
+    ensures text { Writes result (W.contents (inner_of output.old)) (W.contents (inner_of output.new)) (text_behind (sessions_verdict_shown verdict.now)) }
+    ensures failed { has_failed_of output.new ≡ (has_failed_of output.old || is_err result) }
+{
+    match verdict {
+        SessionsVerdict::Consistent { spool, .. } => spool.write(output),
+        SessionsVerdict::Bad { .. } => Ok(()),
+    }
+}
+
+/// The report on what `verify` answers of these sessions.
 pub(crate) fn verified_report<A: Allocator + Copy>(
     alloc: A,
-    verified: Verified,
+    is_several: bool,
+    sessions: &[Named<'_>],
+    verified: &VerifiedSessions<A>,
 ) -> Result<Vec<u8, A>, AllocError>
-    ensures { IfOk result (λ text. text.items ≡ verified_report verified) }
+    requires { IsVerifiedWithin (length sessions.now) (verified_shown verified.now) }
+    ensures { IfOk result (λ text. text.items ≡ verified_report is_several (names_of sessions.now) (verified_shown verified.now)) }
 {
-    let (label, number): (&[u8], u64) = match verified {
-        Verified::Permits { answers } => (b"permits answers=", answers),
-        Verified::Refuses { index } => (b"refuses answer ", index),
-    };
     let mut text = Vec::new(alloc);
-    put_number(&mut text, label, number)?;
+    match verified {
+        VerifiedSessions::Permits { answers } => {
+            text.extend_from_slice(b"permits ")?;
+            put_answers(&mut text, is_several, answers)?;
+        }
+        VerifiedSessions::Refuses { session, index } => {
+            let named = &sessions[*session as usize];
+            put_title_if(&mut text, is_several, *session, named.name)?;
+            put_number(&mut text, b"refuses answer ", *index)?;
+        }
+    }
     text.push(b'\n')?;
     Ok(text)
 }
 
-/// How much explains how many answers.
-fn consistent_line<A: Allocator + Copy>(
-    alloc: A,
-    answers: u64,
+/// Adds the title of this session, counted from 0, if there are several.
+fn put_title_if<A: Allocator + Copy>(
+    text: &mut Vec<u8, A>,
+    is_several: bool,
+    session: u64,
+    name: &[u8],
+) -> Result<(), AllocError>
+    requires { session + 1 < 2 ^ 64 }
+    ensures { OnOk result (text.new.items ≡ text.old.items ++ if_several is_several (title_line (session + 1) name.now)) }
+{
+    if is_several {
+        put_title(text, session + 1, name)?;
+    }
+    Ok(())
+}
+
+/// Adds how much explains how many answers.
+fn put_consistent<A: Allocator + Copy>(
+    text: &mut Vec<u8, A>,
+    is_several: bool,
+    answers: &[u64],
     counts: Counts,
-) -> Result<Vec<u8, A>, AllocError>
-    ensures { IfOk result (λ text. text.items ≡ codes "consistent answers=" ++ decimal answers ++ codes " groups=" ++ decimal counts.groups
+) -> Result<(), AllocError>
+    ensures { OnOk result (text.new.items ≡ text.old.items ++ codes "consistent " ++ answers_text is_several answers.now ++ codes " groups=" ++ decimal counts.groups
         ++ codes " numbers=" ++ decimal counts.numbers ++ codes " articles=" ++ decimal counts.articles ++ codes "\n") }
 {
-    let mut buffer = Buffer::new();
-    let mut text = Vec::from_slice(alloc, b"consistent answers=")?;
-    text.extend_from_slice(buffer.format(answers).as_bytes())?;
-    text.extend_from_slice(b" groups=")?;
-    text.extend_from_slice(buffer.format(counts.groups).as_bytes())?;
-    text.extend_from_slice(b" numbers=")?;
-    text.extend_from_slice(buffer.format(counts.numbers).as_bytes())?;
-    text.extend_from_slice(b" articles=")?;
-    text.extend_from_slice(buffer.format(counts.articles).as_bytes())?;
+    text.extend_from_slice(b"consistent ")?;
+    put_answers(text, is_several, answers)?;
+    put_number(text, b" groups=", counts.groups)?;
+    put_sum(text, b" numbers=", counts.numbers)?;
+    put_number(text, b" articles=", counts.articles)?;
     text.push(b'\n')?;
-    Ok(text)
+    Ok(())
+}
+
+/// Adds how many answers there are in all, and before that, of several, how many sessions have them.
+fn put_answers<A: Allocator + Copy>(
+    text: &mut Vec<u8, A>,
+    is_several: bool,
+    answers: &[u64],
+) -> Result<(), AllocError>
+    ensures { OnOk result (text.new.items ≡ text.old.items ++ answers_text is_several answers.now) }
+{
+    if is_several {
+        put_number(text, b"sessions=", answers.len() as u64)?;
+        text.push(b' ')?;
+    }
+    put_sum(text, b"answers=", total(answers))
+}
+
+/// The sum of the numbers.
+fn total(numbers: &[u64]) -> u128
+    ensures { result ≡ sum numbers.now }
+{
+    let mut total = 0;
+    for number in numbers {
+        total += u128::from(*number);
+    }
+    total
 }

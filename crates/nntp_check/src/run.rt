@@ -1,13 +1,16 @@
 //! Runs: what one reads is a capture, and what it writes is the report on it.
-ghost use Rattle.std.specs.Prelude.{◌≡◌, ◌≢◌, ◌↔◌, ◌⊎◌, ◌||◌, ◌++◌, false, true, ℕ, List, [], is_err, IfOk, IfErr, IsErrOf};
+ghost use Rattle.std.specs.Prelude.{◌≡◌, ◌≢◌, ◌↔◌, ◌⊎◌, ◌||◌, ◌++◌, false, true, ℕ, List, [], is_err, length, IfOk, IfErr, IsErrOf};
 ghost use Rattle.std.specs.Io.KnownBytes.{Keeps};
+ghost use Rattle.nntp_several.specs.VerifyingView.{verified_shown};
 ghost use Rattle.nntp_spool.specs.Watched.{inner_of, has_failed_of};
 ghost use Rattle.nntp_spool.specs.Writing.{Wrote, Writes};
-ghost use Rattle.nntp_check.specs.Report.{is_permitted, report_of, text_behind, verified_report};
-ghost use Rattle.nntp_verdict.specs.Verdict.{verdict_shown, is_consistent};
+ghost use Rattle.nntp_check.specs.Collecting.{held_in, judged_report};
+ghost use Rattle.nntp_check.specs.Report.{IsWithin, is_permitted, text_behind};
+ghost use Rattle.nntp_verdict.specs.Verdict.{sessions_verdict_shown, is_consistent_of_all};
 ghost use Rattle.nntp_check.specs.Run.{Input, Output, ReadsCapture, read_by, written_by, CheckReports, VerifyReports, ShowReports, ExplainReports};
 ghost use Rattle.nntp_check.specs.Run.{TaskReports, IsReported, IsCheckFault, IsVerifyFault, IsShowFault, IsExplainFault, IsTaskFault};
 
+use crate::capture_checker::{CaptureChecker, JudgedCapture};
 use crate::command_line::Task;
 use crate::input::read_capture;
 use crate::report::{first_lines, put_text_behind, verified_report};
@@ -15,11 +18,12 @@ use crate::run_fault::RunFault;
 use crate::session_printer::SessionPrinter;
 use crate::streams::Streams;
 use bumpalo::Bump;
-use nntp_explain::explain;
-use nntp_spool::{Spool, Verified, Watched, WriteFault, put, verify};
-use nntp_verdict::{Checker, Verdict};
+use nntp_explain::{Explanation, explain, explain_sessions};
+use nntp_several::{VerifiedSessions, verify_sessions};
+use nntp_spool::{Spool, Watched, WriteFault, put};
+use nntp_verdict::SessionsVerdict;
 use nntp_wire::{Limit, Marks};
-use std::alloc::Allocator;
+use std::alloc::{AllocError, Allocator};
 use std::io::{Read, Write};
 
 /// Flushes once.
@@ -46,10 +50,10 @@ fn print<W: Write>(text: &[u8], output: &mut Watched<W>) -> Result<(), WriteFaul
 /// memory.
 fn print_report<A: Allocator, W: Write>(
     first: &[u8],
-    verdict: &Verdict<A>,
+    verdict: &SessionsVerdict<A>,
     output: &mut Watched<W>,
 ) -> Result<(), WriteFault>
-    ensures text { Writes result (W.contents (inner_of output.old)) (W.contents (inner_of output.new)) (first.now ++ text_behind (verdict_shown verdict.now)) }
+    ensures text { Writes result (W.contents (inner_of output.old)) (W.contents (inner_of output.new)) (first.now ++ text_behind (sessions_verdict_shown verdict.now)) }
     ensures failed { has_failed_of output.new ≡ (has_failed_of output.old || is_err result) }
 {
     put(output, first)?;
@@ -58,36 +62,38 @@ fn print_report<A: Allocator, W: Write>(
 }
 
 /// Whether the spool permits all answers.
-fn is_permitted(verified: Verified) -> bool
-    ensures { result ≡ is_permitted verified }
+fn is_permitted<A: Allocator>(verified: &VerifiedSessions<A>) -> bool
+    ensures { result ≡ is_permitted (verified_shown verified.now) }
 {
     match verified {
-        Verified::Permits { .. } => true,
-        Verified::Refuses { .. } => false,
+        VerifiedSessions::Permits { .. } => true,
+        VerifiedSessions::Refuses { .. } => false,
     }
 }
 
-/// Takes what memory the report on a verdict needs, and writes it: the answer is whether the session is consistent.
+/// Takes what memory the report on a verdict needs, and writes it: the answer is whether the sessions are consistent.
 fn report_verdict<A: Allocator + Copy, W: Write>(
     alloc: A,
-    verdict: &Verdict<A>,
+    is_several: bool,
+    judged: &JudgedCapture<A>,
     output: &mut Watched<W>,
 ) -> Result<bool, RunFault>
-    ensures ok { IfOk result (λ answer. (answer ≡ is_consistent (verdict_shown verdict.now))
-        × Wrote (W.contents (inner_of output.old)) (W.contents (inner_of output.new)) (report_of (verdict_shown verdict.now)) []) }
+    requires { IsWithin (length judged.now.names.items) (sessions_verdict_shown judged.now.verdict) }
+    ensures ok { IfOk result (λ answer. (answer ≡ is_consistent_of_all (sessions_verdict_shown judged.now.verdict))
+        × Wrote (W.contents (inner_of output.old)) (W.contents (inner_of output.new)) (judged_report is_several judged.now) []) }
     ensures err { IfErr result (λ fault. (fault ≡ RunFault.Memory)
-        ⊎ ((fault ≡ RunFault.Write) × ((left : List ℕ) × Wrote (W.contents (inner_of output.old)) (W.contents (inner_of output.new)) (report_of (verdict_shown verdict.now)) left))) }
+        ⊎ ((fault ≡ RunFault.Write) × ((left : List ℕ) × Wrote (W.contents (inner_of output.old)) (W.contents (inner_of output.new)) (judged_report is_several judged.now) left))) }
     ensures unwritten { IfErr result (λ e. e ≢ RunFault.Write → output.new ≡ output.old) }
     ensures unread { IfErr result (λ e. e ≢ RunFault.Read) }
     ensures write_failed { has_failed_of output.old ≡ false → (IsErrOf result RunFault.Write ↔ (has_failed_of output.new ≡ true)) }
 {
-    let first = first_lines(alloc, verdict)?;
-    print_report(&first, verdict, output)?;
-    Ok(verdict.is_consistent())
+    let first = first_lines(alloc, is_several, &judged.names, &judged.verdict)?;
+    print_report(&first, &judged.verdict, output)?;
+    Ok(judged.verdict.is_consistent())
 }
 
-/// Judges the session of the capture that the input has, as it comes, by the limit and the marks, and writes the report
-/// on it: the answer is whether the session is consistent. It reads at most `most` octets, up to the input's end, behind
+/// Judges the sessions of the capture that the input has, as they come, by the limit and the marks, and writes the report
+/// on them: the answer is whether they are consistent. It reads at most `most` octets, up to the input's end, behind
 /// a bad answer too, and passes over spool pieces; at the first fault it ends. What memory the report needs
 /// is taken before its first octet is written; one flush follows the last.
 ///
@@ -104,7 +110,7 @@ pub fn run_check<A: Allocator + Copy, R: Read, W: Write>(
     output: &mut Watched<W>,
     most: u64,
 ) -> Result<bool, RunFault>
-    // What was read is a capture, and what was written is the report on its streams.
+    // What was read is a capture, and what was written is the report on its sessions.
     ensures ok { IfOk result (IsReported (CheckReports limit marks) (read_by R.remaining input.old input.new most) (written_by W.contents output.old output.new)) }
     // Which fault it is, by what was read and written.
     ensures err { IfErr result (IsCheckFault limit marks (read_by R.remaining input.old input.new most) (written_by W.contents output.old output.new)) }
@@ -114,30 +120,44 @@ pub fn run_check<A: Allocator + Copy, R: Read, W: Write>(
     ensures read_failed { has_failed_of input.old ≡ false → (IsErrOf result RunFault.Read ↔ (has_failed_of input.new ≡ true)) }
     ensures write_failed { has_failed_of output.old ≡ false → (IsErrOf result RunFault.Write ↔ (has_failed_of output.new ≡ true)) }
 {
-    let mut checker = Checker::new(alloc, limit, marks);
-    read_capture(input, &mut checker, most)?;
-    let verdict = checker.finish()?;
-    report_verdict(alloc, &verdict, output)
+    let mut checker = CaptureChecker::new(alloc, limit, marks);
+    let is_several = read_capture(input, &mut checker, most)?;
+    let judged = checker.finish()?;
+    report_verdict(alloc, is_several, &judged, output)
 }
 
-/// Verifies a session by the spool whose text this is. The spool stands in the arena.
-fn verify_by_text<A: Allocator + Copy, S: Allocator + Copy>(
+/// What `verify` tells.
+#[derive(Drop)]
+struct Verification<A: Allocator> {
+    /// The report, whole.
+    text: Vec<u8, A>,
+    /// Whether the spool permits all answers.
+    is_permitted: bool,
+}
+
+/// Verifies what was collected of a capture by the spool whose text is there: the answer, and the report. The spool
+/// stands in the arena.
+fn verify_collected<A: Allocator + Copy, S: Allocator + Copy>(
     alloc: A,
     arena: S,
     marks: Marks,
-    text: &[u8],
-    client: &[u8],
-    server: &[u8],
-) -> Result<Verified, RunFault>
-    ensures ok { IfOk result (λ verified. VerifyReports marks client.now server.now text.now (verified_report verified) (is_permitted verified)) }
-    ensures err { IfErr result (λ fault. (input : Input) (output : Output) → ReadsCapture input client.now server.now text.now → IsVerifyFault marks input output fault) }
+    is_several: bool,
+    streams: &Streams<A>,
+) -> Result<Verification<A>, RunFault>
+    ensures ok { IfOk result (λ told. VerifyReports marks (record { held = held_in streams.now; is_several = is_several }) told.text.items told.is_permitted) }
+    ensures err { IfErr result (λ fault. (input : Input) (output : Output) → ReadsCapture input (record { held = held_in streams.now; is_several = is_several }) → IsVerifyFault marks input output fault) }
     ensures by_text { IfErr result (λ fault. (fault ≢ RunFault.Read) × (fault ≢ RunFault.Write)) }
 {
-    let spool = Spool::read_with(arena, alloc, text)?;
-    Ok(verify(alloc, marks, &spool, client, server)?)
+    let spool = Spool::read_with(arena, alloc, &streams.spool)?;
+    let verified = verify_sessions(alloc, marks, &spool, &streams.recorded()?)?;
+    let text = verified_report(alloc, is_several, &streams.named()?, &verified)?;
+    Ok(Verification {
+        text,
+        is_permitted: is_permitted(&verified),
+    })
 }
 
-/// Tells whether the spool of a capture explains its session, and writes the report on it: the answer is whether the
+/// Tells whether the spool of a capture explains its sessions, and writes the report on them: the answer is whether the
 /// spool permits all answers. The spool is the one whose text the joined spool pieces are; article numbers are judged by
 /// its limit, and the water marks of a 211 (RFC 3977, section 6.1.1) are read as `marks` tells. It reads and writes as
 /// [`run_check`] does.
@@ -152,7 +172,7 @@ pub fn run_verify<A: Allocator + Copy, R: Read, W: Write>(
     output: &mut Watched<W>,
     most: u64,
 ) -> Result<bool, RunFault>
-    // What was read is a capture, and what was written is the report on its streams and its spool.
+    // What was read is a capture, and what was written is the report on its sessions and its spool.
     ensures ok { IfOk result (IsReported (VerifyReports marks) (read_by R.remaining input.old input.new most) (written_by W.contents output.old output.new)) }
     // Which fault it is, by what was read and written.
     ensures err { IfErr result (IsVerifyFault marks (read_by R.remaining input.old input.new most) (written_by W.contents output.old output.new)) }
@@ -163,23 +183,15 @@ pub fn run_verify<A: Allocator + Copy, R: Read, W: Write>(
     ensures write_failed { has_failed_of output.old ≡ false → (IsErrOf result RunFault.Write ↔ (has_failed_of output.new ≡ true)) }
 {
     let mut streams = Streams::new(alloc);
-    read_capture(input, &mut streams, most)?;
+    let is_several = read_capture(input, &mut streams, most)?;
     let arena = Bump::new(alloc);
-    let verified = verify_by_text(
-        alloc,
-        &arena,
-        marks,
-        &streams.spool,
-        &streams.client,
-        &streams.server,
-    )?;
-    let text = verified_report(alloc, verified)?;
-    print(&text, output)?;
-    Ok(is_permitted(verified))
+    let told = verify_collected(alloc, &arena, marks, is_several, &streams)?;
+    print(&told.text, output)?;
+    Ok(told.is_permitted)
 }
 
-/// Writes the session of the capture that the input has as a reader sees it: the answer is whether all octets of the
-/// server are answers. It reads and writes as [`run_check`] does.
+/// Writes the sessions of the capture that the input has as a reader sees them: the answer is whether all octets of the
+/// servers are answers. It reads and writes as [`run_check`] does.
 ///
 /// # Errors
 ///
@@ -190,7 +202,7 @@ pub fn run_show<A: Allocator + Copy, R: Read, W: Write>(
     output: &mut Watched<W>,
     most: u64,
 ) -> Result<bool, RunFault>
-    // What was read is a capture, and what was written is what its streams show.
+    // What was read is a capture, and what was written is what its sessions show.
     ensures ok { IfOk result (IsReported ShowReports (read_by R.remaining input.old input.new most) (written_by W.contents output.old output.new)) }
     // Which fault it is, by what was read and written.
     ensures err { IfErr result (IsShowFault (read_by R.remaining input.old input.new most) (written_by W.contents output.old output.new)) }
@@ -201,16 +213,33 @@ pub fn run_show<A: Allocator + Copy, R: Read, W: Write>(
     ensures write_failed { has_failed_of output.old ≡ false → (IsErrOf result RunFault.Write ↔ (has_failed_of output.new ≡ true)) }
 {
     let mut printer = SessionPrinter::new(alloc);
-    read_capture(input, &mut printer, most)?;
-    let shown = printer.finish()?;
+    let is_several = read_capture(input, &mut printer, most)?;
+    let shown = printer.finish(is_several)?;
     print(&shown.text, output)?;
     Ok(shown.is_answered)
 }
 
-/// Reads the session of the capture that the input has to its end, by the limit and the marks, and writes each bad answer
-/// of it, with where the session stands there: the answer is whether none is bad. A bad answer is passed over, and the
-/// next one is judged behind those that were accepted. It reads and writes as [`run_check`] does, and holds both
-/// streams whole.
+/// Explains what was collected of a capture: several sessions, or the only one.
+fn explain_collected<A: Allocator + Copy>(
+    alloc: A,
+    limit: Limit,
+    marks: Marks,
+    is_several: bool,
+    streams: &Streams<A>,
+) -> Result<Explanation<A>, AllocError>
+    ensures { IfOk result (λ told. ExplainReports limit marks (record { held = held_in streams.now; is_several = is_several }) told.text.items told.is_without_fault) }
+{
+    if is_several {
+        return explain_sessions(alloc, limit, marks, &streams.named()?);
+    }
+    let session = streams.last();
+    explain(alloc, limit, marks, session.client, session.server)
+}
+
+/// Reads the sessions of the capture that the input has to their ends, by the limit and the marks, and writes each bad
+/// answer of them, with where its session stands there: the answer is whether none is bad. A bad answer is passed over,
+/// and the next one is judged behind those that were accepted. It reads and writes as [`run_check`] does, and holds
+/// all streams whole.
 ///
 /// # Errors
 ///
@@ -223,7 +252,7 @@ pub fn run_explain<A: Allocator + Copy, R: Read, W: Write>(
     output: &mut Watched<W>,
     most: u64,
 ) -> Result<bool, RunFault>
-    // What was read is a capture, and what was written is the report on the one reading of its streams.
+    // What was read is a capture, and what was written is the report on the one reading of its sessions.
     ensures ok { IfOk result (IsReported (ExplainReports limit marks) (read_by R.remaining input.old input.new most) (written_by W.contents output.old output.new)) }
     // Which fault it is, by what was read and written.
     ensures err { IfErr result (IsExplainFault limit marks (read_by R.remaining input.old input.new most) (written_by W.contents output.old output.new)) }
@@ -234,8 +263,8 @@ pub fn run_explain<A: Allocator + Copy, R: Read, W: Write>(
     ensures write_failed { has_failed_of output.old ≡ false → (IsErrOf result RunFault.Write ↔ (has_failed_of output.new ≡ true)) }
 {
     let mut streams = Streams::new(alloc);
-    read_capture(input, &mut streams, most)?;
-    let told = explain(alloc, limit, marks, &streams.client, &streams.server)?;
+    let is_several = read_capture(input, &mut streams, most)?;
+    let told = explain_collected(alloc, limit, marks, is_several, &streams)?;
     print(&told.text, output)?;
     Ok(told.is_without_fault)
 }

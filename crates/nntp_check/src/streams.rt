@@ -1,48 +1,151 @@
-//! The streams of a capture, collected.
-ghost use Rattle.std.specs.Prelude.{◌≡◌, []};
+//! What a capture holds, collected.
+ghost use Rattle.std.specs.Prelude.{◌≡◌, IfOk, OnOk};
+ghost use Rattle.nntp_check.specs.Capture.{blank, nothing, sessions_of, with_another};
+ghost use Rattle.nntp_check.specs.Collecting.{held_in};
+ghost use Rattle.nntp_several.specs.Sessions.{unnamed};
 
 use crate::sink::Sink;
 use crate::source::Source;
 use nntp_pair::PairError;
-use std::alloc::Allocator;
+use nntp_several::{Named, Recorded};
+use std::alloc::{AllocError, Allocator};
+use std::marker::Model;
+use std::mem;
 
-/// The streams of a capture: the joined octets of the pieces from each source.
+/// A session of a capture: the joined octets of its pieces.
+#[derive(Drop)]
+struct Collected<A: Allocator> {
+    name: Vec<u8, A>,
+    /// What the client sent.
+    client: Vec<u8, A>,
+    /// What the server answered.
+    server: Vec<u8, A>,
+}
+
+impl<A: Allocator> Model for Collected<A> {
+    ghost use Rattle.nntp_several.specs.Sessions.{Named as NamedValue};
+
+    ghost Value = { NamedValue };
+
+    ghost view = { λ c. record { name = c.name.items; session = record { client = c.client.items; server = c.server.items } } };
+}
+
+impl<A: Allocator + Copy> Collected<A> {
+    /// A session of which nothing has come.
+    fn new(alloc: A) -> Collected<A>
+        ensures { result ≡ blank }
+    {
+        Collected {
+            name: Vec::new(alloc),
+            client: Vec::new(alloc),
+            server: Vec::new(alloc),
+        }
+    }
+
+    /// What was recorded of it.
+    fn recorded(&self) -> Recorded<'_>
+        ensures { result ≡ self.now.session }
+    {
+        Recorded {
+            client: &self.client,
+            server: &self.server,
+        }
+    }
+
+    /// The same with its name.
+    fn named(&self) -> Named<'_>
+        ensures { result ≡ self.now }
+    {
+        Named {
+            name: &self.name,
+            session: self.recorded(),
+        }
+    }
+}
+
+/// What a capture holds.
 #[derive(Drop)]
 pub(crate) struct Streams<A: Allocator> {
-    /// What the client sent.
-    pub client: Vec<u8, A>,
-    /// What the server answered.
-    pub server: Vec<u8, A>,
+    alloc: A,
+    /// The sessions that another one ended.
+    ended: Vec<Collected<A>, A>,
+    /// The last session.
+    last: Collected<A>,
     /// The text of a spool; empty where the capture has none.
     pub spool: Vec<u8, A>,
 }
 
 impl<A: Allocator + Copy> Streams<A> {
-    /// Streams of which nothing has come.
+    /// What nothing holds.
     pub(crate) fn new(alloc: A) -> Streams<A>
-        ensures client { result.client.items ≡ [] }
-        ensures server { result.server.items ≡ [] }
-        ensures spool { result.spool.items ≡ [] }
+        ensures { held_in result ≡ nothing }
     {
         Streams {
-            client: Vec::new(alloc),
-            server: Vec::new(alloc),
+            alloc,
+            ended: Vec::new(alloc),
+            last: Collected::new(alloc),
             spool: Vec::new(alloc),
         }
+    }
+
+    /// Ends the last session, and begins the next one.
+    fn end_session(&mut self) -> Result<(), AllocError>
+        ensures { OnOk result (held_in self.new ≡ with_another (held_in self.old)) }
+    {
+        let ended = mem::replace(&mut self.last, Collected::new(self.alloc));
+        self.ended.push(ended)?;
+        Ok(())
+    }
+
+    /// What was recorded of the last session.
+    pub(crate) fn last(&self) -> Recorded<'_>
+        ensures { result ≡ (held_in self.now).last.session }
+    {
+        self.last.recorded()
+    }
+
+    /// What was recorded of each session.
+    pub(crate) fn recorded(&self) -> Result<Vec<Recorded<'_>, A>, AllocError>
+        ensures { IfOk result (λ sessions. sessions.items ≡ unnamed (sessions_of (held_in self.now))) }
+    {
+        let mut sessions = Vec::new(self.alloc);
+        for session in &self.ended {
+            sessions.push(session.recorded())?;
+        }
+        sessions.push(self.last.recorded())?;
+        Ok(sessions)
+    }
+
+    /// The same of each with its name.
+    pub(crate) fn named(&self) -> Result<Vec<Named<'_>, A>, AllocError>
+        ensures { IfOk result (λ sessions. sessions.items ≡ sessions_of (held_in self.now)) }
+    {
+        let mut sessions = Vec::new(self.alloc);
+        for session in &self.ended {
+            sessions.push(session.named())?;
+        }
+        sessions.push(self.last.named())?;
+        Ok(sessions)
     }
 }
 
 impl<A: Allocator + Copy> Sink for Streams<A> {
     ghost By = { Unit {0} };
 
-    ghost stands = { λ _ s client server spool. (s.client.items ≡ client) × (s.server.items ≡ server) × (s.spool.items ≡ spool) };
+    ghost stands = { λ _ streams held. held_in streams ≡ held };
 
     fn take(&mut self, source: Source, octets: &[u8]) -> Result<(), PairError> {
         match source {
-            Source::Client => self.client.extend_from_slice(octets)?,
-            Source::Server => self.server.extend_from_slice(octets)?,
+            Source::Client => self.last.client.extend_from_slice(octets)?,
+            Source::Server => self.last.server.extend_from_slice(octets)?,
             Source::Spool => self.spool.extend_from_slice(octets)?,
+            Source::Session => self.last.name.extend_from_slice(octets)?,
         }
+        Ok(())
+    }
+
+    fn begin_session(&mut self) -> Result<(), PairError> {
+        self.end_session()?;
         Ok(())
     }
 }

@@ -25,7 +25,8 @@ use Rattle.nntp_facts.proofs.Reading.JudgedSession.{accepted_one_more}
 use Rattle.nntp_facts.proofs.Reading.NotedAsJudged.{unfit_refused, contradiction_refused}
 use Rattle.nntp_several.specs.Conflict.{placed_of_all}
 use Rattle.nntp_several.proofs.ConflictsOfSessions.{accepted_fit_behind, noted_conflicts_behind, placed_next_behind}
-use Rattle.nntp_explain.specs.Explaining.{IsTold, IsConflictOf, IsReason, IsExplained, AreExplained, count_bad, title_line}
+use Rattle.nntp_printing.specs.Title.{title_line}
+use Rattle.nntp_explain.specs.Explaining.{IsTold, IsConflictOf, IsReason, IsExplained, AreExplained, count_bad}
 use Rattle.nntp_explain.specs.ExplainingView.{Kept, Before, begins, placed_at, keeps, refuses, title_of, title_told, untold, unfitting_told, AreKept, AreTold, GoesOn}
 use Rattle.nntp_explain.specs.Reasons.{unfitting_lines, misspelling_line}
 use Rattle.nntp_explain.specs.Standing.{Standing, Cited, standing, standing_after, cited, cited_at, cited_each, number_behind, cited_of_all, closing_after, closing_with}

@@ -15,7 +15,8 @@ use Rattle.nntp_facts.specs.declared.position.Position.{Position}
 use Rattle.nntp_facts.specs.declared.position.Position.TheVariants.{Nowhere}
 use Rattle.nntp_facts.proofs.Reading.JudgedAnswers.{accepted_behind as all_behind, judged_push, judged_count, accepted_few, visible_behind, accepted_open}
 use Rattle.nntp_several.specs.Reading.{ReadSession}
-use Rattle.nntp_explain.specs.Explaining.{counts_behind, title_line}
+use Rattle.nntp_printing.specs.Title.{title_line}
+use Rattle.nntp_explain.specs.Explaining.{counts_behind}
 use Rattle.nntp_explain.specs.ExplainingView.{untold, title_told, accepted_behind}
 use Rattle.nntp_explain.specs.Standing.{Standing, standing, standing_after, cited, cited_at, cited_from, cited_each, number_behind, cited_of_all}
 use Rattle.nntp_explain.proofs.AnswerLemmas.{cited_push, few_accepted}

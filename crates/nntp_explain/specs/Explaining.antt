@@ -19,10 +19,11 @@ use Rattle.nntp_pair.specs.declared.class.PairClass.{PairClass}
 use Rattle.nntp_pair.specs.declared.class.PairClass.TheVariants.{Surplus as PairSurplus, Cut as PairCut, Malformed as PairMalformed}
 use Rattle.nntp_pair.specs.Pairing.{Paired, Unpaired, Ending, end, bad as ends_at, line_ahead, asked_at, asked_of, responses_of}
 use Rattle.nntp_printing.specs.BadAnswer.{IsFirstLine, bad_lines, shown}
+use Rattle.nntp_printing.specs.Title.{title_line}
 use Rattle.nntp_several.specs.Conflict.{placed_of_all}
 use Rattle.nntp_several.specs.Reading.{ReadSession, AreReadings, IsReadingOfAll}
 use Rattle.nntp_several.specs.Sessions.{Named, unnamed}
-use Rattle.nntp_explain.specs.Reasons.{standing_line, octets_line, unfitting_lines, misspelling_line, cut_line, surplus_lines, core_lines}
+use Rattle.nntp_explain.specs.Reasons.{standing_line, unfitting_lines, misspelling_line, cut_line, surplus_lines, core_lines}
 use Rattle.nntp_explain.specs.Says.{conflict_lines}
 use Rattle.nntp_explain.specs.Standing.{Standing, Cited, standing, cited, number_behind, cited_of_all, closing}
 
@@ -142,12 +143,7 @@ pub record IsExplanation (limit : Limit) (marks : Marks) (client server text : L
 
 -- ---- several sessions
 
--- the line before the bad answers of a session: its number, and the first octets of its name
-abbrev pub title_line : ℕ → List ℕ → List ℕ
-title_line number [] = codes "session " ++ decimal number ++ codes "\n"
-title_line number (octet ∷ name) = codes "session " ++ decimal number ++ octets_line (codes " ") (shown (octet ∷ name))
-
--- it stands where there are any
+-- the title of a session, where any of its answers are bad
 abbrev pub titled : ℕ → List ℕ → ℕ → List ℕ
 titled number name zero = []
 titled number name (suc bad) = title_line number name

@@ -11,12 +11,13 @@ use Rattle.nntp_facts.specs.Reading.{Judged, accepted_of, AreJudged, IsReadingBy
 use Rattle.nntp_several.specs.Conflict.{placed_of_all}
 use Rattle.nntp_several.specs.Reading.{ReadSession, IsReadingOfAll}
 use Rattle.nntp_several.specs.Sessions.{Named, unnamed}
+use Rattle.nntp_printing.specs.Title.{title_line}
 use Rattle.nntp_explain.specs.declared.standing.Standing.{Standing as StandingCode}
 use Rattle.nntp_explain.specs.declared.standing.Cited.{Cited as CitedCode}
 use Rattle.nntp_explain.specs.declared.explainer.Explainer.{Explainer}
 use Rattle.nntp_facts.specs.declared.position.Position.{Position}
 use Rattle.nntp_explain.specs.Standing.{Standing, Cited, standing, standing_after, cited_at, cited_each, number_behind, cited_of_all, closing}
-use Rattle.nntp_explain.specs.Explaining.{AreExplained, count_bad, IsSessionExplained, Counts, counts_of, title_line, titled, none_counted, AreSessionsExplained}
+use Rattle.nntp_explain.specs.Explaining.{AreExplained, count_bad, IsSessionExplained, Counts, counts_of, titled, none_counted, AreSessionsExplained}
 use Rattle.nntp_explain.specs.Reasons.{unfitting_lines}
 
 -- where a session stands, without where the name lies in memory

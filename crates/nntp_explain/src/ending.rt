@@ -1,16 +1,15 @@
-//! What stands around the bad answers of a session: the line of its name, why octets that are left answer nothing, and
-//! what the last line counts.
-ghost use Rattle.std.specs.Prelude.{◌≡◌, ◌≢◌, ◌++◌, OnOk, decimal};
+//! What stands behind the bad answers of a session: why octets that are left answer nothing, and what the last line
+//! counts.
+ghost use Rattle.std.specs.Prelude.{◌≡◌, ◌≢◌, ◌++◌, OnOk};
 ghost use Rattle.std.specs.Option.{option_map};
 ghost use Rattle.nntp_pair.specs.declared.class.PairClass.TheVariants.{Malformed};
-ghost use Rattle.nntp_explain.specs.Explaining.{counts_text, title_line, IsEndReason};
+ghost use Rattle.nntp_explain.specs.Explaining.{counts_text, IsEndReason};
 ghost use Rattle.nntp_explain.specs.ExplainingView.{cited_of, GoesOn};
 
 use crate::reasons::{put_cut, put_surplus};
 use crate::standing::Cited;
-use itoa::Buffer;
 use nntp_pair::PairClass;
-use nntp_printing::{put_escaped_line, put_number, shown};
+use nntp_printing::{put_number, put_sum};
 use std::alloc::{AllocError, Allocator};
 
 /// Adds why octets of the session `here` that are left answer nothing, where this answer closed the connection, if one
@@ -46,33 +45,4 @@ pub(crate) fn put_counts<A: Allocator + Copy>(
     put_sum(text, b" unanswered=", unanswered)?;
     text.push(b'\n')?;
     Ok(())
-}
-
-/// Adds a label and a number that was counted over all sessions.
-fn put_sum<A: Allocator + Copy>(
-    text: &mut Vec<u8, A>,
-    label: &[u8],
-    number: u128,
-) -> Result<(), AllocError>
-    ensures { OnOk result (text.new.items ≡ text.old.items ++ label.now ++ decimal number) }
-{
-    let mut buffer = Buffer::new();
-    text.extend_from_slice(label)?;
-    text.extend_from_slice(buffer.format(number).as_bytes())
-}
-
-/// Adds the line before the bad answers of a session: its number, and the beginning of its name.
-pub(crate) fn put_title<A: Allocator + Copy>(
-    text: &mut Vec<u8, A>,
-    number: u64,
-    name: &[u8],
-) -> Result<(), AllocError>
-    ensures { OnOk result (text.new.items ≡ text.old.items ++ title_line number name.now) }
-{
-    put_number(text, b"session ", number)?;
-    if name.is_empty() {
-        text.push(b'\n')?;
-        return Ok(());
-    }
-    put_escaped_line(text, b" ", shown(name))
 }

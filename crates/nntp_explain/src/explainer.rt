@@ -20,13 +20,13 @@ ghost use Rattle.nntp_explain.specs.Reasons.{misspelling_line};
 ghost use Rattle.nntp_explain.specs.Standing.{Cited as CitedValue};
 
 use crate::conflict::put_conflict;
-use crate::ending::{put_end_reason, put_title};
+use crate::ending::put_end_reason;
 use crate::reasons::{put_core, put_misspelling, put_standing};
 use crate::standing::{Cited, Standing, note_closing, standing_after};
 use crate::unfitting::put_unfitting;
 use nntp_facts::{Conflict, Core, Facts, Noted, Placed, Position};
 use nntp_pair::{Ahead, Class, Exchange, MalformedFrame, PairClass};
-use nntp_printing::{first_line, put_bad_answer, shown, shown_line};
+use nntp_printing::{first_line, put_bad_answer, put_title, shown, shown_line};
 use nntp_wire::{GroupName, Limit, Marks, Misspelling};
 use std::alloc::{AllocError, Allocator};
 use std::mem;

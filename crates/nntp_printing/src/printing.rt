@@ -22,6 +22,23 @@ pub fn put_number<A: Allocator + Copy>(
     text.extend_from_slice(buffer.format(number).as_bytes())
 }
 
+/// Adds a label and a number that was counted over several sessions, in decimal.
+///
+/// # Errors
+///
+/// `AllocError` where memory is refused.
+pub fn put_sum<A: Allocator + Copy>(
+    text: &mut Vec<u8, A>,
+    label: &[u8],
+    number: u128,
+) -> Result<(), AllocError>
+    ensures { OnOk result (text.new.items ≡ text.old.items ++ label.now ++ decimal number) }
+{
+    let mut digits = Buffer::new();
+    text.extend_from_slice(label)?;
+    text.extend_from_slice(digits.format(number).as_bytes())
+}
+
 /// Adds a line of a label and escaped octets.
 ///
 /// # Errors

@@ -14,6 +14,8 @@ mod reported;
 #[cfg(test)]
 mod runs;
 #[cfg(test)]
+mod several;
+#[cfg(test)]
 mod shows;
 #[cfg(test)]
 mod tasks;

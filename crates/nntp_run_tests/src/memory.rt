@@ -170,6 +170,11 @@ fn runs_that_explain_sessions(rt: HostRuntime) -> Result<(), Fail> {
 }
 
 #[test]
+fn runs_over_several_sessions(rt: HostRuntime) -> Result<(), Fail> {
+    Ok(Trial::RefuseMemory.several(&rt, rt.alloc())?)
+}
+
+#[test]
 fn runs_that_explain_each_kind_of_point(rt: HostRuntime) -> Result<(), Fail> {
     Ok(Trial::RefuseMemory.reports(&rt, rt.alloc(), POINTS)?)
 }

@@ -332,27 +332,33 @@ fn long_capture(alloc: Global) -> Result<Vec<u8>, AllocError> {
     Ok(capture)
 }
 
+impl Run<'_> {
+    /// The run ends as it should where two reads give the capture, cut at each octet.
+    pub(crate) fn cut_everywhere(&self, rt: &impl Abort, alloc: Global) {
+        for at in 1..self.input.len() {
+            let mut input = cut_reader(self.input, at);
+            let mut output = writer(alloc, 10000, 10000, Full::Fails);
+            let outcome = run_task(alloc, self.task, &mut input, &mut output, self.most);
+            self.expect_end(rt, at as u64, outcome, &output.into_inner(), 1);
+        }
+    }
+}
+
 /// A run over the long capture, cut at each octet, ends as one that reads it at once.
-fn cut_everywhere(rt: &impl Abort, alloc: Global, task: Task, capture: &[u8]) {
+fn cut_long_capture(rt: &impl Abort, alloc: Global, task: Task, capture: &[u8]) {
     let mut input = reader(capture, capture.len(), 0);
     let mut output = writer(alloc, 10000, 10000, Full::Fails);
     let whole = run_task(alloc, task, &mut input, &mut output, 1 << 30);
     assert_eq!(rt; whole, Ok(true), "{task:?}");
     let report = output.into_inner().held;
-    let run = Run::of("the long capture", task, capture, true, &report);
-    for at in 1..capture.len() {
-        let mut input = cut_reader(capture, at);
-        let mut output = writer(alloc, 10000, 10000, Full::Fails);
-        let outcome = run_task(alloc, task, &mut input, &mut output, run.most);
-        run.expect_end(rt, at as u64, outcome, &output.into_inner(), 1);
-    }
+    Run::of("the long capture", task, capture, true, &report).cut_everywhere(rt, alloc);
 }
 
 #[test]
 fn captures_cut_at_every_octet(rt: HostRuntime) -> Result<(), Fail> {
     let capture = long_capture(rt.alloc())?;
     for task in TASKS {
-        cut_everywhere(&rt, rt.alloc(), task, &capture);
+        cut_long_capture(&rt, rt.alloc(), task, &capture);
     }
     Ok(())
 }

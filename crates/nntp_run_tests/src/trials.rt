@@ -3,6 +3,7 @@ use crate::explanations::{CONFLICTS, ENDINGS, FAULTLESS, MISFITS, MISSPELLINGS};
 use crate::memory;
 use crate::reported::Reported;
 use crate::runs::Run;
+use crate::several::SEVERAL;
 use crate::shows::SHOWN;
 use nntp_fixtures::{check_task, verify_task};
 use nntp_sessions::{Full, Session, each_session, verified_report, with_spool};
@@ -131,10 +132,19 @@ impl Trial {
         self.reports(rt, alloc, CONFLICTS)
     }
 
+    /// Tries the runs over each capture of several sessions.
+    pub(crate) fn several(self, rt: &impl Abort, alloc: Global) -> Result<(), Fail> {
+        for captured in SEVERAL {
+            self.make(rt, alloc, &captured.run())?;
+        }
+        Ok(())
+    }
+
     /// Tries all of these runs.
     pub(crate) fn all(self, rt: &impl Abort, alloc: Global) -> Result<(), Fail> {
         self.sessions(rt, alloc)?;
         self.shown(rt, alloc)?;
-        self.explained(rt, alloc)
+        self.explained(rt, alloc)?;
+        self.several(rt, alloc)
     }
 }

@@ -27,7 +27,7 @@ use Rattle.nntp_several.specs.Told.{with_more}
 use Rattle.nntp_several.proofs.SessionsVerified.{as_many_counts}
 use Rattle.nntp_verdict.specs.Judging.{IsAnsweredThroughout, IsVerdictOfAll, IsVerdictFrom, IsNoForGood, IsNoAtWholeAnswer, HaveEnded, Passed}
 use Rattle.nntp_verdict.specs.Verdict.{JudgementOfAll, consistent_of_all, bad_of_all, verdict_of_last}
-use Rattle.nntp_verdict.specs.Checking.{Checked, judging, decided, failed, Keeps, HasPassed, IsHeld, StandsFor, StandsForAll, HasBegun, IsFinished, IsFinishedOfAll, has_failed, counts_of, unrecorded, IsTaken as IsTakenBy}
+use Rattle.nntp_verdict.specs.Checking.{Checked, judging, decided, failed, Keeps, HasPassed, IsHeld, StandsForAll, HasBegun, IsFinished, IsFinishedOfAll, has_failed, counts_of, unrecorded, IsTaken as IsTakenBy}
 use Rattle.nntp_verdict.specs.CheckerView.{IsUntaken, checked}
 use Rattle.nntp_verdict.specs.declared.checker.Checker.{Checker}
 use Rattle.nntp_verdict.proofs.JudgeLemmas.{is-due, alone}
@@ -200,17 +200,17 @@ stands-counts limit marks (decided j counts) before session s = (refl, s.1, s.2)
 stands-counts limit marks failed before session s = absurd s
 
 -- where there is room for octets, none but want of memory keeps it from taking them
-pub untaken-memory : {A : Type 0} (error : PairError) (side : Side) (octets : List ℕ) (before after : Checker A) (limit : Limit) (marks : Marks) (client server : List ℕ)
-    → StandsFor limit marks (checked before) client server → length client + length server + length octets < 2 ^ 64 → IsUntaken error side octets before after → error ≡ errors.Memory
-untaken-memory errors.Memory side octets before after limit marks client server stands room is = refl
-untaken-memory errors.Failed side octets before after limit marks client server stands room is =
-    absurd (false≢true (sym (stands-counts limit marks (checked before) [] (record { client = client; server = server }) stands).0 ∙ is.0))
-untaken-memory errors.TooLong Client octets before after limit marks client server stands room is =
-    let count : (counts_of (checked before)).client ≡ length client = (stands-counts limit marks (checked before) [] (record { client = client; server = server }) stands).1 in
+pub untaken-memory : {A : Type 0} (error : PairError) (side : Side) (octets : List ℕ) (before after : Checker A) (limit : Limit) (marks : Marks) (ended : List Recorded) (session : Recorded)
+    → StandsForAll limit marks (checked before) ended session → length session.client + length session.server + length octets < 2 ^ 64 → IsUntaken error side octets before after → error ≡ errors.Memory
+untaken-memory errors.Memory side octets before after limit marks ended session stands room is = refl
+untaken-memory errors.Failed side octets before after limit marks ended session stands room is =
+    absurd (false≢true (sym (stands-counts limit marks (checked before) ended session stands).0 ∙ is.0))
+untaken-memory errors.TooLong Client octets before after limit marks ended session stands room is =
+    let count : (counts_of (checked before)).client ≡ length session.client = (stands-counts limit marks (checked before) ended session stands).1 in
     let many : 2 ^ 64 ≤ (counts_of (checked before)).client + length octets = is.1 in
     absurd (omega arith)
-untaken-memory errors.TooLong Server octets before after limit marks client server stands room is =
-    let count : (counts_of (checked before)).server ≡ length server = (stands-counts limit marks (checked before) [] (record { client = client; server = server }) stands).2 in
+untaken-memory errors.TooLong Server octets before after limit marks ended session stands room is =
+    let count : (counts_of (checked before)).server ≡ length session.server = (stands-counts limit marks (checked before) ended session stands).2 in
     let many : 2 ^ 64 ≤ (counts_of (checked before)).server + length octets = is.1 in
     absurd (omega arith)
 

@@ -1,6 +1,7 @@
 use Rattle.std.proofs.Common.{◌≡◌, ℕ, [], ◌++◌, take, drop, refl, sym, subst, arith, length-append, length-take, length-drop}
 use Rattle.std.proofs.lemmas.Result.{err_from_is_err_and}
 use Rattle.nntp_check.specs.declared.run_fault.RunFault.TheVariants.{Read}
+use Rattle.nntp_check.specs.Capture.{nothing}
 use Rattle.std.specs.Io.KnownBytes.{Consumes}
 use Rattle.std.proofs.KnownBytes.{Consumes-nil, Consumes-trans}
 use Rattle.nntp_check.proofs.BegunLemmas.{begins-capture}
@@ -17,7 +18,7 @@ returns-in_err-finish-clause-err g c =
     (g.R.Read.remaining c.read.new.self.inner) c.args.most _ before.0 (take c.in-Ok.count c.read.new.buf)
     before.1.read c.in-Ok.ensures.bytes.0 (omega (arith, length-take c.in-Ok.count c.read.new.buf, c.if-count-eq0.true))
     (c.in-Ok.ensures.bytes.1 c.if-count-eq0.true (omega (arith, c.read.auto.buf))) before.1.few
-    (c.in_err-finish.ensures.bad before.0 both.0 both.1 both.2 both.3))
+    (c.in_err-finish.ensures.bad before.0 both.0 both.1))
 
 pub returns-in_err-pass_on-clause-err : goal.returns-in_err-pass_on-clause-err
 returns-in_err-pass_on-clause-err g c =
@@ -31,7 +32,7 @@ returns-in_err-pass_on-clause-err g c =
     before.1.read c.in-Ok.ensures.bytes.0 (take-split c.min-fitting.result c.in-Ok.count c.read.new.buf (omega (arith, c.min-fitting.ensures)))
     (omega (arith, c.min-fitting.ensures, before.1.many, before.1.few, length-take c.min-fitting.result c.read.new.buf))
     (omega (arith, c.in-Ok.ensures.bound, length-take c.in-Ok.count c.read.new.buf, c.read.auto.buf))
-    (begins-capture _ _ _ _ _ _ (before.1.stands c.requires.0 c.requires.1).3.0)
+    (begins-capture _ _ _ _ (before.1.stands c.requires.0 c.requires.1).1.come)
     (c.in_err-pass_on.ensures.err c.requires.0 before.0 (before.1.stands c.requires.0 c.requires.1)))
 
 pub returns-in_err-pass_on-clause-failed : goal.returns-in_err-pass_on-clause-failed
@@ -62,7 +63,7 @@ returns-then-fitting-count-clause-err g c =
     (omega (arith, c.min-fitting.ensures, c.if-fitting-count.true, c.in-Ok.ensures.bound, before.1.many, before.1.few, length-take c.min-fitting.result c.read.new.buf))
     (omega (arith, c.if-fitting-count.true, c.in-Ok.ensures.bound, length-drop c.min-fitting.result got, length-take c.in-Ok.count c.read.new.buf))
     (omega (arith, c.in-Ok.ensures.bound, length-take c.in-Ok.count c.read.new.buf, c.read.auto.buf))
-    (begins-capture _ _ _ _ _ _ both.3.0)
+    (begins-capture _ _ _ _ both.1.come)
 
 pub loop-count-init : goal.loop-count-init
 loop-count-init g c = (
@@ -71,7 +72,7 @@ loop-count-init g c = (
     read = Consumes-nil (g.R.Read.remaining c.args.input.now.inner);
     many = refl;
     few = omega arith;
-    stands = λ by stands. ([], [], [], c.new-reader.ensures, stands);
+    stands = λ by stands. (nothing, c.new-reader.ensures, stands);
     same = refl;
   },
 )
@@ -98,4 +99,4 @@ returns-in_default-clause-err g c =
     let before = c.loop-count.invariant in
     read-fails (g.R.Read.remaining c.args.input.now.inner) (g.R.Read.remaining c.loop-count.input.inner)
     (g.R.Read.remaining c.read.new.self.inner) c.args.most before.0 before.1.read c.in_default.ensures.bytes before.1.few
-    (begins-capture _ _ _ _ _ _ (before.1.stands c.requires.0 c.requires.1).3.0)
+    (begins-capture _ _ _ _ (before.1.stands c.requires.0 c.requires.1).1.come)

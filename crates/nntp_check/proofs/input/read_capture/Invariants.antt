@@ -1,5 +1,6 @@
-use Rattle.std.proofs.Common.{◌≡◌, ◌≤◌, ◌-◌, ℕ, List, [], length}
+use Rattle.std.proofs.Common.{◌≡◌, ◌≤◌, ◌-◌, ℕ, List, length}
 use Rattle.std.specs.Io.KnownBytes.{Consumes}
+use Rattle.nntp_check.specs.Capture.{nothing}
 use Rattle.nntp_check.specs.Sinks.{BothStand}
 use Rattle.nntp_check.proofs.input.read_capture.Given as goal
 
@@ -8,7 +9,7 @@ invariant-loop-count g l = ((octets : List ℕ) × record {
   read : Consumes (g.R.Read.remaining l.fn.input.inner) (g.R.Read.remaining l.input.inner) octets;
   many : l.came ≡ length octets;
   few : length octets ≤ l.most;
-  stands : (by : g.S.Sink.By) → g.S.Sink.stands by l.fn.sink [] [] [] → BothStand l.reader (g.S.Sink.stands by l.sink) octets;
+  stands : (by : g.S.Sink.By) → g.S.Sink.stands by l.fn.sink nothing → BothStand l.reader (g.S.Sink.stands by l.sink) octets;
   same : l.input.has_failed ≡ l.fn.input.has_failed;
 })
 

@@ -5,4 +5,4 @@ use Rattle.nntp_check.proofs.capture_reader.CaptureReader.go_to.Goals as goal
 pub overflow_add-self : goal.overflow_add-self
 overflow_add-self c =
     let room = c.requires.room in
-    omega (arith, number-fits _ c.in-Octets-default-eq0.left c.in-Octets-default-eq0.source c.args.place _ _ _ _ c.in-Octets-default-eq0.is room.4)
+    omega (arith, number-fits _ c.in-Octets-default-eq0.left c.in-Octets-default-eq0.source c.args.place _ _ c.in-Octets-default-eq0.is room.2)

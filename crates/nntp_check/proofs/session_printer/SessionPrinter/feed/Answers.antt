@@ -1,4 +1,3 @@
-use Rattle.std.proofs.Common.{arith}
 use Rattle.nntp_pair.specs.declared.side.Side.TheVariants.{Client, Server}
 use Rattle.nntp_verdict.proofs.CheckerLemmas.{on-ok, if-err}
 use Rattle.nntp_check.proofs.ShowLemmas.{shown-more, untaken-memory}
@@ -7,21 +6,19 @@ use Rattle.nntp_check.proofs.session_printer.SessionPrinter.feed.Goals as goal
 pub returns-in-Client-clause-ok : goal.returns-in-Client-clause-ok
 returns-in-Client-clause-ok g c = rw c.in-Client.is
     (on-ok _ c.feed_client.result c.feed_client.ensures
-    (λ taken client server shows. shown-more _ _ Client c.args.octets.now _ client server taken shows))
+    (λ taken held shows. record { ended = shows.ended; name_is = shows.name_is; last = shown-more _ _ Client c.args.octets.now _ held.last.session taken shows.last }))
 
 pub returns-in-Client-clause-err : goal.returns-in-Client-clause-err
 returns-in-Client-clause-err g c =
     let room = c.requires in
-    let few = room.4 in
-    if-err _ _ _ c.feed_client.result c.feed_client.ensures (λ error is. untaken-memory error Client c.args.octets.now _ _ _ room.0 room.1 room.3 (omega arith) is)
+    if-err _ _ _ c.feed_client.result c.feed_client.ensures (λ error is. untaken-memory error Client c.args.octets.now _ _ _ room.0.last.session room.1.last room.2 is)
 
 pub returns-in-Server-clause-ok : goal.returns-in-Server-clause-ok
 returns-in-Server-clause-ok g c = rw c.in-Server.is
     (on-ok _ c.feed_server.result c.feed_server.ensures
-    (λ taken client server shows. shown-more _ _ Server c.args.octets.now _ client server taken shows))
+    (λ taken held shows. record { ended = shows.ended; name_is = shows.name_is; last = shown-more _ _ Server c.args.octets.now _ held.last.session taken shows.last }))
 
 pub returns-in-Server-clause-err : goal.returns-in-Server-clause-err
 returns-in-Server-clause-err g c =
     let room = c.requires in
-    let few = room.4 in
-    if-err _ _ _ c.feed_server.result c.feed_server.ensures (λ error is. untaken-memory error Server c.args.octets.now _ _ _ room.0 room.1 room.3 (omega arith) is)
+    if-err _ _ _ c.feed_server.result c.feed_server.ensures (λ error is. untaken-memory error Server c.args.octets.now _ _ _ room.0.last.session room.1.last room.2 is)

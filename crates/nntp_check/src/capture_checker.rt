@@ -1,0 +1,115 @@
+//! Judges the sessions of a capture as they come.
+ghost use Rattle.std.specs.Prelude.{◌≡◌, ◌++◌, ◌∷◌, [], IfErr, IfOk, OnOk};
+ghost use Rattle.nntp_wire.specs.declared.limit.Limit.{Limit};
+ghost use Rattle.nntp_wire.specs.declared.marks.Marks.{Marks};
+ghost use Rattle.nntp_pair.specs.declared.pair_error.PairError.TheVariants.{Memory};
+ghost use Rattle.nntp_check.specs.Capture.{Held, nothing, sessions_of};
+ghost use Rattle.nntp_check.specs.Collecting.{Judges};
+ghost use Rattle.nntp_wire.specs.Held.{held as names_in};
+ghost use Rattle.nntp_check.specs.Report.{names_of};
+ghost use Rattle.nntp_several.specs.Sessions.{unnamed};
+ghost use Rattle.nntp_verdict.specs.Judging.{IsVerdictOfAll};
+ghost use Rattle.nntp_verdict.specs.Verdict.{sessions_verdict_shown};
+
+use crate::sink::Sink;
+use crate::source::Source;
+use nntp_pair::PairError;
+use nntp_verdict::{Checker, SessionsVerdict};
+use nntp_wire::{Limit, Marks};
+use std::alloc::{AllocError, Allocator};
+use std::mem;
+
+/// Judges the sessions of a capture as they come, and keeps their names.
+#[derive(Drop)]
+pub(crate) struct CaptureChecker<A: Allocator> {
+    alloc: A,
+    checker: Checker<A>,
+    /// The names of the sessions that another one ended.
+    names: Vec<Vec<u8, A>, A>,
+    /// The name of the last session.
+    last_name: Vec<u8, A>,
+}
+
+/// What is said of the sessions of a capture.
+#[derive(Drop)]
+pub(crate) struct JudgedCapture<A: Allocator> {
+    pub verdict: SessionsVerdict<A>,
+    /// The name of each session.
+    pub names: Vec<Vec<u8, A>, A>,
+}
+
+impl<A: Allocator + Copy> CaptureChecker<A> {
+    /// A checker of a capture of which nothing has come.
+    pub(crate) fn new(alloc: A, limit: Limit, marks: Marks) -> CaptureChecker<A>
+        ensures { Judges limit marks result nothing }
+    {
+        CaptureChecker {
+            alloc,
+            checker: Checker::new(alloc, limit, marks),
+            names: Vec::new(alloc),
+            last_name: Vec::new(alloc),
+        }
+    }
+
+    /// The verdict on what came, where no more comes.
+    pub(crate) fn finish(self) -> Result<JudgedCapture<A>, PairError>
+        requires { (limit : Limit) × (marks : Marks) × (held : Held) × Judges limit marks self held }
+        ensures ok { IfOk result (λ judged. (limit : Limit) (marks : Marks) (held : Held) → Judges limit marks self held
+            → IsVerdictOfAll limit marks (unnamed (sessions_of held)) (sessions_verdict_shown judged.verdict) × (names_in judged.names.items ≡ names_of (sessions_of held))) }
+        ensures err { IfErr result (λ error. error ≡ Memory) }
+    {
+        let CaptureChecker {
+            checker,
+            names,
+            last_name,
+            ..
+        } = self;
+        let verdict = checker.finish_sessions()?;
+        let names = with_name(names, last_name)?;
+        Ok(JudgedCapture { verdict, names })
+    }
+
+    /// Puts the name of the last session behind the others; the next one has none yet.
+    fn end_name(&mut self) -> Result<(), AllocError>
+        ensures names { OnOk result (names_in self.new.names.items ≡ names_in self.old.names.items ++ self.old.last_name.items ∷ []) }
+        ensures rest { OnOk result ((self.new.checker ≡ self.old.checker) × (self.new.last_name.items ≡ [])) }
+    {
+        let name = mem::replace(&mut self.last_name, Vec::new(self.alloc));
+        self.names.push(name)?;
+        Ok(())
+    }
+}
+
+/// The names with one more.
+fn with_name<A: Allocator>(
+    mut names: Vec<Vec<u8, A>, A>,
+    name: Vec<u8, A>,
+) -> Result<Vec<Vec<u8, A>, A>, AllocError>
+    ensures { IfOk result (λ all. names_in all.items ≡ names_in names.items ++ name.items ∷ []) }
+{
+    names.push(name)?;
+    Ok(names)
+}
+
+/// It passes over the text of a spool.
+impl<A: Allocator + Copy> Sink for CaptureChecker<A> {
+    ghost By = { Limit × Marks };
+
+    ghost stands = { λ by checker held. Judges by.0 by.1 checker held };
+
+    fn take(&mut self, source: Source, octets: &[u8]) -> Result<(), PairError> {
+        match source {
+            Source::Client => self.checker.feed_client(octets)?,
+            Source::Server => self.checker.feed_server(octets)?,
+            Source::Spool => {}
+            Source::Session => self.last_name.extend_from_slice(octets)?,
+        }
+        Ok(())
+    }
+
+    fn begin_session(&mut self) -> Result<(), PairError> {
+        self.checker.begin_session()?;
+        self.end_name()?;
+        Ok(())
+    }
+}
