@@ -3,15 +3,15 @@ from __future__ import annotations
 
 import re
 from dataclasses import dataclass
-from typing import Iterator, List, Optional, Tuple
+from io import BytesIO
+from typing import Dict, Iterator, List, Optional, Tuple
 
+from captures.pieces import BadPiece, pieces_in
 from viewing.octets import printed
 
 CRLF = b"\r\n"
 # The end of a block, with the end of the line before.
 DOT_LINE = b"\r\n.\r\n"
-# The first line of a piece (docs/FORMATS.md, 'Captures').
-PIECE = re.compile(rb"(client|server|spool) ([0-9]{1,10})\n")
 BLANKS = re.compile(rb"[ \t]+")
 UNCLEAN = re.compile(rb"[\x00\r\n]")
 # Of an initial line (RFC 3977, section 3.2).
@@ -69,15 +69,22 @@ class Exchange:
 
 def streams(capture: bytes) -> Tuple[bytes, bytes]:
     """What the client and what the server sent."""
-    sent = {b"client": [], b"server": [], b"spool": []}
-    place = 0
-    while place < len(capture):
-        piece = PIECE.match(capture, place)
-        if not piece:
-            raise Disagreement("a piece of the capture has another form")
-        place = piece.end() + int(piece[2])
-        sent[piece[1]].append(capture[piece.end() : place])
+    sent: Dict[bytes, List[bytes]] = {b"client": [], b"server": []}
+    try:
+        for piece in pieces_in(BytesIO(capture)):
+            if piece.kind in sent:
+                sent[piece.kind].append(capture[piece.place : piece.place + piece.size])
+    except BadPiece as fault:
+        raise Disagreement(str(fault)) from fault
     return b"".join(sent[b"client"]), b"".join(sent[b"server"])
+
+
+def has_sessions(capture: bytes) -> bool:
+    """Whether there is a piece with which a session begins, as in captures of several."""
+    try:
+        return any(piece.kind == b"session" for piece in pieces_in(BytesIO(capture)))
+    except BadPiece:
+        return False
 
 
 def words_of(line: bytes) -> List[bytes]:

@@ -20,7 +20,7 @@ from viewing.session import Session
 STYLE = os.path.join(os.path.dirname(__file__), "page.css")
 # How many lines of a block a page has, how many exchanges stand under one heading, and how many cells the bar has.
 LINES = 200
-TOGETHER = 200
+TOGETHER = 100
 CELLS = 100
 # What is counted at the top, by state, and how.
 COUNTS = {
@@ -150,33 +150,40 @@ def section(session: Session, exchanges: List[Exchange]) -> Iterator[str]:
     is_clean = all(exchange.index not in session.explanation.bad for exchange in exchanges)
     yield '<section class="clean">' if is_clean else "<section>"
     yield f"<h2>Answers {first} to {last}</h2>" if first < last else f"<h2>Answer {first}</h2>"
-    yield "<ol>"
-    for exchange in exchanges:
-        yield from item(session, exchange)
-    yield from ("</ol>", "</section>")
+    yield f"<ol>{''.join(item(session, exchange) for exchange in exchanges)}</ol>"
+    yield "</section>"
 
 
-def item(session: Session, exchange: Exchange) -> Iterator[str]:
-    """An exchange: its line, its reasons if it is bad, and its block."""
-    state = session.state(exchange)
-    bad = session.explanation.bad.get(exchange.index)
-    line = f"<b>{exchange.index}</b> <i>{state}</i> {both(exchange)}"
-    yield f'<li id="a{exchange.index}" class="{"bad " if bad else ""}{kind_of(state)}">'
+def item(session: Session, exchange: Exchange) -> str:
+    """An exchange: its line, its reasons if it is bad, and its block. A long page has thousands of these, and opens the
+    sooner, the fewer elements and attributes it is made of."""
+    index, state = exchange.index, session.state(exchange)
+    bad = session.explanation.bad.get(index)
+    line = f"\n{index} {state} {both(exchange)}"
     if bad:
         # the first one is where to begin
-        yield f'<details class="why"{" open" if bad.index == session.bad[0] else ""}>'
-        yield f'<summary class="line">{line}</summary><div class="reasons">'
-        yield from reasons(session, bad)
-        yield "</div></details>"
-    else:
-        yield f'<p class="line">{line}</p>'
+        is_open = " open" if index == session.bad[0] else ""
+        why = "".join(reasons(session, bad))
+        line = f'<details class="why"{is_open}><summary>{line}</summary><div class="reasons">{why}</div></details>'
+    below = "".join((*under(session, exchange), *block(exchange, bad)))
+    identity = f' id="a{index}"' if index in session.linked else ""
+    return f"<li{identity}{classes(state, bad)}>{line}{below}</li>"
+
+
+def classes(state: str, bad: Optional[Bad]) -> str:
+    """The classes of a line. One that is accepted has none."""
+    if state == "accepted":
+        return ""
+    return f' class="bad {kind_of(state)}"' if bad else f' class="{kind_of(state)}"'
+
+
+def under(session: Session, exchange: Exchange) -> Iterator[str]:
+    """What stands under a line: what `show` prints there, and which bad answers name this one."""
     for told in session.under(exchange):
         yield f'<p class="under">{shown(octets_of(told))}</p>'
     named_by = session.named_by.get(exchange.index)
     if named_by:
         yield f'<p class="under">named by {", ".join(map(link, named_by))}</p>'
-    yield from block(exchange, bad)
-    yield "</li>"
 
 
 def both(exchange: Exchange) -> str:
@@ -222,7 +229,7 @@ def reasons(session: Session, bad: Bad) -> Iterator[str]:
         yield f"<p>{together if many > 1 else LEADS.get(bad.kind, 'Because of this answer:')}</p><ol>"
         for cited in bad.cited:
             told = "".join(f"<p>{sentence_of(line)}</p>" for line in cited.lines)
-            yield f"<li><p>{link(cited.index)}: {both(session.exchanges[cited.index])}</p>{told}</li>"
+            yield f"<li>{link(cited.index)}: {both(session.exchanges[cited.index])}{told}</li>"
         yield "</ol>"
     for line in last:
         yield f"<p>{sentence_of(line)}</p>"
@@ -258,7 +265,7 @@ def unanswered(session: Session) -> Iterator[str]:
         return
     yield '<section class="clean"><h2 id="unanswered">Without an answer</h2><ol>'
     for exchange in lines[:LINES]:
-        yield f'<li class="nothing"><p class="line"><b>{exchange.index}</b> <i>no answer</i> {asked(exchange)}</p></li>'
+        yield f'<li class="nothing">\n{exchange.index} no answer {asked(exchange)}</li>'
     yield "</ol>"
     if len(lines) > LINES:
         yield f"<p>and {counted(len(lines) - LINES, 'line')} more</p>"

@@ -8,6 +8,8 @@ from typing import Dict, Iterator, List, Optional
 SHOWN = re.compile(r"[0-9]+ ")
 BAD = re.compile(r"bad answer ([0-9]+) ([A-Za-z]+)")
 BECAUSE = re.compile(r"because answer ([0-9]+)")
+# The answers in `in NAME since J at N since I` and in `because some of J to I`.
+MENTIONED = re.compile(r" (?:since|of|to) ([0-9]+)")
 END = re.compile(r"end answers=([0-9]+) bad=([0-9]+) unanswered=([0-9]+)")
 # The classes of octets that answer nothing.
 LEFT = ("Surplus", "Cut")
@@ -62,6 +64,13 @@ class Explanation:
         """All that is told of answers, of bad ones and of their reasons."""
         for bad in self.bad.values():
             yield from (bad, *bad.cited)
+
+    def mentioned(self) -> Iterator[int]:
+        """The answers that lines tell of otherwise than behind `because`."""
+        for told in self.told():
+            for line in told.lines:
+                if line.startswith(("in ", "because ")):
+                    yield from map(int, MENTIONED.findall(line))
 
     def named_by(self) -> Dict[int, List[int]]:
         """Each answer that is named behind `because`, and the bad ones that name it."""

@@ -2,7 +2,7 @@
 from __future__ import annotations
 
 from dataclasses import dataclass, field
-from typing import Dict, List
+from typing import Dict, List, Set
 
 from viewing.capture import Disagreement, Exchange, pair, streams
 from viewing.octets import octets_of, printed
@@ -26,10 +26,13 @@ class Session:
     bad: List[int] = field(init=False)
     # The answers that are named behind `because`, each with the bad ones that name it.
     named_by: Dict[int, List[int]] = field(init=False)
+    # The answers to which a page has links.
+    linked: Set[int] = field(init=False)
 
     def __post_init__(self) -> None:
         self.bad = sorted(self.explanation.bad)
         self.named_by = self.explanation.named_by()
+        self.linked = {*self.bad, *self.named_by, *self.explanation.mentioned()}
 
     def state(self, exchange: Exchange) -> str:
         """What is said of an answer, in a word or two."""
