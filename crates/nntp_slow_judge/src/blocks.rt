@@ -1,6 +1,7 @@
 //! What blocks list or send, against what a spool has.
 use crate::spool::{Article, Group, Spool};
-use nntp_wire::{Block, GroupName, Lines, Range, What, Wildmat};
+use crate::wildmats::is_matched;
+use nntp_wire::{Block, Lines, Range, What, Wildmat};
 
 impl Group {
     /// Whether the block lists its numbers in the range, and no others.
@@ -25,9 +26,9 @@ impl Group {
 
     /// Whether it matches the wildmat, if there is one.
     fn is_asked_for(&self, wildmat: Option<&Wildmat<'_>>) -> bool {
-        match (wildmat, GroupName::parse(self.name.as_slice())) {
-            (Some(wildmat), Some(name)) => wildmat.matches(&name),
-            _ => true,
+        match wildmat {
+            Some(wildmat) => is_matched(wildmat.as_slice(), self.name.as_slice()),
+            None => true,
         }
     }
 

@@ -1,7 +1,8 @@
 //! A slow judge of sessions, by plain lists. It works out anew from all answers what is shown and what
-//! is denied, makes the spool that is given for them, and looks up in it what each answer says. It reads a session on
-//! behind bad answers too, and tells whether some spool has what answers say by themselves. A spool that comes as a
-//! text it puts to a session. Of what it judges it calls nothing but what reads octets and pairs answers.
+//! is denied, makes the spool that is given for them, and looks up in it what each answer says. Sessions of one spool it
+//! judges as one list of exchanges, one session behind the other. It reads a session on behind bad answers too, and tells
+//! whether some spool has what answers say by themselves. A spool that comes as a text it puts to a session. Of what it
+//! judges it calls nothing but what reads octets and pairs answers.
 #![tactic(auto)]
 
 mod blocks;
@@ -17,6 +18,7 @@ mod standing;
 mod text;
 mod told;
 mod visible;
+mod wildmats;
 
 use given::given_spool;
 pub use lines::{push_name, push_number, push_unseen};
@@ -29,6 +31,7 @@ use standing::count_permitted;
 use std::alloc::{AllocError, Global};
 use text::{read_text, text_of};
 use visible::Visible;
+pub use wildmats::is_matched;
 
 /// An exchange, and how many octets the server has sent up to its end.
 #[derive(Drop)]
@@ -76,7 +79,8 @@ fn listed<'e, 'a>(
 }
 
 /// What is said of the last of these exchanges, where some spool explains those before it; and the text
-/// of the spool that is given for all of them, where that one explains them.
+/// of the spool that is given for all of them, where that one explains them. They may be of several sessions, one behind
+/// the other: each begins with its greeting.
 pub fn judge(
     alloc: Global,
     choice: Choice,

@@ -124,9 +124,10 @@ impl<'a> Said<'a> {
         Ok(())
     }
 
-    /// Adds what one more answer says.
+    /// Adds what one more answer says. A greeting begins a session, in which no group is selected.
     pub(crate) fn hear(&mut self, exchange: &Exchange<'a>) -> Result<(), AllocError> {
         let Prompt::To(command) = exchange.prompt() else {
+            self.stand(None, None);
             return Ok(());
         };
         match exchange.answer() {

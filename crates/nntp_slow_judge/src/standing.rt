@@ -52,9 +52,10 @@ impl<'s> Standing<'s> {
         self.selected = selected;
     }
 
-    /// Goes where an answer leads.
+    /// Goes where an answer leads. A greeting begins a session, in which no group is selected.
     fn pass(&mut self, exchange: &Exchange<'_>) {
         match (exchange.prompt(), exchange.answer()) {
+            (Prompt::Greeting, _) => *self = Standing::new(self.spool, self.marks),
             (_, Answer::Group { name, .. }) => self.select(name.as_slice()),
             (_, Answer::Numbers { name, .. }) => self.select(name.as_slice()),
             (

@@ -1,4 +1,5 @@
 //! Which answers fit the visible state of a session, whatever the spool is.
+use crate::wildmats::is_matched;
 use nntp_article::{Head, Parts};
 use nntp_pair::Exchange;
 use nntp_wire::{
@@ -42,8 +43,12 @@ impl<'a> Visible<'a> {
         }
     }
 
-    /// The state behind an answer.
+    /// The state behind an answer. A greeting begins a session, in which no group is selected and no mark reported.
     pub(crate) fn pass(&mut self, exchange: &Exchange<'a>) -> Result<(), AllocError> {
+        if let Prompt::Greeting = exchange.prompt() {
+            self.selected = None;
+            self.lows.clear();
+        }
         let (marks, name) = match exchange.answer() {
             Answer::Group { marks, name } => (*marks, name.as_slice()),
             Answer::Numbers { marks, name, .. } => (*marks, name.as_slice()),
@@ -174,14 +179,14 @@ impl<'a> Visible<'a> {
             let Some(active) = active_line(line) else {
                 return false;
             };
+            let name = active.name.as_slice();
             let matches = match wildmat {
-                Some(wildmat) => wildmat.matches(&active.name),
+                Some(wildmat) => is_matched(wildmat.as_slice(), name),
                 None => true,
             };
             if !matches || !self.are_marks(active.low, active.high) {
                 return false;
             }
-            let name = active.name.as_slice();
             for other in block.lines().take(index) {
                 if active_line(other).is_some_and(|other| other.name.as_slice() == name) {
                     return false;

@@ -19,9 +19,13 @@ mod limits;
 #[cfg(test)]
 mod marks;
 #[cfg(test)]
+mod random_lists;
+#[cfg(test)]
 mod several;
 #[cfg(test)]
 mod short_sessions;
+#[cfg(test)]
+mod slow_list;
 #[cfg(test)]
 mod slowly_explained;
 #[cfg(test)]
@@ -32,5 +36,7 @@ mod slowly_noted;
 mod verdicts;
 #[cfg(test)]
 mod widened;
+#[cfg(test)]
+mod wildmats;
 #[cfg(test)]
 mod written;

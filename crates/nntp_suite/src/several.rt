@@ -30,7 +30,7 @@ struct Wanted<'a> {
 }
 
 /// What `check_sessions` says.
-fn checked(
+pub(crate) fn checked(
     alloc: Global,
     choice: Choice,
     sessions: &[Recorded<'_>],
@@ -39,7 +39,7 @@ fn checked(
 }
 
 /// What `verify_sessions` answers of the spool with this text.
-fn verified(
+pub(crate) fn verified(
     alloc: Global,
     marks: Marks,
     text: &str,
@@ -91,7 +91,7 @@ fn is_told(told: Option<(u64, u64, Class)>, verdict: &SessionsVerdict, count: us
 }
 
 /// Ends a checker to which so many sessions were fed.
-fn end(
+pub(crate) fn end(
     rt: &impl Abort,
     alloc: Global,
     name: &str,
@@ -108,7 +108,7 @@ fn end(
 }
 
 /// What a checker says, to which each stream comes in one piece.
-fn checked_in_turn(
+pub(crate) fn checked_in_turn(
     rt: &impl Abort,
     alloc: Global,
     choice: Choice,
@@ -121,7 +121,7 @@ fn checked_in_turn(
 }
 
 /// What a checker says, to which the streams come octet by octet.
-fn checked_by_octets(
+pub(crate) fn checked_by_octets(
     rt: &impl Abort,
     alloc: Global,
     choice: Choice,

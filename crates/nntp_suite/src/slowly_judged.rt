@@ -17,9 +17,9 @@ use std::test::Fail;
 /// What the slow judge says of a session: how many answers are consistent with all before them, what it
 /// says of the next, if there is one, and the spool's text.
 #[derive(Drop)]
-struct Slow {
-    good: usize,
-    judged: Judged,
+pub(crate) struct Slow {
+    pub(crate) good: usize,
+    pub(crate) judged: Judged,
     text: Vec<u8>,
 }
 
@@ -111,15 +111,13 @@ pub(crate) fn compare_report(
     slow.compare(rt, alloc, name, report)
 }
 
-/// What the slow judge says of two streams, and the text of the spool that is given for the answers that
-/// are consistent.
-fn judge_streams(
+/// What the slow judge says of exchanges, and the text of the spool that is given for those that are consistent.
+pub(crate) fn judge_all(
     alloc: Global,
     choice: Choice,
-    (client, server): (&[u8], &[u8]),
+    exchanges: &[Answered<'_>],
 ) -> Result<(Slow, Vec<u8>), AllocError> {
-    let exchanges = exchanges(alloc, client, server)?;
-    let slow = Slow::all(alloc, choice, &exchanges)?;
+    let slow = Slow::all(alloc, choice, exchanges)?;
     let (front, _) = exchanges.split_at(slow.good.min(exchanges.len()));
     let (_, text) = judge(alloc, choice, front)?;
     Ok((slow, text))
@@ -128,7 +126,8 @@ fn judge_streams(
 /// The verdict on a worked session is that of the slow judge, as is the spool.
 fn judge_worked(rt: &impl Abort, alloc: Global, session: &Session) -> Result<(), Fail> {
     let name = session.name;
-    let (slow, text) = judge_streams(alloc, session.choice, session.streams())?;
+    let (client, server) = session.streams();
+    let (slow, text) = judge_all(alloc, session.choice, &exchanges(alloc, client, server)?)?;
     let first = slow.first_line(alloc, session.is_consistent())?;
     expect_front(rt, name, session.verdict.as_bytes(), first.as_str());
     expect_octets(rt, name, &text, session.given.0.as_bytes());
