@@ -2,7 +2,7 @@
 use Rattle.std.proofs.Common.{◌≡◌, ◌∙◌, sym, ap, refl, ℕ, List, [], ◌∷◌, ◌++◌, ◌||◌, if◌then◌else◌, Option, append_assoc, append-nil, Result, Ok, Err}
 use Rattle.std.proofs.lemmas.List.Concat.{flat_map-append}
 use Rattle.std.specs.Prelude.{OnOk, IsTrue, decimal}
-use Rattle.std.specs.List.{list_any}
+use Rattle.std.specs.List.{flat_map, list_any}
 use Rattle.nntp_article.specs.Article.Parts.{Id, Line, is_empty, head_part, body_part}
 use Rattle.nntp_wire.specs.Listing.{ActiveValue}
 use Rattle.nntp_article.specs.Session.Spool.{Name}
@@ -36,19 +36,19 @@ pub bounds_end : (name : Name) (about : Option ℕ) (p : Option (List ℕ)) (lef
     → left ≡ [] → text ++ numbers_said name about (GroupsAre p left) ≡ whole → text ≡ whole
 bounds_end name about p left text whole none h = sym (append-nil text) ∙ ap (λ ls. text ++ numbers_said name about (GroupsAre p ls)) (sym none) ∙ h
 
+-- the text goes on with what is said of one of these
+pub one_told : {X : Type 0} (says : X → List ℕ) (x : X) (left xs : List X) (text more whole : List ℕ) → left ≡ x ∷ xs → more ≡ text ++ says x → text ++ flat_map says left ≡ whole
+    → more ++ flat_map says xs ≡ whole
+one_told says x left xs text more whole is told h =
+    ap (λ t. t ++ flat_map says xs) told ∙ append_assoc text (says x) (flat_map says xs) ∙ ap (λ ls. text ++ flat_map says ls) (sym is) ∙ h
+
+-- where none is left, the text is whole
+pub all_told : {X : Type 0} (says : X → List ℕ) (left : List X) (text whole : List ℕ) → left ≡ [] → text ++ flat_map says left ≡ whole → text ≡ whole
+all_told says left text whole none h = sym (append-nil text) ∙ ap (λ ls. text ++ flat_map says ls) (sym none) ∙ h
+
 -- one piece more
 pub one_more : (text s x one two : List ℕ) → one ≡ text ++ s → two ≡ one ++ x → two ≡ text ++ (s ++ x)
 one_more text s x one two first second = second ∙ ap (λ t. t ++ x) first ∙ append_assoc text s x
-
--- two pieces, and none behind them
-pub two_said : (text a b one two : List ℕ) → one ≡ text ++ a → two ≡ one ++ b → two ≡ text ++ (a ++ (b ++ []))
-two_said text a b one two first second = one_more text a b one two first second ∙ ap (λ t. text ++ (a ++ t)) (sym (append-nil b))
-
--- three pieces, and none behind them
-pub three_said : (text a b c one two : List ℕ) → one ≡ text ++ (a ++ (b ++ [])) → two ≡ one ++ c → two ≡ text ++ (a ++ (b ++ (c ++ [])))
-three_said text a b c one two first second =
-    one_more text (a ++ (b ++ [])) c one two first second
-    ∙ ap (λ t. text ++ t) (append_assoc a (b ++ []) c ∙ ap (λ t. a ++ t) (append_assoc b [] c ∙ ap (λ t. b ++ t) (sym (append-nil c))))
 
 -- two pieces more
 pub two_more : (text s x y one two : List ℕ) → one ≡ text ++ s → two ≡ one ++ x ++ y → two ≡ text ++ (s ++ x ++ y)

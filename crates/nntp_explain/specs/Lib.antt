@@ -1,6 +1,5 @@
 pub mod Standing
 pub mod Reasons
 pub mod Says
-pub mod SaysView
 pub mod Explaining
 pub mod ExplainingView

@@ -1,148 +1,104 @@
-//! One thing that an answer says of the numbers of a group, and how `explain` prints it.
+//! One thing that an answer says of the numbers of a group, as `explain` prints it.
 ghost use Rattle.std.specs.Prelude.{◌≡◌, ◌==◌, ◌++◌, None, true, OnOk, codes, length};
 ghost use Rattle.std.specs.List.{list_any};
 ghost use Rattle.nntp_wire.specs.Listing.{listed_numbers};
 ghost use Rattle.nntp_article.specs.Session.Machine.{is_in_range};
 ghost use Rattle.nntp_facts.specs.Given.{is_end};
 ghost use Rattle.nntp_facts.specs.Asks as asks;
+ghost use Rattle.nntp_facts.specs.FactView.{ask_of};
 ghost use Rattle.nntp_explain.specs.Says.{ask_text, ask_word, bears_on, current_place, current_word, listed_text, marks_text, place_text, range_text, with_or_without};
-ghost use Rattle.nntp_explain.specs.SaysView.{ask_of};
 
-use nntp_facts::Position;
+use nntp_facts::{Ask, Position};
 use nntp_printing::put_number;
 use nntp_wire::{Block, Marks, Range, WaterMarks};
 use std::alloc::{AllocError, Allocator};
 
-/// One thing that an answer says of the numbers of a group.
-#[derive(Drop)]
-pub(crate) enum Ask<'s> {
-    /// There are at most so many, between the marks, which are read so.
-    Estimates {
-        /// How the marks are read.
-        how: Marks,
-        /// The estimate and the marks.
-        marks: WaterMarks,
-    },
-    /// All numbers are between these.
-    Bounds {
-        /// The low mark.
-        low: u64,
-        /// The high mark.
-        high: u64,
-    },
-    /// Those in the range are listed.
-    Lists {
-        /// The range that was asked for.
-        range: Range,
-        /// The lines, each of which is a number.
-        block: &'s Block<'s>,
-    },
-    /// The number isn't there.
-    Lacks(u64),
-    /// The current article is this number.
-    StandsAt(Position, u64),
-    /// There is no current article.
-    StandsNowhere(Position),
-    /// The next number above the current article is this.
-    StepsUp(Position, u64),
-    /// The next number below the current article is this.
-    StepsDown(Position, u64),
-    /// No number is above the current article.
-    IsTop(Position),
-    /// No number is below the current article.
-    IsBottom(Position),
+/// The word that the line of an ask begins with.
+pub(crate) fn ask_word(ask: &Ask<'_>) -> &'static [u8]
+    ensures { result.now ≡ ask_word (ask_of ask.now) }
+{
+    match ask {
+        Ask::Estimates { .. } | Ask::Bounds { .. } | Ask::Lists { .. } => b"numbers",
+        Ask::Lacks(_) => b"number",
+        Ask::StandsAt(at, _) => current_word(*at),
+        Ask::StandsNowhere(at) => current_word(*at),
+        Ask::StepsUp(_, _) | Ask::IsTop(_) => b"next",
+        Ask::StepsDown(_, _) | Ask::IsBottom(_) => b"last",
+    }
 }
 
-impl<'s> Ask<'s> {
-    /// The word that the line begins with.
-    pub(crate) fn word(&self) -> &'static [u8]
-        ensures { result.now ≡ ask_word (ask_of self.now) }
-    {
-        match self {
-            Ask::Estimates { .. } | Ask::Bounds { .. } | Ask::Lists { .. } => b"numbers",
-            Ask::Lacks(_) => b"number",
-            Ask::StandsAt(at, _) => current_word(*at),
-            Ask::StandsNowhere(at) => current_word(*at),
-            Ask::StepsUp(_, _) | Ask::IsTop(_) => b"next",
-            Ask::StepsDown(_, _) | Ask::IsBottom(_) => b"last",
+/// Tells whether an ask shows the number, denies it, or has it as a strict mark.
+pub(crate) fn bears_on(ask: &Ask<'_>, number: u64) -> bool
+    ensures { result ≡ bears_on (ask_of ask.now) number }
+{
+    match ask {
+        Ask::Estimates { how, marks } => {
+            number < marks.low || marks.high < number || is_end(*how, *marks, number)
         }
+        Ask::Bounds { low, high } => number < *low || *high < number,
+        Ask::Lists { range, block } => lists(block, number) || is_in_range(*range, number),
+        Ask::Lacks(missing) => *missing == number,
+        Ask::StandsAt(Position::First, first) => *first == number || number < *first,
+        Ask::StandsNowhere(Position::First) => true,
+        Ask::StandsAt(_, _) | Ask::StandsNowhere(_) => false,
+        Ask::StepsUp(Position::Known(from), next) => {
+            *next == number || (*from < number && number < *next)
+        }
+        Ask::StepsDown(Position::Known(from), last) => {
+            *last == number || (*last < number && number < *from)
+        }
+        Ask::StepsUp(_, next) => *next == number,
+        Ask::StepsDown(_, last) => *last == number,
+        Ask::IsTop(Position::Known(from)) => *from < number,
+        Ask::IsBottom(Position::Known(from)) => number < *from,
+        Ask::IsTop(_) | Ask::IsBottom(_) => false,
     }
+}
 
-    /// Tells whether it shows the number, denies it, or has it as a strict mark.
-    pub(crate) fn bears_on(&self, number: u64) -> bool
-        ensures { result ≡ bears_on (ask_of self.now) number }
-    {
-        match self {
-            Ask::Estimates { how, marks } => {
-                number < marks.low || marks.high < number || is_end(*how, *marks, number)
-            }
-            Ask::Bounds { low, high } => number < *low || *high < number,
-            Ask::Lists { range, block } => lists(block, number) || is_in_range(*range, number),
-            Ask::Lacks(missing) => *missing == number,
-            Ask::StandsAt(Position::First, first) => *first == number || number < *first,
-            Ask::StandsNowhere(Position::First) => true,
-            Ask::StandsAt(_, _) | Ask::StandsNowhere(_) => false,
-            Ask::StepsUp(Position::Known(from), next) => {
-                *next == number || (*from < number && number < *next)
-            }
-            Ask::StepsDown(Position::Known(from), last) => {
-                *last == number || (*last < number && number < *from)
-            }
-            Ask::StepsUp(_, next) => *next == number,
-            Ask::StepsDown(_, last) => *last == number,
-            Ask::IsTop(Position::Known(from)) => *from < number,
-            Ask::IsBottom(Position::Known(from)) => number < *from,
-            Ask::IsTop(_) | Ask::IsBottom(_) => false,
+/// Adds what stands behind the name of the group.
+pub(crate) fn put_ask_text<A: Allocator + Copy>(
+    text: &mut Vec<u8, A>,
+    ask: &Ask<'_>,
+) -> Result<(), AllocError>
+    ensures { OnOk result (text.new.items ≡ text.old.items ++ ask_text (ask_of ask.now)) }
+{
+    match ask {
+        Ask::Estimates { how, marks } => {
+            put_number(text, b" at most ", marks.estimate)?;
+            put_marks(text, *how, marks.low, marks.high)
         }
+        Ask::Bounds { low, high } => put_marks(text, Marks::Lenient, *low, *high),
+        Ask::Lists { range, block } => {
+            put_range(text, *range)?;
+            put_number(text, b" are ", count_of(block))
+        }
+        Ask::Lacks(number) => {
+            put_number(text, b" ", *number)?;
+            text.extend_from_slice(b" is missing")
+        }
+        Ask::StandsAt(at, number) => {
+            put_current_place(text, *at)?;
+            put_number(text, b" is ", *number)
+        }
+        Ask::StandsNowhere(at) => put_no_current(text, *at),
+        Ask::StepsUp(at, number) | Ask::StepsDown(at, number) => put_step(text, *at, *number),
+        Ask::IsTop(at) | Ask::IsBottom(at) => put_no_step(text, *at),
     }
+}
 
-    /// Adds what stands behind the name of the group.
-    pub(crate) fn put_text<A: Allocator + Copy>(
-        &self,
-        text: &mut Vec<u8, A>,
-    ) -> Result<(), AllocError>
-        ensures { OnOk result (text.new.items ≡ text.old.items ++ ask_text (ask_of self.now)) }
-    {
-        match self {
-            Ask::Estimates { how, marks } => {
-                put_number(text, b" at most ", marks.estimate)?;
-                put_marks(text, *how, marks.low, marks.high)
-            }
-            Ask::Bounds { low, high } => put_marks(text, Marks::Lenient, *low, *high),
-            Ask::Lists { range, block } => {
-                put_range(text, *range)?;
-                put_number(text, b" are ", count_of(block))
-            }
-            Ask::Lacks(number) => {
-                put_number(text, b" ", *number)?;
-                text.extend_from_slice(b" is missing")
-            }
-            Ask::StandsAt(at, number) => {
-                put_current_place(text, *at)?;
-                put_number(text, b" is ", *number)
-            }
-            Ask::StandsNowhere(at) => put_no_current(text, *at),
-            Ask::StepsUp(at, number) | Ask::StepsDown(at, number) => {
-                put_step(text, *at, *number)
-            }
-            Ask::IsTop(at) | Ask::IsBottom(at) => put_no_step(text, *at),
+/// Adds, about a number, whether it is among those that are listed.
+pub(crate) fn put_listed<A: Allocator + Copy>(
+    text: &mut Vec<u8, A>,
+    about: Option<u64>,
+    ask: &Ask<'_>,
+) -> Result<(), AllocError>
+    ensures { OnOk result (text.new.items ≡ text.old.items ++ listed_text about (ask_of ask.now)) }
+{
+    match (about, ask) {
+        (Some(number), Ask::Lists { block, .. }) => {
+            put_number(text, with_or_without(lists(block, number)), number)
         }
-    }
-
-    /// Adds, about a number, whether it is among those that are listed.
-    pub(crate) fn put_listed<A: Allocator + Copy>(
-        &self,
-        text: &mut Vec<u8, A>,
-        about: Option<u64>,
-    ) -> Result<(), AllocError>
-        ensures { OnOk result (text.new.items ≡ text.old.items ++ listed_text about (ask_of self.now)) }
-    {
-        match (about, self) {
-            (Some(number), Ask::Lists { block, .. }) => {
-                put_number(text, with_or_without(lists(block, number)), number)
-            }
-            _ => Ok(()),
-        }
+        _ => Ok(()),
     }
 }
 

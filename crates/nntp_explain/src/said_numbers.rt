@@ -4,10 +4,11 @@ ghost use Rattle.std.specs.Option.{option_map_or};
 ghost use Rattle.nntp_wire.specs.Listing.{active_groups};
 ghost use Rattle.nntp_article.specs.Session.Machine.{is_same};
 ghost use Rattle.nntp_facts.specs.Facts.{Asks, GroupsAre, IdAt};
+ghost use Rattle.nntp_facts.specs.FactView.{ask_of};
 ghost use Rattle.nntp_explain.specs.Says.{ask_line, bears_on, id_line, numbers_said, subject};
-ghost use Rattle.nntp_explain.specs.SaysView.{ask_of};
 
-use crate::ask::Ask;
+use crate::ask::{ask_word, bears_on, put_ask_text, put_listed};
+use nntp_facts::Ask;
 use nntp_printing::{put_escaped, put_escaped_line, put_number};
 use nntp_wire::Block;
 use std::alloc::{AllocError, Allocator};
@@ -24,9 +25,9 @@ fn put_ask_line<A: Allocator + Copy>(
     if !is_told(about, ask) {
         return Ok(());
     }
-    put_subject(text, ask.word(), name)?;
-    ask.put_text(text)?;
-    ask.put_listed(text, about)?;
+    put_subject(text, ask_word(ask), name)?;
+    put_ask_text(text, ask)?;
+    put_listed(text, about, ask)?;
     text.push(b'\n')?;
     Ok(())
 }
@@ -50,7 +51,7 @@ fn is_told(about: Option<u64>, ask: &Ask<'_>) -> bool
     ensures { result ≡ option_map_or (bears_on (ask_of ask.now)) about true }
 {
     match about {
-        Some(number) => ask.bears_on(number),
+        Some(number) => bears_on(ask, number),
         None => true,
     }
 }

@@ -1,29 +1,20 @@
 //! What an answer says about the point of a conflict, as `explain` prints it.
-ghost use Rattle.std.specs.Prelude.{◌≡◌, ◌++◌, ◌∷◌, [], ◌<◌, ◌-◌, ◌^◌, None, IfSome, OnOk, length};
-ghost use Rattle.std.specs.List.{flat_map, list_any};
-ghost use Rattle.nntp_wire.specs.Answer.{to};
-ghost use Rattle.nntp_wire.specs.AnswerView.{response};
-ghost use Rattle.nntp_wire.specs.declared.command.What.TheVariants.{Stat};
-ghost use Rattle.nntp_wire.specs.Command.{retrieve};
-ghost use Rattle.nntp_wire.specs.Listing.{active_groups, listed_numbers};
-ghost use Rattle.nntp_wire.specs.View.{request, target};
+ghost use Rattle.std.specs.Prelude.{◌≡◌, ◌++◌, ◌<◌, ◌-◌, ◌^◌, None, IfSome, OnOk, length};
+ghost use Rattle.std.specs.List.{list_any};
+ghost use Rattle.nntp_wire.specs.Listing.{active_groups};
 ghost use Rattle.nntp_article.specs.Session.Machine.{is_same};
-ghost use Rattle.nntp_facts.specs.Asks as asks;
-ghost use Rattle.nntp_facts.specs.Facts.{ThereIs, ThereIsNo, Asks, IdAt, TextIs, NoArticle, GroupsAre, facts_of, facts_of_code};
+ghost use Rattle.nntp_facts.specs.Facts.{ThereIs, ThereIsNo, Asks, IdAt, TextIs, NoArticle, GroupsAre};
+ghost use Rattle.nntp_facts.specs.FactView.{ask_of, fact_of};
 ghost use Rattle.nntp_facts.specs.PointView.{point_of};
 ghost use Rattle.nntp_facts.specs.Conflict as points;
 ghost use Rattle.nntp_explain.specs.Says.{groups_line, said_lines, says};
-ghost use Rattle.nntp_explain.specs.SaysView.{ask_of, in_group, numbers_of_success};
 
-use crate::ask::{Ask, with_or_without};
+use crate::ask::with_or_without;
 use crate::said_numbers::{is_same, put_asked, put_bounds, put_id_line, put_numbered};
 use crate::said_parts::{body_of, head_of, put_part};
-use nntp_facts::{Placed, Point, Position};
+use nntp_facts::{Ask, Fact, Placed, Point};
 use nntp_printing::{put_escaped_line, put_number};
-use nntp_wire::{
-    Answer, Block, Command, GroupName, Marks, Prompt, Range, WaterMarks, What, Which, Wildmat,
-    matches_if_given,
-};
+use nntp_wire::{Block, GroupName, Marks, What, Wildmat, matches_if_given};
 use std::alloc::{AllocError, Allocator};
 
 /// What is told of an answer: what it says about this point.
@@ -33,15 +24,6 @@ pub(crate) struct About<'p> {
     pub(crate) point: Point<'p>,
     /// The line that is told of a head or a body, if one is. It counts from 0.
     pub(crate) line: Option<usize>,
-}
-
-/// Where an answer stands.
-#[derive(Clone, Copy)]
-struct Here<'s> {
-    /// The name of the selected group, or no octets where none is selected.
-    name: &'s [u8],
-    /// The position in the group.
-    at: Position,
 }
 
 /// Adds what an answer says about the point, a line for each thing that it says.
@@ -54,209 +36,31 @@ pub(crate) fn put_said<A: Allocator + Copy>(
     requires { IfSome about.now.line (λ place. place < 2 ^ 64 - 1) }
     ensures { OnOk result (text.new.items ≡ text.old.items ++ said_lines how about.now.line (point_of about.now.point) answer.now) }
 {
-    let here = Here {
-        name: answer.selected_name(),
-        at: answer.position(),
-    };
-    match answer.prompt() {
-        Prompt::Greeting => Ok(()),
-        Prompt::To(command) => put_said_to(text, how, about, here, command, answer.answer()),
+    for fact in answer.facts(how) {
+        put_fact(text, about, &fact)?;
     }
+    Ok(())
 }
 
-/// Adds what an answer to a command says.
-fn put_said_to<A: Allocator + Copy>(
+/// Adds what a fact says about the point.
+fn put_fact<A: Allocator + Copy>(
     text: &mut Vec<u8, A>,
-    how: Marks,
     about: &About<'_>,
-    here: Here<'_>,
-    command: &Command<'_>,
-    answer: &Answer<'_>,
+    fact: &Fact<'_>,
 ) -> Result<(), AllocError>
     requires { IfSome about.now.line (λ place. place < 2 ^ 64 - 1) }
-    ensures { OnOk result (text.new.items ≡ text.old.items
-        ++ flat_map (says about.now.line (point_of about.now.point)) (facts_of how (in_group here.entry.name.now) here.entry.at (to (request command.now)) (response answer.now))) }
+    ensures { OnOk result (text.new.items ≡ text.old.items ++ says about.now.line (point_of about.now.point) (fact_of fact.now)) }
 {
-    match (command, answer) {
-        (_, Answer::Plain { code }) => put_said_by_code(text, about, here, command, *code),
-        (Command::Group(_), Answer::Group { marks, name }) => {
-            put_marks(text, how, about, name.as_slice(), *marks)
+    match fact {
+        Fact::ThereIs(name) => put_there_is(text, about, name.as_slice()),
+        Fact::ThereIsNo(name) => put_there_is_no(text, about, *name),
+        Fact::Asks(name, ask) => put_ask(text, about, *name, ask),
+        Fact::IdAt(name, number, id) => put_id_at(text, about, *name, *number, id.as_slice()),
+        Fact::TextIs { what, id, block } => {
+            put_text_is(text, about, *what, id.as_slice(), *block)
         }
-        (Command::ListGroup { range, .. }, Answer::Numbers { marks, name, block }) => {
-            put_numbers(text, how, about, name.as_slice(), *marks, *range, block)
-        }
-        (Command::Next, Answer::Sent { number, id, .. }) => {
-            let ask = Ask::StepsUp(here.at, *number);
-            put_number_with_id(text, about, here.name, &ask, *number, id.as_slice())
-        }
-        (Command::Last, Answer::Sent { number, id, .. }) => {
-            let ask = Ask::StepsDown(here.at, *number);
-            put_number_with_id(text, about, here.name, &ask, *number, id.as_slice())
-        }
-        (
-            Command::Retrieve { what, which },
-            Answer::Sent {
-                code: _,
-                number,
-                id,
-                block,
-            },
-        ) => put_success(
-            text,
-            about,
-            here,
-            *what,
-            which,
-            *number,
-            id.as_slice(),
-            block,
-        ),
-        (Command::ListActive(wildmat), Answer::Active(block)) => {
-            put_groups(text, about, wildmat, block)
-        }
-        _ => Ok(()),
-    }
-}
-
-/// Adds that there is such a group, with these marks.
-fn put_marks<A: Allocator + Copy>(
-    text: &mut Vec<u8, A>,
-    how: Marks,
-    about: &About<'_>,
-    name: &[u8],
-    marks: WaterMarks,
-) -> Result<(), AllocError>
-    ensures { OnOk result (text.new.items ≡ text.old.items
-        ++ flat_map (says about.now.line (point_of about.now.point)) (ThereIs name.now ∷ Asks name.now (asks.Estimates how marks) ∷ [])) }
-{
-    put_there_is(text, about, name)?;
-    put_ask(text, about, name, &Ask::Estimates { how, marks })
-}
-
-/// Adds that there is such a group, with these marks, and which of its numbers in the range are listed.
-fn put_numbers<A: Allocator + Copy>(
-    text: &mut Vec<u8, A>,
-    how: Marks,
-    about: &About<'_>,
-    name: &[u8],
-    marks: WaterMarks,
-    range: Range,
-    block: &Block<'_>,
-) -> Result<(), AllocError>
-    ensures { OnOk result (text.new.items ≡ text.old.items
-        ++ flat_map (says about.now.line (point_of about.now.point))
-        (ThereIs name.now ∷ Asks name.now (asks.Estimates how marks) ∷ Asks name.now (asks.ListsIn range (listed_numbers block.now)) ∷ [])) }
-{
-    put_marks(text, how, about, name, marks)?;
-    put_ask(text, about, name, &Ask::Lists { range, block })
-}
-
-/// Adds what is asked of the numbers of a group where it comes to this number, and that the number has the id.
-fn put_number_with_id<A: Allocator + Copy>(
-    text: &mut Vec<u8, A>,
-    about: &About<'_>,
-    name: &[u8],
-    ask: &Ask<'_>,
-    number: u64,
-    id: &[u8],
-) -> Result<(), AllocError>
-    ensures { OnOk result (text.new.items ≡ text.old.items
-        ++ flat_map (says about.now.line (point_of about.now.point)) (Asks name.now (ask_of ask.now) ∷ IdAt name.now number id.now ∷ [])) }
-{
-    put_ask(text, about, name, ask)?;
-    put_id_at(text, about, name, number, id)
-}
-
-/// Adds what a success of ARTICLE, HEAD, BODY or STAT says.
-fn put_success<A: Allocator + Copy>(
-    text: &mut Vec<u8, A>,
-    about: &About<'_>,
-    here: Here<'_>,
-    what: What,
-    which: &Which<'_>,
-    number: u64,
-    id: &[u8],
-    block: &Option<Block<'_>>,
-) -> Result<(), AllocError>
-    requires { IfSome about.now.line (λ place. place < 2 ^ 64 - 1) }
-    ensures { OnOk result (text.new.items ≡ text.old.items
-        ++ flat_map (says about.now.line (point_of about.now.point))
-        (TextIs what id.now block.now ∷ numbers_of_success (in_group here.entry.name.now) here.entry.at (target which.now) number id.now)) }
-{
-    put_text_is(text, about, what, id, block)?;
-    put_numbers_of_success(text, about, here, which, number, id)
-}
-
-/// Adds what a success of ARTICLE, HEAD, BODY or STAT says of the number.
-fn put_numbers_of_success<A: Allocator + Copy>(
-    text: &mut Vec<u8, A>,
-    about: &About<'_>,
-    here: Here<'_>,
-    which: &Which<'_>,
-    number: u64,
-    id: &[u8],
-) -> Result<(), AllocError>
-    ensures { OnOk result (text.new.items ≡ text.old.items
-        ++ flat_map (says about.now.line (point_of about.now.point)) (numbers_of_success (in_group here.entry.name.now) here.entry.at (target which.now) number id.now)) }
-{
-    match which {
-        Which::Id(_) if number == 0 => Ok(()),
-        Which::Current => {
-            let ask = Ask::StandsAt(here.at, number);
-            put_number_with_id(text, about, here.name, &ask, number, id)
-        }
-        _ => put_id_at(text, about, here.name, number, id),
-    }
-}
-
-/// Adds what a code alone says.
-fn put_said_by_code<A: Allocator + Copy>(
-    text: &mut Vec<u8, A>,
-    about: &About<'_>,
-    here: Here<'_>,
-    command: &Command<'_>,
-    code: u64,
-) -> Result<(), AllocError>
-    ensures { OnOk result (text.new.items ≡ text.old.items
-        ++ flat_map (says about.now.line (point_of about.now.point)) (facts_of_code (in_group here.entry.name.now) here.entry.at (request command.now) code)) }
-{
-    match (command, code) {
-        (Command::Group(word), 411) => put_there_is_no(text, about, *word),
-        (
-            Command::ListGroup {
-                group: Some(word),
-                ..
-            },
-            411,
-        ) => put_there_is_no(text, about, *word),
-        (Command::Next | Command::Last, 420) => {
-            put_ask(text, about, here.name, &Ask::StandsNowhere(here.at))
-        }
-        (Command::Next, 421) => put_ask(text, about, here.name, &Ask::IsTop(here.at)),
-        (Command::Last, 422) => put_ask(text, about, here.name, &Ask::IsBottom(here.at)),
-        (Command::Retrieve { which, .. }, code) => put_failure(text, about, here, which, code),
-        _ => Ok(()),
-    }
-}
-
-/// Adds what a failure of ARTICLE, HEAD, BODY or STAT says.
-fn put_failure<A: Allocator + Copy>(
-    text: &mut Vec<u8, A>,
-    about: &About<'_>,
-    here: Here<'_>,
-    which: &Which<'_>,
-    code: u64,
-) -> Result<(), AllocError>
-    ensures { OnOk result (text.new.items ≡ text.old.items
-        ++ flat_map (says about.now.line (point_of about.now.point)) (facts_of_code (in_group here.entry.name.now) here.entry.at (retrieve Stat (target which.now)) code)) }
-{
-    match (which, code) {
-        (Which::Id(word), 430) => put_no_article(text, about, *word),
-        (Which::Number(Some(number)), 423) => {
-            put_ask(text, about, here.name, &Ask::Lacks(*number))
-        }
-        (Which::Current, 420) => put_ask(text, about, here.name, &Ask::StandsNowhere(here.at)),
-        _ => Ok(()),
+        Fact::NoArticle(id) => put_no_article(text, about, *id),
+        Fact::GroupsAre { wildmat, block } => put_groups(text, about, *wildmat, *block),
     }
 }
 

@@ -6,13 +6,16 @@ ghost use Rattle.nntp_wire.specs.AnswerView.{response};
 ghost use Rattle.nntp_wire.specs.View.{asked};
 ghost use Rattle.nntp_wire.specs.Name.{IsGroupName};
 ghost use Rattle.nntp_article.specs.Session.Machine.{Visible};
+ghost use Rattle.nntp_facts.specs.Conflict.{said};
 ghost use Rattle.nntp_facts.specs.Facts.{facts_of};
 ghost use Rattle.nntp_facts.specs.Together.{IsWellFormed};
 ghost use Rattle.nntp_pair.specs.Pairing.{asked_at, lines_in};
 
+use crate::facts_of::facts_of;
 use crate::position::Position;
+use crate::said_facts::SaidFacts;
 use nntp_pair::Exchange;
-use nntp_wire::{Answer, GroupName, Prompt};
+use nntp_wire::{Answer, GroupName, Marks, Prompt};
 use std::marker::Model;
 
 /// An exchange of a session where it stands: the group that is selected before it, and the place in
@@ -91,5 +94,18 @@ impl<'a> Placed<'a> {
         ensures well_formed { (how : Marks) (v : Visible) (at : Position) → AllByRecursion IsWellFormed (facts_of how v at self.now.asked self.now.response) }
     {
         self.exchange.answer()
+    }
+
+    /// Returns what the answer says of the spool, where marks are read so: at most three facts.
+    pub fn facts(&self, how: Marks) -> SaidFacts<'_>
+        ensures { result ≡ said how self.now }
+    {
+        facts_of(
+            how,
+            self.selected_name(),
+            self.position(),
+            self.prompt(),
+            self.answer(),
+        )
     }
 }

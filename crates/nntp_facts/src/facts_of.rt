@@ -1,0 +1,141 @@
+//! What each kind of answer says of the spool (RFC 3977, sections 6 and 7.6.3).
+ghost use Rattle.std.specs.Prelude.{◌≡◌, ℕ};
+ghost use Rattle.nntp_wire.specs.declared.marks.Marks.{Marks};
+ghost use Rattle.nntp_wire.specs.View.{asked, request, target};
+ghost use Rattle.nntp_wire.specs.AnswerView.{response};
+ghost use Rattle.nntp_wire.specs.Answer.{to, sends};
+ghost use Rattle.nntp_wire.specs.Command.{retrieve};
+ghost use Rattle.nntp_article.specs.Session.Machine.{Visible};
+ghost use Rattle.nntp_facts.specs.Facts.{here, facts_of, facts_of_code};
+
+use crate::fact::{Ask, Fact};
+use crate::position::Position;
+use crate::said_facts::SaidFacts;
+use nntp_wire::{Answer, Block, Command, Marks, MessageId, Prompt, What, Which};
+
+/// Returns what an answer says where marks are read so, this group is selected, and the session
+/// stands at the position.
+pub(crate) fn facts_of<'s>(
+    how: Marks,
+    selected: &'s [u8],
+    at: Position,
+    prompt: &'s Prompt<'s>,
+    answer: &'s Answer<'s>,
+) -> SaidFacts<'s>
+    ensures { (v : Visible) → selected.now ≡ here v → result ≡ facts_of how v at (asked prompt.now) (response answer.now) }
+{
+    match (prompt, answer) {
+        (Prompt::To(command), Answer::Plain { code }) => {
+            facts_of_code(selected, at, command, *code)
+        }
+        (Prompt::To(Command::Group(_)), Answer::Group { marks, name }) => SaidFacts::two(
+            Fact::ThereIs(name),
+            Fact::Asks(name.as_slice(), Ask::Estimates { how, marks: *marks }),
+        ),
+        (Prompt::To(Command::ListGroup { range, .. }), Answer::Numbers { marks, name, block }) => {
+            SaidFacts::three(
+                Fact::ThereIs(name),
+                Fact::Asks(name.as_slice(), Ask::Estimates { how, marks: *marks }),
+                Fact::Asks(
+                    name.as_slice(),
+                    Ask::Lists {
+                        range: *range,
+                        block,
+                    },
+                ),
+            )
+        }
+        (Prompt::To(Command::Next), Answer::Sent { number, id, .. }) => SaidFacts::two(
+            Fact::Asks(selected, Ask::StepsUp(at, *number)),
+            Fact::IdAt(selected, *number, id),
+        ),
+        (Prompt::To(Command::Last), Answer::Sent { number, id, .. }) => SaidFacts::two(
+            Fact::Asks(selected, Ask::StepsDown(at, *number)),
+            Fact::IdAt(selected, *number, id),
+        ),
+        (
+            Prompt::To(Command::Retrieve { what, which }),
+            Answer::Sent {
+                code: _,
+                number,
+                id,
+                block,
+            },
+        ) => facts_of_success(selected, at, *what, which, *number, id, block),
+        (Prompt::To(Command::ListActive(wildmat)), Answer::Active(block)) => {
+            SaidFacts::one(Fact::GroupsAre { wildmat, block })
+        }
+        _ => SaidFacts::none(),
+    }
+}
+
+/// Returns what a code alone says.
+fn facts_of_code<'s>(
+    selected: &'s [u8],
+    at: Position,
+    command: &'s Command<'s>,
+    code: u64,
+) -> SaidFacts<'s>
+    ensures { (v : Visible) → selected.now ≡ here v → result ≡ facts_of_code v at (request command.now) code }
+{
+    match (command, code) {
+        (Command::Group(word), 411) => SaidFacts::one(Fact::ThereIsNo(*word)),
+        (
+            Command::ListGroup {
+                group: Some(word),
+                ..
+            },
+            411,
+        ) => SaidFacts::one(Fact::ThereIsNo(*word)),
+        (Command::Next | Command::Last, 420) => {
+            SaidFacts::one(Fact::Asks(selected, Ask::StandsNowhere(at)))
+        }
+        (Command::Next, 421) => SaidFacts::one(Fact::Asks(selected, Ask::IsTop(at))),
+        (Command::Last, 422) => SaidFacts::one(Fact::Asks(selected, Ask::IsBottom(at))),
+        (Command::Retrieve { which, .. }, code) => facts_of_failure(selected, at, which, code),
+        _ => SaidFacts::none(),
+    }
+}
+
+/// Returns what a failure of ARTICLE, HEAD, BODY or STAT says.
+fn facts_of_failure<'s>(
+    selected: &'s [u8],
+    at: Position,
+    which: &'s Which<'s>,
+    code: u64,
+) -> SaidFacts<'s>
+    ensures { (v : Visible) (what : What) → selected.now ≡ here v → result ≡ facts_of_code v at (retrieve what (target which.now)) code }
+{
+    match (which, code) {
+        (Which::Id(word), 430) => SaidFacts::one(Fact::NoArticle(*word)),
+        (Which::Number(Some(number)), 423) => {
+            SaidFacts::one(Fact::Asks(selected, Ask::Lacks(*number)))
+        }
+        (Which::Current, 420) => SaidFacts::one(Fact::Asks(selected, Ask::StandsNowhere(at))),
+        _ => SaidFacts::none(),
+    }
+}
+
+/// Returns what a success of ARTICLE, HEAD, BODY or STAT says.
+fn facts_of_success<'s>(
+    selected: &'s [u8],
+    at: Position,
+    what: What,
+    which: &'s Which<'s>,
+    number: u64,
+    id: &'s MessageId<'s>,
+    block: &'s Option<Block<'s>>,
+) -> SaidFacts<'s>
+    ensures { (how : Marks) (v : Visible) (code : ℕ) → selected.now ≡ here v → result
+        ≡ facts_of how v at (to (retrieve what (target which.now))) (sends (record { code = code; number = number; id = id.now; block = block.now })) }
+{
+    let text = Fact::TextIs { what, id, block };
+    let id = Fact::IdAt(selected, number, id);
+    match which {
+        Which::Id(_) if number == 0 => SaidFacts::one(text),
+        Which::Current => {
+            SaidFacts::three(text, Fact::Asks(selected, Ask::StandsAt(at, number)), id)
+        }
+        _ => SaidFacts::two(text, id),
+    }
+}
