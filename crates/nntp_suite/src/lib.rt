@@ -7,6 +7,8 @@ mod checkers;
 #[cfg(test)]
 mod cuts;
 #[cfg(test)]
+mod example;
+#[cfg(test)]
 mod expectations;
 #[cfg(test)]
 mod family;

@@ -1,0 +1,2 @@
+pub mod AcceptedAnswers
+pub mod ExampleSession
