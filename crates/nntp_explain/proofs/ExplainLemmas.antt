@@ -26,12 +26,14 @@ use Rattle.nntp_facts.proofs.Reading.NotedAsJudged.{unfit_refused, contradiction
 use Rattle.nntp_several.specs.Conflict.{placed_of_all}
 use Rattle.nntp_several.proofs.ConflictsOfSessions.{accepted_fit_behind, noted_conflicts_behind, placed_next_behind}
 use Rattle.nntp_printing.specs.Title.{title_line}
-use Rattle.nntp_explain.specs.Explaining.{IsTold, IsConflictOf, IsReason, IsExplained, AreExplained, count_bad}
-use Rattle.nntp_explain.specs.ExplainingView.{Kept, Before, begins, placed_at, keeps, refuses, title_of, title_told, untold, unfitting_told, AreKept, AreTold, GoesOn}
+use Rattle.nntp_explain.specs.Explaining.{IsTold, ToldContradiction, IsConflictOf, IsReason, IsExplained, AreExplained, count_bad}
+use Rattle.nntp_explain.specs.ExplainingView.{Kept, Before, begins, placed_at, keeps, refuses, title_of, title_told, untold, unfitting_told, AreKept, AreReasons, AreTold, GoesOn}
 use Rattle.nntp_explain.specs.Reasons.{unfitting_lines, misspelling_line}
 use Rattle.nntp_explain.specs.Standing.{Standing, Cited, standing, standing_after, cited, cited_at, cited_each, number_behind, cited_of_all, closing_after, closing_with}
+use Rattle.nntp_facts.proofs.Members.{all_at, all_from}
+use Rattle.nntp_explain.proofs.ReasonsGoOn.{reason_still}
 use Rattle.nntp_explain.proofs.AnswerLemmas.{standing_push, closing_next, placed_there, explained_push, good_push, bad_push, told_as, told_long}
-use Rattle.nntp_explain.proofs.SessionLemmas.{one_more_behind, index_behind, due_behind, as_many_cited, cited_next, own_part, untitled, told_once, text_grows}
+use Rattle.nntp_explain.proofs.SessionLemmas.{one_more_behind, index_behind, due_behind, as_many_cited, as_many_of_all, cited_next, own_part, untitled, told_once, text_grows}
 
 -- ---- how it goes on
 
@@ -50,6 +52,7 @@ told_first profile earlier kept title text client server k few =
       title_is = refl;
       stands_there = refl;
       closing_is = refl;
+      reasons = tt;
       bad_are = omega arith;
       few = few;
       told = [];
@@ -80,6 +83,15 @@ others_cited profile b client server kept text left t =
     let both = length-append (cited_each 1 b.earlier) (cited (number_behind b.earlier) (accepted_of t.answers)) in
     omega (arith, count, same, all, both)
 
+-- the reasons of contradictions stay what they are behind a further accepted answer
+reasons_behind : (profile : Profile) (b : Before) (client server : List ℕ) (kept : Kept) (text : List ℕ) (left : Unpaired) → AreTold profile b client server kept text left → (p : Placed) (c : Cited)
+    → AreReasons profile (record kept { placed = kept.placed ++ p ∷ []; cited = kept.cited ++ c ∷ [] }) kept.contradictions
+reasons_behind profile b client server kept text left t p c =
+    let same = ap length t.placed_are ∙ as_many_of_all b.earlier (accepted_of t.answers) ∙ sym (ap length t.cited_are) in
+    all_from _ kept.contradictions
+    (λ told i. reason_still kept.session profile told.bad kept.placed (p ∷ []) kept.cited (c ∷ []) told.reason same
+    (all_at (λ (told : ToldContradiction). IsConflictOf kept.session profile told.bad kept.placed kept.cited told.reason) told kept.contradictions t.reasons i))
+
 -- an exchange that some spool permits
 told_good : (profile : Profile) (b : Before) (client server : List ℕ) (kept : Kept) (new : FactsKept) (text : List ℕ) (left behind : Unpaired) (pair : Paired)
     → AreTold profile b client server kept text left → IsNext left pair behind
@@ -103,6 +115,7 @@ told_good profile b client server kept new text left behind pair t next notes =
       title_is = t.title_is ∙ ap (untold b.title) (sym count);
       stands_there = ap (λ s. standing_after s pair) t.stands_there ∙ sym (standing_push None past pair) ∙ ap standing (sym accepted);
       closing_is = closing_next (number_behind b.earlier) t.answers (Accepted pair) kept.session kept.closing kept.stands t.session_is t.closing_is t.stands_there;
+      reasons = reasons_behind profile b client server kept text left t (placed_at kept.stands kept.facts.position pair) (cited_at kept.session kept.stands pair);
       bad_are = t.bad_are ∙ ap (λ n. b.bad + n) (sym count);
       few = t.few;
       told = t.told;
@@ -145,6 +158,7 @@ told_bad profile b client server kept text more left behind answer t judged same
       title_is = told_once b.title n ∙ ap (untold b.title) (sym count);
       stands_there = t.stands_there ∙ ap standing (sym accepted);
       closing_is = closing_next number t.answers answer kept.session kept.closing kept.stands t.session_is t.closing_is t.stands_there;
+      reasons = t.reasons;
       bad_are = ap (λ n. n + 1) t.bad_are ∙ more-bad b.bad n ∙ ap (λ n. b.bad + n) (sym count);
       few = few_more kept.bad text (title_of kept) more t.few some;
       told = t.told ++ more;
@@ -279,6 +293,10 @@ pub on_ok : {T E P Q R : Type 0} (r : Result T E) → OnOk r P → OnOk r Q → 
 on_ok (Ok x) p q f = f p q
 on_ok (Err e) p q f = tt
 
+pub on_all : {T E P Q R S : Type 0} (r : Result T E) → OnOk r P → OnOk r Q → OnOk r R → (P → Q → R → S) → OnOk r S
+on_all (Ok x) p q r f = f p q r
+on_all (Err e) p q r f = tt
+
 pub if_ok : {T E : Type 0} {P Q R : T → Type 0} (r : Result T E) → IfOk r P → IfOk r Q → ((v : T) → P v → Q v → R v) → IfOk r R
 if_ok (Ok x) p q f = f x p q
 if_ok (Err e) p q f = tt
@@ -311,23 +329,62 @@ noted_out_of_place profile b client server kept new facts noted closing text aft
     (subst (λ (f : FactsKept). IsTold kept.bad kept.stands pair.index OutOfPlace pair.line pair.initial
     (λ reason. reason ≡ unfitting_told (record kept { facts = f }) pair) more) same told))
 
+-- of a contradiction that was told more reasons may be kept
+with_reasons : (profile : Profile) (b : Before) (client server : List ℕ) (kept : Kept) (text : List ℕ) (left : Unpaired) (contradictions : List ToldContradiction)
+    → AreReasons profile kept contradictions → AreTold profile b client server kept text left → AreTold profile b client server (record kept { contradictions = contradictions }) text left
+with_reasons profile b client server kept text left contradictions reasons t = record {
+  answers = t.answers;
+  judged = t.judged;
+  noted = t.noted;
+  placed_are = t.placed_are;
+  cited_are = t.cited_are;
+  session_is = t.session_is;
+  others_are = t.others_are;
+  title_is = t.title_is;
+  stands_there = t.stands_there;
+  closing_is = t.closing_is;
+  reasons = reasons;
+  bad_are = t.bad_are;
+  few = t.few;
+  told = t.told;
+  explained = t.explained;
+  silent = t.silent;
+  text_is = t.text_is;
+}
+
 pub noted_contradiction : (profile : Profile) (b : Before) (client server : List ℕ) (kept new : Kept) (facts : FactsKept) (noted : Noted)
-    (position : Position) (closing : Option Cited) (text after : List ℕ) (left behind : Unpaired) (pair : Paired)
+    (position : Position) (closing : Option Cited) (contradictions : List ToldContradiction) (text after : List ℕ) (left behind : Unpaired) (pair : Paired)
     → noted ≡ kinds.Contradiction → position ≡ kept.facts.position → closing ≡ closing_after kept.session kept.closing kept.stands pair
     → ((past : List Paired) → HasNotedBehind profile kept.facts b.earlier past → IsNotedBehind profile b.earlier past pair kept.facts facts noted)
-    → new ≡ refuses (record kept { facts = facts; closing = closing })
+    → new ≡ record (refuses (record kept { facts = facts; closing = closing })) { contradictions = contradictions } → AreReasons (profile_kept facts) kept contradictions
     → GoesOn (IsTold kept.bad kept.stands pair.index Contradiction pair.line pair.initial
     (IsConflictOf kept.session (profile_kept facts) (placed_at kept.stands position pair) kept.placed kept.cited)) (text ++ title_of kept) after
     → AreTold profile b client server kept text left → IsNext left pair behind → AreTold profile b client server new after behind
-noted_contradiction profile b client server kept new facts noted position closing text after left behind pair is position-is closing-is notes new-is (more, after-is, told) t next =
+noted_contradiction profile b client server kept new facts noted position closing contradictions text after left behind pair is position-is closing-is notes new-is reasons (more, after-is, told) t next =
     let at = λ (past : List Paired) (h : HasNotedBehind profile kept.facts b.earlier past). subst (IsNotedBehind profile b.earlier past pair kept.facts facts) is (notes past h) in
     let same : facts ≡ kept.facts = (at (accepted_of t.answers) t.noted).2 in
     subst (λ (q : Kept × List ℕ). AreTold profile b client server q.0 q.1 behind)
-    (λ i. (sym (new-is ∙ ap (λ (q : FactsKept × Option Cited). refuses (record kept { facts = q.0; closing = q.1 })) (λ i. (same i, closing-is i))) i, sym after-is i))
+    (λ i. (
+      sym (new-is ∙ ap (λ (q : FactsKept × Option Cited). record (refuses (record kept { facts = q.0; closing = q.1 })) { contradictions = contradictions })
+          (λ i. (same i, closing-is i))) i,
+      sym after-is i,
+    ))
+    (with_reasons profile b client server _ _ behind contradictions
+    (subst (λ profile. AreReasons profile kept contradictions) (ap profile_kept same ∙ t.noted.profile_is) reasons)
     (told_contradiction profile b client server kept text left behind pair more t next
     (λ past h. subst (λ f. IsNotedBehind profile b.earlier past pair kept.facts f kinds.Contradiction) same (at past h))
     (subst (λ (q : FactsKept × Position). IsTold kept.bad kept.stands pair.index Contradiction pair.line pair.initial
-    (IsConflictOf kept.session (profile_kept q.0) (placed_at kept.stands q.1 pair) kept.placed kept.cited) more) (λ i. (same i, position-is i)) told))
+    (IsConflictOf kept.session (profile_kept q.0) (placed_at kept.stands q.1 pair) kept.placed kept.cited) more) (λ i. (same i, position-is i)) told)))
+
+-- and the reasons that are kept are those by what is noted
+pub noted_contradiction_reasons : (b : Before) (client server : List ℕ) (kept : Kept) (facts : FactsKept) (noted : Noted) (text : List ℕ) (left behind : Unpaired) (pair : Paired)
+    → noted ≡ kinds.Contradiction
+    → ((past : List Paired) → HasNotedBehind (profile_kept kept.facts) kept.facts b.earlier past → IsNotedBehind (profile_kept kept.facts) b.earlier past pair kept.facts facts noted)
+    → AreTold (profile_kept kept.facts) b client server kept text left → AreReasons (profile_kept facts) kept kept.contradictions
+noted_contradiction_reasons b client server kept facts noted text left behind pair is notes t =
+    let profile = profile_kept kept.facts in
+    let same : facts ≡ kept.facts = (subst (IsNotedBehind profile b.earlier (accepted_of t.answers) pair kept.facts facts) is (notes (accepted_of t.answers) t.noted)).2 in
+    subst (λ f. AreReasons (profile_kept f) kept kept.contradictions) (sym same) t.reasons
 
 -- what the search for its reasons asks for
 pub noted_contradiction_due : (b : Before) (client server : List ℕ) (kept : Kept) (facts : FactsKept) (noted : Noted) (position : Position) (text : List ℕ) (left behind : Unpaired) (pair : Paired)

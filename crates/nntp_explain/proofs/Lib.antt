@@ -4,5 +4,6 @@ pub mod ExplainLemmas
 pub mod EndLemmas
 pub mod SaysLemmas
 pub mod ConflictLemmas
+pub mod ReasonsGoOn
 pub mod OneSession
 pub mod LowMarks

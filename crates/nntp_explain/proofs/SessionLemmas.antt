@@ -14,6 +14,7 @@ use Rattle.nntp_facts.specs.Reading.{Judged, accepted_of, IsJudged, AreJudged}
 use Rattle.nntp_facts.specs.declared.position.Position.{Position}
 use Rattle.nntp_facts.specs.declared.position.Position.TheVariants.{Nowhere}
 use Rattle.nntp_facts.proofs.Reading.JudgedAnswers.{accepted_behind as all_behind, judged_push, judged_count, accepted_few, visible_behind, accepted_open}
+use Rattle.nntp_several.specs.Conflict.{placed_of_all}
 use Rattle.nntp_several.specs.Reading.{ReadSession}
 use Rattle.nntp_printing.specs.Title.{title_line}
 use Rattle.nntp_explain.specs.Explaining.{counts_behind}
@@ -70,6 +71,15 @@ as_many_cited session (pairs ∷ earlier) =
     let other = placed_count start.visible Nowhere pairs in
     let rest = as_many_cited (session + 1) earlier in
     omega (arith, these, those, one, other, rest)
+
+pub as_many_of_all : (earlier : List (List Paired)) (past : List Paired) → length (placed_of_all earlier past) ≡ length (cited_of_all earlier past)
+as_many_of_all earlier past =
+    let these = length-append (cited_each 1 earlier) (cited (number_behind earlier) past) in
+    let those = length-append (flat_map placed_of earlier) (placed_of past) in
+    let others = as_many_cited 1 earlier in
+    let one = cited_count (number_behind earlier) None past in
+    let other = placed_count start.visible Nowhere past in
+    omega (arith, these, those, others, one, other)
 
 -- as many as there are
 pub cited_in_all : (earlier : List (List Paired)) (past : List Paired) → length (cited_of_all earlier past) ≡ length (cited_each 1 earlier) + length past

@@ -11,7 +11,7 @@ use Rattle.nntp_article.specs.Session.Misfit.{misfit}
 use Rattle.nntp_article.specs.declared.session.profile.Profile.{Profile}
 use Rattle.nntp_facts.specs.Classes.{visible_from}
 use Rattle.nntp_pair.specs.Classes.{class_of}
-use Rattle.nntp_facts.specs.Conflict.{Placed, placed_of, placed_behind, Core, IsFound, Point, IsPointOfCore}
+use Rattle.nntp_facts.specs.Conflict.{Placed, placed_of, placed_behind, Core, IsFound, places_of, told_with, Point, IsFirstPoint}
 use Rattle.nntp_pair.specs.declared.class.Class.{Class}
 use Rattle.nntp_pair.specs.declared.class.Class.TheVariants.{Malformed, OutOfPlace, Contradiction}
 use Rattle.nntp_facts.specs.Reading.{Judged, Accepted, Refused, Unspelled, accepted_of, accepted_with, class_behind, IsReading}
@@ -23,7 +23,7 @@ use Rattle.nntp_printing.specs.Title.{title_line}
 use Rattle.nntp_several.specs.Conflict.{placed_of_all}
 use Rattle.nntp_several.specs.Reading.{ReadSession, AreReadings, IsReadingOfAll}
 use Rattle.nntp_several.specs.Sessions.{Named, unnamed}
-use Rattle.nntp_explain.specs.Reasons.{standing_line, unfitting_lines, misspelling_line, cut_line, surplus_lines, core_lines}
+use Rattle.nntp_explain.specs.Reasons.{standing_line, unfitting_lines, misspelling_line, cut_line, surplus_lines}
 use Rattle.nntp_explain.specs.Says.{conflict_lines}
 use Rattle.nntp_explain.specs.Standing.{Standing, Cited, standing, cited, number_behind, cited_of_all, closing}
 
@@ -48,15 +48,20 @@ IsTold before stands index class line initial Reason text =
 
 -- ---- why it is bad, in the session of the number `here`
 
--- the text tells of a core what its answers and the bad one conflict about, the first point of that; where it is cut short, and none of its answers speaks of one group, only which they are
+-- the text tells of a core what all its answers and the bad one conflict about: the first point of that
 abbrev pub TellsCore : ℕ → Profile → Placed → List Placed → List Cited → Core → List ℕ → Type 0
 TellsCore here profile bad answers told core text =
-    (point : Option Point) × IsPointOfCore profile bad answers core point × (text ≡ option_map_or (λ p. conflict_lines here profile.marks p bad answers told core) point (core_lines here told core))
+    (point : Point) × IsFirstPoint (told_with profile bad answers (places_of core)) point × (text ≡ conflict_lines here profile.marks point bad answers told core)
 
--- the text tells with which of these answers the bad one conflicts, and about what: at most sixteen, and where there are more, the last of them
+-- the text tells with which of these answers the bad one conflicts, and about what: at most four, and where there are more, the last of them
 abbrev pub IsConflictOf : ℕ → Profile → Placed → List Placed → List Cited → List ℕ → Type 0
 IsConflictOf here profile bad answers told text =
-    (core : Core) × IsFound profile bad answers core × MatchOption core.rest (length core.places ≤ 16) (λ bound. length core.places ≡ 16) × TellsCore here profile bad answers told core text
+    (core : Core) × IsFound profile bad answers core × MatchOption core.rest (length core.places ≤ 4) (λ bound. length core.places ≡ 4) × TellsCore here profile bad answers told core text
+
+-- a contradiction that was told: the bad answer where it stands, and the text of its reason
+pub record ToldContradiction : Type 0 where
+  pub bad : Placed
+  pub reason : List ℕ
 
 -- the text is the reason of an answer that is refused, by its class, behind these accepted answers of earlier sessions and of its own: what doesn't fit is by its own session alone, and what it contradicts is of all
 abbrev pub IsReason : Profile → List (List Paired) → List Paired → Paired → Class → List ℕ → Type 0

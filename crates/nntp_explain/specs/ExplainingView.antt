@@ -1,6 +1,6 @@
 -- What the values of src/standing.rt and src/explainer.rt mean.
 use Rattle.std.specs.Prelude.{◌≡◌, ℕ, zero, suc, ◌+◌, ◌≤◌, List, [], ◌∷◌, ◌++◌, length, map, drop, Option, None}
-use Rattle.std.specs.List.{flat_map}
+use Rattle.std.specs.List.{AllByRecursion, flat_map}
 use Rattle.std.specs.Option.{option_copied, option_map, option_map_or}
 use Rattle.nntp_article.specs.Session.Misfit.{misfit}
 use Rattle.nntp_article.specs.declared.session.profile.Profile.{Profile}
@@ -17,7 +17,7 @@ use Rattle.nntp_explain.specs.declared.standing.Cited.{Cited as CitedCode}
 use Rattle.nntp_explain.specs.declared.explainer.Explainer.{Explainer}
 use Rattle.nntp_facts.specs.declared.position.Position.{Position}
 use Rattle.nntp_explain.specs.Standing.{Standing, Cited, standing, standing_after, cited_at, cited_each, number_behind, cited_of_all, closing}
-use Rattle.nntp_explain.specs.Explaining.{AreExplained, count_bad, IsSessionExplained, Counts, counts_of, titled, none_counted, AreSessionsExplained}
+use Rattle.nntp_explain.specs.Explaining.{ToldContradiction, IsConflictOf, AreExplained, count_bad, IsSessionExplained, Counts, counts_of, titled, none_counted, AreSessionsExplained}
 use Rattle.nntp_explain.specs.Reasons.{unfitting_lines}
 
 -- where a session stands, without where the name lies in memory
@@ -28,7 +28,7 @@ standing_of s = record { name = s.name; selected_by = s.selected_by; position = 
 abbrev pub cited_of : CitedCode → Cited
 cited_of c = record { session = c.session; index = c.index; line = option_copied c.line; initial = c.initial.now; stands = option_map standing_of c.standing }
 
--- what is kept of answers that were judged: what the accepted ones say, each of them as it is placed and cited; the number of the session, how many of them are of earlier ones, and its name until it is told; where it stands, and which answer closed the connection; and how many are bad
+-- what is kept of answers that were judged: what the accepted ones say, each of them as it is placed and cited; the number of the session, how many of them are of earlier ones, and its name until it is told; where it stands, which answer closed the connection, and which contradictions of it were told; and how many are bad
 pub record Kept : Type 0 where
   pub facts : FactsKept
   pub placed : List Placed
@@ -38,6 +38,7 @@ pub record Kept : Type 0 where
   pub title : Option (List ℕ)
   pub stands : Option Standing
   pub closing : Option Cited
+  pub contradictions : List ToldContradiction
   pub bad : ℕ
 
 -- the same as a further session begins
@@ -51,6 +52,7 @@ begins title k = record {
   title = title;
   stands = None;
   closing = None;
+  contradictions = [];
   bad = k.bad;
 }
 
@@ -98,6 +100,10 @@ pub record Before : Type 0 where
 
 -- ---- a session that is read
 
+-- of each of these contradictions the reason is that of the bad answer behind all accepted ones that are kept
+abbrev pub AreReasons : Profile → Kept → List ToldContradiction → Type 0
+AreReasons profile k contradictions = AllByRecursion (λ c. IsConflictOf k.session profile c.bad k.placed k.cited c.reason) contradictions
+
 -- the name that is still to be told where so many answers of the session are bad
 abbrev pub untold : Option (List ℕ) → ℕ → Option (List ℕ)
 untold title zero = title
@@ -119,6 +125,7 @@ pub record AreTold (profile : Profile) (b : Before) (client server : List ℕ) (
   pub title_is : kept.title ≡ untold b.title (count_bad answers)
   pub stands_there : kept.stands ≡ standing (accepted_of answers)
   pub closing_is : kept.closing ≡ closing (number_behind b.earlier) answers
+  pub reasons : AreReasons profile kept kept.contradictions
   pub bad_are : kept.bad ≡ b.bad + count_bad answers
   pub few : kept.bad ≤ length text
   pub told : List ℕ
@@ -174,6 +181,7 @@ kept_of e = record {
   title = option_copied e.title;
   stands = option_map standing_of e.standing;
   closing = option_map cited_of e.closing;
+  contradictions = e.contradictions.items;
   bad = e.bad;
 }
 

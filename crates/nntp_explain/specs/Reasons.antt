@@ -17,7 +17,7 @@ use Rattle.nntp_printing.specs.BadAnswer.{shown, command_line}
 use Rattle.nntp_printing.specs.Printing.{escaped}
 use Rattle.nntp_article.specs.Session.Machine.{is_same}
 use Rattle.nntp_article.specs.Session.Spool.{Name}
-use Rattle.nntp_facts.specs.Conflict.{Placed, Core, Point, Step, Group, Number as NumberOf, Count, First as FirstNumber, IdOf, PlaceOf, Article, HeadOf, BodyOf}
+use Rattle.nntp_facts.specs.Conflict.{Placed, Point, Step, Group, Number as NumberOf, Count, First as FirstNumber, IdOf, PlaceOf, Article, HeadOf, BodyOf}
 use Rattle.nntp_explain.specs.Standing.{Standing, Cited}
 
 -- ---- where the session stands
@@ -133,10 +133,6 @@ answer_at here answers k = option_map_or (answer_text here) (slice_get answers k
 abbrev pub rest_line : ℕ → List Cited → Option ℕ → List ℕ
 rest_line here answers None = []
 rest_line here answers (Some bound) = codes "because some of " ++ answer_at here answers 0 ++ codes " to " ++ answer_at here answers (bound - 1) ++ codes "\n"
-
--- the answers of a core, or of the end of one
-abbrev pub core_lines : ℕ → List Cited → Core → List ℕ
-core_lines here answers core = rest_line here answers core.rest ++ flat_map (because_at here answers) core.places
 
 -- ---- which answer gave a group its low mark
 

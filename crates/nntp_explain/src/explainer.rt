@@ -1,27 +1,28 @@
 //! What is kept of sessions that are read on behind bad answers, and what is told of a bad answer.
-ghost use Rattle.std.specs.Prelude.{◌≡◌, ◌≢◌, ℕ, ◌+◌, ◌<◌, ◌≤◌, ◌^◌, ◌++◌, List, [], ◌∷◌, None, length, map, nat_lt, OnOk, IfOk, MatchOption};
+ghost use Rattle.std.specs.Prelude.{◌≡◌, ◌≢◌, ℕ, ◌+◌, ◌<◌, ◌≤◌, ◌^◌, ◌++◌, List, [], ◌∷◌, None, length, map, nat_lt, OnOk, IfOk};
 ghost use Rattle.std.specs.List.{AllByRecursion};
 ghost use Rattle.std.specs.Option.{option_copied, option_map, option_map_or};
 ghost use Rattle.nntp_wire.specs.Misspelling.{misspelling};
 ghost use Rattle.nntp_wire.specs.View.{asked};
-ghost use Rattle.nntp_article.specs.Session.Limit.{profile_of};
 ghost use Rattle.nntp_article.specs.declared.session.profile.Profile.{Profile};
 ghost use Rattle.nntp_pair.specs.Pairing.{Unpaired, IsNext};
 ghost use Rattle.nntp_pair.specs.declared.class.PairClass.TheVariants.{Malformed};
-ghost use Rattle.nntp_facts.specs.Conflict.{Placed as PlacedValue, FitsThere, IsFound, SomeHas, told_with, below, places_of};
-ghost use Rattle.nntp_facts.specs.Points.{AreTaken};
+ghost use Rattle.nntp_facts.specs.Conflict.{Placed as PlacedValue, FitsThere, SomeHas, told_with, below, places_of};
+ghost use Rattle.nntp_facts.specs.Points.{AreHeld};
+ghost use Rattle.nntp_facts.specs.StatementView.{held_of};
 ghost use Rattle.nntp_pair.specs.declared.class.Class.TheVariants.{Malformed as MalformedClass, OutOfPlace, Contradiction};
 ghost use Rattle.nntp_pair.specs.Classes.{class_of};
 ghost use Rattle.nntp_facts.specs.Noted.{profile_kept};
 ghost use Rattle.nntp_printing.specs.BadAnswer.{IsFirstLine};
 ghost use Rattle.nntp_explain.specs.Explaining.{front_lines, place_lines, IsConflictOf, IsEndReason, IsTold, TellsCore};
-ghost use Rattle.nntp_explain.specs.ExplainingView.{Before, begins, cited_of, kept_of, keeps, placed_at, refuses, standing_of, title_of, unfitting_told, GoesOn, HasReadNone, HasTold};
+ghost use Rattle.nntp_explain.specs.ExplainingView.{AreReasons, Before, begins, cited_of, kept_of, keeps, placed_at, refuses, standing_of, title_of, unfitting_told, GoesOn, HasReadNone, HasTold};
 ghost use Rattle.nntp_explain.specs.Reasons.{misspelling_line};
 ghost use Rattle.nntp_explain.specs.Standing.{Cited as CitedValue};
 
 use crate::conflict::put_conflict;
+use crate::contradiction::{ToldContradiction, reason_of};
 use crate::ending::put_end_reason;
-use crate::reasons::{put_core, put_misspelling, put_standing};
+use crate::reasons::{put_misspelling, put_standing};
 use crate::standing::{Cited, Standing, note_closing, standing_after};
 use crate::unfitting::put_unfitting;
 use nntp_facts::{Conflict, Core, Facts, Noted, Placed, Position};
@@ -35,7 +36,7 @@ use std::mem;
 const EXPLAINED: u64 = 100;
 
 /// How many answers are looked for at most with which a bad one conflicts.
-const CITED: usize = 16;
+const CITED: usize = 4;
 
 /// Reads on behind bad answers: each is passed over, and the next one is judged behind those that were accepted, of
 /// earlier sessions and of its own.
@@ -58,6 +59,8 @@ pub(crate) struct Explainer<'a, A: Allocator> {
     standing: Option<Standing<'a>>,
     /// The answer of the session that closed the connection, accepted or refused; none where it is open.
     closing: Option<Cited<'a>>,
+    /// The contradictions of the session that were told.
+    contradictions: Vec<ToldContradiction<'a, A>, A>,
     /// How many answers of all sessions are bad so far.
     pub(crate) bad: u64,
     /// The report so far.
@@ -81,6 +84,7 @@ impl<'a, A: Allocator + Copy> Explainer<'a, A> {
             title: None,
             standing: None,
             closing: None,
+            contradictions: Vec::new(alloc),
             bad: 0,
             text: Vec::new(alloc),
         }
@@ -98,6 +102,7 @@ impl<'a, A: Allocator + Copy> Explainer<'a, A> {
         self.title = title;
         self.standing = None;
         self.closing = None;
+        self.contradictions.clear();
     }
 
     /// Accepts the next exchange, if some spool permits it together with those that were accepted, and else tells that
@@ -185,7 +190,9 @@ impl<'a, A: Allocator + Copy> Explainer<'a, A> {
         requires fit { AllByRecursion (FitsThere (profile_kept self.old.facts)) (placed_at (option_map standing_of self.old.standing) position exchange ∷ self.old.placed.items) }
         requires conflict { SomeHas (profile_kept self.old.facts)
             (told_with (profile_kept self.old.facts) (placed_at (option_map standing_of self.old.standing) position exchange) self.old.placed.items (below (length self.old.placed.items))) → ⊥ }
-        ensures kept { OnOk result (kept_of self.new ≡ refuses (kept_of self.old)) }
+        requires reasons { AreReasons (profile_kept self.old.facts) (kept_of self.old) self.old.contradictions.items }
+        ensures kept { OnOk result (kept_of self.new ≡ record (refuses (kept_of self.old)) { contradictions = self.new.contradictions.items }) }
+        ensures reasons { OnOk result (AreReasons (profile_kept self.old.facts) (kept_of self.old) self.new.contradictions.items) }
         ensures text { OnOk result (GoesOn (IsTold self.old.bad (option_map standing_of self.old.standing) exchange.entry.index Contradiction exchange.entry.line exchange.entry.initial
             (IsConflictOf self.old.session (profile_kept self.old.facts) (placed_at (option_map standing_of self.old.standing) position exchange.entry) self.old.placed.items (map cited_of self.old.cited.items)))
             (self.old.text.items ++ title_of (kept_of self.old)) self.new.text.items) }
@@ -200,33 +207,51 @@ impl<'a, A: Allocator + Copy> Explainer<'a, A> {
             return Ok(());
         }
         let bad = Placed::new(self.selected(), position, exchange);
-        let limit = self.facts.limit();
-        let marks = self.facts.marks();
-        let core = Core::find(self.alloc, limit, marks, &self.placed, &bad, CITED)?;
-        self.put_found(&bad, &core)
+        self.tell_conflict(bad)
     }
 
-    /// Tells with which of the accepted answers the bad one conflicts, and about what.
-    fn put_found(&mut self, bad: &Placed<'a>, core: &Core<A>) -> Result<(), AllocError>
-        requires fit { AllByRecursion (FitsThere (profile_kept self.old.facts)) (bad.now ∷ self.old.placed.items) }
-        requires found { IsFound (profile_kept self.old.facts) bad.now self.old.placed.items core.now }
-        requires most { MatchOption core.now.rest (length core.now.places ≤ 16) (λ bound. length core.now.places ≡ 16) }
-        ensures kept { OnOk result (kept_of self.new ≡ kept_of self.old) }
-        ensures text { OnOk result (GoesOn (TellsCore self.old.session (profile_kept self.old.facts) bad.now self.old.placed.items (map cited_of self.old.cited.items) core.now)
+    /// Tells with which of the accepted answers the bad one conflicts, and about what. It is what was told of the same
+    /// answer from the same place, if the session had one.
+    fn tell_conflict(&mut self, bad: Placed<'a>) -> Result<(), AllocError>
+        requires fit { AllByRecursion (FitsThere (profile_kept self.old.facts)) (bad ∷ self.old.placed.items) }
+        requires conflict { SomeHas (profile_kept self.old.facts) (told_with (profile_kept self.old.facts) bad self.old.placed.items (below (length self.old.placed.items))) → ⊥ }
+        requires reasons { AreReasons (profile_kept self.old.facts) (kept_of self.old) self.old.contradictions.items }
+        ensures kept { OnOk result (kept_of self.new ≡ record (kept_of self.old) { contradictions = self.new.contradictions.items }) }
+        ensures reasons { OnOk result (AreReasons (profile_kept self.old.facts) (kept_of self.old) self.new.contradictions.items) }
+        ensures text { OnOk result (GoesOn (IsConflictOf self.old.session (profile_kept self.old.facts) bad.entry self.old.placed.items (map cited_of self.old.cited.items))
             self.old.text.items self.new.text.items) }
+    {
+        if let Some(reason) = reason_of(&self.contradictions, &bad) {
+            return self.text.extend_from_slice(reason);
+        }
+        let mut reason = Vec::new(self.alloc);
+        self.put_found(&mut reason, &bad)?;
+        self.text.extend_from_slice(&reason)?;
+        self.contradictions
+            .push(ToldContradiction::new(bad, reason))?;
+        Ok(())
+    }
+
+    /// Finds with which of the accepted answers the bad one conflicts, and adds these, and about what.
+    fn put_found(&self, text: &mut Vec<u8, A>, bad: &Placed<'a>) -> Result<(), AllocError>
+        requires fit { AllByRecursion (FitsThere (profile_kept self.now.facts)) (bad.now ∷ self.now.placed.items) }
+        requires conflict { SomeHas (profile_kept self.now.facts) (told_with (profile_kept self.now.facts) bad.now self.now.placed.items (below (length self.now.placed.items))) → ⊥ }
+        ensures { OnOk result (GoesOn (IsConflictOf self.now.session (profile_kept self.now.facts) bad.now self.now.placed.items (map cited_of self.now.cited.items))
+            text.old.items text.new.items) }
     {
         let limit = self.facts.limit();
         let marks = self.facts.marks();
-        let conflict = conflict_of(self.alloc, limit, marks, &self.placed, bad, core)?;
+        let core = Core::find(self.alloc, limit, marks, &self.placed, bad, CITED)?;
+        let conflict = Conflict::of(self.alloc, limit, marks, &self.placed, bad, &core)?;
         put_point_of(
-            &mut self.text,
+            text,
             self.session,
             marks,
             &conflict,
             bad,
             &self.placed,
             &self.cited,
-            core,
+            &core,
         )
     }
 
@@ -319,23 +344,7 @@ impl<'a, A: Allocator + Copy> Explainer<'a, A> {
     }
 }
 
-/// Takes the bad answer, and the accepted ones at all places of the core.
-fn conflict_of<'c, A: Allocator + Copy>(
-    alloc: A,
-    limit: Limit,
-    marks: Marks,
-    placed: &'c [Placed<'c>],
-    bad: &'c Placed<'c>,
-    core: &Core<A>,
-) -> Result<Conflict<'c, A>, AllocError>
-    ensures taken { IfOk result (AreTaken (profile_of limit marks) bad.now placed.now (places_of core.now)) }
-    ensures few { IfOk result (λ conflict. length (places_of core.now) < 2 ^ 64) }
-{
-    let places = core.all_places(alloc)?;
-    Conflict::of(alloc, limit, marks, placed, bad, &places)
-}
-
-/// Adds what the answers of a core conflict about, if that can be told, and which they are.
+/// Adds what the answers of a core conflict about, and which they are.
 fn put_point_of<A: Allocator + Copy>(
     text: &mut Vec<u8, A>,
     here: u64,
@@ -347,13 +356,12 @@ fn put_point_of<A: Allocator + Copy>(
     core: &Core<A>,
 ) -> Result<(), AllocError>
     ensures { OnOk result ((profile : Profile) (answers : List PlacedValue) (told : List CitedValue) → marks ≡ profile.marks → placed.now ≡ answers → map cited_of cited.now ≡ told
-        → AreTaken profile bad.now answers (places_of core.now) conflict.now → AllByRecursion (FitsThere profile) (bad.now ∷ answers) → IsFound profile bad.now answers core.now
-        → length (places_of core.now) < 2 ^ 66 → MatchOption core.now.rest (length core.now.places ≤ 16) (λ bound. length core.now.places ≡ 16)
+        → AllByRecursion (FitsThere profile) (bad.now ∷ answers) → AreHeld profile bad.now answers (places_of core.now) (held_of conflict.now)
         → GoesOn (TellsCore here profile bad.now answers told core.now) text.old.items text.new.items) }
 {
-    match conflict.point_of(core)? {
+    match conflict.point()? {
         Some(point) => put_conflict(text, here, marks, point, bad, placed, cited, core),
-        None => put_core(text, here, cited, core),
+        None => Ok(()),
     }
 }
 

@@ -6,6 +6,7 @@
 
 mod ask;
 mod conflict;
+mod contradiction;
 mod ending;
 mod explainer;
 pub mod laws;

@@ -8,12 +8,12 @@ ghost use Rattle.nntp_article.specs.Session.MisfitView.{why};
 ghost use Rattle.nntp_facts.specs.PointView.{point_of};
 ghost use Rattle.nntp_printing.specs.Printing.{escaped};
 ghost use Rattle.nntp_explain.specs.Reasons.{about_line, octets_line, current_text, standing_line, allowed_text, misfit_line, misspelling_line, cut_line, surplus_lines};
-ghost use Rattle.nntp_explain.specs.Reasons.{due_word, fault_word, number_line, core_lines, rest_line, answer_at, answer_text, because_at, because_lines};
+ghost use Rattle.nntp_explain.specs.Reasons.{due_word, fault_word, number_line, rest_line, answer_at, answer_text, because_at, because_lines};
 ghost use Rattle.nntp_explain.specs.ExplainingView.{standing_of, cited_of};
 
 use crate::standing::{Cited, Standing};
 use nntp_article::Misfit;
-use nntp_facts::{Core, Point, Position};
+use nntp_facts::{Point, Position};
 use nntp_printing::{put_command, put_escaped, put_escaped_line, put_number, shown, shown_line};
 use nntp_wire::{Due, LineFault, Misspelling, split_first_line};
 use std::alloc::{AllocError, Allocator};
@@ -299,19 +299,6 @@ fn put_named<A: Allocator + Copy>(
     put_escaped(text, name)
 }
 
-/// Adds the answers of a core, or of the end of one.
-pub(crate) fn put_core<A: Allocator + Copy>(
-    text: &mut Vec<u8, A>,
-    here: u64,
-    answers: &[Cited<'_>],
-    core: &Core<A>,
-) -> Result<(), AllocError>
-    ensures { OnOk result (text.new.items ≡ text.old.items ++ core_lines here (map cited_of answers.now) core.now) }
-{
-    put_rest(text, here, answers, core.rest())?;
-    put_places(text, here, answers, core.places())
-}
-
 /// Adds the line of the answers below a bound, where further reasons are among them.
 pub(crate) fn put_rest<A: Allocator + Copy>(
     text: &mut Vec<u8, A>,
@@ -360,21 +347,6 @@ fn put_answer<A: Allocator + Copy>(
         return Ok(());
     }
     put_number(text, b" of session ", answer.session)
-}
-
-/// Adds the answers at the places, one after the other.
-fn put_places<A: Allocator + Copy>(
-    text: &mut Vec<u8, A>,
-    here: u64,
-    answers: &[Cited<'_>],
-    places: &[usize],
-) -> Result<(), AllocError>
-    ensures { OnOk result (text.new.items ≡ text.old.items ++ flat_map (because_at here (map cited_of answers.now)) places.now) }
-{
-    for place in places {
-        put_because_at(text, here, answers, *place)?;
-    }
-    Ok(())
 }
 
 /// Adds the answer at a place, if one is there.

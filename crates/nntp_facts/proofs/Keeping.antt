@@ -35,5 +35,6 @@ pub mod ConflictsOfNumbers
 pub mod GroupReaders
 pub mod ArticleReaders
 pub mod ToldAnswers
-pub mod FewTold
+pub mod HeldAnswers
+pub mod CoresGoOn
 pub mod CoresFound

@@ -1,5 +1,5 @@
 -- With which earlier answers a bad answer conflicts.
-use Rattle.std.specs.Prelude.{◌≡◌, ℕ, zero, suc, ◌+◌, ◌<◌, ◌≤◌, not, Bool, true, is_some, List, [], ◌∷◌, ◌++◌, length, Option, None, Some, IsTrue, IsFalse, slice_get, ⊤, Contains, MatchOption}
+use Rattle.std.specs.Prelude.{◌≡◌, ℕ, zero, suc, ◌+◌, ◌<◌, ◌≤◌, not, List, [], ◌∷◌, ◌++◌, length, Option, None, Some, IsTrue, IsFalse, slice_get, ⊤, Contains, MatchOption}
 use Rattle.std.specs.List.{AllByRecursion, flat_map, list_any}
 use Rattle.std.specs.Option.{option_map_or}
 use Rattle.nntp_wire.specs.Answer.{Asked, Response}
@@ -138,13 +138,9 @@ pub record IsFound (profile : Profile) (bad : Placed) (answers : List Placed) (c
 abbrev pub places_of : Core → List ℕ
 places_of core = option_map_or (λ bound. below bound ++ core.places) core.rest core.places
 
--- the answer at the place speaks of the numbers of one group, or that there is it
-abbrev pub speaks_at : Profile → List Placed → ℕ → Bool
-speaks_at profile answers k = is_some (group_of (told_at profile answers k))
-
--- a point is told of it: of a whole one always, of the end of one where one of its answers speaks of one group
-abbrev pub has_point : Profile → List Placed → Core → Bool
-has_point profile answers core = option_map_or (λ bound. list_any (speaks_at profile answers) core.places) core.rest true
+-- the last of all its places was found: of one that is cut short, some were
+abbrev pub HasLast : Core → Type 0
+HasLast core = MatchOption core.rest ⊤ (λ bound. 0 < length core.places)
 
 -- ---- where facts conflict
 
@@ -199,8 +195,3 @@ rank (BodyOf id) = 9
 pub record IsFirstPoint (facts : List Fact) (point : Point) : Type 0 where
   pub conflict : ConflictAt facts point
   pub first : (other : Point) → rank other < rank point → ¬ (ConflictAt facts other)
-
--- the point that is told of a core: the first one, where one is told of it
-abbrev pub IsPointOfCore : Profile → Placed → List Placed → Core → Option Point → Type 0
-IsPointOfCore profile bad answers core None = IsFalse (has_point profile answers core)
-IsPointOfCore profile bad answers core (Some point) = IsTrue (has_point profile answers core) × IsFirstPoint (told_with profile bad answers (places_of core)) point

@@ -1,53 +1,24 @@
 -- What a bad answer and accepted ones say, each by itself, as points of conflict are looked for.
-use Rattle.std.specs.Prelude.{◌^◌, ⊤, IfSome, ◌≡◌, true, false, ◌<◌, ◌||◌, ◌&&◌, not, ℕ, Bool, IsTrue, List, [], ◌∷◌, ◌++◌, map, Option, None, Some, option_map, if◌then◌else◌, MatchOption, slice_get}
+use Rattle.std.specs.Prelude.{◌≡◌, true, false, ◌<◌, ◌||◌, ◌&&◌, not, ℕ, Bool, List, [], ◌∷◌, ◌++◌, Option, None, Some, option_map, if◌then◌else◌, MatchOption}
 use Rattle.std.specs.List.{AllByRecursion, flat_map}
-use Rattle.std.specs.Option.{option_map_or, option_or}
+use Rattle.std.specs.Option.{option_map_or}
 use Rattle.nntp_article.specs.Article.Parts.{Id, Line}
 use Rattle.nntp_article.specs.Session.Spool.{Name}
 use Rattle.nntp_article.specs.Session.Machine.{is_same}
 use Rattle.nntp_article.specs.declared.session.profile.Profile.{Profile}
-use Rattle.nntp_pair.specs.Pairing.{lines_in}
 use Rattle.nntp_wire.specs.declared.command.What.{What}
 use Rattle.nntp_wire.specs.Decided.{matches_name}
 use Rattle.nntp_wire.specs.Listing.{ActiveValue}
 use Rattle.nntp_facts.specs.Asks.{Ask, Bounds}
-use Rattle.nntp_facts.specs.declared.points.articles.Part.{Part}
-use Rattle.nntp_facts.specs.declared.points.articles.Part.TheVariants.{Head, Body}
 use Rattle.nntp_facts.specs.Facts.{Fact, group_of}
-use Rattle.nntp_facts.specs.Given.{first_given, id_in, head_in, body_in}
-use Rattle.nntp_facts.specs.Together.{number_in, IsWellFormed, AgreeWithin}
-use Rattle.nntp_facts.specs.Kept.{id_of, place_of}
+use Rattle.nntp_facts.specs.Together.{IsWellFormed, AgreeWithin, Together}
+use Rattle.nntp_facts.specs.Kept.{id_of, place_of, Kept, IsKept}
 use Rattle.nntp_facts.specs.Articles.{head_sent, body_sent}
 use Rattle.nntp_facts.specs.ListedGroups.{is_listed}
 use Rattle.nntp_facts.specs.Saying.{Saying, OfArticle, Lacks, Sends, Tells, numbers_listed}
-use Rattle.nntp_facts.specs.Conflict.{Placed, told, with_group, Point, Step, Group, Number, Count, First, IdOf, PlaceOf, Article, HeadOf, BodyOf, rank, ConflictAt}
+use Rattle.nntp_facts.specs.Conflict.{Placed, FitsThere, told, told_with, with_group, Point, Number, Count, First, rank, ConflictAt}
 
--- ---- the answers
-
--- the answers, the bad one first, each with the numbers that it lists
-pub record Answers : Type 0 where
-  pub profile : Profile
-  pub answers : List (Placed × List ℕ)
-
--- an answer with the numbers that it lists
-abbrev pub with_numbers : Placed → Placed × List ℕ
-with_numbers a = (a, numbers_listed a.response)
-
--- the answer at the place, if there is one
-abbrev pub answer_at : List Placed → ℕ → List Placed
-answer_at answers k = option_map_or (λ a. a ∷ []) (slice_get answers k) []
-
--- the bad answer, and those at the places
-abbrev pub answers_at : Placed → List Placed → List ℕ → List Placed
-answers_at bad answers places = bad ∷ flat_map (answer_at answers) places
-
--- these are they, and their lines are few
-pub record AreTaken (profile : Profile) (bad : Placed) (answers : List Placed) (places : List ℕ) (taken : Answers) : Type 0 where
-  pub judged : taken.profile ≡ profile
-  pub taken_are : taken.answers ≡ map with_numbers (answers_at bad answers places)
-  pub few : AllByRecursion (λ a. lines_in a.response < 2 ^ 64) (answers_at bad answers places)
-
--- ---- what each says
+-- ---- what the last answer of a conflict says
 
 -- what an answer says, and the group of which it speaks
 pub record Statement : Type 0 where
@@ -65,22 +36,6 @@ pub record TellsAlone (profile : Profile) (t : Statement) (facts : List Fact) : 
   pub formed : AllByRecursion IsWellFormed facts
   pub agree : AgreeWithin own
 
--- the answers tell the facts, one behind the other
-abbrev pub AllTell : Profile → List Statement → List Fact → Type 0
-AllTell profile [] facts = facts ≡ []
-AllTell profile (t ∷ more) facts = (here rest : List Fact) × (here ++ rest ≡ facts) × TellsAlone profile t here × AllTell profile more rest
-
--- the statements are what the answers say, one for each
-abbrev pub AreSaid : Profile → List Statement → List Placed → Type 0
-AreSaid profile [] [] = ⊤
-AreSaid profile (t ∷ ts) (a ∷ answers) = TellsAlone profile t (told profile a) × AreSaid profile ts answers
-AreSaid profile ts answers = ⊥
-
--- what the first element gives that gives something
-abbrev pub first_in : {A B : Type 0} → (A → Option B) → List A → Option B
-first_in f [] = None
-first_in f (x ∷ xs) = option_or (f x) (first_in f xs)
-
 -- ---- what is looked at
 
 -- it says what can't be
@@ -95,10 +50,6 @@ shows_name name t = option_map_or (λ g. is_same g name) t.group false || option
 abbrev pub denies_name : Name → Statement → Bool
 denies_name name t = option_map_or (λ g. is_same g name) t.saying.there_is_no false || option_map_or (λ l. option_map_or (λ w. matches_name w name) l.0 true && not
     (is_listed l.1 name)) t.saying.groups false
-
--- it speaks of the numbers of the group
-abbrev pub speaks_of : Name → Statement → Bool
-speaks_of name t = option_map_or (λ g. is_same g name) t.group false
 
 -- the id that it shows at the number
 abbrev pub id_told : Name → ℕ → Statement → Option Id
@@ -119,6 +70,11 @@ abbrev pub denies_id : Id → Option (Id × OfArticle) → Bool
 denies_id id (Some (other, Lacks)) = is_same other id
 denies_id id said = false
 
+-- a part of an article
+pub data Part : Type 0 where
+  Head : Part
+  Body : Part
+
 -- the part of an article that a success sends
 abbrev pub part_sent : Part → What → Option (List Line) → Option (List Line)
 part_sent Head what lines = head_sent what lines
@@ -135,27 +91,6 @@ bounds_of name lines = flat_map (λ line. if is_same line.name name then Bounds 
 
 -- ---- points
 
--- what the answer gives, if it gives something, isn't what the first of the facts gives
-abbrev pub GivesOther : {A : Type 0} → (Fact → Option A) → List Fact → Option A → Type 0
-GivesOther f facts o = ¬ (IfSome o (λ x. first_given f facts ≡ Some x))
-
--- the answer has a part in a conflict at the point, if there is one
-abbrev pub HasPart : List Fact → Statement → Point → Type 0
-HasPart facts t (Step name) = IsTrue (is_impossible name t)
-HasPart facts t (Group name) = IsTrue (denies_name name t)
-HasPart facts t (Number name n) = IsTrue (speaks_of name t)
-HasPart facts t (Count name) = IsTrue (speaks_of name t)
-HasPart facts t (First name) = IsTrue (speaks_of name t)
-HasPart facts t (IdOf name n) = GivesOther (id_in name n) facts (id_told name n t)
-HasPart facts t (PlaceOf name id) = GivesOther (number_in name id) facts (place_told name id t)
-HasPart facts t (Article id) = IsTrue (denies_id id t.saying.article)
-HasPart facts t (HeadOf id) = GivesOther (head_in id) facts (part_told Head id t.saying.article)
-HasPart facts t (BodyOf id) = GivesOther (body_in id) facts (part_told Body id t.saying.article)
-
--- at no point of the rank at which the answer has a part the facts conflict, or they conflict at this one
-abbrev pub IsPointWith : List Fact → Statement → ℕ → Option Point → Type 0
-IsPointWith facts t k point = MatchOption point ((other : Point) → rank other ≡ k → HasPart facts t other → ¬ (ConflictAt facts other)) (λ point. ConflictAt facts point × (rank point ≡ k))
-
 -- at no point of the rank the facts conflict, or they conflict at this one
 abbrev pub IsPointOf : List Fact → ℕ → Option Point → Type 0
 IsPointOf facts k point = MatchOption point ((other : Point) → rank other ≡ k → ¬ (ConflictAt facts other)) (λ point. ConflictAt facts point × (rank point ≡ k))
@@ -164,12 +99,43 @@ IsPointOf facts k point = MatchOption point ((other : Point) → rank other ≡ 
 abbrev pub NoneBefore : List Fact → ℕ → Type 0
 NoneBefore facts k = (other : Point) → rank other < k → ¬ (ConflictAt facts other)
 
--- the point of a part
-abbrev pub point_of_part : Part → Id → Point
-point_of_part Head id = HeadOf id
-point_of_part Body id = BodyOf id
+-- the point is about the numbers of the group
+abbrev pub IsAbout : Name → Point → Type 0
+IsAbout name (Number other n) = name ≡ other
+IsAbout name (Count other) = name ≡ other
+IsAbout name (First other) = name ≡ other
+IsAbout name point = ⊥
 
--- its rank
-abbrev pub rank_of_part : Part → ℕ
-rank_of_part Head = 8
-rank_of_part Body = 9
+-- at no point of the rank that is about the numbers of the group the facts conflict, or they conflict at this one
+abbrev pub IsPointIn : List Fact → Name → ℕ → Option Point → Type 0
+IsPointIn facts name k point = MatchOption point ((other : Point) → rank other ≡ k → IsAbout name other → ¬ (ConflictAt facts other)) (λ point. ConflictAt facts point × (rank point ≡ k))
+
+-- ---- the last answer beside the others
+
+-- the facts stand together and are kept, and the answer tells more of them by itself
+pub record IsBeside (profile : Profile) (facts : List Fact) (k : Kept) (t : Statement) (more : List Fact) : Type 0 where
+  pub kept : IsKept facts k
+  pub together : Together facts
+  pub tells : TellsAlone profile t more
+
+-- an answer with the numbers that it lists
+abbrev pub with_numbers : Placed → Placed × List ℕ
+with_numbers a = (a, numbers_listed a.response)
+
+-- what is held of answers that conflict: what is kept of all but the last, and the last one with the numbers that it lists
+pub record Answers : Type 0 where
+  pub profile : Profile
+  pub kept : Kept
+  pub last : Placed × List ℕ
+
+-- this is held of the bad answer and those at the places: they conflict, and without the last one they stand together
+pub record AreHeld (profile : Profile) (bad : Placed) (answers : List Placed) (places : List ℕ) (held : Answers) : Type 0 where
+  pub judged : held.profile ≡ profile
+  pub last : Placed
+  pub listed : held.last ≡ with_numbers last
+  pub fits : FitsThere profile last
+  pub facts : List Fact
+  pub kept : IsKept facts held.kept
+  pub together : Together facts
+  pub whole : facts ++ told profile last ≡ told_with profile bad answers places
+  pub conflict : Together (told_with profile bad answers places) → ⊥

@@ -1,27 +1,28 @@
 -- What the values of src/points mean.
-use Rattle.std.specs.Prelude.{List, ℕ, Bool, option_map, not, ◌&&◌, true}
-use Rattle.std.specs.List.{list_any}
-use Rattle.std.specs.Option.{option_map_or}
-use Rattle.nntp_wire.specs.Decided.{matches_name}
-use Rattle.nntp_article.specs.Session.Spool.{Name}
-use Rattle.nntp_article.specs.Session.Machine.{is_same}
+use Rattle.std.specs.Prelude.{List, ℕ, option_map}
 use Rattle.nntp_facts.specs.Conflict.{Placed}
 use Rattle.nntp_facts.specs.declared.points.Listing.{Listing}
+use Rattle.nntp_facts.specs.declared.points.Conflict.{Conflict}
+use Rattle.nntp_article.specs.Session.Limit.{profile_of}
 use Rattle.nntp_facts.specs.Points as points
 use Rattle.nntp_facts.specs.SayingView.{saying_of}
 use Rattle.nntp_facts.specs.declared.points.statement.Statement.{Statement}
-use Rattle.nntp_facts.specs.declared.points.groups.Denial.{Denial}
-use Rattle.nntp_facts.specs.declared.points.groups.Denial.TheVariants.{Named, Unlisted}
+use Rattle.nntp_facts.specs.declared.points.NumbersKind.{NumbersKind}
+use Rattle.nntp_facts.specs.declared.points.NumbersKind.TheVariants.{Number, Count, First}
 use Rattle.nntp_facts.specs.declared.points.Kind.{Kind}
-use Rattle.nntp_facts.specs.declared.points.Kind.TheVariants.{Step, Group, Number, Count, First, IdOf, PlaceOf, Article, HeadOf, BodyOf}
+use Rattle.nntp_facts.specs.declared.points.Kind.TheVariants.{Step, Group, Numbers, IdOf, PlaceOf, Article, HeadOf, BodyOf}
+
+-- the rank of the points of a kind that are about numbers
+abbrev pub rank_of_numbers : NumbersKind → ℕ
+rank_of_numbers Number = 2
+rank_of_numbers Count = 3
+rank_of_numbers First = 4
 
 -- the rank of the points of a kind
 abbrev pub rank_of : Kind → ℕ
 rank_of Step = 0
 rank_of Group = 1
-rank_of Number = 2
-rank_of Count = 3
-rank_of First = 4
+rank_of (Numbers kind) = rank_of_numbers kind
 rank_of IdOf = 5
 rank_of PlaceOf = 6
 rank_of Article = 7
@@ -36,7 +37,6 @@ listing_of l = (l.answer.now, l.numbers.items)
 abbrev pub statement_of : Statement → points.Statement
 statement_of t = record { group = option_map (λ name. name.now) t.group; saying = saying_of t.saying }
 
--- it is denied that there is such a group
-abbrev pub is_denied_by : {A : Type 0} → Denial A → Name → Bool
-is_denied_by (Named word) name = is_same word.now name
-is_denied_by (Unlisted listed wildmat) name = option_map_or (λ w. matches_name w name) wildmat.now true && not (list_any (λ k. is_same k.now name) listed.keys)
+-- what is held of answers that conflict
+abbrev pub held_of : {A : Type 0} → Conflict A → points.Answers
+held_of c = record { profile = profile_of c.limit c.marks; kept = c.kept; last = listing_of c.last }

@@ -1,5 +1,5 @@
 //! What answers say of articles.
-ghost use Rattle.std.specs.Prelude.{◌≡◌, ◌≢◌, ℕ, false, Some, IsTrue, List, Option, IfOk, OnOk, is_some};
+ghost use Rattle.std.specs.Prelude.{◌≡◌, ◌≢◌, ◌↔◌, ℕ, false, Some, IsTrue, List, Option, IfOk, OnOk, is_some};
 ghost use Rattle.std.specs.List.{list_any};
 ghost use Rattle.std.specs.Option.{option_map_or};
 ghost use Rattle.std.specs.FinMap as map;
@@ -11,9 +11,9 @@ ghost use Rattle.nntp_wire.specs.declared.command.What.{What};
 ghost use Rattle.nntp_article.specs.Article.Parts.{Id, Line};
 ghost use Rattle.nntp_article.specs.Session.Spool.{Name};
 ghost use Rattle.nntp_facts.specs.Facts.{Fact, IdAt, TextIs, NoArticle};
-ghost use Rattle.nntp_facts.specs.Given.{is_mentioned};
+ghost use Rattle.nntp_facts.specs.Given.{is_mentioned, first_given, head_in, body_in};
 ghost use Rattle.nntp_facts.specs.Together.{shows_article};
-ghost use Rattle.nntp_facts.specs.Articles.{head_sent, body_sent, is_there, denied, with_new};
+ghost use Rattle.nntp_facts.specs.Articles.{AreSame, head_sent, body_sent, is_there, denied, with_new};
 ghost use Rattle.nntp_facts.specs.Kept.{AreKeptArticles, IsFactAdded};
 ghost use Rattle.nntp_facts.specs.KeptSaying.{IsThereAlready, MayBeSaid, article_fact};
 ghost use Rattle.nntp_facts.specs.Saying.{IsToExist};
@@ -76,14 +76,14 @@ impl<A: Allocator> Articles<A> {
     }
 
     /// Tells whether the octets are an id that has an article.
-    fn has_octets(&self, id: &[u8]) -> bool
+    pub(crate) fn has_octets(&self, id: &[u8]) -> bool
         ensures { result ≡ is_there (map.get self.now id.now) }
     {
         has_key(&self.known, id)
     }
 
     /// Tells whether the id is said to have no article.
-    fn is_denied(&self, id: &str) -> bool
+    pub(crate) fn is_denied(&self, id: &str) -> bool
         ensures { result ≡ option_map_or (λ a. a.is_denied) (map.get self.now id.now) false }
     {
         self.denied.contains(id.as_bytes()) && !self.has(id)
@@ -94,6 +94,28 @@ impl<A: Allocator> Articles<A> {
         ensures { result ≡ is_there (map.get self.now id.now) }
     {
         self.known.contains_key(id)
+    }
+}
+
+impl<A: Allocator> Articles<A> {
+    /// Tells whether no other head of the article was sent than this, if it is one.
+    pub(crate) fn may_have_head(&self, id: &str, sent: &Sent<'_>) -> bool
+        ensures { (facts : List Fact) → AreKeptArticles facts self.now → IsTrue result ↔ AreSame sent.now.head (first_given (head_in id.now) facts) }
+    {
+        match self.known.get(id) {
+            Some(article) => article.may_have_head(sent),
+            None => true,
+        }
+    }
+
+    /// Tells whether no other body of the article was sent than this, if it is one.
+    pub(crate) fn may_have_body(&self, id: &str, sent: &Sent<'_>) -> bool
+        ensures { (facts : List Fact) → AreKeptArticles facts self.now → IsTrue result ↔ AreSame sent.now.body (first_given (body_in id.now) facts) }
+    {
+        match self.known.get(id) {
+            Some(article) => article.may_have_body(sent),
+            None => true,
+        }
     }
 }
 

@@ -51,11 +51,7 @@ impl<A: Allocator> Core<A> {
 impl<A: Allocator + Copy> Core<A> {
     /// Returns the places of all answers with which the bad one conflicts: these, and where not all were looked for all
     /// below the bound before them.
-    ///
-    /// # Errors
-    ///
-    /// If memory is refused.
-    pub fn all_places(&self, alloc: A) -> Result<Vec<usize, A>, AllocError>
+    pub(crate) fn all_places(&self, alloc: A) -> Result<Vec<usize, A>, AllocError>
         ensures { IfOk result (λ all. all.items ≡ places_of self.now) }
     {
         let mut all = Vec::new(alloc);
@@ -123,7 +119,7 @@ fn keep<A: Allocator + Copy>(
 
 /// Adds what the bad answer and those at the places say where nothing is kept yet, and tells
 /// whether some spool has it. If none has, and after an error, what is kept says nothing of use.
-fn tell_all<A: Allocator + Copy>(
+pub(crate) fn tell_all<A: Allocator + Copy>(
     kept: &mut Kept<A>,
     limit: Limit,
     marks: Marks,

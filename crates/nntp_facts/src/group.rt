@@ -1,5 +1,5 @@
 //! What is kept of one group: its numbers, and the ids that are shown at numbers.
-ghost use Rattle.std.specs.Prelude.{◌≡◌, ◌↔◌, List, [], ◌++◌, IsTrue, IfSome, OnOk, Some, option_map};
+ghost use Rattle.std.specs.Prelude.{◌≡◌, ◌↔◌, List, [], ◌++◌, IsTrue, IfSome, IfOk, OnOk, Some, option_map};
 ghost use Rattle.std.specs.Option.{option_copied};
 ghost use Rattle.std.specs.Rc.{rc_str_bytes};
 ghost use Rattle.std.specs.FinMap.{get, insert, empty};
@@ -111,6 +111,15 @@ impl<A: Allocator + Copy> Group<A> {
     }
 }
 
+impl<A: Allocator + Copy> Group<A> {
+    /// Returns what is said of the numbers of the group.
+    pub(crate) fn numbers(&self) -> Result<Numbers<A>, AllocError>
+        ensures { IfOk result (λ numbers. numbers ≡ self.now.numbers) }
+    {
+        self.numbers.copy()
+    }
+}
+
 impl<A: Allocator> Group<A> {
     /// Tells whether what is said of the group stands together with all that was said before: what
     /// is said of its numbers, and that the number has the id, which is shown at no other number,
@@ -198,7 +207,7 @@ impl<A: Allocator> Group<A> {
     }
 
     /// Returns the id at the number, if one is shown.
-    fn id(&self, number: u64) -> Option<&str>
+    pub(crate) fn id(&self, number: u64) -> Option<&str>
         ensures { option_copied result ≡ get self.now.ids number }
     {
         match self.id_text(number) {
@@ -215,7 +224,7 @@ impl<A: Allocator> Group<A> {
     }
 
     /// Returns the number of the id, if one is shown.
-    fn place(&self, id: &str) -> Option<u64>
+    pub(crate) fn place(&self, id: &str) -> Option<u64>
         ensures { result ≡ get self.now.places id.now }
     {
         self.places.get(id).copied()

@@ -1,5 +1,5 @@
 //! What answers say of groups.
-ghost use Rattle.std.specs.Prelude.{◌≡◌, ◌↔◌, false, List, ◌++◌, IsTrue, MatchOption, OnOk, option_copied, option_map};
+ghost use Rattle.std.specs.Prelude.{◌≡◌, ◌↔◌, false, List, ◌++◌, IsTrue, MatchOption, IfOk, OnOk, option_copied, option_map};
 ghost use Rattle.std.specs.FinMap as map;
 ghost use Rattle.std.specs.Rc.{rc_str_bytes};
 ghost use Rattle.nntp_article.specs.Session.Spool.{Name};
@@ -8,7 +8,7 @@ ghost use Rattle.nntp_facts.specs.Together.{AsksStand};
 ghost use Rattle.nntp_facts.specs.Part.{Says};
 ghost use Rattle.nntp_facts.specs.PartView.{said};
 ghost use Rattle.nntp_facts.specs.SayingView.{id_at, of_group};
-ghost use Rattle.nntp_facts.specs.Summary.{AreBounded};
+ghost use Rattle.nntp_facts.specs.Summary.{IsSummary, AreBounded};
 ghost use Rattle.nntp_facts.specs.Kept.{joins_at_all, Told, AreKept, Agree, IsShownAt, MayShow, AreKeptWith};
 ghost use Rattle.nntp_facts.specs.KeptSaying.{IsTextOf, HasSaid};
 ghost use Rattle.nntp_facts.specs.declared.joins.Joins.TheVariants.{Again};
@@ -18,9 +18,9 @@ mod listed;
 
 use crate::group::Group;
 use crate::joins::Joins;
+use crate::numbers::Numbers;
 use crate::saying::GroupPart;
 use crate::shown_groups::ShownGroups;
-pub(crate) use listed::{is_unlisted, names_of};
 use std::alloc::{AllocError, Allocator, Global};
 use std::collections::BTreeMap;
 use std::marker::Model;
@@ -105,6 +105,34 @@ impl<A: Allocator + Copy> Groups<A> {
             Some(group) => Joins::new_if(group.joins(part)),
             None => Joins::new_if(Group::new(self.alloc).joins(part)),
         }
+    }
+}
+
+impl<A: Allocator + Copy> Groups<A> {
+    /// Returns what is said of the numbers of a group: nothing where it isn't shown.
+    pub(crate) fn numbers(&self, name: &[u8]) -> Result<Numbers<A>, AllocError>
+        ensures { IfOk result (λ numbers. (tells : Name → Told) → AreKept tells self.now → IsSummary numbers (tells name.now).asks) }
+    {
+        match self.get(name) {
+            Some(group) => group.numbers(),
+            None => Ok(Numbers::new(self.alloc)),
+        }
+    }
+}
+
+impl<A: Allocator> Groups<A> {
+    /// Returns the id that is shown at the number of the group.
+    pub(crate) fn id(&self, name: &[u8], number: u64) -> Option<&str>
+        ensures { (tells : Name → Told) → AreKept tells self.now → option_copied result ≡ (tells name.now).ids number }
+    {
+        self.get(name)?.id(number)
+    }
+
+    /// Returns the number at which the id is shown in the group.
+    pub(crate) fn place(&self, name: &[u8], id: &str) -> Option<u64>
+        ensures { (tells : Name → Told) → AreKept tells self.now → result ≡ (tells name.now).places id.now }
+    {
+        self.get(name)?.place(id)
     }
 }
 

@@ -19,6 +19,7 @@ ghost use Rattle.nntp_facts.specs.Readers.{shown_groups, shown_articles};
 ghost use Rattle.nntp_facts.specs.KeptSaying.{GroupJoins, JoinGroups, IsTextOf, IsThereAlready, MayBeSaid, article_facts};
 
 mod listed_groups;
+mod points;
 mod told;
 
 use crate::articles::{Added, Articles, ShownArticles};

@@ -1,5 +1,5 @@
 //! What all answers so far say of the numbers of one group.
-ghost use Rattle.std.specs.Prelude.{◌≡◌, ℕ, true, nat_lt, ◌^◌, ◌-◌, ◌<◌, ◌↔◌, ◌&&◌, ◌||◌, List, [], ◌++◌, Option, IsTrue, OnOk};
+ghost use Rattle.std.specs.Prelude.{◌≡◌, ℕ, true, nat_lt, ◌^◌, ◌-◌, ◌<◌, ◌↔◌, ◌&&◌, ◌||◌, List, [], ◌++◌, Option, IsTrue, IfOk, OnOk};
 ghost use Rattle.std.specs.List.{list_all};
 ghost use Rattle.nntp_intervals.specs.Intervals.{holds};
 ghost use Rattle.nntp_facts.specs.Asks.{Ask};
@@ -62,6 +62,19 @@ impl<A: Allocator + Copy> Numbers<A> {
             ends: None,
             demand: Demand::NoDemand,
         }
+    }
+
+    /// Returns the same.
+    pub(crate) fn copy(&self) -> Result<Numbers<A>, AllocError>
+        ensures { IfOk result (λ numbers. numbers ≡ self.now) }
+    {
+        Ok(Numbers {
+            shown: self.shown.clone()?,
+            denied: self.denied.copy()?,
+            estimate: self.estimate,
+            ends: self.ends,
+            demand: self.demand,
+        })
     }
 
     /// Adds what the part says. After an error the value says nothing of use.

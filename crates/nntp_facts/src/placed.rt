@@ -1,5 +1,5 @@
 //! Exchanges where they stand.
-ghost use Rattle.std.specs.Prelude.{◌≡◌, ◌<◌, ◌^◌, [], option_map, unwrap_or, IfSome};
+ghost use Rattle.std.specs.Prelude.{◌≡◌, ◌<◌, ◌^◌, [], option_map, unwrap_or, IfSome, IsTrue};
 ghost use Rattle.std.specs.List.{AllByRecursion};
 ghost use Rattle.nntp_wire.specs.declared.marks.Marks.{Marks};
 ghost use Rattle.nntp_wire.specs.AnswerView.{response};
@@ -14,6 +14,7 @@ ghost use Rattle.nntp_pair.specs.Pairing.{asked_at, lines_in};
 use crate::facts_of::facts_of;
 use crate::position::Position;
 use crate::said_facts::SaidFacts;
+use crate::same::{is_same_answer, is_same_line, is_same_name, is_same_position};
 use nntp_pair::Exchange;
 use nntp_wire::{Answer, GroupName, Marks, Prompt};
 use std::marker::Model;
@@ -94,6 +95,17 @@ impl<'a> Placed<'a> {
         ensures well_formed { (how : Marks) (v : Visible) (at : Position) → AllByRecursion IsWellFormed (facts_of how v at self.now.asked self.now.response) }
     {
         self.exchange.answer()
+    }
+
+    /// Tells whether both are the same answer to the same line, from the same place, octet by octet. Of two lines that are
+    /// the same command in other octets it is false.
+    pub fn is_same(&self, other: &Placed<'_>) -> bool
+        ensures { IsTrue result → self.now ≡ other.now }
+    {
+        is_same_name(&self.selected, &other.selected)
+            && is_same_position(self.position, other.position)
+            && is_same_line(self.exchange.line(), other.exchange.line())
+            && is_same_answer(self.exchange.answer(), other.exchange.answer())
     }
 
     /// Returns what the answer says of the spool, where marks are read so: at most three facts.

@@ -7,7 +7,7 @@ ghost use Rattle.nntp_facts.specs.Asks.{position_after};
 use nntp_wire::{Answer, Command, Prompt, Which};
 
 /// The place at which a session stands in the selected group: its current article.
-#[derive(Clone, Copy)]
+#[derive(Clone, Copy, PartialEq, Eq)]
 pub enum Position {
     /// No group was selected yet.
     Nowhere,

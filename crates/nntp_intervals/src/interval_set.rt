@@ -1,5 +1,5 @@
 //! The set of numbers, and the questions that it answers.
-ghost use Rattle.std.specs.Prelude.{◌≡◌, ℕ, ◌||◌, ◌↔◌, [], if◌then◌else◌, IsSome, IsTrue, OnOk, OnErr, MatchOption};
+ghost use Rattle.std.specs.Prelude.{◌≡◌, ℕ, ◌||◌, ◌↔◌, [], if◌then◌else◌, IsSome, IsTrue, IfOk, OnOk, OnErr, MatchOption};
 ghost use Rattle.std.specs.Ordering.{nat_cmp};
 ghost use Rattle.std.specs.BTreeMap.{get, IsOrdered};
 ghost use Rattle.nntp_intervals.specs.Intervals.{holds, is_between, IsLeastFree, IsFullFrom, Covers, Meets};
@@ -41,6 +41,19 @@ impl<A: Allocator + Copy> IntervalSet<A> {
         IntervalSet {
             lasts: BTreeMap::new(alloc),
         }
+    }
+
+    /// Returns a set of the same numbers.
+    ///
+    /// # Errors
+    ///
+    /// If memory is refused.
+    pub fn copy(&self) -> Result<IntervalSet<A>, AllocError>
+        ensures { IfOk result (λ set. set ≡ self.now) }
+    {
+        Ok(IntervalSet {
+            lasts: self.lasts.clone()?,
+        })
     }
 
     /// Adds the numbers from `first` to `last`, both included. It adds none where `last` is below

@@ -2,7 +2,7 @@
 use Rattle.std.proofs.Common.{◌≡◌, ℕ, Bool, true, false, cond, ◌&&◌, ◌||◌, not, List, [], ◌∷◌, map, Vec, Option, None, Some, is_some, option_map, refl, sym, ap, subst, ◌∙◌}
 use Rattle.std.specs.Prelude.{unwrap_or}
 use Rattle.std.specs.List.{list_any, filter}
-use Rattle.std.specs.Option.{option_or, option_map_or}
+use Rattle.std.specs.Option.{option_or, option_map_or, option_and_then}
 use Rattle.std.specs.declared.cmp.Ordering.{Ordering}
 use Rattle.std.specs.declared.cmp.Ordering.TheVariants.{Less, Equal, Greater}
 use Rattle.std.specs.declared.rc.RcStr.{RcStr}
@@ -19,7 +19,7 @@ use Rattle.std.proofs.lemmas.Map.Text.{is_eq-slice_cmp}
 use Rattle.std.proofs.lemmas.Slice.Eq.{bytes_eq-Decides}
 use Rattle.std.proofs.lemmas.Str.{IsUtf8-string_bytes}
 use Rattle.nntp_wire.proofs.ShownMaps.{get-shown, replaced}
-use Rattle.nntp_article.specs.Article.Parts.{Id}
+use Rattle.nntp_article.specs.Article.Parts.{Id, Line}
 use Rattle.nntp_article.specs.Session.Machine.{is_same}
 use Rattle.nntp_facts.specs.Kept.{KeptArticle}
 use Rattle.nntp_facts.specs.Articles.{denied, is_there, with_new, with_denied, articles_in}
@@ -183,6 +183,18 @@ module _ {A : Type 0} (es : List (RcStr A × KnownArticle A)) (ks : List (Vec �
       by (Some a) b e = refl
       by None true e = absurd (true≢false e)
       by None false e = refl
+
+  -- what is kept of an article that is known
+  pub part_known : (a : KnownArticle A) → Some a ≡ known → get articles id ≡ Some (known_article a)
+  part_known a e = found ∙ ap (λ o. option_or (option_map known_article o) (if_denied is_denied)) (sym e)
+
+  -- nothing was sent of an id of which none is
+  pub no_part_known : (part : KeptArticle → Option (List Line)) → part denied ≡ None → None ≡ known → option_and_then part (get articles id) ≡ None
+  no_part_known part none e = ap (option_and_then part) (found ∙ ap (λ o. option_or (option_map known_article o) (if_denied is_denied)) (sym e)) ∙ by is_denied
+    where
+      by : (b : Bool) → option_and_then part (if_denied b) ≡ None
+      by true = none
+      by false = refl
 
   -- an article that is known is another from now on
   pub replaced_known : (fs : List (RcStr A × KnownArticle A)) (old new : KnownArticle A) → Some old ≡ known → fs ≡ set_value (λ k. is_eq (slice_cmp nat_cmp id (rc_str_bytes k))) es new

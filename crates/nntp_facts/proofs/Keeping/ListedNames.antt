@@ -1,5 +1,5 @@
 -- The names that are listed, in a set, and those of the groups that are kept.
-use Rattle.std.proofs.Common.{◌≡◌, ℕ, Bool, true, false, ◌||◌, ◌&&◌, not, cond, IsTrue, is_some, List, [], ◌∷◌, Option, Some, refl, sym, ap, subst, ◌∙◌}
+use Rattle.std.proofs.Common.{◌≡◌, ℕ, Bool, true, false, ◌||◌, ◌&&◌, not, cond, IsTrue, MatchOption, None, is_some, List, [], ◌∷◌, Option, Some, refl, sym, ap, subst, ◌∙◌}
 use Rattle.std.specs.Prelude.{◌↔◌}
 use Rattle.std.specs.Borrow.{Bor}
 use Rattle.std.specs.Option.{option_map_or}
@@ -10,6 +10,9 @@ use Rattle.std.specs.Ordering.{nat_cmp, is_eq}
 use Rattle.std.specs.Cmp.Lexicographic.{slice_cmp, same_text, nat_list_cmp_total}
 use Rattle.std.specs.FinMap.{get}
 use Rattle.std.proofs.lemmas.Bool.{true≢false, and_parts, and_from, not-true, false_from_ne_true}
+use Rattle.nntp_wire.specs.Name.{IsGroupName}
+use Rattle.nntp_facts.specs.Together.{denies_group}
+use Rattle.nntp_facts.specs.Facts.{GroupsAre}
 use Rattle.nntp_wire.specs.Decided.{is_group_name, matches_name}
 use Rattle.nntp_wire.proofs.DecidedLemmas.{group_name-iff}
 use Rattle.nntp_wire.proofs.ShownMaps.{shown, get-shown, is_some-option_map}
@@ -121,3 +124,23 @@ none_missing {L} text es groups facts p lines names found view listed is kept t 
         let parts = and_parts (is_group_name name && is_matched p name) (not (has_name names name)) f.2 in
         let shown = sym (key_shown text es groups facts view kept name) ∙ any_in (λ k. is_same (text k) name) f.0 (keys_of es) f.1 (same_self name) in
         true≢false (sym (h name shown (and_parts (is_group_name name) (is_matched p name) parts.0).1) ∙ sym (listed name) ∙ not-true (has_name names name) parts.1)))
+
+-- a group that is shown and matches, and isn't listed, if there is one
+pub one_unlisted : {L : Type 0} (text : L → List ℕ) (es : List (L × KeptGroup)) (groups : Groups) (facts : List Fact)
+    (p : Option (List ℕ)) (lines : List ActiveValue) (names : List (Bor Name)) (found : Option Name)
+    → shown (slice_cmp nat_cmp) text (λ v. v) es ≡ groups → ((name : Name) → has_name names name ≡ is_listed lines name)
+    → AreKeptGroups facts groups → Together facts
+    → MatchOption found ((name : Name) → IsTrue (list_any (λ k. is_same (text k) name) (keys_of es)) → IsGroupName name
+    → (option_map_or (λ w. matches_name w name) p true && not (has_name names name)) ≡ false)
+    (λ name. IsTrue (list_any (λ k. is_same (text k) name) (keys_of es)) × IsTrue (option_map_or (λ w. matches_name w name) p true && not (has_name names name)))
+    → MatchOption found (NoneIsMissing facts p lines) (λ name. IsTrue (is_shown_group facts name) × IsTrue (denies_group name (GroupsAre p lines)))
+one_unlisted text es groups facts p lines names (Some name) view listed kept t (there, unlisted) = (
+  sym (key_shown text es groups facts view kept name) ∙ there,
+  ap (λ b. option_map_or (λ w. matches_name w name) p true && not b) (sym (listed name)) ∙ unlisted,
+)
+one_unlisted text es groups facts p lines names None view listed kept t none = λ name there matching. by name there matching (is_listed lines name) refl
+  where
+    by : (name : Name) → is_shown_group facts name ≡ true → option_map_or (λ w. matches_name w name) p true ≡ true → (b : Bool) → is_listed lines name ≡ b → b ≡ true
+    by name there matching true e = refl
+    by name there matching false e = absurd (true≢false (sym (and_from (option_map_or (λ w. matches_name w name) p true) (not (has_name names name)) matching (ap not (listed name ∙ e)))
+        ∙ none name (key_shown text es groups facts view kept name ∙ there) (shown_named facts name t.well_formed there)))

@@ -198,7 +198,7 @@ module _ (profile : Profile) (a : Placed) (facts : List Fact) (together : Togeth
 
 module _ (profile : Profile) (bad : Placed) (answers : List Placed) (places : List ℕ) (place : ℕ) where
   -- what those at one place more say
-  with_place : (more : List Fact) → told_at profile answers place ≡ more → told_with profile bad answers places ++ more ≡ told_with profile bad answers (places ++ place ∷ [])
+  pub with_place : (more : List Fact) → told_at profile answers place ≡ more → told_with profile bad answers places ++ more ≡ told_with profile bad answers (places ++ place ∷ [])
   with_place more e =
       let before = flat_map (told_at profile answers) places in
       append_assoc (told profile bad) before more

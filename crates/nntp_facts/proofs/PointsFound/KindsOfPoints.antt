@@ -1,251 +1,554 @@
--- Points of each kind, found by an answer that has a part in them.
-use Rattle.std.proofs.Common.{arith, ◌^◌, ◌<◌, ◌≡◌, ℕ, Bool, true, false, ◌&&◌, ◌==◌, not, cond, IsTrue, List, [], ◌∷◌, ◌++◌, Option, None, Some, inl, inr, refl, sym, ap, subst, ◌∙◌}
-use Rattle.std.specs.Prelude.{MatchOption, option_map, IfSome, Contains}
-use Rattle.std.specs.List.{list_any}
-use Rattle.std.specs.Option.{option_map_or}
+-- Points of each kind, where what an answer says conflicts with what is kept.
+use Rattle.std.proofs.Common.{arith, ℕ, Bool, true, false, not, cond, IsTrue, List, [], ◌≡◌, ◌∷◌, ◌++◌, ◌&&◌, ◌||◌, ◌<◌, ◌==◌, ◌⊎◌, Option, None, Some, inl, inr, refl, sym, ap, subst, ◌∙◌, append-nil}
+use Rattle.std.specs.Prelude.{IfSome, IsFalse, MatchOption, option_map}
+use Rattle.std.specs.List.{AllByRecursion, list_any, list_all}
+use Rattle.std.specs.Option.{option_map_or, option_or}
 use Rattle.std.specs.Cmp.Lexicographic.{same_text}
-use Rattle.std.proofs.lemmas.Bool.{true≢false, cases_Bool, and_from, eq-eqb, eqb-true}
+use Rattle.std.proofs.lemmas.Bool.{true≢false, cases_Bool, and_from, and_parts, or_cases, or_left, or_right, eq-eqb, eqb-true, not-true}
 use Rattle.std.proofs.lemmas.List.Folds.{list_any-append}
-use Rattle.nntp_wire.specs.Limit.{greatest}
-use Rattle.nntp_wire.specs.declared.limit.Limit.{Limit}
-use Rattle.nntp_wire.specs.declared.limit.Limit.TheVariants.{Narrow, Wide}
+use Rattle.nntp_wire.specs.Listing.{ActiveValue}
+use Rattle.nntp_wire.specs.Decided.{matches_name}
 use Rattle.nntp_wire.specs.declared.marks.Marks.TheVariants.{Lenient}
 use Rattle.nntp_article.specs.Article.Parts.{Id, Line}
 use Rattle.nntp_article.specs.Session.Spool.{Name}
 use Rattle.nntp_article.specs.Session.Machine.{is_same}
 use Rattle.nntp_article.specs.declared.session.profile.Profile.{Profile}
-use Rattle.nntp_facts.specs.Asks.{Estimates}
-use Rattle.nntp_facts.specs.Facts.{Fact, Asks, group_of}
-use Rattle.nntp_facts.specs.Given.{asks_of, asks_in, shows_group, first_given, id_in, head_in, body_in, is_denied, denies, demand, IsGivenNumber}
-use Rattle.nntp_facts.specs.Together.{MeetsDemand, denies_group, number_in, shows_article, denies_article}
-use Rattle.nntp_facts.specs.Kept.{id_of, place_of}
-use Rattle.nntp_facts.specs.Saying.{OfGroup, OfArticle, Lacks, Exists, Sends}
-use Rattle.nntp_facts.specs.Summary.{AreBounded}
-use Rattle.nntp_facts.specs.Conflict.{widest, the_group, Point, Step, Group, Number, IdOf, PlaceOf, Article, rank, ConflictAt, AreApart, AreTooMany}
-use Rattle.nntp_facts.specs.declared.points.articles.Part.{Part}
-use Rattle.nntp_facts.specs.declared.points.articles.Part.TheVariants.{Head, Body}
-use Rattle.nntp_facts.specs.Points.{Statement, AllTell, HasPart, IsPointWith, NoneBefore, first_in, is_impossible, shows_name}
-use Rattle.nntp_facts.specs.Points.{denies_name, speaks_of, id_told, place_told, shows_id, denies_id, part_told, part_sent}
-use Rattle.nntp_facts.specs.Points.{point_of_part, rank_of_part}
-use Rattle.nntp_facts.proofs.Members.{In, in_contains, any_in, to_flat}
+use Rattle.nntp_facts.specs.Asks.{Ask, Bounds, Estimates}
+use Rattle.nntp_facts.specs.Facts.{Fact, ThereIs, Asks, GroupsAre, group_of}
+use Rattle.nntp_facts.specs.Given.{asks_of, shows_group, is_shown_group, first_given, id_in, head_in, body_in, is_known, is_denied, demand, IsGivenNumber}
+use Rattle.nntp_facts.specs.Together.{is_possible, MeetsDemand, GiveOne, denies_group, number_in, shows_article, denies_article}
+use Rattle.nntp_facts.specs.Part.{Says}
+use Rattle.nntp_facts.specs.Kept.{Kept, id_of, place_of}
+use Rattle.nntp_wire.specs.declared.command.What.{What}
+use Rattle.nntp_article.specs.Session.Machine.{head_fits, names_differ}
+use Rattle.nntp_facts.specs.Articles.{head_sent, body_sent}
+use Rattle.nntp_facts.specs.Saying.{OfGroup, OfArticle, Lacks, Exists, Sends, asked_id, MayBeOf, IsAlone}
+use Rattle.nntp_facts.specs.ListedGroups.{is_listed, MayList, NoneIsMissing}
+use Rattle.nntp_facts.specs.Conflict.{widest, the_group, Point, Step, Group, Number, Count, First, IdOf, PlaceOf, Article, HeadOf, BodyOf, rank, ConflictAt, AreTooMany}
+use Rattle.nntp_facts.specs.Points.{Statement, TellsAlone, IsPointOf, IsPointIn, IsBeside, IsAbout, Head, Body, is_impossible, shows_name, denies_name, id_told, place_told, shows_id, denies_id, part_told, part_sent, bounds_of}
+use Rattle.nntp_facts.proofs.Members.{all_at, all_from, found_in}
+use Rattle.nntp_facts.proofs.Conflicts.{at_point}
 use Rattle.nntp_facts.proofs.PointsByRank.{of_rank}
 use Rattle.nntp_facts.proofs.Together.FactsJoin.{asks_append}
 use Rattle.nntp_facts.proofs.Together.FactsOfASpoolStand.{same_itself}
-use Rattle.nntp_facts.proofs.PointsFound.StatementsRead.{shown_told, denied_told, id_given, place_given, article_shown, article_denied, part_given}
-use Rattle.nntp_facts.proofs.PointsFound.AllTold.{told_in, any_told, first_told, alone_once, first_of_all}
-use Rattle.nntp_facts.proofs.PointsFound.PartsInConflicts.{cannot, impossible_told}
+use Rattle.nntp_facts.proofs.Together.TwoListsOfFacts.{give_one_both, give_same_of_both, none_if}
+use Rattle.nntp_facts.proofs.Keeping.ListedGroups.{no_bounds, bounds_at}
+use Rattle.nntp_facts.proofs.PointsFound.StatementsRead.{shown_told, denied_told, asks_some, asks_listed, asks_none, id_given, place_given, article_shown, article_denied, part_given}
 
--- of another id nothing is sent
-other_part : (part : Part) (id other : Id) (a : OfArticle) → is_same id other ≡ false → part_told part other (Some (id, a)) ≡ None
-other_part part id other Lacks e = refl
-other_part part id other Exists e = refl
-other_part part id other (Sends what lines) e = ap (λ b. cond b (part_sent part what lines) None) e
+-- an ask can't be met
+abbrev pub cannot : Ask → Bool
+cannot ask = not (is_possible ask)
 
-module _ (profile : Profile) (ts : List Statement) (facts : List Fact) (all : AllTell profile ts facts) (t : Statement) (there : Contains ts t) where
-  -- the facts conflict at no point of the rank in which the answer has a part
+not_all : (asks : List Ask) → list_any cannot asks ≡ not (list_all is_possible asks)
+not_all [] = refl
+not_all (ask ∷ asks) = by (is_possible ask) (not_all asks)
+  where
+    by : (b : Bool) → list_any cannot asks ≡ not (list_all is_possible asks) → (not b || list_any cannot asks) ≡ not (b && list_all is_possible asks)
+    by true rest = rest
+    by false rest = refl
+
+bounds_can : (name : Name) (lines : List ActiveValue) → list_any cannot (bounds_of name lines) ≡ false
+bounds_can name [] = refl
+bounds_can name (line ∷ lines) = by (is_same line.name name) (bounds_can name lines)
+  where
+    by : (b : Bool) → list_any cannot (bounds_of name lines) ≡ false → list_any cannot (cond b (Bounds line.low line.high ∷ []) [] ++ bounds_of name lines) ≡ false
+    by true e = e
+    by false e = e
+
+-- what an answer says can't be where its part says so
+pub impossible_told : (profile : Profile) (t : Statement) (here : List Fact) → TellsAlone profile t here → (name : Name) → list_any cannot (asks_of name here) ≡ is_impossible name t
+impossible_told profile t here tells name = by t.saying.group refl
+  where
+    cases : (g : OfGroup) → Says g.numbers (tells.tells.asks ++ asked_id g.id) → (b : Bool)
+        → list_any cannot (cond b (Estimates Lenient (widest profile) ∷ (tells.tells.asks ++ asked_id g.id)) []) ≡ (b && not g.numbers.possible)
+    cases g says true = not_all (tells.tells.asks ++ asked_id g.id) ∙ ap not (sym says.possibly)
+    cases g says false = refl
+
+    by : (g : Option OfGroup) → t.saying.group ≡ g → list_any cannot (asks_of name here) ≡ option_map_or (λ g. is_same g.name name && not g.numbers.possible) g false
+    by (Some g) e =
+        ap (list_any cannot) (asks_some profile t here tells g e name)
+        ∙ cases g (subst (λ o. IfSome o (λ (g : OfGroup). Says g.numbers (tells.tells.asks ++ asked_id g.id))) e tells.tells.may.numbers) (is_same g.name name)
+    by None e = none t.saying.groups refl
+      where
+        none : (o : Option (Option (List ℕ) × List ActiveValue)) → t.saying.groups ≡ o → list_any cannot (asks_of name here) ≡ false
+        none None is = ap (list_any cannot) (asks_none profile t here tells e is name)
+        none (Some l) is = ap (list_any cannot) (asks_listed profile t here tells l is name) ∙ bounds_can name l.1
+
+-- ---- what is given
+
+module _ (profile : Profile) where
+  -- what one answer gives it gives once
+  pub alone_once : {A : Type 0} (f : Fact → Option A) → ((name : Name) → f (ThereIs name) ≡ None) → ((name : Name) (ask : Ask) → f (Asks name ask) ≡ None)
+      → (t : Statement) (here : List Fact) (tells : TellsAlone profile t here) → GiveOne f tells.own → GiveOne f here
+  alone_once {A} f there ask t here tells once = subst (GiveOne f) tells.whole (by (group_of tells.own))
+    where
+      none : (facts : List Fact) (fact : Fact) → f fact ≡ None → IfSome (f fact) (λ x. first_given f facts ≡ Some x)
+      none facts fact e = subst (λ o. IfSome o (λ x. first_given f facts ≡ Some x)) (sym e) tt
+
+      by : (g : Option Name) → GiveOne f (the_group profile g ++ tells.own)
+      by None = once
+      by (Some name) = (
+        none (the_group profile (Some name) ++ tells.own) (ThereIs name) (there name),
+        (
+          none (the_group profile (Some name) ++ tells.own) (Asks name (Estimates Lenient (widest profile))) (ask name (Estimates Lenient (widest profile))),
+          subst (λ o. AllByRecursion (λ fact. IfSome (f fact) (λ x. o ≡ Some x)) tells.own)
+              (λ i. option_or (sym (there name) i) (option_or (sym (ask name (Estimates Lenient (widest profile))) i) (first_given f tells.own))) once,
+        ),
+      )
+
+-- ---- one answer beside the others
+
+module _ (profile : Profile) (facts : List Fact) (k : Kept) (t : Statement) (more : List Fact) (h : IsBeside profile facts k t more) where
+  abbrev all : List Fact
+  all = facts ++ more
+
+  -- they conflict at no point of the rank
   abbrev IsFree : ℕ → Type 0
-  IsFree k = (other : Point) → rank other ≡ k → HasPart facts t other → ConflictAt facts other → ⊥
+  IsFree n = (other : Point) → rank other ≡ n → ConflictAt all other → ⊥
 
   abbrev Free : Point → Type 0
-  Free other = HasPart facts t other → ConflictAt facts other → ⊥
+  Free point = ConflictAt all point → ⊥
 
-  it : In t ts
-  it = in_contains t ts there
+  -- without the answer they conflict nowhere
+  none_before : (point : Point) → ConflictAt facts point → ⊥
+  none_before point c = at_point facts point c h.together
 
   -- ---- what can't be
 
-  pub step_found : (g : OfGroup) → t.saying.group ≡ Some g → g.numbers.possible ≡ false → ConflictAt facts (Step g.name)
+  cannot_all : (name : Name) → list_any cannot (asks_of name all) ≡ is_impossible name t
+  cannot_all name =
+      ap (list_any cannot) (asks_append name facts more) ∙ list_any-append cannot (asks_of name facts) (asks_of name more)
+      ∙ (λ i. before i || impossible_told profile t more h.tells name i)
+    where
+      before : list_any cannot (asks_of name facts) ≡ false
+      before = elim (cases_Bool (list_any cannot (asks_of name facts))) [ inl c ↦ absurd (none_before (Step name) c) | inr f ↦ f ]
+
+  pub step_found : (g : OfGroup) → t.saying.group ≡ Some g → g.numbers.possible ≡ false → ConflictAt all (Step g.name)
   step_found g e no_way =
-      any_told profile (λ facts. list_any cannot (asks_of g.name facts)) refl (λ xs ys. ap (list_any cannot) (asks_append g.name xs ys)
-      ∙ list_any-append cannot (asks_of g.name xs) (asks_of g.name ys))
-      (is_impossible g.name) (λ t here tells. impossible_told profile t here tells g.name) ts facts all
-      ∙ any_in (is_impossible g.name) t ts it
-      (ap (λ o. option_map_or (λ h. is_same h.name g.name && not h.numbers.possible) o false) e ∙ and_from (is_same g.name g.name) (not g.numbers.possible) (same_itself g.name) (ap not no_way))
+      cannot_all g.name ∙ ap (λ o. option_map_or (λ h. is_same h.name g.name && not h.numbers.possible) o false) e
+      ∙ and_from (is_same g.name g.name) (not g.numbers.possible) (same_itself g.name) (ap not no_way)
+
+  pub step_free : ((name : Name) → is_impossible name t ≡ false) → IsFree 0
+  step_free none = of_rank Free 0 (λ name c. true≢false (sym c ∙ cannot_all name ∙ none name))
+
+  pub no_step : t.saying.group ≡ None → IsFree 0
+  no_step e = step_free (λ name. ap (λ o. option_map_or (λ g. is_same g.name name && not g.numbers.possible) o false) e)
+
+  pub possible_step : (g : OfGroup) → t.saying.group ≡ Some g → g.numbers.possible ≡ true → IsFree 0
+  possible_step g e possible = step_free (λ name. ap (λ o. option_map_or (λ g. is_same g.name name && not g.numbers.possible) o false) e
+      ∙ ap (λ b. is_same g.name name && not b) possible ∙ no (is_same g.name name))
+    where
+      no : (b : Bool) → (b && false) ≡ false
+      no true = refl
+      no false = refl
 
   -- ---- groups
 
-  shown_all : (name : Name) → list_any (shows_group name) facts ≡ list_any (shows_name name) ts
-  shown_all name = any_told profile (list_any (shows_group name)) refl (list_any-append (shows_group name)) (shows_name name) (λ t here tells. shown_told profile t here tells name) ts facts all
+  shown_all : (name : Name) → is_shown_group all name ≡ (is_shown_group facts name || shows_name name t)
+  shown_all name = list_any-append (shows_group name) facts more ∙ (λ i. is_shown_group facts name || shown_told profile t more h.tells name i)
 
-  pub group_found : (name : Name) → IsTrue (denies_name name t) → IsTrue (list_any (shows_name name) ts) → ConflictAt facts (Group name)
-  group_found name denied shown = (
-    shown_all name ∙ shown,
-    any_told profile (list_any (denies_group name)) refl (list_any-append (denies_group name)) (denies_name name) (λ t here tells. denied_told profile t here tells name) ts facts all
-        ∙ any_in (denies_name name) t ts it denied,
-  )
+  denied_all : (name : Name) → list_any (denies_group name) all ≡ (list_any (denies_group name) facts || denies_name name t)
+  denied_all name = list_any-append (denies_group name) facts more ∙ (λ i. list_any (denies_group name) facts || denied_told profile t more h.tells name i)
 
-  pub group_free : ((name : Name) → IsTrue (denies_name name t) → list_any (shows_name name) ts ≡ false) → IsFree 1
-  group_free none = of_rank Free 1 (λ name has c. true≢false (sym c.0 ∙ shown_all name ∙ none name has))
+  pub group_shown : (name : Name) → IsTrue (shows_name name t) → IsTrue (list_any (denies_group name) facts) → ConflictAt all (Group name)
+  group_shown name s d = (shown_all name ∙ or_right (is_shown_group facts name) (shows_name name t) s, denied_all name ∙ or_left (list_any (denies_group name) facts) (denies_name name t) d)
 
-  -- a group that is shown and denied, if there is one
-  pub group_point : (d : Name → Bool) (o : Option Name) → ((name : Name) → denies_name name t ≡ d name)
-      → MatchOption o ((name : Name) → IsTrue (d name) → list_any (shows_name name) ts ≡ false) (λ name. IsTrue (d name) × IsTrue (list_any (shows_name name) ts))
-      → IsPointWith facts t 1 (option_map Group o)
-  group_point d (Some name) denied found = (group_found name (denied name ∙ found.0) found.1, refl)
-  group_point d None denied none = group_free (λ name has. none name (sym (denied name) ∙ has))
+  pub group_denied : (name : Name) → IsTrue (denies_name name t) → IsTrue (is_shown_group facts name) → ConflictAt all (Group name)
+  group_denied name d s = (shown_all name ∙ or_left (is_shown_group facts name) (shows_name name t) s, denied_all name ∙ or_right (list_any (denies_group name) facts) (denies_name name t) d)
 
-  pub none_denied : ((name : Name) → denies_name name t ≡ false) → IsFree 1
-  none_denied none = group_free (λ name has. absurd (true≢false (sym has ∙ none name)))
+  pub group_both : (name : Name) → IsTrue (shows_name name t) → IsTrue (denies_name name t) → ConflictAt all (Group name)
+  group_both name s d = (shown_all name ∙ or_right (is_shown_group facts name) (shows_name name t) s, denied_all name ∙ or_right (list_any (denies_group name) facts) (denies_name name t) d)
+
+  pub group_free : ((name : Name) → IsTrue (shows_name name t) → IsFalse (list_any (denies_group name) facts))
+      → ((name : Name) → IsTrue (denies_name name t) → IsTrue (is_shown_group facts name) → ⊥)
+      → ((name : Name) → IsTrue (shows_name name t) → IsTrue (denies_name name t) → ⊥) → IsFree 1
+  group_free shows denies apart = of_rank Free 1 (λ name c. elim (or_cases (is_shown_group facts name) (shows_name name t) (sym (shown_all name) ∙ c.0)) [
+    | inl s ↦ elim (or_cases (list_any (denies_group name) facts) (denies_name name t) (sym (denied_all name) ∙ c.1)) [
+      | inl d ↦ none_before (Group name) (s, d)
+      | inr d ↦ denies name d s
+    ]
+    | inr s ↦ elim (or_cases (list_any (denies_group name) facts) (denies_name name t) (sym (denied_all name) ∙ c.1)) [
+      | inl d ↦ true≢false (sym d ∙ shows name s)
+      | inr d ↦ apart name s d
+    ]
+  ])
 
   -- ---- numbers
 
-  -- where it speaks of a group no number from 2^64 on is left open
-  pub bounded : (name : Name) → t.group ≡ Some name → profile.limit < 2 ^ 64 → AreBounded (asks_of name facts)
-  bounded name e limit n large =
-      let r = told_in profile ts facts all t it in
-      let own : group_of r.1.own ≡ Some name = sym r.1.group ∙ e in
-      let in_here : In (Asks name (Estimates Lenient (widest profile))) r.0 =
-      subst (In (Asks name (Estimates Lenient (widest profile)))) (ap (λ o. the_group profile o ++ r.1.own) (sym own) ∙ r.1.whole) (inr (inl refl)) in
-      any_in (λ ask. denies ask n) (Estimates Lenient (widest profile)) (asks_of name facts)
-      (to_flat (asks_in name) (Asks name (Estimates Lenient (widest profile))) (Estimates Lenient (widest profile)) facts (r.2 _ in_here)
-      (subst (λ b. In (Estimates Lenient (widest profile)) (cond b (Estimates Lenient (widest profile) ∷ []) [])) (sym (same_itself name)) (inl refl)))
-      (beyond (omega (arith, limit, large)))
+  -- of a group of whose numbers the answer says nothing
+  silent_free : (name : Name) → asks_of name more ≡ [] → (other : Point) → IsAbout name other → ConflictAt all other → ⊥
+  silent_free name e = each
     where
-      beyond : profile.limit < n → denies (Estimates Lenient (widest profile)) n ≡ true
-      beyond l = grind arith
+      same : (other : Name) → name ≡ other → asks_of other all ≡ asks_of other facts
+      same other is = asks_append other facts more ∙ ap (λ asks. asks_of other facts ++ asks) (subst (λ n. asks_of n more ≡ []) is e) ∙ append-nil (asks_of other facts)
 
-  -- no known number is denied where no number is a point
-  pub apart : (k : ℕ) (name : Name) → 2 < k → NoneBefore facts k → AreApart (asks_of name facts)
-  apart k name l before n known = elim (cases_Bool (is_denied (asks_of name facts) n)) [
-    | inl d ↦ absurd (before (Number name n) l (known, d))
-    | inr f ↦ f
-  ]
+      each : (other : Point) → IsAbout name other → ConflictAt all other → ⊥
+      each (Number other n) is c = none_before (Number other n) (subst (λ asks. IsTrue (is_known asks n) × IsTrue (is_denied asks n)) (same other is) c)
+      each (Count other) is c = none_before (Count other) (subst AreTooMany (same other is) c)
+      each (First other) is c = none_before (First other) (subst (λ asks. MeetsDemand (demand asks) (IsGivenNumber asks) → ⊥) (same other is) c)
+      each point is c = absurd is
 
-  speaks : (name other : Name) → t.group ≡ Some name → IsTrue (speaks_of other t) → name ≡ other
-  speaks name other e s = same_text name other (sym (subst (λ o. option_map_or (λ g. is_same g other) o false ≡ true) e s))
+  -- where of each group nothing is said, or nothing conflicts
+  abbrev IsFreeOf : ℕ → Name → Type 0
+  IsFreeOf n name = (other : Point) → rank other ≡ n → IsAbout name other → ConflictAt all other → ⊥
 
-  pub number_free : (name : Name) → t.group ≡ Some name → AreApart (asks_of name facts) → IsFree 2
-  number_free name e apart = of_rank Free 2 (λ other n has c. true≢false (sym c.1 ∙ subst (λ name. AreApart (asks_of name facts)) (speaks name other e has) apart n c.0))
+  each_free : (n : ℕ) → 1 < n → n < 5 → ((name : Name) → (asks_of name more ≡ []) ⊎ IsFreeOf n name) → IsFree n
+  each_free n low high each = go
+    where
+      by : (name : Name) (other : Point) → rank other ≡ n → IsAbout name other → ConflictAt all other → (asks_of name more ≡ []) ⊎ IsFreeOf n name → ⊥
+      by name other e is c (inl none) = silent_free name none other is c
+      by name other e is c (inr free) = free other e is c
 
-  pub count_free : (name : Name) → t.group ≡ Some name → (AreTooMany (asks_of name facts) → ⊥) → IsFree 3
-  count_free name e few = of_rank Free 3 (λ other has c. subst (λ name. AreTooMany (asks_of name facts) → ⊥) (speaks name other e has) few c)
+      go : (other : Point) → rank other ≡ n → ConflictAt all other → ⊥
+      go (Step name) e c = omega (arith, low, e)
+      go (Group name) e c = omega (arith, low, e)
+      go (Number name m) e c = by name (Number name m) e refl c (each name)
+      go (Count name) e c = by name (Count name) e refl c (each name)
+      go (First name) e c = by name (First name) e refl c (each name)
+      go (IdOf name m) e c = omega (arith, high, e)
+      go (PlaceOf name id) e c = omega (arith, high, e)
+      go (Article id) e c = omega (arith, high, e)
+      go (HeadOf id) e c = omega (arith, high, e)
+      go (BodyOf id) e c = omega (arith, high, e)
 
-  pub first_free : (name : Name) → t.group ≡ Some name → MeetsDemand (demand (asks_of name facts)) (IsGivenNumber (asks_of name facts)) → IsFree 4
-  first_free name e met = of_rank Free 4 (λ other has c. c (subst (λ name. MeetsDemand (demand (asks_of name facts)) (IsGivenNumber (asks_of name facts))) (speaks name other e has) met))
+  pub group_numbers_free : (n : ℕ) → 1 < n → n < 5 → (g : OfGroup) → t.saying.group ≡ Some g → IsFreeOf n g.name → IsFree n
+  group_numbers_free n low high g e free = each_free n low high (λ name. elim (cases_Bool (is_same g.name name)) [
+    | inl s ↦ inr (subst (IsFreeOf n) (same_text g.name name (sym s)) free)
+    | inr s ↦ inl (asks_some profile t more h.tells g e name ∙ ap (λ b. cond b (Estimates Lenient (widest profile) ∷ (h.tells.tells.asks ++ asked_id g.id)) []) s)
+  ])
+
+  pub listed_numbers_free : (n : ℕ) → 1 < n → n < 5 → (l : Option (List ℕ) × List ActiveValue) → t.saying.groups ≡ Some l → AllByRecursion (λ line. IsFreeOf n line.name) l.1 → IsFree n
+  listed_numbers_free n low high l e free = each_free n low high (λ name. elim (cases_Bool (is_listed l.1 name)) [
+    | inl s ↦ (let f = found_in (λ line. is_same line.name name) l.1 s in
+        inr (subst (IsFreeOf n) (same_text f.0.name name (sym f.2)) (all_at (λ line. IsFreeOf n line.name) f.0 l.1 free f.1)))
+    | inr s ↦ inl (asks_listed profile t more h.tells l e name ∙ no_bounds name l.1 s)
+  ])
+
+  pub no_numbers_free : (n : ℕ) → 1 < n → n < 5 → t.saying.group ≡ None → t.saying.groups ≡ None → IsFree n
+  no_numbers_free n low high e none = each_free n low high (λ name. inl (asks_none profile t more h.tells e none name))
 
   -- ---- ids
 
-  ids_all : (name : Name) (n : ℕ) → first_given (id_in name n) facts ≡ first_in (id_told name n) ts
-  ids_all name n = first_told profile (id_in name n) (id_told name n) (λ t here tells. id_given profile t here tells name n) ts facts all
+  once_ids : (name : Name) (n : ℕ) → GiveOne (id_in name n) more
+  once_ids name n = alone_once profile (id_in name n) (λ name. refl) (λ name ask. refl) t more h.tells (h.tells.agree.ids name n)
+
+  once_places : (name : Name) (id : Id) → GiveOne (number_in name id) more
+  once_places name id = alone_once profile (number_in name id) (λ name. refl) (λ name ask. refl) t more h.tells (h.tells.agree.ids_once name id)
+
+  -- what is given otherwise
+  given_otherwise : {A : Type 0} (f : Fact → Option A) (x y : A) → first_given f more ≡ Some x → first_given f facts ≡ Some y → (x ≡ y → ⊥) → GiveOne f all → ⊥
+  given_otherwise f x y here there other one =
+      let same = give_same_of_both f facts more one in
+      other (subst (λ o. IfSome o (λ y. x ≡ y)) there (subst (λ o. IfSome o (λ x. IfSome (first_given f facts) (λ y. x ≡ y))) here same))
+
+  pub id_found : (name : Name) (n : ℕ) (x y : Id) → id_told name n t ≡ Some x → first_given (id_in name n) facts ≡ Some y → (x ≡ y → ⊥) → ConflictAt all (IdOf name n)
+  id_found name n x y here = given_otherwise (id_in name n) x y (id_given profile t more h.tells name n ∙ here)
+
+  pub id_free : ((name : Name) (n : ℕ) → IfSome (id_told name n t) (λ x. IfSome (first_given (id_in name n) facts) (λ y. x ≡ y))) → IsFree 5
+  id_free same = of_rank Free 5 (λ name n c. c (give_one_both (id_in name n) facts more (h.together.ids name n) (once_ids name n)
+      (subst (λ o. IfSome o (λ x. IfSome (first_given (id_in name n) facts) (λ y. x ≡ y))) (sym (id_given profile t more h.tells name n)) (same name n))))
+
+  pub place_found : (name : Name) (id : Id) (x y : ℕ) → place_told name id t ≡ Some x → first_given (number_in name id) facts ≡ Some y → (x ≡ y → ⊥) → ConflictAt all (PlaceOf name id)
+  place_found name id x y here = given_otherwise (number_in name id) x y (place_given profile t more h.tells name id ∙ here)
+
+  pub place_free : ((name : Name) (id : Id) → IfSome (place_told name id t) (λ x. IfSome (first_given (number_in name id) facts) (λ y. x ≡ y))) → IsFree 6
+  place_free same = of_rank Free 6 (λ name id c. c (give_one_both (number_in name id) facts more (h.together.ids_once name id) (once_places name id)
+      (subst (λ o. IfSome o (λ x. IfSome (first_given (number_in name id) facts) (λ y. x ≡ y))) (sym (place_given profile t more h.tells name id)) (same name id))))
+
+  -- what is given where the answer shows no id, or one at a number
+  pub no_ids : t.saying.group ≡ None → IsFree 5
+  no_ids e = id_free (λ name n. subst (λ o. IfSome o (λ x. IfSome (first_given (id_in name n) facts) (λ y. x ≡ y))) (sym (ap (λ o. option_map_or (λ g. cond (is_same g.name name) (id_of g.id n) None) o None) e)) tt)
+
+  pub no_id : (g : OfGroup) → t.saying.group ≡ Some g → g.id ≡ None → IsFree 5
+  no_id g e is = id_free (λ name n. subst (λ o. IfSome o (λ x. IfSome (first_given (id_in name n) facts) (λ y. x ≡ y)))
+      (sym (ap (λ o. option_map_or (λ g. cond (is_same g.name name) (id_of g.id n) None) o None) e ∙ ap (λ o. cond (is_same g.name name) (id_of o n) None) is ∙ none_if (is_same g.name name))) tt)
 
   id_here : (g : OfGroup) (n : ℕ) (id : Id) (name : Name) (m : ℕ) → t.saying.group ≡ Some g → g.id ≡ Some (n, id) → id_told name m t ≡ cond (is_same g.name name) (cond (n == m) (Some id) None) None
   id_here g n id name m e is = ap (λ o. option_map_or (λ h. cond (is_same h.name name) (id_of h.id m) None) o None) e ∙ ap (λ o. cond (is_same g.name name) (id_of o m) None) is
 
-  pub id_found : (g : OfGroup) (n : ℕ) (id : Id) → t.saying.group ≡ Some g → g.id ≡ Some (n, id) → (first_in (id_told g.name n) ts ≡ Some id → ⊥) → ConflictAt facts (IdOf g.name n)
-  id_found g n id e is other one =
-      other (sym (ids_all g.name n) ∙ first_of_all profile (id_in g.name n) (id_told g.name n) (λ t here tells. id_given profile t here tells g.name n)
-      (λ t here tells. alone_once profile (id_in g.name n) (λ name. refl) (λ name ask. refl) t here tells (tells.agree.ids g.name n)) ts facts all one t it id
-      (id_here g n id g.name n e is ∙ (λ i. cond (same_itself g.name i) (cond (eq-eqb n n refl i) (Some id) None) None)))
+  pub other_id : (g : OfGroup) (n : ℕ) (id : Id) → t.saying.group ≡ Some g → g.id ≡ Some (n, id) → (IfSome (first_given (id_in g.name n) facts) (λ y. id ≡ y) → ⊥) → ConflictAt all (IdOf g.name n)
+  other_id g n id e is other one = other (subst (λ o. IfSome o (λ x. IfSome (first_given (id_in g.name n) facts) (λ y. x ≡ y)))
+      (id_given profile t more h.tells g.name n ∙ id_here g n id g.name n e is ∙ (λ i. cond (same_itself g.name i) (cond (eq-eqb n n refl i) (Some id) None) None))
+      (give_same_of_both (id_in g.name n) facts more one))
 
-  pub id_free : (g : OfGroup) (n : ℕ) (id : Id) → t.saying.group ≡ Some g → g.id ≡ Some (n, id) → first_in (id_told g.name n) ts ≡ Some id → IsFree 5
-  id_free g n id e is first = of_rank Free 5 (λ name m has c. has (by name m (is_same g.name name) refl (n == m) refl))
+  pub same_id : (g : OfGroup) (n : ℕ) (id : Id) → t.saying.group ≡ Some g → g.id ≡ Some (n, id) → IfSome (first_given (id_in g.name n) facts) (λ y. id ≡ y) → IsFree 5
+  same_id g n id e is same = id_free (λ name m. subst (λ o. IfSome o (λ x. IfSome (first_given (id_in name m) facts) (λ y. x ≡ y))) (sym (id_here g n id name m e is)) (by name m (is_same g.name name) refl (n == m) refl))
     where
-      given : (name : Name) (m : ℕ) → g.name ≡ name → n ≡ m → first_given (id_in name m) facts ≡ Some id
-      given name m same at = subst (λ name. first_given (id_in name m) facts ≡ Some id) same (subst (λ m. first_given (id_in g.name m) facts ≡ Some id) at (ids_all g.name n ∙ first))
+      by : (name : Name) (m : ℕ) (a : Bool) → is_same g.name name ≡ a → (b : Bool) → (n == m) ≡ b → IfSome (cond a (cond b (Some id) None) None) (λ x. IfSome (first_given (id_in name m) facts) (λ y. x ≡ y))
+      by name m true s true at = subst (λ name. IfSome (first_given (id_in name m) facts) (λ y. id ≡ y)) (same_text g.name name (sym s))
+          (subst (λ m. IfSome (first_given (id_in g.name m) facts) (λ y. id ≡ y)) (eqb-true n m at) same)
+      by name m true s false at = tt
+      by name m false s b at = tt
 
-      by : (name : Name) (m : ℕ) (a : Bool) → is_same g.name name ≡ a → (b : Bool) → (n == m) ≡ b → IfSome (id_told name m t) (λ x. first_given (id_in name m) facts ≡ Some x)
-      by name m true same true at = subst (λ o. IfSome o (λ x. first_given (id_in name m) facts ≡ Some x)) (sym (id_here g n id name m e is ∙ (λ i. cond (same i) (cond (at i) (Some id) None) None)))
-          (given name m (same_text g.name name (sym same)) (eqb-true n m at))
-      by name m true same false at = subst (λ o. IfSome o (λ x. first_given (id_in name m) facts ≡ Some x)) (sym (id_here g n id name m e is
-          ∙ (λ i. cond (same i) (cond (at i) (Some id) None) None))) tt
-      by name m false same b at = subst (λ o. IfSome o (λ x. first_given (id_in name m) facts ≡ Some x)) (sym (id_here g n id name m e is ∙ (λ i. cond (same i) (cond (at i) (Some id) None) None))) tt
+  -- the same of its number
+  pub no_places : t.saying.group ≡ None → IsFree 6
+  no_places e = place_free (λ name id. subst (λ o. IfSome o (λ x. IfSome (first_given (number_in name id) facts) (λ y. x ≡ y))) (sym (ap (λ o. option_map_or (λ g. cond (is_same g.name name) (place_of g.id id) None) o None) e)) tt)
 
-  places_all : (name : Name) (id : Id) → first_given (number_in name id) facts ≡ first_in (place_told name id) ts
-  places_all name id = first_told profile (number_in name id) (place_told name id) (λ t here tells. place_given profile t here tells name id) ts facts all
+  pub no_place : (g : OfGroup) → t.saying.group ≡ Some g → g.id ≡ None → IsFree 6
+  no_place g e is = place_free (λ name id. subst (λ o. IfSome o (λ x. IfSome (first_given (number_in name id) facts) (λ y. x ≡ y)))
+      (sym (ap (λ o. option_map_or (λ g. cond (is_same g.name name) (place_of g.id id) None) o None) e ∙ ap (λ o. cond (is_same g.name name) (place_of o id) None) is ∙ none_if (is_same g.name name))) tt)
 
   place_here : (g : OfGroup) (n : ℕ) (id : Id) (name : Name) (other : Id) → t.saying.group ≡ Some g → g.id ≡ Some (n, id)
       → place_told name other t ≡ cond (is_same g.name name) (cond (is_same id other) (Some n) None) None
   place_here g n id name other e is = ap (λ o. option_map_or (λ h. cond (is_same h.name name) (place_of h.id other) None) o None) e ∙ ap (λ o. cond (is_same g.name name) (place_of o other) None) is
 
-  pub place_found : (g : OfGroup) (n : ℕ) (id : Id) → t.saying.group ≡ Some g → g.id ≡ Some (n, id) → (first_in (place_told g.name id) ts ≡ Some n → ⊥) → ConflictAt facts (PlaceOf g.name id)
-  place_found g n id e is other one =
-      other (sym (places_all g.name id) ∙ first_of_all profile (number_in g.name id) (place_told g.name id) (λ t here tells. place_given profile t here tells g.name id)
-      (λ t here tells. alone_once profile (number_in g.name id) (λ name. refl) (λ name ask. refl) t here tells (tells.agree.ids_once g.name id)) ts facts all one t it n
-      (place_here g n id g.name id e is ∙ (λ i. cond (same_itself g.name i) (cond (same_itself id i) (Some n) None) None)))
+  pub other_place : (g : OfGroup) (n : ℕ) (id : Id) → t.saying.group ≡ Some g → g.id ≡ Some (n, id) → (IfSome (first_given (number_in g.name id) facts) (λ y. n ≡ y) → ⊥) → ConflictAt all (PlaceOf g.name id)
+  other_place g n id e is other one = other (subst (λ o. IfSome o (λ x. IfSome (first_given (number_in g.name id) facts) (λ y. x ≡ y)))
+      (place_given profile t more h.tells g.name id ∙ place_here g n id g.name id e is ∙ (λ i. cond (same_itself g.name i) (cond (same_itself id i) (Some n) None) None))
+      (give_same_of_both (number_in g.name id) facts more one))
 
-  pub place_free : (g : OfGroup) (n : ℕ) (id : Id) → t.saying.group ≡ Some g → g.id ≡ Some (n, id) → first_in (place_told g.name id) ts ≡ Some n → IsFree 6
-  place_free g n id e is first = of_rank Free 6 (λ name other has c. has (by name other (is_same g.name name) refl (is_same id other) refl))
+  pub same_place : (g : OfGroup) (n : ℕ) (id : Id) → t.saying.group ≡ Some g → g.id ≡ Some (n, id) → IfSome (first_given (number_in g.name id) facts) (λ y. n ≡ y) → IsFree 6
+  same_place g n id e is same = place_free (λ name other. subst (λ o. IfSome o (λ x. IfSome (first_given (number_in name other) facts) (λ y. x ≡ y))) (sym (place_here g n id name other e is)) (by name other (is_same g.name name) refl (is_same id other) refl))
     where
-      given : (name : Name) (other : Id) → g.name ≡ name → id ≡ other → first_given (number_in name other) facts ≡ Some n
-      given name other same at = subst (λ name. first_given (number_in name other) facts ≡ Some n) same (subst (λ other. first_given (number_in g.name other) facts ≡ Some n) at
-          (places_all g.name id ∙ first))
-
-      by : (name : Name) (other : Id) (a : Bool) → is_same g.name name ≡ a → (b : Bool) → is_same id other ≡ b
-          → IfSome (place_told name other t) (λ x. first_given (number_in name other) facts ≡ Some x)
-      by name other true same true at =
-          subst (λ o. IfSome o (λ x. first_given (number_in name other) facts ≡ Some x)) (sym (place_here g n id name other e is ∙ (λ i. cond (same i) (cond (at i) (Some n) None) None)))
-          (given name other (same_text g.name name (sym same)) (same_text id other (sym at)))
-      by name other true same false at =
-          subst (λ o. IfSome o (λ x. first_given (number_in name other) facts ≡ Some x)) (sym (place_here g n id name other e is ∙ (λ i. cond (same i) (cond (at i) (Some n) None) None))) tt
-      by name other false same b at =
-          subst (λ o. IfSome o (λ x. first_given (number_in name other) facts ≡ Some x)) (sym (place_here g n id name other e is ∙ (λ i. cond (same i) (cond (at i) (Some n) None) None))) tt
+      by : (name : Name) (other : Id) (a : Bool) → is_same g.name name ≡ a → (b : Bool) → is_same id other ≡ b → IfSome (cond a (cond b (Some n) None) None) (λ x. IfSome (first_given (number_in name other) facts) (λ y. x ≡ y))
+      by name other true s true at = subst (λ name. IfSome (first_given (number_in name other) facts) (λ y. n ≡ y)) (same_text g.name name (sym s))
+          (subst (λ other. IfSome (first_given (number_in g.name other) facts) (λ y. n ≡ y)) (same_text id other (sym at)) same)
+      by name other true s false at = tt
+      by name other false s b at = tt
 
   -- ---- articles
 
-  articles_all : (id : Id) → list_any (shows_article id) facts ≡ list_any (λ t. shows_id id t.saying.article) ts
-  articles_all id = any_told profile (list_any (shows_article id)) refl (list_any-append (shows_article id)) (λ t. shows_id id t.saying.article)
-      (λ t here tells. article_shown profile t here tells id) ts facts all
+  article_shown_all : (id : Id) → list_any (shows_article id) all ≡ (list_any (shows_article id) facts || shows_id id t.saying.article)
+  article_shown_all id = list_any-append (shows_article id) facts more ∙ (λ i. list_any (shows_article id) facts || article_shown profile t more h.tells id i)
 
-  pub article_found : (o : Option Id) → ((id : Id) → denies_id id t.saying.article ≡ option_map_or (λ other. is_same other id) o false) → (id : Id) → o ≡ Some id
-      → IsTrue (list_any (λ t. shows_id id t.saying.article) ts) → ConflictAt facts (Article id)
-  article_found o denied id e shown = (
-    articles_all id ∙ shown,
-    any_told profile (list_any (denies_article id)) refl (list_any-append (denies_article id)) (λ t. denies_id id t.saying.article)
-        (λ t here tells. article_denied profile t here tells id) ts facts all
-        ∙ any_in (λ t. denies_id id t.saying.article) t ts it (denied id ∙ ap (λ o. option_map_or (λ other. is_same other id) o false) e ∙ same_itself id),
+  article_denied_all : (id : Id) → list_any (denies_article id) all ≡ (list_any (denies_article id) facts || denies_id id t.saying.article)
+  article_denied_all id = list_any-append (denies_article id) facts more ∙ (λ i. list_any (denies_article id) facts || article_denied profile t more h.tells id i)
+
+  pub article_found : (id : Id) → IsTrue (shows_id id t.saying.article) → IsTrue (list_any (denies_article id) facts) → ConflictAt all (Article id)
+  article_found id s d = (
+    article_shown_all id ∙ or_right (list_any (shows_article id) facts) (shows_id id t.saying.article) s,
+    article_denied_all id ∙ or_left (list_any (denies_article id) facts) (denies_id id t.saying.article) d,
   )
 
-  pub article_free : (o : Option Id) → ((id : Id) → denies_id id t.saying.article ≡ option_map_or (λ other. is_same other id) o false)
-      → IfSome o (λ id. list_any (λ t. shows_id id t.saying.article) ts ≡ false) → IsFree 7
-  article_free o denied none = of_rank Free 7 (λ id has c. by id o (sym (denied id) ∙ has) none c.0)
+  pub article_lacked : (id : Id) → IsTrue (denies_id id t.saying.article) → IsTrue (list_any (shows_article id) facts) → ConflictAt all (Article id)
+  article_lacked id d s = (
+    article_shown_all id ∙ or_left (list_any (shows_article id) facts) (shows_id id t.saying.article) s,
+    article_denied_all id ∙ or_right (list_any (denies_article id) facts) (denies_id id t.saying.article) d,
+  )
+
+  pub article_free : ((id : Id) → IsTrue (shows_id id t.saying.article) → IsTrue (list_any (denies_article id) facts) → ⊥)
+      → ((id : Id) → IsTrue (denies_id id t.saying.article) → IsTrue (list_any (shows_article id) facts) → ⊥) → IsFree 7
+  article_free shows denies = of_rank Free 7 (λ id c. elim (or_cases (list_any (shows_article id) facts) (shows_id id t.saying.article) (sym (article_shown_all id) ∙ c.0)) [
+    | inl s ↦ elim (or_cases (list_any (denies_article id) facts) (denies_id id t.saying.article) (sym (article_denied_all id) ∙ c.1)) [
+      | inl d ↦ none_before (Article id) (s, d)
+      | inr d ↦ denies id d s
+    ]
+    | inr s ↦ elim (or_cases (list_any (denies_article id) facts) (denies_id id t.saying.article) (sym (article_denied_all id) ∙ c.1)) [
+      | inl d ↦ shows id s d
+      | inr d ↦ apart id t.saying.article s d
+    ]
+  ])
     where
-      by : (id : Id) (o : Option Id) → option_map_or (λ other. is_same other id) o false ≡ true → IfSome o (λ id. list_any (λ t. shows_id id t.saying.article) ts ≡ false)
-          → IsTrue (list_any (shows_article id) facts) → ⊥
-      by id None s none shown = true≢false (sym s)
-      by id (Some other) s none shown = true≢false (sym shown ∙ articles_all id ∙ subst (λ id. list_any (λ t. shows_id id t.saying.article) ts ≡ false) (same_text other id (sym s)) none)
+      apart : (id : Id) (a : Option (Id × OfArticle)) → IsTrue (shows_id id a) → IsTrue (denies_id id a) → ⊥
+      apart id None s d = true≢false (sym s)
+      apart id (Some (other, Lacks)) s d = true≢false (sym s)
+      apart id (Some (other, Exists)) s d = true≢false (sym d)
+      apart id (Some (other, Sends what lines)) s d = true≢false (sym d)
 
-  -- ---- heads and bodies
+  -- of an answer that says of an id that it has no article, or has one, or sends a part of it
+  pub lacks : (id : Id) → t.saying.article ≡ Some (id, Lacks) → (o : Option Point) → o ≡ cond (list_any (shows_article id) facts) (Some (Article id)) None → IsPointOf all 7 o
+  lacks id e o is = subst (IsPointOf all 7) (sym is) (by (list_any (shows_article id) facts) refl)
+    where
+      by : (b : Bool) → list_any (shows_article id) facts ≡ b → IsPointOf all 7 (cond b (Some (Article id)) None)
+      by true s = (article_lacked id (ap (denies_id id) e ∙ same_itself id) s, refl)
+      by false s = article_free (λ other shows denied. true≢false (sym shows ∙ ap (shows_id other) e))
+          (λ other denies shown. true≢false (sym shown ∙ subst (λ id. list_any (shows_article id) facts ≡ false) (same_text id other (sym (ap (denies_id other) (sym e) ∙ denies))) s))
 
-  heads_all : (id : Id) → first_given (head_in id) facts ≡ first_in (λ t. part_told Head id t.saying.article) ts
-  heads_all id = first_told profile (head_in id) (λ t. part_told Head id t.saying.article) (λ t here tells. part_given profile t here tells Head id) ts facts all
+  pub has : (id : Id) (a : OfArticle) → t.saying.article ≡ Some (id, a) → ((other : Id) → shows_id other (Some (id, a)) ≡ is_same id other) → ((other : Id) → denies_id other (Some (id, a)) ≡ false)
+      → (o : Option Point) → o ≡ cond (list_any (denies_article id) facts) (Some (Article id)) None → IsPointOf all 7 o
+  has id a e shows denies o is = subst (IsPointOf all 7) (sym is) (by (list_any (denies_article id) facts) refl)
+    where
+      by : (b : Bool) → list_any (denies_article id) facts ≡ b → IsPointOf all 7 (cond b (Some (Article id)) None)
+      by true d = (article_found id (ap (shows_id id) e ∙ shows id ∙ same_itself id) d, refl)
+      by false d = article_free
+          (λ other s denied. true≢false (sym denied ∙ subst (λ id. list_any (denies_article id) facts ≡ false) (same_text id other (sym (sym (shows other) ∙ ap (shows_id other) (sym e) ∙ s))) d))
+          (λ other d shown. true≢false (sym d ∙ ap (denies_id other) e ∙ denies other))
 
-  bodies_all : (id : Id) → first_given (body_in id) facts ≡ first_in (λ t. part_told Body id t.saying.article) ts
-  bodies_all id = first_told profile (body_in id) (λ t. part_told Body id t.saying.article) (λ t here tells. part_given profile t here tells Body id) ts facts all
+  pub no_article : t.saying.article ≡ None → IsFree 7
+  no_article e = article_free (λ other s d. true≢false (sym s ∙ ap (shows_id other) e)) (λ other d s. true≢false (sym d ∙ ap (denies_id other) e))
 
-  pub part_found : (part : Part) (id : Id) (lines : List Line) → part_told part id t.saying.article ≡ Some lines → (first_in (λ t. part_told part id t.saying.article) ts ≡ Some lines → ⊥)
-      → ConflictAt facts (point_of_part part id)
-  part_found Head id lines e other = λ one.
-      other (sym (heads_all id) ∙ first_of_all profile (head_in id) (λ t. part_told Head id t.saying.article) (λ t here tells. part_given profile t here tells Head id)
-      (λ t here tells. alone_once profile (head_in id) (λ name. refl) (λ name ask. refl) t here tells (tells.agree.heads id)) ts facts all one t it lines e)
-  part_found Body id lines e other = λ one.
-      other (sym (bodies_all id) ∙ first_of_all profile (body_in id) (λ t. part_told Body id t.saying.article) (λ t here tells. part_given profile t here tells Body id)
-      (λ t here tells. alone_once profile (body_in id) (λ name. refl) (λ name ask. refl) t here tells (tells.agree.bodies id)) ts facts all one t it lines e)
+  pub head_found : (id : Id) (x y : List Line) → part_told Head id t.saying.article ≡ Some x → first_given (head_in id) facts ≡ Some y → (x ≡ y → ⊥) → ConflictAt all (HeadOf id)
+  head_found id x y here = given_otherwise (head_in id) x y (part_given profile t more h.tells Head id ∙ here)
 
-  part_same : (part : Part) (f : Id → Fact → Option (List Line)) → ((id : Id) → first_given (f id) facts ≡ first_in (λ t. part_told part id t.saying.article) ts) → (id : Id) (a : OfArticle)
-      → t.saying.article ≡ Some (id, a) → IfSome (part_told part id t.saying.article) (λ lines. first_in (λ t. part_told part id t.saying.article) ts ≡ Some lines)
-      → (other : Id) → IfSome (part_told part other t.saying.article) (λ lines. first_given (f other) facts ≡ Some lines)
-  part_same part f read id a e first other = elim (cases_Bool (is_same id other)) [
-    | inl same ↦ subst (λ id. IfSome (part_told part id t.saying.article) (λ lines. first_given (f id) facts ≡ Some lines)) (same_text id other (sym same))
-        (subst (λ given. IfSome (part_told part id t.saying.article) (λ lines. given ≡ Some lines)) (sym (read id)) first)
-    | inr not_same ↦ subst (λ o. IfSome o (λ lines. first_given (f other) facts ≡ Some lines)) (sym (ap (part_told part other) e ∙ other_part part id other a not_same)) tt
-  ]
+  pub body_found : (id : Id) (x y : List Line) → part_told Body id t.saying.article ≡ Some x → first_given (body_in id) facts ≡ Some y → (x ≡ y → ⊥) → ConflictAt all (BodyOf id)
+  body_found id x y here = given_otherwise (body_in id) x y (part_given profile t more h.tells Body id ∙ here)
 
-  pub part_free : (part : Part) (id : Id) (a : OfArticle) → t.saying.article ≡ Some (id, a)
-      → IfSome (part_told part id t.saying.article) (λ lines. first_in (λ t. part_told part id t.saying.article) ts ≡ Some lines)
-      → IsFree (rank_of_part part)
-  part_free Head id a e first = of_rank Free 8 (λ other has c. has (part_same Head head_in heads_all id a e first other))
-  part_free Body id a e first = of_rank Free 9 (λ other has c. has (part_same Body body_in bodies_all id a e first other))
+  pub head_free : ((id : Id) → IfSome (part_told Head id t.saying.article) (λ x. IfSome (first_given (head_in id) facts) (λ y. x ≡ y))) → IsFree 8
+  head_free same = of_rank Free 8 (λ id c. c (give_one_both (head_in id) facts more (h.together.heads id)
+      (alone_once profile (head_in id) (λ name. refl) (λ name ask. refl) t more h.tells (h.tells.agree.heads id))
+      (subst (λ o. IfSome o (λ x. IfSome (first_given (head_in id) facts) (λ y. x ≡ y))) (sym (part_given profile t more h.tells Head id)) (same id))))
 
--- the point of a part
-pub part_point : (facts : List Fact) (part : Part) (id : Id) (point : Point) → point ≡ point_of_part part id → ConflictAt facts (point_of_part part id)
-    → ConflictAt facts point × (rank point ≡ rank_of_part part)
-part_point facts part id point e c = subst (λ point. ConflictAt facts point × (rank point ≡ rank_of_part part)) (sym e) (c, ranked part)
-  where
-    ranked : (part : Part) → rank (point_of_part part id) ≡ rank_of_part part
-    ranked Head = refl
-    ranked Body = refl
+  pub body_free : ((id : Id) → IfSome (part_told Body id t.saying.article) (λ x. IfSome (first_given (body_in id) facts) (λ y. x ≡ y))) → IsFree 9
+  body_free same = of_rank Free 9 (λ id c. c (give_one_both (body_in id) facts more (h.together.bodies id)
+      (alone_once profile (body_in id) (λ name. refl) (λ name ask. refl) t more h.tells (h.tells.agree.bodies id))
+      (subst (λ o. IfSome o (λ x. IfSome (first_given (body_in id) facts) (λ y. x ≡ y))) (sym (part_given profile t more h.tells Body id)) (same id))))
 
--- article numbers are of 64 bits
-pub limit_small : (profile : Profile) (limit : Limit) → profile.limit ≡ greatest limit → profile.limit < 2 ^ 64
-limit_small profile Narrow e = omega (arith, e)
-limit_small profile Wide e = omega (arith, e)
+  -- of an answer that sends a head, or none
+  said_head : (id : Id) (what : What) (lines : Option (List Line)) → t.saying.article ≡ Some (id, Sends what lines) → (sent : Option (List Line)) → (IsTrue (head_fits what id lines) → sent ≡ head_sent what lines)
+      → part_told Head id t.saying.article ≡ sent
+  said_head id what lines e sent is =
+      ap (part_told Head id) e ∙ ap (λ b. cond b (part_sent Head what lines) None) (same_itself id)
+      ∙ sym (is (subst (λ o. IfSome o (MayBeOf t.saying.group)) e h.tells.tells.may.article))
+
+  pub same_head : (id : Id) (what : What) (lines : Option (List Line)) → t.saying.article ≡ Some (id, Sends what lines) → (sent : Option (List Line)) → (IsTrue (head_fits what id lines) → sent ≡ head_sent what lines)
+      → IfSome sent (λ x. IfSome (first_given (head_in id) facts) (λ y. x ≡ y)) → IsFree 8
+  same_head id what lines e sent is same = head_free (λ other. elim (cases_Bool (is_same id other)) [
+    | inl s ↦ subst (λ other. IfSome (part_told Head other t.saying.article) (λ x. IfSome (first_given (head_in other) facts) (λ y. x ≡ y))) (same_text id other (sym s))
+        (subst (λ o. IfSome o (λ x. IfSome (first_given (head_in id) facts) (λ y. x ≡ y))) (sym (said_head id what lines e sent is)) same)
+    | inr s ↦ subst (λ o. IfSome o (λ x. IfSome (first_given (head_in other) facts) (λ y. x ≡ y))) (sym (ap (part_told Head other) e ∙ ap (λ b. cond b (part_sent Head what lines) None) s)) tt
+  ])
+
+  pub other_head : (id : Id) (what : What) (lines : Option (List Line)) → t.saying.article ≡ Some (id, Sends what lines) → (sent : Option (List Line)) → (IsTrue (head_fits what id lines) → sent ≡ head_sent what lines)
+      → (IfSome sent (λ x. IfSome (first_given (head_in id) facts) (λ y. x ≡ y)) → ⊥) → ConflictAt all (HeadOf id)
+  other_head id what lines e sent is other one = other (subst (λ o. IfSome o (λ x. IfSome (first_given (head_in id) facts) (λ y. x ≡ y)))
+      (part_given profile t more h.tells Head id ∙ said_head id what lines e sent is) (give_same_of_both (head_in id) facts more one))
+
+  pub no_head : ((id : Id) → part_told Head id t.saying.article ≡ None) → IsFree 8
+  no_head none = head_free (λ id. subst (λ o. IfSome o (λ x. IfSome (first_given (head_in id) facts) (λ y. x ≡ y))) (sym (none id)) tt)
+
+  -- of an answer that sends a body, or none
+  said_body : (id : Id) (what : What) (lines : Option (List Line)) → t.saying.article ≡ Some (id, Sends what lines) → (sent : Option (List Line)) → (IsTrue (head_fits what id lines) → sent ≡ body_sent what lines)
+      → part_told Body id t.saying.article ≡ sent
+  said_body id what lines e sent is =
+      ap (part_told Body id) e ∙ ap (λ b. cond b (part_sent Body what lines) None) (same_itself id)
+      ∙ sym (is (subst (λ o. IfSome o (MayBeOf t.saying.group)) e h.tells.tells.may.article))
+
+  pub same_body : (id : Id) (what : What) (lines : Option (List Line)) → t.saying.article ≡ Some (id, Sends what lines) → (sent : Option (List Line)) → (IsTrue (head_fits what id lines) → sent ≡ body_sent what lines)
+      → IfSome sent (λ x. IfSome (first_given (body_in id) facts) (λ y. x ≡ y)) → IsFree 9
+  same_body id what lines e sent is same = body_free (λ other. elim (cases_Bool (is_same id other)) [
+    | inl s ↦ subst (λ other. IfSome (part_told Body other t.saying.article) (λ x. IfSome (first_given (body_in other) facts) (λ y. x ≡ y))) (same_text id other (sym s))
+        (subst (λ o. IfSome o (λ x. IfSome (first_given (body_in id) facts) (λ y. x ≡ y))) (sym (said_body id what lines e sent is)) same)
+    | inr s ↦ subst (λ o. IfSome o (λ x. IfSome (first_given (body_in other) facts) (λ y. x ≡ y))) (sym (ap (part_told Body other) e ∙ ap (λ b. cond b (part_sent Body what lines) None) s)) tt
+  ])
+
+  pub other_body : (id : Id) (what : What) (lines : Option (List Line)) → t.saying.article ≡ Some (id, Sends what lines) → (sent : Option (List Line)) → (IsTrue (head_fits what id lines) → sent ≡ body_sent what lines)
+      → (IfSome sent (λ x. IfSome (first_given (body_in id) facts) (λ y. x ≡ y)) → ⊥) → ConflictAt all (BodyOf id)
+  other_body id what lines e sent is other one = other (subst (λ o. IfSome o (λ x. IfSome (first_given (body_in id) facts) (λ y. x ≡ y)))
+      (part_given profile t more h.tells Body id ∙ said_body id what lines e sent is) (give_same_of_both (body_in id) facts more one))
+
+  pub no_body : ((id : Id) → part_told Body id t.saying.article ≡ None) → IsFree 9
+  no_body none = body_free (λ id. subst (λ o. IfSome o (λ x. IfSome (first_given (body_in id) facts) (λ y. x ≡ y))) (sym (none id)) tt)
+
+  pub head_point : (id : Id) (what : What) (lines : Option (List Line)) → t.saying.article ≡ Some (id, Sends what lines) → (sent : Option (List Line)) → (IsTrue (head_fits what id lines) → sent ≡ head_sent what lines)
+      → (o : Option Point) → MatchOption o (IfSome sent (λ x. IfSome (first_given (head_in id) facts) (λ y. x ≡ y)))
+      (λ point. (point ≡ HeadOf id) × (IfSome sent (λ x. IfSome (first_given (head_in id) facts) (λ y. x ≡ y)) → ⊥)) → IsPointOf all 8 o
+  head_point id what lines e sent is None same = same_head id what lines e sent is same
+  head_point id what lines e sent is (Some point) (at, other) =
+      subst (λ point. ConflictAt all point × (rank point ≡ 8)) (sym at) (other_head id what lines e sent is other, refl)
+
+  pub body_point : (id : Id) (what : What) (lines : Option (List Line)) → t.saying.article ≡ Some (id, Sends what lines) → (sent : Option (List Line)) → (IsTrue (head_fits what id lines) → sent ≡ body_sent what lines)
+      → (o : Option Point) → MatchOption o (IfSome sent (λ x. IfSome (first_given (body_in id) facts) (λ y. x ≡ y)))
+      (λ point. (point ≡ BodyOf id) × (IfSome sent (λ x. IfSome (first_given (body_in id) facts) (λ y. x ≡ y)) → ⊥)) → IsPointOf all 9 o
+  body_point id what lines e sent is None same = same_body id what lines e sent is same
+  body_point id what lines e sent is (Some point) (at, other) =
+      subst (λ point. ConflictAt all point × (rank point ≡ 9)) (sym at) (other_body id what lines e sent is other, refl)
+
+  -- ---- what is found
+
+  pub group_point : (n : ℕ) → 1 < n → n < 5 → (g : OfGroup) → t.saying.group ≡ Some g → (o : Option Point)
+      → ((asks : List Ask) → Says g.numbers asks → asks_of g.name all ≡ asks_of g.name facts ++ Estimates Lenient (widest profile) ∷ asks → IsPointIn all g.name n o) → IsPointOf all n o
+  group_point n low high g e o found = by o (found (h.tells.tells.asks ++ asked_id g.id)
+      (subst (λ o. IfSome o (λ (g : OfGroup). Says g.numbers (h.tells.tells.asks ++ asked_id g.id))) e h.tells.tells.may.numbers)
+      (asks_append g.name facts more ∙ ap (λ asks. asks_of g.name facts ++ asks) (asks_some profile t more h.tells g e g.name
+      ∙ ap (λ b. cond b (Estimates Lenient (widest profile) ∷ (h.tells.tells.asks ++ asked_id g.id)) []) (same_itself g.name))))
+    where
+      by : (o : Option Point) → IsPointIn all g.name n o → IsPointOf all n o
+      by None free = group_numbers_free n low high g e free
+      by (Some point) at = at
+
+  pub listed_point : (n : ℕ) → 1 < n → n < 5 → (l : Option (List ℕ) × List ActiveValue) → t.saying.groups ≡ Some l → (o : Option Point)
+      → (AllByRecursion (λ line. asks_of line.name all ≡ asks_of line.name facts ++ Bounds line.low line.high ∷ []) l.1
+      → MatchOption o (AllByRecursion (λ line. IsFreeOf n line.name) l.1) (λ point. ConflictAt all point × (rank point ≡ n))) → IsPointOf all n o
+  listed_point n low high l e o found = by o (found (all_from (λ line. asks_of line.name all ≡ asks_of line.name facts ++ Bounds line.low line.high ∷ []) l.1 (λ line i.
+      asks_append line.name facts more ∙ ap (λ asks. asks_of line.name facts ++ asks) (asks_listed profile t more h.tells l e line.name ∙ bounds_at line l.1 differ i))))
+    where
+      differ : names_differ l.1 ≡ true
+      differ = (subst (λ o. IfSome o (λ l. MayList l.0 l.1 × IsAlone t.saying)) e h.tells.tells.may.groups).0.differ
+
+      by : (o : Option Point) → MatchOption o (AllByRecursion (λ line. IsFreeOf n line.name) l.1) (λ point. ConflictAt all point × (rank point ≡ n)) → IsPointOf all n o
+      by None free = listed_numbers_free n low high l e free
+      by (Some point) at = at
+
+  -- a group that is listed and denied, or shown and not listed
+  pub listed_group : (l : Option (List ℕ) × List ActiveValue) → t.saying.groups ≡ Some l → (o : Option Name)
+      → MatchOption o (AllByRecursion (λ line. IsFalse (list_any (denies_group line.name) facts)) l.1 × NoneIsMissing facts l.0 l.1)
+      (λ name. (IsTrue (is_listed l.1 name) × IsTrue (list_any (denies_group name) facts)) ⊎ (IsTrue (is_shown_group facts name) × IsTrue (denies_group name (GroupsAre l.0 l.1))))
+      → IsPointOf all 1 (option_map Group o)
+  listed_group l e = go
+    where
+      alone : IsAlone t.saying
+      alone = (subst (λ o. IfSome o (λ l. MayList l.0 l.1 × IsAlone t.saying)) e h.tells.tells.may.groups).1
+
+      no_group : t.group ≡ None
+      no_group = sym h.tells.named ∙ ap (option_map (λ g. g.name)) alone.group
+
+      shows : (name : Name) → shows_name name t ≡ is_listed l.1 name
+      shows name = λ i. option_map_or (λ g. is_same g name) (no_group i) false || option_map_or (λ l. is_listed l.1 name) (e i) false
+
+      denies : (name : Name) → denies_name name t ≡ (option_map_or (λ w. matches_name w name) l.0 true && not (is_listed l.1 name))
+      denies name = λ i. option_map_or (λ g. is_same g name) (alone.there_is_no i) false || option_map_or (λ l. option_map_or (λ w. matches_name w name) l.0 true && not (is_listed l.1 name)) (e i) false
+
+      go : (o : Option Name) → MatchOption o (AllByRecursion (λ line. IsFalse (list_any (denies_group line.name) facts)) l.1 × NoneIsMissing facts l.0 l.1)
+          (λ name. (IsTrue (is_listed l.1 name) × IsTrue (list_any (denies_group name) facts)) ⊎ (IsTrue (is_shown_group facts name) × IsTrue (denies_group name (GroupsAre l.0 l.1))))
+          → IsPointOf all 1 (option_map Group o)
+      go (Some name) (inl (listed, denied)) = (group_shown name (shows name ∙ listed) denied, refl)
+      go (Some name) (inr (shown, unlisted)) = (group_denied name (denies name ∙ unlisted) shown, refl)
+      go None (free, missing) = group_free
+          (λ name s. let f = found_in (λ line. is_same line.name name) l.1 (sym (shows name) ∙ s) in
+          subst (λ name. IsFalse (list_any (denies_group name) facts)) (same_text f.0.name name (sym f.2)) (all_at (λ line. IsFalse (list_any (denies_group line.name) facts)) f.0 l.1 free f.1))
+          (λ name d s. let p = and_parts (option_map_or (λ w. matches_name w name) l.0 true) (not (is_listed l.1 name)) (sym (denies name) ∙ d) in
+          true≢false (sym (missing name s p.0) ∙ not-true (is_listed l.1 name) p.1))
+          (λ name s d. let p = and_parts (option_map_or (λ w. matches_name w name) l.0 true) (not (is_listed l.1 name)) (sym (denies name) ∙ d) in
+          true≢false (sym (sym (shows name) ∙ s) ∙ not-true (is_listed l.1 name) p.1))
+
+  -- the group of which the answer speaks, if it is denied, or the one that it denies, if it is shown
+  pub named_group : t.saying.groups ≡ None → (o : Option Name)
+      → MatchOption o (IfSome t.group (λ name. IsFalse (list_any (denies_group name) facts)) × IfSome t.saying.there_is_no (λ name. IsFalse (is_shown_group facts name) × (t.group ≡ Some name → ⊥)))
+      (λ name. ((t.group ≡ Some name) × IsTrue (list_any (denies_group name) facts)) ⊎ ((t.saying.there_is_no ≡ Some name) × (IsTrue (is_shown_group facts name) ⊎ (t.group ≡ Some name))))
+      → IsPointOf all 1 (option_map Group o)
+  named_group none = go
+    where
+      or_no : (b : Bool) → (b || false) ≡ b
+      or_no true = refl
+      or_no false = refl
+
+      shows : (name : Name) → shows_name name t ≡ option_map_or (λ g. is_same g name) t.group false
+      shows name = ap (λ o. option_map_or (λ g. is_same g name) t.group false || option_map_or (λ l. is_listed l.1 name) o false) none ∙ or_no _
+
+      denies : (name : Name) → denies_name name t ≡ option_map_or (λ g. is_same g name) t.saying.there_is_no false
+      denies name = ap (λ o. option_map_or (λ g. is_same g name) t.saying.there_is_no false || option_map_or (λ l. option_map_or (λ w. matches_name w name) l.0 true && not (is_listed l.1 name)) o false) none ∙ or_no _
+
+      is_it : (o : Option Name) (name : Name) → o ≡ Some name → IsTrue (option_map_or (λ g. is_same g name) o false)
+      is_it o name e = ap (λ o. option_map_or (λ g. is_same g name) o false) e ∙ same_itself name
+
+      named : (o : Option Name) (name : Name) → IsTrue (option_map_or (λ g. is_same g name) o false) → o ≡ Some name
+      named None name s = absurd (true≢false (sym s))
+      named (Some g) name s = ap (λ (g : Name). Some g) (same_text g name (sym s))
+
+      go : (o : Option Name)
+          → MatchOption o (IfSome t.group (λ name. IsFalse (list_any (denies_group name) facts)) × IfSome t.saying.there_is_no (λ name. IsFalse (is_shown_group facts name) × (t.group ≡ Some name → ⊥)))
+          (λ name. ((t.group ≡ Some name) × IsTrue (list_any (denies_group name) facts)) ⊎ ((t.saying.there_is_no ≡ Some name) × (IsTrue (is_shown_group facts name) ⊎ (t.group ≡ Some name))))
+          → IsPointOf all 1 (option_map Group o)
+      go (Some name) (inl (e, denied)) = (group_shown name (shows name ∙ is_it t.group name e) denied, refl)
+      go (Some name) (inr (e, inl shown)) = (group_denied name (denies name ∙ is_it t.saying.there_is_no name e) shown, refl)
+      go (Some name) (inr (e, inr is)) = (group_both name (shows name ∙ is_it t.group name is) (denies name ∙ is_it t.saying.there_is_no name e), refl)
+      go None (free, missing) = group_free
+          (λ name s. subst (λ o. IfSome o (λ name. IsFalse (list_any (denies_group name) facts))) (named t.group name (sym (shows name) ∙ s)) free)
+          (λ name d s. true≢false (sym s ∙ (at name d).0))
+          (λ name s d. (at name d).1 (named t.group name (sym (shows name) ∙ s)))
+        where
+          at : (name : Name) → IsTrue (denies_name name t) → IsFalse (is_shown_group facts name) × (t.group ≡ Some name → ⊥)
+          at name d = subst (λ o. IfSome o (λ name. IsFalse (is_shown_group facts name) × (t.group ≡ Some name → ⊥))) (named t.saying.there_is_no name (sym (denies name) ∙ d)) missing
+
+  -- where none that is listed is denied
+  pub unlisted_group : (l : Option (List ℕ) × List ActiveValue) → t.saying.groups ≡ Some l → AllByRecursion (λ line. IsFalse (list_any (denies_group line.name) facts)) l.1 → (o : Option Name)
+      → MatchOption o (NoneIsMissing facts l.0 l.1) (λ name. IsTrue (is_shown_group facts name) × IsTrue (denies_group name (GroupsAre l.0 l.1))) → IsPointOf all 1 (option_map Group o)
+  unlisted_group l e free None missing = listed_group l e None (free, missing)
+  unlisted_group l e free (Some name) found = listed_group l e (Some name) (inr found)
+
+  -- where the group of which it speaks isn't denied
+  pub missing_group : t.saying.groups ≡ None → IfSome t.group (λ name. IsFalse (list_any (denies_group name) facts)) → (o : Option Name)
+      → MatchOption o (IfSome t.saying.there_is_no (λ name. IsFalse (is_shown_group facts name) × (t.group ≡ Some name → ⊥)))
+      (λ name. (t.saying.there_is_no ≡ Some name) × (IsTrue (is_shown_group facts name) ⊎ (t.group ≡ Some name))) → IsPointOf all 1 (option_map Group o)
+  missing_group none free None missing = named_group none None (free, missing)
+  missing_group none free (Some name) found = named_group none (Some name) (inr found)

@@ -1,24 +1,22 @@
 -- Kinds of points that are looked for one after the other.
 use Rattle.nntp_facts.specs.declared.points.Kind.TheVariants as kind
-use Rattle.std.proofs.Common.{zero, suc, get_or, ◌≡◌, ℕ, ◌+◌, ◌<◌, ◌≤◌, arith, List, [], ◌∷◌, map, Option, None, Some, inl, inr, refl, sym, subst}
+use Rattle.nntp_facts.specs.declared.points.NumbersKind.TheVariants as numbers
+use Rattle.std.proofs.Common.{zero, suc, get_or, ◌≡◌, ℕ, ◌+◌, ◌<◌, ◌≤◌, arith, List, [], ◌∷◌, Option, None, Some, inl, inr, refl, sym, subst}
 use Rattle.std.specs.List.{AllByRecursion}
 use Rattle.std.proofs.lemmas.Bool.{cases_lt}
 use Rattle.nntp_article.specs.declared.session.profile.Profile.{Profile}
 use Rattle.nntp_facts.specs.Facts.{Fact}
-use Rattle.nntp_facts.specs.Together.{Together}
+use Rattle.nntp_facts.specs.Together.{IsWellFormed, Together}
 use Rattle.nntp_facts.specs.Conflict.{Placed, FitsThere, told, told_with, Point, Step, Group, Number, Count, First, IdOf, PlaceOf, Article, HeadOf, BodyOf, rank, ConflictAt, IsFirstPoint}
-use Rattle.nntp_facts.specs.Points.{Statement, AllTell, AreSaid, IsPointOf, NoneBefore, Answers, AreTaken, with_numbers, answers_at}
+use Rattle.nntp_facts.specs.Points.{Answers, AreHeld, Statement, TellsAlone, IsBeside, IsPointOf, NoneBefore}
 use Rattle.std.specs.Prelude.{option_map}
 use Rattle.nntp_facts.specs.declared.point.Point.{Point as CodePoint}
 use Rattle.nntp_facts.specs.declared.points.Kind.{Kind}
 use Rattle.nntp_facts.specs.PointView.{point_of}
 use Rattle.nntp_facts.specs.StatementView.{rank_of}
-use Rattle.nntp_facts.proofs.Members.{all_at, all_from}
+use Rattle.nntp_facts.proofs.Members.{all_at, all_from, all_both}
 use Rattle.nntp_facts.proofs.Conflicts.{with_told, told_fitting, told_placed}
 use Rattle.nntp_facts.proofs.PointsOfConflict.{stand_or_conflict}
-use Rattle.nntp_facts.proofs.PointsFound.AllTold.{all_formed}
-use Rattle.nntp_facts.proofs.PointsFound.AnswersSaid.{said_all}
-use Rattle.nntp_facts.proofs.PointsFound.AnswersTaken.{told_by_all, all_fit}
 
 -- the first point
 pub first_found_of : (facts : List Fact) (k i : ℕ) (point : Point) → k ≡ i → NoneBefore facts i → ConflictAt facts point × (rank point ≡ k) → IsFirstPoint facts point
@@ -40,33 +38,16 @@ ranks (Article id) = omega arith
 ranks (HeadOf id) = omega arith
 ranks (BodyOf id) = omega arith
 
--- the statements are what the answers say that were taken
-pub said_taken : (profile : Profile) (bad : Placed) (answers : List Placed) (places : List ℕ) (taken : Answers) (ts : List Statement) → AreTaken profile bad answers places taken
-    → AllByRecursion (FitsThere profile) (bad ∷ answers)
-    → ((all : List Placed) → taken.answers ≡ map with_numbers all → AllByRecursion (FitsThere taken.profile) all → AreSaid taken.profile ts all)
-    → AreSaid profile ts (answers_at bad answers places)
-said_taken profile bad answers places taken ts are fits says =
-    subst (λ judged. ((all : List Placed) → taken.answers ≡ map with_numbers all → AllByRecursion (FitsThere judged) all → AreSaid judged ts all)
-    → AreSaid profile ts (answers_at bad answers places))
-    (sym are.judged)
-    (λ says. says (answers_at bad answers places) are.taken_are (all_fit profile bad answers places fits.0 fits.1)) says
-
--- so they tell what these tell
-pub tell_all : (profile : Profile) (bad : Placed) (answers : List Placed) (places : List ℕ) (ts : List Statement) → AreSaid profile ts (answers_at bad answers places)
-    → AllTell profile ts (told_with profile bad answers places)
-tell_all profile bad answers places ts said =
-    subst (AllTell profile ts) (told_by_all profile bad answers places) (said_all profile ts (answers_at bad answers places) said)
-
--- where they conflict at no point they stand together
-pub none_at_all : (profile : Profile) (bad : Placed) (answers : List Placed) (places : List ℕ) (ts : List Statement) → AllByRecursion (FitsThere profile) (bad ∷ answers)
-    → AllTell profile ts (told_with profile bad answers places)
+-- where facts that answers tell conflict at no point they stand together
+pub none_at_all : (profile : Profile) (bad : Placed) (answers : List Placed) (places : List ℕ) → AllByRecursion (FitsThere profile) (bad ∷ answers)
+    → AllByRecursion IsWellFormed (told_with profile bad answers places)
     → (i : ℕ) → 10 ≤ i → NoneBefore (told_with profile bad answers places) i → Together (told_with profile bad answers places)
-none_at_all profile bad answers places ts fits all i end none = elim (stand_or_conflict profile (told_with profile bad answers places)
+none_at_all profile bad answers places fits formed i end none = elim (stand_or_conflict profile (told_with profile bad answers places)
     (all_from _ (told_with profile bad answers places) (λ fact j. let s = (with_told profile bad answers places fits.0 fits.1).source fact j in all_at _ fact (told profile s.0)
     (told_fitting profile s.0 s.1) s.2))
     (all_from _ (told_with profile bad answers places) (λ fact j. let s = (with_told profile bad answers places fits.0 fits.1).source fact j in
     all_at _ fact (told profile s.0) (told_placed profile (told_with profile bad answers places) s.0 s.3) s.2))
-    (all_formed profile ts (told_with profile bad answers places) all)) [
+    formed) [
       | inl c ↦ absurd (let r = ranks c.0 in none c.0 (omega (arith, r, end)) c.1.conflict)
       | inr together ↦ together
     ]
@@ -80,9 +61,20 @@ point_given facts k i o point e is before found = first_found_of facts k i (poin
 pub none_given : (facts : List Fact) (k i : ℕ) (o : Option CodePoint) → o ≡ None → k ≡ i → NoneBefore facts i → IsPointOf facts k (option_map point_of o) → NoneBefore facts (i + 1)
 none_given facts k i o e is before found = none_up facts k i is before (subst (λ o. IsPointOf facts k (option_map point_of o)) e found)
 
+-- the same of equal facts
+pub moved_before : (all facts : List Fact) (k i : ℕ) → all ≡ facts → k ≡ i → NoneBefore facts i → NoneBefore all k
+moved_before all facts k i same is before = subst (λ all. NoneBefore all k) (sym same) (subst (NoneBefore facts) (sym is) before)
+
+pub given_there : (all facts : List Fact) (k i : ℕ) (o : Option CodePoint) (point : CodePoint) → all ≡ facts → o ≡ Some point → k ≡ i → NoneBefore facts i → IsPointOf all k (option_map point_of o)
+    → IsFirstPoint facts (point_of point)
+given_there all facts k i o point same e is before found = point_given facts k i o point e is before (subst (λ all. IsPointOf all k (option_map point_of o)) same found)
+
+pub none_there : (all facts : List Fact) (k i : ℕ) (o : Option CodePoint) → all ≡ facts → o ≡ None → k ≡ i → NoneBefore facts i → IsPointOf all k (option_map point_of o) → NoneBefore facts (i + 1)
+none_there all facts k i o same e is before found = none_given facts k i o e is before (subst (λ all. IsPointOf all k (option_map point_of o)) same found)
+
 -- all kinds, in their order
 abbrev pub kinds : List Kind
-kinds = kind.Step ∷ kind.Group ∷ kind.Number ∷ kind.Count ∷ kind.First ∷ kind.IdOf ∷ kind.PlaceOf ∷ kind.Article ∷ kind.HeadOf ∷ kind.BodyOf ∷ []
+kinds = kind.Step ∷ kind.Group ∷ kind.Numbers numbers.Number ∷ kind.Numbers numbers.Count ∷ kind.Numbers numbers.First ∷ kind.IdOf ∷ kind.PlaceOf ∷ kind.Article ∷ kind.HeadOf ∷ kind.BodyOf ∷ []
 
 -- each stands at its rank
 pub kind_ranked : (i : ℕ) (d : Kind) → i < 10 → rank_of (get_or kinds i d) ≡ i
@@ -97,3 +89,13 @@ kind_ranked (suc (suc (suc (suc (suc (suc (suc zero))))))) d l = refl
 kind_ranked (suc (suc (suc (suc (suc (suc (suc (suc zero)))))))) d l = refl
 kind_ranked (suc (suc (suc (suc (suc (suc (suc (suc (suc zero))))))))) d l = refl
 kind_ranked (suc (suc (suc (suc (suc (suc (suc (suc (suc (suc n)))))))))) d l = absurd (omega (arith, l))
+
+module _ (profile : Profile) (bad : Placed) (answers : List Placed) (places : List ℕ) (held : Answers) (h : AreHeld profile bad answers places held) (t : Statement)
+    (tells : TellsAlone profile t (told profile h.last)) where
+  -- the last answer beside the others
+  pub beside : IsBeside profile h.facts held.kept t (told profile h.last)
+  beside = record { kept = h.kept; together = h.together; tells = tells }
+
+  -- what they tell is well formed
+  pub all_formed : AllByRecursion IsWellFormed (told_with profile bad answers places)
+  all_formed = subst (AllByRecursion IsWellFormed) h.whole (all_both IsWellFormed h.facts (told profile h.last) h.together.well_formed tells.formed)

@@ -22,9 +22,7 @@ use Rattle.nntp_facts.specs.Kept.{id_of, place_of}
 use Rattle.nntp_facts.specs.KeptSaying.{article_facts}
 use Rattle.nntp_facts.specs.ListedGroups.{MayList, is_listed}
 use Rattle.nntp_facts.specs.Conflict.{widest, the_group}
-use Rattle.nntp_facts.specs.declared.points.articles.Part.{Part}
-use Rattle.nntp_facts.specs.declared.points.articles.Part.TheVariants.{Head, Body}
-use Rattle.nntp_facts.specs.Points.{Statement, TellsAlone, shows_name, denies_name, id_told, place_told, shows_id, denies_id, part_told, part_sent, bounds_of}
+use Rattle.nntp_facts.specs.Points.{Part, Head, Body, Statement, TellsAlone, shows_name, denies_name, id_told, place_told, shows_id, denies_id, part_told, part_sent, bounds_of}
 use Rattle.nntp_facts.proofs.Together.TwoListsOfFacts.{or_none, none_if}
 use Rattle.nntp_facts.proofs.Together.FactsJoin.{asks_append}
 use Rattle.nntp_facts.proofs.Keeping.FactsOfParts.{shown_group, denied_group}

@@ -113,7 +113,21 @@ impl<A: Allocator> KnownArticle<A> {
     fn may_send(&self, sent: &Sent<'_>) -> bool
         ensures { IsTrue result ↔ MayBeSent (known_article self.now) sent.now.head sent.now.body }
     {
-        are_same(&sent.head, &self.head) && are_same(&sent.body, &self.body)
+        self.may_have_head(sent) && self.may_have_body(sent)
+    }
+
+    /// Tells whether no other head was sent.
+    pub(crate) fn may_have_head(&self, sent: &Sent<'_>) -> bool
+        ensures { IsTrue result ↔ AreSame sent.now.head (known_article self.now).head }
+    {
+        are_same(&sent.head, &self.head)
+    }
+
+    /// Tells whether no other body was sent.
+    pub(crate) fn may_have_body(&self, sent: &Sent<'_>) -> bool
+        ensures { IsTrue result ↔ AreSame sent.now.body (known_article self.now).body }
+    {
+        are_same(&sent.body, &self.body)
     }
 }
 

@@ -1,5 +1,5 @@
 //! The groups that LIST ACTIVE lists, beside those that are kept (RFC 3977, section 7.6.3).
-ghost use Rattle.std.specs.Prelude.{◌≡◌, ℕ, ◌↔◌, ◌++◌, ◌∷◌, ◌&&◌, not, [], true, List, Option, IsTrue, IfOk, OnOk};
+ghost use Rattle.std.specs.Prelude.{◌≡◌, ℕ, ◌↔◌, ◌++◌, ◌∷◌, ◌&&◌, not, [], false, true, List, Option, IsTrue, IfOk, OnOk, MatchOption};
 ghost use Rattle.std.specs.Option.{option_map_or};
 ghost use Rattle.nntp_wire.specs.Decided.{matches_name};
 ghost use Rattle.std.specs.List.{list_any};
@@ -8,7 +8,9 @@ ghost use Rattle.nntp_wire.specs.Listing.{active_groups};
 ghost use Rattle.nntp_article.specs.Session.Spool.{Name};
 ghost use Rattle.nntp_article.specs.Session.Machine.{is_same};
 ghost use Rattle.nntp_facts.specs.Facts.{Fact, GroupsAre};
-ghost use Rattle.nntp_facts.specs.Together.{Together};
+ghost use Rattle.nntp_facts.specs.Together.{Together, denies_group};
+ghost use Rattle.nntp_wire.specs.Name.{IsGroupName};
+ghost use Rattle.nntp_facts.specs.Given.{is_shown_group};
 ghost use Rattle.nntp_facts.specs.Kept.{AreKeptGroups};
 ghost use Rattle.nntp_facts.specs.ListedGroups.{is_listed, is_missing, NoneIsMissing};
 
@@ -45,8 +47,60 @@ impl<A: Allocator + Copy> Groups<A> {
     }
 }
 
+impl<A: Allocator + Copy> Groups<A> {
+    /// Returns the first group that is shown and matches, and isn't listed.
+    pub(crate) fn unlisted<'s>(
+        &'s self,
+        wildmat: &Option<Wildmat<'_>>,
+        block: &Block<'_>,
+    ) -> Result<Option<GroupName<'s>>, AllocError>
+        ensures { IfOk result (λ name. (facts : List Fact) → AreKeptGroups facts self.now → Together facts → MatchOption name (NoneIsMissing facts wildmat.now (active_groups block.now))
+            (λ name. IsTrue (is_shown_group facts name) × IsTrue (denies_group name (GroupsAre wildmat.now (active_groups block.now))))) }
+    {
+        let listed = names_of(self.alloc, block)?;
+        Ok(first_unlisted(&self.groups, &listed, wildmat))
+    }
+}
+
+/// Returns the first of the groups that matches, and isn't listed.
+fn first_unlisted<'s, A: Allocator>(
+    groups: &'s BTreeMap<Vec<u8, A>, Group<A>, A>,
+    listed: &BTreeSet<&[u8], A>,
+    wildmat: &Option<Wildmat<'_>>,
+) -> Option<GroupName<'s>>
+    ensures { MatchOption result ((name : Name) → IsTrue (list_any (λ k. is_same k.items name) (keys groups.now)) → IsGroupName name
+        → (option_map_or (λ w. matches_name w name) wildmat.now true && not (list_any (λ k. is_same k.now name) listed.now.keys)) ≡ false)
+        (λ name. IsTrue (list_any (λ k. is_same k.items name) (keys groups.now))
+        × IsTrue (option_map_or (λ w. matches_name w name) wildmat.now true && not (list_any (λ k. is_same k.now name) listed.now.keys))) }
+{
+    let mut names = groups.keys();
+    while let Some(name) = names.next() {
+        if let Some(group) = group_unlisted(listed, wildmat, name.as_slice()) {
+            return Some(group);
+        }
+    }
+    None
+}
+
+/// Returns the group of this name, if it matches, and isn't listed.
+fn group_unlisted<'s, A: Allocator>(
+    listed: &BTreeSet<&[u8], A>,
+    wildmat: &Option<Wildmat<'_>>,
+    name: &'s [u8],
+) -> Option<GroupName<'s>>
+    ensures { MatchOption result (IsGroupName name.now → (option_map_or (λ w. matches_name w name.now) wildmat.now true && not (list_any (λ k. is_same k.now name.now) listed.now.keys)) ≡ false)
+        (λ group. (name.now ≡ group) × IsTrue (option_map_or (λ w. matches_name w group) wildmat.now true && not (list_any (λ k. is_same k.now group) listed.now.keys))) }
+{
+    let group = GroupName::parse(name)?;
+    if is_unlisted(listed, wildmat, &group) {
+        Some(group)
+    } else {
+        None
+    }
+}
+
 /// Collects the names of the groups that the lines list.
-pub(crate) fn names_of<'a, A: Allocator + Copy>(
+fn names_of<'a, A: Allocator + Copy>(
     alloc: A,
     block: &Block<'a>,
 ) -> Result<BTreeSet<&'a [u8], A>, AllocError>
@@ -88,7 +142,7 @@ fn is_missing<A: Allocator>(
 }
 
 /// Tells whether the group matches, and isn't listed.
-pub(crate) fn is_unlisted<A: Allocator>(
+fn is_unlisted<A: Allocator>(
     listed: &BTreeSet<&[u8], A>,
     wildmat: &Option<Wildmat<'_>>,
     group: &GroupName<'_>,

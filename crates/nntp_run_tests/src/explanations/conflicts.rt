@@ -129,4 +129,81 @@ end answers=2 bad=1 unanswered=0
 ",
         answer: false,
     },
+    Reported {
+        name: "four reasons are all",
+        task: EXPLAIN,
+        client: b"GROUP g\r\nSTAT 1\r\nSTAT 2\r\nSTAT 3\r\nSTAT 4\r\nGROUP g\r\n",
+        server: b"200 hi\r\n211 9 1 9 g\r\n223 1 <a@x>\r\n223 2 <b@x>\r\n223 3 <c@x>\r\n223 4 <d@x>\r\n211 3 1 9 g\r\n",
+        report: b"bad answer 6 Contradiction
+command GROUP g
+answer 211 3 1 9 g
+in g since 1 at 4 since 5
+about count g
+says numbers g at most 3 within 1-9
+because answer 2
+command STAT 1
+answer 223 1 <a@x>
+in g since 1 at first
+says number g 1 is <a@x>
+because answer 3
+command STAT 2
+answer 223 2 <b@x>
+in g since 1 at 1 since 2
+says number g 2 is <b@x>
+because answer 4
+command STAT 3
+answer 223 3 <c@x>
+in g since 1 at 2 since 3
+says number g 3 is <c@x>
+because answer 5
+command STAT 4
+answer 223 4 <d@x>
+in g since 1 at 3 since 4
+says number g 4 is <d@x>
+end answers=7 bad=1 unanswered=0
+",
+        answer: false,
+    },
+    Reported {
+        name: "the same answer again, from the same place and from another one",
+        task: EXPLAIN,
+        client: b"GROUP g\r\nSTAT 1\r\nSTAT 1\r\nSTAT <a@x>\r\nSTAT 1\r\nSTAT 2\r\nSTAT 1\r\n",
+        server: b"200 hi\r\n211 5 1 9 g\r\n223 1 <a@x>\r\n423 no\r\n223 0 <a@x>\r\n423 no\r\n223 2 <b@x>\r\n423 no\r\n",
+        report: b"bad answer 3 Contradiction
+command STAT 1
+answer 423 no
+in g since 1 at 1 since 2
+about number g 1
+says number g 1 is missing
+because answer 2
+command STAT 1
+answer 223 1 <a@x>
+in g since 1 at first
+says number g 1 is <a@x>
+bad answer 5 Contradiction
+command STAT 1
+answer 423 no
+in g since 1 at 1 since 2
+about number g 1
+says number g 1 is missing
+because answer 2
+command STAT 1
+answer 223 1 <a@x>
+in g since 1 at first
+says number g 1 is <a@x>
+bad answer 7 Contradiction
+command STAT 1
+answer 423 no
+in g since 1 at 2 since 6
+about number g 1
+says number g 1 is missing
+because answer 2
+command STAT 1
+answer 223 1 <a@x>
+in g since 1 at first
+says number g 1 is <a@x>
+end answers=8 bad=3 unanswered=0
+",
+        answer: false,
+    },
 ];

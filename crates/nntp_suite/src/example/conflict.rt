@@ -95,15 +95,8 @@ fn expect_point(
     core: &Core,
 ) -> Result<(), AllocError> {
     let Contradiction { answers, bad } = found;
-    let conflict = Conflict::of(
-        alloc,
-        Limit::Narrow,
-        Marks::Lenient,
-        answers,
-        bad,
-        core.places(),
-    )?;
-    match conflict.point_of(core)? {
+    let conflict = Conflict::of(alloc, Limit::Narrow, Marks::Lenient, answers, bad, core)?;
+    match conflict.point()? {
         Some(Point::First(name)) => assert_eq!(rt; name, NAME),
         _ => assert!(rt; false, "another point"),
     }

@@ -13,5 +13,5 @@ returns-clause-none g c =
       kept_first (profile_of facts.limit facts.marks) _ (subst (λ (profile : Profile). HasNoted profile facts []) (sym profile-is) c.new.ensures.stands)
           c.new-2.ensures.items (ap (map cited_of) c.new-3.ensures.items) refl,
       refl,
-      c.new-4.ensures.items,
+      c.new-5.ensures.items,
     )

@@ -3,7 +3,7 @@ use Rattle.std.proofs.lemmas.List.{length-map}
 use Rattle.std.specs.Option.{option_map}
 use Rattle.nntp_facts.specs.Noted.{profile_kept}
 use Rattle.nntp_explain.specs.ExplainingView.{cited_of, kept_of}
-use Rattle.nntp_explain.proofs.ExplainLemmas.{told_due, others_placed, others_cited, on_ok, noted_consistent, noted_out_of_place, noted_contradiction, noted_contradiction_due}
+use Rattle.nntp_explain.proofs.ExplainLemmas.{told_due, others_placed, others_cited, on_ok, on_all, noted_consistent, noted_out_of_place, noted_contradiction, noted_contradiction_reasons, noted_contradiction_due}
 use Rattle.nntp_explain.proofs.explainer.Explainer.note.Goals as goal
 
 pub note-requires : goal.note-requires
@@ -40,6 +40,12 @@ refuse_contradiction-requires-clause-conflict g c =
     (noted_contradiction_due t.0 t.1 t.2 (kept_of c.args.self.now) c.note.new.self c.in-Ok.noted c.position-position.result c.args.self.now.text.items t.3 t.4 c.args.exchange
     c.in-Contradiction.is c.position-position.ensures (c.in-Ok.ensures.noted (profile_kept c.args.self.now.facts) t.0.earlier) t.5 t.6).1
 
+pub refuse_contradiction-requires-clause-reasons : goal.refuse_contradiction-requires-clause-reasons
+refuse_contradiction-requires-clause-reasons g c =
+    let t = c.requires.told in
+    noted_contradiction_reasons t.0 t.1 t.2 (kept_of c.args.self.now) c.note.new.self c.in-Ok.noted c.args.self.now.text.items t.3 t.4 c.args.exchange
+    c.in-Contradiction.is (c.in-Ok.ensures.noted (profile_kept c.args.self.now.facts) t.0.earlier) t.5
+
 pub returns-in-Consistent : goal.returns-in-Consistent
 returns-in-Consistent g c =
     on_ok c.accept.result c.accept.ensures.kept c.accept.ensures.text
@@ -60,10 +66,9 @@ returns-in-OutOfPlace g c =
 
 pub returns-in-Contradiction : goal.returns-in-Contradiction
 returns-in-Contradiction g c =
-    on_ok c.refuse_contradiction.result c.refuse_contradiction.ensures.kept c.refuse_contradiction.ensures.text
-    (λ kept text profile b client server left behind t next.
-    noted_contradiction profile b client server (kept_of c.args.self.now)
-    (kept_of c.refuse_contradiction.new.self) c.note.new.self c.in-Ok.noted c.position-position.result
-    (option_map cited_of c.note_closing.new.closing)
-    c.args.self.now.text.items c.refuse_contradiction.new.self.text.items left behind c.args.exchange
-    c.in-Contradiction.is c.position-position.ensures c.note_closing.ensures (c.in-Ok.ensures.noted profile b.earlier) kept text t next)
+    let new = c.refuse_contradiction.new.self in
+    on_all c.refuse_contradiction.result c.refuse_contradiction.ensures.kept c.refuse_contradiction.ensures.reasons c.refuse_contradiction.ensures.text
+    (λ kept reasons text profile b client server left behind t next.
+    noted_contradiction profile b client server (kept_of c.args.self.now) (kept_of new) c.note.new.self c.in-Ok.noted c.position-position.result
+    (option_map cited_of c.note_closing.new.closing) new.contradictions.items c.args.self.now.text.items new.text.items left behind c.args.exchange
+    c.in-Contradiction.is c.position-position.ensures c.note_closing.ensures (c.in-Ok.ensures.noted profile b.earlier) kept reasons text t next)

@@ -1,24 +1,45 @@
-use Rattle.std.proofs.Common.{◌<◌, ◌^◌, refl, ap, subst, length, arith, List, map}
+use Rattle.std.proofs.Common.{◌≡◌, ◌∷◌, ap, sym, subst, List, length, map}
+use Rattle.std.specs.List.{AllByRecursion}
 use Rattle.nntp_article.specs.Session.Limit.{profile_of}
 use Rattle.nntp_article.specs.declared.session.profile.Profile.{Profile}
-use Rattle.nntp_facts.specs.Conflict.{Placed, places_of}
+use Rattle.nntp_facts.specs.Conflict.{Placed, FitsThere, SomeHas, IsFound, HasLast, told_with, below, places_of}
 use Rattle.nntp_facts.specs.Noted.{profile_kept}
-use Rattle.nntp_facts.specs.Points.{AreTaken}
+use Rattle.nntp_facts.specs.Points.{AreHeld}
+use Rattle.nntp_facts.specs.StatementView.{held_of}
 use Rattle.nntp_explain.specs.ExplainingView.{cited_of}
+use Rattle.nntp_explain.proofs.ConflictLemmas.{some_found}
 use Rattle.nntp_explain.proofs.SaysLemmas.{on_ok}
+use Rattle.nntp_explain.proofs.explainer.Explainer.put_found.Given as given
 use Rattle.nntp_explain.proofs.explainer.Explainer.put_found.Goals as goal
+use Rattle.nntp_explain.proofs.explainer.Explainer.put_found.Goals.{After-deref}
 
-pub returns-clause-text : goal.returns-clause-text
-returns-clause-text g c =
+-- a profile, and the accepted answers
+abbrev Front : Type 0
+Front = Profile × List Placed
+
+-- the search is given those that are kept
+given_kept : (g : given.Over) (c : After-deref g) → ◌≡◌ {A = Front} (profile_of c.limit-limit.result c.marks-marks.result, c.deref.result.now) (profile_kept c.args.self.now.facts, c.args.self.now.placed.items)
+given_kept g c = λ i. (profile_of (c.limit-limit.ensures i) (c.marks-marks.ensures i), c.deref.ensures.value i)
+
+pub find-requires-clause-fit : goal.find-requires-clause-fit
+find-requires-clause-fit g c =
+    subst (λ (q : Front). AllByRecursion (FitsThere q.0) (c.args.bad.now ∷ q.1)) (sym (given_kept g (goal.at.find-requires-clause-fit g c).After-deref)) c.requires.fit
+
+pub find-requires-clause-conflict : goal.find-requires-clause-conflict
+find-requires-clause-conflict g c =
+    subst (λ (q : Front). SomeHas q.0 (told_with q.0 c.args.bad.now q.1 (below (length q.1))) → ⊥) (sym (given_kept g (goal.at.find-requires-clause-conflict g c).After-deref)) c.requires.conflict
+
+pub returns : goal.returns
+returns g c =
     let self = c.args.self.now in
-    let core = c.args.core.now in
-    let taken = subst (λ (q : Profile × List Placed). AreTaken q.0 c.args.bad.now q.1 (places_of core) c.in_ok-conflict.conflict)
-    (λ i. (profile_of (c.limit-limit.ensures i) (c.marks-marks.ensures i), c.deref.ensures.value i)) c.in_ok-conflict.ensures.taken in
-    let few : length (places_of core) < 2 ^ 66 = let short = c.in_ok-conflict.ensures.few in omega (arith, short) in
+    let bad = c.args.bad.now in
+    let core = c.in_ok-core.core in
+    let found = subst (λ (q : Front). IsFound q.0 bad q.1 core) (given_kept g (goal.at.returns g c).After-deref) c.in_ok-core.ensures.found in
+    let held = subst (λ (q : Front). AllByRecursion (FitsThere q.0) (bad ∷ q.1) → IsFound q.0 bad q.1 core → HasLast core → AreHeld q.0 bad q.1 (places_of core) (held_of c.in_ok-conflict.conflict))
+    (λ i. (profile_of (c.limit-limit.ensures i) (c.marks-marks.ensures i), c.deref-2.ensures.value i)) c.in_ok-conflict.ensures in
     on_ok c.put_point_of.result
-    (λ told. told (profile_kept self.facts) self.placed.items (map cited_of self.cited.items) c.marks-marks.ensures c.deref-2.ensures.value (ap (map cited_of) c.deref-3.ensures.value) taken
-    c.requires.fit c.requires.found few c.requires.most)
+    (λ told.
+    let goes = told (profile_kept self.facts) self.placed.items (map cited_of self.cited.items) c.marks-marks.ensures c.deref-3.ensures.value (ap (map cited_of) c.deref-4.ensures.value)
+    c.requires.fit (held c.requires.fit found (some_found core c.in_ok-core.ensures.most)) in
+    (goes.0, goes.1, (core, found, c.in_ok-core.ensures.most, goes.2)))
     c.put_point_of.ensures
-
-pub returns-clause-kept : goal.returns-clause-kept
-returns-clause-kept g c = on_ok c.put_point_of.result (λ told. refl) c.put_point_of.ensures

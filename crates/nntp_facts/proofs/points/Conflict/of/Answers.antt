@@ -1,33 +1,55 @@
-use Rattle.std.proofs.Common.{[], ◌∷◌, ◌++◌, ◌<◌, ◌^◌, map, refl, ap, subst, ◌∙◌, get_or}
-use Rattle.std.specs.List.{AllByRecursion}
-use Rattle.nntp_pair.specs.Pairing.{lines_in}
-use Rattle.nntp_facts.specs.Points.{answer_at, answers_at, with_numbers}
-use Rattle.nntp_facts.specs.StatementView.{listing_of}
-use Rattle.nntp_facts.proofs.PointsFound.AnswersTaken.{all_next, answers_next, places_gone}
+use Rattle.std.proofs.Common.{rules, ◌≡◌, ◌<◌, ◌^◌, ◌++◌, ◌∷◌, [], length, Some, sym, ap, subst, ◌∙◌, arith, length-append}
+use Rattle.std.proofs.lemmas.Option.{slice_get-get_or}
+use Rattle.nntp_article.specs.Session.Limit.{profile_of}
+use Rattle.nntp_facts.specs.Kept.{IsKept}
+use Rattle.nntp_facts.specs.Conflict.{SomeHas, places_of, told_with}
+use Rattle.nntp_facts.specs.Points.{Answers, AreHeld}
+use Rattle.nntp_facts.specs.StatementView.{held_of}
+use Rattle.nntp_facts.specs.Told.{AreToldWith}
+use Rattle.nntp_facts.proofs.Keeping.HeldAnswers.{no_places, core_conflicts, held_alone, held_behind, last_there, others_stand, told_front}
+use Rattle.nntp_facts.proofs.OkResults.{if_two}
 use Rattle.nntp_facts.proofs.points.Conflict.of.Goals as goal
 
-pub loop-place-init : goal.loop-place-init
-loop-place-init g c = (
-  ap (map listing_of) (c.in_ok-push.ensures.items ∙ ap (λ xs. xs ++ c.in_ok-of.field-0 ∷ []) c.new-taken.ensures.items) ∙ ap (λ l. l ∷ []) c.in_ok-of.ensures.numbers,
-  (c.in_ok-of.ensures.few, tt),
-)
-
-pub loop-place-preserved : goal.loop-place-preserved
-loop-place-preserved g c =
-    let places = c.args.places.now in
+pub returns-in_default : goal.returns-in_default
+returns-in_default g c =
+    let profile = profile_of c.args.limit c.args.marks in
+    let bad = c.args.bad.now in
     let answers = c.args.answers.now in
-    let i = c.loop-place.place-index in (
-      c.in_ok-push_at.ensures.taken ∙ ap (λ xs. xs ++ map with_numbers
-          (answer_at answers (get_or places i 0))) c.loop-place.invariant.0
-          ∙ answers_next c.args.bad.now answers places i c.loop-place-test.true,
-      all_next (λ a. lines_in a.response < 2 ^ 64) c.args.bad.now answers places i c.loop-place-test.true c.loop-place.invariant.1 c.in_ok-push_at.ensures.few,
-    )
+    let core = c.args.core.now in
+    let empty : length c.deref.result.now ≡ 0 = search rules in
+    let places : places_of core ≡ [] = sym (c.deref.ensures.value ∙ c.in_ok-places.ensures) ∙ no_places c.deref.result.now empty in
+    if_two c.with_last.result
+    (λ conflict is few fits found last.
+    let held = held_of conflict in
+    subst (λ places. AreHeld profile bad answers places held) (sym places)
+    (held_alone profile bad answers fits (subst (λ places. SomeHas profile (told_with profile bad answers places) → ⊥) places (core_conflicts profile bad answers core found))
+    few held (ap (λ (h : Answers). h.profile) is) (subst (IsKept []) (sym (ap (λ (h : Answers). h.kept) is)) c.new-kept.ensures) (ap (λ (h : Answers). h.last) is)))
+    c.with_last.ensures.held c.with_last.ensures.few
 
 pub returns : goal.returns
 returns g c =
-    let all = places_gone c.args.places.now c.loop-place.place-index c.loop-place-test.false in
-    record {
-      judged = refl;
-      taken_are = c.loop-place.invariant.0 ∙ ap (λ places. map with_numbers (answers_at c.args.bad.now c.args.answers.now places)) all;
-      few = subst (λ places. AllByRecursion (λ a. lines_in a.response < 2 ^ 64) (answers_at c.args.bad.now c.args.answers.now places)) all c.loop-place.invariant.1;
-    }
+    let profile = profile_of c.args.limit c.args.marks in
+    let bad = c.args.bad.now in
+    let answers = c.args.answers.now in
+    let core = c.args.core.now in
+    let front = c.in-Some.others.now in
+    let k = c.in-Some.place.now in
+    let last-answer = c.answer_or-last.result.now in
+    let ends : c.deref.result.now ≡ front ++ k ∷ [] = search rules in
+    let parts : places_of core ≡ front ++ k ∷ [] = sym (c.deref.ensures.value ∙ c.in_ok-places.ensures) ∙ ends in
+    let small : length c.in_ok-places.places.items < 2 ^ 64 = search rules in
+    let same = ap length (sym c.deref.ensures.value ∙ ends) in
+    let count = length-append front (k ∷ []) in
+    let fewer : length front < 2 ^ 66 = omega (arith, small, same, count) in
+    if_two c.with_last-2.result
+    (λ conflict is few fits found last.
+    let held = held_of conflict in
+    let there = last_there profile bad answers core front k found last parts in
+    let here = slice_get-get_or answers k bad there ∙ ap (λ a. Some a) (sym c.answer_or-last.ensures) in
+    let told = told_front profile bad answers front c.tell_all.new.kept c.in_ok-tell_all.field-0 (others_stand profile bad answers core front k found last parts)
+    (c.in_ok-tell_all.ensures c.new-kept.ensures fits) in
+    subst (λ places. AreHeld profile bad answers places held) (sym parts)
+    (held_behind profile bad answers fits front k (subst (λ places. SomeHas profile (told_with profile bad answers places) → ⊥) parts (core_conflicts profile bad answers core found))
+    last-answer here few fewer held (ap (λ (h : Answers). h.profile) is) (subst (AreToldWith profile bad answers front) (sym (ap (λ (h : Answers). h.kept) is)) told)
+    (ap (λ (h : Answers). h.last) is)))
+    c.with_last-2.ensures.held c.with_last-2.ensures.few

@@ -1,37 +1,44 @@
-use Rattle.std.proofs.Common.{map, sym, ap, subst, ◌∙◌}
-use Rattle.nntp_facts.specs.Conflict.{told_with}
-use Rattle.nntp_facts.specs.Points.{AllTell, NoneBefore}
-use Rattle.nntp_facts.specs.StatementView.{statement_of}
-use Rattle.nntp_facts.proofs.PointsFound.PointsChained.{said_taken, tell_all, kind_ranked, point_given, none_given, none_at_all}
+use Rattle.std.proofs.Common.{◌++◌, ℕ, List, sym, ap, subst, ◌∙◌}
+use Rattle.nntp_facts.specs.Conflict.{Placed, FitsThere, told, told_with}
+use Rattle.nntp_facts.specs.Saying.{numbers_listed}
+use Rattle.nntp_facts.specs.Points.{TellsAlone}
+use Rattle.nntp_facts.specs.StatementView.{held_of, statement_of}
+use Rattle.nntp_facts.proofs.PointsFound.PointsChained.{beside, all_formed, kind_ranked, moved_before, given_there, none_there, none_at_all}
 use Rattle.nntp_facts.proofs.points.Conflict.point.Goals as goal
 
 pub returns-in-Some : goal.returns-in-Some
-returns-in-Some g c profile bad answers places are fits =
+returns-in-Some g c profile bad answers places fits held =
     let facts = told_with profile bad answers places in
     let i = c.loop-kind.kind-index in
-    let before = c.loop-kind.invariant profile bad answers places are fits in
-    let ts = tell_all profile bad answers places (map statement_of c.in_ok-all.all.items)
-    (said_taken profile bad answers places c.args.self.now (map statement_of c.in_ok-all.all.items) are fits c.in_ok-all.ensures) in
-    let all = subst (λ these. AllTell profile (map statement_of these) facts) (sym c.deref.ensures.value) ts in
-    let limit = ap (λ p. p.limit) (sym are.judged) ∙ ap (λ v. v.profile.limit) (sym c.self.view_is) in
-    let ranked = kind_ranked i _ c.loop-kind-test.true in
-    point_given facts _ i c.in_ok-point.field-0 c.in-Some.point c.in-Some.is ranked before (c.in_ok-point.ensures profile facts limit all (subst (NoneBefore facts) (sym ranked) before))
+    let before = c.loop-kind.invariant profile bad answers places fits held in
+    let t = statement_of c.of-told.result in
+    let tells = subst (λ a. TellsAlone profile t (told profile a)) (ap (λ (p : Placed × List ℕ). p.0) held.listed)
+    (c.of-told.ensures profile (ap (λ p. p.marks) (sym held.judged)) (subst (FitsThere profile) (sym (ap (λ (p : Placed × List ℕ). p.0) held.listed)) held.fits)
+    (c.deref.ensures.value ∙ ap (λ (p : Placed × List ℕ). p.1) held.listed ∙ ap (λ (p : Placed × List ℕ). numbers_listed p.0.response) (sym held.listed))) in
+    given_there (held.facts ++ told profile held.last) facts _ i c.in_ok-point.field-0 c.in-Some.point held.whole c.in-Some.is (kind_ranked i _ c.loop-kind-test.true) before
+    (c.in_ok-point.ensures profile held.facts (told profile held.last) (ap (λ p. p.limit) (sym held.judged)) (beside profile bad answers places (held_of c.args.self.now) held t tells)
+    (moved_before (held.facts ++ told profile held.last) facts _ i held.whole (kind_ranked i _ c.loop-kind-test.true) before))
 
 pub loop-kind-preserved : goal.loop-kind-preserved
-loop-kind-preserved g c profile bad answers places are fits =
+loop-kind-preserved g c profile bad answers places fits held =
     let facts = told_with profile bad answers places in
     let i = c.loop-kind.kind-index in
-    let before = c.loop-kind.invariant profile bad answers places are fits in
-    let ts = tell_all profile bad answers places (map statement_of c.in_ok-all.all.items)
-    (said_taken profile bad answers places c.args.self.now (map statement_of c.in_ok-all.all.items) are fits c.in_ok-all.ensures) in
-    let all = subst (λ these. AllTell profile (map statement_of these) facts) (sym c.deref.ensures.value) ts in
-    let limit = ap (λ p. p.limit) (sym are.judged) ∙ ap (λ v. v.profile.limit) (sym c.self.view_is) in
-    let ranked = kind_ranked i _ c.loop-kind-test.true in
-    none_given facts _ i c.in_ok-point.field-0 c.in_default.is ranked before (c.in_ok-point.ensures profile facts limit all (subst (NoneBefore facts) (sym ranked) before))
+    let before = c.loop-kind.invariant profile bad answers places fits held in
+    let t = statement_of c.of-told.result in
+    let tells = subst (λ a. TellsAlone profile t (told profile a)) (ap (λ (p : Placed × List ℕ). p.0) held.listed)
+    (c.of-told.ensures profile (ap (λ p. p.marks) (sym held.judged)) (subst (FitsThere profile) (sym (ap (λ (p : Placed × List ℕ). p.0) held.listed)) held.fits)
+    (c.deref.ensures.value ∙ ap (λ (p : Placed × List ℕ). p.1) held.listed ∙ ap (λ (p : Placed × List ℕ). numbers_listed p.0.response) (sym held.listed))) in
+    none_there (held.facts ++ told profile held.last) facts _ i c.in_ok-point.field-0 held.whole c.in_default.is (kind_ranked i _ c.loop-kind-test.true) before
+    (c.in_ok-point.ensures profile held.facts (told profile held.last) (ap (λ p. p.limit) (sym held.judged)) (beside profile bad answers places (held_of c.args.self.now) held t tells)
+    (moved_before (held.facts ++ told profile held.last) facts _ i held.whole (kind_ranked i _ c.loop-kind-test.true) before))
 
 pub returns : goal.returns
-returns g c profile bad answers places are fits =
-    none_at_all profile bad answers places (map statement_of c.in_ok-all.all.items) fits
-    (tell_all profile bad answers places (map statement_of c.in_ok-all.all.items)
-    (said_taken profile bad answers places c.args.self.now (map statement_of c.in_ok-all.all.items) are fits c.in_ok-all.ensures))
-    c.loop-kind.kind-index c.loop-kind-test.false (c.loop-kind.invariant profile bad answers places are fits)
+returns g c profile bad answers places fits held =
+    let facts = told_with profile bad answers places in
+    let i = c.loop-kind.kind-index in
+    let before = c.loop-kind.invariant profile bad answers places fits held in
+    let t = statement_of c.of-told.result in
+    let tells = subst (λ a. TellsAlone profile t (told profile a)) (ap (λ (p : Placed × List ℕ). p.0) held.listed)
+    (c.of-told.ensures profile (ap (λ p. p.marks) (sym held.judged)) (subst (FitsThere profile) (sym (ap (λ (p : Placed × List ℕ). p.0) held.listed)) held.fits)
+    (c.deref.ensures.value ∙ ap (λ (p : Placed × List ℕ). p.1) held.listed ∙ ap (λ (p : Placed × List ℕ). numbers_listed p.0.response) (sym held.listed))) in
+    held.conflict (none_at_all profile bad answers places fits (all_formed profile bad answers places (held_of c.args.self.now) held t tells) i c.loop-kind-test.false before)

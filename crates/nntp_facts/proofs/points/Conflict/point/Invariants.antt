@@ -2,10 +2,11 @@ use Rattle.std.proofs.Common.{◌∷◌, List, ℕ}
 use Rattle.std.specs.List.{AllByRecursion}
 use Rattle.nntp_article.specs.declared.session.profile.Profile.{Profile}
 use Rattle.nntp_facts.specs.Conflict.{Placed, FitsThere, told_with}
-use Rattle.nntp_facts.specs.Points.{AreTaken, NoneBefore}
+use Rattle.nntp_facts.specs.Points.{AreHeld, NoneBefore}
+use Rattle.nntp_facts.specs.StatementView.{held_of}
 use Rattle.nntp_facts.proofs.points.Conflict.point.Given as goal
 
 -- at no point of the kinds so far the answers conflict
 abbrev pub invariant-loop-kind : goal.invariant-loop-kind
-invariant-loop-kind g l = (profile : Profile) (bad : Placed) (answers : List Placed) (places : List ℕ) → AreTaken profile bad answers places l.self → AllByRecursion (FitsThere profile) (bad ∷ answers)
-    → NoneBefore (told_with profile bad answers places) l.kind-index
+invariant-loop-kind g l = (profile : Profile) (bad : Placed) (answers : List Placed) (places : List ℕ) → AllByRecursion (FitsThere profile) (bad ∷ answers)
+    → AreHeld profile bad answers places (held_of l.self) → NoneBefore (told_with profile bad answers places) l.kind-index

@@ -1,0 +1,40 @@
+use Rattle.std.proofs.Common.{◌∙◌, ◌++◌, ◌∷◌, [], refl, ap, subst, sym, List, map}
+use Rattle.std.specs.Prelude.{⊤, Contains, MatchOption}
+use Rattle.nntp_facts.specs.Noted.{profile_kept}
+use Rattle.nntp_facts.proofs.Members.{all_at, all_both, in_contains}
+use Rattle.nntp_explain.specs.Explaining.{ToldContradiction, IsConflictOf}
+use Rattle.nntp_explain.specs.ExplainingView.{AreReasons, cited_of, kept_of}
+use Rattle.nntp_explain.proofs.ReasonsGoOn.{in_any_case, extended}
+use Rattle.nntp_explain.proofs.SaysLemmas.{on_ok}
+use Rattle.nntp_explain.proofs.explainer.Explainer.tell_conflict.Goals as goal
+
+pub returns-in-Some-clause-kept : goal.returns-in-Some-clause-kept
+returns-in-Some-clause-kept g c = in_any_case c.extend_from_slice.result refl
+
+pub returns-in-Some-clause-reasons : goal.returns-in-Some-clause-reasons
+returns-in-Some-clause-reasons g c = in_any_case c.extend_from_slice.result c.requires.reasons
+
+pub returns-in-Some-clause-text : goal.returns-in-Some-clause-text
+returns-in-Some-clause-text g c =
+    let self = c.args.self.now in
+    let here : ToldContradiction = record { bad = c.args.bad; reason = c.in-Some.reason.now } in
+    let told = subst (λ o. MatchOption o ⊤ (λ reason. Contains c.deref.result.now (record { bad = c.args.bad; reason = reason.now }))) c.in-Some.is c.reason_of.ensures in
+    let there = subst (λ (cs : List ToldContradiction). Contains cs here) c.deref.ensures.value told in
+    on_ok c.extend_from_slice.result
+    (λ put. (
+      c.in-Some.reason.now,
+      put,
+      all_at (λ (t : ToldContradiction). IsConflictOf self.session (profile_kept self.facts) t.bad self.placed.items (map cited_of self.cited.items) t.reason) here self.contradictions.items
+          c.requires.reasons (in_contains here self.contradictions.items there),
+    ))
+    (extended c.extend_from_slice.result c.extend_from_slice.new.self.items self.text.items c.in-Some.reason.now c.extend_from_slice.ensures.items)
+
+pub returns-clause-reasons : goal.returns-clause-reasons
+returns-clause-reasons g c =
+    let self = c.args.self.now in
+    let goes = c.in_ok-put_found.ensures in
+    let told = λ (t : ToldContradiction). IsConflictOf self.session (profile_kept self.facts) t.bad self.placed.items (map cited_of self.cited.items) t.reason in
+    let whole = goes.1 ∙ ap (λ t. t ++ goes.0) c.new-reason.ensures.items in
+    let here = subst (IsConflictOf self.session (profile_kept self.facts) c.args.bad self.placed.items (map cited_of self.cited.items)) (sym whole) goes.2 in
+    subst (AreReasons (profile_kept self.facts) (kept_of self)) (sym c.in_ok-push.ensures.items)
+    (all_both told self.contradictions.items (c.new.result ∷ []) c.requires.reasons (subst told (sym c.new.ensures) here, tt))

@@ -1,0 +1,159 @@
+-- What is held of answers that conflict: all but the last of them stand together.
+use Rattle.std.proofs.Common.{◌≡◌, ℕ, ◌<◌, ◌≤◌, ◌^◌, List, [], ◌∷◌, ◌++◌, Option, None, Some, length, slice_get, Bool, IsTrue, true, false, arith, refl, sym, ap, subst, ◌∙◌, append-nil, inl, inr}
+use Rattle.std.specs.Prelude.{⊤, MatchOption, nat_lt}
+use Rattle.std.specs.List.{AllByRecursion, list_all}
+use Rattle.std.specs.Option.{option_map_or}
+use Rattle.std.proofs.lemmas.Bool.{and_parts}
+use Rattle.std.proofs.lemmas.Bool.Decides.{nat_tests}
+use Rattle.nntp_article.specs.Session.Machine.{is_ascending}
+use Rattle.nntp_article.specs.declared.session.profile.Profile.{Profile}
+use Rattle.nntp_pair.specs.Pairing.{lines_in}
+use Rattle.nntp_facts.specs.Conflict.{Placed, FitsThere, SomeHas, IsCore, IsEndOfCore, IsFound, Core, HasLast, places_of, below, told, told_with}
+use Rattle.nntp_facts.specs.Given.{size}
+use Rattle.nntp_facts.specs.Kept.{Kept, IsKept}
+use Rattle.nntp_facts.specs.Points.{Answers, AreHeld, with_numbers}
+use Rattle.nntp_facts.specs.Together.{Together}
+use Rattle.nntp_facts.specs.Told.{AreToldWith, PlacesTold}
+use Rattle.nntp_facts.proofs.Conflicts.{told_together, with_told, from_below}
+use Rattle.nntp_facts.proofs.Given.FirstBadAnswer.{size-append}
+use Rattle.nntp_facts.proofs.Keeping.CoresFound.{nothing_together}
+use Rattle.nntp_facts.proofs.Keeping.ToldAnswers.{told_size, with_place, fits_at}
+use Rattle.nntp_facts.proofs.Members.{In, all_at, in_front, in_back, in_cases, in_contains, contains_in}
+
+-- ---- the last place
+
+-- no places
+pub no_places : (places : List ℕ) → length places ≡ 0 → places ≡ []
+no_places [] e = refl
+no_places (k ∷ places) e = absurd (omega (arith, e))
+
+-- the last of two lists is the last of the second one, if there is one
+last_of : (xs ys front : List ℕ) (k : ℕ) → 0 < length ys → xs ++ ys ≡ front ++ k ∷ [] → (ps : List ℕ) × (ys ≡ ps ++ k ∷ []) × (front ≡ xs ++ ps)
+last_of [] ys front k some e = (front, e, refl)
+last_of (x ∷ xs) [] front k some e = absurd (omega (arith, some))
+last_of (x ∷ xs) (y ∷ ys) [] k some e = absurd (none xs (cc))
+  where
+    none : (zs : List ℕ) → zs ++ y ∷ ys ≡ [] → ⊥
+    none [] e = cc
+    none (z ∷ zs) e = cc
+last_of (x ∷ xs) (y ∷ ys) (f ∷ front) k some e =
+    let rest : xs ++ y ∷ ys ≡ front ++ k ∷ [] = cc in
+    let same : f ≡ x = cc in
+    let r = last_of xs (y ∷ ys) front k some rest in
+    (r.0, r.1, ap (λ z. z ∷ front) same ∙ ap (λ zs. x ∷ zs) r.2)
+
+-- the last of ascending places is none of those before it
+not_before : (ps : List ℕ) (k : ℕ) → IsTrue (is_ascending (ps ++ k ∷ [])) → In k ps → ⊥
+not_before [] k up i = absurd i
+not_before (j ∷ ps) k up i =
+    let parts = and_parts (list_all (λ m. nat_lt j m) (ps ++ k ∷ [])) (is_ascending (ps ++ k ∷ [])) up in
+    elim i [
+      | inl e ↦ (let l = below_last ps parts.0 in omega (arith, l, e))
+      | inr more ↦ not_before ps k parts.1 more
+    ]
+  where
+    below_last : (ps : List ℕ) → IsTrue (list_all (λ m. nat_lt j m) (ps ++ k ∷ [])) → j < k
+    below_last [] up = let p = and_parts (nat_lt j k) true up in let l = p.0 in grind (arith, nat_tests, l)
+    below_last (q ∷ ps) up = below_last ps (and_parts (nat_lt j q) (list_all (λ m. nat_lt j m) (ps ++ k ∷ [])) up).1
+
+module _ (profile : Profile) (bad : Placed) (answers : List Placed) where
+  -- what was found of a core, whole or cut short
+  abbrev Found : Option ℕ → List ℕ → Type 0
+  Found rest places = MatchOption rest (IsCore profile bad answers places) (λ bound. IsEndOfCore profile bad answers bound places)
+
+  -- all places of it conflict with the bad answer
+  all_conflict : (rest : Option ℕ) (places : List ℕ) → Found rest places → SomeHas profile (told_with profile bad answers (option_map_or (λ bound. below bound ++ places) rest places)) → ⊥
+  all_conflict None places found = found.conflict
+  all_conflict (Some bound) places found = found.conflict
+
+  pub core_conflicts : (core : Core) → IsFound profile bad answers core → SomeHas profile (told_with profile bad answers (places_of core)) → ⊥
+  core_conflicts core is = all_conflict core.rest core.places is.found
+
+  -- an answer stands at the last of them
+  there : (rest : Option ℕ) (places front : List ℕ) (k : ℕ) → Found rest places → MatchOption rest ⊤ (λ bound. 0 < length places)
+      → option_map_or (λ bound. below bound ++ places) rest places ≡ front ++ k ∷ [] → k < length answers
+  there None places front k found some e =
+      all_at (λ k. k < length answers) k places found.there (subst (In k) (sym e) (in_back k front (k ∷ []) (inl refl)))
+  there (Some bound) places front k found some e =
+      let last = last_of (below bound) places front k some e in
+      (all_at (λ k. (bound ≤ k) × (k < length answers)) k places found.there (subst (In k) (sym last.1) (in_back k last.0 (k ∷ []) (inl refl)))).1
+
+  pub last_there : (core : Core) (front : List ℕ) (k : ℕ) → IsFound profile bad answers core → HasLast core → places_of core ≡ front ++ k ∷ [] → k < length answers
+  last_there core front k is some e = there core.rest core.places front k is.found some e
+
+  -- without it they stand
+  stand : (rest : Option ℕ) (places front : List ℕ) (k : ℕ) → IsTrue (is_ascending places) → Found rest places → MatchOption rest ⊤ (λ bound. 0 < length places)
+      → option_map_or (λ bound. below bound ++ places) rest places ≡ front ++ k ∷ [] → (SomeHas profile (told_with profile bad answers front) → ⊥) → ⊥
+  stand None places front k up found some e none = none (subst (λ places. SomeHas profile (told_with profile bad answers places)) (append-nil front) (found.needed front [] k e))
+  stand (Some bound) places front k up found some e none =
+      let last = last_of (below bound) places front k some e in
+      let here = subst (In k) (sym last.1) (in_back k last.0 (k ∷ []) (inl refl)) in
+      let low = (all_at (λ k. (bound ≤ k) × (k < length answers)) k places found.there here).0 in
+      let whole = found.in_each front (λ j c. contains_in j (below bound ++ places) (subst (In j) (sym e) (in_front j front (k ∷ []) (in_contains j front c)))) none k (contains_in k places here) in
+      elim (in_cases k (below bound) last.0 (subst (In k) last.2 (in_contains k front whole))) [
+        | inl below-it ↦ (let l = from_below k bound below-it in omega (arith, l, low))
+        | inr before ↦ not_before last.0 k (subst (λ places. IsTrue (is_ascending places)) last.1 up) before
+      ]
+
+  pub others_stand : (core : Core) (front : List ℕ) (k : ℕ) → IsFound profile bad answers core → HasLast core → places_of core ≡ front ++ k ∷ []
+      → (SomeHas profile (told_with profile bad answers front) → ⊥) → ⊥
+  others_stand core front k is some e none = stand core.rest core.places front k is.ascending is.found some e none
+
+  -- so they are told
+  pub told_front : (front : List ℕ) (k : Kept) (does : Bool) → ((SomeHas profile (told_with profile bad answers front) → ⊥) → ⊥) → PlacesTold profile bad answers front k does
+      → AreToldWith profile bad answers front k
+  told_front front k true stand told = told
+  told_front front k false stand none = absurd (stand none)
+
+-- ---- what is held
+
+module _ (profile : Profile) (bad : Placed) (answers : List Placed) (fits : AllByRecursion (FitsThere profile) (bad ∷ answers)) where
+  -- what stands together is had by some spool, if it is little
+  had : (places : List ℕ) → size (told_with profile bad answers places) < 2 ^ 210 → Together (told_with profile bad answers places) → SomeHas profile (told_with profile bad answers places)
+  had places small together = (told_together profile (told_with profile bad answers places) (with_told profile bad answers places fits.0 fits.1) small).1 together
+
+  -- of a bad answer that conflicts with itself
+  pub held_alone : (SomeHas profile (told_with profile bad answers []) → ⊥) → lines_in bad.response < 2 ^ 64 → (held : Answers) → held.profile ≡ profile → IsKept [] held.kept
+      → held.last ≡ with_numbers bad → AreHeld profile bad answers [] held
+  held_alone conflict few held judged kept listed = record {
+    judged = judged;
+    last = bad;
+    listed = listed;
+    fits = fits.0;
+    facts = [];
+    kept = kept;
+    together = nothing_together profile;
+    whole = sym (append-nil (told profile bad));
+    conflict = λ together. conflict (had [] small together);
+  }
+    where
+      small : size (told_with profile bad answers []) < 2 ^ 210
+      small = let one = told_size profile bad few in
+          let le : size (told profile bad) < 2 ^ 210 = omega (arith, one) in
+          subst (λ facts. size facts < 2 ^ 210) (sym (append-nil (told profile bad))) le
+
+  -- of one that conflicts with others
+  pub held_behind : (front : List ℕ) (k : ℕ) → (SomeHas profile (told_with profile bad answers (front ++ k ∷ [])) → ⊥) → (last : Placed) → slice_get answers k ≡ Some last
+      → lines_in last.response < 2 ^ 64 → length front < 2 ^ 66 → (held : Answers) → held.profile ≡ profile → AreToldWith profile bad answers front held.kept → held.last ≡ with_numbers last
+      → AreHeld profile bad answers (front ++ k ∷ []) held
+  held_behind front k conflict last at few short held judged told_front listed = record {
+    judged = judged;
+    last = last;
+    listed = listed;
+    fits = fits_at profile answers k last fits.1 at;
+    facts = told_with profile bad answers front;
+    kept = told_front.kept;
+    together = told_front.together;
+    whole = whole;
+    conflict = λ together. conflict (had (front ++ k ∷ []) small together);
+  }
+    where
+      whole : told_with profile bad answers front ++ told profile last ≡ told_with profile bad answers (front ++ k ∷ [])
+      whole = with_place profile bad answers front k (told profile last) (ap (λ o. option_map_or (told profile) o []) at)
+
+      small : size (told_with profile bad answers (front ++ k ∷ [])) < 2 ^ 210
+      small = let one = told_size profile last few in
+          let both = size-append (told_with profile bad answers front) (told profile last) in
+          let others = told_front.small in
+          let le : size (told_with profile bad answers front ++ told profile last) < 2 ^ 210 = omega (arith, one, both, others, short) in
+          subst (λ facts. size facts < 2 ^ 210) whole le

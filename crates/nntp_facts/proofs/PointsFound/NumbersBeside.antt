@@ -1,0 +1,78 @@
+-- Points that are about the numbers of a group.
+use Rattle.std.proofs.Common.{arith, ℕ, ◌≡◌, ◌<◌, ◌^◌, ◌++◌, ◌∷◌, List, inl, inr, true, subst, sym, ◌∙◌}
+use Rattle.std.proofs.lemmas.Bool.{true≢false, cases_Bool, or_left}
+use Rattle.nntp_wire.specs.Limit.{greatest}
+use Rattle.nntp_wire.specs.declared.limit.Limit.{Limit}
+use Rattle.nntp_wire.specs.declared.limit.Limit.TheVariants.{Narrow, Wide}
+use Rattle.nntp_wire.specs.declared.marks.Marks.TheVariants.{Lenient}
+use Rattle.nntp_article.specs.Session.Spool.{Name}
+use Rattle.nntp_article.specs.declared.session.profile.Profile.{Profile}
+use Rattle.nntp_facts.specs.Asks.{Ask, Estimates}
+use Rattle.nntp_facts.specs.Facts.{Fact}
+use Rattle.nntp_facts.specs.Given.{asks_of, is_denied, denies, demand, IsGivenNumber}
+use Rattle.nntp_facts.specs.Together.{MeetsDemand}
+use Rattle.nntp_facts.specs.Summary.{AreBounded}
+use Rattle.nntp_facts.specs.Conflict.{widest, Point, Number, Count, First, rank, ConflictAt, AreApart, AreTooMany}
+use Rattle.nntp_facts.specs.Points.{IsAbout, NoneBefore}
+use Rattle.nntp_facts.specs.declared.points.NumbersKind.{NumbersKind}
+use Rattle.nntp_facts.specs.declared.points.NumbersKind.TheVariants as kinds
+use Rattle.nntp_facts.specs.StatementView.{rank_of_numbers}
+use Rattle.nntp_facts.proofs.Members.{any_back}
+
+-- their ranks are these
+pub above_one : (kind : NumbersKind) → 1 < rank_of_numbers kind
+above_one kinds.Number = omega arith
+above_one kinds.Count = omega arith
+above_one kinds.First = omega arith
+
+pub below_five : (kind : NumbersKind) → rank_of_numbers kind < 5
+below_five kinds.Number = omega arith
+below_five kinds.Count = omega arith
+below_five kinds.First = omega arith
+
+-- article numbers are of 64 bits
+limit_small : (profile : Profile) (limit : Limit) → profile.limit ≡ greatest limit → profile.limit < 2 ^ 64
+limit_small profile Narrow e = omega (arith, e)
+limit_small profile Wide e = omega (arith, e)
+
+-- what is bounded behind is bounded
+pub bounded_behind : (asks more : List Ask) → AreBounded more → AreBounded (asks ++ more)
+bounded_behind asks more bounded n large = any_back (λ ask. denies ask n) asks more (bounded n large)
+
+-- the widest marks bound
+pub bounded_widest : (profile : Profile) (limit : Limit) (more : List Ask) → profile.limit ≡ greatest limit → AreBounded (Estimates Lenient (widest profile) ∷ more)
+bounded_widest profile limit more e n large =
+    let small = limit_small profile limit e in
+    or_left (denies (Estimates Lenient (widest profile)) n) (is_denied more n) (beyond (omega (arith, small, large)))
+  where
+    beyond : profile.limit < n → denies (Estimates Lenient (widest profile)) n ≡ true
+    beyond l = grind arith
+
+module _ (all : List Fact) (name : Name) where
+  -- no known number is denied where no number is a point
+  pub apart : (k : ℕ) → 2 < k → NoneBefore all k → AreApart (asks_of name all)
+  apart k l before n known = elim (cases_Bool (is_denied (asks_of name all) n)) [
+    | inl d ↦ absurd (before (Number name n) l (known, d))
+    | inr f ↦ f
+  ]
+
+  abbrev IsFreeAt : ℕ → Type 0
+  IsFreeAt k = (other : Point) → rank other ≡ k → IsAbout name other → ConflictAt all other → ⊥
+
+  pub number_free : AreApart (asks_of name all) → IsFreeAt 2
+  number_free apart (Number other n) e is c = true≢false (sym c.1 ∙ subst (λ nm. AreApart (asks_of nm all)) is apart n c.0)
+  number_free apart (Count other) e is c = absurd (omega (arith, e))
+  number_free apart (First other) e is c = absurd (omega (arith, e))
+  number_free apart point e is c = absurd is
+
+  pub count_free : (AreTooMany (asks_of name all) → ⊥) → IsFreeAt 3
+  count_free few (Count other) e is c = subst (λ nm. AreTooMany (asks_of nm all) → ⊥) is few c
+  count_free few (Number other n) e is c = absurd (omega (arith, e))
+  count_free few (First other) e is c = absurd (omega (arith, e))
+  count_free few point e is c = absurd is
+
+  pub first_free : MeetsDemand (demand (asks_of name all)) (IsGivenNumber (asks_of name all)) → IsFreeAt 4
+  first_free met (First other) e is c = c (subst (λ nm. MeetsDemand (demand (asks_of nm all)) (IsGivenNumber (asks_of nm all))) is met)
+  first_free met (Number other n) e is c = absurd (omega (arith, e))
+  first_free met (Count other) e is c = absurd (omega (arith, e))
+  first_free met point e is c = absurd is

@@ -1,0 +1,18 @@
+use Rattle.std.proofs.Common.{◌&&◌, not, true}
+use Rattle.std.specs.Prelude.{IsTrue}
+use Rattle.std.specs.BTreeMap.{keys}
+use Rattle.std.specs.List.{list_any}
+use Rattle.std.specs.Option.{option_map_or}
+use Rattle.nntp_wire.specs.Decided.{matches_name}
+use Rattle.nntp_wire.specs.Name.{IsGroupName}
+use Rattle.nntp_article.specs.Session.Spool.{Name}
+use Rattle.nntp_article.specs.Session.Machine.{is_same}
+use Rattle.nntp_facts.proofs.groups.listed.first_unlisted.Given as goal
+
+-- what is left are names of groups, and a name before it is listed, or doesn't match
+abbrev pub invariant-loop-name : goal.invariant-loop-name
+invariant-loop-name g l =
+    (goal.iterator-loop-name g).can_next l.names × (goal.iterator-loop-name g).is_finite l.names
+    × ((name : Name) → IsTrue (list_any (λ k. is_same k.items name) l.names) → IsTrue (list_any (λ k. is_same k.items name) (keys l.groups)))
+    × ((name : Name) → IsTrue (list_any (λ k. is_same k.items name) (keys l.groups)) → IsGroupName name
+    → IsTrue (option_map_or (λ w. matches_name w name) l.wildmat true && not (list_any (λ k. is_same k.now name) l.listed.keys)) → IsTrue (list_any (λ k. is_same k.items name) l.names))

@@ -1,0 +1,14 @@
+use Rattle.std.proofs.Common.{◌++◌, ap, sym, subst}
+use Rattle.std.specs.Prelude.{option_map}
+use Rattle.nntp_facts.specs.Points.{IsPointOf}
+use Rattle.nntp_facts.specs.SayingView.{active_said}
+use Rattle.nntp_facts.specs.StatementView.{statement_of}
+use Rattle.nntp_facts.proofs.kept.Kept.denied_group.Goals as goal
+
+pub returns-in-None : goal.returns-in-None
+returns-in-None g c profile facts more h = subst (IsPointOf (facts ++ more) 1) (sym c.point-in-None.ensures)
+    (c.denied_by_name.ensures profile facts more h (ap (option_map active_said) c.in-None.is))
+
+pub returns-in_ok-denied_or_unlisted-in-Some : goal.returns-in_ok-denied_or_unlisted-in-Some
+returns-in_ok-denied_or_unlisted-in-Some g c profile facts more h = subst (IsPointOf (facts ++ more) 1) (sym c.point.ensures)
+    (c.in_ok-denied_or_unlisted-in-Some.ensures profile facts more (statement_of c.args.told.now) h (ap (option_map active_said) c.in-Some.is))

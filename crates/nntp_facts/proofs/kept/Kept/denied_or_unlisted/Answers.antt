@@ -1,0 +1,18 @@
+use Rattle.std.proofs.Common.{sym, subst}
+use Rattle.std.specs.Prelude.{MatchOption, IsTrue, IsFalse}
+use Rattle.std.specs.List.{AllByRecursion, list_any}
+use Rattle.nntp_facts.specs.Together.{denies_group}
+use Rattle.nntp_facts.specs.ListedGroups.{is_listed}
+use Rattle.nntp_facts.specs.SayingView.{active_said}
+use Rattle.nntp_facts.specs.Kept.{IsKept}
+use Rattle.nntp_facts.proofs.OkResults.{if_ok}
+use Rattle.nntp_facts.proofs.PointsFound.KindsOfPoints.{unlisted_group}
+use Rattle.nntp_facts.proofs.kept.Kept.denied_or_unlisted.Goals as goal
+
+pub returns-in-None : goal.returns-in-None
+returns-in-None g c = if_ok c.unlisted.result (λ name unlisted profile facts more t h e.
+    let k = subst (IsKept facts) (sym c.self.view_is) h.kept in
+    unlisted_group profile facts c.args.self.now t more h (active_said c.args.list.now) e
+    (subst (λ o. MatchOption o (AllByRecursion (λ line. IsFalse (list_any (denies_group line.name) facts)) (active_said c.args.list.now).1)
+    (λ name. IsTrue (is_listed (active_said c.args.list.now).1 name) × IsTrue (list_any (denies_group name) facts))) c.in-None.is (c.first_denied.ensures facts h.kept h.together))
+    name (unlisted facts k.groups h.together)) c.unlisted.ensures

@@ -1,0 +1,17 @@
+use Rattle.std.specs.Prelude.{IsTrue, IsFalse, List}
+use Rattle.std.specs.List.{AllByRecursion, list_any}
+use Rattle.nntp_wire.specs.Listing.{active_groups}
+use Rattle.nntp_article.specs.Session.Spool.{Name}
+use Rattle.nntp_facts.specs.Facts.{Fact}
+use Rattle.nntp_facts.specs.Together.{Together, denies_group}
+use Rattle.nntp_facts.specs.Kept.{IsKept}
+use Rattle.nntp_facts.specs.ListedGroups.{is_listed}
+use Rattle.nntp_facts.proofs.kept.Kept.first_denied.Given as goal
+
+-- what is left is listed, and no group before it is denied
+abbrev pub invariant-loop-line : goal.invariant-loop-line
+invariant-loop-line g l =
+    (goal.iterator-loop-line g).can_next l.line-iterator × (goal.iterator-loop-line g).is_finite l.line-iterator
+    × ((name : Name) → IsTrue (is_listed l.line-iterator name) → IsTrue (is_listed (active_groups l.block) name))
+    × ((facts : List Fact) → IsKept facts l.self → Together facts → AllByRecursion (λ line. IsFalse (list_any (denies_group line.name) facts)) l.line-iterator
+    → AllByRecursion (λ line. IsFalse (list_any (denies_group line.name) facts)) (active_groups l.block))

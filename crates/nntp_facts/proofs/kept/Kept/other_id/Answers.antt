@@ -1,0 +1,35 @@
+use Rattle.std.proofs.Common.{Option, ◌≡◌, ◌++◌, ap, refl, sym, subst, ◌∙◌}
+use Rattle.std.specs.Prelude.{IfSome, option_map}
+use Rattle.std.proofs.lemmas.Bool.{true≢false}
+use Rattle.nntp_article.specs.Article.Parts.{Id}
+use Rattle.nntp_facts.specs.Kept.{IsKept, told}
+use Rattle.nntp_facts.specs.Points.{IsPointOf}
+use Rattle.nntp_facts.specs.PointView.{point_of}
+use Rattle.nntp_facts.specs.SayingView.{of_group, id_at}
+use Rattle.nntp_facts.specs.StatementView.{statement_of}
+use Rattle.nntp_facts.proofs.PointsFound.KindsOfPoints.{no_ids, no_id, other_id, same_id}
+use Rattle.nntp_facts.proofs.kept.Kept.other_id.Goals as goal
+
+pub returns-in_default : goal.returns-in_default
+returns-in_default g c profile facts more h = no_ids profile facts c.args.self.now (statement_of c.args.told.now) more h (ap (option_map of_group) c.in_default.is)
+
+pub returns-in_err-at : goal.returns-in_err-at
+returns-in_err-at g c profile facts more h =
+    subst (λ o. IsPointOf (facts ++ more) 5 (option_map point_of o)) (sym c.from_residual.ensures)
+    (no_id profile facts c.args.self.now (statement_of c.args.told.now) more h (of_group c.in-Some.group) (ap (option_map of_group) c.in-Some.is) (ap id_at c.in_err-at.was))
+
+pub returns-then-is_id : goal.returns-then-is_id
+returns-then-is_id g c profile facts more h =
+    let k = subst (IsKept facts) (sym c.self.view_is) h.kept in
+    same_id profile facts c.args.self.now (statement_of c.args.told.now) more h (of_group c.in-Some.group) c.in_ok-at.at.number c.in_ok-at.at.id.now
+    (ap (option_map of_group) c.in-Some.is) (ap id_at c.in_ok-at.was)
+    (subst (λ (o : Option Id). IfSome o (λ y. c.in_ok-at.at.id.now ≡ y)) (c.id.ensures (told facts) k.groups) (c.is_id.ensures.0 c.if-is_id.true))
+
+pub returns : goal.returns
+returns g c profile facts more h =
+    let k = subst (IsKept facts) (sym c.self.view_is) h.kept in (
+      other_id profile facts c.args.self.now (statement_of c.args.told.now) more h (of_group c.in-Some.group) c.in_ok-at.at.number c.in_ok-at.at.id.now
+          (ap (option_map of_group) c.in-Some.is) (ap id_at c.in_ok-at.was)
+          (λ same. true≢false (sym (c.is_id.ensures.1 (subst (λ (o : Option Id). IfSome o (λ y. c.in_ok-at.at.id.now ≡ y)) (sym (c.id.ensures (told facts) k.groups)) same)) ∙ c.if-is_id.false)),
+      refl,
+    )

@@ -1,0 +1,21 @@
+use Rattle.std.proofs.Common.{◌≡◌, ◌++◌, ◌∷◌, [], List}
+use Rattle.std.specs.List.{AllByRecursion}
+use Rattle.nntp_wire.specs.Listing.{active_groups}
+use Rattle.nntp_facts.specs.Asks.{Bounds}
+use Rattle.nntp_facts.specs.Facts.{Fact}
+use Rattle.nntp_facts.specs.Given.{asks_of}
+use Rattle.nntp_facts.specs.Kept.{IsKept}
+use Rattle.nntp_facts.specs.Conflict.{Point, rank, ConflictAt}
+use Rattle.nntp_facts.specs.Points.{IsAbout, NoneBefore}
+use Rattle.nntp_facts.specs.StatementView.{rank_of_numbers}
+use Rattle.nntp_facts.proofs.kept.Kept.point_of_listed.Given as goal
+
+-- what is left are bounds of the groups that are listed, and of those before it none is a point
+abbrev pub invariant-loop-line : goal.invariant-loop-line
+invariant-loop-line g l =
+    (goal.iterator-loop-line g).can_next l.line-iterator × (goal.iterator-loop-line g).is_finite l.line-iterator
+    × ((facts all : List Fact) → AllByRecursion (λ line. asks_of line.name all ≡ asks_of line.name facts ++ Bounds line.low line.high ∷ []) (active_groups l.block)
+    → AllByRecursion (λ line. asks_of line.name all ≡ asks_of line.name facts ++ Bounds line.low line.high ∷ []) l.line-iterator)
+    × ((facts all : List Fact) → IsKept facts l.self → AllByRecursion (λ line. asks_of line.name all ≡ asks_of line.name facts ++ Bounds line.low line.high ∷ []) (active_groups l.block)
+    → NoneBefore all (rank_of_numbers l.kind) → AllByRecursion (λ line. (other : Point) → rank other ≡ rank_of_numbers l.kind → IsAbout line.name other → ¬ (ConflictAt all other)) l.line-iterator
+    → AllByRecursion (λ line. (other : Point) → rank other ≡ rank_of_numbers l.kind → IsAbout line.name other → ¬ (ConflictAt all other)) (active_groups l.block))

@@ -1,0 +1,29 @@
+use Rattle.std.proofs.Common.{◌≡◌, inl, inr, sym, subst, ◌∙◌}
+use Rattle.std.specs.Prelude.{MatchOption, SomeIff, IsTrue, IsFalse}
+use Rattle.std.proofs.lemmas.Bool.{cases_Bool}
+use Rattle.nntp_wire.specs.Name.{IsGroupName}
+use Rattle.nntp_facts.specs.Given.{is_shown_group}
+use Rattle.nntp_facts.specs.Kept.{IsKept, told}
+use Rattle.nntp_facts.proofs.Keeping.ShownNames.{shown_named}
+use Rattle.nntp_facts.proofs.kept.Kept.shown_named.Goals as goal
+
+pub returns-in_err-group : goal.returns-in_err-group
+returns-in_err-group g c facts kept together =
+    let name = c.args.name.now in
+    subst (λ o. MatchOption o (IsFalse (is_shown_group facts name)) (λ group. (name ≡ group) × IsTrue (is_shown_group facts group))) (sym c.from_residual.ensures)
+    (elim (cases_Bool (is_shown_group facts name)) [
+      | inl shown ↦ absurd (subst (λ o. SomeIff o (IsGroupName name) name) c.in_err-group.was c.parse.ensures (shown_named facts name together.well_formed shown))
+      | inr hidden ↦ hidden
+    ])
+
+pub returns-then-is_shown : goal.returns-then-is_shown
+returns-then-is_shown g c facts kept together =
+    let name = c.args.name.now in
+    let k = subst (IsKept facts) (sym c.self.view_is) kept in
+    let same = sym (subst (λ o. SomeIff o (IsGroupName name) name) c.in_ok-group.was c.parse.ensures).1 in
+    (same, subst (λ n. IsTrue (is_shown_group facts n)) same (sym (c.is_shown.ensures (told facts) k.groups) ∙ c.if-is_shown.true))
+
+pub returns-else-is_shown : goal.returns-else-is_shown
+returns-else-is_shown g c facts kept together =
+    let k = subst (IsKept facts) (sym c.self.view_is) kept in
+    sym (c.is_shown.ensures (told facts) k.groups) ∙ c.if-is_shown.false

@@ -1,0 +1,112 @@
+//! Articles that are kept otherwise.
+ghost use Rattle.std.specs.Prelude.{◌≡◌, ◌++◌, if◌then◌else◌, false, List, None, Some, MatchOption, option_map};
+ghost use Rattle.std.specs.Option.{option_map_or};
+ghost use Rattle.std.specs.FinMap.{get};
+ghost use Rattle.nntp_facts.specs.Articles.{AreSame, is_there};
+ghost use Rattle.nntp_facts.specs.Conflict.{Article, HeadOf, BodyOf};
+ghost use Rattle.nntp_facts.specs.Given.{first_given, head_in, body_in};
+ghost use Rattle.nntp_facts.specs.Kept.{IsKept};
+ghost use Rattle.nntp_article.specs.declared.session.profile.Profile.{Profile};
+ghost use Rattle.nntp_facts.specs.Facts.{Fact};
+ghost use Rattle.nntp_facts.specs.Points.{IsBeside, IsPointOf};
+ghost use Rattle.nntp_facts.specs.PointView.{point_of};
+ghost use Rattle.nntp_facts.specs.StatementView.{statement_of};
+
+use crate::articles::Sent;
+use crate::kept::Kept;
+use crate::point::Point;
+use crate::points::Statement;
+use crate::saying::ArticlePart;
+use std::alloc::Allocator;
+
+impl<A: Allocator> Kept<A> {
+    /// Returns the id of which the answer says that it has an article, and of which it is kept that it has none, or the
+    /// other way round.
+    pub(crate) fn denied_article<'s>(&self, told: &Statement<'s>) -> Option<Point<'s>>
+        ensures { (profile : Profile) (facts more : List Fact) → IsBeside profile facts self.now (statement_of told.now) more
+            → IsPointOf (facts ++ more) 7 (option_map point_of result) }
+    {
+        match &told.saying.article {
+            None => None,
+            Some(ArticlePart::Lacks(id)) => self.shown_article(*id),
+            Some(ArticlePart::Exists(id)) => self.lacked_article(*id),
+            Some(ArticlePart::Sends { id, .. }) => self.lacked_article(*id),
+        }
+    }
+
+    /// Returns the id, if it is kept that it has an article.
+    fn shown_article<'s>(&self, id: &'s [u8]) -> Option<Point<'s>>
+        ensures { option_map point_of result ≡ (if is_there (get self.now.articles id.now) then Some (Article id.now) else None) }
+    {
+        if self.articles.has_octets(id) {
+            Some(Point::Article(id))
+        } else {
+            None
+        }
+    }
+
+    /// Returns the id, if it is kept that it has no article.
+    fn lacked_article<'s>(&self, id: &'s str) -> Option<Point<'s>>
+        ensures { option_map point_of result ≡ (if option_map_or (λ a. a.is_denied) (get self.now.articles id.now) false then Some (Article id.now) else None) }
+    {
+        if self.articles.is_denied(id) {
+            Some(Point::Article(id.as_bytes()))
+        } else {
+            None
+        }
+    }
+
+    /// Returns the id, if another head of its article is kept than the one that is sent.
+    fn other_head_sent<'s>(&self, id: &'s str, sent: &Sent<'_>) -> Option<Point<'s>>
+        ensures { (facts : List Fact) → IsKept facts self.now → MatchOption (option_map point_of result) (AreSame sent.now.head (first_given (head_in id.now) facts))
+            (λ point. (point ≡ HeadOf id.now) × (AreSame sent.now.head (first_given (head_in id.now) facts) → ⊥)) }
+    {
+        if self.articles.may_have_head(id, sent) {
+            None
+        } else {
+            Some(Point::HeadOf(id.as_bytes()))
+        }
+    }
+
+    /// Returns the id of which the answer sends a head, if another one is kept.
+    pub(crate) fn other_head<'s>(&self, told: &Statement<'s>) -> Option<Point<'s>>
+        ensures { (profile : Profile) (facts more : List Fact) → IsBeside profile facts self.now (statement_of told.now) more
+            → IsPointOf (facts ++ more) 8 (option_map point_of result) }
+    {
+        match &told.saying.article {
+            None => None,
+            Some(ArticlePart::Lacks(_)) => None,
+            Some(ArticlePart::Exists(_)) => None,
+            Some(ArticlePart::Sends { id, what, block }) => {
+                self.other_head_sent(*id, &Sent::of(*what, *block))
+            }
+        }
+    }
+
+    /// Returns the id, if another body of its article is kept than the one that is sent.
+    fn other_body_sent<'s>(&self, id: &'s str, sent: &Sent<'_>) -> Option<Point<'s>>
+        ensures { (facts : List Fact) → IsKept facts self.now → MatchOption (option_map point_of result) (AreSame sent.now.body (first_given (body_in id.now) facts))
+            (λ point. (point ≡ BodyOf id.now) × (AreSame sent.now.body (first_given (body_in id.now) facts) → ⊥)) }
+    {
+        if self.articles.may_have_body(id, sent) {
+            None
+        } else {
+            Some(Point::BodyOf(id.as_bytes()))
+        }
+    }
+
+    /// Returns the id of which the answer sends a body, if another one is kept.
+    pub(crate) fn other_body<'s>(&self, told: &Statement<'s>) -> Option<Point<'s>>
+        ensures { (profile : Profile) (facts more : List Fact) → IsBeside profile facts self.now (statement_of told.now) more
+            → IsPointOf (facts ++ more) 9 (option_map point_of result) }
+    {
+        match &told.saying.article {
+            None => None,
+            Some(ArticlePart::Lacks(_)) => None,
+            Some(ArticlePart::Exists(_)) => None,
+            Some(ArticlePart::Sends { id, what, block }) => {
+                self.other_body_sent(*id, &Sent::of(*what, *block))
+            }
+        }
+    }
+}

@@ -1,0 +1,159 @@
+//! Groups that are shown and denied.
+ghost use Rattle.std.specs.Prelude.{◌≡◌, ◌++◌, ◌⊎◌, Some, None, List, IfOk, IfSome, option_map, MatchOption, IsTrue, IsFalse};
+ghost use Rattle.std.specs.List.{AllByRecursion, list_any};
+ghost use Rattle.nntp_facts.specs.Together.{Together, denies_group};
+ghost use Rattle.nntp_facts.specs.Kept.{IsKept};
+ghost use Rattle.nntp_facts.specs.ListedGroups.{is_listed};
+ghost use Rattle.nntp_facts.specs.Conflict.{Group};
+ghost use Rattle.nntp_wire.specs.Listing.{active_groups};
+ghost use Rattle.nntp_facts.specs.Given.{is_shown_group};
+ghost use Rattle.nntp_article.specs.declared.session.profile.Profile.{Profile};
+ghost use Rattle.nntp_facts.specs.Facts.{Fact};
+ghost use Rattle.nntp_facts.specs.Points.{IsBeside, IsPointOf, Statement as StatementValue};
+ghost use Rattle.nntp_facts.specs.PointView.{point_of};
+ghost use Rattle.nntp_facts.specs.StatementView.{statement_of};
+ghost use Rattle.nntp_facts.specs.SayingView.{active_said};
+
+use crate::kept::Kept;
+use crate::point::Point;
+use crate::points::Statement;
+use crate::saying::ActivePart;
+use nntp_wire::{Block, GroupName};
+use std::alloc::{AllocError, Allocator};
+
+impl<A: Allocator + Copy> Kept<A> {
+    /// Returns a group that the answer shows and that is denied, or the other way round.
+    pub(crate) fn denied_group<'s>(
+        &'s self,
+        told: &Statement<'s>,
+    ) -> Result<Option<Point<'s>>, AllocError>
+        ensures { IfOk result (λ point. (profile : Profile) (facts more : List Fact) → IsBeside profile facts self.now (statement_of told.now) more
+            → IsPointOf (facts ++ more) 1 (option_map point_of point)) }
+    {
+        match &told.saying.groups {
+            Some(list) => Ok(point(self.denied_or_unlisted(list)?)),
+            None => Ok(point(self.denied_by_name(told))),
+        }
+    }
+}
+
+impl<A: Allocator> Kept<A> {
+    /// Returns the group of which the answer speaks, if it is denied; or else the one that it denies, if it is shown.
+    fn denied_by_name<'s>(&self, told: &Statement<'s>) -> Option<GroupName<'s>>
+        ensures { (profile : Profile) (facts more : List Fact) → IsBeside profile facts self.now (statement_of told.now) more → (statement_of told.now).saying.groups ≡ None
+            → IsPointOf (facts ++ more) 1 (option_map Group result) }
+    {
+        match self.denied_of(told.group) {
+            Some(name) => Some(name),
+            None => self.shown_of(told.group, told.saying.there_is_no),
+        }
+    }
+
+    /// Returns the group of which the answer speaks, if it is denied.
+    fn denied_of<'s>(&self, group: Option<&GroupName<'s>>) -> Option<GroupName<'s>>
+        ensures { (facts : List Fact) → IsKept facts self.now → Together facts
+            → MatchOption result (IfSome (option_map (λ name. name.now) group.entry) (λ name. IsFalse (list_any (denies_group name) facts)))
+            (λ name. (option_map (λ name. name.now) group.entry ≡ Some name) × IsTrue (list_any (denies_group name) facts)) }
+    {
+        match group {
+            Some(name) => {
+                if self.may_be(name) {
+                    None
+                } else {
+                    Some(name.copy())
+                }
+            }
+            None => None,
+        }
+    }
+
+    /// Returns the group that the answer denies, if it is shown, or the answer speaks of it.
+    fn shown_of<'s>(
+        &self,
+        group: Option<&GroupName<'s>>,
+        missing: Option<&'s [u8]>,
+    ) -> Option<GroupName<'s>>
+        ensures { (facts : List Fact) → IsKept facts self.now → Together facts
+            → MatchOption result (IfSome (option_map (λ name. name.now) missing.entry) (λ name. IsFalse (is_shown_group facts name) × (option_map (λ name. name.now) group.entry ≡ Some name → ⊥)))
+            (λ name. (option_map (λ name. name.now) missing.entry ≡ Some name) × (IsTrue (is_shown_group facts name) ⊎ (option_map (λ name. name.now) group.entry ≡ Some name))) }
+    {
+        match missing {
+            Some(missing) => match named(group, missing) {
+                Some(name) => Some(name),
+                None => self.shown_named(missing),
+            },
+            None => None,
+        }
+    }
+
+    /// Returns the group of this name, if it is shown.
+    fn shown_named<'s>(&self, name: &'s [u8]) -> Option<GroupName<'s>>
+        ensures { (facts : List Fact) → IsKept facts self.now → Together facts
+            → MatchOption result (IsFalse (is_shown_group facts name.now)) (λ group. (name.now ≡ group) × IsTrue (is_shown_group facts group)) }
+    {
+        let group = GroupName::parse(name)?;
+        if self.groups.is_shown(name) {
+            Some(group)
+        } else {
+            None
+        }
+    }
+}
+
+impl<A: Allocator + Copy> Kept<A> {
+    /// Returns the first group that is listed and denied, or else the first that is shown, and should be listed and isn't.
+    fn denied_or_unlisted<'s>(
+        &'s self,
+        list: &ActivePart<'s>,
+    ) -> Result<Option<GroupName<'s>>, AllocError>
+        ensures { IfOk result (λ name. (profile : Profile) (facts more : List Fact) (t : StatementValue) → IsBeside profile facts self.now t more
+            → t.saying.groups ≡ Some (active_said list.now) → IsPointOf (facts ++ more) 1 (option_map Group name)) }
+    {
+        match self.first_denied(list.block) {
+            Some(name) => Ok(Some(name)),
+            None => self.groups.unlisted(list.wildmat, list.block),
+        }
+    }
+}
+
+impl<A: Allocator> Kept<A> {
+    /// Returns the first group that is listed and denied.
+    fn first_denied<'s>(&self, block: &Block<'s>) -> Option<GroupName<'s>>
+        ensures { (facts : List Fact) → IsKept facts self.now → Together facts
+            → MatchOption result (AllByRecursion (λ line. IsFalse (list_any (denies_group line.name) facts)) (active_groups block.now))
+            (λ name. IsTrue (is_listed (active_groups block.now) name) × IsTrue (list_any (denies_group name) facts)) }
+    {
+        for line in block.groups() {
+            if !self.may_be(&line.name) {
+                return Some(line.name);
+            }
+        }
+        None
+    }
+}
+
+/// Returns the group, if this is its name.
+fn named<'s>(group: Option<&GroupName<'s>>, name: &[u8]) -> Option<GroupName<'s>>
+    ensures { MatchOption result (option_map (λ name. name.now) group.entry ≡ Some name.now → ⊥) (λ found. (name.now ≡ found) × (option_map (λ name. name.now) group.entry ≡ Some found)) }
+{
+    match group {
+        Some(group) => {
+            if group.as_slice() == name {
+                Some(group.copy())
+            } else {
+                None
+            }
+        }
+        None => None,
+    }
+}
+
+/// Returns the point of a group.
+fn point(group: Option<GroupName<'_>>) -> Option<Point<'_>>
+    ensures { option_map point_of result ≡ option_map Group group.entry }
+{
+    match group {
+        Some(name) => Some(Point::Group(name)),
+        None => None,
+    }
+}

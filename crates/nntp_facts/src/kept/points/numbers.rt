@@ -1,0 +1,177 @@
+//! Numbers of a group that are known and denied, too many, or not as is demanded.
+ghost use Rattle.std.specs.Prelude.{◌≡◌, ◌++◌, ◌∷◌, [], None, List, IfOk, MatchOption, option_map};
+ghost use Rattle.std.specs.List.{AllByRecursion};
+ghost use Rattle.nntp_wire.specs.Listing.{active_groups};
+ghost use Rattle.nntp_wire.specs.declared.marks.Marks.TheVariants.{Lenient};
+ghost use Rattle.nntp_facts.specs.Asks.{Ask, Estimates, Bounds};
+ghost use Rattle.nntp_facts.specs.Kept.{Kept as KeptValue, IsKept};
+ghost use Rattle.nntp_facts.specs.Conflict.{widest, Point as PointValue, rank, ConflictAt};
+ghost use Rattle.nntp_facts.specs.Part.{Says};
+ghost use Rattle.nntp_facts.specs.PartView.{said};
+ghost use Rattle.nntp_wire.specs.Limit.{greatest};
+ghost use Rattle.nntp_article.specs.declared.session.profile.Profile.{Profile};
+ghost use Rattle.nntp_facts.specs.Facts.{Fact};
+ghost use Rattle.nntp_facts.specs.Given.{asks_of};
+ghost use Rattle.nntp_facts.specs.Summary.{IsSummary, AreBounded};
+ghost use Rattle.nntp_facts.specs.Points.{Statement as StatementValue, IsAbout, IsBeside, IsPointOf, IsPointIn, NoneBefore};
+ghost use Rattle.nntp_facts.specs.PointView.{point_of};
+ghost use Rattle.nntp_facts.specs.SayingView.{active_said};
+ghost use Rattle.nntp_facts.specs.StatementView.{statement_of, rank_of_numbers};
+
+use crate::kept::Kept;
+use crate::numbers::Numbers;
+use crate::numbers_part::NumbersPart;
+use crate::point::Point;
+use crate::points::{NumbersKind, Statement};
+use crate::saying::{ActivePart, GroupPart};
+use nntp_wire::{ActiveLine, Block, Limit};
+use std::alloc::{AllocError, Allocator};
+
+/// Returns the group of whose numbers the answer says what can't be.
+pub(crate) fn impossible<'s>(told: &Statement<'s>) -> Option<Point<'s>>
+    ensures { (profile : Profile) (facts more : List Fact) (k : KeptValue) → IsBeside profile facts k (statement_of told.now) more → IsPointOf (facts ++ more) 0 (option_map point_of result) }
+{
+    let Some(group) = &told.saying.group else {
+        return None;
+    };
+    if group.numbers.is_possible {
+        return None;
+    }
+    Some(Point::Step(group.name))
+}
+
+impl<A: Allocator + Copy> Kept<A> {
+    /// Returns a point of the kind that is about the numbers of a group of which the answer speaks.
+    pub(crate) fn point_of_numbers<'s>(
+        &self,
+        limit: Limit,
+        kind: NumbersKind,
+        told: &Statement<'s>,
+    ) -> Result<Option<Point<'s>>, AllocError>
+        ensures { IfOk result (λ point. (profile : Profile) (facts more : List Fact) → profile.limit ≡ greatest limit → IsBeside profile facts self.now (statement_of told.now) more
+            → NoneBefore (facts ++ more) (rank_of_numbers kind) → IsPointOf (facts ++ more) (rank_of_numbers kind) (option_map point_of point)) }
+    {
+        match &told.saying.group {
+            Some(group) => self.point_of_group(limit, kind, group),
+            None => self.point_of_active(kind, &told.saying.groups),
+        }
+    }
+
+    /// Returns a point of the kind that is about the numbers of one of the groups that are listed, if any are.
+    fn point_of_active<'s>(
+        &self,
+        kind: NumbersKind,
+        groups: &Option<ActivePart<'s>>,
+    ) -> Result<Option<Point<'s>>, AllocError>
+        ensures { IfOk result (λ point. (profile : Profile) (facts more : List Fact) (t : StatementValue) → IsBeside profile facts self.now t more
+            → t.saying.group ≡ None → t.saying.groups ≡ option_map active_said groups.now
+            → NoneBefore (facts ++ more) (rank_of_numbers kind) → IsPointOf (facts ++ more) (rank_of_numbers kind) (option_map point_of point)) }
+    {
+        match groups {
+            Some(list) => self.point_of_listed(kind, list.block),
+            None => Ok(None),
+        }
+    }
+
+    /// Returns a point of the kind that is about the numbers of the group of which this is said.
+    fn point_of_group<'s>(
+        &self,
+        limit: Limit,
+        kind: NumbersKind,
+        group: &GroupPart<'s>,
+    ) -> Result<Option<Point<'s>>, AllocError>
+        ensures { IfOk result (λ point. (profile : Profile) (facts all : List Fact) (asks : List Ask) → profile.limit ≡ greatest limit → IsKept facts self.now → Says (said group.now.numbers) asks
+            → asks_of group.now.name.now all ≡ asks_of group.now.name.now facts ++ Estimates Lenient (widest profile) ∷ asks
+            → NoneBefore all (rank_of_numbers kind) → IsPointIn all group.now.name.now (rank_of_numbers kind) (option_map point_of point)) }
+    {
+        let mut numbers = self.groups.numbers(group.name)?;
+        numbers.add(&NumbersPart::of_widest(limit))?;
+        numbers.add(&group.numbers)?;
+        Ok(point_in(kind, group.name, &numbers))
+    }
+
+    /// Returns a point of the kind that is about the numbers of a group that is listed.
+    fn point_of_listed<'s>(
+        &self,
+        kind: NumbersKind,
+        block: &Block<'s>,
+    ) -> Result<Option<Point<'s>>, AllocError>
+        ensures { IfOk result (λ point. (facts all : List Fact) → IsKept facts self.now
+            → AllByRecursion (λ line. asks_of line.name all ≡ asks_of line.name facts ++ Bounds line.low line.high ∷ []) (active_groups block.now)
+            → NoneBefore all (rank_of_numbers kind) → MatchOption (option_map point_of point)
+            (AllByRecursion (λ line. (other : PointValue) → rank other ≡ rank_of_numbers kind → IsAbout line.name other → ¬ (ConflictAt all other)) (active_groups block.now))
+            (λ point. ConflictAt all point × (rank point ≡ rank_of_numbers kind))) }
+    {
+        for line in block.groups() {
+            if let Some(point) = self.point_of_line(kind, line)? {
+                return Ok(Some(point));
+            }
+        }
+        Ok(None)
+    }
+
+    /// Returns a point of the kind that is about the numbers of the group that the line lists.
+    fn point_of_line<'s>(
+        &self,
+        kind: NumbersKind,
+        line: ActiveLine<'s>,
+    ) -> Result<Option<Point<'s>>, AllocError>
+        ensures { IfOk result (λ point. (facts all : List Fact) → IsKept facts self.now
+            → asks_of line.entry.name all ≡ asks_of line.entry.name facts ++ Bounds line.entry.low line.entry.high ∷ []
+            → NoneBefore all (rank_of_numbers kind) → IsPointIn all line.entry.name (rank_of_numbers kind) (option_map point_of point)) }
+    {
+        let mut numbers = self.groups.numbers(line.name.as_slice())?;
+        numbers.add(&GroupPart::of_bounds(&line).numbers)?;
+        Ok(point_in(kind, line.name.as_slice(), &numbers))
+    }
+}
+
+/// Returns a point of the kind that is about the numbers of the group, of which this is said.
+fn point_in<'s, A: Allocator>(
+    kind: NumbersKind,
+    name: &'s [u8],
+    numbers: &Numbers<A>,
+) -> Option<Point<'s>>
+    ensures { (all : List Fact) → IsSummary numbers.now (asks_of name.now all) → AreBounded (asks_of name.now all) → NoneBefore all (rank_of_numbers kind)
+        → IsPointIn all name.now (rank_of_numbers kind) (option_map point_of result) }
+{
+    match kind {
+        NumbersKind::Number => denied(name, numbers),
+        NumbersKind::Count => too_many(name, numbers),
+        NumbersKind::First => unmet(name, numbers),
+    }
+}
+
+/// Returns a known number of the group that is denied.
+fn denied<'s, A: Allocator>(name: &'s [u8], numbers: &Numbers<A>) -> Option<Point<'s>>
+    ensures { (all : List Fact) → IsSummary numbers.now (asks_of name.now all) → AreBounded (asks_of name.now all) → IsPointIn all name.now 2 (option_map point_of result) }
+{
+    match numbers.denied_known() {
+        Some(number) => Some(Point::Number { name, number }),
+        None => None,
+    }
+}
+
+/// Returns the group, if more numbers are given than is estimated.
+fn too_many<'s, A: Allocator>(name: &'s [u8], numbers: &Numbers<A>) -> Option<Point<'s>>
+    ensures { (all : List Fact) → IsSummary numbers.now (asks_of name.now all) → AreBounded (asks_of name.now all) → NoneBefore all 3
+        → IsPointIn all name.now 3 (option_map point_of result) }
+{
+    if numbers.are_too_many() {
+        Some(Point::Count(name))
+    } else {
+        None
+    }
+}
+
+/// Returns the group, if the given numbers don't meet the demand.
+fn unmet<'s, A: Allocator>(name: &'s [u8], numbers: &Numbers<A>) -> Option<Point<'s>>
+    ensures { (all : List Fact) → IsSummary numbers.now (asks_of name.now all) → AreBounded (asks_of name.now all) → NoneBefore all 4
+        → IsPointIn all name.now 4 (option_map point_of result) }
+{
+    if numbers.meet_demand() {
+        None
+    } else {
+        Some(Point::First(name))
+    }
+}

@@ -1,0 +1,96 @@
+//! Whether answers, their lines and the places where they stand are the same.
+ghost use Rattle.std.specs.Prelude.{◌≡◌, ◌↔◌, IsTrue};
+ghost use Rattle.std.specs.Option.{option_copied};
+ghost use Rattle.nntp_wire.specs.AnswerView.{response};
+
+use crate::position::Position;
+use nntp_wire::{Answer, Block, GroupName};
+
+/// Tells whether both are the same position.
+pub(crate) fn is_same_position(some: Position, other: Position) -> bool
+    ensures { IsTrue result ↔ (some ≡ other) }
+{
+    some == other
+}
+
+/// Tells whether both are the same line, or none is there.
+pub(crate) fn is_same_line(some: Option<&[u8]>, other: Option<&[u8]>) -> bool
+    ensures { IsTrue result ↔ (option_copied some.entry ≡ option_copied other.entry) }
+{
+    match (some, other) {
+        (Some(some), Some(other)) => some == other,
+        (None, None) => true,
+        _ => false,
+    }
+}
+
+/// Tells whether both are the same name, or none is there.
+pub(crate) fn is_same_name(some: &Option<GroupName<'_>>, other: &Option<GroupName<'_>>) -> bool
+    ensures { IsTrue result ↔ (some.now ≡ other.now) }
+{
+    match (some, other) {
+        (Some(some), Some(other)) => some.as_slice() == other.as_slice(),
+        (None, None) => true,
+        _ => false,
+    }
+}
+
+/// Tells whether both are the same block, or none is there.
+fn is_same_block(some: &Option<Block<'_>>, other: &Option<Block<'_>>) -> bool
+    ensures { IsTrue result ↔ (some.now ≡ other.now) }
+{
+    match (some, other) {
+        (Some(some), Some(other)) => some.is_same(other),
+        (None, None) => true,
+        _ => false,
+    }
+}
+
+/// Tells whether both answers say the same, octet by octet.
+pub(crate) fn is_same_answer(some: &Answer<'_>, other: &Answer<'_>) -> bool
+    ensures { IsTrue result → response some.now ≡ response other.now }
+{
+    match (some, other) {
+        (Answer::Plain { code }, Answer::Plain { code: other }) => code == other,
+        (
+            Answer::Group { marks, name },
+            Answer::Group {
+                marks: other_marks,
+                name: other_name,
+            },
+        ) => marks == other_marks && name.as_slice() == other_name.as_slice(),
+        (
+            Answer::Numbers { marks, name, block },
+            Answer::Numbers {
+                marks: other_marks,
+                name: other_name,
+                block: other_block,
+            },
+        ) => {
+            marks == other_marks
+                && name.as_slice() == other_name.as_slice()
+                && block.is_same(other_block)
+        }
+        (
+            Answer::Sent {
+                code,
+                number,
+                id,
+                block,
+            },
+            Answer::Sent {
+                code: other_code,
+                number: other_number,
+                id: other_id,
+                block: other_block,
+            },
+        ) => {
+            code == other_code
+                && number == other_number
+                && id.as_slice() == other_id.as_slice()
+                && is_same_block(block, other_block)
+        }
+        (Answer::Active(block), Answer::Active(other)) => block.is_same(other),
+        _ => false,
+    }
+}
