@@ -20,6 +20,7 @@ pub mod Tallies
 pub mod GapsOfAPart
 pub mod FirstFreeOfAPart
 pub mod SaidInARange
+pub mod SaidOfAsks
 pub mod SaidOfArticles
 pub mod KeptArticles
 pub mod KeptIds

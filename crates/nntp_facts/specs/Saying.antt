@@ -4,12 +4,13 @@ use Rattle.nntp_article.specs.Article.Parts.{Id, Line}
 use Rattle.nntp_article.specs.Session.Spool.{Name}
 use Rattle.nntp_article.specs.Session.Machine.{Visible, head_fits}
 use Rattle.nntp_wire.specs.declared.command.What.{What}
-use Rattle.nntp_wire.specs.Answer.{Response, numbers_are}
+use Rattle.nntp_wire.specs.Answer.{Response, numbers_are, sends}
 use Rattle.nntp_wire.specs.Listing.{ActiveValue, listed_numbers}
 use Rattle.nntp_facts.specs.Asks.{Ask, Has}
 use Rattle.nntp_facts.specs.Facts.{Fact, ThereIs, ThereIsNo, Asks, IdAt, TextIs, NoArticle, GroupsAre, group_of}
 use Rattle.nntp_facts.specs.Given.{is_shown_group}
 use Rattle.nntp_facts.specs.Part.{Said, Says}
+use Rattle.nntp_facts.specs.PartOf.{IsSmall, nothing_said, part_with}
 use Rattle.nntp_facts.specs.Summary.{AreBounded}
 use Rattle.nntp_facts.specs.ListedGroups.{MayList}
 
@@ -79,6 +80,50 @@ groups_facts (Some l) = GroupsAre l.0 l.1 ∷ []
 abbrev pub facts_in : Saying → List Ask → List Fact
 facts_in s asks = sent_facts s.article ++ (there_facts s.there_is ++ (group_facts s.group asks ++ (missing_facts s.there_is_no ++ (lack_facts s.article ++ groups_facts s.groups))))
 
+-- ---- made of facts
+
+-- nothing
+abbrev pub nothing : Saying
+nothing = record { there_is = None; there_is_no = None; group = None; article = None; groups = None }
+
+-- what is said of the group, or nothing yet of this one
+abbrev pub begun : Option OfGroup → Name → OfGroup
+begun (Some g) name = g
+begun None name = record { name = name; numbers = nothing_said; id = None }
+
+-- an ask is said of the group too
+abbrev pub with_ask : List ℕ → Ask → OfGroup → OfGroup
+with_ask shown ask g = record g { numbers = part_with shown ask g.numbers }
+
+-- the id at a number is said too; where nothing is asked of the numbers, that the number is there
+abbrev pub with_id : List ℕ → Option OfGroup → Name → ℕ → Id → OfGroup
+with_id shown (Some g) name n id = record g { id = Some (n, id) }
+with_id shown None name n id = record { name = name; numbers = part_with shown (Has n) nothing_said; id = Some (n, id) }
+
+-- and that the id has an article, where nothing is sent of it
+abbrev pub placed : Option (Id × OfArticle) → Id → Id × OfArticle
+placed (Some a) id = a
+placed None id = (id, Exists)
+
+-- one more fact is said; the numbers that the answer shows are given
+abbrev pub saying_with : List ℕ → Fact → Saying → Saying
+saying_with shown (ThereIs name) s = record s { there_is = Some name }
+saying_with shown (ThereIsNo name) s = record s { there_is_no = Some name }
+saying_with shown (Asks name ask) s = record s { group = Some (with_ask shown ask (begun s.group name)) }
+saying_with shown (IdAt name n id) s = record s { group = Some (with_id shown s.group name n id); article = Some (placed s.article id) }
+saying_with shown (TextIs what id lines) s = record s { article = Some (id, Sends what lines) }
+saying_with shown (NoArticle id) s = record s { article = Some (id, Lacks) }
+saying_with shown (GroupsAre p lines) s = record s { groups = Some (p, lines) }
+
+-- all of these are said
+abbrev pub saying_by : List ℕ → Saying → List Fact → Saying
+saying_by shown s [] = s
+saying_by shown s (fact ∷ facts) = saying_by shown (saying_with shown fact s) facts
+
+-- the ends of what is said of the numbers of the group are below 2^64
+abbrev pub HasSmall : Saying → Type 0
+HasSmall s = IfSome s.group (λ g. IsSmall g.numbers)
+
 -- ---- what is known of it, where the answer fits
 
 -- the group was shown; or it is shown now, and no number from 2^64 on is left open
@@ -137,3 +182,8 @@ IsSelectedShown v facts = IfSome v.selected (λ name. is_shown_group facts name 
 abbrev pub numbers_listed : Response → List ℕ
 numbers_listed (numbers_are m name lines) = listed_numbers lines
 numbers_listed response = []
+
+-- the numbers that an answer shows: the one that it gives, or those that it lists
+abbrev pub numbers_shown : List ℕ → Response → List ℕ
+numbers_shown listed (sends sent) = sent.number ∷ []
+numbers_shown listed response = listed

@@ -1,19 +1,21 @@
 //! What an answer says of the numbers of one group (RFC 3977, section 6.1).
-ghost use Rattle.std.specs.Prelude.{◌≡◌, ◌<◌, ◌≤◌, [], ◌∷◌, ◌↔◌, IsTrue};
+ghost use Rattle.std.specs.Prelude.{◌≡◌, ◌<◌, [], ◌∷◌, ◌↔◌, IsTrue};
 ghost use Rattle.nntp_wire.specs.Limit.{greatest};
 ghost use Rattle.nntp_wire.specs.declared.marks.Marks.TheVariants.{Lenient};
 ghost use Rattle.nntp_article.specs.declared.session.profile.Profile.{Profile};
 ghost use Rattle.nntp_facts.specs.Conflict.{widest};
-ghost use Rattle.nntp_facts.specs.Asks.{Estimates, Bounds, ListsIn, Has, Lacks, StandsAt, StandsNowhere, StepsUp, StepsDown, IsTop, IsBottom};
-ghost use Rattle.nntp_facts.specs.Part.{AreListable, Says, only_has};
+ghost use Rattle.nntp_facts.specs.Asks.{Estimates, Bounds};
+ghost use Rattle.nntp_facts.specs.FactView.{ask_of};
+ghost use Rattle.nntp_facts.specs.Part.{Says, only_has};
+ghost use Rattle.nntp_facts.specs.PartOf.{IsSmall, impossible, listing, none_above, none_below, nothing_said, part_with, standing_at, standing_nowhere, stepping_down, stepping_up};
 ghost use Rattle.nntp_facts.specs.PartView.{said};
 ghost use Rattle.nntp_facts.specs.Summary.{AreBounded};
 
 use crate::demand::Demand;
 use crate::ends::Ends;
+use crate::fact::Ask;
 use crate::position::Position;
-use nntp_wire::{Limit, Marks, Range, WaterMarks};
-use std::slice;
+use nntp_wire::{Limit, Marks, WaterMarks};
 
 /// What one answer says at once of the numbers of a group.
 #[derive(Drop)]
@@ -41,7 +43,8 @@ pub(crate) struct NumbersPart<'s> {
 impl<'s> NumbersPart<'s> {
     /// Says nothing of the numbers.
     pub(crate) fn nothing() -> NumbersPart<'s>
-        ensures { Says (said result) [] }
+        ensures value { said result ≡ nothing_said }
+        ensures says { Says (said result) [] }
     {
         NumbersPart {
             is_possible: true,
@@ -83,13 +86,7 @@ impl<'s> NumbersPart<'s> {
         ensures says { Says (said result) (Estimates how marks ∷ []) }
         ensures bounded { AreBounded (Estimates how marks ∷ []) }
     {
-        NumbersPart {
-            low: marks.low,
-            high: marks.high,
-            estimate: Some(marks.estimate),
-            ends: Ends::of_marks(how, marks),
-            ..NumbersPart::nothing()
-        }
+        NumbersPart::nothing().with_marks(how, marks)
     }
 
     /// Says what holds of the numbers of each group: they are within the widest marks.
@@ -105,29 +102,6 @@ impl<'s> NumbersPart<'s> {
         NumbersPart::of_marks(Marks::Lenient, widest)
     }
 
-    /// Says what a 211 to LISTGROUP reports: as after GROUP, and that the numbers in the range are
-    /// these.
-    pub(crate) fn of_numbers(
-        how: Marks,
-        marks: WaterMarks,
-        range: Range,
-        numbers: &'s [u64],
-    ) -> NumbersPart<'s>
-        ensures says { AreListable range numbers.now → Says (said result) (Estimates how marks ∷ ListsIn range numbers.now ∷ []) }
-        ensures bounded { AreBounded (Estimates how marks ∷ []) }
-    {
-        NumbersPart {
-            low: marks.low,
-            high: marks.high,
-            first: range.first,
-            last: range.last.unwrap_or(u64::MAX),
-            numbers,
-            estimate: Some(marks.estimate),
-            ends: Ends::of_marks(how, marks),
-            ..NumbersPart::nothing()
-        }
-    }
-
     /// Says that all numbers are between the marks.
     pub(crate) fn of_bounds(low: u64, high: u64) -> NumbersPart<'s>
         ensures { Says (said result) (Bounds low high ∷ []) }
@@ -139,147 +113,154 @@ impl<'s> NumbersPart<'s> {
         }
     }
 
-    /// Says that the number is there.
-    pub(crate) fn has(number: &'s u64) -> NumbersPart<'s>
-        ensures { 1 ≤ number.now → Says (said result) (Has number.now ∷ []) }
+    /// Says this too; `shown` are the numbers that its answer shows.
+    pub(crate) fn with(self, ask: Ask<'_>, shown: &'s [u64]) -> NumbersPart<'s>
+        ensures says { said result ≡ part_with shown.now (ask_of ask.entry) (said self.entry) }
+        ensures small { IsSmall (said result) }
     {
-        NumbersPart {
-            first: *number,
-            last: *number,
-            numbers: slice::from_ref(number),
-            ..NumbersPart::nothing()
+        match ask {
+            Ask::Estimates { how, marks } => self.with_marks(how, marks),
+            Ask::Bounds { low, high } => NumbersPart { low, high, ..self },
+            Ask::Lists { range, .. } => {
+                self.listing(range.first, range.last.unwrap_or(u64::MAX), shown)
+            }
+            Ask::Lacks(number) => self.listing(number, number, &[]),
+            Ask::StandsAt(at, number) => {
+                self.listing(number, number, shown).stands_at(at, number)
+            }
+            Ask::StandsNowhere(at) => self.stands_nowhere(at),
+            Ask::StepsUp(at, number) => self.listing(number, number, shown).steps_up(at, number),
+            Ask::StepsDown(at, number) => {
+                self.listing(number, number, shown).steps_down(at, number)
+            }
+            Ask::IsTop(at) => self.is_top(at),
+            Ask::IsBottom(at) => self.is_bottom(at),
         }
     }
 
-    /// Says that the number isn't there.
-    pub(crate) fn lacks(number: u64) -> NumbersPart<'s>
-        ensures { Says (said result) (Lacks number ∷ []) }
+    /// Says too that there are at most so many numbers, between the marks, which are read so.
+    fn with_marks(self, how: Marks, marks: WaterMarks) -> NumbersPart<'s>
+        ensures { said result ≡ part_with [] (Estimates how marks) (said self.entry) }
     {
         NumbersPart {
-            first: number,
-            last: number,
-            ..NumbersPart::nothing()
+            low: marks.low,
+            high: marks.high,
+            estimate: Some(marks.estimate),
+            ends: Ends::of_marks(how, marks),
+            ..self
         }
     }
 
-    /// Says that the number at the position is this, and that it is there.
-    pub(crate) fn stands_at(at: Position, number: &'s u64) -> NumbersPart<'s>
-        ensures { 1 ≤ number.now → Says (said result) (StandsAt at number.now ∷ Has number.now ∷ []) }
+    /// Says too that from the first number to the last one these are there, and no others.
+    pub(crate) fn listing(self, first: u64, last: u64, numbers: &'s [u64]) -> NumbersPart<'s>
+        ensures { said result ≡ listing first last numbers.now (said self.entry) }
     {
-        let part = NumbersPart::has(number);
+        NumbersPart {
+            first,
+            last,
+            numbers,
+            ..self
+        }
+    }
+
+    /// Says too that this can't be.
+    fn impossible(self) -> NumbersPart<'s>
+        ensures { said result ≡ impossible (said self.entry) }
+    {
+        NumbersPart {
+            is_possible: false,
+            ..self
+        }
+    }
+
+    /// Says too that the number at the position is this.
+    fn stands_at(self, at: Position, number: u64) -> NumbersPart<'s>
+        ensures { said result ≡ standing_at at number (said self.entry) }
+    {
         match at {
-            Position::Nowhere => NumbersPart {
-                is_possible: false,
-                ..part
-            },
+            Position::Nowhere => self.impossible(),
             Position::First => NumbersPart {
-                low: *number,
-                ..part
+                low: number,
+                ..self
             },
             Position::Known(current) => NumbersPart {
-                is_possible: current == *number,
-                ..part
+                is_possible: current == number,
+                ..self
             },
         }
     }
 
-    /// Says that there is no number at the position.
-    pub(crate) fn stands_nowhere(at: Position) -> NumbersPart<'s>
-        ensures { Says (said result) (StandsNowhere at ∷ []) }
+    /// Says too that there is no number at the position.
+    fn stands_nowhere(self, at: Position) -> NumbersPart<'s>
+        ensures { said result ≡ standing_nowhere at (said self.entry) }
     {
-        let part = NumbersPart::nothing();
         match at {
-            Position::Nowhere => part,
-            Position::First => NumbersPart {
-                first: 0,
-                last: u64::MAX,
-                ..part
-            },
-            Position::Known(_) => NumbersPart {
-                is_possible: false,
-                ..part
-            },
+            Position::Nowhere => self,
+            Position::First => self.listing(0, u64::MAX, &[]),
+            Position::Known(_) => self.impossible(),
         }
     }
 
-    /// Says that the next number above the position is this, and that it is there.
-    pub(crate) fn steps_up(at: Position, number: &'s u64) -> NumbersPart<'s>
-        ensures { 1 ≤ number.now → Says (said result) (StepsUp at number.now ∷ Has number.now ∷ []) }
+    /// Says too that the next number above the position is this.
+    fn steps_up(self, at: Position, number: u64) -> NumbersPart<'s>
+        ensures { said result ≡ stepping_up at number (said self.entry) }
     {
-        let part = NumbersPart::has(number);
         match at {
             Position::First => NumbersPart {
-                demand: Demand::SecondIs(*number),
-                ..part
+                demand: Demand::SecondIs(number),
+                ..self
             },
-            Position::Known(current) if current < *number => NumbersPart {
+            Position::Known(current) if current < number => NumbersPart {
                 first: current + 1,
-                last: *number,
-                ..part
+                ..self
             },
-            _ => NumbersPart {
-                is_possible: false,
-                ..part
-            },
+            _ => self.impossible(),
         }
     }
 
-    /// Says that the next number below the position is this, and that it is there.
-    pub(crate) fn steps_down(at: Position, number: &'s u64) -> NumbersPart<'s>
-        ensures { 1 ≤ number.now → Says (said result) (StepsDown at number.now ∷ Has number.now ∷ []) }
+    /// Says too that the next number below the position is this.
+    fn steps_down(self, at: Position, number: u64) -> NumbersPart<'s>
+        ensures { said result ≡ stepping_down at number (said self.entry) }
     {
-        let part = NumbersPart::has(number);
         match at {
-            Position::Known(current) if *number < current => NumbersPart {
-                first: *number,
+            Position::Known(current) if number < current => NumbersPart {
                 last: current - 1,
-                ..part
+                ..self
             },
-            _ => NumbersPart {
-                is_possible: false,
-                ..part
-            },
+            _ => self.impossible(),
         }
     }
 
-    /// Says that no number is above the position.
-    pub(crate) fn is_top(at: Position) -> NumbersPart<'s>
-        ensures { Says (said result) (IsTop at ∷ []) }
+    /// Says too that no number is above the position.
+    fn is_top(self, at: Position) -> NumbersPart<'s>
+        ensures { said result ≡ none_above at (said self.entry) }
     {
-        let part = NumbersPart::nothing();
         match at {
-            Position::Nowhere => NumbersPart {
-                is_possible: false,
-                ..part
-            },
+            Position::Nowhere => self.impossible(),
             Position::First => NumbersPart {
                 demand: Demand::OnlyOne,
-                ..part
+                ..self
             },
             Position::Known(current) => NumbersPart {
                 high: current,
-                ..part
+                ..self
             },
         }
     }
 
-    /// Says that no number is below the position.
-    pub(crate) fn is_bottom(at: Position) -> NumbersPart<'s>
-        ensures { Says (said result) (IsBottom at ∷ []) }
+    /// Says too that no number is below the position.
+    fn is_bottom(self, at: Position) -> NumbersPart<'s>
+        ensures { said result ≡ none_below at (said self.entry) }
     {
-        let part = NumbersPart::nothing();
         match at {
-            Position::Nowhere => NumbersPart {
-                is_possible: false,
-                ..part
-            },
+            Position::Nowhere => self.impossible(),
             Position::First => NumbersPart {
                 demand: Demand::NotEmpty,
-                ..part
+                ..self
             },
             Position::Known(current) => NumbersPart {
                 low: current,
-                ..part
+                ..self
             },
         }
     }

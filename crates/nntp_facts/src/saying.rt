@@ -1,29 +1,28 @@
 //! What an answer says of the spool (RFC 3977, sections 6 and 7.6.3).
-ghost use Rattle.std.specs.Prelude.{◌≡◌, ℕ, IsTrue, List, [], ◌∷◌, None, Some, option_map, IfOk};
-ghost use Rattle.nntp_wire.specs.declared.marks.Marks.{Marks};
+ghost use Rattle.std.specs.Prelude.{◌≡◌, List, [], ◌∷◌, None, Some, option_map, IfOk, IsTrue};
 ghost use Rattle.nntp_wire.specs.Name.{IsGroupName};
-ghost use Rattle.nntp_wire.specs.View.{asked, request, target};
+ghost use Rattle.nntp_wire.specs.View.{asked};
 ghost use Rattle.nntp_wire.specs.AnswerView.{response};
-ghost use Rattle.nntp_wire.specs.Answer.{to, plain, sends};
-ghost use Rattle.nntp_wire.specs.Command.{retrieve};
 ghost use Rattle.nntp_wire.specs.Listing.{listed_numbers};
 ghost use Rattle.nntp_article.specs.declared.session.profile.Profile.{Profile};
 ghost use Rattle.nntp_article.specs.Session.Machine.{Visible, fits};
-ghost use Rattle.nntp_facts.specs.Facts.{Fact, here, facts_of, facts_of_code, group_of};
-ghost use Rattle.nntp_facts.specs.Saying as said_of;
-ghost use Rattle.nntp_facts.specs.Saying.{IsSelectedShown, TellsHere, TellsThere, numbers_listed};
+ghost use Rattle.nntp_facts.specs.Facts.{Fact as FactValue, Asks, IdAt as IdIs, here, facts_of, group_of};
+ghost use Rattle.nntp_facts.specs.FactView.{ask_of, fact_of};
+ghost use Rattle.nntp_facts.specs.Saying.{HasSmall, IsSelectedShown, TellsHere, TellsThere, begun, nothing, numbers_listed, numbers_shown, saying_by, saying_with};
 ghost use Rattle.nntp_facts.specs.Asks.{Bounds};
 ghost use Rattle.nntp_facts.specs.Part.{Says};
 ghost use Rattle.nntp_facts.specs.PartView.{said};
 ghost use Rattle.nntp_facts.specs.SayingView.{id_at, of_group, saying_of};
 ghost use Rattle.nntp_facts.specs.Summary.{AreBounded};
 
+use crate::fact::{Ask, Fact};
+use crate::facts_of::facts_of;
 use crate::numbers_part::NumbersPart;
 use crate::position::Position;
-use nntp_wire::{
-    ActiveLine, Answer, Block, Command, GroupName, Marks, MessageId, Prompt, What, Which, Wildmat,
-};
+use crate::said_facts::SaidFacts;
+use nntp_wire::{ActiveLine, Answer, Block, GroupName, Marks, MessageId, Prompt, What, Wildmat};
 use std::alloc::{AllocError, Allocator};
+use std::slice;
 
 /// A number of a group, and the message-id that it has.
 #[derive(Clone, Copy)]
@@ -60,22 +59,14 @@ impl<'s> GroupPart<'s> {
         }
     }
 
-    /// Says this of the numbers of the group, and that the number has the id.
-    fn with_id(
-        name: &'s [u8],
-        numbers: NumbersPart<'s>,
-        number: u64,
-        id: &'s MessageId<'s>,
-    ) -> GroupPart<'s>
-        ensures { of_group result ≡ record { name = name.now; numbers = said numbers.entry; id = Some (number, id.now) } }
+    /// Says nothing of the group of this name.
+    fn nothing(name: &'s [u8]) -> GroupPart<'s>
+        ensures { of_group result ≡ begun None name.now }
     {
         GroupPart {
             name,
-            numbers,
-            id: Some(IdAt {
-                number,
-                id: id.as_str(),
-            }),
+            numbers: NumbersPart::nothing(),
+            id: None,
         }
     }
 }
@@ -142,140 +133,94 @@ impl<'s> Saying<'s> {
         answer: &'s Answer<'s>,
         numbers: &'s [u64],
     ) -> Saying<'s>
-        ensures { (profile : Profile) (v : Visible) (facts : List Fact) → IsTrue (fits profile v (asked prompt.now) (response answer.now)) → IsSelectedShown v facts
+        ensures { (profile : Profile) (v : Visible) (facts : List FactValue) → IsTrue (fits profile v (asked prompt.now) (response answer.now)) → IsSelectedShown v facts
             → selected.now ≡ here v → numbers.now ≡ numbers_listed (response answer.now)
             → TellsHere selected.now facts (saying_of result) (facts_of how v at (asked prompt.now) (response answer.now)) }
     {
-        match prompt {
-            Prompt::Greeting => NOTHING,
-            Prompt::To(command) => Saying::to(how, selected, at, command, answer, numbers),
+        let facts = facts_of(how, selected, at, prompt, answer);
+        Saying::by(facts, numbers_shown(answer, numbers))
+    }
+
+    /// Returns what these facts say; `shown` are the numbers that their answer shows.
+    fn by(facts: SaidFacts<'s>, shown: &'s [u64]) -> Saying<'s>
+        ensures says { saying_of result ≡ saying_by shown.now nothing facts.entry }
+        ensures small { HasSmall (saying_of result) }
+    {
+        let mut saying = NOTHING;
+        for fact in facts {
+            saying.add(fact, shown);
+        }
+        saying
+    }
+
+    /// Says a fact too; `shown` are the numbers that its answer shows.
+    fn add(&mut self, fact: Fact<'s>, shown: &'s [u64])
+        ensures says { saying_of self.new ≡ saying_with shown.now (fact_of fact.entry) (saying_of self.old) }
+        ensures small { HasSmall (saying_of self.old) → HasSmall (saying_of self.new) }
+    {
+        match fact {
+            Fact::ThereIs(name) => self.there_is = Some(name),
+            Fact::ThereIsNo(name) => self.there_is_no = Some(name),
+            Fact::Asks(name, ask) => self.add_ask(name, ask, shown),
+            Fact::IdAt(name, number, id) => self.add_id(name, number, id, shown),
+            Fact::TextIs { what, id, block } => {
+                self.article = Some(ArticlePart::Sends {
+                    id: id.as_str(),
+                    what,
+                    block,
+                });
+            }
+            Fact::NoArticle(id) => self.article = Some(ArticlePart::Lacks(id)),
+            Fact::GroupsAre { wildmat, block } => {
+                self.groups = Some(ActivePart { wildmat, block });
+            }
+        }
+    }
+
+    /// Says this too of the numbers of the group.
+    fn add_ask(&mut self, name: &'s [u8], ask: Ask<'s>, shown: &'s [u64])
+        ensures says { saying_of self.new ≡ saying_with shown.now (Asks name.now (ask_of ask.entry)) (saying_of self.old) }
+        ensures small { HasSmall (saying_of self.new) }
+    {
+        let group = match self.group.take() {
+            Some(group) => group,
+            None => GroupPart::nothing(name),
+        };
+        self.group = Some(GroupPart {
+            name: group.name,
+            numbers: group.numbers.with(ask, shown),
+            id: group.id,
+        });
+    }
+
+    /// Says too that the number of the group has the id, and that this has an article.
+    fn add_id(&mut self, name: &'s [u8], number: u64, id: &'s MessageId<'s>, shown: &'s [u64])
+        ensures says { saying_of self.new ≡ saying_with shown.now (IdIs name.now number id.now) (saying_of self.old) }
+        ensures small { HasSmall (saying_of self.old) → HasSmall (saying_of self.new) }
+    {
+        let (name, numbers) = match self.group.take() {
+            Some(group) => (group.name, group.numbers),
+            None => (name, NumbersPart::nothing().listing(number, number, shown)),
+        };
+        let id = id.as_str();
+        self.group = Some(GroupPart {
+            name,
+            numbers,
+            id: Some(IdAt { number, id }),
+        });
+        if self.article.is_none() {
+            self.article = Some(ArticlePart::Exists(id));
         }
     }
 
     /// Returns the group of which an answer speaks: the one that it says to be there, or the selected one.
     pub(crate) fn group_of(&self, selected: Option<&'s GroupName<'s>>) -> Option<&'s GroupName<'s>>
-        ensures { (facts : List Fact) → TellsThere (option_map (λ name. name.now) selected.entry) (saying_of self.now) facts → option_map (λ name. name.now) result ≡ group_of facts }
+        ensures { (facts : List FactValue) → TellsThere (option_map (λ name. name.now) selected.entry) (saying_of self.now) facts → option_map (λ name. name.now) result ≡ group_of facts }
     {
         match (self.there_is, &self.group) {
             (Some(name), _) => Some(name),
             (None, Some(_)) => selected,
             (None, None) => None,
-        }
-    }
-
-    /// Returns what an answer to a command says.
-    fn to(
-        how: Marks,
-        selected: &'s [u8],
-        at: Position,
-        command: &'s Command<'s>,
-        answer: &'s Answer<'s>,
-        numbers: &'s [u64],
-    ) -> Saying<'s>
-        ensures { (profile : Profile) (v : Visible) (facts : List Fact) → IsTrue (fits profile v (to (request command.now)) (response answer.now)) → IsSelectedShown v facts
-            → selected.now ≡ here v → numbers.now ≡ numbers_listed (response answer.now)
-            → TellsHere selected.now facts (saying_of result) (facts_of how v at (to (request command.now)) (response answer.now)) }
-    {
-        match (command, answer) {
-            (_, Answer::Plain { code }) => Saying::by_code(selected, at, command, *code),
-            (Command::Group(_), Answer::Group { marks, name }) => {
-                Saying::selects(name, NumbersPart::of_marks(how, *marks))
-            }
-            (Command::ListGroup { range, .. }, Answer::Numbers { marks, name, .. }) => {
-                Saying::selects(name, NumbersPart::of_numbers(how, *marks, *range, numbers))
-            }
-            (Command::Next, Answer::Sent { number, id, .. }) => {
-                Saying::steps(selected, NumbersPart::steps_up(at, number), *number, id)
-            }
-            (Command::Last, Answer::Sent { number, id, .. }) => {
-                Saying::steps(selected, NumbersPart::steps_down(at, number), *number, id)
-            }
-            (
-                Command::Retrieve { what, which },
-                Answer::Sent {
-                    code: _,
-                    number,
-                    id,
-                    block,
-                },
-            ) => Saying::by_success(selected, at, *what, which, number, id, block),
-            (Command::ListActive(wildmat), Answer::Active(block)) => Saying {
-                groups: Some(ActivePart { wildmat, block }),
-                ..NOTHING
-            },
-            _ => NOTHING,
-        }
-    }
-
-    /// Returns what a code alone says.
-    fn by_code(selected: &'s [u8], at: Position, command: &'s Command<'s>, code: u64) -> Saying<'s>
-        ensures { (profile : Profile) (v : Visible) (facts : List Fact) → IsTrue (fits profile v (to (request command.now)) (plain code)) → IsSelectedShown v facts
-            → selected.now ≡ here v → TellsHere selected.now facts (saying_of result) (facts_of_code v at (request command.now) code) }
-    {
-        match (command, code) {
-            (Command::Group(word), 411) => Saying::denies(*word),
-            (
-                Command::ListGroup {
-                    group: Some(word),
-                    ..
-                },
-                411,
-            ) => Saying::denies(*word),
-            (Command::Next | Command::Last, 420) => {
-                Saying::asks(selected, NumbersPart::stands_nowhere(at))
-            }
-            (Command::Next, 421) => Saying::asks(selected, NumbersPart::is_top(at)),
-            (Command::Last, 422) => Saying::asks(selected, NumbersPart::is_bottom(at)),
-            (Command::Retrieve { which, .. }, code) => Saying::by_failure(
-                selected, at, which, code,
-            ),
-            _ => NOTHING,
-        }
-    }
-
-    /// Returns what a failure of ARTICLE, HEAD, BODY or STAT says.
-    fn by_failure(selected: &'s [u8], at: Position, which: &'s Which<'s>, code: u64) -> Saying<'s>
-        ensures { (profile : Profile) (v : Visible) (facts : List Fact) (what : What) → IsTrue (fits profile v (to (retrieve what (target which.now))) (plain code)) → IsSelectedShown v facts
-            → selected.now ≡ here v → TellsHere selected.now facts (saying_of result) (facts_of_code v at (retrieve what (target which.now)) code) }
-    {
-        match (which, code) {
-            (Which::Id(word), 430) => Saying {
-                article: Some(ArticlePart::Lacks(*word)),
-                ..NOTHING
-            },
-            (Which::Number(Some(n)), 423) => Saying::asks(selected, NumbersPart::lacks(*n)),
-            (Which::Current, 420) => Saying::asks(selected, NumbersPart::stands_nowhere(at)),
-            _ => NOTHING,
-        }
-    }
-
-    /// Returns what a success of ARTICLE, HEAD, BODY or STAT says.
-    fn by_success(
-        selected: &'s [u8],
-        at: Position,
-        what: What,
-        which: &'s Which<'s>,
-        number: &'s u64,
-        id: &'s MessageId<'s>,
-        block: &'s Option<Block<'s>>,
-    ) -> Saying<'s>
-        ensures { (profile : Profile) (how : Marks) (v : Visible) (facts : List Fact) (code : ℕ)
-            → IsTrue (fits profile v (to (retrieve what (target which.now))) (sends (record { code = code; number = number.now; id = id.now; block = block.now }))) → IsSelectedShown v facts
-            → selected.now ≡ here v
-            → TellsHere selected.now facts (saying_of result)
-            (facts_of how v at (to (retrieve what (target which.now))) (sends (record { code = code; number = number.now; id = id.now; block = block.now }))) }
-    {
-        match which {
-            Which::Id(_) if *number == 0 => Saying::sends(None, what, id, block),
-            Which::Current => {
-                let numbers = NumbersPart::stands_at(at, number);
-                let group = GroupPart::with_id(selected, numbers, *number, id);
-                Saying::sends(Some(group), what, id, block)
-            }
-            _ => {
-                let group = GroupPart::with_id(selected, NumbersPart::has(number), *number, id);
-                Saying::sends(Some(group), what, id, block)
-            }
         }
     }
 
@@ -300,72 +245,15 @@ impl<'s> Saying<'s> {
             ..NOTHING
         }
     }
+}
 
-    /// Says that there is no such group.
-    fn denies(name: &'s [u8]) -> Saying<'s>
-        ensures { saying_of result ≡ record { there_is = None; there_is_no = Some name.now; group = None; article = None; groups = None } }
-    {
-        Saying {
-            there_is_no: Some(name),
-            ..NOTHING
-        }
-    }
-
-    /// Says this of the numbers of the group.
-    fn asks(name: &'s [u8], numbers: NumbersPart<'s>) -> Saying<'s>
-        ensures { saying_of result ≡ record { there_is = None; there_is_no = None; group = Some (record { name = name.now; numbers = said numbers.entry; id = None }); article = None; groups = None } }
-    {
-        Saying {
-            group: Some(GroupPart {
-                name,
-                numbers,
-                id: None,
-            }),
-            ..NOTHING
-        }
-    }
-
-    /// Says this of the numbers of the group, that the number has the id, and that the id has an
-    /// article.
-    fn steps(
-        name: &'s [u8],
-        numbers: NumbersPart<'s>,
-        number: u64,
-        id: &'s MessageId<'s>,
-    ) -> Saying<'s>
-        ensures { saying_of result ≡ record {
-          there_is = None;
-          there_is_no = None;
-          group = Some (record { name = name.now; numbers = said numbers.entry; id = Some (number, id.now) });
-          article = Some (id.now, said_of.Exists);
-          groups = None;
-        } }
-    {
-        Saying {
-            group: Some(GroupPart::with_id(name, numbers, number, id)),
-            article: Some(ArticlePart::Exists(id.as_str())),
-            ..NOTHING
-        }
-    }
-
-    /// Says that this is sent of an article, and this of a group, if anything is.
-    fn sends(
-        group: Option<GroupPart<'s>>,
-        what: What,
-        id: &'s MessageId<'s>,
-        block: &'s Option<Block<'s>>,
-    ) -> Saying<'s>
-        ensures { saying_of result ≡ record { there_is = None; there_is_no = None; group = option_map of_group group.entry; article = Some (id.now, said_of.Sends what block.now); groups = None } }
-    {
-        Saying {
-            group,
-            article: Some(ArticlePart::Sends {
-                id: id.as_str(),
-                what,
-                block,
-            }),
-            ..NOTHING
-        }
+/// Returns the numbers that an answer shows: the one that it gives, or those that it lists.
+fn numbers_shown<'s>(answer: &'s Answer<'s>, listed: &'s [u64]) -> &'s [u64]
+    ensures { result.now ≡ numbers_shown listed.now (response answer.now) }
+{
+    match answer {
+        Answer::Sent { number, .. } => slice::from_ref(number),
+        _ => listed,
     }
 }
 

@@ -11,7 +11,8 @@ use Rattle.nntp_wire.specs.declared.range.Range.{Range}
 use Rattle.nntp_intervals.specs.Intervals.{is_between}
 use Rattle.nntp_article.specs.Session.Machine.{is_in_range}
 use Rattle.nntp_facts.specs.Asks.{Estimates, ListsIn}
-use Rattle.nntp_facts.specs.Part.{Said, Says, is_one_of, ends_in, join_ends, AreListable, last_in}
+use Rattle.nntp_facts.specs.Part.{Says, is_one_of, ends_in, join_ends, AreListable, last_in}
+use Rattle.nntp_facts.specs.PartOf.{IsSmall, nothing_said, part_with}
 use Rattle.nntp_facts.specs.declared.ends.Ends.{Ends}
 use Rattle.nntp_facts.proofs.Keeping.GapsOfAPart.{listed_later}
 
@@ -34,41 +35,26 @@ all_in_range r (k ∷ ks) within =
     and_from (is_in_range r k) (list_all (is_in_range r) ks) (within k (or_left (k == k) (is_one_of ks k) (eq-eqb k k refl))) (all_in_range r ks (λ n t. within n (listed_later k ks n t)))
 
 -- the marks and the list say this
-pub says_listed : (p : Said) (how : Marks) (m : WaterMarks) (r : Range) (ns : List ℕ) (last : ℕ) (ends : Option Ends) → Says p []
-    → last ≡ last_in r → ends ≡ ends_in (Estimates how m) → last < 2 ^ 64 → m.high < 2 ^ 64 → ((i : ℕ) → get_or ns i 0 < 2 ^ 64)
-    → AreListable r ns
-    → Says (record {
-      possible = p.possible;
-      low = m.low;
-      high = m.high;
-      first = r.first;
-      last = last;
-      numbers = ns;
-      estimate = Some m.estimate;
-      ends = ends;
-      demand = p.demand;
-    }) (Estimates how m ∷ ListsIn r ns ∷ [])
-says_listed p how m r ns last ends says is_last is_ends fits_last fits_high fits may = record {
-  possibly = says.possibly ∙ sym (and_from (list_all (is_in_range r) ns) true (all_in_range r ns (λ n t. (may.within n t).1)) refl);
+pub says_range : (how : Marks) (m : WaterMarks) (r : Range) (ns : List ℕ) → ((i : ℕ) → get_or ns i 0 < 2 ^ 64) → IsSmall (part_with ns (ListsIn r ns) (part_with ns (Estimates how m) nothing_said)) → AreListable r ns
+    → Says (part_with ns (ListsIn r ns) (part_with ns (Estimates how m) nothing_said)) (Estimates how m ∷ ListsIn r ns ∷ [])
+says_range how m r ns fits small may = record {
+  possibly = sym (and_from (list_all (is_in_range r) ns) true (all_in_range r ns (λ n t. (may.within n t).1)) refl);
   showing = λ n. sym (or-false (is_one_of ns n));
-  denying = λ n l. ap (λ b. (nat_lt n m.low || nat_lt m.high n) || b) (ap (λ b. b && not (is_one_of ns n)) (same_range n l) ∙ sym (or-false (is_in_range r n && not (is_one_of ns n))));
+  denying = λ n l. ap (λ b. (nat_lt n m.low || nat_lt m.high n) || b) (ap (λ b. b && not (is_one_of ns n)) (sym (in_range r n l)) ∙ sym (or-false (is_in_range r n && not (is_one_of ns n))));
   estimating = λ n. sym (and-true (nat_le n m.estimate));
-  ending = is_ends ∙ only (ends_in (Estimates how m));
-  demanding = says.demanding;
+  ending = only (ends_in (Estimates how m));
+  demanding = refl;
   regular = record {
     ascends = may.ascends;
     within = λ n t.
         let w = may.within n t in
-        let b = and_parts (nat_le r.first n) (nat_le n last) (same_range n (small_items ns fits n t) ∙ w.1) in
-        (w.0, leb-true r.first n b.0, leb-true n last b.1);
-    high = fits_high;
-    last = fits_last;
+        let b = and_parts (nat_le r.first n) (nat_le n (last_in r)) (sym (in_range r n (small_items ns fits n t)) ∙ w.1) in
+        (w.0, leb-true r.first n b.0, leb-true n (last_in r) b.1);
+    high = small.high;
+    last = small.last;
   };
 }
   where
     only : (ends : Option Ends) → ends ≡ join_ends ends None
     only None = refl
     only (Some e) = refl
-
-    same_range : (n : ℕ) → n < 2 ^ 64 → is_between r.first last n ≡ is_in_range r n
-    same_range n l = ap (λ last. is_between r.first last n) is_last ∙ sym (in_range r n l)
