@@ -2,6 +2,7 @@
 //! are those of the page; `tools/test` compares them.
 mod conflict;
 mod exchanges;
+mod facts;
 mod kept;
 mod verdicts;
 mod visible;

@@ -18,9 +18,9 @@ use std::test::Fail;
 
 /// The accepted answers of a session, each where it stands, and the first one that contradicts them.
 #[derive(Drop)]
-struct Contradiction<'a> {
-    answers: Vec<Placed<'a>>,
-    bad: Placed<'a>,
+pub(crate) struct Contradiction<'a> {
+    pub(crate) answers: Vec<Placed<'a>>,
+    pub(crate) bad: Placed<'a>,
 }
 
 /// The name of the group that is selected behind an answer.
@@ -41,7 +41,7 @@ fn selected_after<'a>(
 }
 
 /// Goes over a session up to the first answer that contradicts those before it, if all of those are accepted.
-fn first_contradiction<'a>(
+pub(crate) fn first_contradiction<'a>(
     alloc: Global,
     limit: Limit,
     marks: Marks,

@@ -9,7 +9,7 @@ use std::process::Abort;
 use std::test::Fail;
 
 #[test]
-fn the_fifth_is_refused(rt: HostRuntime) {
+fn answer_4_is_refused(rt: HostRuntime) {
     let noted = note_all(rt.alloc(), Limit::Narrow, Marks::Lenient, CLIENT, SERVER);
     let refused = Stop::Bad {
         answer: 4,

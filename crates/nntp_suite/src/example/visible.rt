@@ -21,21 +21,12 @@ const STATES: [State; 6] = [
     (Some(NAME), Some(1), true, Position::Known(2)),
 ];
 
-/// MAIN: Whether both are the same position.
-fn is_same(one: Position, other: Position) -> bool {
-    match (one, other) {
-        (Position::Nowhere, Position::Nowhere) | (Position::First, Position::First) => true,
-        (Position::Known(one), Position::Known(other)) => one == other,
-        _ => false,
-    }
-}
-
 /// Whether this is the state.
 fn is_state(visible: &Visible, position: Position, (selected, low, is_closed, at): State) -> bool {
     visible.selected() == selected
         && visible.low(NAME) == low
         && visible.is_closed() == is_closed
-        && is_same(position, at)
+        && position == at
 }
 
 /// Goes on to the state behind the answer, which fits.
