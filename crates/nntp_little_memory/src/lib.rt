@@ -6,7 +6,7 @@ use nntp_refusing::{Refusal, Refusing};
 use std::alloc::Global;
 
 /// More requests than any call of the tests makes.
-const BOUND: u64 = 500;
+const BOUND: u64 = 5000;
 
 /// More octets than any call of the tests needs.
 pub const AMPLE: usize = 1 << 18;
