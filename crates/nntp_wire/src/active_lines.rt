@@ -32,19 +32,15 @@ pub fn active_line(line: &[u8]) -> Option<ActiveLine<'_>>
 {
     group_names_are_decided();
     let mut words = words(line);
-    let name = GroupName::parse(words.next()?)?;
-    let high = number(words.next()?)?;
-    let low = number(words.next()?)?;
-    let status = words.next()?;
-    if words.next().is_some() {
-        return None;
+    match (words.next(), words.next(), words.next(), words.next(), words.next()) {
+        (Some(name), Some(high), Some(low), Some(status), None) => Some(ActiveLine {
+            name: GroupName::parse(name)?,
+            high: number(high)?,
+            low: number(low)?,
+            status,
+        }),
+        _ => None,
     }
-    Some(ActiveLine {
-        name,
-        high,
-        low,
-        status,
-    })
 }
 
 /// Tells whether the line is one of LIST ACTIVE.
