@@ -11,8 +11,8 @@ use Rattle.nntp_facts.specs.Classes.{visible_from, position_from}
 use Rattle.nntp_facts.specs.Conflict.{placed_behind}
 use Rattle.nntp_facts.specs.Reading.{Judged, Accepted, Refused, Unspelled, accepted_of, accepted_with}
 use Rattle.nntp_pair.specs.declared.class.Class.{Class}
-use Rattle.nntp_facts.specs.declared.position.Position.{Position}
-use Rattle.nntp_facts.specs.declared.position.Position.TheVariants.{Nowhere}
+use Rattle.nntp_said.specs.declared.position.Position.{Position}
+use Rattle.nntp_said.specs.declared.position.Position.TheVariants.{Nowhere}
 use Rattle.nntp_facts.proofs.Reading.JudgedSession.{accepted_one_more}
 use Rattle.nntp_explain.specs.Explaining.{front_lines, place_lines, IsTold, IsExplained, AreExplained, count_bad}
 use Rattle.nntp_explain.specs.ExplainingView.{placed_at, GoesOn}

@@ -20,7 +20,7 @@ use Rattle.nntp_pair.specs.declared.class.Class.{Class}
 use Rattle.nntp_pair.specs.declared.class.Class.TheVariants.{Malformed, OutOfPlace, Contradiction}
 use Rattle.nntp_facts.specs.declared.noted.Noted.{Noted}
 use Rattle.nntp_facts.specs.declared.noted.Noted.TheVariants as kinds
-use Rattle.nntp_facts.specs.declared.position.Position.{Position}
+use Rattle.nntp_said.specs.declared.position.Position.{Position}
 use Rattle.nntp_facts.proofs.Reading.JudgedSession.{accepted_one_more}
 use Rattle.nntp_facts.proofs.Reading.NotedAsJudged.{unfit_refused, contradiction_refused}
 use Rattle.nntp_several.specs.Conflict.{placed_of_all}

@@ -12,11 +12,11 @@ use Rattle.nntp_article.specs.Session.Spool.{Name}
 use Rattle.nntp_article.specs.Session.Machine.{Visible, visible_after, selects, are_zeros, is_same, start}
 use Rattle.nntp_article.specs.Session.Misfit.{IsAbove}
 use Rattle.nntp_pair.specs.Pairing.{Paired, asked_of, responses_of}
-use Rattle.nntp_facts.specs.Asks.{position_after}
+use Rattle.nntp_said.specs.Asks.{position_after}
 use Rattle.nntp_facts.specs.Classes.{visible_from}
 use Rattle.nntp_facts.specs.Conflict.{placed_from, placed_of}
-use Rattle.nntp_facts.specs.declared.position.Position.{Position}
-use Rattle.nntp_facts.specs.declared.position.Position.TheVariants.{Nowhere}
+use Rattle.nntp_said.specs.declared.position.Position.{Position}
+use Rattle.nntp_said.specs.declared.position.Position.TheVariants.{Nowhere}
 use Rattle.nntp_explain.specs.Reasons.{gives_low, low_giver}
 
 -- a place is found among so many

@@ -6,9 +6,9 @@ use Rattle.std.specs.List.{flat_map, list_any}
 use Rattle.nntp_article.specs.Article.Parts.{Id, Line, is_empty, head_part, body_part}
 use Rattle.nntp_wire.specs.Listing.{ActiveValue}
 use Rattle.nntp_article.specs.Session.Spool.{Name}
-use Rattle.nntp_facts.specs.Asks.{Bounds}
+use Rattle.nntp_said.specs.Asks.{Bounds}
 use Rattle.nntp_facts.specs.Conflict.{Point, Article}
-use Rattle.nntp_facts.specs.Facts.{Fact, Asks, GroupsAre}
+use Rattle.nntp_said.specs.Facts.{Fact, Asks, GroupsAre}
 use Rattle.nntp_facts.specs.Given.{asks_in}
 use Rattle.nntp_facts.specs.Together.{shows_article, denies_article}
 use Rattle.nntp_explain.specs.Reasons.{octets_line}

@@ -7,12 +7,12 @@ use Rattle.std.specs.Option.{option_map_or}
 use Rattle.nntp_article.specs.declared.session.profile.Profile.{Profile}
 use Rattle.nntp_article.specs.Session.Machine.{Visible, start, visible_after}
 use Rattle.nntp_pair.specs.Pairing.{Paired, Unpaired, IsNext, Ending, end, bad as ends_at, asked_at, asked_of, responses_of, streams}
-use Rattle.nntp_facts.specs.Asks.{position_after}
+use Rattle.nntp_said.specs.Asks.{position_after}
 use Rattle.nntp_facts.specs.Conflict.{placed_from, placed_of}
 use Rattle.nntp_facts.specs.Noted.{FactsKept, HasNotedBehind, IsDue}
 use Rattle.nntp_facts.specs.Reading.{Judged, accepted_of, IsJudged, AreJudged}
-use Rattle.nntp_facts.specs.declared.position.Position.{Position}
-use Rattle.nntp_facts.specs.declared.position.Position.TheVariants.{Nowhere}
+use Rattle.nntp_said.specs.declared.position.Position.{Position}
+use Rattle.nntp_said.specs.declared.position.Position.TheVariants.{Nowhere}
 use Rattle.nntp_facts.proofs.Reading.JudgedAnswers.{accepted_behind as all_behind, judged_push, judged_count, accepted_few, visible_behind, accepted_open}
 use Rattle.nntp_several.specs.Conflict.{placed_of_all}
 use Rattle.nntp_several.specs.Reading.{ReadSession}

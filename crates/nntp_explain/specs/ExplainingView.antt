@@ -15,7 +15,7 @@ use Rattle.nntp_printing.specs.Title.{title_line}
 use Rattle.nntp_explain.specs.declared.standing.Standing.{Standing as StandingCode}
 use Rattle.nntp_explain.specs.declared.standing.Cited.{Cited as CitedCode}
 use Rattle.nntp_explain.specs.declared.explainer.Explainer.{Explainer}
-use Rattle.nntp_facts.specs.declared.position.Position.{Position}
+use Rattle.nntp_said.specs.declared.position.Position.{Position}
 use Rattle.nntp_explain.specs.Standing.{Standing, Cited, standing, standing_after, cited_at, cited_each, number_behind, cited_of_all, closing}
 use Rattle.nntp_explain.specs.Explaining.{ToldContradiction, IsConflictOf, AreExplained, count_bad, IsSessionExplained, Counts, counts_of, titled, none_counted, AreSessionsExplained}
 use Rattle.nntp_explain.specs.Reasons.{unfitting_lines}

@@ -11,8 +11,8 @@ use Rattle.nntp_wire.specs.declared.misspelling.LineFault.{LineFault}
 use Rattle.nntp_wire.specs.declared.misspelling.LineFault.TheVariants.{BadOctet, SingleDot, NoNumber, NoGroup, NoVersions}
 use Rattle.nntp_article.specs.Session.Misfit.{Misfit, wrong_code, wrong_name, wrong_number, wrong_id, below_low, wrong_marks}
 use Rattle.nntp_article.specs.Session.Misfit.{beyond_limit, not_above, beyond_range, unmatched, listed_twice, no_head, other_id}
-use Rattle.nntp_facts.specs.declared.position.Position.{Position}
-use Rattle.nntp_facts.specs.declared.position.Position.TheVariants.{Nowhere, First, Known}
+use Rattle.nntp_said.specs.declared.position.Position.{Position}
+use Rattle.nntp_said.specs.declared.position.Position.TheVariants.{Nowhere, First, Known}
 use Rattle.nntp_printing.specs.BadAnswer.{shown, command_line}
 use Rattle.nntp_printing.specs.Printing.{escaped}
 use Rattle.nntp_article.specs.Session.Machine.{is_same}

@@ -3,8 +3,8 @@ ghost use Rattle.std.specs.Prelude.{◌≡◌, ◌++◌, ◌<◌, ◌-◌, ◌^�
 ghost use Rattle.std.specs.List.{list_any};
 ghost use Rattle.nntp_wire.specs.Listing.{active_groups};
 ghost use Rattle.nntp_article.specs.Session.Machine.{is_same};
-ghost use Rattle.nntp_facts.specs.Facts.{ThereIs, ThereIsNo, Asks, IdAt, TextIs, NoArticle, GroupsAre};
-ghost use Rattle.nntp_facts.specs.FactView.{ask_of, fact_of};
+ghost use Rattle.nntp_said.specs.Facts.{ThereIs, ThereIsNo, Asks, IdAt, TextIs, NoArticle, GroupsAre};
+ghost use Rattle.nntp_said.specs.FactView.{ask_of, fact_of};
 ghost use Rattle.nntp_facts.specs.PointView.{point_of};
 ghost use Rattle.nntp_facts.specs.Conflict as points;
 ghost use Rattle.nntp_explain.specs.Says.{groups_line, said_lines, says};

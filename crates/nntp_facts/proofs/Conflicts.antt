@@ -6,12 +6,12 @@ use Rattle.std.proofs.lemmas.Bool.{cases_lt, cases_eq, true≢false, not-true}
 use Rattle.std.proofs.lemmas.List.{length-map}
 use Rattle.std.specs.Cmp.{nat_cmp_total}
 use Rattle.std.specs.FinMap.{len, len-entries}
-use Rattle.nntp_facts.specs.declared.position.Position.TheVariants.{Nowhere}
+use Rattle.nntp_said.specs.declared.position.Position.TheVariants.{Nowhere}
 use Rattle.nntp_facts.specs.Classes.{visible_from, position_from, asked_next}
 use Rattle.nntp_facts.specs.Permits.{SomePermits}
 use Rattle.nntp_facts.proofs.Maps.{keys_among}
-use Rattle.nntp_facts.proofs.Session.CurrentArticle.{run_from}
-use Rattle.nntp_facts.proofs.Session.FactsHold.{run_of_facts}
+use Rattle.nntp_said.proofs.CurrentArticle.{run_from}
+use Rattle.nntp_said.proofs.FactsHold.{run_of_facts}
 use Rattle.nntp_facts.proofs.Given.GivenPermits.{said}
 use Rattle.nntp_facts.proofs.Session.OneMoreAnswer.{facts_grow}
 use Rattle.nntp_wire.specs.Answer.{Asked, Response}
@@ -20,9 +20,9 @@ use Rattle.nntp_article.specs.declared.session.profile.Profile.{Profile}
 use Rattle.nntp_wire.specs.declared.marks.Marks.{Marks}
 use Rattle.nntp_wire.specs.declared.marks.Marks.TheVariants.{Lenient}
 use Rattle.nntp_article.specs.Session.Machine.{Visible, visible_after, start, fits}
-use Rattle.nntp_facts.specs.Asks.{position_after}
-use Rattle.nntp_facts.specs.declared.position.Position.{Position}
-use Rattle.nntp_facts.specs.Facts.{Fact, Holds, ThereIs, ThereIsNo, Asks, IdAt, TextIs, NoArticle, GroupsAre, facts_of, facts_from, FitsAll, group_of}
+use Rattle.nntp_said.specs.Asks.{position_after}
+use Rattle.nntp_said.specs.declared.position.Position.{Position}
+use Rattle.nntp_said.specs.Facts.{Fact, Holds, ThereIs, ThereIsNo, Asks, IdAt, TextIs, NoArticle, GroupsAre, facts_of, facts_from, FitsAll, group_of}
 use Rattle.nntp_facts.specs.Given.{size, asks_of}
 use Rattle.nntp_facts.specs.Together.{Together, is_possible}
 use Rattle.nntp_facts.specs.Conflict.{Placed, placed_from, FitsThere, widest, said as said_there, a_group, the_group, with_group, told, SomeHas, told_at}

@@ -8,9 +8,9 @@ use Rattle.nntp_wire.specs.Answer.{Response, greeting, to, group_is, numbers_are
 use Rattle.nntp_wire.specs.declared.water_marks.WaterMarks.{WaterMarks}
 use Rattle.nntp_wire.specs.declared.command.What.TheVariants.{Head, Stat}
 use Rattle.nntp_wire.specs.Command.{Request, by_id, by_number, current, group, list_group, from_one, next, last, retrieve}
-use Rattle.nntp_facts.specs.Asks.{Ask, Estimates, StepsUp, StepsDown, StandsAt, IsTop, IsBottom, Has, Lacks}
-use Rattle.nntp_facts.specs.declared.position.Position.TheVariants.{First, Known}
-use Rattle.nntp_facts.specs.Facts.{Fact, ThereIs, Asks, IdAt}
+use Rattle.nntp_said.specs.Asks.{Ask, Estimates, StepsUp, StepsDown, StandsAt, IsTop, IsBottom, Has, Lacks}
+use Rattle.nntp_said.specs.declared.position.Position.TheVariants.{First, Known}
+use Rattle.nntp_said.specs.Facts.{Fact, ThereIs, Asks, IdAt}
 use Rattle.nntp_facts.specs.Together.{number_in, AsksStand, Together}
 use Rattle.std.proofs.lemmas.Bool.Decides.{nat_tests}
 use Rattle.nntp_facts.specs.Given.{IsGivenNumber, asks_of, is_shown, is_denied, demand, IsOneMore, AreInvented, invented, facts_of_session, is_mentioned, id_shown, first_given, head_in, is_known}

@@ -12,8 +12,8 @@ use Rattle.nntp_article.specs.Article.Parts.{Id, Line, head_part, body_part}
 use Rattle.nntp_article.specs.Session.Spool.{Name, Numbers, numbers}
 use Rattle.nntp_article.specs.Session.Machine.{is_same}
 use Rattle.nntp_article.specs.declared.session.profile.Profile.{Profile}
-use Rattle.nntp_facts.specs.Asks.{Ask, Has, Bounds}
-use Rattle.nntp_facts.specs.Facts.{Fact, ThereIs, ThereIsNo, Asks, IdAt, TextIs, NoArticle, GroupsAre}
+use Rattle.nntp_said.specs.Asks.{Ask, Has, Bounds}
+use Rattle.nntp_said.specs.Facts.{Fact, ThereIs, ThereIsNo, Asks, IdAt, TextIs, NoArticle, GroupsAre}
 use Rattle.nntp_facts.specs.Given.{asks_in, asks_of, is_shown_group, shows_group, first_given, id_in, head_in, body_in, size, is_known, is_denied, demand, IsGivenNumber, HasGivenNumbers}
 use Rattle.nntp_facts.specs.Together.{IsWellFormed, is_possible, MeetsDemand, IsFewFor, denies_group, number_in, shows_article, denies_article, GiveOne, Together}
 use Rattle.nntp_facts.specs.Conflict.{Placed, FitsThere, told, told_with, SomeHas}

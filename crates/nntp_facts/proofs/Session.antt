@@ -1,5 +1,3 @@
-pub mod CurrentArticle
-pub mod FactsHold
 pub mod NumbersOfShownGroups
 pub mod FittingFacts
 pub mod GroupOfAnAnswer

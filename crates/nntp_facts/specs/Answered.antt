@@ -6,7 +6,7 @@ use Rattle.nntp_wire.specs.declared.marks.Marks.{Marks}
 use Rattle.nntp_article.specs.declared.session.profile.Profile.{Profile}
 use Rattle.nntp_article.specs.Session.Machine.{Run, start}
 use Rattle.nntp_article.specs.Session.Spool.{Spool, IsSpool}
-use Rattle.nntp_facts.specs.Facts.{Fact, FitsAll}
+use Rattle.nntp_said.specs.Facts.{Fact, FitsAll}
 use Rattle.nntp_facts.specs.Given.{facts_of_session}
 
 -- what is asked in a session, and the answers

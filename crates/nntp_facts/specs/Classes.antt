@@ -4,8 +4,8 @@ use Rattle.nntp_wire.specs.Answer.{Asked, Response, Spells}
 use Rattle.nntp_wire.specs.Session.{prompts_of, Spelled}
 use Rattle.nntp_article.specs.declared.session.profile.Profile.{Profile}
 use Rattle.nntp_article.specs.Session.Machine.{Visible, start, fits, visible_after}
-use Rattle.nntp_facts.specs.Asks.{position_after}
-use Rattle.nntp_facts.specs.declared.position.Position.{Position}
+use Rattle.nntp_said.specs.Asks.{position_after}
+use Rattle.nntp_said.specs.declared.position.Position.{Position}
 use Rattle.nntp_pair.specs.Pairing.{IsCut, IsMalformed}
 use Rattle.nntp_pair.specs.declared.class.Class.{Class}
 use Rattle.nntp_pair.specs.declared.class.Class.TheVariants.{Surplus, Cut, Malformed, OutOfPlace, Contradiction}

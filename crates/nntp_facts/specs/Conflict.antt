@@ -9,13 +9,13 @@ use Rattle.nntp_wire.specs.declared.marks.Marks.TheVariants.{Lenient}
 use Rattle.nntp_article.specs.Session.Spool.{Spool, IsSpool, Name, Numbers}
 use Rattle.nntp_article.specs.declared.session.profile.Profile.{Profile}
 use Rattle.nntp_article.specs.Session.Machine.{Visible, visible_after, start, fits, is_ascending}
-use Rattle.nntp_facts.specs.Asks.{position_after, Ask, Estimates}
+use Rattle.nntp_said.specs.Asks.{position_after, Ask, Estimates}
 use Rattle.nntp_pair.specs.Pairing.{Paired, asked_at, asked_of, responses_of}
-use Rattle.nntp_facts.specs.declared.position.Position.{Position}
-use Rattle.nntp_facts.specs.declared.position.Position.TheVariants.{Nowhere}
+use Rattle.nntp_said.specs.declared.position.Position.{Position}
+use Rattle.nntp_said.specs.declared.position.Position.TheVariants.{Nowhere}
 use Rattle.nntp_facts.specs.Classes.{visible_from, position_from}
 use Rattle.nntp_article.specs.Article.Parts.{Id}
-use Rattle.nntp_facts.specs.Facts.{Fact, Holds, ThereIs, Asks, facts_of, group_of}
+use Rattle.nntp_said.specs.Facts.{Fact, Holds, ThereIs, Asks, facts_of, group_of}
 use Rattle.nntp_facts.specs.Given.{is_known, is_denied, demand, IsGivenNumber, HasGivenNumbers, asks_of, is_shown_group, id_in, head_in, body_in}
 use Rattle.nntp_facts.specs.Together.{is_possible, MeetsDemand, IsFewFor, denies_group, number_in, shows_article, denies_article, GiveOne}
 

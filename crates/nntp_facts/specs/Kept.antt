@@ -10,8 +10,8 @@ use Rattle.nntp_wire.specs.Wildmat.{is_wildmat}
 use Rattle.nntp_article.specs.Article.Parts.{Id, Line}
 use Rattle.nntp_article.specs.Session.Spool.{Name}
 use Rattle.nntp_article.specs.Session.Machine.{is_same}
-use Rattle.nntp_facts.specs.Asks.{Ask}
-use Rattle.nntp_facts.specs.Facts.{Fact}
+use Rattle.nntp_said.specs.Asks.{Ask}
+use Rattle.nntp_said.specs.Facts.{Fact}
 use Rattle.nntp_facts.specs.Given.{is_shown, asks_of, is_shown_group, first_given, id_in, is_mentioned, is_sent, head_in, body_in}
 use Rattle.nntp_facts.specs.Together.{number_in, denies_group, shows_article, denies_article, JoinArticles, Join}
 use Rattle.nntp_facts.specs.Summary.{Summary, IsSummary, AreBounded}

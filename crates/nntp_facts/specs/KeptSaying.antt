@@ -5,8 +5,8 @@ use Rattle.std.specs.FinMap.{get}
 use Rattle.nntp_article.specs.Article.Parts.{Id}
 use Rattle.nntp_article.specs.Session.Spool.{Name}
 use Rattle.nntp_article.specs.Session.Machine.{head_fits}
-use Rattle.nntp_facts.specs.Asks.{Ask}
-use Rattle.nntp_facts.specs.Facts.{Fact, IdAt, TextIs, NoArticle}
+use Rattle.nntp_said.specs.Asks.{Ask}
+use Rattle.nntp_said.specs.Facts.{Fact, IdAt, TextIs, NoArticle}
 use Rattle.nntp_facts.specs.Given.{asks_of, is_shown_group}
 use Rattle.nntp_facts.specs.Together.{AsksStand, denies_group, shows_article}
 use Rattle.nntp_facts.specs.Part.{only_has}

@@ -6,8 +6,8 @@ use Rattle.nntp_wire.specs.Listing.{ActiveValue}
 use Rattle.nntp_wire.specs.Decided.{is_asked, matches_name}
 use Rattle.nntp_article.specs.Session.Spool.{Name}
 use Rattle.nntp_article.specs.Session.Machine.{is_same, names_differ}
-use Rattle.nntp_facts.specs.Asks.{Bounds}
-use Rattle.nntp_facts.specs.Facts.{Fact, GroupsAre}
+use Rattle.nntp_said.specs.Asks.{Bounds}
+use Rattle.nntp_said.specs.Facts.{Fact, GroupsAre}
 use Rattle.nntp_facts.specs.Given.{asks_of, is_shown_group}
 use Rattle.nntp_facts.specs.Together.{AsksStand, denies_group}
 

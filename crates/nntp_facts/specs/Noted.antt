@@ -7,10 +7,10 @@ use Rattle.nntp_article.specs.Session.Limit.{profile_of}
 use Rattle.nntp_wire.specs.declared.limit.Limit.{Limit}
 use Rattle.nntp_wire.specs.declared.marks.Marks.{Marks}
 use Rattle.nntp_pair.specs.Pairing.{Paired, asked_at, asked_of, responses_of, lines_in}
-use Rattle.nntp_facts.specs.declared.position.Position.{Position}
-use Rattle.nntp_facts.specs.declared.position.Position.TheVariants.{Nowhere}
-use Rattle.nntp_facts.specs.Facts.{Fact, facts_of}
-use Rattle.nntp_facts.specs.Asks.{position_after}
+use Rattle.nntp_said.specs.declared.position.Position.{Position}
+use Rattle.nntp_said.specs.declared.position.Position.TheVariants.{Nowhere}
+use Rattle.nntp_said.specs.Facts.{Fact, facts_of}
+use Rattle.nntp_said.specs.Asks.{position_after}
 use Rattle.nntp_facts.specs.Given.{facts_of_session}
 use Rattle.nntp_facts.specs.Classes.{visible_from, position_from}
 use Rattle.nntp_facts.specs.Answered.{Answered, SomePermitsEach, facts_of_all}

@@ -5,7 +5,7 @@ use Rattle.nntp_wire.specs.declared.marks.Marks.TheVariants.{Strict}
 use Rattle.nntp_wire.specs.declared.range.Range.{Range}
 use Rattle.nntp_intervals.specs.Intervals.{is_between}
 use Rattle.nntp_article.specs.Session.Machine.{is_in_range, is_ascending}
-use Rattle.nntp_facts.specs.Asks.{Ask, Estimates}
+use Rattle.nntp_said.specs.Asks.{Ask, Estimates}
 use Rattle.nntp_facts.specs.Given.{is_shown, is_denied, demand}
 use Rattle.nntp_facts.specs.Together.{is_possible}
 use Rattle.nntp_facts.specs.declared.demand.Demand.{Demand}

@@ -9,8 +9,8 @@ use Rattle.nntp_article.specs.declared.session.profile.Profile.{Profile}
 use Rattle.nntp_wire.specs.declared.command.What.{What}
 use Rattle.nntp_wire.specs.Decided.{matches_name}
 use Rattle.nntp_wire.specs.Listing.{ActiveValue}
-use Rattle.nntp_facts.specs.Asks.{Ask, Bounds}
-use Rattle.nntp_facts.specs.Facts.{Fact, group_of}
+use Rattle.nntp_said.specs.Asks.{Ask, Bounds}
+use Rattle.nntp_said.specs.Facts.{Fact, group_of}
 use Rattle.nntp_facts.specs.Together.{IsWellFormed, AgreeWithin, Together}
 use Rattle.nntp_facts.specs.Kept.{id_of, place_of, Kept, IsKept}
 use Rattle.nntp_facts.specs.Articles.{head_sent, body_sent}

@@ -9,11 +9,11 @@ use Rattle.nntp_intervals.specs.Intervals.{holds}
 use Rattle.nntp_article.specs.Article.Parts.{Id, Line}
 use Rattle.nntp_article.specs.Session.Spool.{Name}
 use Rattle.nntp_article.specs.Session.Machine.{is_same}
-use Rattle.nntp_facts.specs.Facts.{Fact}
+use Rattle.nntp_said.specs.Facts.{Fact}
 use Rattle.nntp_facts.specs.Given.{asks_of, is_shown, is_shown_group, id_shown, is_sent, first_given, head_in, body_in, IsGivenNumber, wants}
 use Rattle.nntp_facts.specs.declared.demand.Demand.{Demand}
 use Rattle.nntp_facts.specs.Together.{shows_article}
-use Rattle.nntp_facts.specs.Asks.{Ask}
+use Rattle.nntp_said.specs.Asks.{Ask}
 use Rattle.nntp_facts.specs.Part.{is_demanding}
 use Rattle.nntp_facts.specs.declared.ends.Ends.{Ends}
 use Rattle.nntp_facts.specs.Summary.{Summary, has}

@@ -6,8 +6,8 @@ use Rattle.nntp_article.specs.Session.Machine.{Visible, head_fits}
 use Rattle.nntp_wire.specs.declared.command.What.{What}
 use Rattle.nntp_wire.specs.Answer.{Response, numbers_are, sends}
 use Rattle.nntp_wire.specs.Listing.{ActiveValue, listed_numbers}
-use Rattle.nntp_facts.specs.Asks.{Ask, Has}
-use Rattle.nntp_facts.specs.Facts.{Fact, ThereIs, ThereIsNo, Asks, IdAt, TextIs, NoArticle, GroupsAre, group_of}
+use Rattle.nntp_said.specs.Asks.{Ask, Has}
+use Rattle.nntp_said.specs.Facts.{Fact, ThereIs, ThereIsNo, Asks, IdAt, TextIs, NoArticle, GroupsAre, group_of}
 use Rattle.nntp_facts.specs.Given.{is_shown_group}
 use Rattle.nntp_facts.specs.Part.{Said, Says}
 use Rattle.nntp_facts.specs.PartOf.{IsSmall, nothing_said, part_with}

@@ -8,7 +8,7 @@ use Rattle.std.specs.BTreeMap.{is_at}
 use Rattle.std.specs.FinMap.{len}
 use Rattle.nntp_intervals.specs.Intervals.{holds}
 use Rattle.nntp_article.specs.Session.Spool.{Numbers, IsNumber}
-use Rattle.nntp_facts.specs.Asks.{Ask}
+use Rattle.nntp_said.specs.Asks.{Ask}
 use Rattle.nntp_facts.specs.Given.{is_shown, is_denied, demand, join, wants, IsFirstFree, is_known}
 use Rattle.nntp_facts.specs.Part.{Said, part_denies, is_one_of, is_within, is_within_all, ends_of, join_ends, is_end_of, is_demanding}
 use Rattle.nntp_facts.specs.declared.demand.Demand.{Demand}

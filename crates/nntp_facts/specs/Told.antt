@@ -1,7 +1,7 @@
 -- What is kept of what answers say by themselves.
 use Rattle.std.specs.Prelude.{ℕ, ◌+◌, ◌*◌, ◌^◌, ◌≤◌, Bool, true, false, List, ◌++◌, length}
 use Rattle.nntp_article.specs.declared.session.profile.Profile.{Profile}
-use Rattle.nntp_facts.specs.Facts.{Fact}
+use Rattle.nntp_said.specs.Facts.{Fact}
 use Rattle.nntp_facts.specs.Given.{size}
 use Rattle.nntp_facts.specs.Together.{Together}
 use Rattle.nntp_facts.specs.Kept.{Kept, IsKept}

@@ -10,7 +10,7 @@ ghost use Rattle.std.specs.Rc.{rc_str_bytes};
 ghost use Rattle.nntp_wire.specs.declared.command.What.{What};
 ghost use Rattle.nntp_article.specs.Article.Parts.{Id, Line};
 ghost use Rattle.nntp_article.specs.Session.Spool.{Name};
-ghost use Rattle.nntp_facts.specs.Facts.{Fact, IdAt, TextIs, NoArticle};
+ghost use Rattle.nntp_said.specs.Facts.{Fact, IdAt, TextIs, NoArticle};
 ghost use Rattle.nntp_facts.specs.Given.{is_mentioned, first_given, head_in, body_in};
 ghost use Rattle.nntp_facts.specs.Together.{shows_article};
 ghost use Rattle.nntp_facts.specs.Articles.{AreSame, head_sent, body_sent, is_there, denied, with_new};

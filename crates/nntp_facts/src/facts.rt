@@ -12,11 +12,11 @@ ghost use Rattle.nntp_facts.specs.Readers.{ShownGroup as GroupValue, ShownArticl
 use crate::articles::{ShownArticle, ShownArticles};
 use crate::kept::Kept;
 use crate::noted::{FactsError, Noted};
-use crate::position::Position;
 use crate::saying::{Saying, numbers_listed};
 use crate::shown_groups::{ShownGroup, ShownGroups};
 use nntp_article::{Misfit, Profile, Visible};
 use nntp_pair::Exchange;
+use nntp_said::Position;
 use nntp_wire::{Limit, Marks};
 use std::alloc::{AllocError, Allocator, Global};
 use std::marker::Model;

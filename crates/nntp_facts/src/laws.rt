@@ -5,10 +5,10 @@ ghost use Rattle.std.specs.FinMap.{insert, len};
 ghost use Rattle.nntp_article.specs.Session.Spool.{Spool, Numbers, IsNumber, IsGroup, IsSpool, Name};
 ghost use Rattle.nntp_article.specs.declared.session.profile.Profile.{Profile};
 ghost use Rattle.nntp_article.specs.Session.Machine.{Run, start, fits, Visible, visible_after};
-ghost use Rattle.nntp_facts.specs.Asks.{RunsAt, Meets, Ask, position_after};
-ghost use Rattle.nntp_facts.specs.declared.position.Position.TheVariants.{Nowhere};
-ghost use Rattle.nntp_facts.specs.declared.position.Position.{Position};
-ghost use Rattle.nntp_facts.specs.Facts.{FitsAll, Holds, Fact, facts_of, facts_from};
+ghost use Rattle.nntp_said.specs.Asks.{RunsAt, Meets, Ask, position_after};
+ghost use Rattle.nntp_said.specs.declared.position.Position.TheVariants.{Nowhere};
+ghost use Rattle.nntp_said.specs.declared.position.Position.{Position};
+ghost use Rattle.nntp_said.specs.Facts.{FitsAll, Holds, Fact, facts_of, facts_from};
 ghost use Rattle.nntp_facts.specs.Given.{asks_of, is_known, demand, join, IsOneMore, IsGivenNumber, HasGivenNumbers, IsGiven, facts_of_session, size, weight, HasAtLeast};
 ghost use Rattle.nntp_facts.specs.Together.{MeetsDemand, IsWellFormed, Together, AgreeWithin, Join};
 ghost use Rattle.nntp_facts.specs.Permits.{SomePermits, IsFirstUnpermitted};
@@ -27,22 +27,10 @@ ghost use Rattle.nntp_wire.specs.declared.marks.Marks.{Marks};
 ghost use Rattle.nntp_wire.specs.declared.marks.Marks.TheVariants.{Strict};
 ghost use Rattle.nntp_facts.specs.Conflict.{Placed, placed_from, FitsThere, a_group, told, SomeHas, told_with, below, IsCore, IsPartOfCore, IsEndOfCore, AreAmong, Point, ConflictAt, IsFirstPoint};
 
+pub use nntp_said::laws::{current_article_is_read_off, permitted_by_facts};
+
 pub mod reading;
 pub mod sessions;
-
-/// A spool permits a session exactly if it permits each answer with the current article read off
-/// the session.
-pub fn current_article_is_read_off()
-    ensures { (profile : Profile) (S : Spool) (prompts : List Asked) (answers : List Response)
-        → Run profile S start prompts answers ↔ RunsAt profile S start.visible Nowhere prompts answers }
-{}
-
-/// A spool permits a session exactly if each answer fits and all that the answers say holds of it.
-pub fn permitted_by_facts()
-    ensures { (profile : Profile) (S : Spool) (prompts : List Asked) (answers : List Response)
-        → RunsAt profile S start.visible Nowhere prompts answers
-        ↔ (FitsAll profile start.visible prompts answers × AllByRecursion (Holds S) (facts_from profile.marks start.visible Nowhere prompts answers)) }
-{}
 
 /// The given numbers of a group meet what is asked of them, if a spool's numbers do.
 pub fn given_numbers_meet_what_is_asked()

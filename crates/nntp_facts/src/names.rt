@@ -7,7 +7,7 @@ ghost use Rattle.nntp_wire.specs.Wildmat.{is_wildmat};
 ghost use Rattle.nntp_wire.specs.Listing.{ActiveValue};
 ghost use Rattle.nntp_article.specs.Session.Spool.{Name};
 ghost use Rattle.nntp_article.specs.Session.Machine.{is_same};
-ghost use Rattle.nntp_facts.specs.Facts.{Fact, GroupsAre};
+ghost use Rattle.nntp_said.specs.Facts.{Fact, GroupsAre};
 ghost use Rattle.nntp_facts.specs.Given.{is_shown_group};
 ghost use Rattle.nntp_facts.specs.Together.{denies_group};
 ghost use Rattle.nntp_facts.specs.Kept.{AreKeptNames};

@@ -2,7 +2,7 @@
 ghost use Rattle.std.specs.Prelude.{◌≡◌, ℕ, true, nat_lt, ◌^◌, ◌-◌, ◌<◌, ◌↔◌, ◌&&◌, ◌||◌, List, [], ◌++◌, Option, IsTrue, IfOk, OnOk};
 ghost use Rattle.std.specs.List.{list_all};
 ghost use Rattle.nntp_intervals.specs.Intervals.{holds};
-ghost use Rattle.nntp_facts.specs.Asks.{Ask};
+ghost use Rattle.nntp_said.specs.Asks.{Ask};
 ghost use Rattle.nntp_facts.specs.Together.{AsksStand};
 ghost use Rattle.nntp_facts.specs.Part.{is_within, Says, IsRegular};
 ghost use Rattle.nntp_facts.specs.PartView.{said};

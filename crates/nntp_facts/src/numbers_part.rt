@@ -4,8 +4,8 @@ ghost use Rattle.nntp_wire.specs.Limit.{greatest};
 ghost use Rattle.nntp_wire.specs.declared.marks.Marks.TheVariants.{Lenient};
 ghost use Rattle.nntp_article.specs.declared.session.profile.Profile.{Profile};
 ghost use Rattle.nntp_facts.specs.Conflict.{widest};
-ghost use Rattle.nntp_facts.specs.Asks.{Estimates, Bounds};
-ghost use Rattle.nntp_facts.specs.FactView.{ask_of};
+ghost use Rattle.nntp_said.specs.Asks.{Estimates, Bounds};
+ghost use Rattle.nntp_said.specs.FactView.{ask_of};
 ghost use Rattle.nntp_facts.specs.Part.{Says, only_has};
 ghost use Rattle.nntp_facts.specs.PartOf.{IsSmall, impossible, listing, none_above, none_below, nothing_said, part_with, standing_at, standing_nowhere, stepping_down, stepping_up};
 ghost use Rattle.nntp_facts.specs.PartView.{said};
@@ -13,8 +13,7 @@ ghost use Rattle.nntp_facts.specs.Summary.{AreBounded};
 
 use crate::demand::Demand;
 use crate::ends::Ends;
-use crate::fact::Ask;
-use crate::position::Position;
+use nntp_said::{Ask, Position};
 use nntp_wire::{Limit, Marks, WaterMarks};
 
 /// What one answer says at once of the numbers of a group.

@@ -7,15 +7,13 @@ ghost use Rattle.nntp_wire.specs.View.{asked};
 ghost use Rattle.nntp_wire.specs.Name.{IsGroupName};
 ghost use Rattle.nntp_article.specs.Session.Machine.{Visible};
 ghost use Rattle.nntp_facts.specs.Conflict.{said};
-ghost use Rattle.nntp_facts.specs.Facts.{facts_of};
+ghost use Rattle.nntp_said.specs.Facts.{facts_of};
 ghost use Rattle.nntp_facts.specs.Together.{IsWellFormed};
 ghost use Rattle.nntp_pair.specs.Pairing.{asked_at, lines_in};
 
-use crate::facts_of::facts_of;
-use crate::position::Position;
-use crate::said_facts::SaidFacts;
 use crate::same::{is_same_answer, is_same_line, is_same_name, is_same_position};
 use nntp_pair::Exchange;
+use nntp_said::{Position, SaidFacts, facts_of};
 use nntp_wire::{Answer, GroupName, Marks, Prompt};
 use std::marker::Model;
 

@@ -3,7 +3,7 @@ ghost use Rattle.std.specs.Prelude.{◌≡◌, ◌↔◌, IsTrue};
 ghost use Rattle.std.specs.Option.{option_copied};
 ghost use Rattle.nntp_wire.specs.AnswerView.{response};
 
-use crate::position::Position;
+use nntp_said::Position;
 use nntp_wire::{Answer, Block, GroupName};
 
 /// Tells whether both are the same position.

@@ -8,8 +8,8 @@ use Rattle.nntp_article.specs.Article.Parts.{Id}
 use Rattle.nntp_article.specs.Session.Spool.{Spool, Numbers, Name}
 use Rattle.nntp_article.specs.declared.session.profile.Profile.{Profile}
 use Rattle.nntp_wire.specs.Session.{prompts_of}
-use Rattle.nntp_facts.specs.Asks.{Ask}
-use Rattle.nntp_facts.specs.Facts.{Fact}
+use Rattle.nntp_said.specs.Asks.{Ask}
+use Rattle.nntp_said.specs.Facts.{Fact}
 use Rattle.nntp_facts.specs.Given.{shows, says_some, is_end, denies, demand_in, join, demand, wants, is_known, IsFirstFree, IsOneMore, IsGivenNumber, asks_in, asks_of, shows_group, gives_article, mentions, first_given, id_in, id_shown, head_in, body_in, plain_head, invented, AreInvented, unshown_in, unshown_ids, IsGiven, facts_of_session}
 use Rattle.nntp_facts.specs.Together.{GiveOne, Together}
 use Rattle.nntp_facts.specs.declared.demand.Demand.{Demand}

@@ -7,12 +7,12 @@ use Rattle.nntp_article.specs.declared.session.profile.Profile.{Profile}
 use Rattle.nntp_article.specs.Session.Machine.{Visible, start, fits}
 use Rattle.nntp_article.specs.Session.Spool.{Spool}
 use Rattle.nntp_pair.specs.Pairing.{Paired, asked_at, asked_of, responses_of}
-use Rattle.nntp_facts.specs.declared.position.Position.TheVariants.{Nowhere}
+use Rattle.nntp_said.specs.declared.position.Position.TheVariants.{Nowhere}
 use Rattle.nntp_facts.specs.declared.noted.Noted.TheVariants.{Contradiction}
 use Rattle.nntp_facts.specs.Answered.{Answered, FitEach, facts_of_all}
 use Rattle.nntp_facts.specs.Classes.{visible_from}
 use Rattle.nntp_facts.specs.Conflict.{Placed, placed_of, placed_behind, FitsThere, said as said_there, told, told_at, told_with, below, SomeHas}
-use Rattle.nntp_facts.specs.Facts.{Fact, Holds, FitsAll, facts_of}
+use Rattle.nntp_said.specs.Facts.{Fact, Holds, FitsAll, facts_of}
 use Rattle.nntp_facts.specs.Given.{facts_of_session}
 use Rattle.nntp_facts.specs.Noted.{FactsKept, exchanged, said_by, ArePermittedBehind, HasNotedBehind, IsDue, IsNotedBehind}
 use Rattle.nntp_facts.proofs.Conflicts.{session_fits, session_told, there_said, told_own, all_places}

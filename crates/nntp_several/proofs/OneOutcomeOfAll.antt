@@ -6,7 +6,7 @@ use Rattle.nntp_article.specs.Session.Spool.{Spool}
 use Rattle.nntp_article.specs.declared.session.profile.Profile.{Profile}
 use Rattle.nntp_article.specs.Session.Explains.{Explains, Bad}
 use Rattle.nntp_wire.specs.Session.{prompts_of}
-use Rattle.nntp_facts.specs.Facts.{Fact}
+use Rattle.nntp_said.specs.Facts.{Fact}
 use Rattle.nntp_facts.specs.Given.{IsGiven, HasAtLeast, facts_of_session, size}
 use Rattle.nntp_pair.specs.declared.class.Class.{Class}
 use Rattle.nntp_facts.specs.Classes.{HasClass}

@@ -12,7 +12,7 @@ use Rattle.nntp_facts.specs.Conflict.{Placed, placed_of, placed_behind, FitsTher
 use Rattle.nntp_facts.specs.Noted.{FactsKept, HasNotedBehind, IsDue, IsNotedBehind}
 use Rattle.nntp_facts.specs.declared.noted.Noted.{Noted}
 use Rattle.nntp_facts.specs.declared.noted.Noted.TheVariants.{Consistent, Contradiction}
-use Rattle.nntp_facts.specs.declared.position.Position.{Position}
+use Rattle.nntp_said.specs.declared.position.Position.{Position}
 use Rattle.nntp_facts.proofs.Keeping.NotedExchange.{visible_next, as_many, ends}
 use Rattle.nntp_facts.proofs.Reading.NotedContradictions.{placed_next}
 use Rattle.nntp_several.proofs.ConflictsOfSessions.{accepted_fit_behind, noted_conflicts_behind}

@@ -12,10 +12,10 @@ use Rattle.nntp_wire.specs.declared.water_marks.WaterMarks.{WaterMarks}
 use Rattle.nntp_article.specs.Article.Parts.{Id, Line}
 use Rattle.nntp_article.specs.Session.Spool.{Name}
 use Rattle.nntp_article.specs.Session.Machine.{Visible, start}
-use Rattle.nntp_facts.specs.declared.position.Position.TheVariants.{Nowhere, First, Known}
+use Rattle.nntp_said.specs.declared.position.Position.TheVariants.{Nowhere, First, Known}
 use Rattle.nntp_facts.specs.declared.demand.Demand.TheVariants.{SecondIs}
-use Rattle.nntp_facts.specs.Asks.{Ask, Estimates, Lacks, StandsAt, StepsUp}
-use Rattle.nntp_facts.specs.Facts.{Fact, ThereIs, Asks, IdAt, TextIs, facts_of}
+use Rattle.nntp_said.specs.Asks.{Ask, Estimates, Lacks, StandsAt, StepsUp}
+use Rattle.nntp_said.specs.Facts.{Fact, ThereIs, Asks, IdAt, TextIs, facts_of}
 use Rattle.nntp_facts.specs.Given.{asks_of, demand, wants, is_shown, is_denied}
 
 abbrev misc_test : Name

@@ -5,7 +5,7 @@ use Rattle.nntp_article.specs.declared.session.profile.Profile.{Profile}
 use Rattle.nntp_article.specs.Session.Spool.{Spool}
 use Rattle.nntp_pair.specs.Pairing.{Paired}
 use Rattle.nntp_facts.specs.Answered.{Answered}
-use Rattle.nntp_facts.specs.Facts.{Fact, Holds}
+use Rattle.nntp_said.specs.Facts.{Fact, Holds}
 use Rattle.nntp_facts.specs.Given.{IsGiven}
 use Rattle.nntp_facts.specs.Noted.{FactsKept, HasNotedBehind, exchanged, profile_kept, said_behind}
 use Rattle.nntp_facts.proofs.Given.SessionsByFacts.{given_exists_of_all, given_permits_all, made_for_all, said_each, stand_each}

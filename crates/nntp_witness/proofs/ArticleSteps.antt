@@ -13,7 +13,7 @@ use Rattle.nntp_wire.specs.declared.limit.Limit.{Limit}
 use Rattle.nntp_article.specs.Article.Parts.{Id}
 use Rattle.nntp_article.specs.Session.Machine.{is_same}
 use Rattle.nntp_article.specs.Session.Spool.{Spool, Text}
-use Rattle.nntp_facts.specs.Facts.{Fact, IdAt, TextIs, Holds}
+use Rattle.nntp_said.specs.Facts.{Fact, IdAt, TextIs, Holds}
 use Rattle.nntp_facts.specs.Given.{IsGiven, mentions, is_mentioned, gives_article, plain_head}
 use Rattle.nntp_facts.specs.Readers.{ShownArticle, IsShownArticle, AreShownArticles}
 use Rattle.nntp_facts.specs.Together.{shows_article}

@@ -14,7 +14,7 @@ use Rattle.nntp_wire.proofs.OptionLemmas.{some_is}
 use Rattle.nntp_article.specs.Article.Parts.{Id, Line}
 use Rattle.nntp_article.specs.Session.Machine.{is_article_number}
 use Rattle.nntp_article.specs.Session.Spool.{Spool, Name, Numbers, Text, IsGroup, IsSpool, numbers, is_line}
-use Rattle.nntp_facts.specs.Facts.{Fact, TextIs}
+use Rattle.nntp_said.specs.Facts.{Fact, TextIs}
 use Rattle.nntp_facts.specs.Given.{mentions, is_mentioned, first_given, head_in, body_in, plain_head, IsGiven}
 use Rattle.nntp_facts.specs.Articles.{head_sent, body_sent}
 use Rattle.nntp_facts.proofs.Given.GivenHolds.{group_of_number}

@@ -12,8 +12,8 @@ use Rattle.std.proofs.lemmas.Bool.{true≢false, eq-eqb, eqb-true, lt-ltb, cases
 use Rattle.std.proofs.lemmas.Cmp.{tied_itself}
 use Rattle.nntp_article.specs.Article.Parts.{Id}
 use Rattle.nntp_article.specs.Session.Spool.{Spool, IsGroup, numbers}
-use Rattle.nntp_facts.specs.Asks.{Ask}
-use Rattle.nntp_facts.specs.Facts.{Fact}
+use Rattle.nntp_said.specs.Asks.{Ask}
+use Rattle.nntp_said.specs.Facts.{Fact}
 use Rattle.nntp_facts.specs.Given.{asks_of, is_shown, IsGivenNumber, id_shown, IsGiven}
 use Rattle.nntp_facts.specs.Readers.{ShownGroup, HasShownNumbers, IsLeastGiven, IsGreatestGiven}
 use Rattle.nntp_facts.proofs.Maps.{sorted_keys, key_of, of_key}

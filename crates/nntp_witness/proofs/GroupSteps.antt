@@ -18,7 +18,7 @@ use Rattle.nntp_wire.specs.declared.limit.Limit.{Limit}
 use Rattle.nntp_article.specs.Article.Parts.{Id}
 use Rattle.nntp_article.specs.Session.Machine.{is_same}
 use Rattle.nntp_article.specs.Session.Spool.{Spool, Name, Numbers, IsNumber, IsSpool, numbers}
-use Rattle.nntp_facts.specs.Facts.{Fact}
+use Rattle.nntp_said.specs.Facts.{Fact}
 use Rattle.nntp_facts.specs.Given.{id_shown, IsGiven}
 use Rattle.nntp_facts.specs.Readers.{ShownGroup}
 use Rattle.nntp_facts.proofs.Maps.{key_of, of_key}

@@ -10,7 +10,7 @@ use Rattle.nntp_wire.specs.declared.limit.Limit.{Limit}
 use Rattle.nntp_article.specs.Article.Parts.{Id}
 use Rattle.nntp_article.specs.Session.Machine.{is_same}
 use Rattle.nntp_article.specs.Session.Spool.{Spool, Name, Numbers, IsGroup, numbers}
-use Rattle.nntp_facts.specs.Facts.{Fact}
+use Rattle.nntp_said.specs.Facts.{Fact}
 use Rattle.nntp_facts.specs.Given.{id_shown, unshown_in, unshown_ids, AreInvented, IsGiven}
 use Rattle.nntp_facts.specs.Readers.{ShownGroup, HasShownNumbers, AreShownGroups}
 use Rattle.nntp_facts.proofs.Given.ConstructedSpool.{names_apart}

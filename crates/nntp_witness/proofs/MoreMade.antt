@@ -9,7 +9,7 @@ use Rattle.std.specs.FinMap.{FinMap, get, insert, empty, get-insert, get-empty, 
 use Rattle.nntp_article.proofs.SessionLemmas.FiniteMapsDecided.{dec_texts}
 use Rattle.nntp_article.specs.Article.Parts.{Id}
 use Rattle.nntp_article.specs.Session.Spool.{Spool, Name, Numbers, Text, IsGroup, numbers}
-use Rattle.nntp_facts.specs.Facts.{Fact}
+use Rattle.nntp_said.specs.Facts.{Fact}
 use Rattle.nntp_facts.specs.Given.{id_shown}
 use Rattle.nntp_spool.specs.Content.{with_group}
 use Rattle.nntp_spool.proofs.MapEntries.{tied_itself, got_more}

@@ -16,7 +16,7 @@ use Rattle.nntp_wire.specs.Name.{IsMessageId}
 use Rattle.nntp_wire.specs.declared.limit.Limit.{Limit}
 use Rattle.nntp_article.specs.Article.Parts.{Id}
 use Rattle.nntp_article.specs.Session.Spool.{Spool, Name, Numbers, Text, IsNumber, IsSpool, numbers}
-use Rattle.nntp_facts.specs.Facts.{Fact}
+use Rattle.nntp_said.specs.Facts.{Fact}
 use Rattle.nntp_facts.specs.Given.{is_mentioned, invented, plain_head, AreInvented, IsFirstFree, IsGiven}
 use Rattle.nntp_facts.proofs.GivenNumbers.FirstFreeNumber.{first_free_once}
 use Rattle.nntp_facts.proofs.Ids.InventedIds.{invented_number, number-invented}

@@ -10,7 +10,7 @@ use Rattle.nntp_wire.specs.declared.limit.Limit.{Limit}
 use Rattle.nntp_article.specs.Article.Parts.{Id}
 use Rattle.nntp_article.specs.Session.Machine.{is_same}
 use Rattle.nntp_article.specs.Session.Spool.{Spool, Name, Text, numbers}
-use Rattle.nntp_facts.specs.Facts.{Fact, IdAt, TextIs}
+use Rattle.nntp_said.specs.Facts.{Fact, IdAt, TextIs}
 use Rattle.nntp_facts.specs.Given.{IsGiven, id_in, id_shown, is_sent, gives_article}
 use Rattle.nntp_facts.specs.Together.{shows_article}
 use Rattle.nntp_facts.proofs.Given.ConstructedSpool.{names_apart}

@@ -9,7 +9,7 @@ use Rattle.nntp_wire.specs.declared.limit.Limit.{Limit}
 use Rattle.nntp_article.specs.Article.Parts.{Id}
 use Rattle.nntp_article.specs.Session.Machine.{is_same}
 use Rattle.nntp_article.specs.Session.Spool.{Spool, Name, Numbers, Text, IsGroup, IsNumber, numbers}
-use Rattle.nntp_facts.specs.Facts.{Fact}
+use Rattle.nntp_said.specs.Facts.{Fact}
 use Rattle.nntp_facts.specs.Given.{id_shown, is_mentioned, plain_head, invented, AreInvented}
 use Rattle.nntp_facts.specs.Readers.{ShownGroup, ShownArticle, HasShownNumbers, IsShownArticle}
 use Rattle.nntp_facts.specs.Together.{shows_article}

@@ -7,7 +7,7 @@ use Rattle.nntp_article.specs.declared.session.profile.Profile.{Profile}
 use Rattle.nntp_article.specs.Session.Spool.{Spool, IsSpool}
 use Rattle.nntp_pair.specs.Pairing.{Paired}
 use Rattle.nntp_facts.specs.Answered.{PermitsEach}
-use Rattle.nntp_facts.specs.Facts.{Fact, Holds}
+use Rattle.nntp_said.specs.Facts.{Fact, Holds}
 use Rattle.nntp_facts.specs.Given.{IsGiven}
 use Rattle.nntp_facts.specs.Noted.{FactsKept, HasNotedBehind, exchanged, profile_kept, said_behind}
 use Rattle.nntp_spool.specs.Limited.{LimitedSpool}

@@ -3,7 +3,7 @@ ghost use Rattle.std.specs.Prelude.{◌≡◌, List, IfOk};
 ghost use Rattle.nntp_pair.specs.Pairing.{Paired};
 ghost use Rattle.nntp_article.specs.declared.session.profile.Profile.{Profile};
 ghost use Rattle.nntp_article.specs.Session.Spool.{Spool as SpoolValue};
-ghost use Rattle.nntp_facts.specs.Facts.{Fact};
+ghost use Rattle.nntp_said.specs.Facts.{Fact};
 ghost use Rattle.nntp_facts.specs.Noted.{HasNotedBehind};
 ghost use Rattle.nntp_spool.specs.Text.{IsWritten};
 ghost use Rattle.nntp_witness.specs.Witness.{HaveNoted, HaveNotedSome, IsGivenSpool, IsWitnessWithin};

@@ -1,7 +1,7 @@
 //! The message-ids that are invented.
 ghost use Rattle.std.specs.Prelude.{◌≡◌, ◌-◌, ◌<◌, ◌^◌, List, IfOk};
 ghost use Rattle.std.specs.Rc.{rc_str_bytes};
-ghost use Rattle.nntp_facts.specs.Facts.{Fact};
+ghost use Rattle.nntp_said.specs.Facts.{Fact};
 ghost use Rattle.nntp_facts.specs.Given.{invented, is_mentioned, IsFirstFree};
 ghost use Rattle.nntp_witness.specs.Witness.{HaveNoted};
 

@@ -3,7 +3,7 @@ ghost use Rattle.std.specs.Prelude.{◌≡◌, ℕ, List, [], ◌∷◌, ◌++�
 ghost use Rattle.nntp_wire.specs.declared.limit.Limit.{Limit};
 ghost use Rattle.nntp_article.specs.Article.Parts.{Id};
 ghost use Rattle.nntp_article.specs.Session.Spool.{Spool as SpoolValue};
-ghost use Rattle.nntp_facts.specs.Facts.{Fact};
+ghost use Rattle.nntp_said.specs.Facts.{Fact};
 ghost use Rattle.nntp_facts.specs.Readers.{ShownGroup as GroupValue, ShownArticle as ArticleValue};
 ghost use Rattle.nntp_facts.specs.ReadersView.{number_value};
 ghost use Rattle.nntp_spool.specs.Text.{IsWritten};

@@ -11,7 +11,7 @@ use Rattle.std.specs.Cmp.Lexicographic.{slice_cmp, same_text, nat_list_cmp_total
 use Rattle.std.specs.FinMap.{FinMap, get, empty, keys, entries, from_sorted, entries-from_sorted, nat_cmp-IsAntisymmetric, slice_cmp-IsAntisymmetric, IsAntisymmetric}
 use Rattle.nntp_article.specs.Session.Spool.{Spool, Text, Numbers, IsNumber, IsGroup, numbers, Name}
 use Rattle.nntp_article.specs.Session.Machine.{is_same}
-use Rattle.nntp_facts.specs.Facts.{Fact, TextIs}
+use Rattle.nntp_said.specs.Facts.{Fact, TextIs}
 use Rattle.nntp_facts.specs.Given.{is_known, IsOneMore, HasGivenNumbers, asks_of, is_shown_group, first_given, id_shown}
 use Rattle.nntp_facts.specs.Given.{gives_article, is_sent, head_in, body_in, plain_head, is_mentioned, invented, unshown_in}
 use Rattle.nntp_facts.specs.Given.{unshown_ids, IsUsed, IsFirstFree, AreInvented, IsGiven}

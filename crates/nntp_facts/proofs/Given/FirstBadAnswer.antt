@@ -10,10 +10,10 @@ use Rattle.std.proofs.lemmas.Bool.{cases_order, true≢false}
 use Rattle.nntp_article.specs.Session.Spool.{Spool, Numbers, IsSpool, numbers, Name}
 use Rattle.nntp_article.specs.declared.session.profile.Profile.{Profile}
 use Rattle.nntp_article.specs.Session.Machine.{State, Visible, Run, start, visible_after}
-use Rattle.nntp_facts.specs.Asks.{position_after}
-use Rattle.nntp_facts.specs.declared.position.Position.{Position}
-use Rattle.nntp_facts.specs.declared.position.Position.TheVariants.{Nowhere}
-use Rattle.nntp_facts.specs.Facts.{Fact, facts_of, facts_from}
+use Rattle.nntp_said.specs.Asks.{position_after}
+use Rattle.nntp_said.specs.declared.position.Position.{Position}
+use Rattle.nntp_said.specs.declared.position.Position.TheVariants.{Nowhere}
+use Rattle.nntp_said.specs.Facts.{Fact, facts_of, facts_from}
 use Rattle.nntp_facts.specs.Given.{facts_of_session, size}
 use Rattle.nntp_facts.specs.Permits.{SomePermits, IsFirstUnpermitted}
 use Rattle.nntp_facts.proofs.Given.GivenSpoolExists.{some_or_none}

@@ -4,8 +4,8 @@ use Rattle.std.specs.List.{AllByRecursion}
 use Rattle.nntp_wire.specs.declared.marks.Marks.{Marks}
 use Rattle.nntp_article.specs.Session.Spool.{Spool, IsSpool, numbers, Name}
 use Rattle.nntp_article.specs.declared.session.profile.Profile.{Profile}
-use Rattle.nntp_facts.specs.Asks.{Meets}
-use Rattle.nntp_facts.specs.Facts.{Fact, Holds}
+use Rattle.nntp_said.specs.Asks.{Meets}
+use Rattle.nntp_said.specs.Facts.{Fact, Holds}
 use Rattle.nntp_facts.specs.Given.{IsGiven, unshown_ids, asks_of, size, HasAtLeast}
 use Rattle.nntp_facts.specs.Together.{Together}
 use Rattle.nntp_facts.proofs.Session.FittingFacts.{IsFitting}

@@ -12,8 +12,8 @@ use Rattle.nntp_article.specs.Article.Parts.{head_part, body_part, is_empty, is_
 use Rattle.nntp_article.specs.Session.Spool.{Spool, Text, Numbers, IsNumber, IsGroup, numbers, HasText, text_of, Name}
 use Rattle.nntp_article.specs.declared.session.profile.Profile.{Profile}
 use Rattle.nntp_article.specs.Session.Machine.{is_same, head_fits, active_fits, ActivesAgree}
-use Rattle.nntp_facts.specs.Asks.{Ask, Meets, Has, Bounds}
-use Rattle.nntp_facts.specs.Facts.{Fact, Holds, ThereIs, ThereIsNo, Asks, IdAt, TextIs, NoArticle, GroupsAre}
+use Rattle.nntp_said.specs.Asks.{Ask, Meets, Has, Bounds}
+use Rattle.nntp_said.specs.Facts.{Fact, Holds, ThereIs, ThereIsNo, Asks, IdAt, TextIs, NoArticle, GroupsAre}
 use Rattle.nntp_facts.specs.Given.{asks_in, asks_of, shows_group, id_in, id_shown, first_given, mentions, is_mentioned}
 use Rattle.nntp_facts.specs.Given.{gives_article, head_in, body_in, plain_head, invented, unshown_in, unshown_ids, IsGiven}
 use Rattle.nntp_facts.specs.Together.{IsWellFormed, denies_group, number_in, shows_article, denies_article, GiveOne, Together}

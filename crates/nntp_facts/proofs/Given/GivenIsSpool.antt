@@ -14,7 +14,7 @@ use Rattle.nntp_article.specs.Article.Parts.{is_empty, is_head, said_id, head_pa
 use Rattle.nntp_article.specs.Session.Spool.{Spool, Text, IsNumber, IsGroup, numbers, IsSpool, Name, is_line, Numbers}
 use Rattle.nntp_article.specs.declared.session.profile.Profile.{Profile}
 use Rattle.nntp_article.specs.Session.Machine.{is_same, says_own_id}
-use Rattle.nntp_facts.specs.Facts.{Fact, TextIs}
+use Rattle.nntp_said.specs.Facts.{Fact, TextIs}
 use Rattle.nntp_facts.specs.Given.{mentions, is_mentioned, gives_article, id_shown, first_given, head_in, body_in, plain_head, asks_of, is_shown, is_given_end, says_some}
 use Rattle.nntp_facts.specs.Together.{IsWellFormed, number_in, IsFewFor}
 use Rattle.nntp_facts.proofs.Members.{In, all_at, all_both, any_in, found_in, first_found}

@@ -5,7 +5,7 @@ use Rattle.nntp_article.proofs.SessionLemmas.AgreementDecided.{dec_run}
 use Rattle.nntp_article.specs.Session.Spool.{Spool, IsSpool}
 use Rattle.nntp_article.specs.declared.session.profile.Profile.{Profile}
 use Rattle.nntp_article.specs.Session.Machine.{Run, start}
-use Rattle.nntp_facts.specs.Facts.{FitsAll}
+use Rattle.nntp_said.specs.Facts.{FitsAll}
 use Rattle.nntp_facts.specs.Given.{IsGiven, facts_of_session, size}
 use Rattle.nntp_facts.specs.Together.{Together}
 use Rattle.nntp_facts.specs.Permits.{SomePermits}

@@ -7,7 +7,7 @@ use Rattle.std.specs.Cmp.Lexicographic.{nat_list_cmp_total}
 use Rattle.std.specs.FinMap.{get, keys, entries, empty, same_entries_map, same_map, nat_cmp-IsAntisymmetric}
 use Rattle.std.proofs.lemmas.Bool.{true≢false}
 use Rattle.nntp_article.specs.Session.Spool.{Spool, Text, Numbers, IsNumber, IsGroup, numbers, Name}
-use Rattle.nntp_facts.specs.Facts.{Fact}
+use Rattle.nntp_said.specs.Facts.{Fact}
 use Rattle.nntp_facts.specs.Given.{id_shown, is_mentioned, invented, AreInvented, unshown_in, IsGiven}
 use Rattle.nntp_facts.proofs.GivenNumbers.FirstFreeNumber.{first_free_once}
 use Rattle.nntp_facts.proofs.Members.{In}

@@ -6,14 +6,14 @@ use Rattle.nntp_article.proofs.SessionLemmas.AgreementDecided.{dec_run}
 use Rattle.nntp_article.specs.Session.Spool.{Spool, IsSpool}
 use Rattle.nntp_article.specs.declared.session.profile.Profile.{Profile}
 use Rattle.nntp_article.specs.Session.Machine.{start}
-use Rattle.nntp_facts.specs.declared.position.Position.TheVariants.{Nowhere}
-use Rattle.nntp_facts.specs.Facts.{Fact, Holds}
+use Rattle.nntp_said.specs.declared.position.Position.TheVariants.{Nowhere}
+use Rattle.nntp_said.specs.Facts.{Fact, Holds}
 use Rattle.nntp_facts.specs.Given.{IsGiven, HasAtLeast, size}
 use Rattle.nntp_facts.specs.Permits.{SomePermits}
 use Rattle.nntp_facts.specs.Together.{Together}
 use Rattle.nntp_facts.proofs.Members.{all_from, all_both, all_front, all_back}
-use Rattle.nntp_facts.proofs.Session.CurrentArticle.{run_from}
-use Rattle.nntp_facts.proofs.Session.FactsHold.{run_of_facts}
+use Rattle.nntp_said.proofs.CurrentArticle.{run_from}
+use Rattle.nntp_said.proofs.FactsHold.{run_of_facts}
 use Rattle.nntp_facts.proofs.Session.FittingFacts.{IsFitting, session_fitting}
 use Rattle.nntp_facts.proofs.Session.NumbersOfShownGroups.{Among, Placed, placed_among}
 use Rattle.nntp_facts.proofs.Together.FactsOfASpoolStand.{stand}

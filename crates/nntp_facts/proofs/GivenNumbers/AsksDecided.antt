@@ -9,7 +9,7 @@ use Rattle.nntp_article.proofs.SessionLemmas.FiniteMapsDecided.{Dec, dec_true, d
 use Rattle.nntp_article.specs.Session.Spool.{Numbers, IsNumber}
 use Rattle.nntp_facts.specs.declared.demand.Demand.{Demand}
 use Rattle.nntp_facts.specs.declared.demand.Demand.TheVariants.{NoDemand, NotEmpty, OnlyOne, SecondIs, Impossible}
-use Rattle.nntp_facts.specs.Asks.{Ask, Estimates}
+use Rattle.nntp_said.specs.Asks.{Ask, Estimates}
 use Rattle.nntp_facts.specs.Given.{demand, is_known, is_denied, IsGivenNumber, HasGivenNumbers}
 use Rattle.nntp_facts.specs.Together.{MeetsDemand, IsFewFor}
 use Rattle.nntp_facts.specs.Conflict.{AreTooMany}

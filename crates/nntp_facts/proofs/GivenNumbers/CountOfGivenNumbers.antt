@@ -5,7 +5,7 @@ use Rattle.std.specs.Cmp.{nat_cmp_total, unsigned_tied}
 use Rattle.std.specs.FinMap.{get, len, insert, get-insert, len-insert}
 use Rattle.std.proofs.lemmas.Bool.{true≢false, cases_eq, eq-eqb, ne_eqb, false_from_ne_true, ltb-true, lt-ltb}
 use Rattle.nntp_article.specs.Session.Spool.{Numbers, IsNumber}
-use Rattle.nntp_facts.specs.Asks.{Ask}
+use Rattle.nntp_said.specs.Asks.{Ask}
 use Rattle.nntp_facts.specs.Given.{is_known, demand, wants, IsOneMore, IsGivenNumber, HasGivenNumbers}
 use Rattle.nntp_facts.specs.declared.demand.Demand.{Demand}
 use Rattle.nntp_facts.specs.declared.demand.Demand.TheVariants.{NoDemand, NotEmpty, OnlyOne, SecondIs, Impossible}

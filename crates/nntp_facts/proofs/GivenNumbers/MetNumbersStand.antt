@@ -15,8 +15,8 @@ use Rattle.std.specs.Option.{option_map_or}
 use Rattle.std.proofs.lemmas.Bool.Decides.{nat_tests}
 use Rattle.nntp_article.specs.Session.Spool.{Numbers, IsNumber, least, IsNextAbove, IsNextBelow, NoneAbove, NoneBelow, IsInRange}
 use Rattle.nntp_article.specs.Session.Machine.{is_in_range}
-use Rattle.nntp_facts.specs.Asks.{current_in, Ask, Meets, Estimates, Bounds, ListsIn, Has, Lacks, StandsAt, StandsNowhere, StepsUp, StepsDown, IsTop, IsBottom}
-use Rattle.nntp_facts.specs.declared.position.Position.TheVariants.{Nowhere, First, Known}
+use Rattle.nntp_said.specs.Asks.{current_in, Ask, Meets, Estimates, Bounds, ListsIn, Has, Lacks, StandsAt, StandsNowhere, StepsUp, StepsDown, IsTop, IsBottom}
+use Rattle.nntp_said.specs.declared.position.Position.TheVariants.{Nowhere, First, Known}
 use Rattle.nntp_facts.specs.Given.{shows, denies, is_shown, is_denied, demand_in, join, demand, wants, IsOneMore, IsGivenNumber, HasGivenNumbers, says_some, is_end, is_given_end, is_known}
 use Rattle.nntp_facts.specs.declared.demand.Demand.{Demand}
 use Rattle.nntp_facts.specs.declared.demand.Demand.TheVariants.{NoDemand, NotEmpty, OnlyOne, SecondIs, Impossible}

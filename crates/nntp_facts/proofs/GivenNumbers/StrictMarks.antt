@@ -8,8 +8,8 @@ use Rattle.nntp_wire.specs.declared.marks.Marks.TheVariants.{Strict}
 use Rattle.nntp_wire.specs.Listing.{ActiveValue}
 use Rattle.nntp_article.specs.Session.Spool.{Name}
 use Rattle.nntp_article.specs.Session.Machine.{is_same}
-use Rattle.nntp_facts.specs.Asks.{Ask, Estimates, Bounds, Has}
-use Rattle.nntp_facts.specs.Facts.{Fact, Asks, IdAt, GroupsAre}
+use Rattle.nntp_said.specs.Asks.{Ask, Estimates, Bounds, Has}
+use Rattle.nntp_said.specs.Facts.{Fact, Asks, IdAt, GroupsAre}
 use Rattle.nntp_facts.specs.Given.{asks_in, asks_of, denies, demand, is_shown, is_known, is_end, says_some, IsOneMore}
 use Rattle.nntp_facts.proofs.Members.{In, all_at, any_in, found_in, to_flat, from_flat}
 use Rattle.nntp_facts.proofs.GivenNumbers.MetNumbersStand.{wants_less}

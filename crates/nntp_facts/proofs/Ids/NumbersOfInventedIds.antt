@@ -6,7 +6,7 @@ use Rattle.std.specs.Cmp.Lexicographic.{same_text}
 use Rattle.std.proofs.lemmas.Bool.{cases_lt, or_cases, or_left, or_right, eq-eqb}
 use Rattle.std.proofs.lemmas.Map.Steps.{le-length_from_below}
 use Rattle.nntp_article.specs.Session.Machine.{is_same}
-use Rattle.nntp_facts.specs.Facts.{Fact, IdAt, TextIs, NoArticle}
+use Rattle.nntp_said.specs.Facts.{Fact, IdAt, TextIs, NoArticle}
 use Rattle.nntp_facts.specs.Given.{mentions, is_mentioned, invented, AreInvented, id_shown, unshown_in}
 use Rattle.nntp_facts.proofs.Ids.InventedIds.{invented_number}
 use Rattle.nntp_facts.proofs.Members.{In, in_back, any_front, any_back}

@@ -4,8 +4,8 @@ use Rattle.std.proofs.lemmas.Bool.{eqb-true}
 use Rattle.nntp_article.specs.Article.Parts.{Id}
 use Rattle.nntp_article.specs.Session.Spool.{Name}
 use Rattle.nntp_article.specs.Session.Machine.{is_same}
-use Rattle.nntp_facts.specs.Asks.{Has}
-use Rattle.nntp_facts.specs.Facts.{Fact, IdAt}
+use Rattle.nntp_said.specs.Asks.{Has}
+use Rattle.nntp_said.specs.Facts.{Fact, IdAt}
 use Rattle.nntp_facts.specs.Given.{shows, is_shown, asks_in, asks_of, first_given, id_in}
 use Rattle.nntp_facts.specs.Together.{number_in, GiveOne}
 use Rattle.nntp_facts.proofs.Members.{In, any_in, to_flat, first_found}

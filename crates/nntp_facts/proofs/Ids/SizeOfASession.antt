@@ -2,10 +2,10 @@
 use Rattle.nntp_wire.specs.declared.marks.Marks.{Marks}
 use Rattle.std.proofs.Common.{ℕ, ◌+◌, ◌*◌, ◌<◌, ◌≤◌, ◌^◌, Bool, true, false, cond, ◌==◌, List, [], ◌∷◌, Some, length, arith}
 use Rattle.nntp_article.specs.Session.Machine.{Visible, visible_after, start}
-use Rattle.nntp_facts.specs.Asks.{position_after, Lacks, StandsNowhere, IsTop, IsBottom}
-use Rattle.nntp_facts.specs.declared.position.Position.{Position}
-use Rattle.nntp_facts.specs.declared.position.Position.TheVariants.{Nowhere}
-use Rattle.nntp_facts.specs.Facts.{Fact, ThereIsNo, NoArticle, Asks, IdAt, facts_of, facts_of_code, facts_from, on, here}
+use Rattle.nntp_said.specs.Asks.{position_after, Lacks, StandsNowhere, IsTop, IsBottom}
+use Rattle.nntp_said.specs.declared.position.Position.{Position}
+use Rattle.nntp_said.specs.declared.position.Position.TheVariants.{Nowhere}
+use Rattle.nntp_said.specs.Facts.{Fact, ThereIsNo, NoArticle, Asks, IdAt, facts_of, facts_of_code, facts_from, on, here}
 use Rattle.nntp_facts.specs.Given.{size, size_in, weight, facts_of_session}
 use Rattle.nntp_pair.specs.Pairing.{Paired, lines_in, asked_of, responses_of}
 use Rattle.nntp_facts.proofs.Given.FirstBadAnswer.{size-append}

@@ -5,7 +5,7 @@ use Rattle.std.specs.List.{AllByRecursion}
 use Rattle.std.specs.FinMap.{len, insert}
 use Rattle.std.proofs.lemmas.Bool.{true≢false, and_parts, and_from, false_from_ne_true, ltb-true, lt-ltb, le-leb, leb-true}
 use Rattle.nntp_article.specs.Session.Spool.{Numbers, IsNumber}
-use Rattle.nntp_facts.specs.Asks.{Ask, Estimates}
+use Rattle.nntp_said.specs.Asks.{Ask, Estimates}
 use Rattle.nntp_facts.specs.Conflict.{AreApart}
 use Rattle.nntp_facts.specs.Given.{is_known, is_denied, demand, wants, IsOneMore, IsGivenNumber, HasGivenNumbers}
 use Rattle.nntp_facts.specs.declared.demand.Demand.{Demand}

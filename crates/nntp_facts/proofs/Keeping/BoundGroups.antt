@@ -8,8 +8,8 @@ use Rattle.nntp_wire.specs.Listing.{ActiveValue}
 use Rattle.nntp_article.specs.Article.Parts.{Id}
 use Rattle.nntp_article.specs.Session.Spool.{Name}
 use Rattle.nntp_article.specs.Session.Machine.{is_same}
-use Rattle.nntp_facts.specs.Asks.{Bounds}
-use Rattle.nntp_facts.specs.Facts.{Fact, GroupsAre}
+use Rattle.nntp_said.specs.Asks.{Bounds}
+use Rattle.nntp_said.specs.Facts.{Fact, GroupsAre}
 use Rattle.nntp_facts.specs.Given.{asks_of, shows_group, is_shown_group, first_given, id_in}
 use Rattle.nntp_facts.specs.Together.{number_in}
 use Rattle.nntp_facts.specs.Kept.{told, IsKeptGroup, IsUntold, AreKeptGroups, with_part, Changes}

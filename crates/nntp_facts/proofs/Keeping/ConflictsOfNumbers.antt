@@ -5,7 +5,7 @@ use Rattle.std.specs.FinMap.{len}
 use Rattle.std.proofs.lemmas.Bool.{cases_lt, true≢false, and_from, or_cases, eqb-true, false_from_ne_true}
 use Rattle.nntp_intervals.specs.Intervals.{holds}
 use Rattle.nntp_article.specs.Session.Spool.{Numbers}
-use Rattle.nntp_facts.specs.Asks.{Ask}
+use Rattle.nntp_said.specs.Asks.{Ask}
 use Rattle.nntp_facts.specs.Given.{is_shown, is_known, is_denied, demand, wants, IsOneMore, IsGivenNumber, HasGivenNumbers}
 use Rattle.nntp_facts.specs.Together.{MeetsDemand}
 use Rattle.nntp_facts.specs.Part.{is_end_of, is_within_all}

@@ -7,8 +7,8 @@ use Rattle.nntp_wire.specs.declared.command.What.{What}
 use Rattle.nntp_article.specs.Article.Parts.{Id, Line}
 use Rattle.nntp_article.specs.Session.Spool.{Name}
 use Rattle.nntp_article.specs.Session.Machine.{is_same}
-use Rattle.nntp_facts.specs.Asks.{Ask, Has}
-use Rattle.nntp_facts.specs.Facts.{Fact, ThereIs, ThereIsNo, Asks, IdAt, TextIs, NoArticle}
+use Rattle.nntp_said.specs.Asks.{Ask, Has}
+use Rattle.nntp_said.specs.Facts.{Fact, ThereIs, ThereIsNo, Asks, IdAt, TextIs, NoArticle}
 use Rattle.nntp_facts.specs.Given.{asks_of, shows_group, is_shown_group, first_given, id_in}
 use Rattle.nntp_facts.specs.Together.{denies_group, number_in}
 use Rattle.nntp_facts.specs.Saying.{OfGroup, OfArticle, Lacks, Exists, Sends, Saying, asked_id, sent_facts, lack_facts, id_facts, group_facts, there_facts, missing_facts, groups_facts, facts_in}

@@ -6,8 +6,8 @@ use Rattle.std.proofs.lemmas.Bool.{true≢false, and_from, or_left, or_right, or
 use Rattle.std.proofs.Math.Nat.{min-eq_left, min-eq_right, max-eq_left, max-eq_right}
 use Rattle.nntp_wire.specs.declared.water_marks.WaterMarks.{WaterMarks}
 use Rattle.nntp_wire.specs.declared.marks.Marks.TheVariants.{Lenient, Strict}
-use Rattle.nntp_facts.specs.Asks.{Ask, Estimates, ListsIn, Has, StandsAt, StepsUp, StepsDown, IsTop, IsBottom}
-use Rattle.nntp_facts.specs.declared.position.Position.TheVariants.{First}
+use Rattle.nntp_said.specs.Asks.{Ask, Estimates, ListsIn, Has, StandsAt, StepsUp, StepsDown, IsTop, IsBottom}
+use Rattle.nntp_said.specs.declared.position.Position.TheVariants.{First}
 use Rattle.nntp_facts.specs.Given.{shows, denies, is_shown, is_denied, is_known, is_end, says_some, demand_in, join, demand}
 use Rattle.nntp_facts.specs.Part.{join_ends, ends_in, ends_of, is_end_of, is_demanding}
 use Rattle.nntp_facts.specs.declared.demand.Demand.{Demand}

@@ -12,7 +12,7 @@ use Rattle.nntp_wire.specs.declared.command.What.{What}
 use Rattle.nntp_article.specs.Article.Parts.{Id, Line}
 use Rattle.nntp_article.specs.Session.Spool.{Name}
 use Rattle.nntp_article.specs.Session.Machine.{is_same}
-use Rattle.nntp_facts.specs.Facts.{Fact, IdAt, TextIs, NoArticle}
+use Rattle.nntp_said.specs.Facts.{Fact, IdAt, TextIs, NoArticle}
 use Rattle.nntp_facts.specs.Given.{mentions, is_mentioned, gives_article, first_given, head_in, body_in}
 use Rattle.nntp_facts.specs.Together.{shows_article, denies_article, GiveSame, JoinArticles}
 use Rattle.nntp_facts.specs.Kept.{KeptArticle, AreKeptArticles}

@@ -17,7 +17,7 @@ use Rattle.nntp_wire.specs.Wildmat.{is_wildmat}
 use Rattle.nntp_wire.specs.Listing.{ActiveValue}
 use Rattle.nntp_article.specs.Session.Spool.{Name}
 use Rattle.nntp_article.specs.Session.Machine.{is_same}
-use Rattle.nntp_facts.specs.Facts.{Fact, GroupsAre}
+use Rattle.nntp_said.specs.Facts.{Fact, GroupsAre}
 use Rattle.nntp_facts.specs.Given.{shows_group, is_shown_group}
 use Rattle.nntp_facts.specs.Together.{denies_group}
 use Rattle.nntp_facts.specs.Kept.{KeptNames, WasAnswered, AreKeptNames}

@@ -5,7 +5,7 @@ use Rattle.std.specs.Ordering.{nat_cmp}
 use Rattle.std.specs.Cmp.Lexicographic.{slice_cmp}
 use Rattle.std.specs.FinMap.{FinMap, get}
 use Rattle.nntp_article.specs.Session.Spool.{Name}
-use Rattle.nntp_facts.specs.Facts.{Fact}
+use Rattle.nntp_said.specs.Facts.{Fact}
 use Rattle.nntp_facts.specs.Together.{denies_group}
 use Rattle.nntp_facts.specs.Kept.{told, IsUntold, IsKeptGroup, KeptGroup, AreKept, KeptNames, AreKeptNames}
 use Rattle.nntp_facts.proofs.Together.TwoListsOfFacts.{any_silent}

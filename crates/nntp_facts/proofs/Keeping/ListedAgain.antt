@@ -12,7 +12,7 @@ use Rattle.nntp_wire.specs.Decided.{matches_name}
 use Rattle.nntp_wire.specs.Listing.{ActiveValue}
 use Rattle.nntp_article.specs.Session.Spool.{Name}
 use Rattle.nntp_article.specs.Session.Machine.{is_same, names_differ}
-use Rattle.nntp_facts.specs.Facts.{Fact, GroupsAre}
+use Rattle.nntp_said.specs.Facts.{Fact, GroupsAre}
 use Rattle.nntp_facts.specs.Given.{shows_group, is_shown_group}
 use Rattle.nntp_facts.specs.Together.{denies_group, Together}
 use Rattle.nntp_facts.specs.ListedGroups.{MayList, WereListed, is_listed, LineJoins, NoneIsMissing}

@@ -9,8 +9,8 @@ use Rattle.nntp_wire.specs.Listing.{ActiveValue}
 use Rattle.nntp_wire.specs.Decided.{matches_name}
 use Rattle.nntp_article.specs.Session.Spool.{Name}
 use Rattle.nntp_article.specs.Session.Machine.{is_same, names_differ}
-use Rattle.nntp_facts.specs.Asks.{Ask, Bounds}
-use Rattle.nntp_facts.specs.Facts.{Fact, GroupsAre}
+use Rattle.nntp_said.specs.Asks.{Ask, Bounds}
+use Rattle.nntp_said.specs.Facts.{Fact, GroupsAre}
 use Rattle.nntp_facts.specs.Given.{asks_of, is_shown_group}
 use Rattle.nntp_facts.specs.Together.{IsWellFormed, AsksStand, denies_group, Together, Join}
 use Rattle.nntp_facts.specs.ListedGroups.{is_listed, LineJoins, NoneIsMissing}

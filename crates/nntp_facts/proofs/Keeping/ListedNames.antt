@@ -12,14 +12,14 @@ use Rattle.std.specs.FinMap.{get}
 use Rattle.std.proofs.lemmas.Bool.{true≢false, and_parts, and_from, not-true, false_from_ne_true}
 use Rattle.nntp_wire.specs.Name.{IsGroupName}
 use Rattle.nntp_facts.specs.Together.{denies_group}
-use Rattle.nntp_facts.specs.Facts.{GroupsAre}
+use Rattle.nntp_said.specs.Facts.{GroupsAre}
 use Rattle.nntp_wire.specs.Decided.{is_group_name, matches_name}
 use Rattle.nntp_wire.proofs.DecidedLemmas.{group_name-iff}
 use Rattle.nntp_wire.proofs.ShownMaps.{shown, get-shown, is_some-option_map}
 use Rattle.nntp_wire.specs.Listing.{ActiveValue}
 use Rattle.nntp_article.specs.Session.Spool.{Name}
 use Rattle.nntp_article.specs.Session.Machine.{is_same}
-use Rattle.nntp_facts.specs.Facts.{Fact}
+use Rattle.nntp_said.specs.Facts.{Fact}
 use Rattle.nntp_facts.specs.Given.{is_shown_group}
 use Rattle.nntp_facts.specs.Together.{Together}
 use Rattle.nntp_facts.specs.Kept.{KeptGroup, told, AreKeptGroups}

@@ -17,7 +17,7 @@ use Rattle.std.proofs.lemmas.Map.Views.{tells_apart}
 use Rattle.std.proofs.lemmas.Map.Lookups.{exact_unsigned}
 use Rattle.nntp_intervals.specs.Intervals.{holds, is_between}
 use Rattle.nntp_article.specs.Session.Spool.{Numbers, IsNumber}
-use Rattle.nntp_facts.specs.Asks.{Ask}
+use Rattle.nntp_said.specs.Asks.{Ask}
 use Rattle.nntp_facts.specs.Given.{shows, denies, is_shown, is_denied, says_some, demand, join, wants, is_known}
 use Rattle.nntp_facts.specs.declared.demand.Demand.{Demand}
 use Rattle.nntp_facts.specs.declared.demand.Demand.TheVariants.{NoDemand}

@@ -11,7 +11,7 @@ use Rattle.nntp_wire.specs.declared.command.What.{What}
 use Rattle.nntp_wire.proofs.ShownMaps.{insert-same}
 use Rattle.nntp_article.specs.Article.Parts.{Id, Line}
 use Rattle.nntp_article.specs.Session.Spool.{Name}
-use Rattle.nntp_facts.specs.Facts.{Fact, IdAt, TextIs, NoArticle}
+use Rattle.nntp_said.specs.Facts.{Fact, IdAt, TextIs, NoArticle}
 use Rattle.nntp_facts.specs.Together.{JoinArticles, shows_article}
 use Rattle.nntp_facts.specs.Kept.{KeptArticle, AreKeptArticles, IsAddedIf, IsFactAdded}
 use Rattle.nntp_facts.specs.Articles.{head_sent, body_sent, AreSame, MayBeSent, denied, unsent, with_sent, is_there, with_new}

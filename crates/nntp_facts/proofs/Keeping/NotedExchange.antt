@@ -10,10 +10,10 @@ use Rattle.nntp_article.specs.declared.session.profile.Profile.{Profile}
 use Rattle.nntp_article.specs.Session.Spool.{Spool, Name}
 use Rattle.nntp_article.specs.Session.Machine.{Visible, Run, start, fits, visible_after}
 use Rattle.nntp_pair.specs.Pairing.{Paired, IsSpelled, asked_at, asked_of, responses_of, lines_in}
-use Rattle.nntp_facts.specs.Asks.{position_after}
-use Rattle.nntp_facts.specs.declared.position.Position.{Position}
-use Rattle.nntp_facts.specs.declared.position.Position.TheVariants.{Nowhere}
-use Rattle.nntp_facts.specs.Facts.{Fact, FitsAll, here, facts_of}
+use Rattle.nntp_said.specs.Asks.{position_after}
+use Rattle.nntp_said.specs.declared.position.Position.{Position}
+use Rattle.nntp_said.specs.declared.position.Position.TheVariants.{Nowhere}
+use Rattle.nntp_said.specs.Facts.{Fact, FitsAll, here, facts_of}
 use Rattle.nntp_facts.specs.Given.{facts_of_session, shows_group, size}
 use Rattle.nntp_facts.specs.Together.{IsWellFormed, Together, Join}
 use Rattle.nntp_facts.specs.Answered.{Answered, SomePermitsEach, facts_of_all}

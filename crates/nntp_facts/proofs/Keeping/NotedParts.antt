@@ -5,8 +5,8 @@ use Rattle.std.specs.List.{AllByRecursion}
 use Rattle.std.proofs.lemmas.Bool.{true≢false}
 use Rattle.nntp_article.specs.Article.Parts.{Id}
 use Rattle.nntp_wire.specs.Listing.{ActiveValue}
-use Rattle.nntp_facts.specs.Asks.{Ask}
-use Rattle.nntp_facts.specs.Facts.{Fact, GroupsAre}
+use Rattle.nntp_said.specs.Asks.{Ask}
+use Rattle.nntp_said.specs.Facts.{Fact, GroupsAre}
 use Rattle.nntp_facts.specs.Together.{IsWellFormed, Together, JoinArticles, Join}
 use Rattle.nntp_facts.specs.ListedGroups.{MayList}
 use Rattle.nntp_facts.specs.Saying.{OfGroup, OfArticle, Lacks, Exists, Sends, Saying, sent_facts, there_facts, group_facts, missing_facts, lack_facts, groups_facts, facts_in, IsToExist, MayBeOf, IsAlone, Tells}

@@ -2,7 +2,7 @@
 use Rattle.std.proofs.Common.{◌≡◌, ℕ, ◌≤◌, Bool, true, false, cond, IsTrue, List, Option, None, Some, inl, inr, refl, sym, ap, subst, ◌∙◌, arith, [], ◌∷◌}
 use Rattle.std.specs.List.{list_any, flat_map}
 use Rattle.std.proofs.lemmas.Bool.{false_from_ne_true, true≢false}
-use Rattle.nntp_facts.specs.Asks.{Ask}
+use Rattle.nntp_said.specs.Asks.{Ask}
 use Rattle.nntp_facts.specs.Given.{is_known, is_denied, demand, wants, IsOneMore}
 use Rattle.nntp_facts.specs.Readers.{free, if_wanted}
 use Rattle.nntp_facts.proofs.GivenNumbers.FirstFreeNumber.{free_is, free_none, first_free_once}

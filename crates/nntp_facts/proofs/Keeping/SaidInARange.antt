@@ -10,7 +10,7 @@ use Rattle.nntp_wire.specs.declared.water_marks.WaterMarks.{WaterMarks}
 use Rattle.nntp_wire.specs.declared.range.Range.{Range}
 use Rattle.nntp_intervals.specs.Intervals.{is_between}
 use Rattle.nntp_article.specs.Session.Machine.{is_in_range}
-use Rattle.nntp_facts.specs.Asks.{Estimates, ListsIn}
+use Rattle.nntp_said.specs.Asks.{Estimates, ListsIn}
 use Rattle.nntp_facts.specs.Part.{Says, is_one_of, ends_in, join_ends, AreListable, last_in}
 use Rattle.nntp_facts.specs.PartOf.{IsSmall, nothing_said, part_with}
 use Rattle.nntp_facts.specs.declared.ends.Ends.{Ends}

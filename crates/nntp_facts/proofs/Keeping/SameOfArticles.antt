@@ -8,7 +8,7 @@ use Rattle.std.specs.FinMap.{FinMap, get}
 use Rattle.std.specs.Prelude.{IfSome}
 use Rattle.std.proofs.lemmas.List.Folds.{list_any-append}
 use Rattle.nntp_article.specs.Article.Parts.{Id}
-use Rattle.nntp_facts.specs.Facts.{Fact}
+use Rattle.nntp_said.specs.Facts.{Fact}
 use Rattle.nntp_facts.specs.Given.{first_given, head_in, body_in, is_mentioned, mentions, is_sent, gives_article}
 use Rattle.nntp_facts.specs.Together.{shows_article, denies_article, JoinArticles}
 use Rattle.nntp_facts.specs.Kept.{KeptArticle, IsKeptArticle, AreKeptArticles}

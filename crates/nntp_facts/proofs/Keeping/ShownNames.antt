@@ -5,7 +5,7 @@ use Rattle.std.specs.Cmp.Lexicographic.{same_text}
 use Rattle.nntp_wire.specs.Name.{IsGroupName}
 use Rattle.nntp_article.specs.Session.Spool.{Name}
 use Rattle.nntp_article.specs.Session.Machine.{is_same}
-use Rattle.nntp_facts.specs.Facts.{Fact, ThereIs, GroupsAre}
+use Rattle.nntp_said.specs.Facts.{Fact, ThereIs, GroupsAre}
 use Rattle.nntp_facts.specs.Given.{shows_group, is_shown_group}
 use Rattle.nntp_facts.specs.Together.{IsWellFormed}
 use Rattle.nntp_facts.proofs.Members.{all_at, found_in}

@@ -10,8 +10,8 @@ use Rattle.std.proofs.lemmas.Bool.{true≢false, false_from_ne_true}
 use Rattle.nntp_article.specs.Article.Parts.{Id}
 use Rattle.nntp_article.specs.Session.Spool.{Name}
 use Rattle.nntp_article.specs.Session.Machine.{is_same}
-use Rattle.nntp_facts.specs.Asks.{Ask}
-use Rattle.nntp_facts.specs.Facts.{Fact}
+use Rattle.nntp_said.specs.Asks.{Ask}
+use Rattle.nntp_said.specs.Facts.{Fact}
 use Rattle.nntp_facts.specs.Given.{asks_of, shows_group, first_given, id_in, head_in, body_in, is_mentioned, mentions, is_sent, gives_article}
 use Rattle.nntp_facts.specs.Together.{AsksStand, number_in, shows_article, denies_article, GiveSame, Together, JoinNumbers, JoinIds, JoinArticles}
 use Rattle.nntp_facts.specs.Kept.{KeptGroup, Told, told, IsKeptGroup, IsUntold, AreKept, AreKeptArticles, IsKeptArticle, KeptArticle}

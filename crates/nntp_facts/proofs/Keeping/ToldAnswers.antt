@@ -13,9 +13,9 @@ use Rattle.nntp_pair.specs.Pairing.{lines_in}
 use Rattle.nntp_article.specs.Session.Spool.{Name}
 use Rattle.nntp_article.specs.Session.Machine.{Visible, start, fits, is_same}
 use Rattle.nntp_article.specs.declared.session.profile.Profile.{Profile}
-use Rattle.nntp_facts.specs.declared.position.Position.{Position}
-use Rattle.nntp_facts.specs.Asks.{Estimates}
-use Rattle.nntp_facts.specs.Facts.{Fact, Holds, ThereIs, here, facts_of, group_of}
+use Rattle.nntp_said.specs.declared.position.Position.{Position}
+use Rattle.nntp_said.specs.Asks.{Estimates}
+use Rattle.nntp_said.specs.Facts.{Fact, Holds, ThereIs, here, facts_of, group_of}
 use Rattle.nntp_facts.specs.Given.{is_shown_group, shows_group, size}
 use Rattle.nntp_facts.specs.Part.{Said, Says}
 use Rattle.nntp_facts.specs.Summary.{AreBounded}

@@ -13,8 +13,8 @@ use Rattle.nntp_article.specs.Article.Parts.{Id, Line}
 use Rattle.nntp_article.specs.Session.Spool.{Name}
 use Rattle.nntp_article.specs.Session.Machine.{is_same}
 use Rattle.nntp_article.specs.declared.session.profile.Profile.{Profile}
-use Rattle.nntp_facts.specs.Asks.{Ask, Bounds, Estimates}
-use Rattle.nntp_facts.specs.Facts.{Fact, ThereIs, Asks, GroupsAre, group_of}
+use Rattle.nntp_said.specs.Asks.{Ask, Bounds, Estimates}
+use Rattle.nntp_said.specs.Facts.{Fact, ThereIs, Asks, GroupsAre, group_of}
 use Rattle.nntp_facts.specs.Given.{asks_of, shows_group, is_shown_group, first_given, id_in, head_in, body_in, is_known, is_denied, demand, IsGivenNumber}
 use Rattle.nntp_facts.specs.Together.{is_possible, MeetsDemand, GiveOne, denies_group, number_in, shows_article, denies_article}
 use Rattle.nntp_facts.specs.Part.{Says}

@@ -7,8 +7,8 @@ use Rattle.nntp_wire.specs.declared.limit.Limit.TheVariants.{Narrow, Wide}
 use Rattle.nntp_wire.specs.declared.marks.Marks.TheVariants.{Lenient}
 use Rattle.nntp_article.specs.Session.Spool.{Name}
 use Rattle.nntp_article.specs.declared.session.profile.Profile.{Profile}
-use Rattle.nntp_facts.specs.Asks.{Ask, Estimates}
-use Rattle.nntp_facts.specs.Facts.{Fact}
+use Rattle.nntp_said.specs.Asks.{Ask, Estimates}
+use Rattle.nntp_said.specs.Facts.{Fact}
 use Rattle.nntp_facts.specs.Given.{asks_of, is_denied, denies, demand, IsGivenNumber}
 use Rattle.nntp_facts.specs.Together.{MeetsDemand}
 use Rattle.nntp_facts.specs.Summary.{AreBounded}

@@ -9,8 +9,8 @@ use Rattle.nntp_wire.specs.declared.marks.Marks.{Marks}
 use Rattle.nntp_article.specs.Session.Spool.{Name}
 use Rattle.nntp_article.specs.Session.Machine.{Visible, start, fits, is_same}
 use Rattle.nntp_article.specs.declared.session.profile.Profile.{Profile}
-use Rattle.nntp_facts.specs.declared.position.Position.{Position}
-use Rattle.nntp_facts.specs.Facts.{Fact, ThereIs, here, facts_of, group_of}
+use Rattle.nntp_said.specs.declared.position.Position.{Position}
+use Rattle.nntp_said.specs.Facts.{Fact, ThereIs, here, facts_of, group_of}
 use Rattle.nntp_facts.specs.Given.{is_shown_group}
 use Rattle.nntp_facts.specs.Together.{IsWellFormed}
 use Rattle.nntp_facts.specs.Saying.{Saying, OfGroup, TellsHere, TellsThere, IsSelectedShown, numbers_listed, sent_facts, there_facts}

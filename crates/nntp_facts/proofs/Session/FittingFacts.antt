@@ -8,10 +8,10 @@ use Rattle.nntp_article.specs.Session.Spool.{Name}
 use Rattle.nntp_article.specs.declared.session.profile.Profile.{Profile}
 use Rattle.nntp_article.specs.Session.Machine.{Visible, visible_after, start, fits, marks_fit, are_zeros, is_ascending, is_same, is_article_number, is_in_range, number_fits, head_fits, active_fits}
 use Rattle.nntp_wire.specs.Listing.{listed_numbers, active_groups}
-use Rattle.nntp_facts.specs.Asks.{position_after, Estimates, ListsIn, Has, StandsAt, StepsUp, StepsDown}
-use Rattle.nntp_facts.specs.declared.position.Position.{Position}
-use Rattle.nntp_facts.specs.declared.position.Position.TheVariants.{Nowhere}
-use Rattle.nntp_facts.specs.Facts.{Fact, Asks, IdAt, TextIs, GroupsAre, on, facts_of_code, facts_of, facts_from, FitsAll}
+use Rattle.nntp_said.specs.Asks.{position_after, Estimates, ListsIn, Has, StandsAt, StepsUp, StepsDown}
+use Rattle.nntp_said.specs.declared.position.Position.{Position}
+use Rattle.nntp_said.specs.declared.position.Position.TheVariants.{Nowhere}
+use Rattle.nntp_said.specs.Facts.{Fact, Asks, IdAt, TextIs, GroupsAre, on, facts_of_code, facts_of, facts_from, FitsAll}
 use Rattle.nntp_facts.specs.Given.{facts_of_session}
 use Rattle.nntp_facts.proofs.Members.{all_both, all_from, each_of}
 use Rattle.nntp_wire.specs.Answer.{Asked, Response, Success, success_code, to, group_is, numbers_are, sends, active_are, plain}

@@ -7,9 +7,9 @@ use Rattle.nntp_wire.specs.Answer.{Asked, Response, to, group_is, numbers_are, s
 use Rattle.nntp_wire.specs.Command.{Request, by_id, by_number, current, group, list_group, next, last, retrieve, list_active}
 use Rattle.nntp_article.specs.Session.Spool.{Name}
 use Rattle.nntp_article.specs.Session.Machine.{Visible}
-use Rattle.nntp_facts.specs.Asks.{Lacks, StandsAt, StandsNowhere, StepsUp, StepsDown, IsTop, IsBottom}
-use Rattle.nntp_facts.specs.declared.position.Position.{Position}
-use Rattle.nntp_facts.specs.Facts.{Fact, ThereIs, ThereIsNo, Asks, IdAt, TextIs, NoArticle, GroupsAre, here, on, facts_of_code, facts_of, group_of}
+use Rattle.nntp_said.specs.Asks.{Lacks, StandsAt, StandsNowhere, StepsUp, StepsDown, IsTop, IsBottom}
+use Rattle.nntp_said.specs.declared.position.Position.{Position}
+use Rattle.nntp_said.specs.Facts.{Fact, ThereIs, ThereIsNo, Asks, IdAt, TextIs, NoArticle, GroupsAre, here, on, facts_of_code, facts_of, group_of}
 use Rattle.nntp_facts.proofs.Members.{all_both, all_from, all_at}
 
 -- the fact speaks of the numbers of no other group

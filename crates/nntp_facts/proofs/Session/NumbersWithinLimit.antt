@@ -10,9 +10,9 @@ use Rattle.std.proofs.lemmas.Bool.{true≢false, and_parts, or_cases, or_right, 
 use Rattle.nntp_article.specs.Session.Spool.{Name}
 use Rattle.nntp_article.specs.declared.session.profile.Profile.{Profile}
 use Rattle.nntp_article.specs.Session.Machine.{is_same, is_article_number, active_fits}
-use Rattle.nntp_facts.specs.Asks.{Ask, Estimates, Bounds, ListsIn, Has, StandsAt, StepsUp, StepsDown}
-use Rattle.nntp_facts.specs.declared.position.Position.TheVariants.{First}
-use Rattle.nntp_facts.specs.Facts.{Fact, ThereIs, Asks, IdAt, GroupsAre}
+use Rattle.nntp_said.specs.Asks.{Ask, Estimates, Bounds, ListsIn, Has, StandsAt, StepsUp, StepsDown}
+use Rattle.nntp_said.specs.declared.position.Position.TheVariants.{First}
+use Rattle.nntp_said.specs.Facts.{Fact, ThereIs, Asks, IdAt, GroupsAre}
 use Rattle.nntp_facts.specs.Given.{is_shown_group, asks_in, asks_of, shows, denies, is_shown, is_denied, shows_group, is_end}
 use Rattle.nntp_facts.proofs.Members.{In, all_at, any_in, found_in, to_flat, from_flat}
 use Rattle.nntp_facts.proofs.Together.FactsOfASpoolStand.{same_itself}

@@ -9,9 +9,9 @@ use Rattle.std.proofs.lemmas.Grind.{flat_map-append}
 use Rattle.nntp_article.specs.Article.Parts.{Id}
 use Rattle.nntp_article.specs.Session.Spool.{Name}
 use Rattle.nntp_article.specs.Session.Machine.{Visible, is_same}
-use Rattle.nntp_facts.specs.Asks.{Ask, Estimates, ListsIn, StandsAt, StandsNowhere, StepsUp, StepsDown, IsTop, IsBottom, Lacks}
-use Rattle.nntp_facts.specs.declared.position.Position.{Position}
-use Rattle.nntp_facts.specs.Facts.{Fact, ThereIs, ThereIsNo, Asks, IdAt, TextIs, NoArticle, GroupsAre, here, facts_of_code, facts_of}
+use Rattle.nntp_said.specs.Asks.{Ask, Estimates, ListsIn, StandsAt, StandsNowhere, StepsUp, StepsDown, IsTop, IsBottom, Lacks}
+use Rattle.nntp_said.specs.declared.position.Position.{Position}
+use Rattle.nntp_said.specs.Facts.{Fact, ThereIs, ThereIsNo, Asks, IdAt, TextIs, NoArticle, GroupsAre, here, facts_of_code, facts_of}
 use Rattle.nntp_facts.specs.Given.{asks_in, asks_of, shows_group, id_in, head_in, body_in}
 use Rattle.nntp_facts.specs.Together.{IsWellFormed, AsksStand, denies_group, number_in, shows_article, denies_article, Together, AgreeWithin, Join}
 use Rattle.nntp_facts.proofs.Members.{all_both, all_back}

@@ -17,8 +17,8 @@ use Rattle.nntp_wire.proofs.OctetLemmas.{octets-parts, unstuffed-octets}
 use Rattle.nntp_article.specs.Session.Spool.{is_line}
 use Rattle.nntp_article.specs.Session.Machine.{Visible}
 use Rattle.nntp_wire.proofs.ListingLemmas.{active_groups-named}
-use Rattle.nntp_facts.specs.declared.position.Position.{Position}
-use Rattle.nntp_facts.specs.Facts.{Fact, on, facts_of_code, facts_of}
+use Rattle.nntp_said.specs.declared.position.Position.{Position}
+use Rattle.nntp_said.specs.Facts.{Fact, on, facts_of_code, facts_of}
 use Rattle.nntp_facts.specs.Together.{IsWellFormed}
 use Rattle.nntp_facts.proofs.Members.{all_both}
 

@@ -7,7 +7,7 @@ ghost use Rattle.std.specs.BTreeMap.{keys};
 ghost use Rattle.nntp_wire.specs.Listing.{active_groups};
 ghost use Rattle.nntp_article.specs.Session.Spool.{Name};
 ghost use Rattle.nntp_article.specs.Session.Machine.{is_same};
-ghost use Rattle.nntp_facts.specs.Facts.{Fact, GroupsAre};
+ghost use Rattle.nntp_said.specs.Facts.{Fact, GroupsAre};
 ghost use Rattle.nntp_facts.specs.Together.{Together, denies_group};
 ghost use Rattle.nntp_wire.specs.Name.{IsGroupName};
 ghost use Rattle.nntp_facts.specs.Given.{is_shown_group};

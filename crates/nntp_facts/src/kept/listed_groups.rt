@@ -3,7 +3,7 @@ ghost use Rattle.std.specs.Prelude.{◌≡◌, ◌↔◌, ◌++◌, ◌∷◌, [
 ghost use Rattle.std.specs.List.{AllByRecursion};
 ghost use Rattle.nntp_wire.specs.Listing.{active_groups};
 ghost use Rattle.nntp_wire.specs.View.{active_value};
-ghost use Rattle.nntp_facts.specs.Facts.{Fact, GroupsAre};
+ghost use Rattle.nntp_said.specs.Facts.{Fact, GroupsAre};
 ghost use Rattle.nntp_facts.specs.Together.{IsWellFormed, Together, Join};
 ghost use Rattle.nntp_facts.specs.Kept.{IsKept, AreAdded};
 ghost use Rattle.nntp_facts.specs.ListedGroups.{MayList, LineJoins, NoneIsMissing};

@@ -4,7 +4,7 @@ ghost use Rattle.std.specs.List.{AllByRecursion};
 ghost use Rattle.nntp_wire.specs.Limit.{greatest};
 ghost use Rattle.nntp_article.specs.declared.session.profile.Profile.{Profile};
 ghost use Rattle.nntp_article.specs.Session.Limit.{profile_of};
-ghost use Rattle.nntp_facts.specs.Facts.{Fact, group_of};
+ghost use Rattle.nntp_said.specs.Facts.{Fact, group_of};
 ghost use Rattle.nntp_facts.specs.Together.{Together};
 ghost use Rattle.nntp_facts.specs.Conflict.{Placed as PlacedValue, a_group, the_group, told, FitsThere};
 ghost use Rattle.nntp_facts.specs.Kept.{IsKept, AreAdded};

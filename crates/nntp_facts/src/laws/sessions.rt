@@ -3,7 +3,7 @@ ghost use Rattle.std.specs.Prelude.{◌≡◌, ◌↔◌, ◌⊎◌, ◌<◌, �
 ghost use Rattle.std.specs.List.{AllByRecursion};
 ghost use Rattle.nntp_article.specs.Session.Spool.{Spool, IsSpool};
 ghost use Rattle.nntp_article.specs.declared.session.profile.Profile.{Profile};
-ghost use Rattle.nntp_facts.specs.Facts.{Holds, facts_of};
+ghost use Rattle.nntp_said.specs.Facts.{Holds, facts_of};
 ghost use Rattle.nntp_facts.specs.Given.{IsGiven, HasAtLeast, facts_of_session, size};
 ghost use Rattle.nntp_facts.specs.Together.{Together, Join};
 ghost use Rattle.nntp_pair.specs.declared.class.Class.TheVariants.{OutOfPlace, Contradiction as Contradicts};
@@ -12,7 +12,7 @@ ghost use Rattle.nntp_facts.specs.Kept.{Kept, IsKept};
 ghost use Rattle.nntp_facts.specs.Saying.{IsSelectedShown};
 ghost use Rattle.nntp_facts.specs.declared.noted.Noted.TheVariants.{Consistent, OutOfPlace as NotedOutOfPlace, Contradiction};
 ghost use Rattle.nntp_facts.specs.Classes.{visible_from, position_from, asked_next};
-ghost use Rattle.nntp_facts.specs.declared.position.Position.TheVariants.{Nowhere};
+ghost use Rattle.nntp_said.specs.declared.position.Position.TheVariants.{Nowhere};
 ghost use Rattle.nntp_pair.specs.Pairing.{Paired, Unpaired, IsNext, asked_of, responses_of};
 ghost use Rattle.nntp_wire.specs.Answer.{Asked, Response};
 ghost use Rattle.nntp_wire.specs.declared.marks.Marks.{Marks};

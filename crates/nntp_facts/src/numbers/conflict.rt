@@ -1,6 +1,6 @@
 //! The parts of what is said of the numbers of a group, each by itself.
 ghost use Rattle.std.specs.Prelude.{◌≡◌, ℕ, ◌^◌, ◌<◌, ◌-◌, ◌↔◌, ◌&&◌, List, Option, IsTrue, MatchOption};
-ghost use Rattle.nntp_facts.specs.Asks.{Ask};
+ghost use Rattle.nntp_said.specs.Asks.{Ask};
 ghost use Rattle.nntp_facts.specs.Given.{is_known, is_denied, demand, wants, IsOneMore, IsGivenNumber};
 ghost use Rattle.nntp_facts.specs.Part.{is_end_of};
 ghost use Rattle.nntp_facts.specs.Together.{MeetsDemand};

@@ -1,6 +1,6 @@
 use Rattle.std.proofs.Common.{◌≡◌, ◌++◌, None}
 use Rattle.nntp_wire.specs.Listing.{active_groups}
-use Rattle.nntp_facts.specs.Facts.{GroupsAre}
+use Rattle.nntp_said.specs.Facts.{GroupsAre}
 use Rattle.nntp_explain.specs.Says.{numbers_said}
 use Rattle.nntp_explain.proofs.said_numbers.put_bounds.Given as goal
 

@@ -1,4 +1,4 @@
-use Rattle.nntp_facts.specs.FactView.{fact_of}
+use Rattle.nntp_said.specs.FactView.{fact_of}
 use Rattle.nntp_facts.specs.PointView.{point_of}
 use Rattle.nntp_explain.specs.Says.{says}
 use Rattle.nntp_explain.proofs.SaysLemmas.{all_told, one_told}

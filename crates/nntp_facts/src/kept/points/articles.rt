@@ -7,7 +7,7 @@ ghost use Rattle.nntp_facts.specs.Conflict.{Article, HeadOf, BodyOf};
 ghost use Rattle.nntp_facts.specs.Given.{first_given, head_in, body_in};
 ghost use Rattle.nntp_facts.specs.Kept.{IsKept};
 ghost use Rattle.nntp_article.specs.declared.session.profile.Profile.{Profile};
-ghost use Rattle.nntp_facts.specs.Facts.{Fact};
+ghost use Rattle.nntp_said.specs.Facts.{Fact};
 ghost use Rattle.nntp_facts.specs.Points.{IsBeside, IsPointOf};
 ghost use Rattle.nntp_facts.specs.PointView.{point_of};
 ghost use Rattle.nntp_facts.specs.StatementView.{statement_of};

@@ -8,7 +8,7 @@ ghost use Rattle.nntp_facts.specs.Conflict.{Group};
 ghost use Rattle.nntp_wire.specs.Listing.{active_groups};
 ghost use Rattle.nntp_facts.specs.Given.{is_shown_group};
 ghost use Rattle.nntp_article.specs.declared.session.profile.Profile.{Profile};
-ghost use Rattle.nntp_facts.specs.Facts.{Fact};
+ghost use Rattle.nntp_said.specs.Facts.{Fact};
 ghost use Rattle.nntp_facts.specs.Points.{IsBeside, IsPointOf, Statement as StatementValue};
 ghost use Rattle.nntp_facts.specs.PointView.{point_of};
 ghost use Rattle.nntp_facts.specs.StatementView.{statement_of};

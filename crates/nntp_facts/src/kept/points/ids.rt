@@ -1,7 +1,7 @@
 //! Ids and numbers that are kept otherwise.
 ghost use Rattle.std.specs.Prelude.{◌≡◌, ◌↔◌, ◌++◌, List, IsTrue, IfSome, option_map, option_copied};
 ghost use Rattle.nntp_article.specs.declared.session.profile.Profile.{Profile};
-ghost use Rattle.nntp_facts.specs.Facts.{Fact};
+ghost use Rattle.nntp_said.specs.Facts.{Fact};
 ghost use Rattle.nntp_facts.specs.Points.{IsBeside, IsPointOf};
 ghost use Rattle.nntp_facts.specs.PointView.{point_of};
 ghost use Rattle.nntp_facts.specs.StatementView.{statement_of};

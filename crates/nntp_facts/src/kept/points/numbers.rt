@@ -3,14 +3,14 @@ ghost use Rattle.std.specs.Prelude.{◌≡◌, ◌++◌, ◌∷◌, [], None, Li
 ghost use Rattle.std.specs.List.{AllByRecursion};
 ghost use Rattle.nntp_wire.specs.Listing.{active_groups};
 ghost use Rattle.nntp_wire.specs.declared.marks.Marks.TheVariants.{Lenient};
-ghost use Rattle.nntp_facts.specs.Asks.{Ask, Estimates, Bounds};
+ghost use Rattle.nntp_said.specs.Asks.{Ask, Estimates, Bounds};
 ghost use Rattle.nntp_facts.specs.Kept.{Kept as KeptValue, IsKept};
 ghost use Rattle.nntp_facts.specs.Conflict.{widest, Point as PointValue, rank, ConflictAt};
 ghost use Rattle.nntp_facts.specs.Part.{Says};
 ghost use Rattle.nntp_facts.specs.PartView.{said};
 ghost use Rattle.nntp_wire.specs.Limit.{greatest};
 ghost use Rattle.nntp_article.specs.declared.session.profile.Profile.{Profile};
-ghost use Rattle.nntp_facts.specs.Facts.{Fact};
+ghost use Rattle.nntp_said.specs.Facts.{Fact};
 ghost use Rattle.nntp_facts.specs.Given.{asks_of};
 ghost use Rattle.nntp_facts.specs.Summary.{IsSummary, AreBounded};
 ghost use Rattle.nntp_facts.specs.Points.{Statement as StatementValue, IsAbout, IsBeside, IsPointOf, IsPointIn, NoneBefore};

@@ -1,5 +1,5 @@
 use Rattle.std.proofs.Common.{ℕ, ◌≤◌, ◌<◌, IsTrue, List}
-use Rattle.nntp_facts.specs.Facts.{Fact}
+use Rattle.nntp_said.specs.Facts.{Fact}
 use Rattle.nntp_facts.specs.Given.{invented, is_mentioned}
 use Rattle.nntp_witness.specs.Witness.{HaveNoted}
 use Rattle.nntp_witness.proofs.invented.invent.Given as goal

@@ -1,6 +1,6 @@
 use Rattle.std.proofs.Common.{◌≡◌, ◌∙◌, Some, sym, ap, subst}
 use Rattle.nntp_facts.specs.declared.joins.Joins.TheVariants.{Again}
-use Rattle.nntp_facts.specs.Facts.{NoArticle}
+use Rattle.nntp_said.specs.Facts.{NoArticle}
 use Rattle.nntp_facts.specs.Saying.{IsToExist}
 use Rattle.nntp_facts.specs.ArticleView.{is_added}
 use Rattle.nntp_facts.specs.Kept.{IsFactAdded}

@@ -2,7 +2,7 @@ use Rattle.std.proofs.Common.{◌≡◌, map, sym, ap, subst, ◌∙◌}
 use Rattle.std.specs.FinMap as finite
 use Rattle.nntp_facts.specs.Articles.{MayBeSent, with_sent, with_denied}
 use Rattle.nntp_facts.specs.ArticleView.{is_added, known_article, entries_value}
-use Rattle.nntp_facts.specs.Facts.{TextIs}
+use Rattle.nntp_said.specs.Facts.{TextIs}
 use Rattle.nntp_facts.specs.Kept.{IsAddedIf, AreKeptArticles, IsFactAdded}
 use Rattle.nntp_facts.proofs.Keeping.KeptIds.{replaced_known}
 use Rattle.nntp_facts.proofs.Keeping.NotedArticles.{sent_known}

@@ -1,7 +1,7 @@
 use Rattle.std.proofs.Common.{refl, sym, ap, subst, ◌∙◌}
 use Rattle.std.proofs.Math.Path.{ap₂}
 use Rattle.nntp_article.specs.Session.Machine.{visible_after}
-use Rattle.nntp_facts.specs.Asks.{position_after}
+use Rattle.nntp_said.specs.Asks.{position_after}
 use Rattle.nntp_facts.specs.SayingView.{saying_of}
 use Rattle.nntp_facts.specs.Noted.{profile_kept, HasNotedBehind}
 use Rattle.nntp_facts.proofs.Keeping.NotedExchange.{Adds, unfit, weighed, refused, accepted}

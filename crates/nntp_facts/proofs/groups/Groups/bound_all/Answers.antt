@@ -1,7 +1,7 @@
 use Rattle.std.proofs.Common.{[], ◌∷◌, ◌++◌, None, sym, ap, subst, ◌∙◌, append_assoc}
 use Rattle.nntp_wire.specs.Listing.{ActiveValue}
 use Rattle.nntp_wire.specs.View.{active_value}
-use Rattle.nntp_facts.specs.Asks.{Bounds}
+use Rattle.nntp_said.specs.Asks.{Bounds}
 use Rattle.nntp_facts.specs.Kept.{told, with_part, Changes, Agree, MayShow}
 use Rattle.nntp_facts.specs.KeptSaying.{IsTextOf}
 use Rattle.nntp_facts.proofs.Keeping.BoundGroups.{none_bound, one_more_bound, listing}

@@ -1,6 +1,6 @@
 use Rattle.std.proofs.Common.{◌≡◌, ℕ, List, [], ◌∷◌, ◌++◌, Option}
 use Rattle.nntp_wire.specs.Listing.{ActiveValue, active_groups}
-use Rattle.nntp_facts.specs.Facts.{Fact, GroupsAre}
+use Rattle.nntp_said.specs.Facts.{Fact, GroupsAre}
 use Rattle.nntp_facts.specs.Kept.{AreKeptGroups}
 use Rattle.nntp_facts.proofs.groups.Groups.bound_all.Given as goal
 

@@ -4,7 +4,7 @@ use Rattle.std.specs.Option.{option_map_or}
 use Rattle.std.specs.List.{list_any}
 use Rattle.nntp_article.specs.Session.Spool.{Name}
 use Rattle.nntp_article.specs.Session.Machine.{is_same}
-use Rattle.nntp_facts.specs.Facts.{Fact}
+use Rattle.nntp_said.specs.Facts.{Fact}
 use Rattle.nntp_facts.specs.Together.{denies_group}
 use Rattle.nntp_facts.specs.Kept.{AreKeptNames}
 use Rattle.nntp_facts.proofs.Keeping.KeptNamesAndGroups.{names_kept}

@@ -1,6 +1,6 @@
 use Rattle.std.proofs.Common.{[], ◌∷◌, refl, sym, subst}
 use Rattle.nntp_wire.specs.Listing.{active_groups}
-use Rattle.nntp_facts.specs.Facts.{GroupsAre}
+use Rattle.nntp_said.specs.Facts.{GroupsAre}
 use Rattle.nntp_facts.specs.Kept.{IsKept}
 use Rattle.nntp_facts.proofs.Keeping.SilentFacts.{articles_kept}
 use Rattle.nntp_facts.proofs.kept.Kept.list_groups.Goals as goal

@@ -1,7 +1,7 @@
 use Rattle.std.proofs.Common.{[], ◌∷◌, ◌++◌, refl, sym, subst, ◌∙◌}
 use Rattle.nntp_wire.specs.Listing.{ActiveValue}
 use Rattle.nntp_wire.specs.View.{active_value}
-use Rattle.nntp_facts.specs.Asks.{Bounds}
+use Rattle.nntp_said.specs.Asks.{Bounds}
 use Rattle.nntp_facts.specs.Given.{asks_of}
 use Rattle.nntp_facts.specs.Together.{AsksStand}
 use Rattle.nntp_facts.specs.Kept.{IsKept, told, Agree, IsShownAt, MayShow}

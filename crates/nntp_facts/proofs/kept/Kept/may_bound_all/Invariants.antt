@@ -2,7 +2,7 @@ use Rattle.std.proofs.Common.{List}
 use Rattle.std.specs.Prelude.{◌↔◌}
 use Rattle.std.specs.List.{AllByRecursion}
 use Rattle.nntp_wire.specs.Listing.{active_groups}
-use Rattle.nntp_facts.specs.Facts.{Fact}
+use Rattle.nntp_said.specs.Facts.{Fact}
 use Rattle.nntp_facts.specs.Together.{Together}
 use Rattle.nntp_facts.specs.Kept.{IsKept}
 use Rattle.nntp_facts.specs.ListedGroups.{LineJoins}

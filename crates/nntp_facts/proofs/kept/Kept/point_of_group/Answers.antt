@@ -1,6 +1,6 @@
 use Rattle.std.proofs.Common.{◌++◌, ◌∷◌, [], sym, subst, ◌∙◌, append_assoc}
 use Rattle.nntp_wire.specs.declared.marks.Marks.TheVariants.{Lenient}
-use Rattle.nntp_facts.specs.Asks.{Estimates}
+use Rattle.nntp_said.specs.Asks.{Estimates}
 use Rattle.nntp_facts.specs.Given.{asks_of}
 use Rattle.nntp_facts.specs.Conflict.{widest}
 use Rattle.nntp_facts.specs.Kept.{IsKept, told}

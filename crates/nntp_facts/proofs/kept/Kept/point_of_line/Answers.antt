@@ -1,5 +1,5 @@
 use Rattle.std.proofs.Common.{◌≡◌, ◌++◌, ◌∷◌, [], sym, subst, ◌∙◌}
-use Rattle.nntp_facts.specs.Asks.{Bounds}
+use Rattle.nntp_said.specs.Asks.{Bounds}
 use Rattle.nntp_facts.specs.Given.{asks_of}
 use Rattle.nntp_facts.specs.Kept.{IsKept, told}
 use Rattle.nntp_facts.specs.Summary.{IsSummary, AreBounded}

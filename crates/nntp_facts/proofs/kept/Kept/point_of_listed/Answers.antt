@@ -2,7 +2,7 @@ use Rattle.std.proofs.Common.{◌≡◌, ◌++◌, ◌∷◌, [], sym, subst}
 use Rattle.std.specs.Prelude.{option_map}
 use Rattle.std.specs.List.{AllByRecursion}
 use Rattle.nntp_wire.specs.View.{active_value}
-use Rattle.nntp_facts.specs.Asks.{Bounds}
+use Rattle.nntp_said.specs.Asks.{Bounds}
 use Rattle.nntp_facts.specs.Given.{asks_of}
 use Rattle.nntp_facts.specs.Conflict.{Point, rank, ConflictAt}
 use Rattle.nntp_facts.specs.Points.{IsAbout, IsPointIn}

@@ -1,8 +1,8 @@
 use Rattle.std.proofs.Common.{◌≡◌, ◌++◌, ◌∷◌, [], List}
 use Rattle.std.specs.List.{AllByRecursion}
 use Rattle.nntp_wire.specs.Listing.{active_groups}
-use Rattle.nntp_facts.specs.Asks.{Bounds}
-use Rattle.nntp_facts.specs.Facts.{Fact}
+use Rattle.nntp_said.specs.Asks.{Bounds}
+use Rattle.nntp_said.specs.Facts.{Fact}
 use Rattle.nntp_facts.specs.Given.{asks_of}
 use Rattle.nntp_facts.specs.Kept.{IsKept}
 use Rattle.nntp_facts.specs.Conflict.{Point, rank, ConflictAt}

@@ -1,7 +1,7 @@
 use Rattle.std.proofs.Common.{sym, subst, ◌∙◌, refl}
 use Rattle.nntp_article.specs.Session.Limit.{profile_of}
 use Rattle.nntp_article.specs.Session.Machine.{start}
-use Rattle.nntp_facts.specs.Facts.{group_of}
+use Rattle.nntp_said.specs.Facts.{group_of}
 use Rattle.nntp_facts.specs.Conflict.{said, the_group}
 use Rattle.nntp_facts.specs.Kept.{AreAdded}
 use Rattle.nntp_facts.specs.Saying.{TellsThere}

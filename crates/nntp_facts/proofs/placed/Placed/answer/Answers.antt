@@ -1,7 +1,7 @@
 use Rattle.std.proofs.Common.{subst}
 use Rattle.std.specs.List.{AllByRecursion}
 use Rattle.nntp_facts.specs.Conflict.{Placed}
-use Rattle.nntp_facts.specs.Facts.{facts_of}
+use Rattle.nntp_said.specs.Facts.{facts_of}
 use Rattle.nntp_facts.specs.Together.{IsWellFormed}
 use Rattle.nntp_facts.proofs.Together.WellFormed.{spelled_formed}
 use Rattle.nntp_facts.proofs.placed.Placed.answer.Goals as goal

@@ -1,7 +1,7 @@
 use Rattle.std.proofs.Common.{subst, sym, ◌∙◌}
 use Rattle.nntp_wire.specs.View.{asked}
 use Rattle.nntp_wire.specs.AnswerView.{response}
-use Rattle.nntp_facts.specs.Facts.{facts_of}
+use Rattle.nntp_said.specs.Facts.{facts_of}
 use Rattle.nntp_facts.specs.Saying.{HasSmall, TellsHere, nothing, numbers_shown, saying_by}
 use Rattle.nntp_facts.proofs.Keeping.SayingRows.{answer_row}
 use Rattle.nntp_facts.proofs.saying.Saying.of.Goals as goal

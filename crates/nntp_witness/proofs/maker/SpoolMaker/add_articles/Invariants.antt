@@ -1,6 +1,6 @@
 use Rattle.std.proofs.Common.{List, []}
 use Rattle.nntp_article.specs.Session.Spool.{Spool as SpoolValue}
-use Rattle.nntp_facts.specs.Facts.{Fact}
+use Rattle.nntp_said.specs.Facts.{Fact}
 use Rattle.nntp_witness.specs.Witness.{HaveNoted, IsGivenSpool}
 use Rattle.nntp_witness.specs.Making.{GroupsLeft, ArticlesLeft}
 use Rattle.nntp_witness.proofs.maker.SpoolMaker.add_articles.Given as goal

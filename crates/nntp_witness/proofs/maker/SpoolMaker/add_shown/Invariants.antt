@@ -1,7 +1,7 @@
 use Rattle.std.proofs.Common.{ℕ, List, ◌++◌, Option}
 use Rattle.nntp_article.specs.Article.Parts.{Id}
 use Rattle.nntp_article.specs.Session.Spool.{Spool}
-use Rattle.nntp_facts.specs.Facts.{Fact}
+use Rattle.nntp_said.specs.Facts.{Fact}
 use Rattle.nntp_witness.specs.Witness.{HaveNoted, IsGivenSpool}
 use Rattle.nntp_witness.specs.Making.{NumbersLeft}
 use Rattle.nntp_witness.proofs.maker.SpoolMaker.add_shown.Given as goal

@@ -1,9 +1,11 @@
 //! The facts that an answer says, one after the other.
-ghost use Rattle.std.specs.Prelude.{◌≡◌, [], ◌∷◌};
+ghost use Rattle.std.specs.Prelude.{◌≡◌, ◌↔◌, IsTrue, [], ◌∷◌};
 ghost use Rattle.std.specs.Iterator.{YieldsFirstBy, item_count};
-ghost use Rattle.nntp_facts.specs.FactView.{fact_of};
+ghost use Rattle.nntp_said.specs.FactView.{fact_of, with_fact};
+ghost use Rattle.nntp_said.specs.Places.{Place};
 
 use crate::fact::Fact;
+use nntp_wire::MessageId;
 use std::marker::Model;
 
 /// An iterator over what an answer says of the spool, which is at most three things.
@@ -16,8 +18,8 @@ pub struct SaidFacts<'s> {
 
 impl<'s> Model for SaidFacts<'s> {
     ghost use Rattle.std.specs.Prelude.{List, []};
-    ghost use Rattle.nntp_facts.specs.Facts.{Fact as FactValue};
-    ghost use Rattle.nntp_facts.specs.FactView.{with_fact};
+    ghost use Rattle.nntp_said.specs.Facts.{Fact as FactValue};
+    ghost use Rattle.nntp_said.specs.FactView.{with_fact};
 
     ghost Value = { List FactValue };
 
@@ -67,6 +69,29 @@ impl<'s> SaidFacts<'s> {
             second: Some(second),
             third: Some(third),
         }
+    }
+
+    /// Tells whether one of the facts that are left gives the message-id at a number.
+    pub fn place(&self, id: &MessageId<'_>) -> bool
+        ensures { IsTrue result ↔ Place id.now self.now }
+    {
+        if places(&self.first, id) {
+            return true;
+        }
+        if places(&self.second, id) {
+            return true;
+        }
+        places(&self.third, id)
+    }
+}
+
+/// Tells whether there is a fact, and it gives the message-id at a number.
+fn places(fact: &Option<Fact<'_>>, id: &MessageId<'_>) -> bool
+    ensures { IsTrue result ↔ Place id.now (with_fact fact.now []) }
+{
+    match fact {
+        Some(Fact::IdAt(_, _, other)) => other.as_slice() == id.as_slice(),
+        _ => false,
     }
 }
 

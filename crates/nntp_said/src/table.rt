@@ -6,7 +6,7 @@ ghost use Rattle.nntp_wire.specs.AnswerView.{response};
 ghost use Rattle.nntp_wire.specs.Answer.{to, sends};
 ghost use Rattle.nntp_wire.specs.Command.{retrieve};
 ghost use Rattle.nntp_article.specs.Session.Machine.{Visible};
-ghost use Rattle.nntp_facts.specs.Facts.{here, facts_of, facts_of_code};
+ghost use Rattle.nntp_said.specs.Facts.{here, facts_of, facts_of_code};
 
 use crate::fact::{Ask, Fact};
 use crate::position::Position;
@@ -15,7 +15,7 @@ use nntp_wire::{Answer, Block, Command, Marks, MessageId, Prompt, What, Which};
 
 /// Returns what an answer says where marks are read so, this group is selected, and the session
 /// stands at the position.
-pub(crate) fn facts_of<'s>(
+pub fn facts_of<'s>(
     how: Marks,
     selected: &'s [u8],
     at: Position,

@@ -4,8 +4,8 @@ use Rattle.std.specs.FinMap.{get}
 use Rattle.nntp_article.specs.Session.Spool.{Spool, IsGroup, numbers, HasText, Name}
 use Rattle.nntp_article.specs.declared.session.profile.Profile.{Profile}
 use Rattle.nntp_article.specs.Session.Machine.{Visible, visible_after, ActivesAgree, fits}
-use Rattle.nntp_facts.specs.Asks.{position_after, Ask, Meets, Estimates, ListsIn, Lacks, StandsAt, StandsNowhere, StepsUp, StepsDown, IsTop, IsBottom}
-use Rattle.nntp_facts.specs.declared.position.Position.{Position}
+use Rattle.nntp_said.specs.Asks.{position_after, Ask, Meets, Estimates, ListsIn, Lacks, StandsAt, StandsNowhere, StepsUp, StepsDown, IsTop, IsBottom}
+use Rattle.nntp_said.specs.declared.position.Position.{Position}
 use Rattle.nntp_article.specs.Article.Parts.{Id, Line}
 use Rattle.nntp_wire.specs.Listing.{ActiveValue, listed_numbers, active_groups}
 use Rattle.nntp_wire.specs.declared.marks.Marks.{Marks}

@@ -1,12 +1,12 @@
 -- What the values of src/fact.rt mean.
 use Rattle.std.specs.Prelude.{List, ◌∷◌, Option, None, Some}
 use Rattle.nntp_wire.specs.Listing.{active_groups, listed_numbers}
-use Rattle.nntp_facts.specs.Asks as asks
-use Rattle.nntp_facts.specs.Facts as facts
-use Rattle.nntp_facts.specs.declared.fact.Ask.{Ask}
-use Rattle.nntp_facts.specs.declared.fact.Ask.TheVariants.{Estimates, Bounds, Lists, Lacks, StandsAt, StandsNowhere, StepsUp, StepsDown, IsTop, IsBottom}
-use Rattle.nntp_facts.specs.declared.fact.Fact.{Fact}
-use Rattle.nntp_facts.specs.declared.fact.Fact.TheVariants.{ThereIs, ThereIsNo, Asks, IdAt, TextIs, NoArticle, GroupsAre}
+use Rattle.nntp_said.specs.Asks as asks
+use Rattle.nntp_said.specs.Facts as facts
+use Rattle.nntp_said.specs.declared.fact.Ask.{Ask}
+use Rattle.nntp_said.specs.declared.fact.Ask.TheVariants.{Estimates, Bounds, Lists, Lacks, StandsAt, StandsNowhere, StepsUp, StepsDown, IsTop, IsBottom}
+use Rattle.nntp_said.specs.declared.fact.Fact.{Fact}
+use Rattle.nntp_said.specs.declared.fact.Fact.TheVariants.{ThereIs, ThereIsNo, Asks, IdAt, TextIs, NoArticle, GroupsAre}
 
 -- what is asked of the numbers of a group, without where the lines of a list lie in memory
 abbrev pub ask_of : Ask → asks.Ask

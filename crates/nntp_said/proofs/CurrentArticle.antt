@@ -4,8 +4,8 @@ use Rattle.std.proofs.Common.{◌≡◌, List, [], ◌∷◌, refl, sym, subst, 
 use Rattle.nntp_article.specs.Session.Spool.{Spool}
 use Rattle.nntp_article.specs.declared.session.profile.Profile.{Profile}
 use Rattle.nntp_article.specs.Session.Machine.{Visible, Agrees, Run, after, visible_after}
-use Rattle.nntp_facts.specs.Asks.{RunsAt, position_after, state_at}
-use Rattle.nntp_facts.specs.declared.position.Position.{Position}
+use Rattle.nntp_said.specs.Asks.{RunsAt, position_after, state_at}
+use Rattle.nntp_said.specs.declared.position.Position.{Position}
 use Rattle.nntp_wire.specs.Answer.{Asked, Response, to, group_is, numbers_are, sends, active_are, plain}
 use Rattle.nntp_wire.specs.Command.{current, retrieve}
 

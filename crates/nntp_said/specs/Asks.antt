@@ -8,8 +8,8 @@ use Rattle.nntp_wire.specs.declared.range.Range.{Range}
 use Rattle.nntp_wire.specs.declared.marks.Marks.{Marks}
 use Rattle.nntp_wire.specs.Answer.{Asked, Response, to, group_is, numbers_are, sends}
 use Rattle.nntp_wire.specs.declared.water_marks.WaterMarks.{WaterMarks}
-use Rattle.nntp_facts.specs.declared.position.Position.{Position}
-use Rattle.nntp_facts.specs.declared.position.Position.TheVariants.{Nowhere, First, Known}
+use Rattle.nntp_said.specs.declared.position.Position.{Position}
+use Rattle.nntp_said.specs.declared.position.Position.TheVariants.{Nowhere, First, Known}
 use Rattle.nntp_wire.specs.Command.{by_number, current, next, last, retrieve}
 
 -- where an answer leaves the session

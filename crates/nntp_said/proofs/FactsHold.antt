@@ -7,10 +7,10 @@ use Rattle.std.proofs.lemmas.Bool.{and_parts, or_cases, eqb-true, true≢false, 
 use Rattle.std.proofs.lemmas.Bool.Decides.{nat_tests}
 use Rattle.nntp_article.specs.Session.Spool.{Spool}
 use Rattle.nntp_article.specs.declared.session.profile.Profile.{Profile}
-use Rattle.nntp_article.specs.Session.Machine.{Visible, State, Agrees, visible_after, CodeAgrees, is_generic, is_one_of, code_fits, fits}
-use Rattle.nntp_facts.specs.Asks.{state_at, position_after, RunsAt}
-use Rattle.nntp_facts.specs.declared.position.Position.{Position}
-use Rattle.nntp_facts.specs.Facts.{Fact, Holds, facts_of, facts_of_code, facts_from, on, FitsAll}
+use Rattle.nntp_article.specs.Session.Machine.{Visible, State, Agrees, MayAnswer, visible_after, CodeAgrees, is_generic, is_one_of, code_fits, fits}
+use Rattle.nntp_said.specs.Asks.{state_at, position_after, RunsAt}
+use Rattle.nntp_said.specs.declared.position.Position.{Position}
+use Rattle.nntp_said.specs.Facts.{Fact, Holds, facts_of, facts_of_code, facts_from, on, FitsAll}
 use Rattle.nntp_wire.specs.Answer.{Asked, Response, greeting, to, group_is, numbers_are, sends, active_are, plain}
 use Rattle.nntp_wire.specs.Command.{Request, by_id, by_number, current, capabilities, mode_reader, quit, opaque, ill_formed, group, list_group, next, last, retrieve, list_active}
 
@@ -148,6 +148,12 @@ agrees_from profile S v at p (group_is m name) f h = absurd (false≢true f)
 agrees_from profile S v at p (numbers_are m name lines) f h = absurd (false≢true f)
 agrees_from profile S v at p (sends sent) f h = absurd (false≢true f)
 agrees_from profile S v at p (active_are lines) f h = absurd (false≢true f)
+
+-- an answer that fits, where the connection is open, is permitted exactly if what it says holds
+pub may_by_facts : (profile : Profile) (S : Spool) (v : Visible) (at : Position) (p : Asked) (a : Response) → v.closed ≡ false → IsTrue (fits profile v p a)
+    → AllByRecursion (Holds S) (facts_of profile.marks v at p a) ↔ MayAnswer profile S (state_at S v at) p a
+may_by_facts profile S v at p a is_open f =
+    (λ h. record { is_open = is_open; fits_visible = f; agrees = agrees_from profile S v at p a f h }, λ may. facts_hold profile.marks S v at p a may.agrees)
 
 pub run_of_facts : (profile : Profile) (S : Spool) (v : Visible) (at : Position) (ps : List Asked) (answers : List Response)
     → FitsAll profile v ps answers → AllByRecursion (Holds S) (facts_from profile.marks v at ps answers)

@@ -2,7 +2,7 @@
 ghost use Rattle.std.specs.Prelude.{◌≡◌};
 ghost use Rattle.nntp_wire.specs.View.{asked};
 ghost use Rattle.nntp_wire.specs.AnswerView.{response};
-ghost use Rattle.nntp_facts.specs.Asks.{position_after};
+ghost use Rattle.nntp_said.specs.Asks.{position_after};
 
 use nntp_wire::{Answer, Command, Prompt, Which};
 

@@ -1,5 +1,5 @@
 use Rattle.std.proofs.Common.{rules, ℕ}
-use Rattle.nntp_facts.proofs.facts_of.facts_of.Goals as goal
+use Rattle.nntp_said.proofs.table.facts_of.Goals as goal
 
 pub returns-in-To-Retrieve-Sent : goal.returns-in-To-Retrieve-Sent
 returns-in-To-Retrieve-Sent c v here = let told = λ (code : ℕ). c.facts_of_success.ensures c.args.how v code here in search (rules, told)

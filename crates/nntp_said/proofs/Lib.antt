@@ -1,0 +1,3 @@
+pub mod CurrentArticle
+pub mod FactsHold
+pub mod PlacedIds

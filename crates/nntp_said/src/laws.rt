@@ -1,0 +1,24 @@
+//! Laws that follow from the definitions alone.
+ghost use Rattle.std.specs.Prelude.{◌↔◌, List};
+ghost use Rattle.std.specs.List.{AllByRecursion};
+ghost use Rattle.nntp_wire.specs.Answer.{Asked, Response};
+ghost use Rattle.nntp_article.specs.Session.Spool.{Spool};
+ghost use Rattle.nntp_article.specs.declared.session.profile.Profile.{Profile};
+ghost use Rattle.nntp_article.specs.Session.Machine.{Run, start};
+ghost use Rattle.nntp_said.specs.Asks.{RunsAt};
+ghost use Rattle.nntp_said.specs.Facts.{FitsAll, Holds, facts_from};
+ghost use Rattle.nntp_said.specs.declared.position.Position.TheVariants.{Nowhere};
+
+/// A spool permits a session exactly if it permits each answer with the current article read off
+/// the session.
+pub fn current_article_is_read_off()
+    ensures { (profile : Profile) (S : Spool) (prompts : List Asked) (answers : List Response)
+        → Run profile S start prompts answers ↔ RunsAt profile S start.visible Nowhere prompts answers }
+{}
+
+/// A spool permits a session exactly if each answer fits and all that the answers say holds of it.
+pub fn permitted_by_facts()
+    ensures { (profile : Profile) (S : Spool) (prompts : List Asked) (answers : List Response)
+        → RunsAt profile S start.visible Nowhere prompts answers
+        ↔ (FitsAll profile start.visible prompts answers × AllByRecursion (Holds S) (facts_from profile.marks start.visible Nowhere prompts answers)) }
+{}
