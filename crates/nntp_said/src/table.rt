@@ -6,12 +6,14 @@ ghost use Rattle.nntp_wire.specs.AnswerView.{response};
 ghost use Rattle.nntp_wire.specs.Answer.{to, sends};
 ghost use Rattle.nntp_wire.specs.Command.{retrieve};
 ghost use Rattle.nntp_article.specs.Session.Machine.{Visible};
-ghost use Rattle.nntp_said.specs.Facts.{here, facts_of, facts_of_code};
+ghost use Rattle.nntp_said.specs.Asks.{Estimates};
+ghost use Rattle.nntp_said.specs.Facts.{Asks, here, facts_of, facts_of_code};
+ghost use Rattle.nntp_said.specs.FactView.{fact_of};
 
 use crate::fact::{Ask, Fact};
 use crate::position::Position;
 use crate::said_facts::SaidFacts;
-use nntp_wire::{Answer, Block, Command, Marks, MessageId, Prompt, What, Which};
+use nntp_wire::{Answer, Block, Command, GroupName, Marks, MessageId, Prompt, WaterMarks, What, Which};
 
 /// Returns what an answer says where marks are read so, this group is selected, and the session
 /// stands at the position.
@@ -30,12 +32,12 @@ pub fn facts_of<'s>(
         }
         (Prompt::To(Command::Group(_)), Answer::Group { marks, name }) => SaidFacts::two(
             Fact::ThereIs(name),
-            Fact::Asks(name.as_slice(), Ask::Estimates { how, marks: *marks }),
+            of_marks(how, name, *marks),
         ),
         (Prompt::To(Command::ListGroup { range, .. }), Answer::Numbers { marks, name, block }) => {
             SaidFacts::three(
                 Fact::ThereIs(name),
-                Fact::Asks(name.as_slice(), Ask::Estimates { how, marks: *marks }),
+                of_marks(how, name, *marks),
                 Fact::Asks(
                     name.as_slice(),
                     Ask::Lists {
@@ -67,6 +69,13 @@ pub fn facts_of<'s>(
         }
         _ => SaidFacts::none(),
     }
+}
+
+/// Returns what the estimate and the water marks of a group say, where they are read so.
+fn of_marks<'s>(how: Marks, name: &'s GroupName<'s>, marks: WaterMarks) -> Fact<'s>
+    ensures { fact_of result ≡ Asks name.now (Estimates how marks) }
+{
+    Fact::Asks(name.as_slice(), Ask::Estimates { how, marks })
 }
 
 /// Returns what a code alone says.
