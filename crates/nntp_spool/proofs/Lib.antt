@@ -21,10 +21,11 @@ pub mod TextReadAgain
 pub mod WholeSpools
 pub mod BuiltContent
 pub mod PermittedPairs
-pub mod Firsts
 pub mod ListedNumbers
 pub mod ListedGroups
 pub mod AskedCounts
+pub mod AnswersInFacts
+pub mod HeldFacts
 pub mod VerifiedPairs
 pub mod NumberIds
 pub mod GatheredEntries

@@ -1,14 +1,18 @@
 -- Numbers that are listed one after the other are those of a group within a range.
-use Rattle.std.proofs.Common.{◌≡◌, ◌⊎◌, inl, inr, ℕ, zero, suc, ◌<◌, ◌≤◌, true, List, [], ◌∷◌, Option, None, Some, MatchOption, refl, sym, subst, arith}
+use Rattle.std.proofs.Common.{◌≡◌, ◌⊎◌, inl, inr, ℕ, zero, suc, ◌<◌, ◌≤◌, true, List, [], ◌∷◌, Option, None, Some, IsSome, MatchOption, refl, sym, subst, arith}
 use Rattle.std.specs.Prelude.{Contains, IfSome, ◌↔◌, nat_lt, ⊤}
 use Rattle.std.specs.List.{list_all}
 use Rattle.std.specs.FinMap.{get}
 use Rattle.std.proofs.lemmas.Bool.{and_parts, cases_lt}
 use Rattle.std.proofs.lemmas.Bool.Decides.{nat_tests}
 use Rattle.nntp_wire.specs.declared.range.Range.{Range}
-use Rattle.nntp_article.specs.Session.Spool.{Numbers, IsNumber, Lists}
+use Rattle.nntp_article.specs.Session.Spool.{Numbers, IsNumber, IsNextAbove, Lists, NoneAbove}
 use Rattle.nntp_spool.specs.ListedNumbers.{IsAbove, IsNextFrom, ListsFrom}
-use Rattle.nntp_spool.proofs.Firsts.{some_none}
+
+-- none is not some
+some_none : {A : Type 0} (o : Option A) → o ≡ None → IsSome o → ⊥
+some_none None e s = cc
+some_none (Some x) e s = absurd cc
 
 contains_first : (n : ℕ) (ns : List ℕ) → Contains (n ∷ ns) n
 contains_first n ns = (0, omega arith, refl)
@@ -110,3 +114,8 @@ lists_from_range N r ns before from = (
   λ h n. (λ c. let is = (h n).0 c in (is.0, ((from n).0 is.1, is.2)), λ (is, within). (h n).1 (is, (from n).1 within.0, within.1)),
   λ h n. (λ c. let is = (h n).0 c in (is.0, (from n).1 is.1.0, is.1.1), λ (is, a, fit). (h n).1 (is, ((from n).0 a, fit))),
 )
+
+-- the least number above one is the next from it
+pub from_above : (N : Numbers) (c : ℕ) (next : Option ℕ) → MatchOption next (NoneAbove N c) (λ n. IsNextAbove N c n) → IsNextFrom N (Some c) next
+from_above N c None h = h
+from_above N c (Some n) h = (h.1, h.0, h.2)

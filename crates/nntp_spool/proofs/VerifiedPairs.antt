@@ -1,12 +1,16 @@
 -- A session, exchange by exchange.
-use Rattle.std.proofs.Common.{◌≡◌, ℕ, ◌+◌, List, [], ◌∷◌, ◌++◌, length, sym, ap, subst, ◌∙◌, length-append, Result, IfOk}
+use Rattle.std.proofs.Common.{◌≡◌, ℕ, ◌+◌, List, [], ◌∷◌, ◌++◌, length, refl, sym, ap, subst, ◌∙◌, length-append, Result, IfOk}
 use Rattle.nntp_pair.specs.Pairing.{Paired, Unpaired, IsNext, AreNext, Ends, bad, asked_at, streams}
 use Rattle.nntp_pair.specs.declared.class.PairClass.{PairClass}
 use Rattle.nntp_pair.proofs.PairingLemmas.{AreNext-push, index-counts}
 use Rattle.nntp_article.specs.Session.Spool.{Spool, IsSpool}
 use Rattle.nntp_article.specs.declared.session.profile.Profile.{Profile}
 use Rattle.nntp_article.specs.Session.Explains.{Explains, ExplainsUpTo}
-use Rattle.nntp_article.specs.Session.Machine.{State, start, MayAnswer, after}
+use Rattle.nntp_article.specs.Session.Machine.{State, Visible, start, MayAnswer, after, visible_after}
+use Rattle.nntp_said.specs.Asks.{position_after, state_at}
+use Rattle.nntp_said.specs.declared.position.Position.{Position}
+use Rattle.nntp_said.specs.declared.position.Position.TheVariants.{Nowhere}
+use Rattle.nntp_said.proofs.CurrentArticle.{after-state_at}
 use Rattle.nntp_spool.specs.declared.verification.verified.Verified.{Verified}
 use Rattle.nntp_spool.specs.Verifying.{IsVerified}
 use Rattle.nntp_spool.specs.Sessions.{state_after, MayAnswerAll, RefusesAt}
@@ -30,7 +34,7 @@ pub record Permitted (profile : Profile) (S : Spool) (client server : List ℕ) 
   pub state : s ≡ state_after S start pairs
   pub counted : count ≡ length pairs
 
-pub one_more_pair : (profile : Profile) (S : Spool) (client server : List ℕ) (left behind : Unpaired) (s new : State) (count : ℕ)
+one_more_pair : (profile : Profile) (S : Spool) (client server : List ℕ) (left behind : Unpaired) (s new : State) (count : ℕ)
     (x : Paired) → Permitted profile S client server left s count → IsNext left x behind
     → MayAnswer profile S s (asked_at x.line) x.response → new ≡ after S s (asked_at x.line) x.response → Permitted profile S client server behind new (x.index + 1)
 one_more_pair profile S client server left behind s new count x p is may leads = record {
@@ -40,6 +44,20 @@ one_more_pair profile S client server left behind s new count x p is may leads =
   state = leads ∙ ap (λ (t : State). after S t (asked_at x.line) x.response) p.state ∙ sym (state-more S start p.pairs x);
   counted = ap (λ n. n + 1) (is.index ∙ index-counts client server p.pairs left p.next) ∙ sym (length-append p.pairs (x ∷ []));
 }
+
+-- no exchange yet
+pub none_permitted : (profile : Profile) (S : Spool) (client server : List ℕ) (v : Visible) → v ≡ start.visible
+    → Permitted profile S client server (streams client server) (state_at S v Nowhere) 0
+none_permitted profile S client server v e = record { pairs = []; next = refl; may = tt; state = ap (λ w. state_at S w Nowhere) e; counted = refl }
+
+-- one more, where the current article is read off the session
+pub one_more_answer : (profile : Profile) (S : Spool) (client server : List ℕ) (left behind : Unpaired) (v w : Visible) (at moved : Position) (count : ℕ)
+    (x : Paired) → Permitted profile S client server left (state_at S v at) count → IsNext left x behind
+    → MayAnswer profile S (state_at S v at) (asked_at x.line) x.response → w ≡ visible_after v (asked_at x.line) x.response
+    → moved ≡ position_after at (asked_at x.line) x.response → Permitted profile S client server behind (state_at S w moved) (x.index + 1)
+one_more_answer profile S client server left behind v w at moved count x p is may shown stands =
+    one_more_pair profile S client server left behind (state_at S v at) (state_at S w moved) count x p is may
+    ((λ i. state_at S (shown i) (stands i)) ∙ sym (after-state_at profile.marks S v at (asked_at x.line) x.response may.agrees))
 
 module _ (profile : Profile) (S : Spool) (is : IsSpool profile.limit S) (client server : List ℕ) (left : Unpaired) (s : State) (count : ℕ) (p : Permitted profile S client server left s count) where
   pub not_permitted : (behind : Unpaired) (x : Paired) → IsNext left x behind → (MayAnswer profile S s (asked_at x.line) x.response → ⊥) → RefusesAt profile S client server count

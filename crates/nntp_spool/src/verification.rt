@@ -1,26 +1,28 @@
 //! Whether a given spool explains a session.
-ghost use Rattle.std.specs.Prelude.{◌≡◌, IfOk};
+ghost use Rattle.std.specs.Prelude.{◌≡◌, ◌↔◌, IsTrue, IfOk};
+ghost use Rattle.nntp_pair.specs.Pairing.{asked_at};
 ghost use Rattle.nntp_article.specs.Session.Limit.{profile_of};
-ghost use Rattle.nntp_article.specs.Session.Machine.{start};
+ghost use Rattle.nntp_article.specs.Session.Machine.{MayAnswer, start};
 ghost use Rattle.nntp_article.specs.Session.Spool.{IsSpool};
+ghost use Rattle.nntp_said.specs.Asks.{state_at};
 ghost use Rattle.nntp_spool.specs.AskedCounts.{AreCounted};
 ghost use Rattle.nntp_spool.specs.Verifying.{IsVerified};
 
-mod agreement;
 mod asked_counts;
+mod holding;
 mod listed_groups;
 mod lookups;
 mod sent_lines;
-mod session;
 mod verified;
 
 use crate::value::Spool;
 use crate::value::content::Content;
 use asked_counts::AskedCounts;
-use nntp_article::Profile;
-use nntp_pair::{Pairs, Step};
+use holding::hold;
+use nntp_article::{Profile, Visible};
+use nntp_pair::{Exchange, Pairs, Step};
+use nntp_said::{Position, facts_of};
 use nntp_wire::Marks;
-use session::Session;
 use std::alloc::{AllocError, Allocator};
 pub use verified::Verified;
 
@@ -46,10 +48,10 @@ pub fn verify<A: Allocator + Copy, S: Allocator>(
 {
     let profile = Profile::of(spool.limit(), marks);
     let content = spool.content();
-    let mut session = Session::new(alloc);
+    let mut visible = Visible::new(alloc);
     let mut counts = AskedCounts::new(alloc);
     // Both are lent, and so dropped at one exit alone: the check goes through the drops of each.
-    judge(profile, content, client, server, &mut session, &mut counts)
+    judge(profile, content, client, server, &mut visible, &mut counts)
 }
 
 /// Goes over the exchanges of both streams, from the state before the greeting on, as [`verify`]
@@ -59,27 +61,55 @@ fn judge<A: Allocator + Copy, S: Allocator>(
     content: &Content<S>,
     client: &[u8],
     server: &[u8],
-    session: &mut Session<A>,
+    visible: &mut Visible<A>,
     counts: &mut AskedCounts<A>,
 ) -> Result<Verified, AllocError>
     requires spool { IsSpool profile.limit content.now }
-    requires start { session.old ≡ start }
+    requires start { visible.old ≡ start.visible }
     requires counted { AreCounted content.now counts.old }
     ensures { IfOk result (λ verified. IsVerified profile content.now client.now server.now verified) }
 {
     let mut pairs = Pairs::new(client, server);
+    let mut position = Position::Nowhere;
     let mut answers = 0;
     loop {
         match pairs.next() {
             Step::Exchange(exchange) => {
-                if !session.may_answer(profile, content, counts, &exchange)? {
+                if !may_answer(profile, content, counts, visible, position, &exchange)? {
                     return Ok(Verified::Refuses { index: answers });
                 }
-                session.advance(content, &exchange)?;
+                visible.advance(exchange.prompt(), exchange.answer())?;
+                position = position.after(exchange.prompt(), exchange.answer());
                 answers = exchange.index() + 1;
             }
             Step::Bad { .. } => return Ok(Verified::Refuses { index: answers }),
             Step::End { .. } => return Ok(Verified::Permits { answers }),
         }
     }
+}
+
+/// Tells whether the spool permits the exchange where a session stands: what it shows, and its
+/// place in the selected group.
+fn may_answer<A: Allocator + Copy, S: Allocator>(
+    profile: Profile,
+    content: &Content<S>,
+    counts: &mut AskedCounts<A>,
+    visible: &Visible<A>,
+    position: Position,
+    exchange: &Exchange<'_>,
+) -> Result<bool, AllocError>
+    requires spool { IsSpool profile.limit content.now }
+    requires counted { AreCounted content.now counts.old }
+    ensures counted { IfOk result (λ _. AreCounted content.now counts.new) }
+    ensures may { IfOk result (λ may. IsTrue may
+        ↔ MayAnswer profile content.now (state_at content.now visible.now position) (asked_at exchange.now.line) exchange.now.response) }
+{
+    let prompt = exchange.prompt();
+    let answer = exchange.answer();
+    if visible.is_closed() || !visible.fits(profile, prompt, answer)? {
+        return Ok(false);
+    }
+    let selected = visible.selected_name();
+    let mut facts = facts_of(profile.marks, selected, position, prompt, answer);
+    hold(content, counts, &mut facts)
 }

@@ -142,30 +142,30 @@ impl<A: Allocator> Numbers<A> {
         }
     }
 
-    /// Returns the least number above this one, with its id.
-    pub(crate) fn next_above(&self, number: u64) -> Option<(u64, &str)>
-        ensures { MatchOption result (NoneAbove self.now number) (λ next. IsNextAbove self.now number next.0 × (map.get self.now next.0 ≡ Some next.1.now)) }
+    /// Returns the least number above this one.
+    pub(crate) fn next_above(&self, number: u64) -> Option<u64>
+        ensures { MatchOption result (NoneAbove self.now number) (λ next. IsNextAbove self.now number next) }
     {
         match self
             .ids
             .range((Bound::Excluded(number), Bound::Unbounded))
             .next()
         {
-            Some((next, id)) => Some((*next, id.as_str())),
+            Some((next, _)) => Some(*next),
             None => None,
         }
     }
 
-    /// Returns the greatest number below this one, with its id.
-    pub(crate) fn next_below(&self, number: u64) -> Option<(u64, &str)>
-        ensures { MatchOption result (NoneBelow self.now number) (λ next. IsNextBelow self.now number next.0 × (map.get self.now next.0 ≡ Some next.1.now)) }
+    /// Returns the greatest number below this one.
+    pub(crate) fn next_below(&self, number: u64) -> Option<u64>
+        ensures { MatchOption result (NoneBelow self.now number) (λ next. IsNextBelow self.now number next) }
     {
         match self
             .ids
             .range((Bound::Unbounded, Bound::Excluded(number)))
             .next_back()
         {
-            Some((next, id)) => Some((*next, id.as_str())),
+            Some((next, _)) => Some(*next),
             None => None,
         }
     }

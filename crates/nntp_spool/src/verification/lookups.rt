@@ -1,16 +1,59 @@
-//! The lookups in the numbers of a group by which the machine judges an answer.
+//! The lookups in the numbers of a group that tell whether they meet what an answer asks.
 ghost use Rattle.std.specs.Prelude.{◌≡◌, ℕ, ◌≤◌, ◌↔◌, [], true, IsTrue, MatchOption, IfSome, Some};
 ghost use Rattle.std.specs.FinMap as map;
-ghost use Rattle.nntp_article.specs.Session.Spool.{IsNumber, IsNextAbove, IsNextBelow, NoneAbove, NoneBelow, Lists};
+ghost use Rattle.nntp_article.specs.Session.Spool.{IsNumber, least, IsNextAbove, IsNextBelow, NoneAbove, NoneBelow, Lists};
 ghost use Rattle.nntp_article.specs.Session.Machine.{AreEnds, Bound, is_ascending};
 ghost use Rattle.nntp_wire.specs.Listing.{listed_numbers};
+ghost use Rattle.nntp_said.specs.Asks.{Meets, current_in};
+ghost use Rattle.nntp_said.specs.FactView.{ask_of};
 ghost use Rattle.nntp_spool.specs.ListedNumbers.{IsNextFrom, IsAbove, ListsFrom};
+ghost use Rattle.nntp_spool.specs.Sessions.{are_ascending};
 
 use crate::value::numbers::Numbers;
+use nntp_article::session::laws::first_is_least;
+use nntp_said::{Ask, Position};
 use nntp_wire::{Block, Marks, Range, WaterMarks};
 use std::alloc::Allocator;
 
 impl<A: Allocator> Numbers<A> {
+    /// Tells whether the numbers meet what is asked.
+    pub(crate) fn meet(&self, ask: &Ask<'_>) -> bool
+        requires { are_ascending (ask_of ask.now) ≡ true }
+        ensures { IsTrue result ↔ Meets self.now (ask_of ask.now) }
+    {
+        match ask {
+            Ask::Estimates { how, marks } => self.is_bound(*how, *marks),
+            Ask::Bounds { low, high } => self.is_between(*low, *high),
+            Ask::Lists { range, block } => self.lists(*range, *block),
+            Ask::Lacks(number) => self.id(*number).is_none(),
+            Ask::StandsAt(at, number) => self.current(*at) == Some(*number),
+            Ask::StandsNowhere(at) => self.current(*at).is_none(),
+            Ask::StepsUp(at, number) => self.steps_up(self.current(*at), *number),
+            Ask::StepsDown(at, number) => self.steps_down(self.current(*at), *number),
+            Ask::IsTop(at) => self.is_at_top(self.current(*at)),
+            Ask::IsBottom(at) => self.is_at_bottom(self.current(*at)),
+        }
+    }
+
+    /// Returns the current article at a position.
+    fn current(&self, at: Position) -> Option<u64>
+        ensures { result ≡ current_in self.now at }
+    {
+        match at {
+            Position::Nowhere => None,
+            Position::First => self.first(),
+            Position::Known(number) => Some(number),
+        }
+    }
+
+    /// Returns the first number.
+    fn first(&self) -> Option<u64>
+        ensures { result ≡ least self.now }
+    {
+        first_is_least();
+        self.least()
+    }
+
     /// Tells whether the number has this id.
     pub(crate) fn has_id(&self, number: u64, id: &str) -> bool
         ensures { IsTrue result ↔ (map.get self.now number ≡ Some id.now) }
@@ -21,26 +64,26 @@ impl<A: Allocator> Numbers<A> {
         }
     }
 
-    /// Tells whether a step up from the current article leads to this number with this id.
-    pub(crate) fn steps_up(&self, current: Option<u64>, number: u64, id: &str) -> bool
-        ensures { IsTrue result ↔ (MatchOption current ⊥ (λ c. IsNextAbove self.now c number) × (map.get self.now number ≡ Some id.now)) }
+    /// Tells whether a step up from the current article leads to this number.
+    fn steps_up(&self, current: Option<u64>, number: u64) -> bool
+        ensures { IsTrue result ↔ MatchOption current ⊥ (λ c. IsNextAbove self.now c number) }
     {
         match current {
             Some(current) => match self.next_above(current) {
-                Some((above, found)) => above == number && found == id,
+                Some(above) => above == number,
                 None => false,
             },
             None => false,
         }
     }
 
-    /// Tells whether a step down from the current article leads to this number with this id.
-    pub(crate) fn steps_down(&self, current: Option<u64>, number: u64, id: &str) -> bool
-        ensures { IsTrue result ↔ (MatchOption current ⊥ (λ c. IsNextBelow self.now c number) × (map.get self.now number ≡ Some id.now)) }
+    /// Tells whether a step down from the current article leads to this number.
+    fn steps_down(&self, current: Option<u64>, number: u64) -> bool
+        ensures { IsTrue result ↔ MatchOption current ⊥ (λ c. IsNextBelow self.now c number) }
     {
         match current {
             Some(current) => match self.next_below(current) {
-                Some((below, found)) => below == number && found == id,
+                Some(below) => below == number,
                 None => false,
             },
             None => false,
@@ -48,7 +91,7 @@ impl<A: Allocator> Numbers<A> {
     }
 
     /// Tells whether the current article is a number that has none above it.
-    pub(crate) fn is_at_top(&self, current: Option<u64>) -> bool
+    fn is_at_top(&self, current: Option<u64>) -> bool
         ensures { IsTrue result ↔ MatchOption current ⊥ (NoneAbove self.now) }
     {
         match current {
@@ -58,7 +101,7 @@ impl<A: Allocator> Numbers<A> {
     }
 
     /// Tells whether the current article is a number that has none below it.
-    pub(crate) fn is_at_bottom(&self, current: Option<u64>) -> bool
+    fn is_at_bottom(&self, current: Option<u64>) -> bool
         ensures { IsTrue result ↔ MatchOption current ⊥ (NoneBelow self.now) }
     {
         match current {
@@ -76,7 +119,7 @@ impl<A: Allocator> Numbers<A> {
 
     /// Tells whether there are at most as many numbers as estimated, all between the marks, and
     /// both marks are numbers where they have to be.
-    pub(crate) fn is_bound(&self, how: Marks, marks: WaterMarks) -> bool
+    fn is_bound(&self, how: Marks, marks: WaterMarks) -> bool
         ensures { IsTrue result ↔ Bound how self.now marks }
     {
         self.len() as u64 <= marks.estimate
@@ -112,16 +155,13 @@ impl<A: Allocator> Numbers<A> {
         ensures { IsNextFrom self.now before result }
     {
         match before {
-            Some(number) => match self.next_above(number) {
-                Some((next, _)) => Some(next),
-                None => None,
-            },
+            Some(number) => self.next_above(number),
             None => self.least(),
         }
     }
 
     /// Tells whether the numbers within the range are the listed ones.
-    pub(crate) fn lists(&self, range: Range, block: &Block<'_>) -> bool
+    fn lists(&self, range: Range, block: &Block<'_>) -> bool
         requires { is_ascending (listed_numbers block.now) ≡ true }
         ensures { IsTrue result ↔ Lists self.now range (listed_numbers block.now) }
     {

@@ -1,5 +1,4 @@
-use Rattle.std.proofs.Common.{◌≡◌, Some, ap, sym, subst, ◌∙◌}
-use Rattle.std.specs.FinMap.{get}
+use Rattle.std.proofs.Common.{subst}
 use Rattle.std.specs.Rc.{rc_str_bytes}
 use Rattle.nntp_article.specs.Session.Spool.{IsNextAbove, NoneAbove}
 use Rattle.nntp_spool.proofs.ShownNumbers.{next_above_from_range, none_above_from_range}
@@ -7,10 +6,8 @@ use Rattle.nntp_spool.proofs.value.numbers.Numbers.next_above.Goals as goal
 
 pub returns-in-Some : goal.returns-in-Some
 returns-in-Some g c =
-    let next = c.in-Some.next.now in
-    let is = subst (λ N. IsNextAbove N c.args.number next × (get N next ≡ Some (rc_str_bytes c.in-Some.id.now))) c.self.view_is
-    (next_above_from_range (λ v. rc_str_bytes v) c.self.inside.ids _ _ _ _ _ (c.range.ensures.in_range tt) c.in-Some.ensures.steps) in
-    (is.0, is.1 ∙ ap Some (sym c.as_str.ensures.value))
+    subst (λ N. IsNextAbove N c.args.number c.in-Some.next.now) c.self.view_is
+    (next_above_from_range (λ v. rc_str_bytes v) c.self.inside.ids _ _ _ _ _ (c.range.ensures.in_range tt) c.in-Some.ensures.steps)
 
 pub returns-in-None : goal.returns-in-None
 returns-in-None g c = subst (λ N. NoneAbove N c.args.number) c.self.view_is (none_above_from_range (λ v. rc_str_bytes v) c.self.inside.ids _ _ (c.range.ensures.in_range tt) c.in-None.ensures.steps.0)

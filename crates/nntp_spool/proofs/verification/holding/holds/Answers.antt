@@ -1,0 +1,4 @@
+use Rattle.nntp_spool.proofs.verification.holding.holds.Goals as goal
+
+pub returns-in-GroupsAre-clause-holds : goal.returns-in-GroupsAre-clause-holds
+returns-in-GroupsAre-clause-holds g c = rw c.in-GroupsAre.is c.lists_groups.ensures.lists

@@ -1,0 +1,91 @@
+//! Whether what an answer says holds of a spool, a fact at a time.
+ghost use Rattle.std.specs.Prelude.{◌≡◌, ◌↔◌, true, IsTrue, IfOk, None};
+ghost use Rattle.std.specs.List.{AllByRecursion};
+ghost use Rattle.nntp_wire.specs.Name.{IsGroupName};
+ghost use Rattle.nntp_wire.specs.declared.command.What.TheVariants.{Stat};
+ghost use Rattle.nntp_article.specs.Session.Spool.{Name, Spool as SpoolValue, IsGroup, HasText};
+ghost use Rattle.nntp_said.specs.Facts.{Holds};
+ghost use Rattle.nntp_said.specs.FactView.{fact_of};
+ghost use Rattle.nntp_spool.specs.AskedCounts.{AreCounted};
+ghost use Rattle.nntp_spool.specs.Content.{IdsHaveArticles};
+ghost use Rattle.nntp_spool.specs.Sessions.{AreInOrder, is_in_order};
+
+use crate::value::content::Content;
+use crate::verification::asked_counts::AskedCounts;
+use crate::verification::listed_groups::lists_groups;
+use crate::verification::sent_lines::has_text;
+use nntp_said::{Fact, SaidFacts};
+use nntp_wire::{Block, What};
+use std::alloc::{AllocError, Allocator};
+
+/// Tells whether all facts that are left hold of the spool.
+pub(crate) fn hold<A: Allocator + Copy, S: Allocator>(
+    spool: &Content<S>,
+    counts: &mut AskedCounts<A>,
+    facts: &mut SaidFacts<'_>,
+) -> Result<bool, AllocError>
+    requires names { (name : Name) → IsGroup spool.now name → IsGroupName name }
+    requires ids { IdsHaveArticles spool.now }
+    requires order { AreInOrder facts.old }
+    requires counted { AreCounted spool.now counts.old }
+    ensures counted { IfOk result (λ _. AreCounted spool.now counts.new) }
+    ensures hold { IfOk result (λ hold. IsTrue hold ↔ AllByRecursion (Holds spool.now) facts.old) }
+{
+    while let Some(fact) = facts.next() {
+        if !is_implied(&fact, facts) && !holds(spool, counts, &fact)? {
+            return Ok(false);
+        }
+    }
+    Ok(true)
+}
+
+/// Tells whether the fact holds because one of those behind it does: an id has an article, of which
+/// nothing is sent, where it has a number. So it isn't looked for.
+fn is_implied(fact: &Fact<'_>, behind: &SaidFacts<'_>) -> bool
+    ensures { IsTrue result → (S : SpoolValue) → IdsHaveArticles S → AllByRecursion (Holds S) behind.now → Holds S (fact_of fact.now) }
+{
+    match fact {
+        Fact::TextIs { what, id, block } => sends_nothing(*what, *block) && behind.place(*id),
+        _ => false,
+    }
+}
+
+/// Tells whether nothing is sent of an article.
+fn sends_nothing(what: What, block: &Option<Block<'_>>) -> bool
+    ensures { IsTrue result ↔ ((what ≡ Stat) × (block.now ≡ None)) }
+{
+    what == What::Stat && block.is_none()
+}
+
+/// Tells whether the fact holds of the spool.
+fn holds<A: Allocator + Copy, S: Allocator>(
+    spool: &Content<S>,
+    counts: &mut AskedCounts<A>,
+    fact: &Fact<'_>,
+) -> Result<bool, AllocError>
+    requires names { (name : Name) → IsGroup spool.now name → IsGroupName name }
+    requires order { is_in_order (fact_of fact.now) ≡ true }
+    requires counted { AreCounted spool.now counts.old }
+    ensures counted { IfOk result (λ _. AreCounted spool.now counts.new) }
+    ensures holds { IfOk result (λ holds. IsTrue holds ↔ Holds spool.now (fact_of fact.now)) }
+{
+    match fact {
+        Fact::ThereIs(name) => Ok(spool.group(name.as_str()).is_some()),
+        Fact::ThereIsNo(word) => Ok(spool.group_named(*word).is_none()),
+        Fact::Asks(name, ask) => Ok(spool.numbers_of(*name).meet(ask)),
+        Fact::IdAt(name, number, id) => Ok(spool.numbers_of(*name).has_id(*number, id.as_str())),
+        Fact::TextIs { what, id, block } => Ok(sends(spool, *what, id.as_str(), *block)),
+        Fact::NoArticle(word) => Ok(!spool.knows(*word)),
+        Fact::GroupsAre { wildmat, block } => lists_groups(spool, counts, *wildmat, *block),
+    }
+}
+
+/// Tells whether the id has an article, and this is what is sent of it.
+fn sends<A: Allocator>(spool: &Content<A>, what: What, id: &str, block: &Option<Block<'_>>) -> bool
+    ensures { IsTrue result ↔ HasText spool.now what id.now block.now }
+{
+    match spool.article(id) {
+        Some(article) => has_text(article, what, block),
+        None => false,
+    }
+}
