@@ -28,6 +28,7 @@ pub mod AnswersInFacts
 pub mod HeldFacts
 pub mod VerifiedPairs
 pub mod NumberIds
+pub mod NumberFaults
 pub mod GatheredEntries
 pub mod SearchedEntries
 pub mod GreatestKeys

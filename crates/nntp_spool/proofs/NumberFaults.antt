@@ -1,0 +1,66 @@
+-- What a builder answers to a number that has a fault, or that no memory is left for.
+use Rattle.std.proofs.Common.{◌≡◌, ◌∙◌, refl, ap, ℕ, Bool, true, false, Option, Some, None, Result, Err}
+use Rattle.std.specs.Prelude.{if◌then◌else◌, is_some, is_none, not}
+use Rattle.std.specs.FinMap.{get, insert}
+use Rattle.nntp_wire.specs.Decided.{is_message_id}
+use Rattle.nntp_wire.specs.Limit.{greatest}
+use Rattle.nntp_article.specs.Article.Parts.{Id}
+use Rattle.nntp_article.specs.Session.Machine.{is_article_number}
+use Rattle.nntp_article.specs.Session.Spool.{Name, Spool, numbers}
+use Rattle.nntp_spool.specs.declared.value.spool_fault.SpoolFault.{SpoolFault}
+use Rattle.nntp_spool.specs.declared.value.spool_fault.SpoolFault.TheVariants as faults
+use Rattle.nntp_spool.specs.Numbers.{has_id}
+use Rattle.nntp_spool.specs.Building.{Building, Builds, BuildsBy, number_fault, place_fault}
+use Rattle.nntp_spool.specs.Content.{with_group}
+
+-- a fault by the first of four tests is that by the five
+first_of_four : (a b c d e : Bool) (w x y z last f : SpoolFault) → (if a then Some w else (if b then Some x else (if c then Some y else (if d then Some z else None)))) ≡ Some f
+    → (if a then Some w else (if b then Some x else (if c then Some y else (if d then Some z else (if e then Some last else None))))) ≡ Some f
+first_of_four true b c d e w x y z last f is = is
+first_of_four false true c d e w x y z last f is = is
+first_of_four false false true d e w x y z last f is = is
+first_of_four false false false true e w x y z last f is = is
+first_of_four false false false false e w x y z last f is = absurd cc
+
+-- where four tests find no fault the fifth decides
+fifth : (a b c d e : Bool) (w x y z last : SpoolFault) → (if a then Some w else (if b then Some x else (if c then Some y else (if d then Some z else None)))) ≡ None
+    → (if a then Some w else (if b then Some x else (if c then Some y else (if d then Some z else (if e then Some last else None))))) ≡ (if e then Some last else None)
+fifth true b c d e w x y z last is = absurd cc
+fifth false true c d e w x y z last is = absurd cc
+fifth false false true d e w x y z last is = absurd cc
+fifth false false false true e w x y z last is = absurd cc
+fifth false false false false e w x y z last is = refl
+
+module _ (old : Building) (name : Name) (n : ℕ) (id : Id) where
+  -- the fault of the number at its place
+  abbrev placed : Option SpoolFault
+  placed = place_fault (greatest old.limit) old.spool name n id
+
+  -- what the builder answers
+  abbrev builds : Result (Unit {0}) SpoolFault → Building → Type 0
+  builds r new = Builds (number_fault (greatest old.limit) old.spool name n id) (with_group old.spool name (insert (numbers old.spool name) n id)) r old new
+
+  by : (failed : Bool) (fault : Option SpoolFault) (made : Spool) (f : SpoolFault) → failed ≡ false → fault ≡ Some f → BuildsBy failed fault made (Err f) old old
+  by failed fault made f works is = rw (works, is) (refl, refl)
+
+  wants : (failed : Bool) (fault : Option SpoolFault) (made : Spool) (new : Building) → failed ≡ false → fault ≡ None → new.failed ≡ true → BuildsBy failed fault made (Err faults.Memory) old new
+  wants failed fault made new works is fails = rw (works, is) (refl, fails)
+
+  -- the number has a fault at its place
+  pub misplaced : (f : SpoolFault) → old.failed ≡ false → placed ≡ Some f → builds (Err f) old
+  misplaced f works is =
+      by old.failed _ _ f works (first_of_four (is_none (get old.spool.groups name)) (not (is_article_number (greatest old.limit) n)) (not (is_message_id id)) (is_some (get (numbers old.spool name) n))
+      (has_id (numbers old.spool name) id) faults.UnknownGroup faults.BadNumber faults.BadId faults.DuplicateNumber faults.DuplicateId f is)
+
+  -- with none there, only another number of its id is a fault
+  has : placed ≡ None → number_fault (greatest old.limit) old.spool name n id ≡ (if has_id (numbers old.spool name) id then Some faults.DuplicateId else None)
+  has is = fifth (is_none (get old.spool.groups name)) (not (is_article_number (greatest old.limit) n)) (not (is_message_id id)) (is_some (get (numbers old.spool name) n))
+      (has_id (numbers old.spool name) id) faults.UnknownGroup faults.BadNumber faults.BadId faults.DuplicateNumber faults.DuplicateId is
+
+  -- another number has the id
+  pub repeated : old.failed ≡ false → placed ≡ None → has_id (numbers old.spool name) id ≡ true → builds (Err faults.DuplicateId) old
+  repeated works is there = by old.failed _ _ faults.DuplicateId works (has is ∙ ap (λ b. if b then Some faults.DuplicateId else None) there)
+
+  -- no memory is left for the id
+  pub unheld : (new : Building) → old.failed ≡ false → placed ≡ None → has_id (numbers old.spool name) id ≡ false → new.failed ≡ true → builds (Err faults.Memory) new
+  unheld new works is there fails = wants old.failed _ _ new works (has is ∙ ap (λ b. if b then Some faults.DuplicateId else None) there) fails
