@@ -13,7 +13,9 @@ ghost use Rattle.nntp_said.specs.FactView.{fact_of};
 use crate::fact::{Ask, Fact};
 use crate::position::Position;
 use crate::said_facts::SaidFacts;
-use nntp_wire::{Answer, Block, Command, GroupName, Marks, MessageId, Prompt, WaterMarks, What, Which};
+use nntp_wire::{
+    Answer, Block, Command, GroupName, Marks, MessageId, Prompt, WaterMarks, What, Which,
+};
 
 /// Returns what an answer says where marks are read so, this group is selected, and the session
 /// stands at the position.

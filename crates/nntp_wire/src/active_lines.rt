@@ -32,7 +32,13 @@ pub fn active_line(line: &[u8]) -> Option<ActiveLine<'_>>
 {
     group_names_are_decided();
     let mut words = words(line);
-    match (words.next(), words.next(), words.next(), words.next(), words.next()) {
+    match (
+        words.next(),
+        words.next(),
+        words.next(),
+        words.next(),
+        words.next(),
+    ) {
         (Some(name), Some(high), Some(low), Some(status), None) => Some(ActiveLine {
             name: GroupName::parse(name)?,
             high: number(high)?,
