@@ -10,6 +10,7 @@ ghost use Rattle.nntp_spool.specs.Verifying.{IsVerified};
 
 mod asked_counts;
 mod holding;
+mod last_group;
 mod listed_groups;
 mod lookups;
 mod sent_lines;
@@ -19,6 +20,7 @@ use crate::value::Spool;
 use crate::value::content::Content;
 use asked_counts::AskedCounts;
 use holding::hold;
+use last_group::LastGroup;
 use nntp_article::{Profile, Visible};
 use nntp_pair::{Exchange, Pairs, Step};
 use nntp_said::{Position, facts_of};
@@ -70,12 +72,13 @@ fn judge<A: Allocator + Copy, S: Allocator>(
     ensures { IfOk result (λ verified. IsVerified profile content.now client.now server.now verified) }
 {
     let mut pairs = Pairs::new(client, server);
+    let mut group = LastGroup::new(content);
     let mut position = Position::Nowhere;
     let mut answers = 0;
     loop {
         match pairs.next() {
             Step::Exchange(exchange) => {
-                if !may_answer(profile, content, counts, visible, position, &exchange)? {
+                if !may_answer(profile, &mut group, counts, visible, position, &exchange)? {
                     return Ok(Verified::Refuses { index: answers });
                 }
                 visible.advance(exchange.prompt(), exchange.answer())?;
@@ -92,17 +95,18 @@ fn judge<A: Allocator + Copy, S: Allocator>(
 /// place in the selected group.
 fn may_answer<A: Allocator + Copy, S: Allocator>(
     profile: Profile,
-    content: &Content<S>,
+    group: &mut LastGroup<'_, S>,
     counts: &mut AskedCounts<A>,
     visible: &Visible<A>,
     position: Position,
     exchange: &Exchange<'_>,
 ) -> Result<bool, AllocError>
-    requires spool { IsSpool profile.limit content.now }
-    requires counted { AreCounted content.now counts.old }
-    ensures counted { IfOk result (λ _. AreCounted content.now counts.new) }
+    requires spool { IsSpool profile.limit group.old }
+    requires counted { AreCounted group.old counts.old }
+    ensures spool { group.new ≡ group.old }
+    ensures counted { IfOk result (λ _. AreCounted group.old counts.new) }
     ensures may { IfOk result (λ may. IsTrue may
-        ↔ MayAnswer profile content.now (state_at content.now visible.now position) (asked_at exchange.now.line) exchange.now.response) }
+        ↔ MayAnswer profile group.old (state_at group.old visible.now position) (asked_at exchange.now.line) exchange.now.response) }
 {
     let prompt = exchange.prompt();
     let answer = exchange.answer();
@@ -111,5 +115,5 @@ fn may_answer<A: Allocator + Copy, S: Allocator>(
     }
     let selected = visible.selected_name();
     let mut facts = facts_of(profile.marks, selected, position, prompt, answer);
-    hold(content, counts, &mut facts)
+    hold(group, counts, &mut facts)
 }

@@ -129,7 +129,7 @@ impl<A: Allocator> Content<A> {
         self.groups.get(name)
     }
 
-    /// Returns the name and the numbers of the group that the word names. A word that is no text
+    /// Returns the word as text, and the numbers of the group that it names. A word that is no text
     /// names none.
     pub(crate) fn group_named<'w>(&self, word: &'w [u8]) -> Option<(&'w str, &Numbers<A>)>
         ensures numbers { option_map (λ group. group.1.now) result ≡ map.get self.now.groups word.now }
@@ -144,14 +144,26 @@ impl<A: Allocator> Content<A> {
         }
     }
 
-    /// Returns the numbers of the group that the word names. Where it names none there are none.
-    pub(crate) fn numbers_of(&self, word: &[u8]) -> &Numbers<A>
-        ensures { result.now ≡ numbers_of self.now word.now }
+    /// Returns the group that the word names: its name, as it is kept here, and its numbers. A word
+    /// that is no text names none.
+    pub(crate) fn kept_group(&self, word: &[u8]) -> Option<(&str, &Numbers<A>)>
+        ensures numbers { option_map (λ group. group.1.now) result ≡ map.get self.now.groups word.now }
+        ensures name { IfSome result (λ group. group.0.now ≡ word.now) }
     {
-        match self.group_named(word) {
-            Some((_, numbers)) => numbers,
-            None => &self.no_numbers,
+        match str::from_utf8(word) {
+            Ok(name) => match self.groups.get_key_value(name) {
+                Some((kept, numbers)) => Some((kept.as_str(), numbers)),
+                None => None,
+            },
+            Err(_) => None,
         }
+    }
+
+    /// Returns the numbers of a word that names no group: none.
+    pub(crate) fn no_numbers(&self) -> &Numbers<A>
+        ensures { result.now ≡ map.empty }
+    {
+        &self.no_numbers
     }
 
     /// Returns the article of an id.

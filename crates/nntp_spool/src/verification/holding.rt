@@ -12,6 +12,7 @@ ghost use Rattle.nntp_spool.specs.Sessions.{AreInOrder, is_in_order};
 
 use crate::value::content::Content;
 use crate::verification::asked_counts::AskedCounts;
+use crate::verification::last_group::LastGroup;
 use crate::verification::listed_groups::lists_groups;
 use crate::verification::sent_lines::has_text;
 use nntp_said::{Fact, SaidFacts};
@@ -20,19 +21,20 @@ use std::alloc::{AllocError, Allocator};
 
 /// Tells whether all facts that are left hold of the spool.
 pub(crate) fn hold<A: Allocator + Copy, S: Allocator>(
-    spool: &Content<S>,
+    group: &mut LastGroup<'_, S>,
     counts: &mut AskedCounts<A>,
     facts: &mut SaidFacts<'_>,
 ) -> Result<bool, AllocError>
-    requires names { (name : Name) → IsGroup spool.now name → IsGroupName name }
-    requires ids { IdsHaveArticles spool.now }
+    requires names { (name : Name) → IsGroup group.old name → IsGroupName name }
+    requires ids { IdsHaveArticles group.old }
     requires order { AreInOrder facts.old }
-    requires counted { AreCounted spool.now counts.old }
-    ensures counted { IfOk result (λ _. AreCounted spool.now counts.new) }
-    ensures hold { IfOk result (λ hold. IsTrue hold ↔ AllByRecursion (Holds spool.now) facts.old) }
+    requires counted { AreCounted group.old counts.old }
+    ensures spool { group.new ≡ group.old }
+    ensures counted { IfOk result (λ _. AreCounted group.old counts.new) }
+    ensures hold { IfOk result (λ hold. IsTrue hold ↔ AllByRecursion (Holds group.old) facts.old) }
 {
     while let Some(fact) = facts.next() {
-        if !is_implied(&fact, facts) && !holds(spool, counts, &fact)? {
+        if !is_implied(&fact, facts) && !holds(group, counts, &fact)? {
             return Ok(false);
         }
     }
@@ -59,24 +61,25 @@ fn sends_nothing(what: What, block: &Option<Block<'_>>) -> bool
 
 /// Tells whether the fact holds of the spool.
 fn holds<A: Allocator + Copy, S: Allocator>(
-    spool: &Content<S>,
+    group: &mut LastGroup<'_, S>,
     counts: &mut AskedCounts<A>,
     fact: &Fact<'_>,
 ) -> Result<bool, AllocError>
-    requires names { (name : Name) → IsGroup spool.now name → IsGroupName name }
+    requires names { (name : Name) → IsGroup group.old name → IsGroupName name }
     requires order { is_in_order (fact_of fact.now) ≡ true }
-    requires counted { AreCounted spool.now counts.old }
-    ensures counted { IfOk result (λ _. AreCounted spool.now counts.new) }
-    ensures holds { IfOk result (λ holds. IsTrue holds ↔ Holds spool.now (fact_of fact.now)) }
+    requires counted { AreCounted group.old counts.old }
+    ensures spool { group.new ≡ group.old }
+    ensures counted { IfOk result (λ _. AreCounted group.old counts.new) }
+    ensures holds { IfOk result (λ holds. IsTrue holds ↔ Holds group.old (fact_of fact.now)) }
 {
     match fact {
-        Fact::ThereIs(name) => Ok(spool.group(name.as_str()).is_some()),
-        Fact::ThereIsNo(word) => Ok(spool.group_named(*word).is_none()),
-        Fact::Asks(name, ask) => Ok(spool.numbers_of(*name).meet(ask)),
-        Fact::IdAt(name, number, id) => Ok(spool.numbers_of(*name).has_id(*number, id.as_str())),
-        Fact::TextIs { what, id, block } => Ok(sends(spool, *what, id.as_str(), *block)),
-        Fact::NoArticle(word) => Ok(!spool.knows(*word)),
-        Fact::GroupsAre { wildmat, block } => lists_groups(spool, counts, *wildmat, *block),
+        Fact::ThereIs(name) => Ok(group.find(name.as_slice()).is_some()),
+        Fact::ThereIsNo(word) => Ok(group.find(*word).is_none()),
+        Fact::Asks(name, ask) => Ok(group.numbers_of(*name).meet(ask)),
+        Fact::IdAt(name, number, id) => Ok(group.numbers_of(*name).has_id(*number, id.as_str())),
+        Fact::TextIs { what, id, block } => Ok(sends(group.spool(), *what, id.as_str(), *block)),
+        Fact::NoArticle(word) => Ok(!group.spool().knows(*word)),
+        Fact::GroupsAre { wildmat, block } => lists_groups(group.spool(), counts, *wildmat, *block),
     }
 }
 

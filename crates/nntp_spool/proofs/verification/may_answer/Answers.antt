@@ -20,6 +20,6 @@ returns-clause-may g c =
     let q = asked c.prompt-prompt.result.now in
     let a = response c.answer-answer.result.now in
     let f : IsTrue (fits c.args.profile v q a) = sym c.in_ok-fits.ensures ∙ c.if-not-branch.false in
-    let may = permitted_where_held c.args.profile c.args.content.now v c.args.position q a c.facts_of-facts.result c.hold.result (sym c.is_closed.ensures ∙ c.if-is_closed.false) f
+    let may = permitted_where_held c.args.profile c.args.group.now v c.args.position q a c.facts_of-facts.result c.hold.result (sym c.is_closed.ensures ∙ c.if-is_closed.false) f
     (c.facts_of-facts.ensures v c.selected_name-selected.ensures) c.hold.ensures.hold in
     rw (sym c.prompt-prompt.ensures, sym c.answer-answer.ensures.value) may

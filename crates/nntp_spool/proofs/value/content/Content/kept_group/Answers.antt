@@ -1,0 +1,30 @@
+use Rattle.std.proofs.Common.{sym, ap, ◌∙◌}
+use Rattle.std.specs.Prelude.{option_map}
+use Rattle.std.specs.FinMap.{get, slice_cmp-IsAntisymmetric, nat_cmp-IsAntisymmetric}
+use Rattle.std.specs.String.{string_bytes}
+use Rattle.nntp_spool.proofs.TextKeys.{no_name}
+use Rattle.nntp_spool.proofs.ShownMaps.{group_got}
+use Rattle.nntp_spool.proofs.value.content.Content.kept_group.Goals as goal
+
+pub returns-in-Some-clause-numbers : goal.returns-in-Some-clause-numbers
+returns-in-Some-clause-numbers g c =
+    ap (option_map (λ p. p.1.now)) (sym c.in-Some.is) ∙ c.get_key_value.ensures.value
+    ∙ group_got c.self.inside.groups.entries c.args.self.now.groups c.in-Ok.name.now (ap (λ s. s.groups) c.self.view_is)
+    ∙ ap (get c.args.self.now.groups) c.in-Ok.ensures.cases.0
+
+pub returns-in-Some-clause-name : goal.returns-in-Some-clause-name
+returns-in-Some-clause-name g c =
+    c.as_str.ensures.value
+    ∙ sym (slice_cmp-IsAntisymmetric nat_cmp-IsAntisymmetric c.in-Ok.name.now (string_bytes c.in-Some.kept.now) c.in-Some.ensures.same_key)
+    ∙ c.in-Ok.ensures.cases.0
+
+pub returns-in-None-clause-numbers : goal.returns-in-None-clause-numbers
+returns-in-None-clause-numbers g c =
+    ap (option_map (λ p. p.1.now)) (sym c.in-None.is) ∙ c.get_key_value.ensures.value
+    ∙ group_got c.self.inside.groups.entries c.args.self.now.groups c.in-Ok.name.now (ap (λ s. s.groups) c.self.view_is)
+    ∙ ap (get c.args.self.now.groups) c.in-Ok.ensures.cases.0
+
+pub returns-in-Err-clause-numbers : goal.returns-in-Err-clause-numbers
+returns-in-Err-clause-numbers g c =
+    let groups = c.self.inside.groups.entries in
+    sym (no_name c.args.word.now c.in-Err.ensures.cases.0 groups) ∙ group_got groups c.args.self.now.groups c.args.word.now (ap (λ s. s.groups) c.self.view_is)
