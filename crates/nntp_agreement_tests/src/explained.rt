@@ -222,21 +222,40 @@ fn expect_each(rt: &impl Abort, counts: Counts, least: u64) {
     );
 }
 
+/// Goes on with two sessions by a dozen exchanges each.
+fn go_on(
+    alloc: Global,
+    random: &mut Random,
+    first: &mut Wandering,
+    second: &mut Wandering,
+) -> Result<(), AllocError> {
+    for _ in 0..12 {
+        first.go_on(alloc, random)?;
+        second.go_on(alloc, random)?;
+    }
+    Ok(())
+}
+
+/// Three parts of a stream in one.
+fn joined(alloc: Global, parts: [&[u8]; 3]) -> Result<Vec<u8>, AllocError> {
+    let mut stream = Vec::new(alloc);
+    for part in parts {
+        stream.extend_from_slice(part)?;
+    }
+    Ok(stream)
+}
+
 /// Two random sessions of a dozen exchanges in one: between them the answer to HEAD is malformed, with its block, and the
 /// greeting of the second answers a line that isn't understood.
 fn two_in_one(alloc: Global, random: &mut Random) -> Result<(Vec<u8>, Vec<u8>), AllocError> {
     let mut first = Wandering::new(alloc)?;
     let mut second = Wandering::new(alloc)?;
-    for _ in 0..12 {
-        first.go_on(alloc, random)?;
-        second.go_on(alloc, random)?;
-    }
-    let mut client = Vec::from_slice(alloc, first.streams().0)?;
-    client.extend_from_slice(b"HEAD\r\nXHELLO\r\n")?;
-    client.extend_from_slice(second.streams().0)?;
-    let mut server = Vec::from_slice(alloc, first.streams().1)?;
-    server.extend_from_slice(b"221 one <a@b>\r\nSubject: s\r\n.\r\n")?;
-    server.extend_from_slice(second.streams().1)?;
+    go_on(alloc, random, &mut first, &mut second)?;
+    let (asked, answered) = first.streams();
+    let (asked_then, answered_then) = second.streams();
+    let malformed = b"221 one <a@b>\r\nSubject: s\r\n.\r\n".as_slice();
+    let client = joined(alloc, [asked, b"HEAD\r\nXHELLO\r\n", asked_then])?;
+    let server = joined(alloc, [answered, malformed, answered_then])?;
     Ok((client, server))
 }
 

@@ -10,7 +10,6 @@ use nntp_sessions::{
 use nntp_slow_judge::{Put, SlowVerdict, put_spool};
 use nntp_spool::Verified;
 use std::alloc::{AllocError, Global};
-use std::process::Abort;
 use std::test::Fail;
 
 /// A command and its answer.
@@ -100,19 +99,22 @@ impl Recording {
     }
 
     /// The run that shows the session finds as many answers.
-    fn show(&self, rt: &impl Abort, alloc: Global) -> Result<(), Fail> {
+    fn show(&self, alloc: Global) -> Result<(), Fail> {
         let capture = self.capture(alloc)?;
         let (answer, octets) = written(alloc, Task::Show, capture.as_bytes())?;
         let last = format!(in alloc; "\nend answers={} unanswered=0\n", self.answers)?;
-        assert!(rt; answer && octets.ends_with(last.as_bytes()), "{last}");
-        Ok(())
+        if answer && octets.ends_with(last.as_bytes()) {
+            return Ok(());
+        }
+        let name = self.client.as_str();
+        Err(Fail::new(format_args!("{name}: {}", octets.escape_ascii())))
     }
 
     /// The report of `check`, on which `Checker` and the runs agree.
-    fn report(&self, rt: &impl Abort, alloc: Global, choice: Choice) -> Result<String, Fail> {
+    fn report(&self, alloc: Global, choice: Choice) -> Result<String, Fail> {
         let report = self.checked(alloc, choice)?;
         self.check(alloc, choice, &report)?;
-        self.show(rt, alloc)?;
+        self.show(alloc)?;
         Ok(String::from_utf8(report)?)
     }
 
@@ -142,43 +144,34 @@ impl Recording {
     }
 
     /// Compares the report of `check` with what the slow judge says.
-    fn judge_slowly(
-        &self,
-        rt: &impl Abort,
-        alloc: Global,
-        choice: Choice,
-        report: &[u8],
-    ) -> Result<(), Fail> {
-        let name = self.client.as_str();
+    fn judge_slowly(&self, alloc: Global, choice: Choice, report: &[u8]) -> Result<(), Fail> {
         let (client, server) = self.streams();
         let exchanges = exchanges(alloc, client, server)?;
-        assert_eq!(rt; exchanges.len(), self.answers, "{name}, exchanges");
-        let is_told = SlowVerdict::of(alloc, choice, &exchanges)?.is_told(alloc, report)?;
-        assert!(rt; is_told, "{name}: {}", report.escape_ascii());
-        Ok(())
+        if exchanges.len() != self.answers {
+            return Err("some octets are no answers".into());
+        }
+        let slow = SlowVerdict::of(alloc, choice, &exchanges)?;
+        slow.expect_told(alloc, self.client.as_str(), report)
     }
 
     /// The slow judge permits the spool of a text.
-    fn put_slowly(
-        &self,
-        rt: &impl Abort,
-        alloc: Global,
-        choice: Choice,
-        text: &str,
-    ) -> Result<(), Fail> {
+    fn put_slowly(&self, alloc: Global, choice: Choice, text: &str) -> Result<(), Fail> {
         let put = put_spool(alloc, choice.marks, text.as_bytes(), self.streams())?;
         let wanted = Put {
             answers: self.answers as u64,
             are_all: true,
         };
-        assert!(rt; put == Some(wanted), "{}", self.client.as_str());
-        Ok(())
+        if put == Some(wanted) {
+            return Ok(());
+        }
+        let name = self.client.as_str();
+        Err(Fail::new(format_args!("{name}: {put:?}")))
     }
 
     /// Has all judges say the same. Returns 1 where it is consistent, and else 0.
-    fn count(&self, rt: &impl Abort, alloc: Global, choice: Choice) -> Result<u64, Fail> {
-        let report = self.report(rt, alloc, choice)?;
-        self.judge_slowly(rt, alloc, choice, report.as_bytes())?;
+    fn count(&self, alloc: Global, choice: Choice) -> Result<u64, Fail> {
+        let report = self.report(alloc, choice)?;
+        self.judge_slowly(alloc, choice, report.as_bytes())?;
         if !report.starts_with("consistent ") {
             return Ok(0);
         }
@@ -186,24 +179,18 @@ impl Recording {
             return Err("a report has no line".into());
         };
         self.put_given(alloc, choice, text)?;
-        self.put_slowly(rt, alloc, choice, text)?;
+        self.put_slowly(alloc, choice, text)?;
         Ok(1)
     }
 }
 
 /// Counts the session of these exchanges, if it is consistent.
-fn count(
-    rt: &impl Abort,
-    alloc: Global,
-    choice: Choice,
-    exchanges: &[Exchange],
-) -> Result<u64, Fail> {
-    Recording::of(alloc, exchanges)?.count(rt, alloc, choice)
+fn count(alloc: Global, choice: Choice, exchanges: &[Exchange]) -> Result<u64, Fail> {
+    Recording::of(alloc, exchanges)?.count(alloc, choice)
 }
 
 /// Counts the consistent sessions of these two exchanges and one more.
 fn count_third(
-    rt: &impl Abort,
     alloc: Global,
     choice: Choice,
     first: Exchange,
@@ -211,7 +198,7 @@ fn count_third(
 ) -> Result<u64, Fail> {
     let mut consistent = 0u64;
     for third in EXCHANGES {
-        let counted = count(rt, alloc, choice, &[first, second, third])?;
+        let counted = count(alloc, choice, &[first, second, third])?;
         consistent = consistent.saturating_add(counted);
     }
     Ok(consistent)
@@ -246,13 +233,13 @@ const STRICT: Family = Family {
 };
 
 /// Counts the consistent sessions of at most two exchanges.
-fn count_two(rt: &impl Abort, alloc: Global, choice: Choice) -> Result<u64, Fail> {
-    let mut consistent = count(rt, alloc, choice, &[])?;
+fn count_two(alloc: Global, choice: Choice) -> Result<u64, Fail> {
+    let mut consistent = count(alloc, choice, &[])?;
     for first in EXCHANGES {
-        let counted = count(rt, alloc, choice, &[first])?;
+        let counted = count(alloc, choice, &[first])?;
         consistent = consistent.saturating_add(counted);
         for second in EXCHANGES {
-            let counted = count(rt, alloc, choice, &[first, second])?;
+            let counted = count(alloc, choice, &[first, second])?;
             consistent = consistent.saturating_add(counted);
         }
     }
@@ -260,16 +247,11 @@ fn count_two(rt: &impl Abort, alloc: Global, choice: Choice) -> Result<u64, Fail
 }
 
 /// Counts the consistent sessions of three exchanges that begin with one of these.
-fn count_three(
-    rt: &impl Abort,
-    alloc: Global,
-    choice: Choice,
-    first: &[Exchange],
-) -> Result<u64, Fail> {
+fn count_three(alloc: Global, choice: Choice, first: &[Exchange]) -> Result<u64, Fail> {
     let mut consistent = 0u64;
     for first in first {
         for second in EXCHANGES {
-            let counted = count_third(rt, alloc, choice, *first, second)?;
+            let counted = count_third(alloc, choice, *first, second)?;
             consistent = consistent.saturating_add(counted);
         }
     }
@@ -277,27 +259,27 @@ fn count_three(
 }
 
 /// Counts the consistent sessions of the whole family.
-fn count_family(rt: &impl Abort, alloc: Global, choice: Choice) -> Result<Family, Fail> {
+fn count_family(alloc: Global, choice: Choice) -> Result<Family, Fail> {
     let (groups, rest) = EXCHANGES.split_at(3);
     let (steps, others) = rest.split_at(6);
     Ok(Family {
-        at_most_two: count_two(rt, alloc, choice)?,
-        from_groups: count_three(rt, alloc, choice, groups)?,
-        from_steps: count_three(rt, alloc, choice, steps)?,
-        from_others: count_three(rt, alloc, choice, others)?,
+        at_most_two: count_two(alloc, choice)?,
+        from_groups: count_three(alloc, choice, groups)?,
+        from_steps: count_three(alloc, choice, steps)?,
+        from_others: count_three(alloc, choice, others)?,
     })
 }
 
 #[test]
 fn at_most_three_exchanges(rt: HostRuntime) -> Result<(), Fail> {
-    let family = count_family(&rt, rt.alloc(), NARROW_LENIENT)?;
+    let family = count_family(rt.alloc(), NARROW_LENIENT)?;
     assert_eq!(rt; family, LENIENT);
     Ok(())
 }
 
 #[test]
 fn at_most_three_exchanges_with_strict_marks(rt: HostRuntime) -> Result<(), Fail> {
-    let family = count_family(&rt, rt.alloc(), NARROW_STRICT)?;
+    let family = count_family(rt.alloc(), NARROW_STRICT)?;
     assert_eq!(rt; family, STRICT);
     Ok(())
 }
@@ -312,7 +294,7 @@ fn a_thousand_groups(rt: HostRuntime) -> Result<(), Fail> {
     }
     let first = "consistent answers=1001 groups=1000 numbers=0 articles=0\n";
     for choice in CHOICES {
-        let report = recording.report(&rt, rt.alloc(), choice)?;
+        let report = recording.report(rt.alloc(), choice)?;
         let Some(text) = report.strip_prefix(first) else {
             return Err("another first line".into());
         };

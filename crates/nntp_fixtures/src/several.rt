@@ -122,8 +122,9 @@ fn verified_by(
     marks: Marks,
     spool: &Spool,
     sessions: &[Recorded<'_>],
-) -> Result<String, AllocError> {
-    verified_shown(alloc, &verify_sessions(alloc, marks, spool, sessions)?)
+) -> Result<String, Fail> {
+    let verified = verify_sessions(alloc, marks, spool, sessions)?;
+    Ok(verified_shown(alloc, &verified)?)
 }
 
 /// What `verify_sessions` answers of the spool with this text.
@@ -138,11 +139,11 @@ pub fn verified_sessions(
     sessions: &[Recorded<'_>],
 ) -> Result<String, Fail> {
     let spool = Spool::read(alloc, text)?;
-    Ok(verified_by(alloc, marks, &spool, sessions)?)
+    verified_by(alloc, marks, &spool, sessions)
 }
 
 /// A verdict on so many sessions, if what was told as bad is its bad answer.
-fn shown_as_told(
+fn sessions_shown_as_told(
     alloc: Global,
     told: Option<(u64, u64, Class)>,
     verdict: &SessionsVerdict,
@@ -162,7 +163,7 @@ fn shown_as_told(
 pub fn finished_sessions(alloc: Global, checker: Checker, count: usize) -> Result<Vec<u8>, Fail> {
     let told = checker.bad_of_sessions();
     let verdict = checker.finish_sessions()?;
-    shown_as_told(alloc, told, &verdict, count)
+    sessions_shown_as_told(alloc, told, &verdict, count)
 }
 
 /// What a checker says, to which each stream comes in one piece.

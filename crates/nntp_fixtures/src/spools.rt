@@ -6,6 +6,18 @@ use nntp_wire::Marks;
 use std::alloc::Global;
 use std::test::Fail;
 
+/// Puts a spool to a session. This has to be the text of the spool.
+fn put_read(
+    alloc: Global,
+    name: &str,
+    marks: Marks,
+    (spool, text): (&Spool, &[u8]),
+    (client, server): (&[u8], &[u8]),
+) -> Result<Verified, Fail> {
+    expect_octets(name, &spool_text(alloc, spool)?, text)?;
+    Ok(verify(alloc, marks, spool, client, server)?)
+}
+
 /// Reads the text of a spool, which has to be written as it was read, and puts the spool to a session.
 ///
 /// # Errors
@@ -16,9 +28,8 @@ pub fn put(
     name: &str,
     marks: Marks,
     text: &[u8],
-    (client, server): (&[u8], &[u8]),
+    streams: (&[u8], &[u8]),
 ) -> Result<Verified, Fail> {
     let spool = Spool::read(alloc, text)?;
-    expect_octets(name, &spool_text(alloc, &spool)?, text)?;
-    Ok(verify(alloc, marks, &spool, client, server)?)
+    put_read(alloc, name, marks, (&spool, text), streams)
 }

@@ -2,6 +2,7 @@
 use crate::{Judged, judge};
 use nntp_sessions::{Answered, Choice};
 use std::alloc::{AllocError, Global};
+use std::test::Fail;
 
 /// How many exchanges are consistent with all before them, what is said of the next, if there is one, and the text of the
 /// spool that is given for those that are consistent.
@@ -61,10 +62,18 @@ impl SlowVerdict {
         }
     }
 
-    /// Whether the report of `check` on two streams, which end behind the last exchange, says the same.
-    pub fn is_told(&self, alloc: Global, report: &[u8]) -> Result<bool, AllocError> {
+    /// The report of `check` on two streams, which end behind the last exchange, says the same.
+    ///
+    /// # Errors
+    ///
+    /// Want of memory, and the report, where it says something else.
+    pub fn expect_told(&self, alloc: Global, name: &str, report: &[u8]) -> Result<(), Fail> {
         let first = self.first_line(alloc, true)?;
         let is_given = self.judged != Judged::Consistent || report.ends_with(&self.text);
-        Ok(report.starts_with(first.as_bytes()) && is_given)
+        if is_given && report.starts_with(first.as_bytes()) {
+            return Ok(());
+        }
+        let report = report.escape_ascii();
+        Err(Fail::new(format_args!("{name}: {report}, and wanted is {first}")))
     }
 }

@@ -15,7 +15,6 @@ use std::test::Fail;
 
 /// Compares a verdict on two streams with what the slow judge says. `verify` permits the spool that is given.
 fn compare_verdict(
-    rt: &impl Abort,
     alloc: Global,
     choice: Choice,
     name: &str,
@@ -23,12 +22,7 @@ fn compare_verdict(
     verdict: &Verdict,
     slow: &SlowVerdict,
 ) -> Result<(), Fail> {
-    let report = shown(alloc, verdict)?;
-    assert!(rt;
-        slow.is_told(alloc, &report)?,
-        "{name}: {}",
-        report.escape_ascii()
-    );
+    slow.expect_told(alloc, name, &shown(alloc, verdict)?)?;
     let Verdict::Consistent { spool, answers } = verdict else {
         return Ok(());
     };
@@ -36,10 +30,20 @@ fn compare_verdict(
     expect_verified(name, verified, Verified::Permits { answers: *answers })
 }
 
-/// Compares `check` of two streams, which end behind the last exchange, with what the slow judge says, and what is noted
-/// of them.
+/// Compares `check` of two streams, which end behind the last exchange, with what the slow judge says.
+fn compare_check(
+    alloc: Global,
+    choice: Choice,
+    name: &str,
+    streams: (&[u8], &[u8]),
+    slow: &SlowVerdict,
+) -> Result<(), Fail> {
+    let verdict = check_by(choice, alloc, streams)?;
+    compare_verdict(alloc, choice, name, streams, &verdict, slow)
+}
+
+/// Compares `check` and what is noted of these exchanges.
 fn compare(
-    rt: &impl Abort,
     alloc: Global,
     choice: Choice,
     name: &str,
@@ -47,9 +51,8 @@ fn compare(
     exchanges: &[Answered<'_>],
     slow: &SlowVerdict,
 ) -> Result<(), Fail> {
-    let verdict = check_by(choice, alloc, streams)?;
-    compare_verdict(rt, alloc, choice, name, streams, &verdict, slow)?;
-    compare_noted(rt, alloc, choice, name, streams, exchanges, slow)
+    compare_check(alloc, choice, name, streams, slow)?;
+    compare_noted(alloc, choice, name, streams, exchanges, slow)
 }
 
 /// The verdict on a worked session is that of the slow judge, as is the spool.
@@ -64,7 +67,6 @@ fn judge_worked(alloc: Global, session: &Session) -> Result<(), Fail> {
 
 /// Judges by each choice the front of a session that ends behind the last of these answers.
 fn judge_front(
-    rt: &impl Abort,
     alloc: Global,
     name: &str,
     (client, server): (&[u8], &[u8]),
@@ -74,22 +76,17 @@ fn judge_front(
     let (server, _) = server.split_at(end.min(server.len()));
     for choice in CHOICES {
         let slow = SlowVerdict::of(alloc, choice, front)?;
-        compare(rt, alloc, choice, name, (client, server), front, &slow)?;
+        compare(alloc, choice, name, (client, server), front, &slow)?;
     }
     Ok(())
 }
 
 /// Judges each front of a session that ends behind an answer.
-fn judge_fronts(
-    rt: &impl Abort,
-    alloc: Global,
-    name: &str,
-    streams: (&[u8], &[u8]),
-) -> Result<(), Fail> {
+fn judge_fronts(alloc: Global, name: &str, streams: (&[u8], &[u8])) -> Result<(), Fail> {
     let exchanges = exchanges(alloc, streams.0, streams.1)?;
     for count in 0..=exchanges.len() {
         let (front, _) = exchanges.split_at(count);
-        judge_front(rt, alloc, name, streams, front)?;
+        judge_front(alloc, name, streams, front)?;
     }
     Ok(())
 }
@@ -98,7 +95,7 @@ fn judge_fronts(
 fn worked_sessions(rt: HostRuntime) -> Result<(), Fail> {
     for session in each_session(rt.alloc())? {
         judge_worked(rt.alloc(), session)?;
-        judge_fronts(&rt, rt.alloc(), session.name, session.streams())?;
+        judge_fronts(rt.alloc(), session.name, session.streams())?;
     }
     Ok(())
 }
@@ -106,7 +103,7 @@ fn worked_sessions(rt: HostRuntime) -> Result<(), Fail> {
 #[test]
 fn sessions_with_marks(rt: HostRuntime) -> Result<(), Fail> {
     for row in each_row(rt.alloc())? {
-        judge_fronts(&rt, rt.alloc(), row.name, row.streams())?;
+        judge_fronts(rt.alloc(), row.name, row.streams())?;
     }
     Ok(())
 }
@@ -141,7 +138,6 @@ impl Counts {
 /// Judges the last exchange of two streams, of which those before it are consistent. The spool that was given for those
 /// is put to all of them.
 fn judge_last(
-    rt: &impl Abort,
     alloc: Global,
     choice: Choice,
     streams: (&[u8], &[u8]),
@@ -151,9 +147,11 @@ fn judge_last(
     let name = name.as_str();
     put_to_both(alloc, name, choice.marks, &slow.text, streams)?;
     let exchanges = exchanges(alloc, streams.0, streams.1)?;
-    assert_eq!(rt; exchanges.len(), slow.good.saturating_add(1));
+    if exchanges.len() != slow.good.saturating_add(1) {
+        return Err("some octets are no answers".into());
+    }
     slow.go_on(alloc, choice, &exchanges)?;
-    compare(rt, alloc, choice, name, streams, &exchanges, slow)
+    compare(alloc, choice, name, streams, &exchanges, slow)
 }
 
 /// What the slow judge says of a greeting.
@@ -164,7 +162,6 @@ fn greeted(alloc: Global, choice: Choice, session: &Wandering) -> Result<SlowVer
 
 /// Goes on with a session: each answer that isn't consistent with those before it is taken back.
 fn wander(
-    rt: &impl Abort,
     alloc: Global,
     choice: Choice,
     random: &mut Random,
@@ -174,7 +171,7 @@ fn wander(
     let mut slow = greeted(alloc, choice, &session)?;
     for _ in 0..12 {
         session.go_on(alloc, random)?;
-        judge_last(rt, alloc, choice, session.streams(), &mut slow)?;
+        judge_last(alloc, choice, session.streams(), &mut slow)?;
         counts.add(slow.judged);
         if slow.judged != Judged::Consistent {
             session.go_back();
@@ -189,7 +186,7 @@ fn judge_random(rt: &impl Abort, alloc: Global, choice: Choice) -> Result<(), Fa
     for base in BASES {
         let mut random = Random::new(20_261_122, base);
         for _ in 0..150 {
-            wander(rt, alloc, choice, &mut random, &mut counts)?;
+            wander(alloc, choice, &mut random, &mut counts)?;
         }
     }
     assert!(rt; counts.consistent > 300, "{}", counts.consistent);

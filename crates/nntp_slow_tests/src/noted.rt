@@ -1,27 +1,27 @@
 //! What is noted of a session, against the slow judge: which answer is bad, and what is known of the groups if none is.
-use nntp_fixtures::{Stop, expect_octets, group_lines, note_all};
+use nntp_fixtures::{Stop, Whole, expect_octets, group_lines, note_all};
 use nntp_pair::Class;
 use nntp_sessions::{Answered, Choice};
 use nntp_slow_judge::{Judged, SlowVerdict};
 use std::alloc::Global;
-use std::process::Abort;
 use std::test::Fail;
 
-/// What is noted of two streams, which end behind the last exchange: how many answers are consistent, what is said of the
-/// next, if there is one, and the lines of the groups if there is none.
-fn note(
-    alloc: Global,
-    choice: Choice,
-    (client, server): (&[u8], &[u8]),
-) -> Result<(Judged, u64, String), Fail> {
+/// What is said of a session, how many answers are consistent, and the lines of the groups if all are.
+type Said = (Judged, u64, String);
+
+/// What is said of a session whose exchanges were all noted.
+fn said_of(alloc: Global, whole: &Whole<Global>) -> Result<Said, Fail> {
+    if whole.class.is_some() {
+        return Err("octets are left".into());
+    }
+    let lines = group_lines(alloc, &whole.facts)?;
+    Ok((Judged::Consistent, whole.answers, lines))
+}
+
+/// What is noted of two streams, which end behind the last exchange.
+fn note(alloc: Global, choice: Choice, (client, server): (&[u8], &[u8])) -> Result<Said, Fail> {
     match note_all(alloc, choice.limit, choice.marks, client, server) {
-        Ok(whole) => {
-            if whole.class.is_some() {
-                return Err("octets are left".into());
-            }
-            let lines = group_lines(alloc, &whole.facts)?;
-            Ok((Judged::Consistent, whole.answers, lines))
-        }
+        Ok(whole) => said_of(alloc, &whole),
         Err(Stop::Bad { answer, class }) => {
             let judged = if class == Class::OutOfPlace {
                 Judged::OutOfPlace
@@ -36,7 +36,6 @@ fn note(
 
 /// Compares what is noted of two streams with what the slow judge says.
 pub(crate) fn compare_noted(
-    rt: &impl Abort,
     alloc: Global,
     choice: Choice,
     name: &str,
@@ -45,8 +44,9 @@ pub(crate) fn compare_noted(
     slow: &SlowVerdict,
 ) -> Result<(), Fail> {
     let (judged, good, lines) = note(alloc, choice, streams)?;
-    let said = (slow.judged, slow.good as u64);
-    assert_eq!(rt; (judged, good), said, "{name}");
+    if (judged, good) != (slow.judged, slow.good as u64) {
+        return Err(Fail::new(format_args!("{name}: {good}, {judged:?}")));
+    }
     if judged != Judged::Consistent {
         return Ok(());
     }

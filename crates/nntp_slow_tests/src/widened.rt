@@ -20,14 +20,27 @@ fn limit_and_content(text: &str) -> Option<(Limit, &str)> {
     }
 }
 
-/// The text of a spool that is widened, if its limit has become the greater one.
-fn widened_text(alloc: Global, spool: Spool) -> Result<Vec<u8>, Fail> {
-    let widened = spool.widened();
-    let text = spool_text(alloc, &widened)?;
-    if widened.limit() != Limit::Wide {
+/// The spool of a text, if this is its limit.
+fn read_within(alloc: Global, limit: Limit, text: &str) -> Result<Spool, Fail> {
+    let spool = Spool::read(alloc, text.as_bytes())?;
+    if spool.limit() == limit {
+        Ok(spool)
+    } else {
+        Err("a spool has another limit than its text".into())
+    }
+}
+
+/// The text of a wide spool.
+fn wide_text(alloc: Global, spool: &Spool) -> Result<Vec<u8>, Fail> {
+    if spool.limit() != Limit::Wide {
         return Err("a spool that is widened has another limit".into());
     }
-    Ok(text)
+    Ok(spool_text(alloc, spool)?)
+}
+
+/// The text of a spool that is widened.
+fn widened_text(alloc: Global, spool: Spool) -> Result<Vec<u8>, Fail> {
+    wide_text(alloc, &spool.widened())
 }
 
 /// The text of the spool of this text when it is widened: it has the same content.
@@ -35,11 +48,7 @@ fn widen(alloc: Global, text: &str) -> Result<Vec<u8>, Fail> {
     let Some((limit, content)) = limit_and_content(text) else {
         return Err("a text with another first line".into());
     };
-    let spool = Spool::read(alloc, text.as_bytes())?;
-    if spool.limit() != limit {
-        return Err("a spool has another limit than its text".into());
-    }
-    let written = widened_text(alloc, spool)?;
+    let written = widened_text(alloc, read_within(alloc, limit, text)?)?;
     let wanted = format!(in alloc; "{WIDE}{content}")?;
     expect_octets(text, &written, wanted.as_bytes())?;
     Ok(written)

@@ -1,10 +1,9 @@
 //! Checkers: the worked sessions in pieces, and what is told as bad while octets come.
 use nntp_fixtures::{checked_split, checker_by, expect_octets, finished};
-use nntp_pair::{Class, PairError};
+use nntp_pair::Class;
 use nntp_sessions::{NARROW_LENIENT, Random, Session, each_session};
 use nntp_verdict::Checker;
 use std::alloc::Global;
-use std::process::Abort;
 use std::test::Fail;
 
 /// Splits the server's stream at each place, behind the whole stream of the client; and the client's at each place,
@@ -32,18 +31,14 @@ fn sessions_in_two_pieces(rt: HostRuntime) -> Result<(), Fail> {
 }
 
 /// Gives a piece of each stream. An answer that was told as bad is told still.
-fn feed(
-    rt: &impl Abort,
-    checker: &mut Checker,
-    name: &str,
-    (client, server): (&[u8], &[u8]),
-) -> Result<(), PairError> {
+fn feed(checker: &mut Checker, name: &str, (client, server): (&[u8], &[u8])) -> Result<(), Fail> {
     let told = checker.bad();
     checker.feed_client(client)?;
     checker.feed_server(server)?;
-    let is_told = told.is_none() || told == checker.bad();
-    assert!(rt; is_told, "{name}, another answer is told as bad");
-    Ok(())
+    if told.is_none() || told == checker.bad() {
+        return Ok(());
+    }
+    Err(Fail::new(format_args!("{name}: another answer is told as bad")))
 }
 
 /// In which pieces the octets of both streams come: of one octet, or of 0 to 7.
@@ -77,27 +72,25 @@ impl Order {
 
 /// Gives both streams of a session in this order.
 fn feed_all(
-    rt: &impl Abort,
     checker: &mut Checker,
     random: &mut Random,
     session: &Session,
     order: Order,
-) -> Result<(), PairError> {
+) -> Result<(), Fail> {
     let (mut client, mut server) = session.streams();
     for _ in 0..client.len() + server.len() {
         let (of_client, of_server) = order.next(random, client, server);
         let (client_piece, client_rest) = client.split_at(of_client.min(client.len()));
         let (server_piece, server_rest) = server.split_at(of_server.min(server.len()));
-        feed(rt, checker, session.name, (client_piece, server_piece))?;
+        feed(checker, session.name, (client_piece, server_piece))?;
         client = client_rest;
         server = server_rest;
     }
-    feed(rt, checker, session.name, (client, server))
+    feed(checker, session.name, (client, server))
 }
 
 /// Gives both streams of a session in this order, and expects the report that is wanted.
 fn check_in_order(
-    rt: &impl Abort,
     alloc: Global,
     random: &mut Random,
     session: &Session,
@@ -105,7 +98,7 @@ fn check_in_order(
 ) -> Result<(), Fail> {
     let wanted = session.report(alloc)?;
     let mut checker = checker_by(session.choice, alloc);
-    feed_all(rt, &mut checker, random, session, order)?;
+    feed_all(&mut checker, random, session, order)?;
     expect_octets(session.name, &finished(alloc, checker)?, wanted.as_bytes())
 }
 
@@ -114,7 +107,7 @@ fn sessions_in_pieces(rt: HostRuntime) -> Result<(), Fail> {
     let mut random = Random::new(16, 0);
     for session in each_session(rt.alloc())? {
         for order in ORDERS {
-            check_in_order(&rt, rt.alloc(), &mut random, session, order)?;
+            check_in_order(rt.alloc(), &mut random, session, order)?;
         }
     }
     Ok(())
@@ -176,25 +169,28 @@ const TELLINGS: [Telling; 4] = [
 ];
 
 /// Gives the pieces, and expects what is told behind each.
-fn tell(rt: &impl Abort, checker: &mut Checker, telling: &Telling) -> Result<(), PairError> {
+fn tell(checker: &mut Checker, telling: &Telling) -> Result<(), Fail> {
+    let Telling { name, .. } = *telling;
     for (client, server, told) in telling.pieces {
-        feed(rt, checker, telling.name, (*client, *server))?;
-        assert_eq!(rt; checker.bad(), *told, "{}", telling.name);
+        feed(checker, name, (*client, *server))?;
+        if checker.bad() != *told {
+            return Err(Fail::new(format_args!("{name}: {:?} is told as bad", checker.bad())));
+        }
     }
     Ok(())
 }
 
 /// Gives the pieces, and expects the report.
-fn tell_all(rt: &impl Abort, alloc: Global, telling: &Telling) -> Result<(), Fail> {
+fn tell_all(alloc: Global, telling: &Telling) -> Result<(), Fail> {
     let mut checker = checker_by(NARROW_LENIENT, alloc);
-    tell(rt, &mut checker, telling)?;
+    tell(&mut checker, telling)?;
     expect_octets(telling.name, &finished(alloc, checker)?, telling.report)
 }
 
 #[test]
 fn what_is_told_as_bad_while_octets_come(rt: HostRuntime) -> Result<(), Fail> {
     for telling in &TELLINGS {
-        tell_all(&rt, rt.alloc(), telling)?;
+        tell_all(rt.alloc(), telling)?;
     }
     Ok(())
 }
