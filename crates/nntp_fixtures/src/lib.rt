@@ -1,15 +1,25 @@
-//! What tests that cross crates call: the calls of the checker by a choice, and what is told of a session as values and
-//! octets that a test compares.
+//! What tests that cross crates call: the calls of the checker by a choice, what is told of a session as values and octets
+//! that a test compares, and what tests expect of these.
 #![tactic(auto)]
 
 mod choices;
+mod expectations;
+mod known;
 mod notes;
 mod pieces;
 mod several;
+mod spools;
+mod told;
 mod verdicts;
 
-pub use choices::{check_by, check_task, checker_by, explain_task, verify_task};
+pub use choices::{check_by, checker_by};
+pub use expectations::{expect_front, expect_octets, expect_verified};
+pub use known::group_lines;
 pub use notes::{Stop, Whole, bad_of, beginning, note_all};
-pub use pieces::feed_split;
-pub use several::{check_sessions_by, feed_sessions, recorded, sessions_shown, verified_shown};
+pub use pieces::{checked_split, feed_split, finished};
+pub use several::{
+    check_sessions_by, checked_by_octets, checked_in_turn, checked_sessions, feed_sessions,
+    finished_sessions, recorded, sessions_shown, verified_sessions, verified_shown,
+};
+pub use spools::put;
 pub use verdicts::shown;

@@ -1,6 +1,6 @@
 //! The reports of verdicts.
-use nntp_check::Verdict;
 use nntp_sessions::with_spool_text;
+use nntp_verdict::Verdict;
 use std::alloc::{AllocError, Allocator, Global};
 
 /// Writes the first line of the report on a bad answer, and the answer with nothing escaped.

@@ -1,21 +1,22 @@
 //! Want of memory while worked sessions come in pieces.
 use crate::verdicts::right_if_shown;
-use nntp_check::{CheckError, Checker};
 use nntp_fixtures::{checker_by, feed_split};
 use nntp_little_memory::{Ended, give_each, refuse_each};
+use nntp_pair::PairError;
 use nntp_sessions::{Session, each_session};
+use nntp_verdict::Checker;
 use std::alloc::{Allocator, Global};
 use std::test::Fail;
 
 /// How a call ended that wants memory: from then on each one has to answer Failed, and nothing is bad.
 fn after_want<A: Allocator + Copy>(mut checker: Checker<A>) -> Ended {
-    let is_client_taken = checker.feed_client(b"QUIT\r\n") != Err(CheckError::Failed);
-    let is_server_taken = checker.feed_server(b"200 hi\r\n") != Err(CheckError::Failed);
+    let is_client_taken = checker.feed_client(b"QUIT\r\n") != Err(PairError::Failed);
+    let is_server_taken = checker.feed_server(b"200 hi\r\n") != Err(PairError::Failed);
     if is_client_taken || is_server_taken || checker.bad().is_some() {
         return Ended::Wrong;
     }
     match checker.finish() {
-        Err(CheckError::Failed) => Ended::Memory,
+        Err(PairError::Failed) => Ended::Memory,
         _ => Ended::Wrong,
     }
 }
@@ -32,12 +33,12 @@ fn judge_in_pieces<A: Allocator + Copy>(
     let mut checker = checker_by(session.choice, heap);
     match feed_split(&mut checker, (client, server), places) {
         Ok(()) => {}
-        Err(CheckError::Memory) => return after_want(checker),
+        Err(PairError::Memory) => return after_want(checker),
         Err(_) => return Ended::Wrong,
     }
     match checker.finish() {
         Ok(verdict) => right_if_shown(alloc, &verdict, wanted),
-        Err(CheckError::Memory) => Ended::Memory,
+        Err(PairError::Memory) => Ended::Memory,
         Err(_) => Ended::Wrong,
     }
 }

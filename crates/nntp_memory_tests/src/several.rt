@@ -1,13 +1,13 @@
 //! Want of memory while several sessions are judged.
-use nntp_check::{CheckError, Checker};
 use nntp_fixtures::{
     check_sessions_by, checker_by, feed_sessions, recorded, sessions_shown, verified_shown,
 };
 use nntp_little_memory::{Ended, refuse_each, right_if};
+use nntp_pair::PairError;
 use nntp_sessions::{NARROW_LENIENT, session_lists};
 use nntp_several::{Recorded, verify_sessions};
 use nntp_spool::Spool;
-use nntp_verdict::SessionsVerdict;
+use nntp_verdict::{Checker, SessionsVerdict};
 use std::alloc::{Allocator, Global};
 use std::test::Fail;
 
@@ -38,13 +38,13 @@ fn judge_at_once<A: Allocator + Copy>(
 
 /// How a call ended that wants memory: from then on each one has to answer Failed, and nothing is bad.
 fn after_want<A: Allocator + Copy>(mut checker: Checker<A>) -> Ended {
-    let is_begun = checker.begin_session() != Err(CheckError::Failed);
-    let is_taken = checker.feed_server(b"200 hi\r\n") != Err(CheckError::Failed);
+    let is_begun = checker.begin_session() != Err(PairError::Failed);
+    let is_taken = checker.feed_server(b"200 hi\r\n") != Err(PairError::Failed);
     if is_begun || is_taken || checker.bad_of_sessions().is_some() {
         return Ended::Wrong;
     }
     match checker.finish_sessions() {
-        Err(CheckError::Failed) => Ended::Memory,
+        Err(PairError::Failed) => Ended::Memory,
         _ => Ended::Wrong,
     }
 }
@@ -59,12 +59,12 @@ fn judge_in_turn<A: Allocator + Copy>(
     let mut checker = checker_by(NARROW_LENIENT, heap);
     match feed_sessions(&mut checker, sessions) {
         Ok(()) => {}
-        Err(CheckError::Memory) => return after_want(checker),
+        Err(PairError::Memory) => return after_want(checker),
         Err(_) => return Ended::Wrong,
     }
     match checker.finish_sessions() {
         Ok(verdict) => right_if_shown(alloc, &verdict, wanted),
-        Err(CheckError::Memory) => Ended::Memory,
+        Err(PairError::Memory) => Ended::Memory,
         Err(_) => Ended::Wrong,
     }
 }

@@ -1,8 +1,8 @@
 //! Want of memory while worked sessions are judged.
-use nntp_check::Verdict;
 use nntp_fixtures::{check_by, shown};
 use nntp_little_memory::{Ended, give_each, refuse_each, right_if};
 use nntp_sessions::{Session, each_session};
+use nntp_verdict::Verdict;
 use std::alloc::{Allocator, Global};
 use std::test::Fail;
 

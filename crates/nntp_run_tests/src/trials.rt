@@ -5,7 +5,7 @@ use crate::reported::Reported;
 use crate::runs::Run;
 use crate::several::SEVERAL;
 use crate::shows::SHOWN;
-use nntp_fixtures::{check_task, verify_task};
+use nntp_run_fixtures::{check_task, verify_task};
 use nntp_sessions::{Full, Session, each_session, verified_report, with_spool};
 use std::alloc::Global;
 use std::process::Abort;

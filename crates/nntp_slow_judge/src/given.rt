@@ -1,10 +1,9 @@
 //! The spool that is given for what answers say.
 use crate::ends::{add_marks, unseen_marks};
-use crate::lines::{push_name, push_number, push_unseen};
 use crate::numbers::least_free;
 use crate::said::Said;
 use crate::spool::{Article, Group, Numbered, Spool};
-use nntp_sessions::Choice;
+use nntp_sessions::{Choice, push_name, push_number, push_unseen};
 use nntp_wire::Marks;
 use std::alloc::{AllocError, Global};
 

@@ -8,11 +8,11 @@
 mod blocks;
 mod ends;
 mod given;
-mod lines;
 mod numbers;
 mod reading;
 mod rules;
 mod said;
+mod slow_verdict;
 mod spool;
 mod standing;
 mod text;
@@ -21,42 +21,17 @@ mod visible;
 mod wildmats;
 
 use given::given_spool;
-pub use lines::{push_name, push_number, push_unseen};
-use nntp_pair::{Exchange, Pairs, Step};
-use nntp_sessions::Choice;
+use nntp_pair::Exchange;
+use nntp_sessions::{Answered, Choice, exchanges};
 use nntp_wire::{Limit, Marks};
 pub use reading::{Reading, read};
 use said::Said;
+pub use slow_verdict::SlowVerdict;
 use standing::count_permitted;
 use std::alloc::{AllocError, Global};
 use text::{read_text, text_of};
 use visible::Visible;
 pub use wildmats::is_matched;
-
-/// An exchange, and how many octets the server has sent up to its end.
-#[derive(Drop)]
-pub struct Answered<'a> {
-    pub exchange: Exchange<'a>,
-    pub end: usize,
-}
-
-/// All exchanges of two streams, in order.
-pub fn exchanges<'a>(
-    alloc: Global,
-    client: &'a [u8],
-    server: &'a [u8],
-) -> Result<Vec<Answered<'a>>, AllocError> {
-    let mut answered = Vec::new(alloc);
-    let mut pairs = Pairs::new(client, server);
-    for _ in 0..server.len() {
-        let Step::Exchange(exchange) = pairs.next() else {
-            break;
-        };
-        let end = server.len().saturating_sub(pairs.ahead().rest.len());
-        answered.push(Answered { exchange, end })?;
-    }
-    Ok(answered)
-}
 
 /// What is said of an answer behind those before it.
 #[derive(Clone, Copy, Debug, PartialEq, Eq)]
@@ -81,7 +56,7 @@ fn listed<'e, 'a>(
 /// What is said of the last of these exchanges, where some spool explains those before it; and the text
 /// of the spool that is given for all of them, where that one explains them. They may be of several sessions, one behind
 /// the other: each begins with its greeting.
-pub fn judge(
+fn judge(
     alloc: Global,
     choice: Choice,
     exchanges: &[Answered<'_>],

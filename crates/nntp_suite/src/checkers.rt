@@ -1,74 +1,23 @@
 //! Checkers: the worked sessions in pieces, and what is told as bad while octets come.
-use crate::expectations::expect_octets;
-use nntp_check::{CheckError, Checker, Class, Verdict};
-use nntp_fixtures::{checker_by, feed_split, shown};
-use nntp_sessions::{Choice, NARROW_LENIENT, Random, Session, each_session};
+use nntp_fixtures::{checked_split, checker_by, expect_octets, finished};
+use nntp_pair::Class;
+use nntp_sessions::{NARROW_LENIENT, Random, Session, each_session};
+use nntp_verdict::Checker;
 use std::alloc::Global;
-use std::process::Abort;
 use std::test::Fail;
-
-/// Expects a checker to give the verdict of this report.
-fn expect_verdict(
-    rt: &impl Abort,
-    alloc: Global,
-    name: &str,
-    checker: Checker,
-    wanted: &[u8],
-) -> Result<(), Fail> {
-    let told = checker.bad();
-    let verdict = checker.finish()?;
-    assert!(rt; is_told(told, &verdict), "{name}, what is told as bad");
-    expect_octets(rt, name, &shown(alloc, &verdict)?, wanted);
-    Ok(())
-}
-
-/// Whether what is told as bad at the end is the bad answer of the verdict: where nothing is told, the answer isn't
-/// whole, or is none.
-fn is_told(told: Option<(u64, Class)>, verdict: &Verdict) -> bool {
-    match verdict {
-        Verdict::Consistent { .. } => told.is_none(),
-        Verdict::Bad { answer, class, .. } => match told {
-            Some((index, told_class)) => index == *answer && told_class == *class,
-            None => *class == Class::Cut || *class == Class::Surplus,
-        },
-    }
-}
-
-/// Expects the verdict of this report where both streams come in two pieces each, split at these places.
-pub(crate) fn expect_split(
-    rt: &impl Abort,
-    alloc: Global,
-    choice: Choice,
-    name: &str,
-    streams: (&[u8], &[u8]),
-    places: (usize, usize),
-    wanted: &[u8],
-) -> Result<(), Fail> {
-    let mut checker = checker_by(choice, alloc);
-    feed_split(&mut checker, streams, places)?;
-    expect_verdict(rt, alloc, name, checker, wanted)
-}
 
 /// Splits the server's stream at each place, behind the whole stream of the client; and the client's at each place,
 /// round the whole stream of the server.
-fn split_everywhere(rt: &impl Abort, alloc: Global, session: &Session) -> Result<(), Fail> {
-    let report = session.report(alloc)?;
-    let Session { name, choice, .. } = *session;
+fn split_everywhere(alloc: Global, session: &Session) -> Result<(), Fail> {
+    let wanted = session.report(alloc)?;
     let (client, server) = session.streams();
     for place in 0..server.len() + client.len() {
         let places = match place.checked_sub(server.len()) {
             None => (client.len(), place),
             Some(at) => (at, server.len()),
         };
-        expect_split(
-            rt,
-            alloc,
-            choice,
-            name,
-            (client, server),
-            places,
-            report.as_bytes(),
-        )?;
+        let report = checked_split(alloc, session.choice, (client, server), places)?;
+        expect_octets(session.name, &report, wanted.as_bytes())?;
     }
     Ok(())
 }
@@ -76,24 +25,20 @@ fn split_everywhere(rt: &impl Abort, alloc: Global, session: &Session) -> Result
 #[test]
 fn sessions_in_two_pieces(rt: HostRuntime) -> Result<(), Fail> {
     for session in each_session(rt.alloc())? {
-        split_everywhere(&rt, rt.alloc(), session)?;
+        split_everywhere(rt.alloc(), session)?;
     }
     Ok(())
 }
 
 /// Gives a piece of each stream. An answer that was told as bad is told still.
-fn feed(
-    rt: &impl Abort,
-    checker: &mut Checker,
-    name: &str,
-    (client, server): (&[u8], &[u8]),
-) -> Result<(), CheckError> {
+fn feed(checker: &mut Checker, name: &str, (client, server): (&[u8], &[u8])) -> Result<(), Fail> {
     let told = checker.bad();
     checker.feed_client(client)?;
     checker.feed_server(server)?;
-    let is_told = told.is_none() || told == checker.bad();
-    assert!(rt; is_told, "{name}, another answer is told as bad");
-    Ok(())
+    if told.is_none() || told == checker.bad() {
+        return Ok(());
+    }
+    Err(Fail::new(format_args!("{name}: another answer is told as bad")))
 }
 
 /// In which pieces the octets of both streams come: of one octet, or of 0 to 7.
@@ -127,33 +72,42 @@ impl Order {
 
 /// Gives both streams of a session in this order.
 fn feed_all(
-    rt: &impl Abort,
     checker: &mut Checker,
     random: &mut Random,
     session: &Session,
     order: Order,
-) -> Result<(), CheckError> {
+) -> Result<(), Fail> {
     let (mut client, mut server) = session.streams();
     for _ in 0..client.len() + server.len() {
         let (of_client, of_server) = order.next(random, client, server);
         let (client_piece, client_rest) = client.split_at(of_client.min(client.len()));
         let (server_piece, server_rest) = server.split_at(of_server.min(server.len()));
-        feed(rt, checker, session.name, (client_piece, server_piece))?;
+        feed(checker, session.name, (client_piece, server_piece))?;
         client = client_rest;
         server = server_rest;
     }
-    feed(rt, checker, session.name, (client, server))
+    feed(checker, session.name, (client, server))
+}
+
+/// Gives both streams of a session in this order, and expects the report that is wanted.
+fn check_in_order(
+    alloc: Global,
+    random: &mut Random,
+    session: &Session,
+    order: Order,
+) -> Result<(), Fail> {
+    let wanted = session.report(alloc)?;
+    let mut checker = checker_by(session.choice, alloc);
+    feed_all(&mut checker, random, session, order)?;
+    expect_octets(session.name, &finished(alloc, checker)?, wanted.as_bytes())
 }
 
 #[test]
 fn sessions_in_pieces(rt: HostRuntime) -> Result<(), Fail> {
     let mut random = Random::new(16, 0);
     for session in each_session(rt.alloc())? {
-        let wanted = session.report(rt.alloc())?;
         for order in ORDERS {
-            let mut checker = checker_by(session.choice, rt.alloc());
-            feed_all(&rt, &mut checker, &mut random, session, order)?;
-            expect_verdict(&rt, rt.alloc(), session.name, checker, wanted.as_bytes())?;
+            check_in_order(rt.alloc(), &mut random, session, order)?;
         }
     }
     Ok(())
@@ -215,20 +169,28 @@ const TELLINGS: [Telling; 4] = [
 ];
 
 /// Gives the pieces, and expects what is told behind each.
-fn tell(rt: &impl Abort, checker: &mut Checker, telling: &Telling) -> Result<(), CheckError> {
+fn tell(checker: &mut Checker, telling: &Telling) -> Result<(), Fail> {
+    let Telling { name, .. } = *telling;
     for (client, server, told) in telling.pieces {
-        feed(rt, checker, telling.name, (*client, *server))?;
-        assert_eq!(rt; checker.bad(), *told, "{}", telling.name);
+        feed(checker, name, (*client, *server))?;
+        if checker.bad() != *told {
+            return Err(Fail::new(format_args!("{name}: {:?} is told as bad", checker.bad())));
+        }
     }
     Ok(())
+}
+
+/// Gives the pieces, and expects the report.
+fn tell_all(alloc: Global, telling: &Telling) -> Result<(), Fail> {
+    let mut checker = checker_by(NARROW_LENIENT, alloc);
+    tell(&mut checker, telling)?;
+    expect_octets(telling.name, &finished(alloc, checker)?, telling.report)
 }
 
 #[test]
 fn what_is_told_as_bad_while_octets_come(rt: HostRuntime) -> Result<(), Fail> {
     for telling in &TELLINGS {
-        let mut checker = checker_by(NARROW_LENIENT, rt.alloc());
-        tell(&rt, &mut checker, telling)?;
-        expect_verdict(&rt, rt.alloc(), telling.name, checker, telling.report)?;
+        tell_all(rt.alloc(), telling)?;
     }
     Ok(())
 }

@@ -1,17 +1,21 @@
 //! The verdicts of `check`.
-use crate::expectations::expect_octets;
-use nntp_check::Verdict;
-use nntp_fixtures::{check_by, shown};
-use nntp_sessions::{NARROW_LENIENT, each_session};
+use nntp_fixtures::{check_by, expect_octets, shown};
+use nntp_sessions::{NARROW_LENIENT, Session, each_session};
+use nntp_verdict::Verdict;
+use std::alloc::Global;
 use std::test::Fail;
+
+/// The report on a worked session is the one that is wanted.
+fn expect_report(alloc: Global, session: &Session) -> Result<(), Fail> {
+    let wanted = session.report(alloc)?;
+    let verdict = check_by(session.choice, alloc, session.streams())?;
+    expect_octets(session.name, &shown(alloc, &verdict)?, wanted.as_bytes())
+}
 
 #[test]
 fn verdicts_on_worked_sessions(rt: HostRuntime) -> Result<(), Fail> {
     for session in each_session(rt.alloc())? {
-        let verdict = check_by(session.choice, rt.alloc(), session.streams())?;
-        let octets = shown(rt.alloc(), &verdict)?;
-        let wanted = session.report(rt.alloc())?;
-        expect_octets(&rt, session.name, &octets, wanted.as_bytes());
+        expect_report(rt.alloc(), session)?;
     }
     Ok(())
 }

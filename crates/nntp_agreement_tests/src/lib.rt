@@ -1,0 +1,12 @@
+//! Tests in which runs have to agree with calls and with the slow judge: every small session, lines at their limits, and
+//! sessions that `explain` reads to their end.
+#![tactic(auto)]
+
+#[cfg(test)]
+mod explained;
+#[cfg(test)]
+mod family;
+#[cfg(test)]
+mod limits;
+#[cfg(test)]
+mod runs;

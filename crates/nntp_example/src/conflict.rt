@@ -1,0 +1,117 @@
+//! The accepted answers with which the bad one conflicts, and about what.
+ghost use Rattle.std.specs.Prelude.{◌≡◌, ◌∷◌, length, IfOk, IfSome};
+ghost use Rattle.std.specs.List.{AllByRecursion};
+ghost use Rattle.nntp_wire.specs.AnswerView.{response};
+ghost use Rattle.nntp_wire.specs.Answer.{Asked};
+ghost use Rattle.nntp_article.specs.Session.Limit.{profile_of};
+ghost use Rattle.nntp_article.specs.Session.Machine.{Visible, visible_after};
+ghost use Rattle.nntp_facts.specs.Conflict.{FitsThere, SomeHas, told_with, below};
+
+use crate::session::{CLIENT, NAME, SERVER};
+use nntp_facts::{Conflict, Core, Facts, Noted, Placed, Point};
+use nntp_pair::{Pairs, Step};
+use nntp_wire::{Answer, GroupName, Limit, Marks};
+use std::alloc::{AllocError, Global};
+use std::mem;
+use std::process::Abort;
+use std::test::Fail;
+
+/// The accepted answers of a session, each where it stands, and the first one that contradicts them.
+#[derive(Drop)]
+pub(crate) struct Contradiction<'a> {
+    pub(crate) answers: Vec<Placed<'a>>,
+    pub(crate) bad: Placed<'a>,
+}
+
+/// The name of the group that is selected behind an answer.
+fn selected_after<'a>(
+    selected: &Option<GroupName<'a>>,
+    answer: &Answer<'a>,
+) -> Option<GroupName<'a>>
+    ensures { (v : Visible) (asked : Asked) → selected.now ≡ v.selected → result ≡ (visible_after v asked (response answer.now)).selected }
+{
+    match answer {
+        Answer::Group { name, .. } => Some(name.copy()),
+        Answer::Numbers { name, .. } => Some(name.copy()),
+        _ => match selected {
+            Some(name) => Some(name.copy()),
+            None => None,
+        },
+    }
+}
+
+/// Goes over a session up to the first answer that contradicts those before it, if all of those are accepted.
+pub(crate) fn first_contradiction<'a>(
+    alloc: Global,
+    limit: Limit,
+    marks: Marks,
+    client: &'a [u8],
+    server: &'a [u8],
+) -> Result<Option<Contradiction<'a>>, AllocError>
+    ensures fit { IfOk result (λ found. IfSome found (λ c. AllByRecursion (FitsThere (profile_of limit marks)) (c.bad ∷ c.answers.items))) }
+    ensures conflict { IfOk result (λ found. IfSome found (λ c. SomeHas (profile_of limit marks)
+        (told_with (profile_of limit marks) c.bad c.answers.items (below (length c.answers.items))) → ⊥)) }
+{
+    let mut facts = Facts::new(alloc, limit, marks);
+    let mut answers = Vec::new(alloc);
+    let mut selected = None;
+    let mut pairs = Pairs::new(client, server);
+    while let Step::Exchange(exchange) = pairs.next() {
+        let position = facts.position();
+        match facts.note(&exchange) {
+            Ok(Noted::Consistent) => {
+                let after = selected_after(&selected, exchange.answer());
+                let before = mem::replace(&mut selected, after);
+                answers.push(Placed::new(before, position, exchange))?;
+            }
+            Ok(Noted::Contradiction) => {
+                let bad = Placed::new(selected, position, exchange);
+                return Ok(Some(Contradiction { answers, bad }));
+            }
+            _ => return Ok(None),
+        }
+    }
+    Ok(None)
+}
+
+/// The accepted answers with which the bad one conflicts.
+fn core_of(
+    alloc: Global,
+    limit: Limit,
+    marks: Marks,
+    found: &Contradiction<'_>,
+) -> Result<Core, AllocError>
+    requires fit { AllByRecursion (FitsThere (profile_of limit marks)) (found.now.bad ∷ found.now.answers.items) }
+    requires conflict { SomeHas (profile_of limit marks) (told_with (profile_of limit marks) found.now.bad found.now.answers.items (below (length found.now.answers.items))) → ⊥ }
+{
+    Core::find(alloc, limit, marks, &found.answers, &found.bad, 4)
+}
+
+/// They conflict about the first number of the group.
+fn expect_point(
+    rt: &impl Abort,
+    alloc: Global,
+    found: &Contradiction<'_>,
+    core: &Core,
+) -> Result<(), AllocError> {
+    let Contradiction { answers, bad } = found;
+    let conflict = Conflict::of(alloc, Limit::Narrow, Marks::Lenient, answers, bad, core)?;
+    match conflict.point()? {
+        Some(Point::First(name)) => assert_eq!(rt; name, NAME),
+        _ => assert!(rt; false, "another point"),
+    }
+    Ok(())
+}
+
+/// They are answer 2 alone.
+#[test]
+fn core_and_point(rt: HostRuntime) -> Result<(), Fail> {
+    let (limit, marks) = (Limit::Narrow, Marks::Lenient);
+    let Some(found) = first_contradiction(rt.alloc(), limit, marks, CLIENT, SERVER)? else {
+        return Err("no answer contradicts those before it".into());
+    };
+    let core = core_of(rt.alloc(), limit, marks, &found)?;
+    assert_eq!(rt; core.places(), [2].as_slice());
+    assert!(rt; core.rest().is_none());
+    Ok(expect_point(&rt, rt.alloc(), &found, &core)?)
+}

@@ -1,0 +1,26 @@
+//! Tasks by a limit of article numbers and a way to read marks.
+use nntp_check::Task;
+use nntp_sessions::Choice;
+
+/// The task of judging a session.
+pub fn check_task(choice: Choice) -> Task {
+    Task::Check {
+        limit: choice.limit,
+        marks: choice.marks,
+    }
+}
+
+/// The task of telling whether a spool explains a session. The limit is that of the spool.
+pub fn verify_task(choice: Choice) -> Task {
+    Task::Verify {
+        marks: choice.marks,
+    }
+}
+
+/// The task of telling all that is bad of a session.
+pub fn explain_task(choice: Choice) -> Task {
+    Task::Explain {
+        limit: choice.limit,
+        marks: choice.marks,
+    }
+}
