@@ -62,10 +62,7 @@ of_placed : (profile : Profile) (all : List Fact) (group : Option Name) → AllB
 of_placed profile all group h (ThereIs name) e = selectable Lenient all name (widest profile) (subst (λ g. AllByRecursion (Among all) (the_group profile g)) e h)
 of_placed profile all group h (Asks name ask) e = selectable Lenient all name (widest profile) (subst (λ g. AllByRecursion (Among all) (the_group profile g)) e h)
 of_placed profile all group h (IdAt name n id) e = selectable Lenient all name (widest profile) (subst (λ g. AllByRecursion (Among all) (the_group profile g)) e h)
-of_placed profile all group h (ThereIsNo name) e = tt
-of_placed profile all group h (TextIs what id lines) e = tt
-of_placed profile all group h (NoArticle id) e = tt
-of_placed profile all group h (GroupsAre p lines) e = tt
+of_placed profile all group h fact e = tt
 
 -- it says the same in each visible state in which that group is selected
 pub there_said : (how : Marks) (a : Placed) (v : Visible) → v.selected ≡ a.selected → facts_of how v a.position a.asked a.response ≡ said_there how a
@@ -292,10 +289,7 @@ with_holds profile S all spool holds [] p = tt
 with_holds profile S all spool holds (ThereIs name ∷ facts) p = group_holds profile S name spool (all_at (Holds S) (ThereIs name) all holds p.0.there)
 with_holds profile S all spool holds (Asks name ask ∷ facts) p = group_holds profile S name spool (all_at (Holds S) (ThereIs name) all holds p.0.there)
 with_holds profile S all spool holds (IdAt name n id ∷ facts) p = group_holds profile S name spool (all_at (Holds S) (ThereIs name) all holds p.0.there)
-with_holds profile S all spool holds (ThereIsNo name ∷ facts) p = with_holds profile S all spool holds facts p.1
-with_holds profile S all spool holds (TextIs what id lines ∷ facts) p = with_holds profile S all spool holds facts p.1
-with_holds profile S all spool holds (NoArticle id ∷ facts) p = with_holds profile S all spool holds facts p.1
-with_holds profile S all spool holds (GroupsAre w lines ∷ facts) p = with_holds profile S all spool holds facts p.1
+with_holds profile S all spool holds (fact ∷ facts) p = with_holds profile S all spool holds facts p.1
 
 -- what is told of a session holds where all that it says does
 told_holds : (profile : Profile) (S : Spool) (all : List Fact) → IsSpool profile.limit S → AllByRecursion (Holds S) all

@@ -54,19 +54,13 @@ flat_none f (x ∷ xs) h = ap (λ ys. ys ++ flat_map f xs) (h x (inl refl)) ∙ 
 other_head : (what : What) (lines : Option (List Line)) (other id : Id) → is_same other id ≡ false → head_in id (TextIs what other lines) ≡ None
 other_head WhatArticle (Some lines) other id e = ap (λ b. cond b (Some (head_part lines)) None) e
 other_head Head (Some lines) other id e = ap (λ b. cond b (Some lines) None) e
-other_head WhatArticle None other id e = refl
-other_head Head None other id e = refl
-other_head Body lines other id e = refl
-other_head Stat lines other id e = refl
+other_head what lines other id e = refl
 
 -- or a body
 other_body : (what : What) (lines : Option (List Line)) (other id : Id) → is_same other id ≡ false → body_in id (TextIs what other lines) ≡ None
 other_body WhatArticle (Some lines) other id e = ap (λ b. cond b (Some (body_part lines)) None) e
 other_body Body (Some lines) other id e = ap (λ b. cond b (Some lines) None) e
-other_body WhatArticle None other id e = refl
-other_body Body None other id e = refl
-other_body Head lines other id e = refl
-other_body Stat lines other id e = refl
+other_body what lines other id e = refl
 
 -- ---- each kind of point
 
@@ -114,22 +108,14 @@ module _ (facts : List Fact) where
       of (ThereIs name) i = test name (any_in (shows_group name) (ThereIs name) facts i (same_itself name))
       of (GroupsAre p lines) i = each C (λ line. P line.name) lines (λ line j. test line.name
           (any_in (shows_group line.name) (GroupsAre p lines) facts i (any_in (λ other. is_same other.name line.name) line lines j (same_itself line.name))))
-      of (ThereIsNo name) i = inr tt
-      of (Asks name ask) i = inr tt
-      of (IdAt name n id) i = inr tt
-      of (TextIs what id lines) i = inr tt
-      of (NoArticle id) i = inr tt
+      of fact i = inr tt
 
       by : (name : Name) (fact : Fact) → OfShown P fact → shows_group name fact ≡ true → P name
       by name (ThereIs g) s t = subst P (same_text g name (sym t)) s
       by name (GroupsAre p lines) s t =
           let f = found_in (λ line. is_same line.name name) lines t in
           subst P (same_text f.0.name name (sym f.2)) (all_at (λ line. P line.name) f.0 lines s f.1)
-      by name (ThereIsNo g) s t = cc
-      by name (Asks g ask) s t = cc
-      by name (IdAt g n id) s t = cc
-      by name (TextIs what id lines) s t = cc
-      by name (NoArticle id) s t = cc
+      by name fact s t = cc
 
   module _ (placed : AllByRecursion (IsPlaced Lenient facts) facts) where
     -- a group of which numbers are spoken is shown
@@ -149,10 +135,7 @@ module _ (facts : List Fact) where
         by (GroupsAre w lines) i p = flat_none (λ line. cond (is_same line.name name) (Bounds line.low line.high ∷ []) []) lines
             (λ line j. unless (is_same line.name name) (Bounds line.low line.high)
             (λ t. true≢false (sym (any_in (shows_group name) (GroupsAre w lines) facts i (any_in (λ other. is_same other.name name) line lines j t)) ∙ hidden)))
-        by (ThereIs g) i p = refl
-        by (ThereIsNo g) i p = refl
-        by (TextIs what id lines) i p = refl
-        by (NoArticle id) i p = refl
+        by fact i p = refl
 
     -- of what is asked of a group the one is so, or of each the other is
     each_asked : (C : Type 0) (P : List Ask → Type 0) → P [] → ((name : Name) → IsTrue (is_shown_group facts name) → C ⊎ P (asks_of name facts)) → C ⊎ ((name : Name) → P (asks_of name facts))
@@ -197,12 +180,7 @@ module _ (facts : List Fact) where
 
         of : (fact : Fact) → In fact facts → FirstPoint ⊎ Once fact
         of (IdAt name n id) i = elim (given_first (id_in name n) dec_texts (IdAt name n id) i) [ inl c ↦ inl (IdOf name n, record { conflict = c; first = below }) | inr a ↦ inr a ]
-        of (ThereIs g) i = inr tt
-        of (ThereIsNo g) i = inr tt
-        of (Asks g ask) i = inr tt
-        of (TextIs what other lines) i = inr tt
-        of (NoArticle other) i = inr tt
-        of (GroupsAre p lines) i = inr tt
+        of fact i = inr tt
 
         by : (name : Name) (n : ℕ) (fact : Fact) → Once fact → IsFirst (id_in name n) fact
         by name n (IdAt g m id) s =
@@ -210,12 +188,7 @@ module _ (facts : List Fact) where
             (λ t. let p = and_parts (is_same g name) (m == n) t in
             let here = some_if (is_same g g && m == m) id (λ x. first_given (id_in g m) facts ≡ Some x) (and_from (is_same g g) (m == m) (same_itself g) (eq-eqb m m refl)) s in
             subst (λ g. first_given (id_in g n) facts ≡ Some id) (same_text g name (sym p.0)) (subst (λ m. first_given (id_in g m) facts ≡ Some id) (eqb-true m n p.1) here))
-        by name n (ThereIs g) s = tt
-        by name n (ThereIsNo g) s = tt
-        by name n (Asks g ask) s = tt
-        by name n (TextIs what other lines) s = tt
-        by name n (NoArticle other) s = tt
-        by name n (GroupsAre p lines) s = tt
+        by name n fact s = tt
 
     places : Below 6 → FirstPoint ⊎ ((name : Name) (id : Id) → GiveOne (number_in name id) facts)
     places below = or_next (each FirstPoint Once facts of) (λ all. inr (λ name id. all_from (IsFirst (number_in name id)) facts (λ fact i. by name id fact (all_at Once fact facts all i))))
@@ -226,12 +199,7 @@ module _ (facts : List Fact) where
 
         of : (fact : Fact) → In fact facts → FirstPoint ⊎ Once fact
         of (IdAt name n id) i = elim (given_first (number_in name id) cases_eq (IdAt name n id) i) [ inl c ↦ inl (PlaceOf name id, record { conflict = c; first = below }) | inr a ↦ inr a ]
-        of (ThereIs g) i = inr tt
-        of (ThereIsNo g) i = inr tt
-        of (Asks g ask) i = inr tt
-        of (TextIs what other lines) i = inr tt
-        of (NoArticle other) i = inr tt
-        of (GroupsAre p lines) i = inr tt
+        of fact i = inr tt
 
         by : (name : Name) (id : Id) (fact : Fact) → Once fact → IsFirst (number_in name id) fact
         by name id (IdAt g m other) s =
@@ -240,12 +208,7 @@ module _ (facts : List Fact) where
             let here = some_if (is_same g g && is_same other other) m (λ x. first_given (number_in g other) facts ≡ Some x)
             (and_from (is_same g g) (is_same other other) (same_itself g) (same_itself other)) s in
             subst (λ g. first_given (number_in g id) facts ≡ Some m) (same_text g name (sym p.0)) (subst (λ id. first_given (number_in g id) facts ≡ Some m) (same_text other id (sym p.1)) here))
-        by name id (ThereIs g) s = tt
-        by name id (ThereIsNo g) s = tt
-        by name id (Asks g ask) s = tt
-        by name id (TextIs what other lines) s = tt
-        by name id (NoArticle other) s = tt
-        by name id (GroupsAre p lines) s = tt
+        by name id fact s = tt
 
     articles : Below 7 → FirstPoint ⊎ ((id : Id) → IsTrue (list_any (shows_article id) facts) → IsFalse (list_any (denies_article id) facts))
     articles below = or_next (each FirstPoint There facts of) (λ all. inr (λ id t. let f = found_in (shows_article id) facts t in by id f.0 (all_at There f.0 facts all f.1) f.2))
@@ -261,20 +224,12 @@ module _ (facts : List Fact) where
         of : (fact : Fact) → In fact facts → FirstPoint ⊎ There fact
         of (IdAt name n id) i = test id (any_in (shows_article id) (IdAt name n id) facts i (same_itself id))
         of (TextIs what id lines) i = test id (any_in (shows_article id) (TextIs what id lines) facts i (same_itself id))
-        of (ThereIs g) i = inr tt
-        of (ThereIsNo g) i = inr tt
-        of (Asks g ask) i = inr tt
-        of (NoArticle other) i = inr tt
-        of (GroupsAre p lines) i = inr tt
+        of fact i = inr tt
 
         by : (id : Id) (fact : Fact) → There fact → shows_article id fact ≡ true → IsFalse (list_any (denies_article id) facts)
         by id (IdAt name n other) s t = subst (λ id. IsFalse (list_any (denies_article id) facts)) (same_text other id (sym t)) s
         by id (TextIs what other lines) s t = subst (λ id. IsFalse (list_any (denies_article id) facts)) (same_text other id (sym t)) s
-        by id (ThereIs g) s t = cc
-        by id (ThereIsNo g) s t = cc
-        by id (Asks g ask) s t = cc
-        by id (NoArticle other) s t = cc
-        by id (GroupsAre p lines) s t = cc
+        by id fact s t = cc
 
     -- nothing is sent
     abbrev IsNoText : Fact → Type 0
@@ -292,12 +247,7 @@ module _ (facts : List Fact) where
 
         of : (fact : Fact) → In fact facts → C ⊎ Once fact
         of (TextIs what id lines) i = elim (given_first (part id) dec_lists (TextIs what id lines) i) [ inl c ↦ inl (point id c) | inr a ↦ inr a ]
-        of (ThereIs g) i = inr tt
-        of (ThereIsNo g) i = inr tt
-        of (Asks g ask) i = inr tt
-        of (IdAt g n other) i = inr tt
-        of (NoArticle other) i = inr tt
-        of (GroupsAre p lines) i = inr tt
+        of fact i = inr tt
 
         none : (id : Id) (fact : Fact) → part id fact ≡ None → IsFirst (part id) fact
         none id fact e = subst (λ o. IfSome o (λ x. first_given (part id) facts ≡ Some x)) (sym e) tt
@@ -319,24 +269,14 @@ module _ (facts : List Fact) where
       where
         silent : (id : Id) (fact : Fact) → IsNoText fact → head_in id fact ≡ None
         silent id (TextIs what other lines) n = absurd n
-        silent id (ThereIs g) n = refl
-        silent id (ThereIsNo g) n = refl
-        silent id (Asks g ask) n = refl
-        silent id (IdAt g m other) n = refl
-        silent id (NoArticle other) n = refl
-        silent id (GroupsAre p lines) n = refl
+        silent id fact n = refl
 
     bodies : Below 9 → FirstPoint ⊎ ((id : Id) → GiveOne (body_in id) facts)
     bodies below = each_text body_in other_body silent FirstPoint (λ id c. (BodyOf id, record { conflict = c; first = below }))
       where
         silent : (id : Id) (fact : Fact) → IsNoText fact → body_in id fact ≡ None
         silent id (TextIs what other lines) n = absurd n
-        silent id (ThereIs g) n = refl
-        silent id (ThereIsNo g) n = refl
-        silent id (Asks g ask) n = refl
-        silent id (IdAt g m other) n = refl
-        silent id (NoArticle other) n = refl
-        silent id (GroupsAre p lines) n = refl
+        silent id fact n = refl
 
     -- ---- all of them
 

@@ -6,18 +6,15 @@ use Rattle.nntp_article.specs.declared.session.profile.Profile.{Profile}
 use Rattle.nntp_article.specs.Session.Machine.{Visible, Agrees, Run, after, visible_after}
 use Rattle.nntp_said.specs.Asks.{RunsAt, position_after, state_at}
 use Rattle.nntp_said.specs.declared.position.Position.{Position}
-use Rattle.nntp_wire.specs.Answer.{Asked, Response, to, group_is, numbers_are, sends, active_are, plain}
+use Rattle.nntp_wire.specs.Answer.{Asked, Response, to, sends, plain}
 use Rattle.nntp_wire.specs.Command.{current, retrieve}
 
 pub after-state_at : (how : Marks) (S : Spool) (v : Visible) (at : Position) (p : Asked) (a : Response)
     → Agrees how S (state_at S v at) p a → after S (state_at S v at) p a ≡ state_at S (visible_after v p a)
     (position_after at p a)
 after-state_at how S v at (to (retrieve what current)) (sends sent) h = λ i. record { visible = visible_after v (to (retrieve what current)) (sends sent); current = h.1.0 i }
-after-state_at how S v at p (group_is m name) h = refl
-after-state_at how S v at p (numbers_are m name lines) h = refl
-after-state_at how S v at p (sends sent) h = refl
-after-state_at how S v at p (active_are lines) h = refl
 after-state_at how S v at p (plain code) h = refl
+after-state_at how S v at p a h = refl
 
 pub read_off : (profile : Profile) (S : Spool) (v : Visible) (at : Position) (ps : List Asked) (answers : List Response) → Run profile S (state_at S v at) ps answers → RunsAt profile S v at ps answers
 read_off profile S v at ps [] r = tt

@@ -11,8 +11,8 @@ use Rattle.nntp_article.specs.Session.Machine.{Visible, State, Agrees, MayAnswer
 use Rattle.nntp_said.specs.Asks.{state_at, position_after, RunsAt}
 use Rattle.nntp_said.specs.declared.position.Position.{Position}
 use Rattle.nntp_said.specs.Facts.{Fact, Holds, facts_of, facts_of_code, facts_from, on, FitsAll}
-use Rattle.nntp_wire.specs.Answer.{Asked, Response, greeting, to, group_is, numbers_are, sends, active_are, plain}
-use Rattle.nntp_wire.specs.Command.{Request, by_id, by_number, current, capabilities, mode_reader, quit, opaque, ill_formed, group, list_group, next, last, retrieve, list_active}
+use Rattle.nntp_wire.specs.Answer.{Asked, Response, greeting, to, sends, plain}
+use Rattle.nntp_wire.specs.Command.{Request, by_id, by_number, current, group, list_group, next, last, retrieve}
 
 both : (S : Spool) (xs ys : List Fact) → AllByRecursion (Holds S) xs → AllByRecursion (Holds S) ys → AllByRecursion (Holds S) (xs ++ ys)
 both S [] ys h g = g
@@ -95,11 +95,7 @@ by_code a b code {P} {Q} p q f = by (code == a) refl
 -- the condition of a code that fits
 row_from : (S : Spool) (v : Visible) (at : Position) (command : Request) (code : ℕ) → IsTrue (code_fits v command code)
     → AllByRecursion (Holds S) (facts_of_code v at command code) → CodeAgrees S (state_at S v at) command code
-row_from S v at capabilities code f h = tt
-row_from S v at mode_reader code f h = tt
-row_from S v at quit code f h = tt
 row_from S v at (group word) code f h = on_to S (code == 411) _ h f
-row_from S v at (list_group None range) code f h = tt
 row_from S v at (list_group (Some word) range) code f h = on_to S (code == 411) _ h f
 row_from S v at next code f h =
     in_group v (code == 412) (is_one_of (420 ∷ 421 ∷ []) code) f
@@ -111,43 +107,24 @@ row_from S v at (retrieve what (by_id word)) code f h = on_to S (code == 430) _ 
 row_from S v at (retrieve what (by_number None)) code f h = in_group v (code == 412) (code == 423) f (λ _. tt)
 row_from S v at (retrieve what (by_number (Some n))) code f h = in_group v (code == 412) (code == 423) f (on_to S (code == 423) _ h)
 row_from S v at (retrieve what current) code f h = in_group v (code == 412) (code == 420) f (on_to S (code == 420) _ h)
-row_from S v at opaque code f h = tt
-row_from S v at (list_active p) code f h = absurd (false≢true f)
-row_from S v at ill_formed code f h = absurd (false≢true f)
+row_from S v at command code f h = first_of (assumption, cc)
 
 -- ---- what an answer says
 
 -- from that it agrees
 facts_hold : (how : Marks) (S : Spool) (v : Visible) (at : Position) (p : Asked) (a : Response) → Agrees how S (state_at S v at) p a → AllByRecursion (Holds S) (facts_of how v at p a)
-facts_hold how S v at (to (group word)) (group_is m name) h = (h.0, (h.1, tt))
-facts_hold how S v at (to (list_group word range)) (numbers_are m name lines) h = (h.0, (h.1, (h.2, tt)))
-facts_hold how S v at (to next) (sends sent) h = (h.0, (h.1, tt))
-facts_hold how S v at (to last) (sends sent) h = (h.0, (h.1, tt))
 facts_hold how S v at (to (retrieve what (by_id word))) (sends sent) h = (h.0, off_from S (sent.number == 0) _ h.1)
-facts_hold how S v at (to (retrieve what (by_number n))) (sends sent) h = (h.0, (h.1, tt))
-facts_hold how S v at (to (retrieve what current)) (sends sent) h = (h.0, (h.1.0, (h.1.1, tt)))
-facts_hold how S v at (to (list_active p)) (active_are lines) h = (h, tt)
 facts_hold how S v at (to command) (plain code) h = code_holds how S v at command code h
-facts_hold how S v at p a h = tt
+facts_hold how S v at p a h = assumption
 
 -- and back, where it fits
 agrees_from : (profile : Profile) (S : Spool) (v : Visible) (at : Position) (p : Asked) (a : Response)
     → IsTrue (fits profile v p a) → AllByRecursion (Holds S) (facts_of profile.marks v at p a)
     → Agrees profile.marks S (state_at S v at) p a
 agrees_from profile S v at greeting (plain code) f h = tt
-agrees_from profile S v at (to command) (plain code) f h = but_generic (is_generic code) (code_fits v command code) f (λ c. row_from S v at command code c h)
-agrees_from profile S v at (to (group word)) (group_is m name) f h = (h.0, h.1.0)
-agrees_from profile S v at (to (list_group word range)) (numbers_are m name lines) f h = (h.0, h.1.0, h.1.1.0)
-agrees_from profile S v at (to next) (sends sent) f h = (h.0, h.1.0)
-agrees_from profile S v at (to last) (sends sent) f h = (h.0, h.1.0)
 agrees_from profile S v at (to (retrieve what (by_id word))) (sends sent) f h = (h.0, off_to S (sent.number == 0) _ h.1)
-agrees_from profile S v at (to (retrieve what (by_number n))) (sends sent) f h = (h.0, h.1.0)
-agrees_from profile S v at (to (retrieve what current)) (sends sent) f h = (h.0, (h.1.0, h.1.1.0))
-agrees_from profile S v at (to (list_active p)) (active_are lines) f h = h.0
-agrees_from profile S v at p (group_is m name) f h = absurd (false≢true f)
-agrees_from profile S v at p (numbers_are m name lines) f h = absurd (false≢true f)
-agrees_from profile S v at p (sends sent) f h = absurd (false≢true f)
-agrees_from profile S v at p (active_are lines) f h = absurd (false≢true f)
+agrees_from profile S v at (to command) (plain code) f h = but_generic (is_generic code) (code_fits v command code) f (λ c. row_from S v at command code c h)
+agrees_from profile S v at p a f h = first_of (assumption, cc)
 
 -- an answer that fits, where the connection is open, is permitted exactly if what it says holds
 pub may_by_facts : (profile : Profile) (S : Spool) (v : Visible) (at : Position) (p : Asked) (a : Response) → v.closed ≡ false → IsTrue (fits profile v p a)

@@ -1,3 +1,4 @@
 pub mod CurrentArticle
 pub mod FactsHold
 pub mod PlacedIds
+pub mod Rows

@@ -9,12 +9,7 @@ use Rattle.nntp_said.specs.declared.fact.Fact as code
 -- of a fact and of those behind it
 place_by : (id : Id) (fact : Fact) (facts : List Fact) → Place id (fact ∷ facts) ↔ (Place id (fact ∷ []) ⊎ Place id facts)
 place_by id (IdAt name n other) facts = (λ h. elim h [ inl e ↦ inl (inl e) | inr r ↦ inr r ], λ h. elim h [ inl l ↦ inl (elim l [ inl e ↦ e | inr f ↦ absurd f ]) | inr r ↦ inr r ])
-place_by id (ThereIs name) facts = (λ h. inr h, λ h. elim h [ inl f ↦ absurd f | inr r ↦ r ])
-place_by id (ThereIsNo name) facts = (λ h. inr h, λ h. elim h [ inl f ↦ absurd f | inr r ↦ r ])
-place_by id (Asks name ask) facts = (λ h. inr h, λ h. elim h [ inl f ↦ absurd f | inr r ↦ r ])
-place_by id (TextIs what other lines) facts = (λ h. inr h, λ h. elim h [ inl f ↦ absurd f | inr r ↦ r ])
-place_by id (NoArticle other) facts = (λ h. inr h, λ h. elim h [ inl f ↦ absurd f | inr r ↦ r ])
-place_by id (GroupsAre p lines) facts = (λ h. inr h, λ h. elim h [ inl f ↦ absurd f | inr r ↦ r ])
+place_by id fact facts = (λ h. inr h, λ h. elim h [ inl f ↦ absurd f | inr r ↦ r ])
 
 -- of a fact that may be there, and of those behind it
 pub place_with : (id : Id) (fact : Option code.Fact) (facts : List Fact) → Place id (with_fact fact facts) ↔ (Place id (with_fact fact []) ⊎ Place id facts)

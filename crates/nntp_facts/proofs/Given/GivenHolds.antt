@@ -172,10 +172,7 @@ module _ (profile : Profile) (B : ℕ) (G : Spool) (facts : List Fact) (s : Sett
   text_is Head id (Some ls) u i f at = ap Some (head_is id u ls (TextIs Head id (Some ls)) i at (if_itself id ls))
   text_is Body id (Some ls) u i f at = ap Some (body_is id u ls (TextIs Body id (Some ls)) i at (if_itself id ls))
   text_is Stat id None u i f at = refl
-  text_is Article id None u i f at = cc
-  text_is Head id None u i f at = cc
-  text_is Body id None u i f at = cc
-  text_is Stat id (Some ls) u i f at = cc
+  text_is what id o u i f at = cc
 
   text_holds : (what : What) (id : Id) (lines : Option (List Line)) → In (TextIs what id lines) facts → head_fits what id lines ≡ true → HasText G what id lines
   text_holds what id lines i f =

@@ -23,10 +23,7 @@ met_by_one S name (IdAt g n id) h = if_same S name g (Has n) (ap is_some h) (is_
 met_by_one S name (GroupsAre p lines) h =
     let each = recursion_from_All _ lines h.1 in
     all_parts (Meets (numbers S name)) _ lines (λ line i. if_same S name line.name (Bounds line.low line.high) (all_at _ line lines each i) (is_same line.name name) refl)
-met_by_one S name (ThereIs g) h = tt
-met_by_one S name (ThereIsNo g) h = tt
-met_by_one S name (TextIs what id lines) h = tt
-met_by_one S name (NoArticle id) h = tt
+met_by_one S name fact h = tt
 
 -- what all that a session says asks of a group
 pub met_by_facts : (S : Spool) (name : Name) (facts : List Fact) → AllByRecursion (Holds S) facts → AllByRecursion (Meets (numbers S name)) (asks_of name facts)

@@ -192,12 +192,6 @@ second_shown (ask ∷ asks) k e =
     one (StepsUp First m) k e = eq-eqb m k (let same : m ≡ k = cc in same)
     one (IsTop First) k e = cc
     one (IsBottom First) k e = cc
-    one (StepsUp (Known c) m) k e = cc
-    one (StepsUp Nowhere m) k e = cc
-    one (IsTop (Known c)) k e = cc
-    one (IsTop Nowhere) k e = cc
-    one (IsBottom (Known c)) k e = cc
-    one (IsBottom Nowhere) k e = cc
     one ask k e = cc
 
 -- what is wanted of a number is wanted of each one below it

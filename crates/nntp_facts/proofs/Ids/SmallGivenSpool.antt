@@ -123,12 +123,7 @@ names_few (GroupsAre p lines ∷ facts) =
     let rest = names_few facts in
     let names = map (λ (line : ActiveValue). line.name) lines in
     omega (arith, length-append names (names_of facts), length-map lines (λ (line : ActiveValue). line.name))
-names_few (ThereIsNo name ∷ facts) = let rest = names_few facts in omega arith
-names_few (Asks name (ListsIn r ns) ∷ facts) = let rest = names_few facts in omega arith
-names_few (Asks name ask ∷ facts) = let rest = names_few facts in omega arith
-names_few (IdAt name n id ∷ facts) = let rest = names_few facts in omega arith
-names_few (TextIs what id lines ∷ facts) = let rest = names_few facts in omega arith
-names_few (NoArticle id ∷ facts) = let rest = names_few facts in omega arith
+names_few (fact ∷ facts) = let rest = names_few facts in omega arith
 
 -- marks show no number
 no_number : (name : Name) (lines : List ActiveValue) → flat_map named_by (flat_map (λ line. cond (is_same line.name name) (Bounds line.low line.high ∷ []) []) lines) ≡ []
@@ -143,21 +138,11 @@ no_number name (line ∷ lines) =
 
 -- an ask shows few numbers
 asked_few : (g : Name) (ask : Ask) (b : Bool) → length (flat_map named_by (cond b (ask ∷ []) [])) ≤ size_in (Asks g ask)
-asked_few g (ListsIn r ns) true = omega (arith, length-append ns [])
-asked_few g (Has m) true = omega arith
-asked_few g (Estimates Lenient m) true = omega arith
-asked_few g (Estimates Strict m) true = omega arith
-asked_few g (Bounds low high) true = omega arith
-asked_few g (Lacks m) true = omega arith
-asked_few g (StandsAt First m) true = omega arith
-asked_few g (StandsAt at m) true = omega arith
-asked_few g (StandsNowhere at) true = omega arith
-asked_few g (StepsUp at m) true = omega arith
-asked_few g (StepsDown at m) true = omega arith
-asked_few g (IsTop at) true = omega arith
-asked_few g (IsBottom at) true = omega arith
-asked_few g (ListsIn r ns) false = omega arith
 asked_few g ask false = omega arith
+asked_few g (ListsIn r ns) true = omega (arith, length-append ns [])
+asked_few g (Estimates Strict m) true = omega arith
+asked_few g (StandsAt First m) true = omega arith
+asked_few g ask true = omega arith
 
 -- ---- over several groups
 
@@ -201,10 +186,7 @@ one_few : (fact : Fact) (names : List Name) → IsDistinct (eq_by_cmp (slice_cmp
 one_few (Asks g ask) names d = ask_few g ask names d
 one_few (IdAt g n id) names d = ask_few g (Has n) names d
 one_few (GroupsAre p lines) names d = let none = nothing_few (λ name. numbers_in name (GroupsAre p lines)) names (λ name. no_number name lines) in omega arith
-one_few (ThereIs g) names d = let none = nothing_few (λ name. []) names (λ name. refl) in omega arith
-one_few (ThereIsNo g) names d = let none = nothing_few (λ name. []) names (λ name. refl) in omega arith
-one_few (TextIs what id lines) names d = let none = nothing_few (λ name. []) names (λ name. refl) in omega arith
-one_few (NoArticle id) names d = let none = nothing_few (λ name. []) names (λ name. refl) in omega arith
+one_few fact names d = let none = nothing_few (λ name. []) names (λ name. refl) in omega arith
 
 -- two parts for each group
 both_parts : (f h : Name → List ℕ) (names : List Name) → length (flat_map (λ name. f name ++ h name) names) ≡ length (flat_map f names) + length (flat_map h names)
@@ -234,13 +216,8 @@ numbers_few (fact ∷ facts) names d =
 -- no more ids are mentioned than the size
 mentioned_few : (facts : List Fact) → length (mentioned facts) ≤ size facts
 mentioned_few [] = omega arith
-mentioned_few (ThereIs name ∷ facts) = let rest = mentioned_few facts in omega arith
-mentioned_few (ThereIsNo name ∷ facts) = let rest = mentioned_few facts in omega arith
-mentioned_few (Asks name ask ∷ facts) = let rest = mentioned_few facts in omega arith
 mentioned_few (IdAt name n id ∷ facts) = let rest = mentioned_few facts in omega arith
-mentioned_few (TextIs what id lines ∷ facts) = let rest = mentioned_few facts in omega arith
-mentioned_few (NoArticle id ∷ facts) = let rest = mentioned_few facts in omega arith
-mentioned_few (GroupsAre p lines ∷ facts) = let rest = mentioned_few facts in omega arith
+mentioned_few (fact ∷ facts) = let rest = mentioned_few facts in omega arith
 
 -- ---- the spool that is given
 

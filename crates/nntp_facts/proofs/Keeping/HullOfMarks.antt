@@ -221,27 +221,13 @@ apart_by_hull asks apart = known_by asks
 
 -- of two demands
 demanding_both : (d e : Demand) → is_demanding (join d e) ≡ (is_demanding d || is_demanding e)
-demanding_both NoDemand e = refl
-demanding_both NotEmpty NoDemand = refl
-demanding_both NotEmpty NotEmpty = refl
-demanding_both NotEmpty OnlyOne = refl
-demanding_both NotEmpty (SecondIs k) = refl
-demanding_both NotEmpty Impossible = refl
-demanding_both OnlyOne NoDemand = refl
-demanding_both OnlyOne NotEmpty = refl
-demanding_both OnlyOne OnlyOne = refl
-demanding_both OnlyOne (SecondIs k) = refl
-demanding_both OnlyOne Impossible = refl
-demanding_both (SecondIs m) NoDemand = refl
-demanding_both (SecondIs m) NotEmpty = refl
-demanding_both (SecondIs m) OnlyOne = refl
 demanding_both (SecondIs m) (SecondIs k) = by (m == k)
   where
     by : (b : Bool) → is_demanding (cond b (SecondIs m) Impossible) ≡ true
     by true = refl
     by false = refl
-demanding_both (SecondIs m) Impossible = refl
-demanding_both Impossible e = refl
+demanding_both d NoDemand = refl
+demanding_both d e = refl
 
 -- an ask that says so shows a number or demands one
 shows_or_demands : (ask : Ask) → says_some ask ≡ true → ((n : ℕ) × (shows ask n ≡ true)) ⊎ (is_demanding (demand_in ask) ≡ true)

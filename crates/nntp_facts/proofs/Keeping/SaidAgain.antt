@@ -168,10 +168,7 @@ none_denied k n small =
 
 join_none : (d : Demand) → join d NoDemand ≡ d
 join_none NoDemand = refl
-join_none NotEmpty = refl
-join_none OnlyOne = refl
-join_none (SecondIs n) = refl
-join_none Impossible = refl
+join_none d = refl
 
 join_no_ends : (ends : Option Ends) → join_ends ends None ≡ ends
 join_no_ends None = refl
@@ -237,9 +234,7 @@ there_before facts s asks groups g is kept may said = by s.article (subst (λ gr
 
     by : (a : Option (Id × OfArticle)) → IfSome a (MayBeOf (Some g)) → IsThereAlready facts a
     by (Some (id, Exists)) m = at (get groups g.name) id refl said m
-    by (Some (id, Lacks)) m = tt
-    by (Some (id, Sends what lines)) m = tt
-    by None m = tt
+    by o m = tt
 
 -- none is said to be at a number where nothing is said of a group
 pub none_there : (facts : List Fact) (s : Saying) (asks : List Ask) → s.group ≡ None → MaySay facts s asks → IsThereAlready facts s.article
@@ -247,9 +242,7 @@ none_there facts s asks is may = by s.article (subst (λ group. IfSome s.article
   where
     by : (a : Option (Id × OfArticle)) → IfSome a (MayBeOf None) → IsThereAlready facts a
     by (Some (id, Exists)) m = absurd m
-    by (Some (id, Lacks)) m = tt
-    by (Some (id, Sends what lines)) m = tt
-    by None m = tt
+    by o m = tt
 
 -- ---- of a group
 

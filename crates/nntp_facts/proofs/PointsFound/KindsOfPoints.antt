@@ -205,11 +205,7 @@ module _ (profile : Profile) (facts : List Fact) (k : Kept) (t : Statement) (mor
       go (Number name m) e c = by name (Number name m) e refl c (each name)
       go (Count name) e c = by name (Count name) e refl c (each name)
       go (First name) e c = by name (First name) e refl c (each name)
-      go (IdOf name m) e c = omega (arith, high, e)
-      go (PlaceOf name id) e c = omega (arith, high, e)
-      go (Article id) e c = omega (arith, high, e)
-      go (HeadOf id) e c = omega (arith, high, e)
-      go (BodyOf id) e c = omega (arith, high, e)
+      go other e c = omega (arith, high, e)
 
   pub group_numbers_free : (n : ℕ) → 1 < n → n < 5 → (g : OfGroup) → t.saying.group ≡ Some g → IsFreeOf n g.name → IsFree n
   group_numbers_free n low high g e free = each_free n low high (λ name. elim (cases_Bool (is_same g.name name)) [
@@ -342,8 +338,7 @@ module _ (profile : Profile) (facts : List Fact) (k : Kept) (t : Statement) (mor
       apart : (id : Id) (a : Option (Id × OfArticle)) → IsTrue (shows_id id a) → IsTrue (denies_id id a) → ⊥
       apart id None s d = true≢false (sym s)
       apart id (Some (other, Lacks)) s d = true≢false (sym s)
-      apart id (Some (other, Exists)) s d = true≢false (sym d)
-      apart id (Some (other, Sends what lines)) s d = true≢false (sym d)
+      apart id o s d = true≢false (sym d)
 
   -- of an answer that says of an id that it has no article, or has one, or sends a part of it
   pub lacks : (id : Id) → t.saying.article ≡ Some (id, Lacks) → (o : Option Point) → o ≡ cond (list_any (shows_article id) facts) (Some (Article id)) None → IsPointOf all 7 o

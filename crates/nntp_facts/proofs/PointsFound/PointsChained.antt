@@ -28,15 +28,7 @@ none_up facts k i e before here other l = elim (cases_lt (rank other) i) [ inl l
 
 ranks : (point : Point) → rank point < 10
 ranks (Step name) = omega arith
-ranks (Group name) = omega arith
-ranks (Number name n) = omega arith
-ranks (Count name) = omega arith
-ranks (First name) = omega arith
-ranks (IdOf name n) = omega arith
-ranks (PlaceOf name id) = omega arith
-ranks (Article id) = omega arith
-ranks (HeadOf id) = omega arith
-ranks (BodyOf id) = omega arith
+ranks point = omega arith
 
 -- where facts that answers tell conflict at no point they stand together
 pub none_at_all : (profile : Profile) (bad : Placed) (answers : List Placed) (places : List ℕ) → AllByRecursion (FitsThere profile) (bad ∷ answers)

@@ -222,9 +222,7 @@ settled_by : (profile : Profile) (client server : List ℕ) (k : ℕ) (class : C
     → IsSettled client server k class → settled class (left_visible client server k h.before).closed
 settled_by profile client server k Surplus h s = closed_before client server k h.before s.before ∙ s.closed
 settled_by profile client server k Cut h s = absurd s
-settled_by profile client server k Malformed h s = refl
-settled_by profile client server k OutOfPlace h s = refl
-settled_by profile client server k Contradiction h s = refl
+settled_by profile client server k class h s = refl
 
 open_longer : (profile : Profile) (v : Visible) (asked : Asked) (octets more : List ℕ) (class : Class) → settled class false
     → IsOpenClass profile v asked octets class → IsOpenClass profile v asked (octets ++ more) class
@@ -260,10 +258,7 @@ closed_longer client server more_client more_server k c =
 -- and a settled class stays settled
 pub settled_stays : (client server more_client more_server : List ℕ) (k : ℕ) (class : Class) → IsSettled client server k class → IsSettled (client ++ more_client) (server ++ more_server) k class
 settled_stays client server more_client more_server k Surplus s = closed_longer client server more_client more_server k s
-settled_stays client server more_client more_server k Cut s = s
-settled_stays client server more_client more_server k Malformed s = s
-settled_stays client server more_client more_server k OutOfPlace s = s
-settled_stays client server more_client more_server k Contradiction s = s
+settled_stays client server more_client more_server k class s = s
 
 -- below, answer k is bad, of a settled class
 module _ (profile : Profile) (client server more_client more_server : List ℕ) (k : ℕ) (class : Class) (h : HasClass profile client server k class) (s : IsSettled client server k class) where

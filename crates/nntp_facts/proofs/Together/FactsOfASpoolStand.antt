@@ -210,9 +210,7 @@ module _ (limit : ℕ) (S : Spool) (facts : List Fact) (spool : IsSpool limit S)
       all_from (λ line. IsGroupName line.name) lines
       (λ line i. spool.names line.name ((h.0 line.name).0
       (contains_in line.name (map (λ line. line.name) lines) (in_map (λ line. line.name) line lines i))).0)
-  well_formed (ThereIsNo name) h = tt
-  well_formed (Asks name ask) h = tt
-  well_formed (NoArticle id) h = tt
+  well_formed fact h = tt
 
   -- what is said stands together
   pub stand : Together facts

@@ -90,14 +90,6 @@ both_if false b x = refl
 pub given_silent : {A : Type 0} (f : Fact → Option A) (facts more : List Fact) → first_given f more ≡ None → first_given f (facts ++ more) ≡ first_given f facts
 given_silent f facts more none = given_append f facts more ∙ ap (λ o. option_or (first_given f facts) o) none ∙ or_none (first_given f facts)
 
--- one fact gives one thing
-pub one_gives_one : {A : Type 0} (f : Fact → Option A) (fact : Fact) → IfSome (f fact) (λ x. option_or (f fact) None ≡ Some x)
-one_gives_one {A} f fact = by (f fact)
-  where
-    by : (o : Option A) → IfSome o (λ x. option_or o None ≡ Some x)
-    by None = tt
-    by (Some x) = refl
-
 -- two lists that each give one thing, and the same, give one thing
 pub give_one_both : {A : Type 0} (f : Fact → Option A) (facts more : List Fact) → GiveOne f facts → GiveOne f more → GiveSame f facts more → GiveOne f (facts ++ more)
 give_one_both {A} f facts more one within same =

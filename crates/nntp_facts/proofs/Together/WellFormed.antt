@@ -1,6 +1,6 @@
 -- What octets spell is well formed.
 use Rattle.nntp_wire.specs.declared.marks.Marks.{Marks}
-use Rattle.std.proofs.Common.{◌≡◌, ℕ, Bool, true, false, cond, ◌==◌, IsTrue, List, [], ◌∷◌, ◌++◌, ◌⊎◌, inl, inr, Option, None, Some, sym, ap, subst, ◌∙◌}
+use Rattle.std.proofs.Common.{◌≡◌, ℕ, true, IsTrue, List, [], ◌∷◌, ◌++◌, ◌⊎◌, inl, inr, Option, None, Some, sym, ap, subst, ◌∙◌}
 use Rattle.std.specs.Prelude.{IfSome, ⊤}
 use Rattle.std.specs.List.{AllByRecursion}
 use Rattle.std.proofs.lemmas.Bool.{and_from}
@@ -8,19 +8,19 @@ use Rattle.nntp_wire.specs.Octets.{crlf, is_clean, are_octets}
 use Rattle.nntp_wire.specs.Name.{IsGroupName, IsMessageId}
 use Rattle.nntp_wire.specs.Block.{stuffed, sent, dot_line, AreClean}
 use Rattle.nntp_wire.specs.Listing.{active_groups}
-use Rattle.nntp_wire.specs.Answer.{Asked, Response, to, group_is, numbers_are, sends, active_are, plain, Spells, SaysByLines}
+use Rattle.nntp_wire.specs.Answer.{Asked, Response, group_is, numbers_are, sends, active_are, plain, Spells, SaysByLines}
 use Rattle.nntp_wire.specs.Answer.{SaysGroup, SaysNumbers, SaysArticle, SaysActive, SaysCapabilities, SaysCode, block_octets}
 use Rattle.nntp_wire.specs.Answer.{IsCleanBlock, kind_of}
-use Rattle.nntp_wire.specs.Command.{Request, by_id, by_number, current, group, list_group, next, last, retrieve, list_active}
 use Rattle.nntp_wire.proofs.AnswerLemmas.{says-ways}
 use Rattle.nntp_wire.proofs.OctetLemmas.{octets-parts, unstuffed-octets}
 use Rattle.nntp_article.specs.Session.Spool.{is_line}
 use Rattle.nntp_article.specs.Session.Machine.{Visible}
 use Rattle.nntp_wire.proofs.ListingLemmas.{active_groups-named}
 use Rattle.nntp_said.specs.declared.position.Position.{Position}
-use Rattle.nntp_said.specs.Facts.{Fact, on, facts_of_code, facts_of}
+use Rattle.nntp_said.specs.Facts.{Fact, facts_of}
 use Rattle.nntp_facts.specs.Together.{IsWellFormed}
-use Rattle.nntp_facts.proofs.Members.{all_both}
+use Rattle.nntp_article.specs.declared.session.profile.Profile.{Profile}
+use Rattle.nntp_said.proofs.Rows.{Row, row, nothing}
 
 -- the lines of octets that send them are lines
 sent_lines : (lines : List (List ℕ)) → AreClean lines → are_octets (sent lines) ≡ true → AllByRecursion (λ line. IsTrue (is_line line)) lines
@@ -101,41 +101,13 @@ spelled_proper asked response bytes s h =
     (octets-parts (s.line ++ crlf) (block_octets s.block) (sym (ap are_octets s.whole) ∙ h)).1)
     (says-ways (kind_of asked s.code) s.code _ s.block response s.says)
 
--- a fact under a test
-on_formed : (b : Bool) (fact : Fact) → IsWellFormed fact → AllByRecursion IsWellFormed (cond b (fact ∷ []) [])
-on_formed true fact h = (h, tt)
-on_formed false fact h = tt
-
-unless_formed : (b : Bool) (fact : Fact) → IsWellFormed fact → AllByRecursion IsWellFormed (cond b [] (fact ∷ []))
-unless_formed true fact h = tt
-unless_formed false fact h = (h, tt)
-
--- what a code alone says
-code_formed : (v : Visible) (at : Position) (command : Request) (code : ℕ) → AllByRecursion IsWellFormed (facts_of_code v at command code)
-code_formed v at (group word) code = on_formed (code == 411) _ tt
-code_formed v at (list_group (Some word) range) code = on_formed (code == 411) _ tt
-code_formed v at next code = all_both IsWellFormed (on code 420 _) (on code 421 _) (on_formed (code == 420) _ tt) (on_formed (code == 421) _ tt)
-code_formed v at last code = all_both IsWellFormed (on code 420 _) (on code 422 _) (on_formed (code == 420) _ tt) (on_formed (code == 422) _ tt)
-code_formed v at (retrieve what (by_id word)) code = on_formed (code == 430) _ tt
-code_formed v at (retrieve what (by_number (Some n))) code = on_formed (code == 423) _ tt
-code_formed v at (retrieve what current) code = on_formed (code == 420) _ tt
-code_formed v at command code = tt
-
--- what a response says
-proper_formed : (how : Marks) (v : Visible) (at : Position) (asked : Asked) (response : Response) → IsProper response → AllByRecursion IsWellFormed (facts_of how v at asked response)
+-- a row of such a response is well formed
+row_formed : {profile : Profile} {v : Visible} {at : Position} {Fits : Type 0} {a : Response} {facts : List Fact} → Row profile v at Fits a facts → IsProper a → AllByRecursion IsWellFormed facts
 unfolding IsProper
-proper_formed how v at (to (group word)) (group_is m name) h = (h, (tt, tt))
-proper_formed how v at (to (list_group word range)) (numbers_are m name lines) h = (h, (tt, (tt, tt)))
-proper_formed how v at (to next) (sends sent) h = (tt, (h.0, tt))
-proper_formed how v at (to last) (sends sent) h = (tt, (h.0, tt))
-proper_formed how v at (to (retrieve what (by_id word))) (sends sent) h = (h, unless_formed (sent.number == 0) _ h.0)
-proper_formed how v at (to (retrieve what (by_number n))) (sends sent) h = (h, (h.0, tt))
-proper_formed how v at (to (retrieve what current)) (sends sent) h = (h, (tt, (h.0, tt)))
-proper_formed how v at (to (list_active p)) (active_are lines) h = (h, tt)
-proper_formed how v at (to command) (plain code) h = code_formed v at command code
-proper_formed how v at asked response h = tt
+row_formed (nothing a) h = tt
+row_formed r h = assumption
 
 -- what octets spell says well-formed facts
 pub spelled_formed : (how : Marks) (v : Visible) (at : Position) (asked : Asked) (response : Response) (bytes : List ℕ)
     → Spells asked response bytes → IsTrue (are_octets bytes) → AllByRecursion IsWellFormed (facts_of how v at asked response)
-spelled_formed how v at asked response bytes s h = proper_formed how v at asked response (spelled_proper asked response bytes s h)
+spelled_formed how v at asked response bytes s h = row_formed (row (record { limit = 0; marks = how }) v at asked response) (spelled_proper asked response bytes s h)
