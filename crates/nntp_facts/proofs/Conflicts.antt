@@ -22,7 +22,7 @@ use Rattle.nntp_wire.specs.declared.marks.Marks.TheVariants.{Lenient}
 use Rattle.nntp_article.specs.Session.Machine.{Visible, visible_after, start, fits}
 use Rattle.nntp_said.specs.Asks.{position_after}
 use Rattle.nntp_said.specs.declared.position.Position.{Position}
-use Rattle.nntp_said.specs.Facts.{Fact, Holds, ThereIs, ThereIsNo, Asks, IdAt, TextIs, NoArticle, GroupsAre, facts_of, facts_from, FitsAll, group_of}
+use Rattle.nntp_said.specs.Facts.{Fact, Holds, ThereIs, Asks, IdAt, facts_of, facts_from, FitsAll, group_of}
 use Rattle.nntp_facts.specs.Given.{size, asks_of}
 use Rattle.nntp_facts.specs.Together.{Together, is_possible}
 use Rattle.nntp_facts.specs.Conflict.{Placed, placed_from, FitsThere, widest, said as said_there, a_group, the_group, with_group, told, SomeHas, told_at}

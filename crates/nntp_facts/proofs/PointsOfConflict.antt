@@ -5,7 +5,7 @@ use Rattle.std.specs.List.{AllByRecursion, list_any, flat_map}
 use Rattle.std.specs.Cmp.Lexicographic.{same_text}
 use Rattle.std.proofs.lemmas.Bool.{true≢false, and_parts, and_from, cases_Bool, cases_eq, eqb-true, eq-eqb, false_from_ne_true, cases_lt}
 use Rattle.nntp_wire.specs.declared.command.What.{What}
-use Rattle.nntp_wire.specs.declared.command.What.TheVariants.{Article as WhatArticle, Head, Body, Stat}
+use Rattle.nntp_wire.specs.declared.command.What.TheVariants.{Article as WhatArticle, Head, Body}
 use Rattle.nntp_wire.specs.declared.marks.Marks.TheVariants.{Lenient}
 use Rattle.nntp_article.proofs.SessionLemmas.FiniteMapsDecided.{Dec, dec_some, dec_texts, dec_lists}
 use Rattle.nntp_article.specs.Article.Parts.{Id, Line, head_part, body_part}

@@ -6,7 +6,7 @@ use Rattle.std.specs.Cmp.Lexicographic.{same_text}
 use Rattle.nntp_article.specs.Session.Spool.{Spool, numbers, Name}
 use Rattle.nntp_article.specs.Session.Machine.{is_same}
 use Rattle.nntp_said.specs.Asks.{Ask, Meets, Has, Bounds}
-use Rattle.nntp_said.specs.Facts.{Fact, Holds, ThereIs, ThereIsNo, Asks, IdAt, TextIs, NoArticle, GroupsAre}
+use Rattle.nntp_said.specs.Facts.{Fact, Holds, Asks, IdAt, GroupsAre}
 use Rattle.nntp_facts.specs.Given.{asks_in, asks_of}
 use Rattle.nntp_facts.proofs.Members.{all_at, all_parts}
 use Rattle.std.proofs.Common.{is_some}

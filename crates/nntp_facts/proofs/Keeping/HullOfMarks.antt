@@ -11,7 +11,7 @@ use Rattle.nntp_said.specs.declared.position.Position.TheVariants.{First}
 use Rattle.nntp_facts.specs.Given.{shows, denies, is_shown, is_denied, is_known, is_end, says_some, demand_in, join, demand}
 use Rattle.nntp_facts.specs.Part.{join_ends, ends_in, ends_of, is_end_of, is_demanding}
 use Rattle.nntp_facts.specs.declared.demand.Demand.{Demand}
-use Rattle.nntp_facts.specs.declared.demand.Demand.TheVariants.{NoDemand, NotEmpty, OnlyOne, SecondIs, Impossible}
+use Rattle.nntp_facts.specs.declared.demand.Demand.TheVariants.{NoDemand, SecondIs, Impossible}
 use Rattle.nntp_facts.specs.declared.ends.Ends.{Ends}
 use Rattle.nntp_facts.specs.Together.{AsksStand}
 use Rattle.nntp_facts.specs.Conflict.{AreApart}

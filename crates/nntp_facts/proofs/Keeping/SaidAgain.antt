@@ -15,12 +15,12 @@ use Rattle.nntp_said.specs.Asks.{Ask}
 use Rattle.nntp_said.specs.Facts.{Fact, IdAt}
 use Rattle.nntp_facts.specs.Given.{id_in, first_given, is_shown, is_denied, says_some, is_known, wants, demand, join, IsGivenNumber}
 use Rattle.nntp_facts.specs.declared.demand.Demand.{Demand}
-use Rattle.nntp_facts.specs.declared.demand.Demand.TheVariants.{NoDemand, NotEmpty, OnlyOne, SecondIs, Impossible}
+use Rattle.nntp_facts.specs.declared.demand.Demand.TheVariants.{NoDemand}
 use Rattle.nntp_facts.specs.declared.ends.Ends.{Ends}
 use Rattle.nntp_facts.specs.Together.{shows_article, MeetsDemand, AsksStand, is_possible}
 use Rattle.nntp_facts.specs.Part.{Said, Says, only_has, part_denies, is_one_of, is_within, ends_of, join_ends, is_end_of, is_demanding}
 use Rattle.nntp_facts.specs.Summary.{Summary, has, IsSummary, AreBounded, AddsNothing}
-use Rattle.nntp_facts.specs.Saying.{OfGroup, OfArticle, Lacks, Exists, Sends, Saying, MayBeOf, MaySay}
+use Rattle.nntp_facts.specs.Saying.{OfGroup, OfArticle, Exists, Saying, MayBeOf, MaySay}
 use Rattle.nntp_facts.specs.Kept.{KeptGroup, Told, told, IsKeptGroup, AreKept, Agree, IsShownAt, MayShow, ids_with, places_with, AreKeptWith}
 use Rattle.nntp_facts.specs.KeptSaying.{HasSaid, IsThereAlready}
 use Rattle.nntp_facts.proofs.Keeping.MoreAsks.{are_possible, added}

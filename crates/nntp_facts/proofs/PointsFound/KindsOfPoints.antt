@@ -22,7 +22,7 @@ use Rattle.nntp_facts.specs.Kept.{Kept, id_of, place_of}
 use Rattle.nntp_wire.specs.declared.command.What.{What}
 use Rattle.nntp_article.specs.Session.Machine.{head_fits, names_differ}
 use Rattle.nntp_facts.specs.Articles.{head_sent, body_sent}
-use Rattle.nntp_facts.specs.Saying.{OfGroup, OfArticle, Lacks, Exists, Sends, asked_id, MayBeOf, IsAlone}
+use Rattle.nntp_facts.specs.Saying.{OfGroup, OfArticle, Lacks, Sends, asked_id, MayBeOf, IsAlone}
 use Rattle.nntp_facts.specs.ListedGroups.{is_listed, MayList, NoneIsMissing}
 use Rattle.nntp_facts.specs.Conflict.{widest, the_group, Point, Step, Group, Number, Count, First, IdOf, PlaceOf, Article, HeadOf, BodyOf, rank, ConflictAt, AreTooMany}
 use Rattle.nntp_facts.specs.Points.{Statement, TellsAlone, IsPointOf, IsPointIn, IsBeside, IsAbout, Head, Body, is_impossible, shows_name, denies_name, id_told, place_told, shows_id, denies_id, part_told, part_sent, bounds_of}

@@ -11,7 +11,7 @@ use Rattle.nntp_article.specs.Article.Parts.{Line, Id, head_part, body_part}
 use Rattle.nntp_article.specs.Session.Spool.{Spool, Text, IsGroup, numbers, IsSpool, HasText, text_of, is_line, Name}
 use Rattle.nntp_article.specs.Session.Machine.{is_same}
 use Rattle.nntp_article.proofs.ArticleLemmas.HeadHasNoEmptyLine.{parts}
-use Rattle.nntp_said.specs.Facts.{Fact, Holds, ThereIs, ThereIsNo, Asks, IdAt, TextIs, NoArticle, GroupsAre}
+use Rattle.nntp_said.specs.Facts.{Fact, Holds, ThereIs, ThereIsNo, IdAt, TextIs, NoArticle, GroupsAre}
 use Rattle.nntp_facts.specs.Given.{asks_of, shows_group, is_shown_group, first_given, id_in, id_shown, head_in, body_in}
 use Rattle.nntp_facts.specs.Together.{IsWellFormed, denies_group, number_in, shows_article, denies_article, GiveOne, Together}
 use Rattle.nntp_facts.proofs.Members.{In, all_at, all_front, all_back, all_both, all_from, any_in, found_in, in_map, from_map, contains_in, in_contains, first_found, first_there}
