@@ -75,7 +75,7 @@ def whole(judgement: Judgement, session: Session) -> Iterator[str]:
     if not judgement.has_several():
         yield from sections(judgement, session)
         return
-    yield "<article>" if judgement.bad_in(session) else '<article class="clean">'
+    yield "<article>" if judgement.bad_in(session) else '<article class="sound">'
     yield f'<h2 id="s{session.number}">{called(session)}</h2>'
     yield f"<p>{summary(judgement, session)}</p>"
     yield from sections(judgement, session)
