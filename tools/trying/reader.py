@@ -12,7 +12,7 @@ TAGS = VOID | set(
     "html head title style body header h1 h2 h3 p a ul ol li div nav i label main article section details summary span"
     " kbd samp code pre small".split()
 )
-ATTRIBUTES = set("lang charset http-equiv content name id class href title type for open aria-label".split())
+ATTRIBUTES = set("lang charset http-equiv content name id class href title type for open aria-label aria-labelledby".split())
 # What no page has as it is: control octets, and what moves or hides text.
 UNSEEN = re.compile("[\x00-\x09\x0b-\x1f\x7f-\x9f\u200b-\u200f\u2028-\u202e\u2066-\u2069]")
 # The classes of lines by their states, but for those of bad answers.

@@ -75,8 +75,9 @@ def whole(judgement: Judgement, session: Session) -> Iterator[str]:
     if not judgement.has_several():
         yield from sections(judgement, session)
         return
-    yield "<article>" if judgement.bad_in(session) else '<article class="sound">'
-    yield f'<h2 id="s{session.number}">{called(session)}</h2>'
+    name = f"s{session.number}"
+    is_sound = "" if judgement.bad_in(session) else ' class="sound"'
+    yield f'<article{is_sound} aria-labelledby="{name}"><h2 id="{name}">{called(session)}</h2>'
     yield f"<p>{summary(judgement, session)}</p>"
     yield from sections(judgement, session)
     yield "</article>"
@@ -104,8 +105,8 @@ def section(judgement: Judgement, session: Session, first: int) -> Iterator[str]
 def opened(session: Session, lines: int, is_clean: bool) -> str:
     """The beginning of a section. It is clean without a bad answer, and among several sessions low with few lines."""
     is_low = session.number != SOLE and lines < LOW
-    classes = " ".join(["clean"] * is_clean + ["low"] * is_low)
-    return f'<section class="{classes}">' if classes else "<section>"
+    classes = [name for name, is_so in (("clean", is_clean), ("low", is_low)) if is_so]
+    return f'<section class="{" ".join(classes)}">' if classes else "<section>"
 
 
 def heading(session: Session, text: str, attribute: str = "") -> str:
