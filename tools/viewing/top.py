@@ -76,7 +76,7 @@ def contents(judgement: Judgement) -> Iterator[str]:
     yield f"<summary>{counted(len(sessions), 'session')}</summary><ul>"
     for session in sessions[:LINES]:
         sent = f'<a href="#s{session.number}">{called(session)}</a>: {summary(judgement, session)}'
-        yield f'<li class="{worst(judgement, session)}">{sent}</li>'
+        yield f'<li class="{mark_of(judgement, session)}">{sent}</li>'
     yield "</ul>"
     if len(sessions) > LINES:
         yield f"<p>and {counted(len(sessions) - LINES, 'session')} more</p>"
@@ -98,8 +98,8 @@ def summary(judgement: Judgement, session: Session) -> str:
     return ", ".join(parts)
 
 
-def worst(judgement: Judgement, session: Session) -> str:
-    """The class of a session in the list of sessions: that of its first bad answer, if it has any."""
+def mark_of(judgement: Judgement, session: Session) -> str:
+    """The class of a session in the list: that of its first bad answer, if it has any."""
     for place in judgement.bad_in(session):
         return kind_of(judgement.explanation.bad[place].kind)
     return "accepted" if session.exchanges else "nothing"
