@@ -13,6 +13,8 @@ TAGS = VOID | set(
     " kbd samp code pre small".split()
 )
 ATTRIBUTES = set("lang charset http-equiv content name id class href title type for open aria-label aria-labelledby".split())
+# What each page has once.
+PARTS = ("title", "header", "h1", "main")
 # What no page has as it is: control octets, and what moves or hides text.
 UNSEEN = re.compile("[\x00-\x09\x0b-\x1f\x7f-\x9f\u200b-\u200f\u2028-\u202e\u2066-\u2069]")
 # The classes of lines by their states, but for those of bad answers.
@@ -63,9 +65,13 @@ class PageReader(HTMLParser):
         self.line: Optional[Line] = None
         self.text = ""
         self.octets = len(text.encode())
-        self.elements = 0
+        # How often each element is there.
+        self.counts: Counter[str] = Counter()
         self.feed(text)
         self.close()
+        self.faults += [f"<{tag}> is there {self.counts[tag]} times" for tag in PARTS if self.counts[tag] != 1]
+        if len(set(self.labels)) < len(self.labels) or len(self.labels) != self.counts["nav"]:
+            self.faults.append(f"these parts are for navigation: {self.labels}")
         self.faults += [f"<{tag}> isn't closed" for tag, _ in self.open]
         ids = Counter(self.ids)
         self.faults += [f"id {name} is there {count} times" for name, count in ids.items() if count > 1]
@@ -82,6 +88,11 @@ class PageReader(HTMLParser):
         """All lines with their sessions and numbers, in their order."""
         return [(session, index, line) for session, lines in self.sessions.items() for index, line in lines.items()]
 
+    @property
+    def elements(self) -> int:
+        """How many elements there are."""
+        return sum(self.counts.values())
+
     def tags(self) -> List[str]:
         return [tag for tag, _ in self.open]
 
@@ -97,12 +108,14 @@ class PageReader(HTMLParser):
         has = {name: value or "" for name, value in attrs}
         if tag not in TAGS or not set(has) <= ATTRIBUTES or len(has) < len(attrs):
             self.faults.append(f"<{tag}> with {sorted(has)}")
-        self.elements += 1
+        self.counts[tag] += 1
         self.ids += [has["id"]] if "id" in has else []
         self.links += [has["href"]] if "href" in has else []
         self.labels += [has["aria-label"]] if "aria-label" in has else []
         if re.fullmatch("h[1-6]", tag):
             self.head(int(tag[1]), has.get("id", ""))
+        elif tag == "article" and has.get("aria-labelledby") != f"s{self.session + 1}":
+            self.faults.append(f"session {self.session + 1} is named by another heading")
         elif tag == "li" and self.tags()[-2:] == ["section", "ol"]:
             self.line = Line(has.get("id", ""), has.get("class", "").split())
         elif self.line and "href" in has:
