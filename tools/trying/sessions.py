@@ -139,6 +139,11 @@ def try_reasons(trial: Trial) -> None:
     reasons = page.sessions[4][2].reasons
     for way in ("The bad one before: answer 2 of session 2.", "The next bad one: answer 2 of session 6."):
         trial.expect(way in reasons, f"next: not '{way}': {reasons}")
+    twice = session(GREETING, (b"GROUP g", b"211 1 5 5 g"), (b"STAT 5", b"423 no"), (b"STAT 5", b"423 no"))
+    page = trial.page("twice", named(b"a", ONE) + named(b"b", twice))
+    trial.expect("The bad one before: answer 2." in page.sessions[2][3].reasons, f"twice: {page.sessions[2][3]}")
+    wanted = ["named by answer 2 of session 2, answer 3 of session 2"]
+    trial.expect(page.sessions[1][2].under == wanted, f"twice: {page.sessions[1][2]}")
 
 
 def try_ends(trial: Trial) -> None:
