@@ -2,12 +2,13 @@
 from __future__ import annotations
 
 import re
-from dataclasses import dataclass
+from dataclasses import dataclass, field
 from io import BytesIO
-from typing import Dict, Iterator, List, Optional, Tuple
+from typing import Iterator, List, Optional, Tuple
 
 from captures.pieces import BadPiece, pieces_in
 from viewing.octets import printed
+from viewing.places import SOLE, Place
 
 CRLF = b"\r\n"
 # The end of a block, with the end of the line before.
@@ -34,6 +35,16 @@ class Disagreement(Exception):
 
 
 @dataclass
+class Sent:
+    """What both ends of a session sent, in pieces."""
+
+    # None where the capture is this one session.
+    name: Optional[bytes] = None
+    client: List[bytes] = field(default_factory=list)
+    server: List[bytes] = field(default_factory=list)
+
+
+@dataclass
 class Exchange:
     """A line of the client, and what the server answers it."""
 
@@ -45,6 +56,12 @@ class Exchange:
     # The lines of the block as they are sent, each with its CRLF; of octets that answer nothing, all behind the first
     # line. None where no block is due.
     block: Optional[bytes]
+    # Which session it is of.
+    session: int = SOLE
+
+    def place(self) -> Place:
+        """The place of the answer."""
+        return Place(self.session, self.index)
 
     def words(self) -> List[bytes]:
         """The words of the line."""
@@ -67,24 +84,26 @@ class Exchange:
         return f"{self.index} {line} -> {printed(self.initial or b'')}"
 
 
-def streams(capture: bytes) -> Tuple[bytes, bytes]:
-    """What the client and what the server sent."""
-    sent: Dict[bytes, List[bytes]] = {b"client": [], b"server": []}
+def sessions_in(capture: bytes) -> List[Sent]:
+    """What was sent in each session. What stands before the first piece that begins one is a session too, if it has
+    octets, or if there is no such piece."""
+    first = Sent()
+    sessions = [first]
     try:
         for piece in pieces_in(BytesIO(capture)):
-            if piece.kind in sent:
-                sent[piece.kind].append(capture[piece.place : piece.place + piece.size])
+            octets = capture[piece.place : piece.place + piece.size]
+            if piece.kind == b"session":
+                sessions.append(Sent(octets))
+            elif piece.kind == b"client":
+                sessions[-1].client.append(octets)
+            elif piece.kind == b"server":
+                sessions[-1].server.append(octets)
     except BadPiece as fault:
         raise Disagreement(str(fault)) from fault
-    return b"".join(sent[b"client"]), b"".join(sent[b"server"])
-
-
-def has_sessions(capture: bytes) -> bool:
-    """Whether there is a piece with which a session begins, as in captures of several."""
-    try:
-        return any(piece.kind == b"session" for piece in pieces_in(BytesIO(capture)))
-    except BadPiece:
-        return False
+    if len(sessions) == 1:
+        return sessions
+    first.name = b""
+    return sessions if any(first.client) or any(first.server) else sessions[1:]
 
 
 def words_of(line: bytes) -> List[bytes]:
@@ -135,23 +154,23 @@ def frame(server: bytes, place: int, line: Optional[bytes]) -> Tuple[bytes, Opti
     return initial, server[end + len(CRLF) : dot + len(CRLF)], dot + len(DOT_LINE)
 
 
-def pair(client: bytes, server: bytes, answers: int, left: Optional[int]) -> Iterator[Exchange]:
-    """The exchanges of a session with so many answers, and then the lines without one. From the answer `left` on the
-    server's octets answer nothing."""
-    *lines, _ = client.split(CRLF)
+def pair(sent: Sent, session: int, left: Optional[int]) -> Iterator[Exchange]:
+    """The exchanges of a session, and then the lines without an answer. From the answer `left` on the server's octets
+    answer nothing."""
+    server = b"".join(sent.server)
+    *lines, _ = b"".join(sent.client).split(CRLF)
     prompts: List[Optional[bytes]] = [None, *lines]
-    place = 0
-    for index in range(answers):
-        line = prompts[index] if index < len(prompts) else None
-        if index == left:
+    place = answers = 0
+    while place < len(server):
+        line = prompts[answers] if answers < len(prompts) else None
+        if answers == left:
             initial, _, block = server[place:].partition(CRLF)
-            yield Exchange(index, line, initial, block or None)
+            yield Exchange(answers, line, initial, block or None, session)
             place = len(server)
         else:
             initial, block, place = frame(server, place, line)
-            yield Exchange(index, line, initial, block)
-    if place < len(server):
-        raise Disagreement("octets are left behind the last answer")
+            yield Exchange(answers, line, initial, block, session)
+        answers += 1
     # the greeting's place has no line
     for index in range(max(answers, 1), len(prompts)):
-        yield Exchange(index, prompts[index], None, None)
+        yield Exchange(index, prompts[index], None, None, session)

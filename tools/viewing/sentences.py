@@ -2,9 +2,10 @@
 from __future__ import annotations
 
 import re
-from typing import Dict, List, Optional, Tuple
+from typing import Callable, Dict, List, Optional, Tuple
 
 from viewing.octets import counted, element, octets_of
+from viewing.places import CALLED, SOLE, Place, link, place_called
 
 FAILURES = "400, 401, 403, 480, 483, 500 to 504"
 
@@ -184,13 +185,6 @@ class Number(str):
         return counted(int(self), thing) if thing else str(self)
 
 
-class Answer(str):
-    """The number of an answer, which is a link to it."""
-
-    def __format__(self, _: str) -> str:
-        return link(int(self))
-
-
 class Codes(str):
     """Codes, one or more."""
 
@@ -208,13 +202,15 @@ class Range(str):
         return "" if first == "1" else f" from {first} on"
 
 
+# The fields that call an answer, each of which becomes a link to it.
+ANSWERS = ("J", "I")
 # The kinds of fields, and what each of them matches.
 KINDS = (
     (Octets, r"\S+", ("NAME", "ID")),
     (Octets, r".*", ("TEXT",)),
     (str, r"head|body", ("PART",)),
     (Number, r"[0-9]+", ("N", "M", "L", "H", "C")),
-    (Answer, r"[0-9]+", ("J", "I")),
+    (str, CALLED, ANSWERS),
     (Codes, r"[0-9]+(?: [0-9]+)*", ("CODES",)),
     (Range, r"[0-9]+-[0-9]*", ("RANGE",)),
 )
@@ -239,22 +235,23 @@ FORMS: Dict[str, List[Form]] = {
 OF_GREETING = compiled(GREETING)
 
 
-def link(index: int) -> str:
-    """A link to an answer."""
-    return f'<a href="#a{index}">answer {index}</a>'
-
-
-def told_by(forms: List[Form], line: str) -> Optional[str]:
-    """The sentence of the first form that the line has."""
+def told_by(forms: List[Form], line: str, linked: Callable[[str], str]) -> Optional[str]:
+    """The sentence of the first form that the line has, with the answers in it linked."""
     for pattern, sentence in forms:
         found = pattern.fullmatch(line)
         if found:
-            return sentence.format(**{field: FIELDS[field][0](text) for field, text in found.groupdict().items()})
+            texts = found.groupdict().items()
+            return sentence.format(
+                **{field: linked(text) if field in ANSWERS else FIELDS[field][0](text) for field, text in texts}
+            )
     return None
 
 
-def sentence_of(line: str, of_greeting: bool = False) -> str:
-    """A line that tells of an answer in a sentence; one of an unknown form as it is printed."""
+def sentence_of(line: str, of: Optional[Place] = None, session: int = SOLE) -> str:
+    """A line that tells of an answer in a sentence, which stands where this session is told; one of an unknown form as
+    it is printed."""
+    def linked(called: str) -> str:
+        return link(place_called(called, of.session if of else session), session)
     forms = FORMS.get(line.partition(" ")[0], [])
-    told = told_by(OF_GREETING + forms if of_greeting else forms, line)
+    told = told_by(OF_GREETING + forms if of and of.index == 0 else forms, line, linked)
     return told or f"As printed: {element('code', octets_of(line))}"
