@@ -13,7 +13,6 @@ use nntp_pair::{Pairs, Step};
 use nntp_wire::{Answer, GroupName, Limit, Marks};
 use std::alloc::{AllocError, Global};
 use std::mem;
-use std::process::Abort;
 use std::test::Fail;
 
 /// The accepted answers of a session, each where it stands, and the first one that contradicts them.
@@ -87,23 +86,26 @@ fn core_of(
     Core::find(alloc, limit, marks, &found.answers, &found.bad, 4)
 }
 
-/// They conflict about the first number of the group.
-fn expect_point(
-    rt: &impl Abort,
+/// Whether the answers of a conflict disagree about the first number of the group.
+fn is_about_first(conflict: &Conflict<'_>) -> Result<bool, AllocError> {
+    match conflict.point()? {
+        Some(Point::First(name)) => Ok(name == NAME),
+        _ => Ok(false),
+    }
+}
+
+/// Whether the answers disagree about the first number of the group.
+fn disagree_about_first(
     alloc: Global,
     found: &Contradiction<'_>,
     core: &Core,
-) -> Result<(), AllocError> {
+) -> Result<bool, AllocError> {
     let Contradiction { answers, bad } = found;
     let conflict = Conflict::of(alloc, Limit::Narrow, Marks::Lenient, answers, bad, core)?;
-    match conflict.point()? {
-        Some(Point::First(name)) => assert_eq!(rt; name, NAME),
-        _ => assert!(rt; false, "another point"),
-    }
-    Ok(())
+    is_about_first(&conflict)
 }
 
-/// They are answer 2 alone.
+/// They are answer 2 alone, and it and the bad one disagree about the first number of the group.
 #[test]
 fn core_and_point(rt: HostRuntime) -> Result<(), Fail> {
     let (limit, marks) = (Limit::Narrow, Marks::Lenient);
@@ -113,5 +115,6 @@ fn core_and_point(rt: HostRuntime) -> Result<(), Fail> {
     let core = core_of(rt.alloc(), limit, marks, &found)?;
     assert_eq!(rt; core.places(), [2].as_slice());
     assert!(rt; core.rest().is_none());
-    Ok(expect_point(&rt, rt.alloc(), &found, &core)?)
+    assert!(rt; disagree_about_first(rt.alloc(), &found, &core)?);
+    Ok(())
 }

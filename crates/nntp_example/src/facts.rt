@@ -6,7 +6,7 @@ use nntp_wire::{Block, Limit, Marks, WaterMarks, What};
 use std::process::Abort;
 use std::test::Fail;
 
-/// Whether this is asked of the numbers of the group by the answer at the place.
+/// Whether the answer at the place asks this of the numbers.
 fn is_asked(place: u64, ask: &Ask<'_>) -> bool {
     match (place, ask) {
         (1, Ask::Estimates { how, marks }) => {
@@ -27,21 +27,45 @@ fn is_head(what: What, block: &Option<Block<'_>>) -> bool {
     }
 }
 
+/// Whether this is what is asked of the numbers of the group by the answer at the place.
+fn asks(place: u64, fact: &Fact<'_>) -> bool {
+    match fact {
+        Fact::Asks(name, ask) => *name == NAME && is_asked(place, ask),
+        _ => false,
+    }
+}
+
+/// Whether this is that there is the group.
+fn says_group(fact: &Fact<'_>) -> bool {
+    match fact {
+        Fact::ThereIs(name) => name.as_slice() == NAME,
+        _ => false,
+    }
+}
+
+/// Whether this is that the group has the id at the number 2.
+fn says_id(fact: &Fact<'_>) -> bool {
+    match fact {
+        Fact::IdAt(name, number, id) => *name == NAME && *number == 2 && id.as_slice() == ID,
+        _ => false,
+    }
+}
+
+/// Whether this is that the id has this head.
+fn says_head(fact: &Fact<'_>) -> bool {
+    match fact {
+        Fact::TextIs { what, id, block } => id.as_slice() == ID && is_head(*what, *block),
+        _ => false,
+    }
+}
+
 /// Whether this is what the answer at the place says as the thing of this index.
 fn is_said(place: u64, index: u64, fact: &Fact<'_>) -> bool {
-    match (place, index, fact) {
-        (1, 0, Fact::ThereIs(name)) => name.as_slice() == NAME,
-        (1, 1, Fact::Asks(name, ask)) => *name == NAME && is_asked(place, ask),
-        (2, 0, Fact::Asks(name, ask)) => *name == NAME && is_asked(place, ask),
-        (2, 1, Fact::IdAt(name, number, id)) => {
-            *name == NAME && *number == 2 && id.as_slice() == ID
-        }
-        (3, 0, Fact::TextIs { what, id, block }) => id.as_slice() == ID && is_head(*what, *block),
-        (3, 1, Fact::Asks(name, ask)) => *name == NAME && is_asked(place, ask),
-        (3, 2, Fact::IdAt(name, number, id)) => {
-            *name == NAME && *number == 2 && id.as_slice() == ID
-        }
-        (4, 0, Fact::Asks(name, ask)) => *name == NAME && is_asked(place, ask),
+    match (place, index) {
+        (1, 0) => says_group(fact),
+        (1, 1) | (2, 0) | (3, 1) | (4, 0) => asks(place, fact),
+        (2, 1) | (3, 2) => says_id(fact),
+        (3, 0) => says_head(fact),
         _ => false,
     }
 }
