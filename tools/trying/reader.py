@@ -43,6 +43,16 @@ class Line:
     block: Optional[str] = None
 
 
+@dataclass
+class Part:
+    """A part of the bar: where it leads, if it is a link, and what it says by its text and as it is pointed at."""
+
+    link: str
+    title: str
+    is_mark: bool
+    text: str = ""
+
+
 class PageReader(HTMLParser):
     """Reads a page, and notes what is wrong with its markup."""
 
@@ -60,6 +70,7 @@ class PageReader(HTMLParser):
         # How deep the last heading is, and what the parts for navigation are called.
         self.depth = 0
         self.labels: List[str] = []
+        self.bar: List[Part] = []
         # The lines of each session, by their numbers.
         self.sessions: Dict[int, Dict[int, Line]] = {}
         self.line: Optional[Line] = None
@@ -118,6 +129,8 @@ class PageReader(HTMLParser):
             self.faults.append(f"session {self.session + 1} is named by another heading")
         elif tag == "li" and self.tags()[-2:] == ["section", "ol"]:
             self.line = Line(has.get("id", ""), has.get("class", "").split())
+        elif self.open and self.open[-1] == ("nav", "bar"):
+            self.bar.append(Part(has.get("href", ""), has.get("title", ""), has.get("class") == "begin"))
         elif self.line and "href" in has:
             self.line.links.append(has["href"])
         elif self.line and tag == "pre":
@@ -173,6 +186,8 @@ class PageReader(HTMLParser):
                 self.titles[self.session] += data
             elif tags[-2:] == ["article", "p"]:
                 self.summaries[self.session] += data
+            elif self.bar and self.has_class("bar"):
+                self.bar[-1].text += data
             return
         if tags[-1:] == ["small"]:
             self.line.more += data
