@@ -1,10 +1,10 @@
-"""Tries what the bar of a page shows of several sessions."""
+"""Tries what the bar of a page shows of several sessions, and how light the page of very many is."""
 from __future__ import annotations
 
 from typing import List, Tuple
 
 from trying.reader import PageReader
-from trying.trial import GREETING, Trial, named, session
+from trying.trial import GREETING, MOST_ELEMENTS_OF_SESSIONS, Trial, named, session
 
 ASKED = b"DATE", b"111 20261128000000"
 GROUP = b"GROUP g", b"211 1 5 5 g"
@@ -14,7 +14,7 @@ GONE = b"STAT 5", b"423 no"
 
 def try_bars(trial: Trial) -> None:
     """All that is tried here."""
-    for part in try_begins, try_unequal, try_answerless, try_rulers, try_one:
+    for part in try_begins, try_unequal, try_answerless, try_rulers, try_one, try_lone_greetings:
         part(trial)
 
 
@@ -78,3 +78,21 @@ def try_one(trial: Trial) -> None:
     page = trial.page("one", session(GREETING, *[ASKED] * 400, GROUP, THERE, GONE))
     trial.expect(shape_of(page) == 99 * "." + "B", f"one: {shape_of(page)}")
     trial.expect(page.labels == ["Where the bad answers are"], f"one: {page.labels}")
+
+
+def lone_greetings() -> bytes:
+    """The capture of 10,000 sessions that are greetings alone."""
+    return b"".join(named(b"captures/%d.capture" % number, session(GREETING)) for number in range(1, 10001))
+
+
+def try_lone_greetings(trial: Trial) -> None:
+    """That the page of these is light, and has each session, and its line as others have it."""
+    page = trial.page("greetings", lone_greetings())
+    trial.expect(page.elements <= MOST_ELEMENTS_OF_SESSIONS, f"greetings: the page has {page.elements} elements")
+    trial.expect((page.counts["article"], page.counts["h2"]) == (10000, 10000), f"greetings: {page.counts}")
+    texts = {"span": "greeting", "samp": "200 hi"}
+    lines = page.all_lines()
+    is_whole = all((line.state, line.texts) == ("says nothing", texts) for _, _, line in lines)
+    trial.expect(len(lines) == 10000 and is_whole, f"greetings: {len(lines)} lines")
+    wanted = [(f"#s{number}", f"session {number}") for number in range(200, 10001, 200)]
+    trial.expect(marks_of(page) == wanted, f"greetings: {marks_of(page)}")

@@ -13,7 +13,8 @@ FAULTS = ("Runtime.exceptionThrown", "Runtime.consoleAPICalled", "Log.entryAdded
 STATE = """JSON.stringify({
   hash: location.hash,
   open: [...document.querySelectorAll('.why')].map(reasons => reasons.open),
-  lines: [...document.querySelectorAll('section > ol > li')].filter(line => line.checkVisibility())
+  lines: [...document.querySelectorAll(':is(article, section) > ol > li, article > p')]
+    .filter(line => line.checkVisibility())
     .map(line => parseInt(line.textContent)),
   titles: [...document.querySelectorAll('article > h2')].filter(title => title.checkVisibility())
     .map(title => title.textContent),

@@ -6,7 +6,7 @@ import re
 import subprocess
 from typing import Any, Dict, Iterator, List
 
-from trying.bars import ASKED, GONE, GROUP, THERE
+from trying.bars import ASKED, GONE, GROUP, THERE, lone_greetings
 from trying.browser import Browser, console, jump, on_paper, slowness
 from trying.sessions import light
 from trying.trial import GREETING, named, session
@@ -36,7 +36,9 @@ def tries_of_sessions() -> Dict[str, Any]:
     return {
         "inn-between": (joined, faults_of_sessions),
         "sessions": (lambda: b"".join(light()), faults_of_long_sessions),
+        "greetings": (lone_greetings, faults_of_greetings),
         "marks": (fifty, faults_of_marks),
+        "unanswered": (without_answers, faults_of_unanswered),
     }
 
 
@@ -51,6 +53,13 @@ def fifty() -> bytes:
     exchanges = GREETING, GROUP, THERE, ASKED
     rest = session(GREETING, GROUP, GONE, ASKED)
     return named(b"1", session(*exchanges)) + b"".join(named(b"%d" % number, rest) for number in range(2, 51))
+
+
+def without_answers() -> bytes:
+    """Three sessions: one with a line without an answer, one that denies what the first showed, and a greeting."""
+    asked = b"client 6\nDATE\r\n"
+    first = session(GREETING, GROUP, THERE) + asked
+    return named(b"a", first) + named(b"b", session(GREETING, GROUP, GONE)) + named(b"c", session(GREETING))
 
 
 def faults_of_sessions(browser: Browser, path: str) -> Faults:
@@ -88,12 +97,39 @@ def faults_of_long_sessions(browser: Browser, path: str) -> Faults:
     yield from jump(browser, ".bar a:last-of-type", "s100a49")
     yield from jump(browser, ".bar a:not(.begin)", "s2a49")
     yield from jump(browser, "#s2a49 .reasons li a", "s1a48")
+    yield from is_told(browser, "#s90", "heading", "session 90 captures/090.capture")
     browser.click("label")
     state = browser.state()
     if state["lines"] != [48, *[49, 99] * 99] or len(state["titles"]) != 100:
         yield f"these are the bad ones of 100 sessions, and a named one: {state['lines']}, {state['titles']}"
     yield from on_paper(browser)
     yield from console(browser)
+
+
+def faults_of_greetings(browser: Browser, path: str) -> Faults:
+    """What is wrong with the page of 10,000 sessions of an answer each."""
+    yield from slowness(browser, path)
+    state = browser.state()
+    if len(state["titles"]) != 10000 or state["lines"] != [0] * 10000:
+        yield f"{len(state['titles'])} sessions have {len(state['lines'])} lines"
+    yield from jump(browser, ".begin[href='#s5000']", "s5000")
+    yield from is_told(browser, "#s9000", "heading", "session 9000 captures/9000.capture")
+    yield from is_told(browser, "article:nth-of-type(9000) > p", "paragraph", "")
+    yield from jump(browser, ".bar a:last-of-type", "s10000")
+    yield from on_paper(browser)
+    yield from console(browser)
+
+
+def is_told(browser: Browser, selector: str, role: str, name: str) -> Faults:
+    """That a screen reader doesn't know an element, which is far from what is on the screen."""
+    browser.call("Accessibility.enable")
+    root = browser.call("DOM.getDocument", depth=0)["root"]["nodeId"]
+    node = browser.call("DOM.querySelector", nodeId=root, selector=selector)["nodeId"]
+    told = browser.call("Accessibility.getPartialAXTree", nodeId=node, fetchRelatives=False)["nodes"][0]
+    browser.call("Accessibility.disable")
+    there = told["role"]["value"], told.get("name", {}).get("value", "")
+    if there != (role, name):
+        yield f"a screen reader knows {selector} as {there}"
 
 
 def faults_of_marks(browser: Browser, path: str) -> Faults:
@@ -153,3 +189,22 @@ def contrast(*colours: str) -> float:
         linear = [part / 12.92 if part <= 0.03928 else ((part + 0.055) / 1.055) ** 2.4 for part in parts]
         bright.append(sum(weight * part for weight, part in zip((0.2126, 0.7152, 0.0722), linear)))
     return (max(bright) + 0.05) / (min(bright) + 0.05)
+
+
+def faults_of_unanswered(browser: Browser, path: str) -> Faults:
+    """That a link to lines without an answer doesn't lead there while the bad ones alone are shown."""
+    browser.open(path)
+    titles = browser.state()["titles"]
+    browser.click("label")
+    state = browser.state()
+    if state["lines"] != [2] or state["titles"] != titles[1:2]:
+        yield f"these are the bad ones: {state}"
+    browser.click("header a[href='#s1unanswered']")
+    state = browser.state()
+    if state["lines"] != [3, 2] or state["titles"] != titles[:2] or not state["bar"] <= state["top"] < state["height"]:
+        yield f"the link to lines without an answer leads elsewhere: {state}"
+    browser.click(".begin[href='#s3']")
+    state = browser.state()
+    if state["lines"] != [2] or state["titles"] != titles[1:]:
+        yield f"the mark of a session that is sound leads elsewhere: {state}"
+    yield from console(browser)

@@ -11,7 +11,8 @@ GREETING = (None, b"200 hi")
 # How many octets and elements the page of 10,000 exchanges may have, with about 200 bad answers among them.
 MOST_OCTETS = 1500000
 MOST_ELEMENTS = 40000
-# How many sessions a bar marks.
+# How many elements it may have if each of these is a session, and how many sessions a bar marks.
+MOST_ELEMENTS_OF_SESSIONS = 45000
 MOST_MARKS = 50
 
 
