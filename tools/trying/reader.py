@@ -43,6 +43,16 @@ class Line:
     block: Optional[str] = None
 
 
+@dataclass
+class Part:
+    """A part of the bar: where it leads, if it is a link, and what it says by its text and as it is pointed at."""
+
+    link: str
+    title: str
+    is_mark: bool
+    text: str = ""
+
+
 class PageReader(HTMLParser):
     """Reads a page, and notes what is wrong with its markup."""
 
@@ -60,6 +70,7 @@ class PageReader(HTMLParser):
         # How deep the last heading is, and what the parts for navigation are called.
         self.depth = 0
         self.labels: List[str] = []
+        self.bar: List[Part] = []
         # The lines of each session, by their numbers.
         self.sessions: Dict[int, Dict[int, Line]] = {}
         self.line: Optional[Line] = None
@@ -100,9 +111,17 @@ class PageReader(HTMLParser):
         """Whether an open element has one of these classes."""
         return any(name in names for _, name in self.open)
 
+    def is_at_line(self, tag: str) -> bool:
+        """Whether this is the element of a line, which begins or has ended: one of the list that a section or a session
+        has, or a paragraph, if it is all of a session."""
+        around = self.tags()[-2:]
+        is_lone = tag == "p" and around[-1:] == ["article"]
+        return is_lone or (tag == "li" and around in (["section", "ol"], ["article", "ol"]))
+
     def is_in_front(self) -> bool:
         """Whether the innermost element is the line itself, which is the summary where the line unfolds."""
-        return self.tags()[-1:] in (["li"], ["summary"]) and not self.has_class("reasons", "block")
+        is_there = self.tags()[-1:] in (["li"], ["summary"]) or self.tags()[-2:] == ["article", "p"]
+        return is_there and not self.has_class("reasons", "block")
 
     def handle_starttag(self, tag: str, attrs: List[Tuple[str, Optional[str]]]) -> None:
         has = {name: value or "" for name, value in attrs}
@@ -116,8 +135,10 @@ class PageReader(HTMLParser):
             self.head(int(tag[1]), has.get("id", ""))
         elif tag == "article" and has.get("aria-labelledby") != f"s{self.session + 1}":
             self.faults.append(f"session {self.session + 1} is named by another heading")
-        elif tag == "li" and self.tags()[-2:] == ["section", "ol"]:
+        elif self.is_at_line(tag):
             self.line = Line(has.get("id", ""), has.get("class", "").split())
+        elif self.open and self.open[-1] == ("nav", "bar"):
+            self.bar.append(Part(has.get("href", ""), has.get("title", ""), has.get("class") == "begin"))
         elif self.line and "href" in has:
             self.line.links.append(has["href"])
         elif self.line and tag == "pre":
@@ -134,7 +155,7 @@ class PageReader(HTMLParser):
         if depth > self.depth + 1:
             self.faults.append(f"a heading {depth} stands below one of {self.depth}")
         self.depth = depth
-        if self.tags()[-1] == "article":
+        if self.tags()[-1] == "article" and depth == 2:
             self.session += 1
             self.titles[self.session] = self.summaries[self.session] = ""
             if name != f"s{self.session}":
@@ -143,13 +164,16 @@ class PageReader(HTMLParser):
     def handle_endtag(self, tag: str) -> None:
         if not self.open or self.open.pop()[0] != tag:
             self.faults.append(f"</{tag}> closes another element")
-        if self.line and tag == "li" and self.tags()[-2:] == ["section", "ol"]:
+        if self.line and self.is_at_line(tag):
             self.keep(self.line)
             self.line = None
 
     def keep(self, line: Line) -> None:
         """Keeps a line under its number, by which its id has to be named, as its classes by its state."""
-        number, *words = line.front.split() or [""]
+        front, tab, asked = line.front.partition("\t")
+        if tab:
+            line.texts["span"] = asked.strip()
+        number, *words = front.split() or [""]
         line.state = " ".join(words)
         lines = self.sessions.setdefault(self.session, {})
         is_new = number.isdecimal() and int(number) not in lines
@@ -171,8 +195,10 @@ class PageReader(HTMLParser):
         if not self.line:
             if "article" in tags and "h2" in tags and tags[-1] != "small":
                 self.titles[self.session] += data
-            elif tags[-2:] == ["article", "p"]:
-                self.summaries[self.session] += data
+            elif tags[-1:] == ["article"]:
+                self.summaries[self.session] += data.strip()
+            elif self.bar and self.has_class("bar"):
+                self.bar[-1].text += data
             return
         if tags[-1:] == ["small"]:
             self.line.more += data

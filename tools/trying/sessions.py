@@ -9,15 +9,10 @@ import tempfile
 from typing import Iterator, Tuple
 
 from trying.reader import PageReader
-from trying.trial import GREETING, MOST_ELEMENTS, MOST_OCTETS, Trial, session
+from trying.trial import GREETING, MOST_ELEMENTS, MOST_OCTETS, Trial, named, session
 
 ONE = session(GREETING, (b"GROUP g", b"211 1 5 5 g"), (b"STAT 5", b"223 5 <a@x>"))
 DENIED = session(GREETING, (b"GROUP g", b"211 1 5 5 g"), (b"STAT 5", b"423 no"))
-
-
-def named(name: bytes, sent: bytes = b"") -> bytes:
-    """A session of this name in a capture of several."""
-    return b"session %d\n%s%s" % (len(name), name, sent)
 
 
 def in_pieces(kind: bytes, octets: bytes) -> bytes:
@@ -53,7 +48,8 @@ def try_examples(trial: Trial) -> None:
     page = trial.page("inn-between", joined(*sorted(glob.glob("examples/inn-between/*.capture"))))
     wanted = "says nothing, accepted, named, says nothing; says nothing, Contradiction, says nothing"
     trial.expect(states_of(page) == wanted, f"inn-between: {states_of(page)}")
-    trial.expect(page.labels == ["Sessions", "Where the bad answers are"], f"inn-between: {page.labels}")
+    labels = ["Sessions", "Where sessions begin, and bad answers are"]
+    trial.expect(page.labels == labels, f"inn-between: {page.labels}")
     reasons = page.sessions[2][1].reasons
     for sentence in (
         "Before it, no group was selected.",

@@ -11,6 +11,9 @@ GREETING = (None, b"200 hi")
 # How many octets and elements the page of 10,000 exchanges may have, with about 200 bad answers among them.
 MOST_OCTETS = 1500000
 MOST_ELEMENTS = 40000
+# How many elements it may have if each of these is a session, and how many sessions a bar marks.
+MOST_ELEMENTS_OF_SESSIONS = 45000
+MOST_MARKS = 50
 
 
 class Trial:
@@ -49,6 +52,7 @@ class Trial:
         self.try_bad(name, page, self.told("explain", capture, *handed))
         show = self.told("show", capture)
         self.try_sessions(name, page, show)
+        self.try_bar(name, page)
         if "--show-passwords" in options or b"AUTHINFO" not in capture.upper():
             for session, lines in parts_of(show).items():
                 self.try_lines(name, page.sessions.get(session, {}), lines)
@@ -94,6 +98,16 @@ class Trial:
                 counts = re.findall("([0-9]+) (?:answer|line)", there)[:2]
                 self.expect(counts == [end[1], end[2]], f"{name}: session {session}: {page.summaries[session]}")
 
+    def try_bar(self, name: str, page: PageReader) -> None:
+        """That the bar leads to bad answers in their order, each between the mark of its session and that of the next,
+        and says so to all readers."""
+        links = [re.fullmatch("#(?:s([0-9]+))?(?:a([0-9]+))?", part.link) for part in page.bar if part.link]
+        places = [(int(link[1] or 0), int(link[2] or -1)) for link in links if link]
+        self.expect(places == sorted(set(places)) and all(links), f"{name}: the bar leads to {places}")
+        self.expect(all(part.title == part.text for part in page.bar), f"{name}: the bar says {page.bar}")
+        marks = sum(part.is_mark for part in page.bar)
+        self.expect(marks <= MOST_MARKS, f"{name}: the bar has {marks} marks")
+
     def try_lines(self, name: str, page: Dict[int, Line], show: List[str]) -> None:
         """That each line of `show` of a session is there once; of a long one its front."""
         there = [line for line in show if re.match("[0-9]|  ", line)]
@@ -134,6 +148,11 @@ def as_printed(text: str) -> str:
 def as_octets(letter: str) -> str:
     """The octets of a letter as nntpcheck prints them."""
     return "".join(f"\\x{octet:02x}" for octet in letter.encode())
+
+
+def named(name: bytes, sent: bytes = b"") -> bytes:
+    """A session of this name in a capture of several."""
+    return b"session %d\n%s%s" % (len(name), name, sent)
 
 
 def session(*exchanges: Tuple[Optional[bytes], bytes]) -> bytes:

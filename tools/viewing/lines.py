@@ -40,8 +40,27 @@ def item(judgement: Judgement, exchange: Exchange) -> str:
         why = "".join(reasons(judgement, bad))
         line = f'<details class="why"{is_open}><summary>{line}</summary><div class="reasons">{why}</div></details>'
     below = "".join((*under(judgement, exchange), *block(exchange, bad)))
-    identity = f' id="{place.identity()}"' if place in judgement.linked else ""
-    return f"<li{identity}{classes(state, bad)}>{line}{below}</li>"
+    return f"<li{identity(judgement, exchange)}{classes(state, bad)}>{line}{below}</li>"
+
+
+def is_plain(judgement: Judgement, exchange: Exchange) -> bool:
+    """Whether an exchange is a line and no more: it isn't bad, and nothing stands under it."""
+    is_bad = exchange.place() in judgement.explanation.bad
+    return not is_bad and exchange.block is None and not any(under(judgement, exchange))
+
+
+def lone_greeting(judgement: Judgement, exchange: Exchange) -> str:
+    """The line of a plain greeting that is the only answer of its session. A list of one tells nothing; and the word
+    behind the tab needs no element of its own to stand where commands do."""
+    state, initial = judgement.state(exchange), element("samp", exchange.initial or b"")
+    attributes = identity(judgement, exchange) + classes(state, None)
+    return f"<p{attributes}>{exchange.index} {state}&#9;greeting {initial}</p>"
+
+
+def identity(judgement: Judgement, exchange: Exchange) -> str:
+    """The id of a line to which there are links."""
+    place = exchange.place()
+    return f' id="{place.identity()}"' if place in judgement.linked else ""
 
 
 def classes(state: str, bad: Optional[Bad]) -> str:

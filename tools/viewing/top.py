@@ -2,17 +2,16 @@
 from __future__ import annotations
 
 from collections import Counter
-from typing import Iterator, List
+from typing import Iterator
 
-from viewing.capture import Exchange
+from viewing.bar import bar, marked_every
 from viewing.lines import LINES, kind_of
 from viewing.octets import counted, element
 from viewing.places import SOLE, link
 from viewing.sentences import CLASSES, sentence_of
 from viewing.session import Judgement, Session
 
-# How many cells the bar has, and how many sessions are listed unfolded.
-CELLS = 100
+# How many sessions are listed unfolded.
 UNFOLDED = 10
 # What is counted, by state, and how.
 COUNTS = {
@@ -107,28 +106,14 @@ def mark_of(judgement: Judgement, session: Session) -> str:
 
 def top(judgement: Judgement) -> Iterator[str]:
     """What stays on top: the bar over all sessions, and the choice of the bad answers alone."""
-    exchanges = judgement.exchanges()
-    if not exchanges:
+    if not judgement.exchanges():
         return
+    what = "Where sessions begin, and bad answers are" if judgement.has_several() else "Where the bad answers are"
     yield '<div class="top">'
-    cells_of_all = "".join(cells(judgement, exchanges))
-    yield f'<nav class="bar" aria-label="Where the bad answers are">{cells_of_all}</nav>'
+    yield f'<nav class="bar" aria-label="{what}">{"".join(bar(judgement))}</nav>'
     if judgement.bad:
         yield '<label for="only">Bad ones alone</label>'
+    every = marked_every(judgement)
+    if every > 1:
+        yield f"<small>A mark every {counted(every, 'session')}</small>"
     yield "</div>"
-
-
-def cells(judgement: Judgement, all_exchanges: List[Exchange]) -> Iterator[str]:
-    """The cells of the bar, each for as many exchanges: one with bad answers leads to the first of them."""
-    many = len(all_exchanges)
-    count = min(many, CELLS)
-    for cell in range(count):
-        exchanges = all_exchanges[cell * many // count : (cell + 1) * many // count]
-        bad = [exchange for exchange in exchanges if exchange.place() in judgement.explanation.bad]
-        if bad:
-            state, place = judgement.state(bad[0]), bad[0].place()
-            text = f"{place.called_in()}: {state}" + (f", and {len(bad) - 1} more" if len(bad) > 1 else "")
-            yield f'<a class="{kind_of(state)}" href="#{place.identity()}" title="{text}">{text}</a>'
-        else:
-            states = {judgement.state(exchange) for exchange in exchanges}
-            yield f'<i class="{next(kind_of(state) for state in COUNTS if state in states)}"></i>'
