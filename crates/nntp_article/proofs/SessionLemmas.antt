@@ -9,3 +9,4 @@ pub mod SetKeys
 pub mod Misfits
 pub mod AllowedCodes
 pub mod ReasonsAreSo
+pub mod MatchingGroups

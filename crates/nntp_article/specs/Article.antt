@@ -1,5 +1,3 @@
 pub mod Parts
 pub mod Control
 pub mod Required
-pub mod SaidId
-pub mod View

@@ -1,2 +1,3 @@
 pub mod Article
 pub mod Session
+pub mod Inner

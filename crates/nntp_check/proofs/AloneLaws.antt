@@ -1,14 +1,10 @@
 -- The report on a capture of one session.
 use Rattle.std.proofs.Common.{◌≡◌, ◌∙◌, ◌↔◌, refl, sym, ap, subst, ℕ, Bool, false, List, [], ◌∷◌, ◌++◌}
-use Rattle.nntp_wire.specs.declared.limit.Limit.{Limit}
-use Rattle.nntp_wire.specs.declared.marks.Marks.{Marks}
+use Rattle.nntp_wire.specs.declared.{limit.Limit.{Limit}, marks.Marks.{Marks}}
 use Rattle.nntp_several.specs.Sessions.{Named, unnamed}
-use Rattle.nntp_verdict.specs.Judging.{IsVerdict, IsVerdictOfAll}
-use Rattle.nntp_verdict.specs.Verdict.{Judgement, consistent, bad, is_consistent, is_consistent_of_all, verdict_of_one}
-use Rattle.nntp_verdict.proofs.VerdictLaws.{one_verdict_of_all, one_session_verdict}
-use Rattle.nntp_check.specs.Capture.{Captured, sessions_of}
-use Rattle.nntp_check.specs.Report.{names_of, report_of}
-use Rattle.nntp_check.specs.Run.{CheckReports}
+use Rattle.nntp_verdict.specs.{Judging.{IsVerdict, IsVerdictOfAll}, Verdict.{Judgement, consistent, bad, is_consistent_of_all}, Inner.Verdict.{is_consistent}}
+use Rattle.nntp_verdict.{specs.Inner.Verdict.{verdict_of_one}, proofs.VerdictLaws.{one_verdict_of_all, one_session_verdict}}
+use Rattle.nntp_check.specs.{Capture.{Captured, sessions_of}, Report.{names_of, report_of}, Run.{CheckReports}}
 
 -- of one session no name is told
 unnamed-report : (names : List (List ℕ)) (verdict : Judgement) → report_of false names (verdict_of_one verdict) ≡ report_of false [] (verdict_of_one verdict)

@@ -1,17 +1,10 @@
 -- Octets begin a capture, or a piece of theirs is bad whatever follows.
-use Rattle.std.proofs.Common.{◌≡◌, ◌≢◌, ◌⊎◌, ◌∙◌, ℕ, ◌+◌, ◌-◌, ◌<◌, ◌≤◌, true, false, List, [], ◌∷◌, ◌++◌, Option, Some, None}
-use Rattle.std.proofs.Common.{length, take, drop, inl, inr, refl, sym, ap, append_assoc, arith, length-append, length-take}
-use Rattle.std.proofs.Common.{flat_map}
-use Rattle.std.proofs.lemmas.Bool.{cases_Bool, cases_eq, cases_lt, and_from, and_parts, true≢false}
-use Rattle.std.proofs.lemmas.List.{take-append-drop}
-use Rattle.std.specs.List.{list_all}
-use Rattle.std.specs.Char.{is_ascii_digit}
+use Rattle.std.proofs.Common.{◌≡◌, ◌≢◌, ◌⊎◌, ◌∙◌, ℕ, ◌+◌, ◌-◌, ◌<◌, ◌≤◌, true, false, List, [], ◌∷◌, ◌++◌, Option, Some, None, length, take, drop, inl, inr}
+use Rattle.std.proofs.{Common.{refl, sym, ap, append_assoc, arith, length-append, length-take, flat_map}, lemmas.Bool.{cases_Bool, cases_eq, cases_lt}}
+use Rattle.std.{proofs.lemmas.{Bool.{and_from, and_parts, true≢false}, List.{take-append-drop}}, specs.{List.{list_all}, Char.{is_ascii_digit}}}
 use Rattle.nntp_check.specs.Capture.{Part, word_of, spelled, count_of, BeginsNoPiece, Begins, BeginsCapture, IsBadPieceForGood}
-use Rattle.nntp_check.specs.declared.source.Source.{Source}
-use Rattle.nntp_check.specs.declared.source.Source.TheVariants.{Client, Server, Spool, Session}
-use Rattle.nntp_check.proofs.CaptureLemmas.{one_word, spelled-append, counted}
-use Rattle.nntp_check.proofs.CaptureLaws.{HasEnd, has-end}
-use Rattle.nntp_check.proofs.ReadingLemmas.{front-nil, counted-few, digits-then}
+use Rattle.nntp_check.{specs.declared.source.Source.{Source, TheVariants.{Client, Server, Spool, Session}}, proofs.CaptureLemmas.{one_word, spelled-append}}
+use Rattle.nntp_check.proofs.{CaptureLemmas.{counted}, CaptureLaws.{HasEnd, has-end}, ReadingLemmas.{front-nil, counted-few, digits-then}}
 use Rattle.nntp_check.proofs.BegunLemmas.{Completes, complete-digits, complete-word, completed, completed-whole, zeros, length-zeros}
 
 -- no piece is there, whatever follows
@@ -123,7 +116,8 @@ begun-or-never octets none = by (fork (word_of Client) octets) (fork (word_of Se
     by client server (inr (inl (line, e))) session = behind-word Spool octets line e none
     by client server spool (inl (more, e)) = inl (complete-word octets more Session e)
     by client server spool (inr (inl (line, e))) = behind-word Session octets line e none
-    by (inr (inr client)) (inr (inr server)) (inr (inr spool)) (inr (inr session)) = inr (λ more p after piece e. never more p.source (p.digits ++ 10 ∷ (p.octets ++ after)) (e ∙ spelled-append p after))
+    by (inr (inr client)) (inr (inr server)) (inr (inr spool)) (inr (inr session)) = inr (λ more p after piece e. never more p.source (p.digits ++ 10 ∷ (p.octets ++ after)) (e
+        ∙ spelled-append p after))
       where
         never : (more : List ℕ) (s : Source) (line : List ℕ) → octets ++ more ≢ word_of s ++ line
         never more Client line = client more line

@@ -1,17 +1,11 @@
 -- What came of a capture that isn't bad can be completed to one.
-use Rattle.std.proofs.Common.{◌≡◌, ◌⊎◌, ◌∙◌, ℕ, zero, suc, ◌≤◌, true, List, [], ◌∷◌, ◌++◌, Some, length, inl, inr, refl, sym, ap, append_assoc, arith, length-append, flat_map, codes}
-use Rattle.std.proofs.lemmas.List.{append-nil}
-use Rattle.std.specs.List.{AllByRecursion, list_all}
-use Rattle.std.specs.Char.{is_ascii_digit}
+use Rattle.std.proofs.Common.{◌≡◌, ◌⊎◌, ◌∙◌, ℕ, zero, suc, ◌≤◌, true, List, [], ◌∷◌, ◌++◌, Some, length, inl, inr, refl, sym, ap, append_assoc, arith}
+use Rattle.std.{proofs.{Common.{length-append, flat_map, codes}, lemmas.List.{append-nil}}, specs.{List.{AllByRecursion, list_all}, Char.{is_ascii_digit}}}
 use Rattle.nntp_wire.specs.Number.{number_value}
-use Rattle.nntp_check.specs.Capture.{Part, word_of, spelled, IsPiece, Begins, Captured, captured_by, IsCapture, BeginsCapture}
-use Rattle.nntp_check.specs.CaptureReading.{IsAt, HasCome}
-use Rattle.nntp_check.specs.declared.source.Source.{Source}
-use Rattle.nntp_check.specs.declared.source.Source.TheVariants.{Server}
-use Rattle.nntp_check.specs.declared.capture_reader.Place.{Place}
+use Rattle.nntp_check.specs.{Capture.{Part, word_of, spelled, IsPiece, Begins, Captured, captured_by, IsCapture, BeginsCapture}, Inner.CaptureReading.{IsAt}}
+use Rattle.nntp_check.specs.{Inner.CaptureReading.{HasCome}, declared.{source.Source.{Source, TheVariants.{Server}}, capture_reader.Place.{Place}}}
+use Rattle.nntp_check.proofs.{CaptureLemmas.{flat_map-snoc, each-snoc}, ReadingLemmas.{counts}}
 use Rattle.nntp_check.specs.declared.capture_reader.Place.TheVariants as places
-use Rattle.nntp_check.proofs.CaptureLemmas.{flat_map-snoc, each-snoc}
-use Rattle.nntp_check.proofs.ReadingLemmas.{counts}
 
 -- so many octets
 abbrev pub zeros : ℕ → List ℕ

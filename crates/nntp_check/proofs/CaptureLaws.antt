@@ -1,9 +1,8 @@
 -- Octets are a capture or have a first bad piece, and that in one way.
-use Rattle.std.proofs.Common.{◌≡◌, ◌≢◌, ◌⊎◌, ℕ, zero, suc, ◌+◌, ◌≤◌, List, [], ◌∷◌, ◌++◌, length, flat_map, inl, inr, refl, sym, ap, subst, ◌∙◌, append_assoc, arith, length-append}
-use Rattle.std.specs.List.{AllByRecursion}
-use Rattle.nntp_check.specs.Capture.{Part, spelled, IsPiece, BeginsNoPiece, Begins, Captured, captured_by, AreCapture, IsCapture, IsBadPiece, BeginsCapture, IsBadPieceForGood}
-use Rattle.nntp_check.proofs.CaptureLemmas.{spelled-length}
-use Rattle.nntp_check.proofs.FirstPiece.{one-piece, dec_piece}
+use Rattle.std.proofs.Common.{◌≡◌, ◌≢◌, ◌⊎◌, ℕ, zero, suc, ◌+◌, ◌≤◌, List, [], ◌∷◌, ◌++◌, length, flat_map, inl, inr, refl, sym, ap, subst, ◌∙◌, append_assoc}
+use Rattle.std.{proofs.Common.{arith, length-append}, specs.List.{AllByRecursion}}
+use Rattle.nntp_check.specs.Capture.{Part, spelled, IsPiece, BeginsNoPiece, Begins, Captured, captured_by, AreCapture, IsCapture, IsBadPiece, BeginsCapture}
+use Rattle.nntp_check.{specs.Capture.{IsBadPieceForGood}, proofs.{CaptureLemmas.{spelled-length}, FirstPiece.{one-piece, dec_piece}}}
 
 -- ---- one of both
 

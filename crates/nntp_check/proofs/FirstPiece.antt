@@ -1,15 +1,10 @@
 -- The piece at the front of octets is determined, and whether there is one can be decided.
-use Rattle.std.proofs.Common.{◌≡◌, ◌≢◌, ◌⊎◌, ℕ, ◌+◌, true, List, [], ◌∷◌, ◌++◌, Option, Some, None, length, take, drop, inl, inr, refl, sym, ap, ◌∙◌, arith, length-append, length-take}
-use Rattle.std.proofs.lemmas.Bool.{cases_Bool, cases_eq, cases_lt, and_from, and_parts, true≢false}
-use Rattle.std.proofs.lemmas.List.{append_cancel_left, take-append-drop}
-use Rattle.std.proofs.Math.Seq.{take-append_seam}
-use Rattle.std.specs.List.{list_all}
-use Rattle.std.specs.Char.{is_ascii_digit}
+use Rattle.std.proofs.Common.{◌≡◌, ◌≢◌, ◌⊎◌, ℕ, ◌+◌, true, List, [], ◌∷◌, ◌++◌, Option, Some, None, length, take, drop, inl, inr, refl, sym, ap, ◌∙◌, arith}
+use Rattle.std.proofs.{Common.{length-append, length-take}, lemmas.Bool.{cases_Bool, cases_eq, cases_lt, and_from, and_parts, true≢false}}
+use Rattle.std.{proofs.{lemmas.List.{append_cancel_left, take-append-drop}, Math.Seq.{take-append_seam}}, specs.{List.{list_all}, Char.{is_ascii_digit}}}
 use Rattle.nntp_wire.proofs.Decide.{Dec, dec_by}
-use Rattle.nntp_check.specs.Capture.{Part, word_of, spelled, IsPiece, BeginsNoPiece, count_of}
-use Rattle.nntp_check.specs.declared.source.Source.{Source}
-use Rattle.nntp_check.specs.declared.source.Source.TheVariants.{Client, Server, Spool, Session}
-use Rattle.nntp_check.proofs.CaptureLemmas.{one_word, spelled-append, counted, piece_line}
+use Rattle.nntp_check.specs.{Capture.{Part, word_of, spelled, IsPiece, BeginsNoPiece, count_of}, declared.source.Source.{Source, TheVariants.{Client, Server}}}
+use Rattle.nntp_check.{specs.declared.source.Source.TheVariants.{Spool, Session}, proofs.CaptureLemmas.{one_word, spelled-append, counted, piece_line}}
 
 -- ---- one piece
 

@@ -1,11 +1,8 @@
 -- What pieces hold, with more octets and more pieces.
-use Rattle.std.proofs.Common.{◌≡◌, ◌∙◌, ℕ, ◌+◌, ◌≤◌, false, List, [], ◌∷◌, ◌++◌, length, inl, inr, refl, sym, ap, subst, append_assoc, arith, length-append, flat_map}
-use Rattle.std.specs.Prelude.{fold}
-use Rattle.std.proofs.lemmas.Bool.{cases_Bool}
-use Rattle.std.proofs.lemmas.List.{append-nil}
-use Rattle.nntp_check.specs.Capture.{Part, Held, Captured, word_of, spelled, nothing, with_octets, has_session, at_piece, continued, with_piece, captured_by, AreCapture, IsAlone}
-use Rattle.nntp_check.specs.declared.source.Source.{Source}
-use Rattle.nntp_check.specs.declared.source.Source.TheVariants.{Client, Server, Spool, Session}
+use Rattle.std.proofs.Common.{◌≡◌, ◌∙◌, ℕ, ◌+◌, ◌≤◌, false, List, [], ◌∷◌, ◌++◌, length, inl, inr, refl, sym, ap, subst, append_assoc, arith, length-append}
+use Rattle.std.{proofs.{Common.{flat_map}, lemmas.{Bool.{cases_Bool}, List.{append-nil}}}, specs.Prelude.{fold}}
+use Rattle.nntp_check.specs.Capture.{Part, Held, Captured, word_of, spelled, nothing, with_octets, has_session, at_piece, continued, with_piece, captured_by}
+use Rattle.nntp_check.specs.{Capture.{AreCapture}, Inner.Capture.{IsAlone}, declared.source.Source.{Source, TheVariants.{Client, Server, Spool, Session}}}
 
 -- one step more
 fold-snoc : {A B : Type 0} (f : B → A → B) (a : B) (xs : List A) (x : A) → fold f a (xs ++ x ∷ []) ≡ f (fold f a xs) x
@@ -54,7 +51,8 @@ piece-grows c p source front is =
 -- a piece of which no octet has come
 pub piece-begins : (c : Captured) (p : Part) (source : Source) → p.source ≡ source → p.octets ≡ [] → with_piece c p ≡ at_piece source c
 piece-begins c p source is none =
-    ap (λ octets. continued p.source octets (at_piece p.source c)) none ∙ ap (λ (h : Held). record (at_piece p.source c) { held = h }) (no-octets p.source (at_piece p.source c).held) ∙ ap (λ s. at_piece s c) is
+    ap (λ octets. continued p.source octets (at_piece p.source c)) none ∙ ap (λ (h : Held). record (at_piece p.source c) { held = h }) (no-octets p.source (at_piece p.source c).held)
+    ∙ ap (λ s. at_piece s c) is
 
 -- ---- how much they hold
 

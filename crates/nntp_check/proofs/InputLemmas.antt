@@ -1,17 +1,10 @@
 -- What a run has read, read by read.
-use Rattle.std.proofs.Common.{◌≡◌, ◌||◌, Bool, true, false, ◌≢◌, ◌∙◌, ℕ, ◌+◌, ◌<◌, ◌≤◌, List, [], ◌∷◌, ◌++◌, Option, Some, None, ◌^◌, length}
-use Rattle.std.proofs.Common.{take, drop, inl, inr, refl, sym, ap, subst, append_assoc, arith, length-append}
-use Rattle.std.proofs.Math.Bool.{or-false}
-use Rattle.std.proofs.lemmas.Bool.{true≢false}
+use Rattle.std.proofs.Common.{◌≡◌, ◌||◌, Bool, true, false, ◌≢◌, ◌∙◌, ℕ, ◌+◌, ◌<◌, ◌≤◌, List, [], ◌∷◌, ◌++◌, Option, Some, None, ◌^◌, length, take, drop, inl}
+use Rattle.std.proofs.{Common.{inr, refl, sym, ap, subst, append_assoc, arith, length-append}, Math.{Bool.{or-false}, Seq.{take-append_seam}}}
+use Rattle.std.proofs.{lemmas.{Bool.{true≢false}, List.{append-nil, take-append-drop, take-take}}, KnownBytes.{Consumes-trans}}
 use Rattle.std.specs.Io.KnownBytes.{Consumes, Keeps, IsAtEnd}
-use Rattle.std.proofs.KnownBytes.{Consumes-trans}
-use Rattle.std.proofs.lemmas.List.{append-nil, take-append-drop, take-take}
-use Rattle.std.proofs.Math.Seq.{take-append_seam}
-use Rattle.nntp_check.specs.Capture.{Held, BeginsCapture, IsBadPiece}
-use Rattle.nntp_check.specs.CaptureReading.{HasBadFront}
-use Rattle.nntp_check.specs.Run.{ReadsFront, ReadsMore, ReadsBadPiece, IsInputFault}
-use Rattle.nntp_check.specs.Sinks.{StopsWithin, BothStand, PassesOn}
-use Rattle.nntp_check.specs.declared.capture_reader.CaptureReader.{CaptureReader}
+use Rattle.nntp_check.specs.{Capture.{Held, BeginsCapture, IsBadPiece}, Inner.{CaptureReading.{HasBadFront}, Sinks.{StopsWithin, BothStand, PassesOn}}}
+use Rattle.nntp_check.specs.{Run.{ReadsFront, ReadsMore, ReadsBadPiece, IsInputFault}, declared.capture_reader.CaptureReader.{CaptureReader}}
 use Rattle.nntp_check.specs.declared.run_fault.RunFault.{RunFault}
 use Rattle.nntp_check.specs.declared.run_fault.RunFault.TheVariants as faults
 
@@ -64,7 +57,8 @@ pub stops-bad : (before old after : Option (List ℕ)) (most : ℕ) (octets got 
     → Consumes before old octets → Consumes old after got → got ≡ fitting ++ rest → length octets + length fitting ≤ most
     → length got ≤ 2 ^ 16 → BeginsCapture octets
     → StopsWithin octets fitting fault → IsInputFault (record { before = before; after = after; most = most }) fault
-stops-bad before old after most octets got fitting rest (faults.Capture piece) read gave cut few near begun stops = bad-within before old after most piece octets got fitting rest read gave cut few near stops
+stops-bad before old after most octets got fitting rest (faults.Capture piece) read gave cut few near begun stops = bad-within before old after most piece octets got fitting rest read gave cut few
+    near stops
 stops-bad before old after most octets got fitting rest faults.Memory read gave cut few near begun stops = record {
   front = octets;
   last = got;

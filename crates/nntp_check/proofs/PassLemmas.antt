@@ -1,17 +1,12 @@
 -- How octets of a capture are passed on to a sink.
 use Rattle.std.proofs.Common.{◌≡◌, ◌∙◌, ℕ, ◌+◌, ◌<◌, ◌≤◌, ◌^◌, List, [], ◌++◌, length, sym, ap, subst, append_assoc, arith, length-append, flat_map}
 use Rattle.std.proofs.lemmas.List.{append-nil}
-use Rattle.nntp_check.specs.Capture.{Held, Part, spelled, captured_by, IsBadPiece}
-use Rattle.nntp_check.specs.CaptureReading.{IsAt, HasRead, HasBadFront, Reads, captured}
-use Rattle.nntp_check.specs.Sinks.{HasRoom, Takes, BothStand, PassesOn, StopsWithin}
-use Rattle.nntp_check.specs.declared.capture_reader.CaptureReader.{CaptureReader}
-use Rattle.nntp_check.specs.declared.capture_reader.Passage.{Passage}
-use Rattle.nntp_check.specs.declared.capture_reader.Place.{Place}
+use Rattle.nntp_check.specs.{Capture.{Held, Part, spelled, captured_by, IsBadPiece}, Inner.CaptureReading.{IsAt, HasRead, HasBadFront, Reads, captured}}
+use Rattle.nntp_check.specs.{Inner.Sinks.{HasRoom, Takes, BothStand, PassesOn, StopsWithin}, declared.capture_reader.CaptureReader.{CaptureReader}}
+use Rattle.nntp_check.{specs.declared.{capture_reader.{Passage.{Passage}, Place.{Place}}, run_fault.RunFault.{RunFault}}, proofs.HoldingLemmas.{last_octets}}
+use Rattle.nntp_check.proofs.{HoldingLemmas.{captured-few}, ReadingLemmas.{flat_map-append}}
 use Rattle.nntp_check.specs.declared.capture_reader.Place.TheVariants as places
-use Rattle.nntp_check.specs.declared.run_fault.RunFault.{RunFault}
 use Rattle.nntp_check.specs.declared.run_fault.RunFault.TheVariants as faults
-use Rattle.nntp_check.proofs.HoldingLemmas.{last_octets, captured-few}
-use Rattle.nntp_check.proofs.ReadingLemmas.{flat_map-append}
 
 -- ---- streams are shorter than their capture
 

@@ -1,28 +1,15 @@
 -- How a reader of a capture goes on, octet by octet.
-use Rattle.std.proofs.Common.{◌≡◌, ◌≢◌, ◌⊎◌, ◌∙◌, ℕ, ◌+◌, ◌*◌, ◌-◌, ◌<◌, ◌≤◌, ◌^◌, true, List, [], ◌∷◌, ◌++◌, Some, length}
-use Rattle.std.proofs.Common.{take, drop, get_or, nat_lt, nat_le, inl, inr, refl, sym, ap, subst, append_assoc, arith}
-use Rattle.std.proofs.Common.{length-append, flat_map}
-use Rattle.std.proofs.lemmas.List.{append-nil, append_cancel_left}
-use Rattle.std.proofs.lemmas.Bool.{and_parts, true≢false}
-use Rattle.std.specs.List.{list_all}
-use Rattle.std.specs.Char.{is_ascii_digit}
-use Rattle.std.proofs.Math.Nat.{pow-le-pow_right}
-use Rattle.std.proofs.lemmas.Bool.Decides.{nat_tests}
-use Rattle.std.proofs.lemmas.Str.{digit_value_digit}
-use Rattle.std.proofs.lemmas.Int.Digits.{digits_value_push}
-use Rattle.std.proofs.lemmas.List.Folds.{list_all-append}
-use Rattle.nntp_wire.specs.Number.{number_value}
-use Rattle.nntp_wire.proofs.NumberLemmas.{one_digit_more, digit_range}
+use Rattle.std.proofs.Common.{◌≡◌, ◌≢◌, ◌⊎◌, ◌∙◌, ℕ, ◌+◌, ◌*◌, ◌-◌, ◌<◌, ◌≤◌, ◌^◌, true, List, [], ◌∷◌, ◌++◌, Some, length, take, drop, get_or, nat_lt, nat_le}
+use Rattle.std.proofs.{Common.{inl, inr, refl, sym, ap, subst, append_assoc, arith, length-append, flat_map}, lemmas.List.{append-nil, append_cancel_left}}
+use Rattle.std.proofs.lemmas.{List.Folds.{list_all-append}, Bool.{and_parts, true≢false, Decides.{nat_tests}}, Str.{digit_value_digit}}
+use Rattle.std.{proofs.{lemmas.Int.Digits.{digits_value_push}, Math.Nat.{pow-le-pow_right}}, specs.{List.{list_all}, Char.{is_ascii_digit}}}
+use Rattle.nntp_wire.{specs.Number.{number_value}, proofs.NumberLemmas.{one_digit_more, digit_range}}
 use Rattle.nntp_check.specs.Capture.{Part, Captured, word_of, spelled, count_of, continued, captured_by, has_session, AreCapture, BeginsNoPiece, IsBadPiece}
-use Rattle.nntp_check.specs.CaptureReading.{IsAt, IsInWord, IsInDigits, IsInOctets, IsInLine, IsOpen, HasCome, HasRead, HasBadFront, CantGoOn, GoesOn, captured, reached}
-use Rattle.nntp_check.specs.declared.source.Source.{Source}
-use Rattle.nntp_check.specs.declared.source.Source.TheVariants.{Client, Server, Spool, Session}
-use Rattle.nntp_check.specs.declared.capture_reader.CaptureReader.{CaptureReader}
-use Rattle.nntp_check.specs.declared.capture_reader.Place.{Place}
+use Rattle.nntp_check.specs.Inner.CaptureReading.{IsAt, IsInWord, IsInDigits, IsInOctets, IsInLine, IsOpen, HasCome, HasRead, HasBadFront, CantGoOn, GoesOn}
+use Rattle.nntp_check.specs.{Inner.CaptureReading.{captured, reached}, declared.source.Source.{Source, TheVariants.{Client, Server, Spool, Session}}}
+use Rattle.nntp_check.{specs.declared.capture_reader.{CaptureReader.{CaptureReader}, Place.{Place}}, proofs.CaptureLemmas.{one_word, spelled-append, counted}}
+use Rattle.nntp_check.proofs.{FirstPiece.{one_line}, HoldingLemmas.{captured-snoc, piece-begins, piece-grows}}
 use Rattle.nntp_check.specs.declared.capture_reader.Place.TheVariants as places
-use Rattle.nntp_check.proofs.CaptureLemmas.{one_word, spelled-append, counted}
-use Rattle.nntp_check.proofs.FirstPiece.{one_line}
-use Rattle.nntp_check.proofs.HoldingLemmas.{captured-snoc, piece-begins, piece-grows}
 
 -- ---- what came of a piece that has begun
 

@@ -1,25 +1,15 @@
 -- What a run writes, and reports on streams that are borrowed.
-use Rattle.std.proofs.Common.{◌≡◌, ◌<◌, ◌⊎◌, ◌∙◌, arith, inl, inr, refl, sym, ap, subst, get_or, ℕ, Bool, List, [], Option, None, Some, Result, Ok, Err, length, slice_get}
-use Rattle.std.specs.Prelude.{MatchOption, Vec, unwrap_or}
-use Rattle.std.specs.Option.{option_map}
-use Rattle.nntp_wire.specs.Held.{held as names_in}
-use Rattle.std.specs.Io.KnownBytes.{Appends, Consumes, Keeps}
-use Rattle.nntp_spool.specs.Writing.{Wrote, Writes}
-use Rattle.nntp_spool.proofs.Written.{Wrote-last}
-use Rattle.std.proofs.lemmas.List.{append-nil, length-map}
-use Rattle.std.proofs.lemmas.Option.{slice_get-get_or, slice_get-map, slice_get_within}
-use Rattle.nntp_wire.specs.declared.limit.Limit.{Limit}
-use Rattle.nntp_wire.specs.declared.marks.Marks.{Marks}
+use Rattle.std.proofs.Common.{◌≡◌, ◌<◌, ◌⊎◌, ◌∙◌, arith, inl, inr, refl, sym, ap, subst, get_or, ℕ, Bool, List, [], Option, None, Some, Result, Ok, Err, length}
+use Rattle.std.proofs.{Common.{slice_get}, lemmas.{List.{append-nil, length-map}, Option.{slice_get-get_or, slice_get-map, slice_get_within}}}
+use Rattle.std.specs.{Prelude.{MatchOption, Vec, unwrap_or}, Option.{option_map}, Io.KnownBytes.{Appends, Consumes, Keeps}}
+use Rattle.nntp_wire.specs.{Inner.Held.{held as names_in}, declared.{limit.Limit.{Limit}, marks.Marks.{Marks}}}
+use Rattle.nntp_spool.{specs.{Writing.{Wrote}, Inner.Writing.{Writes}}, proofs.Written.{Wrote-last}}
 use Rattle.nntp_several.specs.Sessions.{Named, Recorded, unnamed}
-use Rattle.nntp_verdict.specs.Judging.{IsVerdictOfAll, StopsAt}
-use Rattle.nntp_verdict.specs.Verdict.{JudgementOfAll, consistent_of_all, bad_of_all}
+use Rattle.nntp_verdict.specs.{Judging.{IsVerdictOfAll, StopsAt}, Verdict.{JudgementOfAll, consistent_of_all, bad_of_all}}
 use Rattle.nntp_pair.specs.declared.pair_error.PairError.{PairError}
+use Rattle.nntp_check.specs.{Inner.{Faults.{of_error}, Report.{IsWithin}}, Run.{Input, Output, ReadsCapture, ReadsFrontBut, IsCutShort, IsFaultOf}}
+use Rattle.nntp_check.specs.{Capture.{Captured, AreCapture}, Report.{names_of}, declared.run_fault.RunFault.{RunFault}}
 use Rattle.nntp_pair.specs.declared.pair_error.PairError.TheVariants as errors
-use Rattle.nntp_check.specs.Faults.{of_error}
-use Rattle.nntp_check.specs.Run.{Input, Output, ReadsCapture, ReadsFrontBut, IsCutShort, IsFaultOf}
-use Rattle.nntp_check.specs.Capture.{Captured, AreCapture}
-use Rattle.nntp_check.specs.Report.{IsWithin, names_of}
-use Rattle.nntp_check.specs.declared.run_fault.RunFault.{RunFault}
 use Rattle.nntp_check.specs.declared.run_fault.RunFault.TheVariants as faults
 
 pub wrote-all : (old new : Option (List ℕ)) (octets lent : List ℕ) → lent ≡ octets → Wrote old new lent [] → Appends old new octets
@@ -41,7 +31,8 @@ named-there names j name within is =
     ap (λ o. unwrap_or o []) (slice_get-map (λ n. n.items) names j ∙ ap (option_map (λ n. n.items)) (slice_get-get_or names j name within ∙ ap Some (sym is)))
 
 -- the bad answer of a verdict is of one of the sessions
-pub verdict-within : (limit : Limit) (marks : Marks) (sessions : List Named) (judgement : JudgementOfAll) → IsVerdictOfAll limit marks (unnamed sessions) judgement → IsWithin (length (names_of sessions)) judgement
+pub verdict-within : (limit : Limit) (marks : Marks) (sessions : List Named) (judgement : JudgementOfAll) → IsVerdictOfAll limit marks (unnamed sessions) judgement
+    → IsWithin (length (names_of sessions)) judgement
 verdict-within limit marks sessions (consistent_of_all L answers) verdict = tt
 verdict-within limit marks sessions (bad_of_all j k class command reply) verdict = by (slice_get (unnamed sessions) j) refl verdict.place
   where

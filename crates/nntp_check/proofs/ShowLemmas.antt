@@ -1,28 +1,14 @@
 -- How a report goes on, exchange by exchange and session by session.
-use Rattle.std.proofs.Common.{◌≡◌, ◌∙◌, sym, ap, refl, subst, ℕ, ◌+◌, ◌^◌, ◌<◌, ◌≤◌, ◌&&◌, Bool, true, false, List, [], ◌∷◌, ◌++◌, length, arith, append_assoc, length-append}
-use Rattle.std.specs.List.{flat_map}
-use Rattle.std.proofs.lemmas.Bool.{true≢false}
-use Rattle.std.proofs.lemmas.List.{append-nil, flat_map_more}
-use Rattle.std.proofs.lemmas.List.Folds.{list_all-append}
-use Rattle.nntp_pair.specs.Pairing.{Paired, Unpaired, IsNext, Ends, Ending, bad}
-use Rattle.nntp_pair.specs.Feeding.{Fed, IsFed, IsTaken, IsUntaken, left_of}
-use Rattle.nntp_pair.specs.Sides.{given}
-use Rattle.nntp_pair.specs.declared.class.PairClass.{PairClass}
-use Rattle.nntp_pair.specs.declared.pair_error.PairError.{PairError}
-use Rattle.nntp_pair.specs.declared.pair_error.PairError.TheVariants as errors
-use Rattle.nntp_pair.specs.declared.side.Side.{Side}
-use Rattle.nntp_pair.specs.declared.side.Side.TheVariants.{Client, Server}
-use Rattle.nntp_pair.proofs.FedLaws.{fed-paired}
-use Rattle.nntp_pair.specs.Classes.{class_of}
-use Rattle.nntp_pair.specs.declared.class.Class.{Class}
-use Rattle.nntp_printing.specs.BadAnswer.{bad_line}
-use Rattle.nntp_printing.specs.Title.{title_line}
-use Rattle.nntp_several.specs.Sessions.{Named, Recorded}
-use Rattle.nntp_several.specs.Told.{with_more}
-use Rattle.nntp_check.specs.Capture.{Captured, IsAlone, sessions_of}
-use Rattle.nntp_check.specs.Run.{ShowReports}
+use Rattle.std.proofs.Common.{◌≡◌, ◌∙◌, sym, ap, refl, subst, ℕ, ◌+◌, ◌^◌, ◌<◌, ◌≤◌, ◌&&◌, Bool, true, false, List, [], ◌∷◌, ◌++◌, length, arith, append_assoc}
+use Rattle.std.{proofs.{Common.{length-append}, lemmas.{Bool.{true≢false}, List.{append-nil, flat_map_more, Folds.{list_all-append}}}}, specs.List.{flat_map}}
+use Rattle.nntp_pair.specs.{Pairing.{Paired, Unpaired, IsNext, Ends, Ending, bad}, Inner.{Feeding.{Fed, IsFed, IsTaken, IsUntaken, left_of}, Sides.{given}}}
+use Rattle.nntp_pair.specs.declared.{class.{PairClass.{PairClass}, Class.{Class}}, pair_error.PairError.{PairError}, side.Side.{Side, TheVariants.{Client}}}
+use Rattle.nntp_pair.{specs.{declared.side.Side.TheVariants.{Server}, Classes.{class_of}}, proofs.FedLaws.{fed-paired}}
+use Rattle.nntp_printing.specs.{BadAnswer.{bad_line}, Title.{title_line}}
+use Rattle.nntp_several.specs.{Sessions.{Named, Recorded}, Told.{with_more}}
+use Rattle.nntp_check.specs.{Capture.{Captured, sessions_of}, Inner.{Capture.{IsAlone}, Showing.{AreReported, IsShown, IsShownWhole}}, Run.{ShowReports}}
 use Rattle.nntp_check.specs.Show.{ShownSession, AreShown, IsShownAs, are_answered, exchange_text, ending_line, is_end, session_text, shown_report}
-use Rattle.nntp_check.specs.Showing.{AreReported, IsShown, IsShownWhole}
+use Rattle.nntp_pair.specs.declared.pair_error.PairError.TheVariants as errors
 
 -- ---- a session
 
@@ -126,7 +112,8 @@ shown-snoc (n ∷ sessions) [] named s are is = absurd are
 shown-snoc (n ∷ sessions) (x ∷ shown) named s are is = (are.0, shown-snoc sessions shown named s are.1 is)
 
 -- a session that is shown to its end stands behind those that have ended
-pub session-ended : (many : ℕ) (before : List ℕ) (were : Bool) (sessions : List Named) (named : Named) (text : List ℕ) (answered : Bool) → AreReported many before were sessions → IsShownWhole named text answered
+pub session-ended : (many : ℕ) (before : List ℕ) (were : Bool) (sessions : List Named) (named : Named) (text : List ℕ) (answered : Bool) → AreReported many before were sessions
+    → IsShownWhole named text answered
     → AreReported (many + 1) ((before ++ title_line (many + 1) named.name) ++ text) (were && answered) (sessions ++ named ∷ [])
 session-ended many before were sessions named text answered h last =
     let s = last.shown in

@@ -1,13 +1,7 @@
 -- How the process ends.
-use Rattle.std.specs.Prelude.{◌≡◌, ◌⊎◌, ⊤, ℕ, Bool, true, false, Result, Ok, Err}
-use Rattle.std.specs.Process as process
-use Rattle.std.specs.declared.process.ExitCode.{ExitCode}
-use Rattle.clap.specs.Words.{kind_of}
-use Rattle.clap.specs.declared.error.kind.ErrorKind.{ErrorKind}
-use Rattle.clap.specs.declared.error.kind.ErrorKind.TheVariants.{DisplayHelp, DisplayVersion, OutOfMemory}
-use Rattle.nntp_check.specs.declared.command_line.Failure.{Failure}
-use Rattle.nntp_check.specs.declared.run_fault.RunFault.{RunFault}
-use Rattle.nntp_check.specs.declared.command_line.Failure.TheVariants.{Words, ExtraWord, NotText, Help, Run}
+use Rattle.std.specs.Prelude.{◌≡◌, ◌⊎◌, ℕ, Bool, true, false, Result, Ok, Err}
+use Rattle.clap.specs.{Words.{kind_of}, declared.error.kind.ErrorKind.{ErrorKind, TheVariants.{DisplayHelp, DisplayVersion, OutOfMemory}}}
+use Rattle.nntp_check.specs.declared.{command_line.Failure.{Failure, TheVariants.{Words, ExtraWord, NotText, Help, Run}}, run_fault.RunFault.{RunFault}}
 
 abbrev pub words_status : ErrorKind → ℕ
 words_status DisplayHelp = 0
@@ -25,25 +19,12 @@ exit_status (Err NotText) = 2
 exit_status (Err Help) = 3
 exit_status (Err (Run _)) = 3
 
--- the status that the process ends with
-abbrev pub code_status : ExitCode → ℕ
-code_status code = process.exit_status code
-
 -- the statuses that an outcome may end with: its own; or 3 instead of 0, where it is help that couldn't be written
 abbrev pub MayEndWith : Result Bool Failure → ℕ → Type 0
 MayEndWith (Ok answer) status = status ≡ exit_status (Ok answer)
 MayEndWith (Err failure) status = (status ≡ exit_status (Err failure)) ⊎ ((exit_status (Err failure) ≡ 0) × (status ≡ 3))
 
--- an outcome stays as it is; or it is help that couldn't be written
-abbrev pub StaysOrIsUntold : Result Bool Failure → Result Bool Failure → Type 0
-StaysOrIsUntold (Ok answer) told = told ≡ Ok answer
-StaysOrIsUntold (Err failure) told = (told ≡ Err failure) ⊎ ((exit_status (Err failure) ≡ 0) × (told ≡ Err Help))
-
 -- P of the fault of a run, or Q where there was no run
 abbrev pub MatchFailure : (RunFault → Type 0) → Type 0 → Failure → Type 0
 MatchFailure P Q (Run fault) = P fault
 MatchFailure P Q failure = Q
-
--- no run has failed: there was none
-abbrev pub IsNoRun : Failure → Type 0
-IsNoRun failure = MatchFailure (λ fault. ⊥) ⊤ failure

@@ -1,10 +1,6 @@
 pub mod Capture
-pub mod CaptureReading
-pub mod Sinks
-pub mod Collecting
 pub mod Report
 pub mod Show
-pub mod Showing
-pub mod Faults
 pub mod Run
 pub mod CommandLine
+pub mod Inner

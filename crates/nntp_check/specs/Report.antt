@@ -1,12 +1,8 @@
 -- What is printed: of a verdict, and of what `verify` answers.
-use Rattle.std.specs.Prelude.{ℕ, ◌+◌, ◌<◌, ⊤, Bool, true, false, if◌then◌else◌, List, [], ◌++◌, length, map, sum, codes, decimal, slice_get, unwrap_or}
-use Rattle.std.specs.FinMap.{len}
-use Rattle.nntp_spool.specs.Counts.{numbers_in}
-use Rattle.nntp_spool.specs.Text.{spool_text}
-use Rattle.nntp_several.specs.Sessions.{Named}
-use Rattle.nntp_several.specs.Verifying.{VerifiedOfAll, PermitsAll, RefusesOne}
-use Rattle.nntp_printing.specs.BadAnswer.{bad_lines}
-use Rattle.nntp_printing.specs.Title.{title_line}
+use Rattle.std.specs.{Prelude.{ℕ, ◌+◌, Bool, true, false, if◌then◌else◌, List, [], ◌++◌, length, map, sum, codes, decimal, slice_get, unwrap_or}, FinMap.{len}}
+use Rattle.nntp_spool.specs.{Counts.{numbers_in}, Text.{spool_text}}
+use Rattle.nntp_several.specs.{Sessions.{Named}, Verifying.{VerifiedOfAll, PermitsAll, RefusesOne}}
+use Rattle.nntp_printing.specs.{BadAnswer.{bad_lines}, Title.{title_line}}
 use Rattle.nntp_verdict.specs.Verdict.{JudgementOfAll, consistent_of_all, bad_of_all}
 
 -- what is told of several sessions alone
@@ -34,16 +30,6 @@ report_of is_several names (consistent_of_all L answers) =
 report_of is_several names (bad_of_all j k class command reply) =
     if_several is_several (title_of names j) ++ bad_lines k class command reply
 
--- what of it stands behind its first lines: the spool's text
-abbrev pub text_behind : JudgementOfAll → List ℕ
-text_behind (consistent_of_all L answers) = spool_text L
-text_behind (bad_of_all j k class command reply) = []
-
--- the bad answer is one of so many sessions
-abbrev pub IsWithin : ℕ → JudgementOfAll → Type 0
-IsWithin count (consistent_of_all L answers) = ⊤
-IsWithin count (bad_of_all j k class command reply) = j < count
-
 -- the report on a given spool
 abbrev pub verified_report : Bool → List (List ℕ) → VerifiedOfAll → List ℕ
 verified_report is_several names (PermitsAll answers) = codes "permits " ++ answers_text is_several answers ++ codes "\n"
@@ -53,8 +39,3 @@ verified_report is_several names (RefusesOne j k) = if_several is_several (title
 abbrev pub is_permitted : VerifiedOfAll → Bool
 is_permitted (PermitsAll answers) = true
 is_permitted (RefusesOne j k) = false
-
--- the answer that it refuses is one of so many sessions
-abbrev pub IsVerifiedWithin : ℕ → VerifiedOfAll → Type 0
-IsVerifiedWithin count (PermitsAll answers) = ⊤
-IsVerifiedWithin count (RefusesOne j k) = j < count

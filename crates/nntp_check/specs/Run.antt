@@ -1,28 +1,16 @@
 -- What a run reads and writes, at any reader and writer: known octets are those of the traits.
 use Rattle.std.specs.Prelude.{◌≡◌, ◌⊎◌, ℕ, ◌+◌, ◌≤◌, ◌<◌, ◌^◌, Bool, true, false, List, [], ◌++◌, length, take, Option, Result, Ok, Err}
 use Rattle.std.specs.Io.KnownBytes.{Appends, Consumes, IsAtEnd}
-use Rattle.nntp_wire.specs.declared.limit.Limit.{Limit}
-use Rattle.nntp_wire.specs.declared.marks.Marks.{Marks}
-use Rattle.nntp_spool.specs.Faults.{IsFirstFault}
+use Rattle.nntp_wire.specs.declared.{limit.Limit.{Limit}, marks.Marks.{Marks}}
+use Rattle.nntp_spool.specs.{Faults.{IsFirstFault}, Limited.{LimitedSpool, IsWithinLimit}, Text.{spool_text}, Watched.{inner_of}, Writing.{Wrote}}
+use Rattle.nntp_spool.specs.declared.{text.read_fault.ReadFault.{ReadFault}, watched.Watched.{Watched}}
 use Rattle.nntp_article.specs.Session.Limit.{profile_of}
-use Rattle.nntp_spool.specs.Limited.{LimitedSpool, IsWithinLimit}
-use Rattle.nntp_spool.specs.Text.{spool_text}
-use Rattle.nntp_spool.specs.Watched.{inner_of}
-use Rattle.nntp_spool.specs.Writing.{Wrote}
-use Rattle.nntp_spool.specs.declared.text.read_fault.ReadFault.{ReadFault}
-use Rattle.nntp_spool.specs.declared.watched.Watched.{Watched}
-use Rattle.nntp_several.specs.Sessions.{unnamed}
-use Rattle.nntp_several.specs.Verifying.{VerifiedOfAll, IsVerifiedOfAll}
+use Rattle.nntp_several.specs.{Sessions.{unnamed}, Verifying.{VerifiedOfAll, IsVerifiedOfAll}}
 use Rattle.nntp_explain.specs.Explaining.{IsExplanation, IsExplanationOfAll}
-use Rattle.nntp_check.specs.CommandLine.{MatchFailure, MayEndWith}
-use Rattle.nntp_check.specs.Capture.{Captured, Held, sessions_of, AreCapture, BeginsCapture, IsBadPieceForGood, IsBadPiece}
-use Rattle.nntp_verdict.specs.Judging.{IsVerdictOfAll}
-use Rattle.nntp_check.specs.Report.{names_of, report_of, verified_report, is_permitted}
-use Rattle.nntp_check.specs.Show.{ShownSession, AreShown, shown_report, are_answered}
-use Rattle.nntp_verdict.specs.Verdict.{JudgementOfAll, is_consistent_of_all}
-use Rattle.nntp_check.specs.declared.command_line.Failure.{Failure}
-use Rattle.nntp_check.specs.declared.command_line.Task.{Task}
-use Rattle.nntp_check.specs.declared.run_fault.RunFault.{RunFault}
+use Rattle.nntp_check.specs.{CommandLine.{MatchFailure, MayEndWith}, Capture.{Captured, Held, sessions_of, AreCapture, BeginsCapture, IsBadPieceForGood}}
+use Rattle.nntp_check.specs.{Capture.{IsBadPiece}, Report.{names_of, report_of, verified_report, is_permitted}, Show.{ShownSession, AreShown, shown_report}}
+use Rattle.nntp_check.specs.{Show.{are_answered}, declared.{command_line.{Failure.{Failure}, Task.{Task}}, run_fault.RunFault.{RunFault}}}
+use Rattle.nntp_verdict.specs.{Judging.{IsVerdictOfAll}, Verdict.{JudgementOfAll, is_consistent_of_all}}
 use Rattle.nntp_check.specs.declared.command_line.Task.TheVariants as tasks
 use Rattle.nntp_check.specs.declared.run_fault.RunFault.TheVariants as faults
 
@@ -195,7 +183,8 @@ IsTaskFault (tasks.Explain limit marks) = IsExplainFault limit marks
 -- how the program's words are done: the report of a task is written, or a task has a fault; or nothing is read or written. No task reads more than 2^30 octets
 abbrev pub EndsRun : {R W : Type 0} → (R → Option (List ℕ)) → (W → Option (List ℕ)) → Watched R → Watched R → Watched W → Watched W → Result Bool Failure → Type 0
 EndsRun remaining contents before after empty written (Ok answer) = (task : Task) × IsReported (TaskReports task) (read_by remaining before after (2 ^ 30)) (written_by contents empty written) answer
-EndsRun remaining contents before after empty written (Err failure) = MatchFailure (λ fault. (task : Task) × IsTaskFault task (read_by remaining before after (2 ^ 30)) (written_by contents empty written) fault) ((after ≡ before) × (written ≡ empty)) failure
+EndsRun remaining contents before after empty written (Err failure) = MatchFailure (λ fault. (task : Task)
+    × IsTaskFault task (read_by remaining before after (2 ^ 30)) (written_by contents empty written) fault) ((after ≡ before) × (written ≡ empty)) failure
 
 -- they are done so, and the status is that of how they are done
 abbrev pub EndsProgram : {R W : Type 0} → (R → Option (List ℕ)) → (W → Option (List ℕ)) → Watched R → Watched R → Watched W → Watched W → ℕ → Type 0

@@ -2,16 +2,11 @@
 use Rattle.std.specs.Prelude.{◌≡◌, ℕ, ◌+◌, ⊤, Bool, true, false, ◌==◌, ◌||◌, if◌then◌else◌, List, [], ◌∷◌, ◌++◌, length, Option, None, Some, codes, decimal}
 use Rattle.std.specs.List.{flat_map, list_all, list_any}
 use Rattle.nntp_wire.specs.Answer.{Response, group_is, numbers_are, sends, active_are, plain}
-use Rattle.nntp_pair.specs.Pairing.{Paired, Ending, IsPairing, end, bad}
+use Rattle.nntp_pair.specs.{Pairing.{Paired, Ending, IsPairing, end, bad}, Classes.{class_of}}
 use Rattle.nntp_several.specs.Sessions.{Named}
-use Rattle.nntp_article.specs.Article.Parts.{Line, is_empty, is_head, head_part}
-use Rattle.nntp_article.specs.Article.Control.{ControlValue, cancel, new_group, rm_group, other, controls_of}
-use Rattle.nntp_article.specs.Article.Required.{missing_of}
-use Rattle.nntp_article.specs.declared.article.missing_headers.Missing.{Missing}
-use Rattle.nntp_pair.specs.Classes.{class_of}
-use Rattle.nntp_printing.specs.BadAnswer.{bad_line}
-use Rattle.nntp_printing.specs.Printing.{escaped}
-use Rattle.nntp_printing.specs.Title.{title_line}
+use Rattle.nntp_article.specs.Article.{Parts.{Line, is_empty, is_head, head_part}, Control.{ControlValue, cancel, new_group, rm_group, other, controls_of}}
+use Rattle.nntp_article.specs.{Article.Required.{missing_of}, declared.article.missing_headers.Missing.{Missing}}
+use Rattle.nntp_printing.specs.{BadAnswer.{bad_line}, Printing.{escaped}, Title.{title_line}}
 use Rattle.nntp_check.specs.Report.{if_several}
 
 -- what is answered: the greeting, or the line of the client

@@ -4,8 +4,8 @@ ghost use Rattle.nntp_wire.specs.declared.limit.Limit.{Limit};
 ghost use Rattle.nntp_wire.specs.declared.marks.Marks.{Marks};
 ghost use Rattle.nntp_pair.specs.declared.pair_error.PairError.TheVariants.{Memory};
 ghost use Rattle.nntp_check.specs.Capture.{Held, nothing, sessions_of};
-ghost use Rattle.nntp_check.specs.Collecting.{Judges};
-ghost use Rattle.nntp_wire.specs.Held.{held as names_in};
+ghost use Rattle.nntp_check.specs.Inner.Collecting.{Judges};
+ghost use Rattle.nntp_wire.specs.Inner.Held.{held as names_in};
 ghost use Rattle.nntp_check.specs.Report.{names_of};
 ghost use Rattle.nntp_several.specs.Sessions.{unnamed};
 ghost use Rattle.nntp_verdict.specs.Judging.{IsVerdictOfAll};
@@ -55,7 +55,8 @@ impl<A: Allocator + Copy> CaptureChecker<A> {
     pub(crate) fn finish(self) -> Result<JudgedCapture<A>, PairError>
         requires { (limit : Limit) × (marks : Marks) × (held : Held) × Judges limit marks self held }
         ensures ok { IfOk result (λ judged. (limit : Limit) (marks : Marks) (held : Held) → Judges limit marks self held
-            → IsVerdictOfAll limit marks (unnamed (sessions_of held)) (sessions_verdict_shown judged.verdict) × (names_in judged.names.items ≡ names_of (sessions_of held))) }
+            → IsVerdictOfAll limit marks (unnamed (sessions_of held)) (sessions_verdict_shown judged.verdict)
+            × (names_in judged.names.items ≡ names_of (sessions_of held))) }
         ensures err { IfErr result (λ error. error ≡ Memory) }
     {
         let CaptureChecker {

@@ -1,7 +1,8 @@
 //! Reads a capture as it comes, however its reads cut it.
 ghost use Rattle.std.specs.Prelude.{◌≡◌, ◌<◌, ◌+◌, ◌^◌, ◌++◌, [], ℕ, List, length, IfOk, IfErr, MatchOption};
 ghost use Rattle.nntp_check.specs.Capture.{Held, Part, AreCapture, Captured, IsBadPiece, has_session, nothing, with_octets};
-ghost use Rattle.nntp_check.specs.CaptureReading.{IsAt, IsInLine, IsOpen, HasCome, HasRead, HasRoomAt, HasRoomFor, CantGoOn, GoesOn, Reads, IsBadBehind, captured, passed, reached};
+ghost use Rattle.nntp_check.specs.Inner.CaptureReading.{IsAt, IsInLine, IsOpen, HasCome, HasRead, HasRoomAt, HasRoomFor, CantGoOn, GoesOn, Reads, IsBadBehind};
+ghost use Rattle.nntp_check.specs.Inner.CaptureReading.{captured, passed, reached};
 ghost use Rattle.nntp_check.specs.declared.capture_reader.Passage.TheVariants.{From};
 ghost use Rattle.nntp_check.specs.declared.capture_reader.Place.TheVariants.{Start, LetterS, LettersSe, Word, Digits, Octets};
 
@@ -129,7 +130,8 @@ impl CaptureReader {
     fn passage_to(&mut self, next: Place) -> Passage
         ensures piece { self.new.piece ≡ self.old.piece }
         ensures noted { (held : Held) (octets : List ℕ) → self.old.has_session ≡ has_session (captured self.old held)
-            → (captured self.new (passed result octets held) ≡ reached next (captured self.old held)) × (self.new.has_session ≡ has_session (reached next (captured self.old held))) }
+            → (captured self.new (passed result octets held) ≡ reached next (captured self.old held))
+            × (self.new.has_session ≡ has_session (reached next (captured self.old held))) }
     {
         let Place::Octets {
             source: Source::Session,
@@ -201,7 +203,8 @@ impl CaptureReader {
 
     /// Where no more octets come: whether a piece began a session. A piece that has begun and isn't whole is bad.
     pub(crate) fn finish(&self) -> Result<bool, BadPiece>
-        ensures whole { IfOk result (λ is_several. (came : List ℕ) (held : Held) → HasRead self.now came held → AreCapture came (record { held = held; is_several = is_several })) }
+        ensures whole { IfOk result (λ is_several. (came : List ℕ) (held : Held) → HasRead self.now came held
+            → AreCapture came (record { held = held; is_several = is_several })) }
         ensures bad { IfErr result (λ bad. (came : List ℕ) (held : Held) → HasRead self.now came held → IsBadPiece came bad.piece) }
     {
         match self.place {

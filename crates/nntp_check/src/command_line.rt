@@ -51,11 +51,12 @@ refused, 3 after a fault, which is told on standard error.";
 
 const EXPLAIN_HELP: &str = "\
 Reads a capture from standard input, to its end, and passes over its spool pieces.
-Writes to standard output each bad answer with its class, the command that it answers, and the reply,
-and where its session stands there: the selected group, the current article, and the answers that made
-them so. A bad answer is passed over, so that what follows is judged too. Several sessions are judged
-together, and the bad answers of each stand behind its number and its name. The last line tells how many
-answers there are, how many of them are bad, and how many commands have none.
+Writes to standard output each bad answer with its class, the command that it answers, and the reply;
+where its session stands there: the selected group, the current article, and the answers that made them
+so; and why it is bad: what it breaks, or which accepted answers it contradicts, and about what. A bad
+answer is passed over, so that what follows is judged too. Several sessions are judged together, and the
+bad answers of each stand behind its number and its name. The last line tells how many answers there
+are, how many of them are bad, and how many commands have none.
 Exit status: 0 if no answer is bad, 1 if some are, 2 if the command line is refused, 3 after a fault,
 which is told on standard error.";
 
@@ -154,7 +155,7 @@ fn show<'a>(alloc: Global) -> Command<'a> {
 fn explain<'a>(alloc: Global) -> Result<Command<'a>, AllocError> {
     Command::new(alloc, "explain")
         .about(
-            "Tell all bad answers of the sessions in the capture on standard input, and where its session stands at each",
+            "Tell all bad answers of the sessions in the capture on standard input, and why each is bad",
         )
         .override_usage("nntpcheck explain [OPTIONS] < CAPTURE")
         .after_help(EXPLAIN_HELP)

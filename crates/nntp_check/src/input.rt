@@ -1,10 +1,10 @@
 //! What a run reads: a capture, to its end.
 ghost use Rattle.std.specs.Prelude.{◌≡◌, ◌↔◌, ◌<◌, [], ℕ, List, length, false, true, IfOk, OnOk, IfErr, IsErrOf};
 ghost use Rattle.nntp_pair.specs.declared.pair_error.PairError.TheVariants.{Memory};
-ghost use Rattle.nntp_spool.specs.Watched.{has_failed_of};
+ghost use Rattle.nntp_spool.specs.Inner.Watched.{has_failed_of};
 ghost use Rattle.nntp_check.specs.Capture.{Held, nothing};
 ghost use Rattle.nntp_check.specs.Run.{read_by, ReadsCapture, IsInputFault};
-ghost use Rattle.nntp_check.specs.Sinks.{FitBehind, HasRoom, PassesOn, StopsBehind, Takes};
+ghost use Rattle.nntp_check.specs.Inner.Sinks.{FitBehind, HasRoom, PassesOn, StopsBehind, Takes};
 
 use crate::capture_reader::{CaptureReader, Passage};
 use crate::run_fault::RunFault;
@@ -25,7 +25,8 @@ pub(crate) fn read_capture<R: Read, S: Sink>(
 ) -> Result<bool, RunFault>
     requires { (by : S.By) × S.stands by sink.old nothing }
     ensures ok { IfOk result (λ is_several. (by : S.By) → S.stands by sink.old nothing
-        → (held : Held) × ReadsCapture (read_by R.remaining input.old input.new most) (record { held = held; is_several = is_several }) × S.stands by sink.new held) }
+        → (held : Held) × ReadsCapture (read_by R.remaining input.old input.new most) (record { held = held; is_several = is_several })
+        × S.stands by sink.new held) }
     ensures err { IfErr result (IsInputFault (read_by R.remaining input.old input.new most)) }
     ensures failed { has_failed_of input.old ≡ false → (IsErrOf result RunFault.Read ↔ (has_failed_of input.new ≡ true)) }
 {
@@ -69,7 +70,8 @@ fn pass_front<'a, S: Sink>(
 ) -> Result<&'a [u8], RunFault>
     requires some { 0 < length octets.now }
     requires room { (by : S.By) × FitBehind reader.old (S.stands by sink.old) octets.now }
-    ensures ok { IfOk result (λ rest. ((by : S.By) → PassesOn reader.old reader.new (S.stands by sink.old) (S.stands by sink.new) octets.now rest.now) × (length rest.now < length octets.now)) }
+    ensures ok { IfOk result (λ rest. ((by : S.By) → PassesOn reader.old reader.new (S.stands by sink.old) (S.stands by sink.new) octets.now rest.now)
+        × (length rest.now < length octets.now)) }
     ensures err { IfErr result (λ fault. (by : S.By) → StopsBehind reader.old (S.stands by sink.old) octets.now fault) }
 {
     let taken = reader.take(octets)?;

@@ -4,7 +4,8 @@ ghost use Rattle.nntp_check.specs.Capture.{AreCapture, BeginsCapture, Captured, 
 ghost use Rattle.nntp_check.specs.Report.{report_of};
 ghost use Rattle.nntp_check.specs.Run.{CheckReports};
 ghost use Rattle.nntp_verdict.specs.Judging.{IsVerdict};
-ghost use Rattle.nntp_verdict.specs.Verdict.{Judgement, is_consistent, verdict_of_one};
+ghost use Rattle.nntp_verdict.specs.Verdict.{Judgement};
+ghost use Rattle.nntp_verdict.specs.Inner.Verdict.{is_consistent, verdict_of_one};
 ghost use Rattle.nntp_wire.specs.declared.limit.Limit.{Limit};
 ghost use Rattle.nntp_wire.specs.declared.marks.Marks.{Marks};
 
@@ -45,14 +46,16 @@ pub fn begun_or_bad()
 
 /// A piece that is bad whatever follows stays bad, and the octets begin no capture.
 pub fn bad_piece_for_good()
-    ensures { (octets : List ℕ) (number : ℕ) → IsBadPieceForGood octets number → ((more : List ℕ) → IsBadPieceForGood (octets ++ more) number) × (¬ (BeginsCapture octets)) }
+    ensures { (octets : List ℕ) (number : ℕ) → IsBadPieceForGood octets number → ((more : List ℕ) → IsBadPieceForGood (octets ++ more) number)
+        × (¬ (BeginsCapture octets)) }
 {}
 
 /// Where no piece of a capture begins a session, there is one, and the report of `check` is that of the verdict on its two
 /// streams.
 pub fn one_session_is_reported_alone()
     ensures alone { (octets : List ℕ) (c : Captured) → AreCapture octets c → c.is_several ≡ false → c.held.ended ≡ [] }
-    ensures report { (limit : Limit) (marks : Marks) (c : Captured) (verdict : Judgement) (text : List ℕ) (answer : Bool) → c.is_several ≡ false → c.held.ended ≡ []
+    ensures report { (limit : Limit) (marks : Marks) (c : Captured) (verdict : Judgement) (text : List ℕ) (answer : Bool) → c.is_several ≡ false → c.held.ended
+        ≡ []
         → IsVerdict limit marks c.held.last.session.client c.held.last.session.server verdict
         → CheckReports limit marks c text answer ↔ ((text ≡ report_of false [] (verdict_of_one verdict)) × (answer ≡ is_consistent verdict)) }
 {}

@@ -1,6 +1,7 @@
 //! The program: its words are read, what they ask for is done, and then it ends.
 ghost use Rattle.std.specs.Prelude.{IfErr};
-ghost use Rattle.nntp_check.specs.CommandLine.{IsNoRun, MayEndWith, StaysOrIsUntold, code_status};
+ghost use Rattle.nntp_check.specs.Inner.CommandLine.{IsNoRun, StaysOrIsUntold, code_status};
+ghost use Rattle.nntp_check.specs.CommandLine.{MayEndWith};
 ghost use Rattle.nntp_check.specs.Run.{EndsRun, EndsProgram};
 
 use crate::command_line::{Failure, job, refusal, status};

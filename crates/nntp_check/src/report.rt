@@ -2,11 +2,13 @@
 ghost use Rattle.std.specs.Prelude.{◌≡◌, ◌+◌, ◌<◌, ◌^◌, ◌++◌, ◌||◌, is_err, IfOk, OnOk, codes, decimal, length, sum};
 ghost use Rattle.std.specs.Option.{option_copied, option_map};
 ghost use Rattle.nntp_printing.specs.Title.{title_line};
-ghost use Rattle.nntp_several.specs.VerifyingView.{verified_shown};
-ghost use Rattle.nntp_spool.specs.Watched.{inner_of, has_failed_of};
-ghost use Rattle.nntp_spool.specs.Writing.{Writes};
-ghost use Rattle.nntp_wire.specs.Held.{held as names_in};
-ghost use Rattle.nntp_check.specs.Report.{IsVerifiedWithin, IsWithin, answers_text, if_several, names_of, report_of, text_behind, verified_report};
+ghost use Rattle.nntp_several.specs.Inner.VerifyingView.{verified_shown};
+ghost use Rattle.nntp_spool.specs.Watched.{inner_of};
+ghost use Rattle.nntp_spool.specs.Inner.Watched.{has_failed_of};
+ghost use Rattle.nntp_spool.specs.Inner.Writing.{Writes};
+ghost use Rattle.nntp_wire.specs.Inner.Held.{held as names_in};
+ghost use Rattle.nntp_check.specs.Inner.Report.{IsVerifiedWithin, IsWithin, text_behind};
+ghost use Rattle.nntp_check.specs.Report.{answers_text, if_several, names_of, report_of, verified_report};
 ghost use Rattle.nntp_verdict.specs.Verdict.{sessions_verdict_shown};
 
 use nntp_printing::{put_bad_answer, put_number, put_sum, put_title};
@@ -122,7 +124,8 @@ fn put_consistent<A: Allocator + Copy>(
     answers: &[u64],
     counts: Counts,
 ) -> Result<(), AllocError>
-    ensures { OnOk result (text.new.items ≡ text.old.items ++ codes "consistent " ++ answers_text is_several answers.now ++ codes " groups=" ++ decimal counts.groups
+    ensures { OnOk result (text.new.items ≡ text.old.items ++ codes "consistent " ++ answers_text is_several answers.now ++ codes " groups="
+        ++ decimal counts.groups
         ++ codes " numbers=" ++ decimal counts.numbers ++ codes " articles=" ++ decimal counts.articles ++ codes "\n") }
 {
     text.extend_from_slice(b"consistent ")?;

@@ -1,11 +1,14 @@
 //! Runs: what one reads is a capture, and what it writes is the report on it.
 ghost use Rattle.std.specs.Prelude.{◌≡◌, ◌≢◌, ◌↔◌, ◌⊎◌, ◌||◌, ◌++◌, false, true, ℕ, List, [], is_err, length, IfOk, IfErr, IsErrOf};
 ghost use Rattle.std.specs.Io.KnownBytes.{Keeps};
-ghost use Rattle.nntp_several.specs.VerifyingView.{verified_shown};
-ghost use Rattle.nntp_spool.specs.Watched.{inner_of, has_failed_of};
-ghost use Rattle.nntp_spool.specs.Writing.{Wrote, Writes};
-ghost use Rattle.nntp_check.specs.Collecting.{held_in, judged_report};
-ghost use Rattle.nntp_check.specs.Report.{IsWithin, is_permitted, text_behind};
+ghost use Rattle.nntp_several.specs.Inner.VerifyingView.{verified_shown};
+ghost use Rattle.nntp_spool.specs.Watched.{inner_of};
+ghost use Rattle.nntp_spool.specs.Inner.Watched.{has_failed_of};
+ghost use Rattle.nntp_spool.specs.Writing.{Wrote};
+ghost use Rattle.nntp_spool.specs.Inner.Writing.{Writes};
+ghost use Rattle.nntp_check.specs.Inner.Collecting.{held_in, judged_report};
+ghost use Rattle.nntp_check.specs.Inner.Report.{IsWithin, text_behind};
+ghost use Rattle.nntp_check.specs.Report.{is_permitted};
 ghost use Rattle.nntp_verdict.specs.Verdict.{sessions_verdict_shown, is_consistent_of_all};
 ghost use Rattle.nntp_check.specs.Run.{Input, Output, ReadsCapture, read_by, written_by, CheckReports, VerifyReports, ShowReports, ExplainReports};
 ghost use Rattle.nntp_check.specs.Run.{TaskReports, IsReported, IsCheckFault, IsVerifyFault, IsShowFault, IsExplainFault, IsTaskFault};
@@ -53,7 +56,8 @@ fn print_report<A: Allocator, W: Write>(
     verdict: &SessionsVerdict<A>,
     output: &mut Watched<W>,
 ) -> Result<(), WriteFault>
-    ensures text { Writes result (W.contents (inner_of output.old)) (W.contents (inner_of output.new)) (first.now ++ text_behind (sessions_verdict_shown verdict.now)) }
+    ensures text { Writes result (W.contents (inner_of output.old)) (W.contents (inner_of output.new)) (first.now
+        ++ text_behind (sessions_verdict_shown verdict.now)) }
     ensures failed { has_failed_of output.new ≡ (has_failed_of output.old || is_err result) }
 {
     put(output, first)?;
@@ -82,7 +86,8 @@ fn report_verdict<A: Allocator + Copy, W: Write>(
     ensures ok { IfOk result (λ answer. (answer ≡ is_consistent_of_all (sessions_verdict_shown judged.now.verdict))
         × Wrote (W.contents (inner_of output.old)) (W.contents (inner_of output.new)) (judged_report is_several judged.now) []) }
     ensures err { IfErr result (λ fault. (fault ≡ RunFault.Memory)
-        ⊎ ((fault ≡ RunFault.Write) × ((left : List ℕ) × Wrote (W.contents (inner_of output.old)) (W.contents (inner_of output.new)) (judged_report is_several judged.now) left))) }
+        ⊎ ((fault ≡ RunFault.Write) × ((left : List ℕ)
+        × Wrote (W.contents (inner_of output.old)) (W.contents (inner_of output.new)) (judged_report is_several judged.now) left))) }
     ensures unwritten { IfErr result (λ e. e ≢ RunFault.Write → output.new ≡ output.old) }
     ensures unread { IfErr result (λ e. e ≢ RunFault.Read) }
     ensures write_failed { has_failed_of output.old ≡ false → (IsErrOf result RunFault.Write ↔ (has_failed_of output.new ≡ true)) }
@@ -111,7 +116,8 @@ pub fn run_check<A: Allocator + Copy, R: Read, W: Write>(
     most: u64,
 ) -> Result<bool, RunFault>
     // What was read is a capture, and what was written is the report on its sessions.
-    ensures ok { IfOk result (IsReported (CheckReports limit marks) (read_by R.remaining input.old input.new most) (written_by W.contents output.old output.new)) }
+    ensures ok { IfOk result (IsReported (CheckReports limit marks) (read_by R.remaining input.old input.new most)
+        (written_by W.contents output.old output.new)) }
     // Which fault it is, by what was read and written.
     ensures err { IfErr result (IsCheckFault limit marks (read_by R.remaining input.old input.new most) (written_by W.contents output.old output.new)) }
     // After any fault but `Write` the writer isn't touched.
@@ -145,7 +151,8 @@ fn verify_collected<A: Allocator + Copy, S: Allocator + Copy>(
     streams: &Streams<A>,
 ) -> Result<Verification<A>, RunFault>
     ensures ok { IfOk result (λ told. VerifyReports marks (record { held = held_in streams.now; is_several = is_several }) told.text.items told.is_permitted) }
-    ensures err { IfErr result (λ fault. (input : Input) (output : Output) → ReadsCapture input (record { held = held_in streams.now; is_several = is_several }) → IsVerifyFault marks input output fault) }
+    ensures err { IfErr result (λ fault. (input : Input) (output : Output) → ReadsCapture input (record { held = held_in streams.now; is_several = is_several })
+        → IsVerifyFault marks input output fault) }
     ensures by_text { IfErr result (λ fault. (fault ≢ RunFault.Read) × (fault ≢ RunFault.Write)) }
 {
     let spool = Spool::read_with(arena, alloc, &streams.spool)?;
@@ -227,7 +234,8 @@ fn explain_collected<A: Allocator + Copy>(
     is_several: bool,
     streams: &Streams<A>,
 ) -> Result<Explanation<A>, AllocError>
-    ensures { IfOk result (λ told. ExplainReports limit marks (record { held = held_in streams.now; is_several = is_several }) told.text.items told.is_without_fault) }
+    ensures { IfOk result (λ told. ExplainReports limit marks (record { held = held_in streams.now; is_several = is_several }) told.text.items
+        told.is_without_fault) }
 {
     if is_several {
         return explain_sessions(alloc, limit, marks, &streams.named()?);
@@ -253,7 +261,8 @@ pub fn run_explain<A: Allocator + Copy, R: Read, W: Write>(
     most: u64,
 ) -> Result<bool, RunFault>
     // What was read is a capture, and what was written is the report on the one reading of its sessions.
-    ensures ok { IfOk result (IsReported (ExplainReports limit marks) (read_by R.remaining input.old input.new most) (written_by W.contents output.old output.new)) }
+    ensures ok { IfOk result (IsReported (ExplainReports limit marks) (read_by R.remaining input.old input.new most)
+        (written_by W.contents output.old output.new)) }
     // Which fault it is, by what was read and written.
     ensures err { IfErr result (IsExplainFault limit marks (read_by R.remaining input.old input.new most) (written_by W.contents output.old output.new)) }
     // After any fault but `Write` the writer isn't touched.

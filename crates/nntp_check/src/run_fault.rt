@@ -1,6 +1,6 @@
 //! Why a run gives no answer.
 ghost use Rattle.std.specs.Prelude.{◌≡◌};
-ghost use Rattle.nntp_check.specs.Faults.{of_capture, of_error, of_text};
+ghost use Rattle.nntp_check.specs.Inner.Faults.{of_capture, of_error, of_text};
 ghost use Rattle.nntp_check.specs.declared.run_fault.RunFault.TheVariants.{Memory, Write};
 
 use crate::capture_reader::BadPiece;
@@ -15,7 +15,7 @@ pub enum RunFault {
     /// The reader answered an error, or was interrupted, which is an error too.
     #[error("read failed")]
     Read,
-    /// More octets came than the run may read, or than a stream may have.
+    /// More octets came than the run may read.
     #[error("input too long")]
     TooLong,
     /// The input is no capture.

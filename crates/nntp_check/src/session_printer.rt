@@ -1,10 +1,11 @@
 //! Shows sessions as they come.
 ghost use Rattle.std.specs.Prelude.{◌≡◌, IfOk, IfErr, OnOk};
 ghost use Rattle.nntp_pair.specs.declared.pair_error.PairError.TheVariants.{Memory};
-ghost use Rattle.nntp_check.specs.Capture.{Captured, Held, IsAlone, nothing, sessions_of};
+ghost use Rattle.nntp_check.specs.Capture.{Captured, Held, nothing, sessions_of};
+ghost use Rattle.nntp_check.specs.Inner.Capture.{IsAlone};
 ghost use Rattle.nntp_check.specs.Run.{ShowReports};
-ghost use Rattle.nntp_check.specs.Sinks.{HasRoom, Takes};
-ghost use Rattle.nntp_check.specs.Showing.{HaveEnded, IsShownWhole, Shows, ShowsWhole};
+ghost use Rattle.nntp_check.specs.Inner.Sinks.{HasRoom, Takes};
+ghost use Rattle.nntp_check.specs.Inner.Showing.{HaveEnded, IsShownWhole, Shows, ShowsWhole};
 ghost use Rattle.nntp_check.specs.declared.capture_reader.Passage.TheVariants.{From};
 
 use crate::show::{put_end, put_exchange};
@@ -119,7 +120,8 @@ impl<A: Allocator + Copy> SessionPrinter<A> {
     /// The report, where no more octets come. Where no piece began a session, it is that on the only one.
     pub(crate) fn finish(mut self, is_several: bool) -> Result<Shown<A>, AllocError>
         requires { (held : Held) × ShowsWhole self held }
-        ensures { IfOk result (λ shown. (c : Captured) → c.is_several ≡ is_several → IsAlone c → ShowsWhole self c.held → ShowReports c shown.text.items shown.is_answered) }
+        ensures { IfOk result (λ shown. (c : Captured) → c.is_several ≡ is_several → IsAlone c → ShowsWhole self c.held
+            → ShowReports c shown.text.items shown.is_answered) }
     {
         if is_several {
             self.end_session()?;

@@ -2,10 +2,11 @@
 ghost use Rattle.std.specs.Prelude.{◌≡◌, ◌++◌, map, OnOk};
 ghost use Rattle.std.specs.List.{flat_map};
 ghost use Rattle.std.specs.Option.{option_copied};
-ghost use Rattle.nntp_wire.specs.AnswerView.{response};
+ghost use Rattle.nntp_wire.specs.Inner.AnswerView.{response};
 ghost use Rattle.nntp_article.specs.Article.Control.{new_group, other};
-ghost use Rattle.nntp_article.specs.Article.View.{control_value};
-ghost use Rattle.nntp_check.specs.Show.{exchange_text, exchange_line, prompt_text, under, under_article, under_head, control_line, missing_line, missing_names, is_one_missing, word_if, end_line};
+ghost use Rattle.nntp_article.specs.Inner.View.{control_value};
+ghost use Rattle.nntp_check.specs.Show.{exchange_text, exchange_line, prompt_text, under, under_article, under_head, control_line, missing_line, missing_names};
+ghost use Rattle.nntp_check.specs.Show.{is_one_missing, word_if, end_line};
 
 use nntp_article::{Control, Head, Missing, Parts, control, missing};
 use nntp_pair::Exchange;

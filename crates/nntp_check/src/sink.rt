@@ -2,7 +2,7 @@
 ghost use Rattle.std.specs.Prelude.{◌≡◌, OnOk, IfErr};
 ghost use Rattle.nntp_pair.specs.declared.pair_error.PairError.TheVariants.{Memory};
 ghost use Rattle.nntp_check.specs.Capture.{Held, with_another};
-ghost use Rattle.nntp_check.specs.Sinks.{HasRoom, Takes};
+ghost use Rattle.nntp_check.specs.Inner.Sinks.{HasRoom, Takes};
 ghost use Rattle.nntp_check.specs.declared.capture_reader.Passage.TheVariants.{From};
 
 use crate::source::Source;

@@ -1,7 +1,7 @@
 //! What a capture holds, collected.
 ghost use Rattle.std.specs.Prelude.{◌≡◌, IfOk, OnOk};
 ghost use Rattle.nntp_check.specs.Capture.{blank, nothing, sessions_of, with_another};
-ghost use Rattle.nntp_check.specs.Collecting.{held_in};
+ghost use Rattle.nntp_check.specs.Inner.Collecting.{held_in};
 ghost use Rattle.nntp_several.specs.Sessions.{unnamed};
 
 use crate::sink::Sink;

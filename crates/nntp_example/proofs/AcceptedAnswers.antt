@@ -1,20 +1,13 @@
 -- The accepted answers of a session, each where it stands, up to one that contradicts them.
-use Rattle.std.proofs.Common.{◌≡◌, ◌∙◌, sym, subst, refl, ap, ℕ, List, [], ◌∷◌, ◌++◌, Option, None, length}
-use Rattle.std.specs.List.{AllByRecursion}
+use Rattle.std.{proofs.Common.{◌≡◌, ◌∙◌, sym, subst, refl, ap, ℕ, List, [], ◌∷◌, ◌++◌, Option, None, length}, specs.List.{AllByRecursion}}
 use Rattle.nntp_wire.specs.Answer.{Asked, Response}
-use Rattle.nntp_article.specs.declared.session.profile.Profile.{Profile}
-use Rattle.nntp_article.specs.Session.Machine.{Visible, start, visible_after}
-use Rattle.nntp_article.specs.Session.Spool.{Name}
-use Rattle.nntp_pair.specs.Pairing.{Paired, Unpaired, IsNext, AreNext, asked_at, asked_of, responses_of, streams}
-use Rattle.nntp_pair.proofs.PairingLemmas.{AreNext-push}
-use Rattle.nntp_facts.specs.Classes.{visible_from}
-use Rattle.nntp_facts.specs.Conflict.{Placed, placed_of, placed_behind, FitsThere, SomeHas, told_with, below}
-use Rattle.nntp_facts.specs.Noted.{FactsKept, HasNotedBehind, IsDue, IsNotedBehind}
-use Rattle.nntp_facts.specs.declared.noted.Noted.{Noted}
-use Rattle.nntp_facts.specs.declared.noted.Noted.TheVariants.{Consistent, Contradiction}
-use Rattle.nntp_said.specs.declared.position.Position.{Position}
-use Rattle.nntp_facts.proofs.Keeping.NotedExchange.{visible_next, as_many, ends}
+use Rattle.nntp_article.specs.{declared.session.profile.Profile.{Profile}, Session.{Machine.{Visible, start, visible_after}, Spool.{Name}}}
+use Rattle.nntp_pair.{specs.Pairing.{Paired, Unpaired, IsNext, AreNext, asked_at, asked_of, responses_of, streams}, proofs.PairingLemmas.{AreNext-push}}
+use Rattle.nntp_facts.specs.{Classes.{visible_from}, Conflict.{Placed, placed_of, placed_behind, SomeHas, told_with, below}, Inner.Conflict.{FitsThere}}
+use Rattle.nntp_facts.specs.{Inner.Noted.{FactsKept, HasNotedBehind, IsDue, IsNotedBehind}, declared.noted.Noted.{Noted, TheVariants.{Consistent}}}
+use Rattle.nntp_facts.{specs.declared.noted.Noted.TheVariants.{Contradiction}, proofs.Keeping.NotedExchange.{visible_next, as_many, ends}}
 use Rattle.nntp_facts.proofs.Reading.NotedContradictions.{placed_next}
+use Rattle.nntp_said.specs.declared.position.Position.{Position}
 use Rattle.nntp_several.proofs.ConflictsOfSessions.{accepted_fit_behind, noted_conflicts_behind}
 use Rattle.nntp_verdict.proofs.JudgeLemmas.{is-due}
 

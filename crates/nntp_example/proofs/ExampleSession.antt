@@ -1,22 +1,12 @@
 -- What the definitions say of the session of docs/EXAMPLE.md: the facts of its answers, and what these ask of the numbers.
-use Rattle.std.proofs.Common.{◌≡◌, ℕ, true, false, List, [], ◌∷◌, ◌++◌, Option, None, Some, refl}
-use Rattle.std.specs.Prelude.{codes}
-use Rattle.std.specs.Cmp.Lexicographic.{slice_cmp}
-use Rattle.std.specs.Ordering.{nat_cmp}
-use Rattle.std.specs.FinMap.{FinMap}
-use Rattle.nntp_wire.specs.Command.{by_number, current, group, next, retrieve, quit}
-use Rattle.nntp_wire.specs.Answer.{Asked, greeting, to, Response, group_is, sends, plain}
-use Rattle.nntp_wire.specs.declared.command.What.TheVariants.{Head, Stat}
-use Rattle.nntp_wire.specs.declared.marks.Marks.TheVariants.{Lenient}
-use Rattle.nntp_wire.specs.declared.water_marks.WaterMarks.{WaterMarks}
-use Rattle.nntp_article.specs.Article.Parts.{Id, Line}
-use Rattle.nntp_article.specs.Session.Spool.{Name}
-use Rattle.nntp_article.specs.Session.Machine.{Visible, start}
-use Rattle.nntp_said.specs.declared.position.Position.TheVariants.{Nowhere, First, Known}
-use Rattle.nntp_facts.specs.declared.demand.Demand.TheVariants.{SecondIs}
-use Rattle.nntp_said.specs.Asks.{Ask, Estimates, Lacks, StandsAt, StepsUp}
-use Rattle.nntp_said.specs.Facts.{Fact, ThereIs, Asks, IdAt, TextIs, facts_of}
-use Rattle.nntp_facts.specs.Given.{asks_of, demand, wants, is_shown, is_denied}
+use Rattle.std.{proofs.Common.{◌≡◌, ℕ, true, false, List, [], ◌∷◌, ◌++◌, Option, None, Some, refl}, specs.{Prelude.{codes}, Cmp.Lexicographic.{slice_cmp}}}
+use Rattle.std.specs.{Ordering.{nat_cmp}, FinMap.{FinMap}}
+use Rattle.nntp_wire.specs.{Command.{by_number, current, group, next, retrieve, quit}, Answer.{Asked, greeting, to, Response, group_is, sends, plain}}
+use Rattle.nntp_wire.specs.declared.{command.What.TheVariants.{Head, Stat}, marks.Marks.TheVariants.{Lenient}, water_marks.WaterMarks.{WaterMarks}}
+use Rattle.nntp_article.specs.{Article.Parts.{Id, Line}, Session.{Spool.{Name}, Machine.{Visible, start}}}
+use Rattle.nntp_said.specs.{declared.position.Position.TheVariants.{Nowhere, First, Known}, Asks.{Ask, Estimates, Lacks, StandsAt, StepsUp}, Facts.{Fact}}
+use Rattle.nntp_said.specs.Facts.{ThereIs, Asks, IdAt, TextIs, facts_of}
+use Rattle.nntp_facts.specs.{declared.demand.Demand.TheVariants.{SecondIs}, Given.{asks_of, demand, wants, is_shown, is_denied}}
 
 abbrev misc_test : Name
 misc_test = codes "misc.test"

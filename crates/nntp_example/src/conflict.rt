@@ -1,11 +1,12 @@
 //! The accepted answers with which the bad one conflicts, and about what.
 ghost use Rattle.std.specs.Prelude.{◌≡◌, ◌∷◌, length, IfOk, IfSome};
 ghost use Rattle.std.specs.List.{AllByRecursion};
-ghost use Rattle.nntp_wire.specs.AnswerView.{response};
+ghost use Rattle.nntp_wire.specs.Inner.AnswerView.{response};
 ghost use Rattle.nntp_wire.specs.Answer.{Asked};
 ghost use Rattle.nntp_article.specs.Session.Limit.{profile_of};
 ghost use Rattle.nntp_article.specs.Session.Machine.{Visible, visible_after};
-ghost use Rattle.nntp_facts.specs.Conflict.{FitsThere, SomeHas, told_with, below};
+ghost use Rattle.nntp_facts.specs.Inner.Conflict.{FitsThere};
+ghost use Rattle.nntp_facts.specs.Conflict.{SomeHas, told_with, below};
 
 use crate::session::{CLIENT, NAME, SERVER};
 use nntp_facts::{Conflict, Core, Facts, Noted, Placed, Point};
@@ -81,7 +82,8 @@ fn core_of(
     found: &Contradiction<'_>,
 ) -> Result<Core, AllocError>
     requires fit { AllByRecursion (FitsThere (profile_of limit marks)) (found.now.bad ∷ found.now.answers.items) }
-    requires conflict { SomeHas (profile_of limit marks) (told_with (profile_of limit marks) found.now.bad found.now.answers.items (below (length found.now.answers.items))) → ⊥ }
+    requires conflict { SomeHas (profile_of limit marks) (told_with (profile_of limit marks) found.now.bad found.now.answers.items
+        (below (length found.now.answers.items))) → ⊥ }
 {
     Core::find(alloc, limit, marks, &found.answers, &found.bad, 4)
 }

@@ -1,25 +1,16 @@
 -- One answer more: where it leaves a session, and what is told of it.
-use Rattle.std.proofs.Common.{◌≡◌, ◌∙◌, sym, subst, refl, ap, ℕ, ◌+◌, ◌-◌, ◌≤◌, Bool, true, false, List, [], ◌∷◌, ◌++◌, Option, None, Some, length, arith, append_assoc, append-nil, length-append}
-use Rattle.std.specs.Prelude.{nat_lt, cond, codes, decimal}
-use Rattle.std.specs.Option.{option_map}
+use Rattle.std.proofs.Common.{◌≡◌, ◌∙◌, sym, subst, refl, ap, ℕ, ◌+◌, ◌-◌, ◌≤◌, Bool, true, false, List, [], ◌∷◌, ◌++◌, Option, None, Some, length, arith}
+use Rattle.std.{proofs.Common.{append_assoc, append-nil, length-append}, specs.{Prelude.{nat_lt, cond, codes, decimal}, Option.{option_map}}}
 use Rattle.nntp_wire.specs.Answer.{Asked, Response, group_is, numbers_are, sends, active_are, plain}
-use Rattle.nntp_article.specs.declared.session.profile.Profile.{Profile}
-use Rattle.nntp_article.specs.Session.Machine.{Visible, start, visible_after}
-use Rattle.nntp_article.specs.Session.Spool.{Name}
-use Rattle.nntp_pair.specs.Pairing.{Paired, asked_at, asked_of, responses_of}
-use Rattle.nntp_facts.specs.Classes.{visible_from, position_from}
-use Rattle.nntp_facts.specs.Conflict.{placed_behind}
-use Rattle.nntp_facts.specs.Reading.{Judged, Accepted, Refused, Unspelled, accepted_of, accepted_with}
-use Rattle.nntp_pair.specs.declared.class.Class.{Class}
-use Rattle.nntp_said.specs.declared.position.Position.{Position}
-use Rattle.nntp_said.specs.declared.position.Position.TheVariants.{Nowhere}
-use Rattle.nntp_facts.proofs.Reading.JudgedSession.{accepted_one_more}
-use Rattle.nntp_explain.specs.Explaining.{front_lines, place_lines, IsTold, IsExplained, AreExplained, count_bad}
-use Rattle.nntp_explain.specs.ExplainingView.{placed_at, GoesOn}
-use Rattle.nntp_explain.specs.Reasons.{answer_at, rest_line}
-use Rattle.nntp_printing.specs.BadAnswer.{bad_lines, class_word, command_line, shown}
-use Rattle.nntp_printing.specs.Printing.{escaped}
-use Rattle.nntp_explain.specs.Standing.{Standing, Cited, standing, standing_by, standing_from, standing_after, moved, cited_at, cited_from, closing, closing_with, closing_from}
+use Rattle.nntp_article.specs.{declared.session.profile.Profile.{Profile}, Session.{Machine.{Visible, start, visible_after}, Spool.{Name}}}
+use Rattle.nntp_pair.specs.{Pairing.{Paired, asked_at, asked_of, responses_of}, declared.class.Class.{Class}}
+use Rattle.nntp_facts.specs.{Classes.{visible_from, position_from}, Conflict.{placed_behind}, Reading.{Judged, Accepted, Refused, Unspelled, accepted_of}}
+use Rattle.nntp_facts.{specs.Reading.{accepted_with}, proofs.Reading.JudgedSession.{accepted_one_more}}
+use Rattle.nntp_said.specs.declared.position.Position.{Position, TheVariants.{Nowhere}}
+use Rattle.nntp_explain.specs.{Explaining.{front_lines, place_lines, IsTold, IsExplained, AreExplained, count_bad}, Inner.ExplainingView.{placed_at, GoesOn}}
+use Rattle.nntp_explain.specs.{Reasons.{answer_at, rest_line}, Standing.{Standing, Cited, standing, standing_by, standing_from, standing_after, moved}}
+use Rattle.nntp_explain.specs.Standing.{cited_at, cited_from, closing, closing_with, closing_from}
+use Rattle.nntp_printing.specs.{BadAnswer.{bad_lines, class_word, command_line, shown}, Printing.{escaped}}
 
 -- ---- where a session stands
 

@@ -1,27 +1,20 @@
 -- How the reading of a session ends, and how sessions are read one after the other.
-use Rattle.std.proofs.Common.{◌≡◌, ◌≢◌, ◌∙◌, sym, subst, refl, ap, ℕ, ◌+◌, ◌<◌, ◌≤◌, ◌^◌, ◌==◌, Bool, List, [], ◌∷◌, ◌++◌, Option, None, Some, length, take, drop, get_or, arith, append_assoc, append-nil, length-append}
-use Rattle.std.proofs.lemmas.List.{take_more, take_all, length-take-le}
+use Rattle.std.proofs.Common.{◌≡◌, ◌≢◌, ◌∙◌, sym, subst, refl, ap, ℕ, ◌+◌, ◌<◌, ◌≤◌, ◌^◌, ◌==◌, Bool, List, [], ◌∷◌, ◌++◌, Option, None, Some, length, take}
+use Rattle.std.proofs.{Common.{drop, get_or, arith, append_assoc, append-nil, length-append}, lemmas.List.{take_more, take_all, length-take-le}}
 use Rattle.std.specs.Prelude.{count_by, is_some, codes, decimal}
-use Rattle.nntp_wire.specs.declared.limit.Limit.{Limit}
-use Rattle.nntp_wire.specs.declared.marks.Marks.{Marks}
-use Rattle.nntp_article.specs.declared.session.profile.Profile.{Profile}
-use Rattle.nntp_article.specs.Session.Limit.{profile_of}
-use Rattle.nntp_pair.specs.Pairing.{Paired, Unpaired, end, bad as ends_at, Ends, line_ahead, streams}
-use Rattle.nntp_pair.specs.declared.class.PairClass.{PairClass}
-use Rattle.nntp_pair.specs.declared.class.PairClass.TheVariants.{Malformed as PairMalformed}
-use Rattle.nntp_pair.specs.Classes.{class_of}
-use Rattle.nntp_facts.specs.Noted.{ArePermittedBehind, HasNoted}
-use Rattle.nntp_facts.specs.Reading.{accepted_of, IsReadingBy}
+use Rattle.nntp_wire.specs.declared.{limit.Limit.{Limit}, marks.Marks.{Marks}}
+use Rattle.nntp_article.specs.{declared.session.profile.Profile.{Profile}, Session.Limit.{profile_of}}
+use Rattle.nntp_pair.specs.{Pairing.{Paired, Unpaired, end, bad as ends_at, Ends, line_ahead, streams}, declared.class.PairClass.{PairClass}}
+use Rattle.nntp_pair.specs.{declared.class.PairClass.TheVariants.{Malformed as PairMalformed}, Classes.{class_of}}
+use Rattle.nntp_facts.specs.{Noted.{ArePermittedBehind}, Inner.Noted.{HasNoted}, Reading.{accepted_of, IsReadingBy}}
 use Rattle.nntp_facts.proofs.Keeping.NotedSessions.{session_begins}
 use Rattle.nntp_printing.specs.BadAnswer.{IsFirstLine}
-use Rattle.nntp_several.specs.Reading.{ReadSession, AreReadings}
-use Rattle.nntp_several.specs.Sessions.{Named, unnamed}
-use Rattle.nntp_explain.specs.Explaining.{IsTold, IsEndReason, IsSessionExplained, Counts, counts_of, counts_text, count_bad, titled, none_counted, counted_with, AreSessionsExplained, IsExplanation, IsExplanationOfAll}
-use Rattle.nntp_explain.specs.ExplainingView.{Kept, Before, begins, refuses, title_of, accepted_behind, AreKept, AreTold, IsRead, HaveRead, GoesOn}
-use Rattle.nntp_explain.specs.Standing.{Standing, Cited, number_behind}
-use Rattle.nntp_explain.proofs.AnswerLemmas.{told_long}
-use Rattle.nntp_explain.proofs.SessionLemmas.{index_behind, cited_in_all, cited_with, placed_with, behind_push, text_grows, all_counted}
-use Rattle.nntp_explain.proofs.ExplainLemmas.{told_first, title_left, few_more}
+use Rattle.nntp_several.specs.{Reading.{ReadSession, AreReadings}, Sessions.{Named, unnamed}}
+use Rattle.nntp_explain.specs.Explaining.{IsTold, IsEndReason, IsSessionExplained, Counts, counts_of, counts_text, count_bad, titled, none_counted}
+use Rattle.nntp_explain.specs.{Explaining.{counted_with, AreSessionsExplained, IsExplanation, IsExplanationOfAll}, Inner.ExplainingView.{Kept, Before, begins}}
+use Rattle.nntp_explain.specs.{Inner.ExplainingView.{refuses, title_of, accepted_behind, AreKept, AreTold, IsRead, HaveRead, GoesOn}, Standing.{Standing}}
+use Rattle.nntp_explain.{specs.Standing.{Cited, number_behind}, proofs.{AnswerLemmas.{told_long}, SessionLemmas.{index_behind, cited_in_all, cited_with}}}
+use Rattle.nntp_explain.proofs.{SessionLemmas.{placed_with, behind_push, text_grows, all_counted}, ExplainLemmas.{told_first, title_left, few_more}}
 
 -- ---- one session ends
 
@@ -49,7 +42,8 @@ pub read_at_octets : (profile : Profile) (b : Before) (client server : List ℕ)
     (index : ℕ) (class : PairClass) (line : Option (List ℕ)) (octets : List ℕ) (unanswered : ℕ)
     → AreTold profile b client server kept text left → Ends left (ends_at class) → class ≢ PairMalformed → index ≡ left.index
     → line ≡ line_ahead left.places → octets ≡ left.server → unanswered ≡ count_by is_some (drop 1 left.places) → new ≡ refuses kept
-    → ((first : List ℕ) × IsFirstLine octets first × GoesOn (IsTold kept.bad kept.stands index (class_of class) line first (IsEndReason kept.session class kept.closing octets)) (text ++ title_of kept) after)
+    → ((first : List ℕ) × IsFirstLine octets first × GoesOn (IsTold kept.bad kept.stands index (class_of class) line first (IsEndReason kept.session class kept.closing octets)) (text
+    ++ title_of kept) after)
     → IsRead profile b client server new after unanswered
 read_at_octets profile b client server kept new text after left index class line octets unanswered t ends other at line-is octets-is unanswered-is new-is (first, is-first, (more, after-is, told)) =
     let number = number_behind b.earlier in
@@ -231,7 +225,8 @@ one_more_read profile sessions s kept new text after before unanswered h r few =
     }
 
 -- of a list of sessions the next one was read
-pub next_read : (profile : Profile) (sessions : List Named) (i : ℕ) (s : Named) (kept new : Kept) (text after : List ℕ) (before unanswered added : ℕ) (h : HaveRead profile (take i sessions) kept text before)
+pub next_read : (profile : Profile) (sessions : List Named) (i : ℕ) (s : Named) (kept new : Kept) (text after : List ℕ) (before unanswered added : ℕ)
+    (h : HaveRead profile (take i sessions) kept text before)
     → i < length sessions → s ≡ get_or sessions i s → length sessions < 2 ^ 64
     → IsRead profile (behind_these profile (take i sessions) kept text before h s.name) s.session.client s.session.server new after unanswered → added ≡ unanswered
     → HaveRead profile (take (i + 1) sessions) new after (before + added)

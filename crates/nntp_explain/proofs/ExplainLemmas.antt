@@ -1,39 +1,26 @@
 -- How an explanation goes through the answers of two streams, behind those of earlier sessions.
-use Rattle.std.proofs.Common.{◌≡◌, ◌≢◌, ◌∙◌, sym, subst, refl, ap, ℕ, ◌+◌, ◌-◌, ◌≤◌, List}
-use Rattle.std.proofs.Common.{[], ◌∷◌, ◌++◌, Option, None, Some, MatchOption, length, arith, append-nil, length-append, Result, Ok, Err}
-use Rattle.std.specs.Prelude.{OnOk, IfOk}
-use Rattle.std.specs.List.{AllByRecursion, flat_map}
+use Rattle.std.proofs.Common.{◌≡◌, ◌≢◌, ◌∙◌, sym, subst, refl, ap, ℕ, ◌+◌, ◌-◌, ◌≤◌, List, [], ◌∷◌, ◌++◌, Option, None, Some, MatchOption, length, arith}
+use Rattle.std.{proofs.Common.{append-nil, length-append, Result, Ok, Err}, specs.{Prelude.{OnOk, IfOk}, List.{AllByRecursion, flat_map}}}
 use Rattle.std.specs.Option.{option_map_or}
-use Rattle.nntp_wire.specs.Answer.{Asked}
-use Rattle.nntp_wire.specs.Misspelling.{misspelling}
-use Rattle.nntp_wire.specs.declared.misspelling.Misspelling.{Misspelling}
-use Rattle.nntp_wire.specs.declared.misspelling.Misspelling.TheVariants.{WrongBlock}
-use Rattle.nntp_article.specs.declared.session.profile.Profile.{Profile}
-use Rattle.nntp_article.specs.Session.Machine.{Visible}
-use Rattle.nntp_article.specs.Session.Misfit.{misfit}
-use Rattle.nntp_pair.specs.Pairing.{Paired, Unpaired, IsNext, IsPassedOver, asked_at, streams}
-use Rattle.nntp_pair.proofs.PassedLemmas.{passed-reason}
-use Rattle.nntp_facts.specs.Conflict.{Placed, placed_of, FitsThere, SomeHas, told_with, below}
-use Rattle.nntp_facts.specs.Noted.{ArePermittedBehind, FactsKept, HasNotedBehind, IsNotedBehind, IsDue, profile_kept}
-use Rattle.nntp_facts.specs.Reading.{Judged, Accepted, Refused, Unspelled, accepted_of, accepted_with, class_behind, IsJudged}
-use Rattle.nntp_pair.specs.declared.class.Class.{Class}
-use Rattle.nntp_pair.specs.declared.class.Class.TheVariants.{Malformed, OutOfPlace, Contradiction}
-use Rattle.nntp_facts.specs.declared.noted.Noted.{Noted}
-use Rattle.nntp_facts.specs.declared.noted.Noted.TheVariants as kinds
+use Rattle.nntp_wire.specs.{Answer.{Asked}, Misspelling.{misspelling}, declared.misspelling.Misspelling.{Misspelling, TheVariants.{WrongBlock}}}
+use Rattle.nntp_article.specs.{declared.session.profile.Profile.{Profile}, Session.{Machine.{Visible}, Misfit.{misfit}}}
+use Rattle.nntp_pair.specs.{Pairing.{Paired, Unpaired, IsNext, IsPassedOver, asked_at, streams}, declared.class.Class.{Class, TheVariants.{Malformed}}}
+use Rattle.nntp_pair.{specs.declared.class.Class.TheVariants.{OutOfPlace, Contradiction}, proofs.PassedLemmas.{passed-reason}}
+use Rattle.nntp_facts.specs.{Conflict.{Placed, placed_of, SomeHas, told_with, below}, Inner.{Conflict.{FitsThere}, Noted.{FactsKept, HasNotedBehind}}}
+use Rattle.nntp_facts.specs.{Inner.Noted.{IsNotedBehind, IsDue, profile_kept}, Noted.{ArePermittedBehind}, Reading.{Judged, Accepted, Refused, Unspelled}}
+use Rattle.nntp_facts.specs.{Reading.{accepted_of, accepted_with, class_behind, IsJudged}, declared.noted.Noted.{Noted}}
+use Rattle.nntp_facts.proofs.{Reading.{JudgedSession.{accepted_one_more}, NotedAsJudged.{unfit_refused, contradiction_refused}}, Members.{all_at, all_from}}
 use Rattle.nntp_said.specs.declared.position.Position.{Position}
-use Rattle.nntp_facts.proofs.Reading.JudgedSession.{accepted_one_more}
-use Rattle.nntp_facts.proofs.Reading.NotedAsJudged.{unfit_refused, contradiction_refused}
-use Rattle.nntp_several.specs.Conflict.{placed_of_all}
-use Rattle.nntp_several.proofs.ConflictsOfSessions.{accepted_fit_behind, noted_conflicts_behind, placed_next_behind}
+use Rattle.nntp_several.{specs.Conflict.{placed_of_all}, proofs.ConflictsOfSessions.{accepted_fit_behind, noted_conflicts_behind, placed_next_behind}}
 use Rattle.nntp_printing.specs.Title.{title_line}
-use Rattle.nntp_explain.specs.Explaining.{IsTold, ToldContradiction, IsConflictOf, IsReason, IsExplained, AreExplained, count_bad}
-use Rattle.nntp_explain.specs.ExplainingView.{Kept, Before, begins, placed_at, keeps, refuses, title_of, title_told, untold, unfitting_told, AreKept, AreReasons, AreTold, GoesOn}
-use Rattle.nntp_explain.specs.Reasons.{unfitting_lines, misspelling_line}
-use Rattle.nntp_explain.specs.Standing.{Standing, Cited, standing, standing_after, cited, cited_at, cited_each, number_behind, cited_of_all, closing_after, closing_with}
-use Rattle.nntp_facts.proofs.Members.{all_at, all_from}
-use Rattle.nntp_explain.proofs.ReasonsGoOn.{reason_still}
-use Rattle.nntp_explain.proofs.AnswerLemmas.{standing_push, closing_next, placed_there, explained_push, good_push, bad_push, told_as, told_long}
-use Rattle.nntp_explain.proofs.SessionLemmas.{one_more_behind, index_behind, due_behind, as_many_cited, as_many_of_all, cited_next, own_part, untitled, told_once, text_grows}
+use Rattle.nntp_explain.specs.{Explaining.{IsTold, IsConflictOf, IsReason, IsExplained, AreExplained, count_bad}, Inner.Explaining.{ToldContradiction}}
+use Rattle.nntp_explain.specs.Inner.ExplainingView.{Kept, Before, begins, placed_at, keeps, refuses, title_of, title_told, untold, unfitting_told, AreKept}
+use Rattle.nntp_explain.specs.{Inner.ExplainingView.{AreReasons, AreTold, GoesOn, unspelled_lines}, Reasons.{unfitting_lines, misspelling_line}}
+use Rattle.nntp_explain.specs.Standing.{Standing, Cited, standing, standing_after, cited, cited_at, cited_each, number_behind, cited_of_all, closing_after}
+use Rattle.nntp_explain.{specs.Standing.{closing_with}, proofs.{ReasonsGoOn.{reason_still}, AnswerLemmas.{standing_push, closing_next, placed_there}}}
+use Rattle.nntp_explain.proofs.{AnswerLemmas.{explained_push, good_push, bad_push, told_as, told_long}, SessionLemmas.{one_more_behind, index_behind}}
+use Rattle.nntp_explain.proofs.SessionLemmas.{due_behind, as_many_cited, as_many_of_all, cited_next, own_part, untitled, told_once, text_grows}
+use Rattle.nntp_facts.specs.declared.noted.Noted.TheVariants as kinds
 
 -- ---- how it goes on
 
@@ -68,14 +55,16 @@ told_due profile b client server kept text left behind pair t next =
     due_behind (ArePermittedBehind profile b.earlier) profile b.earlier client server t.answers left behind pair kept.facts t.judged t.noted next
 
 -- the answers of its session are behind those of others
-pub others_placed : (profile : Profile) (b : Before) (client server : List ℕ) (kept : Kept) (text : List ℕ) (left : Unpaired) → AreTold profile b client server kept text left → kept.others ≤ length kept.placed
+pub others_placed : (profile : Profile) (b : Before) (client server : List ℕ) (kept : Kept) (text : List ℕ) (left : Unpaired) → AreTold profile b client server kept text left
+    → kept.others ≤ length kept.placed
 others_placed profile b client server kept text left t =
     let count = t.others_are in
     let all = ap length t.placed_are in
     let both = length-append (flat_map placed_of b.earlier) (placed_of (accepted_of t.answers)) in
     omega (arith, count, all, both)
 
-pub others_cited : (profile : Profile) (b : Before) (client server : List ℕ) (kept : Kept) (text : List ℕ) (left : Unpaired) → AreTold profile b client server kept text left → kept.others ≤ length kept.cited
+pub others_cited : (profile : Profile) (b : Before) (client server : List ℕ) (kept : Kept) (text : List ℕ) (left : Unpaired) → AreTold profile b client server kept text left
+    → kept.others ≤ length kept.cited
 others_cited profile b client server kept text left t =
     let count = t.others_are in
     let same = as_many_cited 1 b.earlier in
@@ -181,15 +170,12 @@ bad_before profile b client server kept text left t index at =
     t.bad_are ∙ ap (λ n. b.bad + (n - length (accepted_of t.answers))) (sym (at ∙ index_behind (ArePermittedBehind profile b.earlier) client server t.answers left t.judged))
 
 -- what is told by what is kept is told by the accepted answers
-told_behind : (profile : Profile) (b : Before) (client server : List ℕ) (kept : Kept) (text : List ℕ) (left : Unpaired) (t : AreTold profile b client server kept text left) (index : ℕ) → index ≡ left.index
+told_behind : (profile : Profile) (b : Before) (client server : List ℕ) (kept : Kept) (text : List ℕ) (left : Unpaired) (t : AreTold profile b client server kept text left) (index : ℕ) → index
+    ≡ left.index
     → (class : Class) (line : Option (List ℕ)) (initial : List ℕ) (Reason : List ℕ → Type 0) (more : List ℕ) → IsTold kept.bad kept.stands index class line initial Reason more
     → IsTold (b.bad + (index - length (accepted_of t.answers))) (standing (accepted_of t.answers)) index class line initial Reason more
 told_behind profile b client server kept text left t index at class line initial Reason more is =
     subst (λ (q : ℕ × Option Standing). IsTold q.0 q.1 index class line initial Reason more) (λ i. (bad_before profile b client server kept text left t index at i, t.stands_there i)) is
-
--- the reason of a frame that is passed over
-abbrev pub unspelled_lines : Asked → List ℕ → Option (List ℕ) → List ℕ
-unspelled_lines asked initial block = option_map_or misspelling_line (misspelling asked initial block) []
 
 -- what is told of it explains it, since there is one
 unspelled_explained : (profile : Profile) (earlier : List (List Paired)) (before : ℕ) (accepted : List Paired) (left behind : Unpaired) (index : ℕ) (line : Option (List ℕ)) (initial : List ℕ)
@@ -314,7 +300,8 @@ noted_consistent profile b client server kept new facts noted position closing t
 
 pub noted_out_of_place : (profile : Profile) (b : Before) (client server : List ℕ) (kept new : Kept) (facts : FactsKept) (noted : Noted)
     (closing : Option Cited) (text after : List ℕ) (left behind : Unpaired) (pair : Paired)
-    → noted ≡ kinds.OutOfPlace → closing ≡ closing_after kept.session kept.closing kept.stands pair → ((past : List Paired) → HasNotedBehind profile kept.facts b.earlier past → IsNotedBehind profile b.earlier past pair kept.facts facts noted)
+    → noted ≡ kinds.OutOfPlace → closing ≡ closing_after kept.session kept.closing kept.stands pair
+    → ((past : List Paired) → HasNotedBehind profile kept.facts b.earlier past → IsNotedBehind profile b.earlier past pair kept.facts facts noted)
     → new ≡ refuses (record kept { facts = facts; closing = closing })
     → GoesOn (IsTold kept.bad kept.stands pair.index OutOfPlace pair.line pair.initial
     (λ reason. reason ≡ unfitting_told (record kept { facts = facts; closing = closing }) pair)) (text ++ title_of kept) after
@@ -360,7 +347,8 @@ pub noted_contradiction : (profile : Profile) (b : Before) (client server : List
     → GoesOn (IsTold kept.bad kept.stands pair.index Contradiction pair.line pair.initial
     (IsConflictOf kept.session (profile_kept facts) (placed_at kept.stands position pair) kept.placed kept.cited)) (text ++ title_of kept) after
     → AreTold profile b client server kept text left → IsNext left pair behind → AreTold profile b client server new after behind
-noted_contradiction profile b client server kept new facts noted position closing contradictions text after left behind pair is position-is closing-is notes new-is reasons (more, after-is, told) t next =
+noted_contradiction profile b client server kept new facts noted position closing contradictions text after left behind pair is position-is closing-is notes new-is reasons (more, after-is, told) t
+    next =
     let at = λ (past : List Paired) (h : HasNotedBehind profile kept.facts b.earlier past). subst (IsNotedBehind profile b.earlier past pair kept.facts facts) is (notes past h) in
     let same : facts ≡ kept.facts = (at (accepted_of t.answers) t.noted).2 in
     subst (λ (q : Kept × List ℕ). AreTold profile b client server q.0 q.1 behind)

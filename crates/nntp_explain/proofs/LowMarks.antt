@@ -1,22 +1,13 @@
 -- Which answer gave a group its low mark.
-use Rattle.std.proofs.Common.{◌≡◌, ◌⊎◌, ◌∙◌, inl, inr, sym, ap, subst, refl, arith, ℕ, suc, ◌<◌, ◌==◌, Bool, true, false, cond, List, [], ◌∷◌, Option, None, Some, MatchOption, length}
-use Rattle.std.specs.Prelude.{◌&&◌, if◌then◌else◌}
-use Rattle.std.specs.Option.{option_map}
-use Rattle.std.specs.FinMap.{FinMap, get, insert, get-insert, get-empty}
-use Rattle.std.specs.Ordering.{nat_cmp, eq_by_cmp}
-use Rattle.std.specs.Cmp.Lexicographic.{slice_cmp, same_text, nat_list_cmp_total, texts_ties, bytes_decides}
-use Rattle.std.proofs.lemmas.Bool.Decides.{nat_tests}
-use Rattle.nntp_wire.specs.Answer.{Asked, Response, group_is, numbers_are, sends, active_are, plain}
-use Rattle.nntp_wire.specs.declared.water_marks.WaterMarks.{WaterMarks}
-use Rattle.nntp_article.specs.Session.Spool.{Name}
-use Rattle.nntp_article.specs.Session.Machine.{Visible, visible_after, selects, are_zeros, is_same, start}
-use Rattle.nntp_article.specs.Session.Misfit.{IsAbove}
+use Rattle.std.proofs.Common.{◌≡◌, ◌⊎◌, ◌∙◌, inl, inr, sym, ap, subst, refl, arith, ℕ, suc, ◌<◌, ◌==◌, Bool, true, false, cond, List, [], ◌∷◌, Option, None}
+use Rattle.std.{proofs.{Common.{Some, MatchOption, length}, lemmas.Bool.Decides.{nat_tests}}, specs.{Prelude.{◌&&◌, if◌then◌else◌}, Option.{option_map}}}
+use Rattle.std.specs.{FinMap.{FinMap, get, insert, get-insert, get-empty}, Ordering.{nat_cmp, eq_by_cmp}, Cmp.Lexicographic.{slice_cmp, same_text}}
+use Rattle.std.specs.Cmp.Lexicographic.{nat_list_cmp_total, texts_ties, bytes_decides}
+use Rattle.nntp_wire.specs.{Answer.{Asked, Response, group_is, numbers_are, sends, active_are, plain}, declared.water_marks.WaterMarks.{WaterMarks}}
+use Rattle.nntp_article.specs.{Session.{Spool.{Name}, Machine.{Visible, visible_after, selects, are_zeros, is_same, start}}, Inner.Misfit.{IsAbove}}
 use Rattle.nntp_pair.specs.Pairing.{Paired, asked_of, responses_of}
-use Rattle.nntp_said.specs.Asks.{position_after}
-use Rattle.nntp_facts.specs.Classes.{visible_from}
-use Rattle.nntp_facts.specs.Conflict.{placed_from, placed_of}
-use Rattle.nntp_said.specs.declared.position.Position.{Position}
-use Rattle.nntp_said.specs.declared.position.Position.TheVariants.{Nowhere}
+use Rattle.nntp_said.specs.{Asks.{position_after}, declared.position.Position.{Position, TheVariants.{Nowhere}}}
+use Rattle.nntp_facts.specs.{Classes.{visible_from}, Conflict.{placed_from, placed_of}}
 use Rattle.nntp_explain.specs.Reasons.{gives_low, low_giver}
 
 -- a place is found among so many

@@ -1,12 +1,10 @@
 -- The report on one session, by itself and as the only one of several.
-use Rattle.std.proofs.Common.{◌≡◌, ◌∙◌, refl, sym, ap, ℕ, ◌+◌, ◌==◌, Bool, List, [], ◌∷◌, ◌++◌, append-nil, arith}
-use Rattle.std.specs.Prelude.{codes, decimal}
-use Rattle.nntp_wire.specs.declared.limit.Limit.{Limit}
-use Rattle.nntp_wire.specs.declared.marks.Marks.{Marks}
+use Rattle.std.{proofs.Common.{◌≡◌, ◌∙◌, refl, sym, ap, ℕ, ◌+◌, ◌==◌, Bool, List, [], ◌∷◌, ◌++◌, append-nil, arith}, specs.Prelude.{codes, decimal}}
+use Rattle.nntp_wire.specs.declared.{limit.Limit.{Limit}, marks.Marks.{Marks}}
 use Rattle.nntp_article.specs.Session.Limit.{profile_of}
-use Rattle.nntp_several.specs.Reading.{ReadSession, AreReadings}
-use Rattle.nntp_several.specs.Sessions.{Named}
-use Rattle.nntp_explain.specs.Explaining.{Counts, counts_of, counts_text, titled, none_counted, counted_with, AreSessionsExplained, IsExplanation, IsExplanationOfAll}
+use Rattle.nntp_several.specs.{Reading.{ReadSession, AreReadings}, Sessions.{Named}}
+use Rattle.nntp_explain.specs.Explaining.{Counts, counts_of, counts_text, titled, none_counted, counted_with, AreSessionsExplained, IsExplanation}
+use Rattle.nntp_explain.specs.Explaining.{IsExplanationOfAll}
 
 -- the text with the last line of several, which counts this of one
 abbrev all_text : List ℕ → Counts → List ℕ

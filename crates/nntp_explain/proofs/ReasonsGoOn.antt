@@ -1,18 +1,13 @@
 -- The reason of a contradiction stays what it is behind further accepted answers.
-use Rattle.std.proofs.Common.{◌≡◌, ◌∙◌, ◌<◌, ◌-◌, ℕ, List, [], ◌∷◌, ◌++◌, Option, None, Some, MatchOption, Result, Ok, Err, length, codes, refl, sym, ap, subst, arith}
-use Rattle.std.specs.Prelude.{⊤, OnOk, if◌then◌else◌}
-use Rattle.std.specs.Result.{is_ok}
-use Rattle.std.specs.List.{flat_map}
-use Rattle.std.specs.Option.{option_and_then, option_map_or, option_or}
+use Rattle.std.proofs.Common.{◌≡◌, ◌∙◌, ◌<◌, ◌-◌, ℕ, List, [], ◌∷◌, ◌++◌, Option, None, Some, MatchOption, Result, Ok, Err, length, codes, refl, sym, ap, subst}
+use Rattle.std.{proofs.Common.{arith}, specs.{Prelude.{⊤, OnOk, if◌then◌else◌}, Result.{is_ok}, List.{flat_map}, Option.{option_and_then, option_map_or}}}
+use Rattle.std.specs.Option.{option_or}
 use Rattle.nntp_article.specs.declared.session.profile.Profile.{Profile}
 use Rattle.nntp_wire.specs.declared.marks.Marks.{Marks}
-use Rattle.nntp_facts.specs.Conflict.{Placed, Point, Core, IsCore, IsEndOfCore, IsFirstPoint, below, places_of}
-use Rattle.nntp_facts.proofs.Keeping.CoresGoOn.{in_front_of, AreThere, told_still, core_goes_on, places_there, bound_there}
-use Rattle.nntp_explain.specs.Explaining.{IsConflictOf}
-use Rattle.nntp_facts.proofs.Members.{all_back}
-use Rattle.nntp_explain.specs.Reasons.{about_line, because_lines, answer_text, rest_line}
-use Rattle.nntp_explain.specs.Says.{conflict_lines, difference, first_part, part_at, part_sent, reason_lines, said_lines, told_line}
-use Rattle.nntp_explain.specs.Standing.{Cited}
+use Rattle.nntp_facts.{specs.Conflict.{Placed, Point, Core, IsCore, IsEndOfCore, IsFirstPoint, below, places_of}, proofs.Keeping.CoresGoOn.{in_front_of}}
+use Rattle.nntp_facts.proofs.{Keeping.CoresGoOn.{AreThere, told_still, core_goes_on, places_there, bound_there}, Members.{all_back}}
+use Rattle.nntp_explain.specs.{Explaining.{IsConflictOf}, Reasons.{about_line, because_lines, answer_text, rest_line}, Says.{conflict_lines, difference}}
+use Rattle.nntp_explain.specs.{Says.{first_part, part_at, part_sent, reason_lines, said_lines, told_line}, Standing.{Cited}}
 use Rattle.nntp_explain.proofs.ConflictLemmas.{some_found}
 
 module _ (here : ℕ) (how : Marks) (point : Point) (answers more : List Placed) (told others : List Cited) (same : length answers ≡ length told) where

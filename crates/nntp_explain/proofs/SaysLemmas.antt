@@ -1,19 +1,12 @@
 -- What lines say, one after the other.
 use Rattle.std.proofs.Common.{◌≡◌, ◌∙◌, sym, ap, refl, ℕ, List, [], ◌∷◌, ◌++◌, ◌||◌, if◌then◌else◌, Option, append_assoc, append-nil, Result, Ok, Err}
-use Rattle.std.proofs.lemmas.List.Concat.{flat_map-append}
-use Rattle.std.specs.Prelude.{OnOk, IsTrue, decimal}
-use Rattle.std.specs.List.{flat_map, list_any}
-use Rattle.nntp_article.specs.Article.Parts.{Id, Line, is_empty, head_part, body_part}
+use Rattle.std.{proofs.lemmas.List.Concat.{flat_map-append}, specs.{Prelude.{OnOk, IsTrue, decimal}, List.{flat_map, list_any}}}
+use Rattle.nntp_article.specs.{Article.Parts.{Id, Line, is_empty, head_part, body_part}, Session.Spool.{Name}}
 use Rattle.nntp_wire.specs.Listing.{ActiveValue}
-use Rattle.nntp_article.specs.Session.Spool.{Name}
-use Rattle.nntp_said.specs.Asks.{Bounds}
-use Rattle.nntp_facts.specs.Conflict.{Point, Article}
-use Rattle.nntp_said.specs.Facts.{Fact, Asks, GroupsAre}
-use Rattle.nntp_facts.specs.Given.{asks_in}
-use Rattle.nntp_facts.specs.Together.{shows_article, denies_article}
-use Rattle.nntp_explain.specs.Reasons.{octets_line}
+use Rattle.nntp_said.specs.{Asks.{Bounds}, Facts.{Fact, Asks, GroupsAre}}
+use Rattle.nntp_facts.specs.{Conflict.{Point, Article}, Given.{asks_in}, Together.{shows_article, denies_article}}
+use Rattle.nntp_explain.specs.{Reasons.{octets_line}, Says.{ask_line, numbers_said, says, article_line}}
 use Rattle.nntp_printing.specs.Printing.{escaped}
-use Rattle.nntp_explain.specs.Says.{ask_line, numbers_said, says, article_line}
 
 -- the marks of one line more
 bounds_more : (name : Name) (about : Option ℕ) (p : Option (List ℕ)) (line : ActiveValue) (lines : List ActiveValue)

@@ -1,25 +1,17 @@
 -- One session behind others: its answers as they are judged, placed and cited, its title, and what is counted of it.
-use Rattle.std.proofs.Common.{◌≡◌, ◌∙◌, sym, subst, refl, ap, ℕ, zero, suc, ◌+◌, false, List, [], ◌∷◌, ◌++◌, Option, None, Some, length, drop, add-one, arith, append_assoc, append-nil, length-append}
-use Rattle.std.proofs.lemmas.Grind.{flat_map-append}
-use Rattle.std.proofs.lemmas.List.{drop_at}
-use Rattle.std.specs.List.{flat_map}
+use Rattle.std.proofs.Common.{◌≡◌, ◌∙◌, sym, subst, refl, ap, ℕ, zero, suc, ◌+◌, false, List, [], ◌∷◌, ◌++◌, Option, None, Some, length, drop, add-one, arith}
+use Rattle.std.{proofs.{Common.{append_assoc, append-nil, length-append}, lemmas.{Grind.{flat_map-append}, List.{drop_at}}}, specs.List.{flat_map}}
 use Rattle.std.specs.Option.{option_map_or}
-use Rattle.nntp_article.specs.declared.session.profile.Profile.{Profile}
-use Rattle.nntp_article.specs.Session.Machine.{Visible, start, visible_after}
+use Rattle.nntp_article.specs.{declared.session.profile.Profile.{Profile}, Session.Machine.{Visible, start, visible_after}}
 use Rattle.nntp_pair.specs.Pairing.{Paired, Unpaired, IsNext, Ending, end, bad as ends_at, asked_at, asked_of, responses_of, streams}
-use Rattle.nntp_said.specs.Asks.{position_after}
-use Rattle.nntp_facts.specs.Conflict.{placed_from, placed_of}
-use Rattle.nntp_facts.specs.Noted.{FactsKept, HasNotedBehind, IsDue}
-use Rattle.nntp_facts.specs.Reading.{Judged, accepted_of, IsJudged, AreJudged}
-use Rattle.nntp_said.specs.declared.position.Position.{Position}
-use Rattle.nntp_said.specs.declared.position.Position.TheVariants.{Nowhere}
-use Rattle.nntp_facts.proofs.Reading.JudgedAnswers.{accepted_behind as all_behind, judged_push, judged_count, accepted_few, visible_behind, accepted_open}
-use Rattle.nntp_several.specs.Conflict.{placed_of_all}
-use Rattle.nntp_several.specs.Reading.{ReadSession}
+use Rattle.nntp_said.specs.{Asks.{position_after}, declared.position.Position.{Position, TheVariants.{Nowhere}}}
+use Rattle.nntp_facts.specs.{Conflict.{placed_from, placed_of}, Inner.Noted.{FactsKept, HasNotedBehind, IsDue}, Reading.{Judged, accepted_of, IsJudged}}
+use Rattle.nntp_facts.{specs.Reading.{AreJudged}, proofs.Reading.JudgedAnswers.{accepted_behind as all_behind, judged_push, judged_count, accepted_few}}
+use Rattle.nntp_facts.proofs.Reading.JudgedAnswers.{visible_behind, accepted_open}
+use Rattle.nntp_several.specs.{Conflict.{placed_of_all}, Reading.{ReadSession}}
 use Rattle.nntp_printing.specs.Title.{title_line}
-use Rattle.nntp_explain.specs.Explaining.{counts_behind}
-use Rattle.nntp_explain.specs.ExplainingView.{untold, title_told, accepted_behind}
-use Rattle.nntp_explain.specs.Standing.{Standing, standing, standing_after, cited, cited_at, cited_from, cited_each, number_behind, cited_of_all}
+use Rattle.nntp_explain.specs.{Explaining.{counts_behind}, Inner.ExplainingView.{untold, title_told, accepted_behind}, Standing.{Standing, standing}}
+use Rattle.nntp_explain.specs.Standing.{standing_after, cited, cited_at, cited_from, cited_each, number_behind, cited_of_all}
 use Rattle.nntp_explain.proofs.AnswerLemmas.{cited_push, few_accepted}
 
 -- ---- its answers, whatever decides which exchanges stand
@@ -37,7 +29,8 @@ pub index_behind : (Stand : List Paired → Type 0) (client server : List ℕ) (
 index_behind Stand client server answers left judged = let count = judged_count Stand [] (streams client server) left answers judged in omega (arith, count)
 
 -- the next pair may be noted
-pub due_behind : (Stand : List Paired → Type 0) (profile : Profile) (earlier : List (List Paired)) (client server : List ℕ) (answers : List Judged) (left after : Unpaired) (pair : Paired) (facts : FactsKept)
+pub due_behind : (Stand : List Paired → Type 0) (profile : Profile) (earlier : List (List Paired)) (client server : List ℕ) (answers : List Judged) (left after : Unpaired) (pair : Paired)
+    (facts : FactsKept)
     → AreJudged Stand [] (streams client server) answers left → HasNotedBehind profile facts earlier (accepted_of answers) → IsNext left pair after → IsDue facts pair
 due_behind Stand profile earlier client server answers left after pair facts judged noted next =
     let count = index_behind Stand client server answers left judged in

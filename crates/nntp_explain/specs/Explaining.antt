@@ -1,31 +1,17 @@
 -- What `explain` prints of sessions: each bad answer, where its session stands there, and why it is bad.
-use Rattle.std.specs.Prelude.{◌≡◌, ℕ, zero, suc, ◌+◌, ◌-◌, ◌≤◌, ◌==◌, nat_lt, if◌then◌else◌, cond, Bool, List, [], ◌∷◌, ◌++◌, length, drop, count_by, is_some, Option, MatchOption, codes, decimal}
-use Rattle.std.specs.Option.{option_map, option_map_or}
-use Rattle.nntp_wire.specs.Lines.{lines_of_stream}
-use Rattle.nntp_wire.specs.declared.limit.Limit.{Limit}
-use Rattle.nntp_wire.specs.declared.marks.Marks.{Marks}
-use Rattle.nntp_wire.specs.Misspelling.{misspelling}
-use Rattle.nntp_article.specs.Session.Machine.{Visible, start}
-use Rattle.nntp_article.specs.Session.Limit.{profile_of}
-use Rattle.nntp_article.specs.Session.Misfit.{misfit}
-use Rattle.nntp_article.specs.declared.session.profile.Profile.{Profile}
-use Rattle.nntp_facts.specs.Classes.{visible_from}
-use Rattle.nntp_pair.specs.Classes.{class_of}
-use Rattle.nntp_facts.specs.Conflict.{Placed, placed_of, placed_behind, Core, IsFound, places_of, told_with, Point, IsFirstPoint}
-use Rattle.nntp_pair.specs.declared.class.Class.{Class}
-use Rattle.nntp_pair.specs.declared.class.Class.TheVariants.{Malformed, OutOfPlace, Contradiction}
+use Rattle.std.specs.Prelude.{◌≡◌, ℕ, zero, suc, ◌+◌, ◌-◌, ◌≤◌, ◌==◌, nat_lt, if◌then◌else◌, cond, Bool, List, [], ◌∷◌, ◌++◌, length, drop, count_by, is_some}
+use Rattle.std.specs.{Prelude.{Option, MatchOption, codes, decimal}, Option.{option_map, option_map_or}}
+use Rattle.nntp_wire.specs.{Lines.{lines_of_stream}, declared.{limit.Limit.{Limit}, marks.Marks.{Marks}}, Misspelling.{misspelling}}
+use Rattle.nntp_article.specs.{Session.{Machine.{Visible, start}, Limit.{profile_of}, Misfit.{misfit}}, declared.session.profile.Profile.{Profile}}
+use Rattle.nntp_facts.specs.{Classes.{visible_from}, Conflict.{Placed, placed_of, placed_behind, Core, IsFound, places_of, told_with, Point, IsFirstPoint}}
 use Rattle.nntp_facts.specs.Reading.{Judged, Accepted, Refused, Unspelled, accepted_of, accepted_with, class_behind, IsReading}
-use Rattle.nntp_pair.specs.declared.class.PairClass.{PairClass}
-use Rattle.nntp_pair.specs.declared.class.PairClass.TheVariants.{Surplus as PairSurplus, Cut as PairCut, Malformed as PairMalformed}
-use Rattle.nntp_pair.specs.Pairing.{Paired, Unpaired, Ending, end, bad as ends_at, line_ahead, asked_at, asked_of, responses_of}
-use Rattle.nntp_printing.specs.BadAnswer.{IsFirstLine, bad_lines, shown}
-use Rattle.nntp_printing.specs.Title.{title_line}
-use Rattle.nntp_several.specs.Conflict.{placed_of_all}
-use Rattle.nntp_several.specs.Reading.{ReadSession, AreReadings, IsReadingOfAll}
-use Rattle.nntp_several.specs.Sessions.{Named, unnamed}
-use Rattle.nntp_explain.specs.Reasons.{standing_line, unfitting_lines, misspelling_line, cut_line, surplus_lines}
-use Rattle.nntp_explain.specs.Says.{conflict_lines}
-use Rattle.nntp_explain.specs.Standing.{Standing, Cited, standing, cited, number_behind, cited_of_all, closing}
+use Rattle.nntp_pair.specs.{Classes.{class_of}, declared.class.{Class.{Class, TheVariants.{Malformed, OutOfPlace, Contradiction}}, PairClass.{PairClass}}}
+use Rattle.nntp_pair.specs.{declared.class.PairClass.TheVariants.{Surplus as PairSurplus, Cut as PairCut, Malformed as PairMalformed}, Pairing.{Paired}}
+use Rattle.nntp_pair.specs.Pairing.{Unpaired, Ending, end, bad as ends_at, line_ahead, asked_at, asked_of, responses_of}
+use Rattle.nntp_printing.specs.{BadAnswer.{IsFirstLine, bad_lines, shown}, Title.{title_line}}
+use Rattle.nntp_several.specs.{Conflict.{placed_of_all}, Reading.{ReadSession, AreReadings, IsReadingOfAll}, Sessions.{Named, unnamed}}
+use Rattle.nntp_explain.specs.{Reasons.{standing_line, unfitting_lines, misspelling_line, cut_line, surplus_lines}, Says.{conflict_lines}, Standing.{Standing}}
+use Rattle.nntp_explain.specs.Standing.{Cited, standing, cited, number_behind, cited_of_all, closing}
 
 -- the visible state that accepted answers leave
 abbrev pub visible_left : List Paired → Visible
@@ -58,12 +44,8 @@ abbrev pub IsConflictOf : ℕ → Profile → Placed → List Placed → List Ci
 IsConflictOf here profile bad answers told text =
     (core : Core) × IsFound profile bad answers core × MatchOption core.rest (length core.places ≤ 4) (λ bound. length core.places ≡ 4) × TellsCore here profile bad answers told core text
 
--- a contradiction that was told: the bad answer where it stands, and the text of its reason
-pub record ToldContradiction : Type 0 where
-  pub bad : Placed
-  pub reason : List ℕ
-
--- the text is the reason of an answer that is refused, by its class, behind these accepted answers of earlier sessions and of its own: what doesn't fit is by its own session alone, and what it contradicts is of all
+-- the text is the reason of an answer that is refused, by its class, behind these accepted answers of earlier sessions and of its own: what doesn't fit is by its own session alone, and what it
+-- contradicts is of all
 abbrev pub IsReason : Profile → List (List Paired) → List Paired → Paired → Class → List ℕ → Type 0
 IsReason profile earlier accepted pair OutOfPlace text =
     let here = number_behind earlier in

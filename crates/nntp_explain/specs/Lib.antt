@@ -2,4 +2,4 @@ pub mod Standing
 pub mod Reasons
 pub mod Says
 pub mod Explaining
-pub mod ExplainingView
+pub mod Inner

@@ -1,22 +1,14 @@
 -- What `explain` prints of why an answer is bad. `here` is the number of its session.
 use Rattle.std.specs.Prelude.{ℕ, suc, ◌-◌, ◌==◌, ◌&&◌, Bool, false, if◌then◌else◌, List, [], ◌∷◌, ◌++◌, Option, None, Some, slice_get, codes, decimal}
-use Rattle.std.specs.List.{flat_map}
-use Rattle.std.specs.Option.{option_map, option_map_or}
-use Rattle.nntp_wire.specs.Answer.{Response, group_is, numbers_are}
-use Rattle.nntp_wire.specs.declared.misspelling.Misspelling.{Misspelling}
-use Rattle.nntp_wire.specs.declared.misspelling.Misspelling.TheVariants.{WrongOctet, TooLong, NoCode, WrongArgument, WrongLine, WrongBlock}
-use Rattle.nntp_wire.specs.declared.misspelling.Due.{Due}
-use Rattle.nntp_wire.specs.declared.misspelling.Due.TheVariants.{Number, GroupName, MessageId}
-use Rattle.nntp_wire.specs.declared.misspelling.LineFault.{LineFault}
-use Rattle.nntp_wire.specs.declared.misspelling.LineFault.TheVariants.{BadOctet, SingleDot, NoNumber, NoGroup, NoVersions}
-use Rattle.nntp_article.specs.Session.Misfit.{Misfit, wrong_code, wrong_name, wrong_number, wrong_id, below_low, wrong_marks}
-use Rattle.nntp_article.specs.Session.Misfit.{beyond_limit, not_above, beyond_range, unmatched, listed_twice, no_head, other_id}
-use Rattle.nntp_said.specs.declared.position.Position.{Position}
-use Rattle.nntp_said.specs.declared.position.Position.TheVariants.{Nowhere, First, Known}
-use Rattle.nntp_printing.specs.BadAnswer.{shown, command_line}
-use Rattle.nntp_printing.specs.Printing.{escaped}
-use Rattle.nntp_article.specs.Session.Machine.{is_same}
-use Rattle.nntp_article.specs.Session.Spool.{Name}
+use Rattle.std.specs.{List.{flat_map}, Option.{option_map, option_map_or}}
+use Rattle.nntp_wire.specs.{Answer.{Response, group_is, numbers_are}, declared.misspelling.Misspelling.{Misspelling, TheVariants.{WrongOctet, TooLong, NoCode}}}
+use Rattle.nntp_wire.specs.declared.misspelling.{Misspelling.TheVariants.{WrongArgument, WrongLine, WrongBlock}, Due.{Due, TheVariants.{Number, GroupName}}}
+use Rattle.nntp_wire.specs.declared.misspelling.{Due.TheVariants.{MessageId}, LineFault.{LineFault, TheVariants.{BadOctet, SingleDot, NoNumber, NoGroup}}}
+use Rattle.nntp_wire.specs.declared.misspelling.LineFault.TheVariants.{NoVersions}
+use Rattle.nntp_article.specs.Session.Misfit.{Misfit, wrong_code, wrong_name, wrong_number, wrong_id, below_low, wrong_marks, beyond_limit, not_above}
+use Rattle.nntp_article.specs.Session.{Misfit.{beyond_range, unmatched, listed_twice, no_head, other_id}, Machine.{is_same}, Spool.{Name}}
+use Rattle.nntp_said.specs.declared.position.Position.{Position, TheVariants.{Nowhere, First, Known}}
+use Rattle.nntp_printing.specs.{BadAnswer.{shown, command_line}, Printing.{escaped}}
 use Rattle.nntp_facts.specs.Conflict.{Placed, Point, Step, Group, Number as NumberOf, Count, First as FirstNumber, IdOf, PlaceOf, Article, HeadOf, BodyOf}
 use Rattle.nntp_explain.specs.Standing.{Standing, Cited}
 

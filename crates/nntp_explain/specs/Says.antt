@@ -1,27 +1,16 @@
 -- What `explain` prints of what an answer says about the point of a conflict.
-use Rattle.std.specs.Prelude.{ℕ, ◌+◌, ◌==◌, ◌||◌, ◌&&◌, Bool, true, if◌then◌else◌, List, [], ◌∷◌, ◌++◌, length, Option, None, Some, is_some, slice_get, codes, decimal}
-use Rattle.std.specs.List.{flat_map, list_any}
-use Rattle.std.specs.Option.{option_and_then, option_map, option_map_or, option_or}
-use Rattle.nntp_wire.specs.Answer.{Asked, Response, to, sends}
-use Rattle.nntp_wire.specs.Command.{retrieve}
-use Rattle.nntp_wire.specs.Listing.{ActiveValue}
-use Rattle.nntp_wire.specs.declared.marks.Marks.{Marks}
-use Rattle.nntp_wire.specs.declared.marks.Marks.TheVariants.{Lenient, Strict}
-use Rattle.nntp_wire.specs.declared.range.Range.{Range}
-use Rattle.nntp_article.specs.Article.Parts.{Id, Line}
-use Rattle.nntp_article.specs.Session.Machine.{is_same}
-use Rattle.nntp_article.specs.Session.Spool.{Name}
-use Rattle.nntp_said.specs.Asks.{Ask, Estimates, Bounds, ListsIn, Has, Lacks, StandsAt, StandsNowhere, StepsUp, StepsDown, IsTop, IsBottom}
+use Rattle.std.specs.Prelude.{ℕ, ◌+◌, ◌==◌, ◌||◌, ◌&&◌, Bool, true, if◌then◌else◌, List, [], ◌∷◌, ◌++◌, length, Option, None, Some, is_some, slice_get, codes}
+use Rattle.std.specs.{Prelude.{decimal}, List.{flat_map, list_any}, Option.{option_and_then, option_map, option_map_or, option_or}}
+use Rattle.nntp_wire.specs.{Answer.{Asked, Response, to, sends}, Command.{retrieve}, Listing.{ActiveValue}, declared.marks.Marks.{Marks, TheVariants.{Lenient}}}
+use Rattle.nntp_wire.specs.declared.{marks.Marks.TheVariants.{Strict}, range.Range.{Range}}
+use Rattle.nntp_article.specs.{Article.Parts.{Id, Line}, Session.{Machine.{is_same}, Spool.{Name}}}
+use Rattle.nntp_said.specs.{Asks.{Ask, Estimates, Bounds, ListsIn, Has, Lacks, StandsAt, StandsNowhere, StepsUp, StepsDown, IsTop, IsBottom}, Facts.{Fact}}
+use Rattle.nntp_said.specs.{Facts.{ThereIs, ThereIsNo, IdAt, TextIs, NoArticle, GroupsAre}, declared.position.Position.{Position, TheVariants.{Known}}}
 use Rattle.nntp_facts.specs.Conflict.{Placed, Core, Point, Step, Group, Number, Count, First as FirstNumber, IdOf, PlaceOf, Article, HeadOf, BodyOf, said}
-use Rattle.nntp_said.specs.Facts.{Fact, ThereIs, ThereIsNo, IdAt, TextIs, NoArticle, GroupsAre}
-use Rattle.nntp_facts.specs.Given.{shows, denies, is_end, asks_in, shows_group, id_in, head_in, body_in}
-use Rattle.nntp_facts.specs.Together.{denies_group, number_in, shows_article, denies_article}
-use Rattle.nntp_said.specs.declared.position.Position.{Position}
-use Rattle.nntp_said.specs.declared.position.Position.TheVariants.{Known}
-use Rattle.nntp_printing.specs.BadAnswer.{shown}
-use Rattle.nntp_explain.specs.Reasons.{octets_line, because_at, about_line, rest_line}
-use Rattle.nntp_printing.specs.Printing.{escaped}
-use Rattle.nntp_explain.specs.Standing.{Cited}
+use Rattle.nntp_facts.specs.{Given.{shows, denies, is_end, asks_in, shows_group, id_in, head_in, body_in}, Together.{denies_group, number_in, shows_article}}
+use Rattle.nntp_facts.specs.Together.{denies_article}
+use Rattle.nntp_printing.specs.{BadAnswer.{shown}, Printing.{escaped}}
+use Rattle.nntp_explain.specs.{Reasons.{octets_line, because_at, about_line, rest_line}, Standing.{Cited}}
 
 -- what the line of a group or an id begins with
 abbrev pub subject : List ℕ → List ℕ → List ℕ

@@ -5,8 +5,9 @@ ghost use Rattle.nntp_wire.specs.Listing.{listed_numbers};
 ghost use Rattle.nntp_article.specs.Session.Machine.{is_in_range};
 ghost use Rattle.nntp_facts.specs.Given.{is_end};
 ghost use Rattle.nntp_said.specs.Asks as asks;
-ghost use Rattle.nntp_said.specs.FactView.{ask_of};
-ghost use Rattle.nntp_explain.specs.Says.{ask_text, ask_word, bears_on, current_place, current_word, listed_text, marks_text, place_text, range_text, with_or_without};
+ghost use Rattle.nntp_said.specs.Inner.FactView.{ask_of};
+ghost use Rattle.nntp_explain.specs.Says.{ask_text, ask_word, bears_on, current_place, current_word, listed_text, marks_text, place_text, range_text};
+ghost use Rattle.nntp_explain.specs.Says.{with_or_without};
 
 use nntp_facts::{Ask, Position};
 use nntp_printing::put_number;

@@ -2,10 +2,10 @@
 ghost use Rattle.std.specs.Prelude.{◌≡◌, ◌++◌, ◌<◌, ◌-◌, ◌^◌, [], IfSome, OnOk, map, slice_get};
 ghost use Rattle.std.specs.List.{flat_map};
 ghost use Rattle.std.specs.Option.{option_map_or};
-ghost use Rattle.nntp_wire.specs.AnswerView.{response};
-ghost use Rattle.nntp_wire.specs.View.{asked};
-ghost use Rattle.nntp_facts.specs.PointView.{point_of};
-ghost use Rattle.nntp_explain.specs.ExplainingView.{cited_of};
+ghost use Rattle.nntp_wire.specs.Inner.AnswerView.{response};
+ghost use Rattle.nntp_wire.specs.Inner.View.{asked};
+ghost use Rattle.nntp_facts.specs.Inner.PointView.{point_of};
+ghost use Rattle.nntp_explain.specs.Inner.ExplainingView.{cited_of};
 ghost use Rattle.nntp_explain.specs.Says.{conflict_lines, first_part, part_at, part_sent, reason_lines, said_lines, told_line};
 
 use crate::reasons::{put_about, put_because_at, put_rest};
@@ -30,7 +30,8 @@ pub(crate) fn put_conflict<A: Allocator + Copy>(
     cited: &[Cited<'_>],
     core: &Core<A>,
 ) -> Result<(), AllocError>
-    ensures { OnOk result (text.new.items ≡ text.old.items ++ conflict_lines here how (point_of point.entry) bad.now answers.now (map cited_of cited.now) core.now) }
+    ensures { OnOk result (text.new.items ≡ text.old.items
+        ++ conflict_lines here how (point_of point.entry) bad.now answers.now (map cited_of cited.now) core.now) }
 {
     put_about(text, &point)?;
     let line = told_line(&point, bad, answers, core.places());
@@ -71,7 +72,8 @@ fn put_reason<A: Allocator + Copy>(
     place: usize,
 ) -> Result<(), AllocError>
     requires { IfSome about.now.line (λ place. place < 2 ^ 64 - 1) }
-    ensures { OnOk result (text.new.items ≡ text.old.items ++ reason_lines here how about.now.line (point_of about.now.point) answers.now (map cited_of cited.now) place) }
+    ensures { OnOk result (text.new.items ≡ text.old.items
+        ++ reason_lines here how about.now.line (point_of about.now.point) answers.now (map cited_of cited.now) place) }
 {
     put_because_at(text, here, cited, place)?;
     put_said_at(text, how, about, answers, place)
@@ -86,7 +88,8 @@ fn put_said_at<A: Allocator + Copy>(
     place: usize,
 ) -> Result<(), AllocError>
     requires { IfSome about.now.line (λ place. place < 2 ^ 64 - 1) }
-    ensures { OnOk result (text.new.items ≡ text.old.items ++ option_map_or (said_lines how about.now.line (point_of about.now.point)) (slice_get answers.now place) []) }
+    ensures { OnOk result (text.new.items ≡ text.old.items
+        ++ option_map_or (said_lines how about.now.line (point_of about.now.point)) (slice_get answers.now place) []) }
 {
     match answers.get(place) {
         Some(answer) => put_said(text, how, about, answer),

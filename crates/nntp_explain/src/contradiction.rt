@@ -15,7 +15,7 @@ pub(crate) struct ToldContradiction<'a, A: Allocator> {
 }
 
 impl<'a, A: Allocator> Model for ToldContradiction<'a, A> {
-    ghost use Rattle.nntp_explain.specs.Explaining.{ToldContradiction as ToldValue};
+    ghost use Rattle.nntp_explain.specs.Inner.Explaining.{ToldContradiction as ToldValue};
 
     ghost Value = { ToldValue };
 

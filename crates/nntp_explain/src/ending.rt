@@ -4,7 +4,7 @@ ghost use Rattle.std.specs.Prelude.{◌≡◌, ◌≢◌, ◌++◌, OnOk};
 ghost use Rattle.std.specs.Option.{option_map};
 ghost use Rattle.nntp_pair.specs.declared.class.PairClass.TheVariants.{Malformed};
 ghost use Rattle.nntp_explain.specs.Explaining.{counts_text, IsEndReason};
-ghost use Rattle.nntp_explain.specs.ExplainingView.{cited_of, GoesOn};
+ghost use Rattle.nntp_explain.specs.Inner.ExplainingView.{cited_of, GoesOn};
 
 use crate::reasons::{put_cut, put_surplus};
 use crate::standing::Cited;

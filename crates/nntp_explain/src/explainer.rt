@@ -1,22 +1,23 @@
 //! What is kept of sessions that are read on behind bad answers, and what is told of a bad answer.
-ghost use Rattle.std.specs.Prelude.{◌≡◌, ◌≢◌, ℕ, ◌+◌, ◌<◌, ◌≤◌, ◌^◌, ◌++◌, List, [], ◌∷◌, None, length, map, nat_lt, OnOk, IfOk};
+ghost use Rattle.std.specs.Prelude.{◌≡◌, ◌≢◌, ℕ, ◌+◌, ◌<◌, ◌≤◌, ◌^◌, ◌++◌, List, ◌∷◌, None, length, map, nat_lt, OnOk, IfOk};
 ghost use Rattle.std.specs.List.{AllByRecursion};
-ghost use Rattle.std.specs.Option.{option_copied, option_map, option_map_or};
-ghost use Rattle.nntp_wire.specs.Misspelling.{misspelling};
-ghost use Rattle.nntp_wire.specs.View.{asked};
+ghost use Rattle.std.specs.Option.{option_copied, option_map};
+ghost use Rattle.nntp_wire.specs.Inner.View.{asked};
 ghost use Rattle.nntp_article.specs.declared.session.profile.Profile.{Profile};
 ghost use Rattle.nntp_pair.specs.Pairing.{Unpaired, IsNext};
 ghost use Rattle.nntp_pair.specs.declared.class.PairClass.TheVariants.{Malformed};
-ghost use Rattle.nntp_facts.specs.Conflict.{Placed as PlacedValue, FitsThere, SomeHas, told_with, below, places_of};
-ghost use Rattle.nntp_facts.specs.Points.{AreHeld};
-ghost use Rattle.nntp_facts.specs.StatementView.{held_of};
+ghost use Rattle.nntp_facts.specs.Conflict.{Placed as PlacedValue, places_of};
+ghost use Rattle.nntp_facts.specs.Inner.Conflict.{FitsThere};
+ghost use Rattle.nntp_facts.specs.Inner.Points.{AreHeld};
+ghost use Rattle.nntp_facts.specs.Inner.StatementView.{held_of};
 ghost use Rattle.nntp_pair.specs.declared.class.Class.TheVariants.{Malformed as MalformedClass, OutOfPlace, Contradiction};
 ghost use Rattle.nntp_pair.specs.Classes.{class_of};
-ghost use Rattle.nntp_facts.specs.Noted.{profile_kept};
+ghost use Rattle.nntp_facts.specs.Inner.Noted.{profile_kept};
 ghost use Rattle.nntp_printing.specs.BadAnswer.{IsFirstLine};
-ghost use Rattle.nntp_explain.specs.Explaining.{front_lines, place_lines, IsConflictOf, IsEndReason, IsTold, TellsCore};
-ghost use Rattle.nntp_explain.specs.ExplainingView.{AreReasons, Before, begins, cited_of, kept_of, keeps, placed_at, refuses, standing_of, title_of, unfitting_told, GoesOn, HasReadNone, HasTold};
-ghost use Rattle.nntp_explain.specs.Reasons.{misspelling_line};
+ghost use Rattle.nntp_explain.specs.Explaining.{front_lines, place_lines, IsEndReason, TellsCore};
+ghost use Rattle.nntp_explain.specs.Inner.ExplainingView.{Before, begins, cited_of, kept_of, keeps, placed_here, refuses, standing_of, title_of};
+ghost use Rattle.nntp_explain.specs.Inner.ExplainingView.{unfitting_told, unspelled_lines, AreReasons, Contradicts, Fits, GoesOn, HasReadNone, HasTold};
+ghost use Rattle.nntp_explain.specs.Inner.ExplainingView.{TellsBad, TellsConflict};
 ghost use Rattle.nntp_explain.specs.Standing.{Cited as CitedValue};
 
 use crate::conflict::put_conflict;
@@ -155,9 +156,8 @@ impl<'a, A: Allocator + Copy> Explainer<'a, A> {
         requires placed { self.old.others ≤ length self.old.placed.items }
         requires cited { self.old.others ≤ length self.old.cited.items }
         ensures kept { OnOk result (kept_of self.new ≡ refuses (kept_of self.old)) }
-        ensures text { OnOk result (GoesOn (IsTold self.old.bad (option_map standing_of self.old.standing) exchange.now.index OutOfPlace exchange.now.line exchange.now.initial
-            (λ reason. reason ≡ unfitting_told (kept_of self.old) exchange.now))
-            (self.old.text.items ++ title_of (kept_of self.old)) self.new.text.items) }
+        ensures text { OnOk result (TellsBad (kept_of self.old) exchange.now.index OutOfPlace exchange.now.line exchange.now.initial
+            (λ reason. reason ≡ unfitting_told (kept_of self.old) exchange.now) self.old.text.items self.new.text.items) }
     {
         let line = exchange.line();
         if self.put_bad(
@@ -187,15 +187,13 @@ impl<'a, A: Allocator + Copy> Explainer<'a, A> {
         exchange: Exchange<'a>,
     ) -> Result<(), AllocError>
         requires few { self.old.bad ≤ length self.old.text.items }
-        requires fit { AllByRecursion (FitsThere (profile_kept self.old.facts)) (placed_at (option_map standing_of self.old.standing) position exchange ∷ self.old.placed.items) }
-        requires conflict { SomeHas (profile_kept self.old.facts)
-            (told_with (profile_kept self.old.facts) (placed_at (option_map standing_of self.old.standing) position exchange) self.old.placed.items (below (length self.old.placed.items))) → ⊥ }
+        requires fit { Fits (kept_of self.old) (placed_here (kept_of self.old) position exchange) }
+        requires conflict { Contradicts (kept_of self.old) (placed_here (kept_of self.old) position exchange) }
         requires reasons { AreReasons (profile_kept self.old.facts) (kept_of self.old) self.old.contradictions.items }
         ensures kept { OnOk result (kept_of self.new ≡ record (refuses (kept_of self.old)) { contradictions = self.new.contradictions.items }) }
         ensures reasons { OnOk result (AreReasons (profile_kept self.old.facts) (kept_of self.old) self.new.contradictions.items) }
-        ensures text { OnOk result (GoesOn (IsTold self.old.bad (option_map standing_of self.old.standing) exchange.entry.index Contradiction exchange.entry.line exchange.entry.initial
-            (IsConflictOf self.old.session (profile_kept self.old.facts) (placed_at (option_map standing_of self.old.standing) position exchange.entry) self.old.placed.items (map cited_of self.old.cited.items)))
-            (self.old.text.items ++ title_of (kept_of self.old)) self.new.text.items) }
+        ensures text { OnOk result (TellsBad (kept_of self.old) exchange.entry.index Contradiction exchange.entry.line exchange.entry.initial
+            (TellsConflict (kept_of self.old) (placed_here (kept_of self.old) position exchange.entry)) self.old.text.items self.new.text.items) }
     {
         let line = exchange.line();
         if !self.put_bad(
@@ -213,13 +211,12 @@ impl<'a, A: Allocator + Copy> Explainer<'a, A> {
     /// Tells with which of the accepted answers the bad one conflicts, and about what. It is what was told of the same
     /// answer from the same place, if the session had one.
     fn tell_conflict(&mut self, bad: Placed<'a>) -> Result<(), AllocError>
-        requires fit { AllByRecursion (FitsThere (profile_kept self.old.facts)) (bad ∷ self.old.placed.items) }
-        requires conflict { SomeHas (profile_kept self.old.facts) (told_with (profile_kept self.old.facts) bad self.old.placed.items (below (length self.old.placed.items))) → ⊥ }
+        requires fit { Fits (kept_of self.old) bad }
+        requires conflict { Contradicts (kept_of self.old) bad }
         requires reasons { AreReasons (profile_kept self.old.facts) (kept_of self.old) self.old.contradictions.items }
         ensures kept { OnOk result (kept_of self.new ≡ record (kept_of self.old) { contradictions = self.new.contradictions.items }) }
         ensures reasons { OnOk result (AreReasons (profile_kept self.old.facts) (kept_of self.old) self.new.contradictions.items) }
-        ensures text { OnOk result (GoesOn (IsConflictOf self.old.session (profile_kept self.old.facts) bad.entry self.old.placed.items (map cited_of self.old.cited.items))
-            self.old.text.items self.new.text.items) }
+        ensures text { OnOk result (GoesOn (TellsConflict (kept_of self.old) bad.entry) self.old.text.items self.new.text.items) }
     {
         if let Some(reason) = reason_of(&self.contradictions, &bad) {
             return self.text.extend_from_slice(reason);
@@ -234,10 +231,9 @@ impl<'a, A: Allocator + Copy> Explainer<'a, A> {
 
     /// Finds with which of the accepted answers the bad one conflicts, and adds these, and about what.
     fn put_found(&self, text: &mut Vec<u8, A>, bad: &Placed<'a>) -> Result<(), AllocError>
-        requires fit { AllByRecursion (FitsThere (profile_kept self.now.facts)) (bad.now ∷ self.now.placed.items) }
-        requires conflict { SomeHas (profile_kept self.now.facts) (told_with (profile_kept self.now.facts) bad.now self.now.placed.items (below (length self.now.placed.items))) → ⊥ }
-        ensures { OnOk result (GoesOn (IsConflictOf self.now.session (profile_kept self.now.facts) bad.now self.now.placed.items (map cited_of self.now.cited.items))
-            text.old.items text.new.items) }
+        requires fit { Fits (kept_of self.now) bad.now }
+        requires conflict { Contradicts (kept_of self.now) bad.now }
+        ensures { OnOk result (GoesOn (TellsConflict (kept_of self.now) bad.now) text.old.items text.new.items) }
     {
         let limit = self.facts.limit();
         let marks = self.facts.marks();
@@ -263,9 +259,9 @@ impl<'a, A: Allocator + Copy> Explainer<'a, A> {
     ) -> Result<(), AllocError>
         requires { self.old.bad ≤ length self.old.text.items }
         ensures kept { OnOk result (kept_of self.new ≡ refuses (kept_of self.old)) }
-        ensures text { OnOk result (GoesOn (IsTold self.old.bad (option_map standing_of self.old.standing) index MalformedClass (option_copied malformed.now.line) malformed.now.frame.initial
-            (λ reason. reason ≡ option_map_or misspelling_line (misspelling (asked malformed.now.prompt) malformed.now.frame.initial malformed.now.frame.block) []))
-            (self.old.text.items ++ title_of (kept_of self.old)) self.new.text.items) }
+        ensures text { OnOk result (TellsBad (kept_of self.old) index MalformedClass (option_copied malformed.now.line) malformed.now.frame.initial
+            (λ reason. reason ≡ unspelled_lines (asked malformed.now.prompt) malformed.now.frame.initial malformed.now.frame.block)
+            self.old.text.items self.new.text.items) }
     {
         let initial = malformed.frame.initial();
         if self.put_bad(index, Class::Malformed, malformed.line, initial)? {
@@ -285,8 +281,8 @@ impl<'a, A: Allocator + Copy> Explainer<'a, A> {
         requires passed { class ≢ Malformed }
         ensures kept { OnOk result (kept_of self.new ≡ refuses (kept_of self.old)) }
         ensures text { OnOk result ((line : List ℕ) × IsFirstLine ahead.entry.rest.now line
-            × GoesOn (IsTold self.old.bad (option_map standing_of self.old.standing) index (class_of class) (option_copied ahead.entry.line) line
-            (IsEndReason self.old.session class (option_map cited_of self.old.closing) ahead.entry.rest.now)) (self.old.text.items ++ title_of (kept_of self.old)) self.new.text.items) }
+            × TellsBad (kept_of self.old) index (class_of class) (option_copied ahead.entry.line) line
+            (IsEndReason self.old.session class (option_map cited_of self.old.closing) ahead.entry.rest.now) self.old.text.items self.new.text.items) }
     {
         let initial = first_line(ahead.rest);
         if self.put_bad(index, Class::from(class), ahead.line, initial)? {
@@ -355,7 +351,8 @@ fn put_point_of<A: Allocator + Copy>(
     cited: &[Cited<'_>],
     core: &Core<A>,
 ) -> Result<(), AllocError>
-    ensures { OnOk result ((profile : Profile) (answers : List PlacedValue) (told : List CitedValue) → marks ≡ profile.marks → placed.now ≡ answers → map cited_of cited.now ≡ told
+    ensures { OnOk result ((profile : Profile) (answers : List PlacedValue) (told : List CitedValue) → marks ≡ profile.marks → placed.now ≡ answers
+        → map cited_of cited.now ≡ told
         → AllByRecursion (FitsThere profile) (bad.now ∷ answers) → AreHeld profile bad.now answers (places_of core.now) (held_of conflict.now)
         → GoesOn (TellsCore here profile bad.now answers told core.now) text.old.items text.new.items) }
 {
@@ -371,7 +368,7 @@ fn put_unspelled<A: Allocator + Copy>(
     malformed: &MalformedFrame<'_>,
 ) -> Result<(), AllocError>
     ensures { OnOk result (text.new.items ≡ text.old.items
-        ++ option_map_or misspelling_line (misspelling (asked malformed.now.prompt) malformed.now.frame.initial malformed.now.frame.block) []) }
+        ++ unspelled_lines (asked malformed.now.prompt) malformed.now.frame.initial malformed.now.frame.block) }
 {
     match Misspelling::of(&malformed.prompt, &malformed.frame) {
         Some(misspelling) => put_misspelling(text, misspelling),

@@ -3,7 +3,8 @@ ghost use Rattle.std.specs.Prelude.{◌≡◌, ◌<◌, ◌++◌, ℕ, Bool, Lis
 ghost use Rattle.nntp_wire.specs.Answer.{Asked, Response};
 ghost use Rattle.nntp_wire.specs.declared.limit.Limit.{Limit};
 ghost use Rattle.nntp_wire.specs.declared.marks.Marks.{Marks};
-ghost use Rattle.nntp_article.specs.Session.Misfit.{misfit, below_low, marked_by};
+ghost use Rattle.nntp_article.specs.Session.Misfit.{misfit, below_low};
+ghost use Rattle.nntp_article.specs.Inner.Misfit.{marked_by};
 ghost use Rattle.nntp_article.specs.declared.session.profile.Profile.{Profile};
 ghost use Rattle.nntp_facts.specs.Conflict.{placed_of};
 ghost use Rattle.nntp_pair.specs.Pairing.{Paired};
@@ -17,7 +18,8 @@ use nntp_article::session::laws::reasons_are_so;
 pub fn low_marks_have_givers()
     ensures { (profile : Profile) (accepted : List Paired) (asked : Asked) (response : Response) (low : ℕ)
         → misfit profile (visible_left accepted) asked response ≡ Some (below_low low)
-        → MatchOption (marked_by response) ⊥ (λ marked. MatchOption (low_giver marked.0 low (placed_of accepted)) ⊥ (λ place. place < length (placed_of accepted))) }
+        → MatchOption (marked_by response) ⊥ (λ marked. MatchOption (low_giver marked.0 low (placed_of accepted)) ⊥
+        (λ place. place < length (placed_of accepted))) }
 {
     reasons_are_so();
 }
@@ -27,7 +29,8 @@ pub fn one_session_is_explained_alone()
     ensures alone { (limit : Limit) (marks : Marks) (s : Named) (text : List ℕ) (good : Bool) → IsExplanationOfAll limit marks (s ∷ []) text good
         → (lines : List ℕ) × (c : Counts) × (text ≡ titled 1 s.name c.bad ++ lines ++ codes "end sessions=" ++ decimal 1 ++ codes " " ++ counts_text c)
         × IsExplanation limit marks s.session.client s.session.server (lines ++ codes "end " ++ counts_text c) good }
-    ensures of_all { (limit : Limit) (marks : Marks) (s : Named) (text : List ℕ) (good : Bool) → IsExplanation limit marks s.session.client s.session.server text good
+    ensures of_all { (limit : Limit) (marks : Marks) (s : Named) (text : List ℕ) (good : Bool)
+        → IsExplanation limit marks s.session.client s.session.server text good
         → (lines : List ℕ) × (c : Counts) × (text ≡ lines ++ codes "end " ++ counts_text c)
         × IsExplanationOfAll limit marks (s ∷ []) (titled 1 s.name c.bad ++ lines ++ codes "end sessions=" ++ decimal 1 ++ codes " " ++ counts_text c) good }
 {}

@@ -4,12 +4,13 @@ ghost use Rattle.std.specs.List.{flat_map};
 ghost use Rattle.std.specs.Option.{option_map};
 ghost use Rattle.nntp_wire.specs.Lines.{lines_of_stream};
 ghost use Rattle.nntp_article.specs.Session.Misfit as misfits;
-ghost use Rattle.nntp_article.specs.Session.MisfitView.{why};
-ghost use Rattle.nntp_facts.specs.PointView.{point_of};
+ghost use Rattle.nntp_article.specs.Inner.MisfitView.{why};
+ghost use Rattle.nntp_facts.specs.Inner.PointView.{point_of};
 ghost use Rattle.nntp_printing.specs.Printing.{escaped};
-ghost use Rattle.nntp_explain.specs.Reasons.{about_line, octets_line, current_text, standing_line, allowed_text, misfit_line, misspelling_line, cut_line, surplus_lines};
+ghost use Rattle.nntp_explain.specs.Reasons.{about_line, octets_line, current_text, standing_line, allowed_text, misfit_line, misspelling_line, cut_line};
+ghost use Rattle.nntp_explain.specs.Reasons.{surplus_lines};
 ghost use Rattle.nntp_explain.specs.Reasons.{due_word, fault_word, number_line, rest_line, answer_at, answer_text, because_at, because_lines};
-ghost use Rattle.nntp_explain.specs.ExplainingView.{standing_of, cited_of};
+ghost use Rattle.nntp_explain.specs.Inner.ExplainingView.{standing_of, cited_of};
 
 use crate::standing::{Cited, Standing};
 use nntp_article::Misfit;

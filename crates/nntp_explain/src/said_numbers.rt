@@ -4,7 +4,7 @@ ghost use Rattle.std.specs.Option.{option_map_or};
 ghost use Rattle.nntp_wire.specs.Listing.{active_groups};
 ghost use Rattle.nntp_article.specs.Session.Machine.{is_same};
 ghost use Rattle.nntp_said.specs.Facts.{Asks, GroupsAre, IdAt};
-ghost use Rattle.nntp_said.specs.FactView.{ask_of};
+ghost use Rattle.nntp_said.specs.Inner.FactView.{ask_of};
 ghost use Rattle.nntp_explain.specs.Says.{ask_line, bears_on, id_line, numbers_said, subject};
 
 use crate::ask::{ask_word, bears_on, put_ask_text, put_listed};

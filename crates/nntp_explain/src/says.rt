@@ -4,8 +4,8 @@ ghost use Rattle.std.specs.List.{list_any};
 ghost use Rattle.nntp_wire.specs.Listing.{active_groups};
 ghost use Rattle.nntp_article.specs.Session.Machine.{is_same};
 ghost use Rattle.nntp_said.specs.Facts.{ThereIs, ThereIsNo, Asks, IdAt, TextIs, NoArticle, GroupsAre};
-ghost use Rattle.nntp_said.specs.FactView.{ask_of, fact_of};
-ghost use Rattle.nntp_facts.specs.PointView.{point_of};
+ghost use Rattle.nntp_said.specs.Inner.FactView.{ask_of, fact_of};
+ghost use Rattle.nntp_facts.specs.Inner.PointView.{point_of};
 ghost use Rattle.nntp_facts.specs.Conflict as points;
 ghost use Rattle.nntp_explain.specs.Says.{groups_line, said_lines, says};
 
@@ -196,7 +196,8 @@ fn put_groups<A: Allocator + Copy>(
     wildmat: &Option<Wildmat<'_>>,
     block: &Block<'_>,
 ) -> Result<(), AllocError>
-    ensures { OnOk result (text.new.items ≡ text.old.items ++ says about.now.line (point_of about.now.point) (GroupsAre wildmat.now (active_groups block.now))) }
+    ensures { OnOk result (text.new.items ≡ text.old.items
+        ++ says about.now.line (point_of about.now.point) (GroupsAre wildmat.now (active_groups block.now))) }
 {
     match &about.point {
         Point::Group(name) => put_group_listed(text, name, wildmat, block),

@@ -1,10 +1,10 @@
 //! Sessions that are read to their ends, behind bad answers too, and the reports on what is bad of them.
 ghost use Rattle.std.specs.Prelude.{◌≡◌, ◌==◌, ◌+◌, ◌<◌, ◌≤◌, ◌^◌, ◌++◌, List, length, IfOk};
 ghost use Rattle.nntp_article.specs.declared.session.profile.Profile.{Profile};
-ghost use Rattle.nntp_facts.specs.Noted.{profile_kept};
-ghost use Rattle.nntp_pair.specs.Pairing.{Paired, streams};
+ghost use Rattle.nntp_facts.specs.Inner.Noted.{profile_kept};
+ghost use Rattle.nntp_pair.specs.Pairing.{Paired};
 ghost use Rattle.nntp_explain.specs.Explaining.{counts_text, IsExplanation, IsExplanationOfAll};
-ghost use Rattle.nntp_explain.specs.ExplainingView.{Before, kept_of, AreKept, HasReadNone, HasTold, HaveRead, IsRead};
+ghost use Rattle.nntp_explain.specs.Inner.ExplainingView.{Before, kept_of, AreKept, HasBegun, HasReadNone, HaveRead, IsRead};
 
 use crate::ending::put_counts;
 use crate::explainer::Explainer;
@@ -35,7 +35,6 @@ pub fn explain<A: Allocator + Copy>(
     client: &[u8],
     server: &[u8],
 ) -> Result<Explanation<A>, AllocError>
-    // Whatever the text of a spool is.
     ensures { IfOk result (λ told. IsExplanation limit marks client.now server.now told.text.items told.is_without_fault) }
 {
     let mut explainer = Explainer::new(alloc, limit, marks);
@@ -120,8 +119,8 @@ impl<'a, A: Allocator + Copy> Explainer<'a, A> {
     /// Reads both streams of the session that began to their end, and tells how many lines have no answer. It has
     /// several ends, and borrows what is kept, which each of them would drop.
     fn read(&mut self, session: &Recorded<'a>) -> Result<u64, AllocError>
-        requires { (profile : Profile) × (b : Before) × HasTold profile b session.now.client session.now.server self.old (streams session.now.client session.now.server) }
-        ensures { IfOk result (λ unanswered. (profile : Profile) (b : Before) → HasTold profile b session.now.client session.now.server self.old (streams session.now.client session.now.server)
+        requires { (profile : Profile) × (b : Before) × HasBegun profile b session.now self.old }
+        ensures { IfOk result (λ unanswered. (profile : Profile) (b : Before) → HasBegun profile b session.now self.old
             → IsRead profile b session.now.client session.now.server (kept_of self.new) self.new.text.items unanswered) }
     {
         let mut pairs = Pairs::new(session.client, session.server);

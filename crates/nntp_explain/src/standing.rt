@@ -2,7 +2,7 @@
 ghost use Rattle.std.specs.Prelude.{◌≡◌};
 ghost use Rattle.std.specs.Option.{option_map};
 ghost use Rattle.nntp_explain.specs.Standing.{cited_at, closing_after, mover, moved, selected, standing_after};
-ghost use Rattle.nntp_explain.specs.ExplainingView.{cited_of, standing_of};
+ghost use Rattle.nntp_explain.specs.Inner.ExplainingView.{cited_of, standing_of};
 
 use nntp_facts::Position;
 use nntp_pair::Exchange;

@@ -1,9 +1,9 @@
 //! Why an answer doesn't fit, as `explain` prints it, with the answer that made the state.
 ghost use Rattle.std.specs.Prelude.{◌≡◌, ◌++◌, [], OnOk, map};
 ghost use Rattle.std.specs.Option.{option_map_or};
-ghost use Rattle.nntp_wire.specs.AnswerView.{response};
-ghost use Rattle.nntp_article.specs.Session.MisfitView.{why_if};
-ghost use Rattle.nntp_explain.specs.ExplainingView.{cited_of};
+ghost use Rattle.nntp_wire.specs.Inner.AnswerView.{response};
+ghost use Rattle.nntp_article.specs.Inner.MisfitView.{why_if};
+ghost use Rattle.nntp_explain.specs.Inner.ExplainingView.{cited_of};
 ghost use Rattle.nntp_explain.specs.Reasons.{gives_low, giver_lines, low_giver, unfitting_lines};
 
 use crate::reasons::{put_because_at, put_misfit};

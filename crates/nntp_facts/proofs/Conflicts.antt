@@ -1,40 +1,21 @@
 -- With which earlier answers a bad answer conflicts.
-use Rattle.std.proofs.Common.{map, length-append, ◌≡◌, ℕ, zero, suc, ◌+◌, ◌<◌, ◌≤◌, ◌^◌, ◌⊎◌, ◌↔◌, IsTrue, List, [], ◌∷◌, ◌++◌, length, Option, None, Some, inl, inr, refl, sym, ap, subst, ◌∙◌, arith}
-use Rattle.std.specs.Prelude.{not}
-use Rattle.std.specs.List.{AllByRecursion, flat_map}
-use Rattle.std.proofs.lemmas.Bool.{cases_lt, cases_eq, true≢false, not-true}
-use Rattle.std.proofs.lemmas.List.{length-map}
-use Rattle.std.specs.Cmp.{nat_cmp_total}
-use Rattle.std.specs.FinMap.{len, len-entries}
-use Rattle.nntp_said.specs.declared.position.Position.TheVariants.{Nowhere}
-use Rattle.nntp_facts.specs.Classes.{visible_from, position_from, asked_next}
-use Rattle.nntp_facts.specs.Permits.{SomePermits}
-use Rattle.nntp_facts.proofs.Maps.{keys_among}
-use Rattle.nntp_said.proofs.CurrentArticle.{run_from}
-use Rattle.nntp_said.proofs.FactsHold.{run_of_facts}
-use Rattle.nntp_facts.proofs.Given.GivenPermits.{said}
-use Rattle.nntp_facts.proofs.Session.OneMoreAnswer.{facts_grow}
-use Rattle.nntp_wire.specs.Answer.{Asked, Response}
-use Rattle.nntp_article.specs.Session.Spool.{Spool, IsSpool, IsGroup, IsNumber, numbers, Name}
-use Rattle.nntp_article.specs.declared.session.profile.Profile.{Profile}
-use Rattle.nntp_wire.specs.declared.marks.Marks.{Marks}
-use Rattle.nntp_wire.specs.declared.marks.Marks.TheVariants.{Lenient}
-use Rattle.nntp_article.specs.Session.Machine.{Visible, visible_after, start, fits}
-use Rattle.nntp_said.specs.Asks.{position_after}
-use Rattle.nntp_said.specs.declared.position.Position.{Position}
-use Rattle.nntp_said.specs.Facts.{Fact, Holds, ThereIs, Asks, IdAt, facts_of, facts_from, FitsAll, group_of}
-use Rattle.nntp_facts.specs.Given.{size, asks_of}
-use Rattle.nntp_facts.specs.Together.{Together, is_possible}
-use Rattle.nntp_facts.specs.Conflict.{Placed, placed_from, FitsThere, widest, said as said_there, a_group, the_group, with_group, told, SomeHas, told_at}
-use Rattle.nntp_facts.specs.Conflict.{told_with, below, IsCore, AreFound, IsPartOfCore, Point, Step, Group, Number, Count}
-use Rattle.nntp_facts.specs.Conflict.{First, IdOf, PlaceOf, Article, HeadOf, BodyOf, ConflictAt}
-use Rattle.nntp_facts.proofs.Members.{In, all_at, all_from, all_both, all_front, all_back, in_front, in_back, in_cases, in_map, found_in, to_flat, from_flat}
-use Rattle.nntp_facts.proofs.Session.NumbersOfShownGroups.{Placed as IsPlaced, Among, selectable, session_placed}
-use Rattle.nntp_facts.proofs.Session.GroupOfAnAnswer.{IsOf, one_group, same_selected}
-use Rattle.nntp_facts.proofs.Session.FittingFacts.{IsFitting, answer_fitting}
-use Rattle.nntp_facts.proofs.Given.ConstructedSpool.{made}
-use Rattle.nntp_facts.proofs.Given.GivenHasFacts.{given_of_facts, given_has}
+use Rattle.std.proofs.Common.{map, length-append, ◌≡◌, ℕ, zero, suc, ◌+◌, ◌<◌, ◌≤◌, ◌^◌, ◌⊎◌, ◌↔◌, IsTrue, List, [], ◌∷◌, ◌++◌, length, Option, None, Some, inl}
+use Rattle.std.proofs.{Common.{inr, refl, sym, ap, subst, ◌∙◌, arith}, lemmas.{Bool.{cases_lt, cases_eq, true≢false, not-true}, List.{length-map}}}
+use Rattle.std.specs.{Prelude.{not}, List.{AllByRecursion, flat_map}, Cmp.{nat_cmp_total}, FinMap.{len, len-entries}}
+use Rattle.nntp_said.specs.{declared.position.Position.{Position, TheVariants.{Nowhere}}, Asks.{position_after}, Facts.{Fact, Holds, ThereIs, Asks, IdAt}}
+use Rattle.nntp_said.{specs.{Facts.{facts_of, facts_from, group_of}, Inner.Facts.{FitsAll}}, proofs.{CurrentArticle.{run_from}, FactsHold.{run_of_facts}}}
+use Rattle.nntp_facts.specs.{Classes.{visible_from, position_from, asked_next}, Inner.{Permits.{SomePermits}, Given.{size}, Together.{Together}}}
+use Rattle.nntp_facts.specs.{Inner.Conflict.{FitsThere, AreFound, IsPartOfCore}, Given.{asks_of}, Together.{is_possible}, Conflict.{Placed, placed_from}}
+use Rattle.nntp_facts.specs.Conflict.{widest, said as said_there, a_group, the_group, with_group, told, SomeHas, told_at, told_with, below, IsCore, Point, Step}
+use Rattle.nntp_facts.{specs.Conflict.{Group, Number, Count, First, IdOf, PlaceOf, Article, HeadOf, BodyOf, ConflictAt}, proofs.Maps.{keys_among}}
+use Rattle.nntp_facts.proofs.Given.{GivenPermits.{said}, ConstructedSpool.{made}, GivenHasFacts.{given_of_facts, given_has}}
+use Rattle.nntp_facts.proofs.Session.{OneMoreAnswer.{facts_grow}, NumbersOfShownGroups.{Placed as IsPlaced, Among, selectable, session_placed}}
+use Rattle.nntp_facts.proofs.{Session.{GroupOfAnAnswer.{IsOf, one_group, same_selected}, FittingFacts.{IsFitting, answer_fitting}}, Members.{In, all_at}}
+use Rattle.nntp_facts.proofs.Members.{all_from, all_both, all_front, all_back, in_front, in_back, in_cases, in_map, found_in, to_flat, from_flat}
 use Rattle.nntp_facts.proofs.Together.FactsOfASpoolStand.{stand}
+use Rattle.nntp_wire.specs.{Answer.{Asked, Response}, declared.marks.Marks.{Marks, TheVariants.{Lenient}}}
+use Rattle.nntp_article.specs.Session.{Spool.{Spool, IsSpool, IsGroup, IsNumber, numbers, Name}, Machine.{Visible, visible_after, start, fits}}
+use Rattle.nntp_article.specs.declared.session.profile.Profile.{Profile}
 
 -- ---- what fits, is placed and stands together is had by some spool
 

@@ -1,19 +1,13 @@
 -- Small sessions: what they say, and which numbers they show, deny and need.
-use Rattle.nntp_wire.specs.declared.marks.Marks.TheVariants.{Lenient}
+use Rattle.nntp_wire.specs.declared.{marks.Marks.TheVariants.{Lenient}, water_marks.WaterMarks.{WaterMarks}, command.What.TheVariants.{Head, Stat}}
+use Rattle.nntp_wire.specs.{Answer.{Response, greeting, to, group_is, numbers_are, sends, plain}, Command.{Request, by_id, by_number, current, group}}
+use Rattle.nntp_wire.specs.Command.{list_group, from_one, next, last, retrieve}
 use Rattle.std.proofs.Common.{◌≡◌, ℕ, ◌<◌, ◌≤◌, true, false, IsTrue, List, [], ◌∷◌, ◌++◌, None, Some, map, inl, inr, refl, ap, subst, sym, arith}
-use Rattle.std.specs.Prelude.{codes}
-use Rattle.std.proofs.lemmas.Bool.{cases_eq, eqb-true, le-ltb, or_cases}
-use Rattle.std.proofs.lemmas.Fmt.{decimal_digit}
-use Rattle.nntp_wire.specs.Answer.{Response, greeting, to, group_is, numbers_are, sends, plain}
-use Rattle.nntp_wire.specs.declared.water_marks.WaterMarks.{WaterMarks}
-use Rattle.nntp_wire.specs.declared.command.What.TheVariants.{Head, Stat}
-use Rattle.nntp_wire.specs.Command.{Request, by_id, by_number, current, group, list_group, from_one, next, last, retrieve}
-use Rattle.nntp_said.specs.Asks.{Ask, Estimates, StepsUp, StepsDown, StandsAt, IsTop, IsBottom, Has, Lacks}
-use Rattle.nntp_said.specs.declared.position.Position.TheVariants.{First, Known}
-use Rattle.nntp_said.specs.Facts.{Fact, ThereIs, Asks, IdAt}
-use Rattle.nntp_facts.specs.Together.{number_in, AsksStand, Together}
-use Rattle.std.proofs.lemmas.Bool.Decides.{nat_tests}
-use Rattle.nntp_facts.specs.Given.{IsGivenNumber, asks_of, is_shown, is_denied, demand, IsOneMore, AreInvented, invented, facts_of_session, is_mentioned, id_shown, first_given, head_in, is_known}
+use Rattle.std.{proofs.lemmas.{Bool.{cases_eq, eqb-true, le-ltb, or_cases, Decides.{nat_tests}}, Fmt.{decimal_digit}}, specs.Prelude.{codes}}
+use Rattle.nntp_said.specs.{Asks.{Ask, Estimates, StepsUp, StepsDown, StandsAt, IsTop, IsBottom, Has, Lacks}, declared.position.Position.TheVariants.{First}}
+use Rattle.nntp_said.specs.{declared.position.Position.TheVariants.{Known}, Facts.{Fact, ThereIs, Asks, IdAt}}
+use Rattle.nntp_facts.specs.{Together.{number_in}, Inner.Together.{AsksStand, Together}, Given.{IsGivenNumber, asks_of, is_shown, is_denied, demand, IsOneMore}}
+use Rattle.nntp_facts.specs.Given.{AreInvented, invented, facts_of_session, is_mentioned, id_shown, first_given, head_in, is_known}
 use Rattle.nntp_facts.specs.declared.demand.Demand.TheVariants.{NotEmpty, SecondIs}
 
 abbrev g : List ℕ

@@ -4,9 +4,8 @@ pub mod SilentFacts
 pub mod FactsOfOneGroup
 pub mod FactsOfParts
 pub mod PartsJoin
-pub mod SameOfArticles
 pub mod ListedGroups
-pub mod ListedAgain
+pub mod CountedGroups
 pub mod KeptNames
 pub mod KeptGroups
 pub mod KeptNamesAndGroups

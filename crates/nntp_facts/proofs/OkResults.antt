@@ -1,6 +1,5 @@
 -- What holds where a result is a value.
-use Rattle.std.proofs.Common.{Result, Ok, Err}
-use Rattle.std.specs.Prelude.{OnOk, IfOk}
+use Rattle.std.{proofs.Common.{Result, Ok, Err}, specs.Prelude.{OnOk, IfOk}}
 
 -- what follows there
 pub on_ok : {A E P Q : Type 0} (r : Result A E) → (P → Q) → OnOk r P → OnOk r Q

@@ -1,11 +1,7 @@
 -- Kinds of points in their order, one looked at after the other.
-use Rattle.std.proofs.Common.{◌≡◌, ℕ, zero, suc, ◌⊎◌, List, [], ◌∷◌, inl, inr, refl, sym, subst}
-use Rattle.std.specs.Prelude.{⊤}
-use Rattle.std.specs.List.{AllByRecursion}
-use Rattle.nntp_article.specs.Article.Parts.{Id}
-use Rattle.nntp_article.specs.Session.Spool.{Name}
-use Rattle.nntp_facts.specs.Conflict.{Point, Step, Group, Number, Count, First, IdOf, PlaceOf, Article, HeadOf, BodyOf, rank}
-use Rattle.nntp_facts.proofs.Members.{In}
+use Rattle.std.{proofs.Common.{◌≡◌, ℕ, zero, suc, ◌⊎◌, List, [], ◌∷◌, inl, inr, refl, sym, subst}, specs.{Prelude.{⊤}, List.{AllByRecursion}}}
+use Rattle.nntp_article.specs.{Article.Parts.{Id}, Session.Spool.{Name}}
+use Rattle.nntp_facts.{specs.Conflict.{Point, Step, Group, Number, Count, First, IdOf, PlaceOf, Article, HeadOf, BodyOf, rank}, proofs.Members.{In}}
 
 -- one of the elements has the one, or each has the other
 pub each : {A : Type 0} (C : Type 0) (P : A → Type 0) (xs : List A) → ((x : A) → In x xs → C ⊎ P x) → C ⊎ AllByRecursion P xs

@@ -3,5 +3,6 @@ pub mod StatementsRead
 pub mod StatementsTold
 pub mod KindsOfPoints
 pub mod NumbersBeside
+pub mod ArticlesBeside
 pub mod ListedBeside
 pub mod PointsChained

@@ -1,32 +1,21 @@
 -- What doesn't stand together conflicts at some point, and so at a first one.
-use Rattle.std.proofs.Common.{◌≡◌, ℕ, ◌+◌, ◌<◌, ◌^◌, ◌⊎◌, ◌&&◌, ◌==◌, Bool, true, false, cond, IsTrue, List, [], ◌∷◌, ◌++◌, Option, None, Some, inl, inr, refl, sym, ap, subst, ◌∙◌, arith}
-use Rattle.std.specs.Prelude.{IsFalse, IfSome, ⊤, not}
-use Rattle.std.specs.List.{AllByRecursion, list_any, flat_map}
+use Rattle.std.proofs.Common.{◌≡◌, ℕ, ◌+◌, ◌<◌, ◌^◌, ◌⊎◌, ◌&&◌, ◌==◌, Bool, true, false, cond, IsTrue, List, [], ◌∷◌, ◌++◌, Option, None, Some, inl, inr, refl}
+use Rattle.std.proofs.{Common.{sym, ap, subst, ◌∙◌, arith}, lemmas.Bool.{true≢false, and_parts, and_from, cases_Bool, cases_eq, eqb-true, eq-eqb}}
+use Rattle.std.{proofs.lemmas.Bool.{false_from_ne_true, cases_lt}, specs.{Prelude.{IsFalse, IfSome, ⊤, not}, List.{AllByRecursion, list_any, flat_map}}}
 use Rattle.std.specs.Cmp.Lexicographic.{same_text}
-use Rattle.std.proofs.lemmas.Bool.{true≢false, and_parts, and_from, cases_Bool, cases_eq, eqb-true, eq-eqb, false_from_ne_true, cases_lt}
-use Rattle.nntp_wire.specs.declared.command.What.{What}
-use Rattle.nntp_wire.specs.declared.command.What.TheVariants.{Article as WhatArticle, Head, Body}
-use Rattle.nntp_wire.specs.declared.marks.Marks.TheVariants.{Lenient}
-use Rattle.nntp_article.proofs.SessionLemmas.FiniteMapsDecided.{Dec, dec_some, dec_texts, dec_lists}
-use Rattle.nntp_article.specs.Article.Parts.{Id, Line, head_part, body_part}
-use Rattle.nntp_article.specs.Session.Spool.{Name, Numbers, numbers}
-use Rattle.nntp_article.specs.Session.Machine.{is_same}
-use Rattle.nntp_article.specs.declared.session.profile.Profile.{Profile}
-use Rattle.nntp_said.specs.Asks.{Ask, Has, Bounds}
-use Rattle.nntp_said.specs.Facts.{Fact, ThereIs, ThereIsNo, Asks, IdAt, TextIs, NoArticle, GroupsAre}
-use Rattle.nntp_facts.specs.Given.{asks_in, asks_of, is_shown_group, shows_group, first_given, id_in, head_in, body_in, size, is_known, is_denied, demand, IsGivenNumber, HasGivenNumbers}
-use Rattle.nntp_facts.specs.Together.{IsWellFormed, is_possible, MeetsDemand, IsFewFor, denies_group, number_in, shows_article, denies_article, GiveOne, Together}
-use Rattle.nntp_facts.specs.Conflict.{Placed, FitsThere, told, told_with, SomeHas}
-use Rattle.nntp_facts.specs.Conflict.{Point, Step, Group, Number, Count, First, IdOf, PlaceOf, Article, HeadOf, BodyOf, ConflictAt, rank, IsFirstPoint}
-use Rattle.nntp_facts.proofs.PointsByRank.{each, or_next, PointsOf, of_rank}
-use Rattle.nntp_facts.proofs.Members.{In, all_at, all_from, any_in, found_in}
-use Rattle.nntp_facts.proofs.Together.FactsOfASpoolStand.{same_itself}
-use Rattle.nntp_facts.proofs.Session.NumbersOfShownGroups.{Placed as IsPlaced}
-use Rattle.nntp_facts.proofs.Session.NumbersWithinLimit.{free_in_limit}
-use Rattle.nntp_facts.proofs.Session.FittingFacts.{IsFitting}
-use Rattle.nntp_facts.proofs.Given.ConstructedSpool.{made, made_group, made_given}
-use Rattle.nntp_facts.proofs.GivenNumbers.AsksDecided.{denied_or_not, too_many_or_not, unmet_or_met}
-use Rattle.nntp_facts.proofs.Conflicts.{with_told, told_together, told_fitting, told_placed}
+use Rattle.nntp_wire.specs.declared.{command.What.{What, TheVariants.{Article as WhatArticle, Head, Body}}, marks.Marks.TheVariants.{Lenient}}
+use Rattle.nntp_article.{proofs.SessionLemmas.FiniteMapsDecided.{Dec, dec_some, dec_texts, dec_lists}, specs.Article.Parts.{Id, Line, head_part, body_part}}
+use Rattle.nntp_article.specs.{Session.{Spool.{Name, Numbers, numbers}, Machine.{is_same}}, declared.session.profile.Profile.{Profile}}
+use Rattle.nntp_said.specs.{Asks.{Ask, Has, Bounds}, Facts.{Fact, ThereIs, ThereIsNo, Asks, IdAt, TextIs, NoArticle, GroupsAre}}
+use Rattle.nntp_facts.specs.Given.{asks_in, asks_of, is_shown_group, shows_group, first_given, id_in, head_in, body_in, is_known, is_denied, demand}
+use Rattle.nntp_facts.specs.{Given.{IsGivenNumber, HasGivenNumbers}, Inner.{Given.{size}, Together.{IsWellFormed, Together}, Conflict.{FitsThere}}}
+use Rattle.nntp_facts.specs.{Together.{is_possible, MeetsDemand, IsFewFor, denies_group, number_in, shows_article, denies_article, GiveOne}, Conflict.{Placed}}
+use Rattle.nntp_facts.specs.Conflict.{told, told_with, SomeHas, Point, Step, Group, Number, Count, First, IdOf, PlaceOf, Article, HeadOf, BodyOf, ConflictAt}
+use Rattle.nntp_facts.{specs.Conflict.{rank, IsFirstPoint}, proofs.{PointsByRank.{each, or_next, PointsOf, of_rank}, Members.{In, all_at, all_from, any_in}}}
+use Rattle.nntp_facts.proofs.{Members.{found_in}, Together.FactsOfASpoolStand.{same_itself}, Session.NumbersOfShownGroups.{Placed as IsPlaced}}
+use Rattle.nntp_facts.proofs.{Session.{NumbersWithinLimit.{free_in_limit}, FittingFacts.{IsFitting}}, Given.ConstructedSpool.{made, made_group, made_given}}
+use Rattle.nntp_facts.proofs.{GivenNumbers.AsksDecided.{denied_or_not, too_many_or_not, unmet_or_met}, Conflicts.{with_told, told_together, told_fitting}}
+use Rattle.nntp_facts.proofs.Conflicts.{told_placed}
 
 -- ---- what is given under a test
 

@@ -1,12 +1,8 @@
 -- Several sessions as they are answered: what a spool permits, and what their answers say of it.
-use Rattle.std.specs.Prelude.{List}
-use Rattle.std.specs.List.{AllByRecursion, flat_map}
-use Rattle.nntp_wire.specs.Answer.{Asked, Response}
-use Rattle.nntp_wire.specs.declared.marks.Marks.{Marks}
-use Rattle.nntp_article.specs.declared.session.profile.Profile.{Profile}
-use Rattle.nntp_article.specs.Session.Machine.{Run, start}
-use Rattle.nntp_article.specs.Session.Spool.{Spool, IsSpool}
-use Rattle.nntp_said.specs.Facts.{Fact, FitsAll}
+use Rattle.std.specs.{Prelude.{List}, List.{AllByRecursion, flat_map}}
+use Rattle.nntp_wire.specs.{Answer.{Asked, Response}, declared.marks.Marks.{Marks}}
+use Rattle.nntp_article.specs.{declared.session.profile.Profile.{Profile}, Session.{Machine.{Run, start}, Spool.{Spool, IsSpool}}}
+use Rattle.nntp_said.specs.Facts.{Fact}
 use Rattle.nntp_facts.specs.Given.{facts_of_session}
 
 -- what is asked in a session, and the answers
@@ -21,10 +17,6 @@ PermitsEach profile S sessions = AllByRecursion (λ s. Run profile S start s.pro
 -- some spool permits each of them
 abbrev pub SomePermitsEach : Profile → List Answered → Type 0
 SomePermitsEach profile sessions = (S : Spool) × IsSpool profile.limit S × PermitsEach profile S sessions
-
--- each answer of each session fits the visible state that its own session leaves
-abbrev pub FitEach : Profile → List Answered → Type 0
-FitEach profile sessions = AllByRecursion (λ s. FitsAll profile start.visible s.prompts s.answers) sessions
 
 -- what a session says, where marks are read so
 abbrev pub facts_in : Marks → Answered → List Fact

@@ -1,14 +1,9 @@
 -- Why an answer is bad (RFC 3977, sections 3.1, 3.2 and 3.5).
 use Rattle.std.specs.Prelude.{◌≡◌, ℕ, Bool, true, false, List, [], ◌∷◌, ◌++◌, length, Option, None, Some, ⊤}
-use Rattle.nntp_wire.specs.Answer.{Asked, Response, Spells}
-use Rattle.nntp_wire.specs.Session.{prompts_of, Spelled}
-use Rattle.nntp_article.specs.declared.session.profile.Profile.{Profile}
-use Rattle.nntp_article.specs.Session.Machine.{Visible, start, fits, visible_after}
-use Rattle.nntp_said.specs.Asks.{position_after}
-use Rattle.nntp_said.specs.declared.position.Position.{Position}
-use Rattle.nntp_pair.specs.Pairing.{IsCut, IsMalformed}
-use Rattle.nntp_pair.specs.declared.class.Class.{Class}
-use Rattle.nntp_pair.specs.declared.class.Class.TheVariants.{Surplus, Cut, Malformed, OutOfPlace, Contradiction}
+use Rattle.nntp_wire.specs.{Answer.{Asked, Response, Spells}, Session.{prompts_of, Spelled}}
+use Rattle.nntp_article.specs.{declared.session.profile.Profile.{Profile}, Session.Machine.{Visible, start, fits, visible_after}}
+use Rattle.nntp_said.specs.{Asks.{position_after}, declared.position.Position.{Position}}
+use Rattle.nntp_pair.specs.{Pairing.{IsCut, IsMalformed}, declared.class.Class.{Class, TheVariants.{Surplus, Cut, Malformed, OutOfPlace, Contradiction}}}
 
 -- the visible state that answers leave
 abbrev pub visible_from : Visible → List Asked → List Response → Visible

@@ -1,23 +1,15 @@
 -- With which earlier answers a bad answer conflicts.
-use Rattle.std.specs.Prelude.{◌≡◌, ℕ, zero, suc, ◌+◌, ◌<◌, ◌≤◌, not, List, [], ◌∷◌, ◌++◌, length, Option, None, Some, IsTrue, IsFalse, slice_get, ⊤, Contains, MatchOption}
-use Rattle.std.specs.List.{AllByRecursion, flat_map, list_any}
-use Rattle.std.specs.Option.{option_map_or}
-use Rattle.nntp_wire.specs.Answer.{Asked, Response}
-use Rattle.nntp_wire.specs.declared.water_marks.WaterMarks.{WaterMarks}
-use Rattle.nntp_wire.specs.declared.marks.Marks.{Marks}
-use Rattle.nntp_wire.specs.declared.marks.Marks.TheVariants.{Lenient}
-use Rattle.nntp_article.specs.Session.Spool.{Spool, IsSpool, Name, Numbers}
-use Rattle.nntp_article.specs.declared.session.profile.Profile.{Profile}
-use Rattle.nntp_article.specs.Session.Machine.{Visible, visible_after, start, fits, is_ascending}
-use Rattle.nntp_said.specs.Asks.{position_after, Ask, Estimates}
+use Rattle.std.specs.Prelude.{◌≡◌, ℕ, zero, suc, ◌<◌, ◌≤◌, not, List, [], ◌∷◌, ◌++◌, length, Option, None, Some, IsTrue, slice_get, Contains, MatchOption}
+use Rattle.std.specs.{List.{AllByRecursion, flat_map, list_any}, Option.{option_map_or}}
+use Rattle.nntp_wire.specs.{Answer.{Asked, Response}, declared.{water_marks.WaterMarks.{WaterMarks}, marks.Marks.{Marks, TheVariants.{Lenient}}}}
+use Rattle.nntp_article.specs.Session.{Spool.{Spool, IsSpool, Name, Numbers}, Machine.{Visible, visible_after, start, is_ascending}}
+use Rattle.nntp_article.specs.{declared.session.profile.Profile.{Profile}, Article.Parts.{Id}}
+use Rattle.nntp_said.specs.{Asks.{position_after, Ask, Estimates}, declared.position.Position.{Position, TheVariants.{Nowhere}}, Facts.{Fact, Holds, ThereIs}}
+use Rattle.nntp_said.specs.Facts.{Asks, facts_of, group_of}
 use Rattle.nntp_pair.specs.Pairing.{Paired, asked_at, asked_of, responses_of}
-use Rattle.nntp_said.specs.declared.position.Position.{Position}
-use Rattle.nntp_said.specs.declared.position.Position.TheVariants.{Nowhere}
-use Rattle.nntp_facts.specs.Classes.{visible_from, position_from}
-use Rattle.nntp_article.specs.Article.Parts.{Id}
-use Rattle.nntp_said.specs.Facts.{Fact, Holds, ThereIs, Asks, facts_of, group_of}
-use Rattle.nntp_facts.specs.Given.{is_known, is_denied, demand, IsGivenNumber, HasGivenNumbers, asks_of, is_shown_group, id_in, head_in, body_in}
-use Rattle.nntp_facts.specs.Together.{is_possible, MeetsDemand, IsFewFor, denies_group, number_in, shows_article, denies_article, GiveOne}
+use Rattle.nntp_facts.specs.{Classes.{visible_from, position_from}, Given.{is_known, is_denied, demand, IsGivenNumber, HasGivenNumbers, asks_of}}
+use Rattle.nntp_facts.specs.{Given.{is_shown_group, id_in, head_in, body_in}, Together.{is_possible, MeetsDemand, IsFewFor, denies_group, number_in}}
+use Rattle.nntp_facts.specs.Together.{shows_article, denies_article, GiveOne}
 
 -- an answer where it stands: the group that is selected before it, where the session stands in that group, what was asked, and the response
 pub record Placed : Type 0 where
@@ -45,10 +37,6 @@ placed_behind past pair = record {
   asked = asked_at pair.line;
   response = pair.response;
 }
-
--- the answer fits a visible state in which that group is selected
-abbrev pub FitsThere : Profile → Placed → Type 0
-FitsThere profile a = (v : Visible) × (v.selected ≡ a.selected) × IsTrue (fits profile v a.asked a.response)
 
 -- what the answer says of the spool, where marks are read so: of the visible state it speaks of the selected group alone
 abbrev pub said : Marks → Placed → List Fact
@@ -98,19 +86,6 @@ pub record IsCore (profile : Profile) (bad : Placed) (answers : List Placed) (pl
   pub conflict : SomeHas profile (told_with profile bad answers places) → ⊥
   pub needed : (front back : List ℕ) (k : ℕ) → places ≡ front ++ k ∷ back → SomeHas profile (told_with profile bad answers (front ++ back))
 
--- ---- finding it
-
--- the places ascend from the bound on, and those below each of them stand with those behind it
-abbrev pub AreFound : (List ℕ → Type 0) → ℕ → List ℕ → Type 0
-AreFound Stand bound [] = ⊤
-AreFound Stand bound (k ∷ places) = (bound ≤ k) × Stand (below k ++ places) × AreFound Stand (k + 1) places
-
--- what is found of a core while those at and above the bound have been looked at: it conflicts with those below the bound, and each of it is needed
-pub record IsPartOfCore (profile : Profile) (bad : Placed) (answers : List Placed) (bound : ℕ) (places : List ℕ) : Type 0 where
-  pub there : AllByRecursion (λ k. k < length answers) places
-  pub conflict : SomeHas profile (told_with profile bad answers (below bound ++ places)) → ⊥
-  pub found : AreFound (λ places. SomeHas profile (told_with profile bad answers places)) bound places
-
 -- ---- what is found of it
 
 -- all of these are among those
@@ -138,10 +113,6 @@ pub record IsFound (profile : Profile) (bad : Placed) (answers : List Placed) (c
 abbrev pub places_of : Core → List ℕ
 places_of core = option_map_or (λ bound. below bound ++ core.places) core.rest core.places
 
--- the last of all its places was found: of one that is cut short, some were
-abbrev pub HasLast : Core → Type 0
-HasLast core = MatchOption core.rest ⊤ (λ bound. 0 < length core.places)
-
 -- ---- where facts conflict
 
 -- what facts conflict about
@@ -156,10 +127,6 @@ pub data Point : Type 0 where
   Article : (id : Id) → Point  -- whether the id has an article
   HeadOf : (id : Id) → Point  -- which head the article has
   BodyOf : (id : Id) → Point  -- which body the article has
-
--- no known number is denied
-abbrev pub AreApart : List Ask → Type 0
-AreApart asks = (n : ℕ) → IsTrue (is_known asks n) → IsFalse (is_denied asks n)
 
 -- the given numbers are more than is estimated
 abbrev pub AreTooMany : List Ask → Type 0

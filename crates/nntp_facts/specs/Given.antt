@@ -1,23 +1,14 @@
 -- The spool that is given for what a session says.
-use Rattle.std.specs.Prelude.{◌≡◌, ℕ, ◌+◌, ◌<◌, ◌≤◌, Bool, true, false, not, ◌&&◌, ◌||◌, ◌==◌, nat_lt, if◌then◌else◌, IsTrue}
-use Rattle.std.specs.Prelude.{IsFalse, IsSome, ◌↔◌, ◌⊎◌, List, [], ◌∷◌, ◌++◌, length, Option, None, Some, is_some, ⊤, unwrap_or}
-use Rattle.std.specs.Prelude.{codes, decimal}
-use Rattle.std.specs.List.{list_any, flat_map}
-use Rattle.std.specs.Option.{option_or}
+use Rattle.std.specs.Prelude.{◌≡◌, ℕ, ◌+◌, ◌<◌, ◌≤◌, Bool, true, false, not, ◌&&◌, ◌||◌, ◌==◌, nat_lt, if◌then◌else◌, IsTrue, IsFalse, IsSome, ◌↔◌, ◌⊎◌, List}
+use Rattle.std.specs.{Prelude.{[], ◌∷◌, ◌++◌, Option, None, Some, is_some, ⊤, unwrap_or, codes, decimal}, List.{list_any, flat_map}, Option.{option_or}}
 use Rattle.std.specs.FinMap.{get, entries, len}
-use Rattle.nntp_article.specs.Article.Parts.{head_part, body_part, Id, Line}
-use Rattle.nntp_article.specs.Session.Spool.{Spool, Text, Numbers, IsNumber, IsGroup, numbers, Name}
+use Rattle.nntp_article.specs.{Article.Parts.{head_part, body_part, Id, Line}, Session.Spool.{Spool, Text, Numbers, IsNumber, IsGroup, numbers, Name}}
 use Rattle.nntp_article.specs.Session.Machine.{is_in_range, is_same, start}
 use Rattle.nntp_said.specs.Asks.{Ask, Estimates, Bounds, ListsIn, Has, Lacks, StandsAt, StandsNowhere, StepsUp, StepsDown, IsTop, IsBottom}
-use Rattle.nntp_said.specs.declared.position.Position.TheVariants.{Nowhere, First, Known}
-use Rattle.nntp_facts.specs.declared.demand.Demand.{Demand}
-use Rattle.nntp_facts.specs.declared.demand.Demand.TheVariants.{NoDemand, NotEmpty, OnlyOne, SecondIs, Impossible}
-use Rattle.nntp_said.specs.Facts.{Fact, ThereIs, Asks, IdAt, TextIs, NoArticle, GroupsAre, facts_from}
-use Rattle.nntp_wire.specs.Answer.{Asked, Response}
-use Rattle.nntp_wire.specs.declared.marks.Marks.{Marks}
-use Rattle.nntp_wire.specs.declared.marks.Marks.TheVariants.{Strict}
-use Rattle.nntp_pair.specs.Pairing.{lines_in}
-use Rattle.nntp_wire.specs.declared.command.What.TheVariants.{Article, Head, Body}
+use Rattle.nntp_said.specs.{declared.position.Position.TheVariants.{Nowhere, First, Known}, Facts.{Fact, ThereIs, Asks, IdAt, TextIs, NoArticle, GroupsAre}}
+use Rattle.nntp_said.specs.Facts.{facts_from}
+use Rattle.nntp_facts.specs.declared.demand.Demand.{Demand, TheVariants.{NoDemand, NotEmpty, OnlyOne, SecondIs, Impossible}}
+use Rattle.nntp_wire.specs.{Answer.{Asked, Response}, declared.{marks.Marks.{Marks, TheVariants.{Strict}}, command.What.TheVariants.{Article, Head, Body}}}
 
 -- the ask shows the number
 abbrev pub shows : Ask → ℕ → Bool
@@ -241,26 +232,6 @@ pub record HasAtLeast (facts : List Fact) (G S : Spool) : Type 0 where
   pub bodies_sent : (id : Id) (lines : List Line) → first_given (body_in id) facts ≡ Some lines → (t : Text) × (get S.articles id ≡ Some t) × (t.body ≡ lines)
   pub counts : (name : Name) → IsGroup G name → len (numbers G name) ≤ len (numbers S name)
 
--- a bound on the names, numbers and ids that a fact has from its answer
-abbrev pub size_in : Fact → ℕ
-size_in (Asks name (Estimates how m)) = 2
-size_in (Asks name (ListsIn r ns)) = length ns
-size_in (Asks name (StandsNowhere at)) = 0
-size_in (Asks name (IsTop at)) = 0
-size_in (Asks name (IsBottom at)) = 0
-size_in (GroupsAre p lines) = length lines
-size_in fact = 1
-
--- a bound on the names, numbers and ids that all facts have from their answers
-abbrev pub size : List Fact → ℕ
-size [] = 0
-size (fact ∷ facts) = size_in fact + size facts
-
 -- what a session says, where marks are read so
 abbrev pub facts_of_session : Marks → List Asked → List Response → List Fact
 facts_of_session how prompts answers = facts_from how start.visible Nowhere prompts answers
-
--- a bound on what answers say: three for each, and one for each of its lines
-abbrev pub weight : List Response → ℕ
-weight [] = 0
-weight (a ∷ more) = lines_in a + 3 + weight more

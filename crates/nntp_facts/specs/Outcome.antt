@@ -1,22 +1,14 @@
 -- What yes and no say of two streams.
-use Rattle.std.specs.Prelude.{ℕ, Bool, true, false, List}
+use Rattle.std.specs.Prelude.{ℕ, List}
 use Rattle.nntp_wire.specs.Session.{prompts_of}
-use Rattle.nntp_article.specs.declared.session.profile.Profile.{Profile}
-use Rattle.nntp_article.specs.Session.Spool.{Spool}
-use Rattle.nntp_article.specs.Session.Explains.{Explains, Bad}
-use Rattle.nntp_facts.specs.Given.{IsGiven, HasAtLeast, facts_of_session}
+use Rattle.nntp_article.specs.{declared.session.profile.Profile.{Profile}, Session.{Spool.{Spool}, Explains.{Explains, Bad}}}
+use Rattle.nntp_facts.specs.{Given.{IsGiven, HasAtLeast, facts_of_session}, Classes.{HasClass}}
 use Rattle.nntp_pair.specs.declared.class.Class.{Class}
-use Rattle.nntp_facts.specs.Classes.{HasClass}
 
 -- yes with this spool and so many answers, or no at this answer, of this class
 pub data Outcome : Type 0 where
   Yes : (spool : Spool) → (answers : ℕ) → Outcome
   No : (answer : ℕ) → (class : Class) → Outcome
-
--- the outcome is a yes
-abbrev pub is_yes : Outcome → Bool
-is_yes (Yes spool answers) = true
-is_yes (No answer class) = false
 
 -- the spool explains both streams with n answers; it is the one that is given for what these say; and no spool that explains the streams lacks what they show, or has fewer numbers in a group
 pub record IsLeastExplanation (profile : Profile) (client server : List ℕ) (S : Spool) (n : ℕ) : Type 0 where

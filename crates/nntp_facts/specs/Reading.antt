@@ -1,13 +1,9 @@
 -- A session read to its end: an answer that is bad is passed over, and the next one is judged behind those that were accepted.
 use Rattle.std.specs.Prelude.{◌≡◌, ◌≢◌, ℕ, List, [], ◌∷◌, ◌++◌, Option, None, Some}
-use Rattle.nntp_article.specs.declared.session.profile.Profile.{Profile}
-use Rattle.nntp_article.specs.Session.Machine.{start, fits}
-use Rattle.nntp_pair.specs.declared.class.PairClass.TheVariants.{Malformed as PairMalformed}
-use Rattle.nntp_pair.specs.Pairing.{Paired, Unpaired, IsNext, IsPassedOver, Ending, bad, Ends, asked_at, asked_of, responses_of, streams}
-use Rattle.nntp_pair.specs.declared.class.Class.{Class}
-use Rattle.nntp_pair.specs.declared.class.Class.TheVariants.{Malformed}
-use Rattle.nntp_facts.specs.Classes.{class_by, visible_from}
-use Rattle.nntp_facts.specs.Noted.{ArePermitted}
+use Rattle.nntp_article.specs.{declared.session.profile.Profile.{Profile}, Session.Machine.{start, fits}}
+use Rattle.nntp_pair.specs.{declared.class.{PairClass.TheVariants.{Malformed as PairMalformed}, Class.{Class, TheVariants.{Malformed}}}, Pairing.{Paired}}
+use Rattle.nntp_pair.specs.Pairing.{Unpaired, IsNext, IsPassedOver, Ending, bad, Ends, asked_at, asked_of, responses_of, streams}
+use Rattle.nntp_facts.specs.{Classes.{class_by, visible_from}, Noted.{ArePermitted}}
 
 -- an answer as it is judged: accepted, refused, or a frame that spells nothing, with its place, its line, its initial line and its block
 pub data Judged : Type 0 where

@@ -1,10 +1,10 @@
 //! Whether nothing is both shown and denied, where a part is said beside what is kept.
 ghost use Rattle.std.specs.Prelude.{◌≡◌, ℕ, ◌↔◌, true, false, Some, IsTrue};
 ghost use Rattle.std.specs.List.{list_all};
-ghost use Rattle.nntp_intervals.specs.Intervals.{holds};
-ghost use Rattle.nntp_facts.specs.Part.{part_denies, IsRegular};
-ghost use Rattle.nntp_facts.specs.PartView.{said};
-ghost use Rattle.nntp_facts.specs.Summary.{has, denied_after, AgreesWith, AreOpen, is_open, gaps};
+ghost use Rattle.nntp_intervals.specs.Inner.Intervals.{holds};
+ghost use Rattle.nntp_facts.specs.Inner.Part.{part_denies, IsRegular};
+ghost use Rattle.nntp_facts.specs.Inner.PartView.{said};
+ghost use Rattle.nntp_facts.specs.Inner.Summary.{has, denied_after, AgreesWith, AreOpen, is_open, gaps};
 
 use crate::ends::Ends;
 use crate::gaps::{Gaps, none_in_gaps};

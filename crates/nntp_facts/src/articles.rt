@@ -1,5 +1,5 @@
 //! What answers say of articles.
-ghost use Rattle.std.specs.Prelude.{◌≡◌, ◌≢◌, ◌↔◌, ℕ, false, Some, IsTrue, List, Option, IfOk, OnOk, is_some};
+ghost use Rattle.std.specs.Prelude.{◌≡◌, ◌≢◌, ◌↔◌, false, Some, IsTrue, List, Option, IfOk, OnOk, is_some};
 ghost use Rattle.std.specs.List.{list_any};
 ghost use Rattle.std.specs.Option.{option_map_or};
 ghost use Rattle.std.specs.FinMap as map;
@@ -9,17 +9,17 @@ ghost use Rattle.std.specs.Cmp.Lexicographic.{slice_cmp};
 ghost use Rattle.std.specs.Rc.{rc_str_bytes};
 ghost use Rattle.nntp_wire.specs.declared.command.What.{What};
 ghost use Rattle.nntp_article.specs.Article.Parts.{Id, Line};
-ghost use Rattle.nntp_article.specs.Session.Spool.{Name};
-ghost use Rattle.nntp_said.specs.Facts.{Fact, IdAt, TextIs, NoArticle};
+ghost use Rattle.nntp_said.specs.Facts.{Fact};
 ghost use Rattle.nntp_facts.specs.Given.{is_mentioned, first_given, head_in, body_in};
 ghost use Rattle.nntp_facts.specs.Together.{shows_article};
-ghost use Rattle.nntp_facts.specs.Articles.{AreSame, head_sent, body_sent, is_there, denied, with_new};
-ghost use Rattle.nntp_facts.specs.Kept.{AreKeptArticles, IsFactAdded};
-ghost use Rattle.nntp_facts.specs.KeptSaying.{IsThereAlready, MayBeSaid, article_fact};
-ghost use Rattle.nntp_facts.specs.Saying.{IsToExist};
-ghost use Rattle.nntp_facts.specs.SayingView.{article_said};
-ghost use Rattle.nntp_facts.specs.Readers.{shown_articles};
-ghost use Rattle.nntp_facts.specs.ArticleView.{is_added, text_of};
+ghost use Rattle.nntp_facts.specs.Inner.Together.{AreSame};
+ghost use Rattle.nntp_facts.specs.Inner.Articles.{head_sent, body_sent, is_there, denied, with_new};
+ghost use Rattle.nntp_facts.specs.Inner.Kept.{AreKeptArticles};
+ghost use Rattle.nntp_facts.specs.Inner.KeptSaying.{IsThereAlready, MayBeSaid, IsArticleAdded};
+ghost use Rattle.nntp_facts.specs.Inner.Saying.{Lacks, Exists, Sends, IsToExist};
+ghost use Rattle.nntp_facts.specs.Inner.SayingView.{article_said};
+ghost use Rattle.nntp_facts.specs.Inner.Readers.{shown_articles};
+ghost use Rattle.nntp_facts.specs.Inner.ArticleView.{is_added, text_of};
 ghost use Rattle.nntp_facts.specs.declared.joins.Joins.TheVariants.{Again};
 
 mod added;
@@ -54,12 +54,12 @@ impl<A: Allocator> Model for Articles<A> {
     ghost use Rattle.std.specs.Ordering.{nat_cmp};
     ghost use Rattle.std.specs.Cmp.Lexicographic.{slice_cmp};
     ghost use Rattle.std.specs.FinMap.{FinMap, from_entries, code};
-    ghost use Rattle.nntp_facts.specs.Articles.{with_denied};
-    ghost use Rattle.nntp_facts.specs.Kept.{KeptArticle};
+    ghost use Rattle.nntp_facts.specs.Inner.Articles.{with_denied};
+    ghost use Rattle.nntp_facts.specs.Inner.Kept.{KeptArticle};
 
     ghost Value = { FinMap (slice_cmp nat_cmp) KeptArticle };
 
-    ghost use Rattle.nntp_facts.specs.ArticleView.{entries_value, coded_kept};
+    ghost use Rattle.nntp_facts.specs.Inner.ArticleView.{entries_value, coded_kept};
 
     ghost coded = { code (coded_list coded_ℕ) coded_kept };
 
@@ -148,10 +148,11 @@ impl<A: Allocator + Copy> Articles<A> {
         joins: Joins,
         part: &ArticlePart<'_>,
     ) -> Result<Added<A>, AllocError>
-        ensures added { IfOk result (λ added. (facts : List Fact) (name : Name) (n : ℕ) → AreKeptArticles facts self.old → MayBeSaid (article_said part.now)
+        ensures added { IfOk result (λ added. (facts : List Fact) → AreKeptArticles facts self.old → MayBeSaid (article_said part.now)
             → (joins ≡ Again → IsThereAlready facts (Some (article_said part.now)))
-            → IsFactAdded facts (article_fact name n (article_said part.now)) self.old self.new (is_added added)) }
-        ensures text { IfOk result (λ added. joins ≢ Again → IsTrue (is_added added) → (id : Id) → IsToExist (Some (article_said part.now)) id → text_of added ≡ Some id) }
+            → IsArticleAdded facts (Some (article_said part.now)) self.old self.new (is_added added)) }
+        ensures text { IfOk result (λ added. joins ≢ Again → IsTrue (is_added added) → (id : Id) → IsToExist (Some (article_said part.now)) id → text_of added
+            ≡ Some id) }
     {
         match part {
             ArticlePart::Lacks(id) => Ok(Added::unnamed_if(self.note_lack(*id)?)),
@@ -165,9 +166,9 @@ impl<A: Allocator + Copy> Articles<A> {
     /// Adds that the id at a number has an article, if it may be so. After an error the articles say
     /// nothing of use.
     fn note_there(&mut self, joins: Joins, id: &str) -> Result<Added<A>, AllocError>
-        ensures added { IfOk result (λ added. (facts : List Fact) (name : Name) (n : ℕ) → AreKeptArticles facts self.old
+        ensures added { IfOk result (λ added. (facts : List Fact) → AreKeptArticles facts self.old
             → (joins ≡ Again → IsTrue (list_any (shows_article id.now) facts))
-            → IsFactAdded facts (IdAt name n id.now) self.old self.new (is_added added)) }
+            → IsArticleAdded facts (Some (id.now, Exists)) self.old self.new (is_added added)) }
         ensures text { IfOk result (λ added. joins ≢ Again → IsTrue (is_added added) → text_of added ≡ Some id.now) }
     {
         match joins {
@@ -181,7 +182,7 @@ impl<A: Allocator + Copy> Articles<A> {
     fn note_sent(&mut self, joins: Joins, id: &str, sent: &Sent<'_>) -> Result<Added<A>, AllocError>
         ensures added { IfOk result (λ added. (facts : List Fact) (what : What) (lines : Option (List Line)) → AreKeptArticles facts self.old
             → sent.now.head ≡ head_sent what lines → sent.now.body ≡ body_sent what lines
-            → IsFactAdded facts (TextIs what id.now lines) self.old self.new (is_added added)) }
+            → IsArticleAdded facts (Some (id.now, Sends what lines)) self.old self.new (is_added added)) }
         ensures text { IfOk result (λ added. joins ≢ Again → IsTrue (is_added added) → text_of added ≡ Some id.now) }
     {
         match joins {
@@ -195,7 +196,7 @@ impl<A: Allocator + Copy> Articles<A> {
     fn send_again(&mut self, id: &str, sent: &Sent<'_>) -> Result<Added<A>, AllocError>
         ensures { IfOk result (λ added. (facts : List Fact) (what : What) (lines : Option (List Line)) → AreKeptArticles facts self.old
             → sent.now.head ≡ head_sent what lines → sent.now.body ≡ body_sent what lines
-            → IsFactAdded facts (TextIs what id.now lines) self.old self.new (is_added added)) }
+            → IsArticleAdded facts (Some (id.now, Sends what lines)) self.old self.new (is_added added)) }
     {
         if let Some(article) = self.known.get_mut(id) {
             return Ok(Added::unnamed_if(article.note(self.alloc, sent)?));
@@ -208,7 +209,7 @@ impl<A: Allocator + Copy> Articles<A> {
     fn send(&mut self, id: &str, sent: &Sent<'_>) -> Result<Added<A>, AllocError>
         ensures added { IfOk result (λ added. (facts : List Fact) (what : What) (lines : Option (List Line)) → AreKeptArticles facts self.old
             → sent.now.head ≡ head_sent what lines → sent.now.body ≡ body_sent what lines
-            → IsFactAdded facts (TextIs what id.now lines) self.old self.new (is_added added)) }
+            → IsArticleAdded facts (Some (id.now, Sends what lines)) self.old self.new (is_added added)) }
         ensures text { IfOk result (λ added. IsTrue (is_added added) → text_of added ≡ Some id.now) }
     {
         if self.is_denied(id) {
@@ -223,8 +224,8 @@ impl<A: Allocator + Copy> Articles<A> {
     /// Adds that the id has an article, if it may be so, and hands back the id's text. After an error the
     /// articles say nothing of use.
     fn stand(&mut self, id: &str) -> Result<Added<A>, AllocError>
-        ensures added { IfOk result (λ added. (facts : List Fact) (name : Name) (n : ℕ) → AreKeptArticles facts self.old
-            → IsFactAdded facts (IdAt name n id.now) self.old self.new (is_added added)) }
+        ensures added { IfOk result (λ added. (facts : List Fact) → AreKeptArticles facts self.old
+            → IsArticleAdded facts (Some (id.now, Exists)) self.old self.new (is_added added)) }
         ensures text { IfOk result (λ added. IsTrue (is_added added) → text_of added ≡ Some id.now) }
     {
         if self.is_denied(id) {
@@ -239,7 +240,8 @@ impl<A: Allocator + Copy> Articles<A> {
     /// Adds that the id has no article, if it may be so, and tells whether it may. After an error the
     /// articles say nothing of use.
     fn note_lack(&mut self, id: &[u8]) -> Result<bool, AllocError>
-        ensures { IfOk result (λ does. (facts : List Fact) → AreKeptArticles facts self.old → IsFactAdded facts (NoArticle id.now) self.old self.new does) }
+        ensures { IfOk result (λ does. (facts : List Fact) → AreKeptArticles facts self.old
+            → IsArticleAdded facts (Some (id.now, Lacks)) self.old self.new does) }
     {
         if self.has_octets(id) {
             return Ok(false);

@@ -2,9 +2,10 @@
 ghost use Rattle.std.specs.Prelude.{◌≡◌, ◌<◌, ◌≤◌, ◌^◌, ◌∷◌, [], List, ℕ, length, IfOk, MatchOption};
 ghost use Rattle.std.specs.List.{AllByRecursion};
 ghost use Rattle.nntp_article.specs.Session.Limit.{profile_of};
-ghost use Rattle.nntp_facts.specs.Conflict.{Placed as PlacedValue, FitsThere, SomeHas, told_with, below, places_of, IsPartOfCore, IsFound};
-ghost use Rattle.nntp_facts.specs.Kept.{IsKept};
-ghost use Rattle.nntp_facts.specs.Told.{AreToldWith, PlacesTold};
+ghost use Rattle.nntp_facts.specs.Conflict.{Placed as PlacedValue, SomeHas, told_with, below, places_of, IsFound};
+ghost use Rattle.nntp_facts.specs.Inner.Conflict.{FitsThere, IsPartOfCore};
+ghost use Rattle.nntp_facts.specs.Inner.Kept.{IsKept};
+ghost use Rattle.nntp_facts.specs.Inner.Told.{AreToldWith, PlacesTold};
 
 use crate::kept::Kept;
 use crate::placed::Placed;

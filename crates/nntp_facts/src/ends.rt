@@ -1,7 +1,7 @@
 //! The water marks of a group that are read strictly (RFC 3977, section 6.1.1.2).
 ghost use Rattle.std.specs.Prelude.{◌≡◌};
 ghost use Rattle.nntp_said.specs.Asks.{Estimates};
-ghost use Rattle.nntp_facts.specs.Part.{ends_in, join_ends};
+ghost use Rattle.nntp_facts.specs.Inner.Part.{ends_in, join_ends};
 
 use nntp_wire::{Marks, WaterMarks};
 

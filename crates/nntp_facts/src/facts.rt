@@ -4,10 +4,10 @@ ghost use Rattle.nntp_pair.specs.Pairing.{Paired, asked_at};
 ghost use Rattle.nntp_article.specs.declared.session.profile.Profile.{Profile};
 ghost use Rattle.nntp_article.specs.Session.Limit.{profile_of};
 ghost use Rattle.nntp_article.specs.Session.Misfit.{misfit};
-ghost use Rattle.nntp_article.specs.Session.MisfitView.{why_if};
+ghost use Rattle.nntp_article.specs.Inner.MisfitView.{why_if};
 ghost use Rattle.nntp_facts.specs.Given.{is_mentioned};
-ghost use Rattle.nntp_facts.specs.Noted.{HasNoted, HasNotedBehind, IsDue, IsNotedBehind, NotesBehind, begun, profile_kept, said_behind};
-ghost use Rattle.nntp_facts.specs.Readers.{ShownGroup as GroupValue, ShownArticle as ArticleValue, AreShownGroups, AreShownArticles};
+ghost use Rattle.nntp_facts.specs.Inner.Noted.{HasNoted, HasNotedBehind, IsDue, IsNotedBehind, NotesBehind, begun, profile_kept, said_behind};
+ghost use Rattle.nntp_facts.specs.Inner.Readers.{ShownGroup as GroupValue, ShownArticle as ArticleValue, AreShownGroups, AreShownArticles};
 
 use crate::articles::{ShownArticle, ShownArticles};
 use crate::kept::Kept;
@@ -53,14 +53,23 @@ impl<A: Allocator> Drop for Facts<A> {
 }
 
 impl<A: Allocator> Model for Facts<A> {
-    ghost use Rattle.nntp_facts.specs.Noted.{FactsKept};
-    ghost use Rattle.nntp_facts.specs.KeptView.{coded_facts};
+    ghost use Rattle.nntp_facts.specs.Inner.Noted.{FactsKept};
+    ghost use Rattle.nntp_facts.specs.Inner.KeptView.{coded_facts};
 
     ghost Value = { FactsKept };
 
     ghost coded = { coded_facts };
 
-    ghost view = { λ f. record { limit = f.limit; marks = f.marks; count = f.count; visible = f.visible; position = f.position; kept = f.kept; has_failed = f.has_failed } };
+    ghost view = { λ f. record {
+      limit = f.limit;
+      marks = f.marks;
+      count = f.count;
+      visible = f.visible;
+      position = f.position;
+      kept = f.kept;
+      has_failed =
+          f.has_failed;
+    } };
 }
 
 impl<A: Allocator + Copy> Facts<A> {
@@ -120,7 +129,8 @@ impl<A: Allocator + Copy> Facts<A> {
     /// [`FactsError::Failed`], if an earlier call failed. The facts stay as they are.
     pub fn note(&mut self, exchange: &Exchange<'_>) -> Result<Noted, FactsError>
         requires { self.old.has_failed ≡ false → IsDue self.old exchange.now }
-        ensures noted { (profile : Profile) (earlier : List (List Paired)) (past : List Paired) → HasNotedBehind profile self.old earlier past → NotesBehind profile earlier past exchange.now self.old self.new result }
+        ensures noted { (profile : Profile) (earlier : List (List Paired)) (past : List Paired) → HasNotedBehind profile self.old earlier past
+            → NotesBehind profile earlier past exchange.now self.old self.new result }
         ensures failed { self.old.has_failed ≡ true → (result ≡ Err FactsError.Failed) × (self.new ≡ self.old) }
     {
         if self.has_failed {
@@ -139,7 +149,8 @@ impl<A: Allocator + Copy> Facts<A> {
     /// nothing of use.
     fn try_note(&mut self, exchange: &Exchange<'_>) -> Result<Noted, AllocError>
         requires { IsDue self.old exchange.now }
-        ensures { IfOk result (λ noted. (profile : Profile) (earlier : List (List Paired)) (past : List Paired) → HasNotedBehind profile self.old earlier past → IsNotedBehind profile earlier past exchange.now self.old self.new noted) }
+        ensures { IfOk result (λ noted. (profile : Profile) (earlier : List (List Paired)) (past : List Paired) → HasNotedBehind profile self.old earlier past
+            → IsNotedBehind profile earlier past exchange.now self.old self.new noted) }
     {
         let prompt = exchange.prompt();
         let answer = exchange.answer();
@@ -208,7 +219,8 @@ impl<A: Allocator> Facts<A> {
     /// Returns the groups that the accepted answers of all sessions show, in byte order of their names.
     /// Every spool that permits the exchanges has them.
     pub fn groups(&self) -> ShownGroups<'_, A>
-        ensures { (profile : Profile) (earlier : List (List Paired)) (past : List Paired) → HasNotedBehind profile self.now earlier past → AreShownGroups (said_behind profile.marks earlier past) result }
+        ensures { (profile : Profile) (earlier : List (List Paired)) (past : List Paired) → HasNotedBehind profile self.now earlier past
+            → AreShownGroups (said_behind profile.marks earlier past) result }
     {
         self.kept.groups()
     }
@@ -217,7 +229,8 @@ impl<A: Allocator> Facts<A> {
     /// [`groups`](Facts::groups), or `None` if there are no more groups than that. It takes time in
     /// the order of the index.
     pub fn group(&self, index: usize) -> Option<ShownGroup<'_, A>>
-        ensures { (profile : Profile) (earlier : List (List Paired)) (past : List Paired) → HasNotedBehind profile self.now earlier past → (groups : List GroupValue)
+        ensures { (profile : Profile) (earlier : List (List Paired)) (past : List Paired) → HasNotedBehind profile self.now earlier past
+            → (groups : List GroupValue)
             × AreShownGroups (said_behind profile.marks earlier past) groups × (result ≡ slice_get groups index) }
     {
         self.groups().nth(index)
@@ -226,7 +239,8 @@ impl<A: Allocator> Facts<A> {
     /// Returns the articles that the accepted answers of all sessions show, in byte order of their
     /// message-ids. Every spool that permits the exchanges has them.
     pub fn articles(&self) -> ShownArticles<'_, A>
-        ensures { (profile : Profile) (earlier : List (List Paired)) (past : List Paired) → HasNotedBehind profile self.now earlier past → AreShownArticles (said_behind profile.marks earlier past) result }
+        ensures { (profile : Profile) (earlier : List (List Paired)) (past : List Paired) → HasNotedBehind profile self.now earlier past
+            → AreShownArticles (said_behind profile.marks earlier past) result }
     {
         self.kept.articles()
     }
@@ -235,7 +249,8 @@ impl<A: Allocator> Facts<A> {
     /// [`articles`](Facts::articles), or `None` if there are no more articles than that. It takes
     /// time in the order of the ids that are passed over.
     pub fn article(&self, index: usize) -> Option<ShownArticle<'_, A>>
-        ensures { (profile : Profile) (earlier : List (List Paired)) (past : List Paired) → HasNotedBehind profile self.now earlier past → (articles : List ArticleValue)
+        ensures { (profile : Profile) (earlier : List (List Paired)) (past : List Paired) → HasNotedBehind profile self.now earlier past
+            → (articles : List ArticleValue)
             × AreShownArticles (said_behind profile.marks earlier past) articles × (result ≡ slice_get articles index) }
     {
         self.articles().nth(index)
@@ -244,7 +259,8 @@ impl<A: Allocator> Facts<A> {
     /// Tells whether an accepted answer of any session mentions the message-id: names it, or says that
     /// it has no article.
     pub fn mentions(&self, id: &[u8]) -> bool
-        ensures { (profile : Profile) (earlier : List (List Paired)) (past : List Paired) → HasNotedBehind profile self.now earlier past → result ≡ is_mentioned (said_behind profile.marks earlier past) id.now }
+        ensures { (profile : Profile) (earlier : List (List Paired)) (past : List Paired) → HasNotedBehind profile self.now earlier past → result
+            ≡ is_mentioned (said_behind profile.marks earlier past) id.now }
     {
         self.kept.mentions(id)
     }

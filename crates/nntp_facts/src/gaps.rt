@@ -1,8 +1,8 @@
 //! The intervals that ascending numbers leave of a range.
 ghost use Rattle.std.specs.Prelude.{◌≡◌, ℕ, true, false, ◌||◌, IsTrue, OnOk, ◌↔◌, Some};
 ghost use Rattle.std.specs.Iterator.{YieldsFirst, item_count};
-ghost use Rattle.nntp_intervals.specs.Intervals.{holds};
-ghost use Rattle.nntp_facts.specs.Summary.{has, gaps};
+ghost use Rattle.nntp_intervals.specs.Inner.Intervals.{holds};
+ghost use Rattle.nntp_facts.specs.Inner.Summary.{has, gaps};
 
 use crate::shown::meets;
 use nntp_intervals::IntervalSet;
@@ -27,7 +27,7 @@ impl<'a> Model for Gaps<'a> {
 
     ghost Value = { List (ℕ × ℕ) };
 
-    ghost use Rattle.nntp_facts.specs.Summary.{gaps};
+    ghost use Rattle.nntp_facts.specs.Inner.Summary.{gaps};
 
     ghost view = { λ g. gaps g.start g.last g.numbers.now };
 }

@@ -4,14 +4,14 @@ ghost use Rattle.std.specs.Option.{option_copied};
 ghost use Rattle.std.specs.Rc.{rc_str_bytes};
 ghost use Rattle.std.specs.FinMap.{get, insert, empty};
 ghost use Rattle.nntp_said.specs.Asks.{Ask};
-ghost use Rattle.nntp_facts.specs.Together.{AsksStand};
-ghost use Rattle.nntp_facts.specs.Part.{Says};
-ghost use Rattle.nntp_facts.specs.PartView.{said};
-ghost use Rattle.nntp_facts.specs.SayingView.{id_at, of_group};
-ghost use Rattle.nntp_facts.specs.Summary.{IsSummary, AreBounded};
-ghost use Rattle.nntp_facts.specs.Kept.{Agree, IsFree, MayHave, ids_with, places_with};
-ghost use Rattle.nntp_facts.specs.KeptSaying.{HasSaid, IsTextOf};
-ghost use Rattle.nntp_facts.specs.Readers.{unseen_in, unseen_high_in};
+ghost use Rattle.nntp_facts.specs.Inner.Together.{AsksStand};
+ghost use Rattle.nntp_facts.specs.Inner.Part.{Says};
+ghost use Rattle.nntp_facts.specs.Inner.PartView.{said};
+ghost use Rattle.nntp_facts.specs.Inner.SayingView.{id_at, of_group};
+ghost use Rattle.nntp_facts.specs.Inner.Summary.{IsSummary, AreBounded};
+ghost use Rattle.nntp_facts.specs.Inner.Kept.{Agree, IsFree, MayHave, ids_with, places_with};
+ghost use Rattle.nntp_facts.specs.Inner.KeptSaying.{HasSaid, IsTextOf};
+ghost use Rattle.nntp_facts.specs.Inner.Readers.{unseen_in, unseen_high_in};
 
 use crate::numbers::Numbers;
 use crate::saying::{GroupPart, IdAt};
@@ -35,14 +35,19 @@ impl<A: Allocator> Model for Group<A> {
     ghost use Rattle.std.specs.Prelude.{map};
     ghost use Rattle.std.specs.FinMap.{from_entries};
     ghost use Rattle.std.specs.Rc.{rc_str_bytes};
-    ghost use Rattle.nntp_facts.specs.Kept.{KeptGroup};
-    ghost use Rattle.nntp_facts.specs.GroupView.{coded_group};
+    ghost use Rattle.nntp_facts.specs.Inner.Kept.{KeptGroup};
+    ghost use Rattle.nntp_facts.specs.Inner.GroupView.{coded_group};
 
     ghost Value = { KeptGroup };
 
     ghost coded = { coded_group };
 
-    ghost view = { λ g. record { numbers = g.numbers; ids = from_entries (map (λ e. (e.0, rc_str_bytes e.1)) g.ids.entries); places = from_entries (map (λ e. (rc_str_bytes e.0, e.1)) g.places.entries) } };
+    ghost view = { λ g. record {
+      numbers = g.numbers;
+      ids = from_entries (map (λ e. (e.0, rc_str_bytes e.1)) g.ids.entries);
+      places = from_entries
+          (map (λ e. (rc_str_bytes e.0, e.1)) g.places.entries);
+    } };
 }
 
 impl<A: Allocator + Copy> Group<A> {
@@ -65,8 +70,10 @@ impl<A: Allocator + Copy> Group<A> {
         part: &GroupPart<'_>,
         text: Option<RcStr<A>>,
     ) -> Result<(), AllocError>
-        ensures numbers { OnOk result ((asks more : List Ask) → IsSummary self.old.numbers asks → Says (said part.now.numbers) more → IsSummary self.new.numbers (asks ++ more)) }
-        ensures ids { OnOk result (IsTextOf (option_map (λ text. rc_str_bytes text) text) (id_at part.now.id) → Agree (get self.old.ids) (get self.old.places) (id_at part.now.id) → MayHave self.old.ids self.old.places (id_at part.now.id)
+        ensures numbers { OnOk result ((asks more : List Ask) → IsSummary self.old.numbers asks → Says (said part.now.numbers) more
+            → IsSummary self.new.numbers (asks ++ more)) }
+        ensures ids { OnOk result (IsTextOf (option_map (λ text. rc_str_bytes text) text) (id_at part.now.id)
+            → Agree (get self.old.ids) (get self.old.places) (id_at part.now.id) → MayHave self.old.ids self.old.places (id_at part.now.id)
             → (self.new.ids ≡ ids_with self.old.ids (id_at part.now.id)) × (self.new.places ≡ places_with self.old.places (id_at part.now.id))) }
     {
         self.numbers.add(&part.numbers)?;
@@ -77,7 +84,8 @@ impl<A: Allocator + Copy> Group<A> {
     /// nothing of use.
     fn add_id(&mut self, id: Option<IdAt<'_>>, text: Option<RcStr<A>>) -> Result<(), AllocError>
         ensures numbers { self.new.numbers ≡ self.old.numbers }
-        ensures ids { OnOk result (IsTextOf (option_map (λ text. rc_str_bytes text) text) (id_at id.entry) → Agree (get self.old.ids) (get self.old.places) (id_at id.entry) → MayHave self.old.ids self.old.places (id_at id.entry)
+        ensures ids { OnOk result (IsTextOf (option_map (λ text. rc_str_bytes text) text) (id_at id.entry)
+            → Agree (get self.old.ids) (get self.old.places) (id_at id.entry) → MayHave self.old.ids self.old.places (id_at id.entry)
             → (self.new.ids ≡ ids_with self.old.ids (id_at id.entry)) × (self.new.places ≡ places_with self.old.places (id_at id.entry))) }
     {
         match (id, text) {
@@ -103,7 +111,8 @@ impl<A: Allocator + Copy> Group<A> {
     /// Adds that the number has the id. After an error the value says nothing of use.
     fn identify(&mut self, number: u64, id: RcStr<A>) -> Result<(), AllocError>
         ensures numbers { self.new.numbers ≡ self.old.numbers }
-        ensures ids { OnOk result ((self.new.ids ≡ insert self.old.ids number (rc_str_bytes id)) × (self.new.places ≡ insert self.old.places (rc_str_bytes id) number)) }
+        ensures ids { OnOk result ((self.new.ids ≡ insert self.old.ids number (rc_str_bytes id))
+            × (self.new.places ≡ insert self.old.places (rc_str_bytes id) number)) }
     {
         self.ids.insert(number, id.clone()?)?;
         self.places.insert(id, number)?;
@@ -126,7 +135,8 @@ impl<A: Allocator> Group<A> {
     /// and no other id there.
     pub(crate) fn joins(&self, part: &GroupPart<'_>) -> bool
         ensures { (asks more : List Ask) → IsSummary self.now.numbers asks → AsksStand asks → AreBounded (asks ++ more) → Says (said part.now.numbers) more
-            → Agree (get self.now.ids) (get self.now.places) (id_at part.now.id) → IsTrue result ↔ (AsksStand (asks ++ more) × MayHave self.now.ids self.now.places (id_at part.now.id)) }
+            → Agree (get self.now.ids) (get self.now.places) (id_at part.now.id) → IsTrue result
+            ↔ (AsksStand (asks ++ more) × MayHave self.now.ids self.now.places (id_at part.now.id)) }
     {
         self.numbers.joins(&part.numbers) && self.may_have(part.id)
     }

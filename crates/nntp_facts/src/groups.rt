@@ -4,15 +4,15 @@ ghost use Rattle.std.specs.FinMap as map;
 ghost use Rattle.std.specs.Rc.{rc_str_bytes};
 ghost use Rattle.nntp_article.specs.Session.Spool.{Name};
 ghost use Rattle.nntp_said.specs.Asks.{Ask};
-ghost use Rattle.nntp_facts.specs.Together.{AsksStand};
-ghost use Rattle.nntp_facts.specs.Part.{Says};
-ghost use Rattle.nntp_facts.specs.PartView.{said};
-ghost use Rattle.nntp_facts.specs.SayingView.{id_at, of_group};
-ghost use Rattle.nntp_facts.specs.Summary.{IsSummary, AreBounded};
-ghost use Rattle.nntp_facts.specs.Kept.{joins_at_all, Told, AreKept, Agree, IsShownAt, MayShow, AreKeptWith};
-ghost use Rattle.nntp_facts.specs.KeptSaying.{IsTextOf, HasSaid};
+ghost use Rattle.nntp_facts.specs.Inner.Together.{AsksStand};
+ghost use Rattle.nntp_facts.specs.Inner.Part.{Says};
+ghost use Rattle.nntp_facts.specs.Inner.PartView.{said};
+ghost use Rattle.nntp_facts.specs.Inner.SayingView.{id_at, of_group};
+ghost use Rattle.nntp_facts.specs.Inner.Summary.{IsSummary, AreBounded};
+ghost use Rattle.nntp_facts.specs.Inner.Kept.{joins_at_all, Told, AreKept, Agree, IsShownAt, MayShow, AreKeptWith};
+ghost use Rattle.nntp_facts.specs.Inner.KeptSaying.{IsTextOf, HasSaid};
 ghost use Rattle.nntp_facts.specs.declared.joins.Joins.TheVariants.{Again};
-ghost use Rattle.nntp_facts.specs.Readers.{shown_groups};
+ghost use Rattle.nntp_facts.specs.Inner.Readers.{shown_groups};
 
 mod listed;
 
@@ -38,8 +38,8 @@ impl<A: Allocator> Model for Groups<A> {
     ghost use Rattle.std.specs.FinMap.{FinMap, from_entries};
     ghost use Rattle.std.specs.Ordering.{nat_cmp};
     ghost use Rattle.std.specs.Cmp.Lexicographic.{slice_cmp};
-    ghost use Rattle.nntp_facts.specs.Kept.{KeptGroup};
-    ghost use Rattle.nntp_facts.specs.GroupView.{coded_groups};
+    ghost use Rattle.nntp_facts.specs.Inner.Kept.{KeptGroup};
+    ghost use Rattle.nntp_facts.specs.Inner.GroupView.{coded_groups};
 
     ghost Value = { FinMap (slice_cmp nat_cmp) KeptGroup };
 
@@ -66,7 +66,8 @@ impl<A: Allocator + Copy> Groups<A> {
         part: &GroupPart<'_>,
         text: Option<RcStr<A>>,
     ) -> Result<(), AllocError>
-        ensures { OnOk result ((before : Name → Told) (asks : List Ask) → IsTextOf (option_map (λ text. rc_str_bytes text) text) (id_at part.now.id) → AreKept before self.old → Says (said part.now.numbers) asks → ((before part.now.name.now).is_shown ≡ false → AreBounded asks)
+        ensures { OnOk result ((before : Name → Told) (asks : List Ask) → IsTextOf (option_map (λ text. rc_str_bytes text) text) (id_at part.now.id)
+            → AreKept before self.old → Says (said part.now.numbers) asks → ((before part.now.name.now).is_shown ≡ false → AreBounded asks)
             → Agree (before part.now.name.now).ids (before part.now.name.now).places (id_at part.now.id)
             → MayShow (before part.now.name.now) (id_at part.now.id)
             → AreKeptWith before part.now.name.now asks (id_at part.now.id) self.new) }
@@ -90,7 +91,8 @@ impl<A: Allocator + Copy> Groups<A> {
 
     /// Tells how what is said of a group joins all that was said before.
     pub(crate) fn joins(&self, part: &GroupPart<'_>) -> Joins
-        ensures at_all { (tells : Name → Told) (asks : List Ask) → AreKept tells self.now → AsksStand (tells part.now.name.now).asks → Says (said part.now.numbers) asks
+        ensures at_all { (tells : Name → Told) (asks : List Ask) → AreKept tells self.now → AsksStand (tells part.now.name.now).asks
+            → Says (said part.now.numbers) asks
             → ((tells part.now.name.now).is_shown ≡ false → AreBounded asks)
             → Agree (tells part.now.name.now).ids (tells part.now.name.now).places (id_at part.now.id)
             → IsShownAt (tells part.now.name.now) (id_at part.now.id)

@@ -1,5 +1,5 @@
 //! What is kept of all answers of a session.
-ghost use Rattle.std.specs.Prelude.{◌≡◌, ◌≢◌, ◌↔◌, ◌++◌, [], false, None, Some, List, ℕ, IsTrue, IsFalse, IfSome, IfOk, OnOk, option_map};
+ghost use Rattle.std.specs.Prelude.{◌≡◌, ◌≢◌, ◌↔◌, ◌++◌, [], false, None, Some, List, IsTrue, IsFalse, IfSome, IfOk, OnOk, option_map};
 ghost use Rattle.std.specs.List.{AllByRecursion, list_any};
 ghost use Rattle.std.specs.Option.{option_map_or};
 ghost use Rattle.std.specs.Rc.{rc_str_bytes};
@@ -9,14 +9,15 @@ ghost use Rattle.nntp_article.specs.Session.Machine.{is_same};
 ghost use Rattle.nntp_said.specs.Asks.{Ask};
 ghost use Rattle.nntp_said.specs.Facts.{Fact};
 ghost use Rattle.nntp_facts.specs.Given.{is_shown_group, is_mentioned};
-ghost use Rattle.nntp_facts.specs.Together.{IsWellFormed, denies_group, Together, JoinArticles};
-ghost use Rattle.nntp_facts.specs.Saying.{Saying as SayingValue, facts_in, IsToExist, MaySay, Tells};
-ghost use Rattle.nntp_facts.specs.SayingView.{of_group, article_said, saying_of};
-ghost use Rattle.nntp_facts.specs.ArticleView.{is_added, text_of};
-ghost use Rattle.nntp_facts.specs.Kept.{joins_at_all, IsKept, IsAddedIf, AreKeptGroups, AreKeptNames, AreKeptArticles, AreAdded};
+ghost use Rattle.nntp_facts.specs.Inner.Together.{IsWellFormed, Together};
+ghost use Rattle.nntp_facts.specs.Together.{denies_group};
+ghost use Rattle.nntp_facts.specs.Inner.Saying.{Saying as SayingValue, facts_in, IsToExist, MaySay, Tells};
+ghost use Rattle.nntp_facts.specs.Inner.SayingView.{of_group, article_said, saying_of};
+ghost use Rattle.nntp_facts.specs.Inner.ArticleView.{is_added, text_of};
+ghost use Rattle.nntp_facts.specs.Inner.Kept.{joins_at_all, IsKept, AreKeptGroups, AreKeptNames, AreKeptArticles, AreAdded};
 ghost use Rattle.nntp_facts.specs.declared.joins.Joins.TheVariants.{Again};
-ghost use Rattle.nntp_facts.specs.Readers.{shown_groups, shown_articles};
-ghost use Rattle.nntp_facts.specs.KeptSaying.{GroupJoins, JoinGroups, IsTextOf, IsThereAlready, MayBeSaid, article_facts};
+ghost use Rattle.nntp_facts.specs.Inner.Readers.{shown_groups, shown_articles};
+ghost use Rattle.nntp_facts.specs.Inner.KeptSaying.{GroupJoins, JoinGroups, IsTextOf, IsThereAlready, MayBeSaid, IsArticleAdded};
 
 mod listed_groups;
 mod points;
@@ -54,8 +55,8 @@ impl<A: Allocator> Drop for Kept<A> {
 }
 
 impl<A: Allocator> Model for Kept<A> {
-    ghost use Rattle.nntp_facts.specs.Kept.{Kept as KeptValue};
-    ghost use Rattle.nntp_facts.specs.KeptView.{coded_whole};
+    ghost use Rattle.nntp_facts.specs.Inner.Kept.{Kept as KeptValue};
+    ghost use Rattle.nntp_facts.specs.Inner.KeptView.{coded_whole};
 
     ghost Value = { KeptValue };
 
@@ -92,7 +93,8 @@ impl<A: Allocator + Copy> Kept<A> {
     /// Adds what an answer says that lists no groups, if it stands together with all before, and
     /// tells whether it does. After an error the value says nothing of use.
     fn note_parts(&mut self, saying: &Saying<'_>) -> Result<bool, AllocError>
-        ensures { IfOk result (λ does. (saying_of saying.now).groups ≡ None → (facts more : List Fact) → IsKept facts self.old → Together facts → AllByRecursion IsWellFormed more
+        ensures { IfOk result (λ does. (saying_of saying.now).groups ≡ None → (facts more : List Fact) → IsKept facts self.old → Together facts
+            → AllByRecursion IsWellFormed more
             → Tells facts (saying_of saying.now) more → AreAdded facts more self.old self.new does) }
     {
         let joins = self.groups_join(saying);
@@ -115,11 +117,11 @@ impl<A: Allocator + Copy> Kept<A> {
         article: &Option<ArticlePart<'_>>,
     ) -> Result<Added<A>, AllocError>
         ensures rest { (self.new.groups ≡ self.old.groups) × (self.new.names ≡ self.old.names) }
-        ensures added { IfOk result (λ added. (facts : List Fact) (name : Name) (n : ℕ) → AreKeptArticles facts self.old.articles → IfSome (option_map article_said article.now) MayBeSaid
-            → (joins ≡ Again → IsThereAlready facts (option_map article_said article.now))
-            → IsAddedIf (JoinArticles facts (article_facts name n (option_map article_said article.now)))
-            (AreKeptArticles (facts ++ article_facts name n (option_map article_said article.now))) self.old.articles self.new.articles (is_added added)) }
-        ensures text { IfOk result (λ added. joins ≢ Again → IsTrue (is_added added) → (id : Id) → IsToExist (option_map article_said article.now) id → text_of added ≡ Some id) }
+        ensures added { IfOk result (λ added. (facts : List Fact) → AreKeptArticles facts self.old.articles
+            → IfSome (option_map article_said article.now) MayBeSaid → (joins ≡ Again → IsThereAlready facts (option_map article_said article.now))
+            → IsArticleAdded facts (option_map article_said article.now) self.old.articles self.new.articles (is_added added)) }
+        ensures text { IfOk result (λ added. joins ≢ Again → IsTrue (is_added added) → (id : Id) → IsToExist (option_map article_said article.now) id
+            → text_of added ≡ Some id) }
     {
         match article {
             Some(article) => self.articles.note(joins, article),
@@ -131,7 +133,8 @@ impl<A: Allocator + Copy> Kept<A> {
     fn deny(&mut self, name: Option<&[u8]>) -> Result<(), AllocError>
         ensures rest { (self.new.groups ≡ self.old.groups) × (self.new.articles ≡ self.old.articles) }
         ensures names { OnOk result ((facts more : List Fact) → AreKeptNames facts self.old.names
-            → ((other : Name) → list_any (denies_group other) more ≡ option_map_or (λ name. is_same name other) (option_map (λ name. name.now) name.entry) false)
+            → ((other : Name) → list_any (denies_group other) more
+            ≡ option_map_or (λ name. is_same name other) (option_map (λ name. name.now) name.entry) false)
             → AreKeptNames (facts ++ more) self.new.names) }
     {
         match name {
@@ -148,8 +151,10 @@ impl<A: Allocator + Copy> Kept<A> {
         text: Option<RcStr<A>>,
     ) -> Result<(), AllocError>
         ensures rest { (self.new.names ≡ self.old.names) × (self.new.articles ≡ self.old.articles) }
-        ensures groups { OnOk result ((facts : List Fact) (s : SayingValue) (asks : List Ask) → s.group ≡ option_map of_group group.now → s.groups ≡ None → Together facts → MaySay facts s asks
-            → IfSome s.group (GroupJoins facts asks) → AreKeptGroups facts self.old.groups → (joins ≡ Again → AreKeptGroups (facts ++ facts_in s asks) self.old.groups)
+        ensures groups { OnOk result ((facts : List Fact) (s : SayingValue) (asks : List Ask) → s.group ≡ option_map of_group group.now → s.groups ≡ None
+            → Together facts → MaySay facts s asks
+            → IfSome s.group (GroupJoins facts asks) → AreKeptGroups facts self.old.groups
+            → (joins ≡ Again → AreKeptGroups (facts ++ facts_in s asks) self.old.groups)
             → (joins ≢ Again → IfSome s.group (λ g. IsTextOf (option_map (λ text. rc_str_bytes text) text) g.id))
             → AreKeptGroups (facts ++ facts_in s asks) self.new.groups) }
     {
@@ -167,8 +172,10 @@ impl<A: Allocator + Copy> Kept<A> {
         text: Option<RcStr<A>>,
     ) -> Result<(), AllocError>
         ensures rest { (self.new.names ≡ self.old.names) × (self.new.articles ≡ self.old.articles) }
-        ensures groups { OnOk result ((facts : List Fact) (s : SayingValue) (asks : List Ask) → s.group ≡ option_map of_group group.now → s.groups ≡ None → Together facts → MaySay facts s asks
-            → IfSome s.group (GroupJoins facts asks) → AreKeptGroups facts self.old.groups → IfSome s.group (λ g. IsTextOf (option_map (λ text. rc_str_bytes text) text) g.id)
+        ensures groups { OnOk result ((facts : List Fact) (s : SayingValue) (asks : List Ask) → s.group ≡ option_map of_group group.now → s.groups ≡ None
+            → Together facts → MaySay facts s asks
+            → IfSome s.group (GroupJoins facts asks) → AreKeptGroups facts self.old.groups
+            → IfSome s.group (λ g. IsTextOf (option_map (λ text. rc_str_bytes text) text) g.id)
             → AreKeptGroups (facts ++ facts_in s asks) self.new.groups) }
     {
         match group {
@@ -207,7 +214,8 @@ impl<A: Allocator + Copy> Kept<A> {
 
     /// Tells whether there may be no group of this name.
     fn may_be_missing(&self, name: Option<&[u8]>) -> bool
-        ensures { (facts : List Fact) → IsKept facts self.now → IsTrue result ↔ IfSome (option_map (λ name. name.now) name.entry) (λ name. IsFalse (is_shown_group facts name)) }
+        ensures { (facts : List Fact) → IsKept facts self.now → IsTrue result
+            ↔ IfSome (option_map (λ name. name.now) name.entry) (λ name. IsFalse (is_shown_group facts name)) }
     {
         match name {
             Some(name) => !self.groups.is_shown(name),
@@ -217,7 +225,8 @@ impl<A: Allocator + Copy> Kept<A> {
 
     /// Tells how what is said of a group joins all that was said before.
     fn group_joins(&self, group: &Option<GroupPart<'_>>) -> Joins
-        ensures at_all { (facts : List Fact) (s : SayingValue) (asks : List Ask) → s.group ≡ option_map of_group group.now → IsKept facts self.now → Together facts → MaySay facts s asks
+        ensures at_all { (facts : List Fact) (s : SayingValue) (asks : List Ask) → s.group ≡ option_map of_group group.now → IsKept facts self.now
+            → Together facts → MaySay facts s asks
             → IsTrue (joins_at_all result) ↔ IfSome s.group (GroupJoins facts asks) }
         ensures again { result ≡ Again → (facts : List Fact) (s : SayingValue) (asks : List Ask)
             → s.group ≡ option_map of_group group.now → s.groups ≡ None → IsKept facts self.now → Together facts

@@ -5,27 +5,35 @@ ghost use Rattle.std.specs.FinMap.{insert, len};
 ghost use Rattle.nntp_article.specs.Session.Spool.{Spool, Numbers, IsNumber, IsGroup, IsSpool, Name};
 ghost use Rattle.nntp_article.specs.declared.session.profile.Profile.{Profile};
 ghost use Rattle.nntp_article.specs.Session.Machine.{Run, start, fits, Visible, visible_after};
-ghost use Rattle.nntp_said.specs.Asks.{RunsAt, Meets, Ask, position_after};
+ghost use Rattle.nntp_said.specs.Inner.Asks.{RunsAt};
+ghost use Rattle.nntp_said.specs.Asks.{Meets, Ask, position_after};
 ghost use Rattle.nntp_said.specs.declared.position.Position.TheVariants.{Nowhere};
 ghost use Rattle.nntp_said.specs.declared.position.Position.{Position};
-ghost use Rattle.nntp_said.specs.Facts.{FitsAll, Holds, Fact, facts_of, facts_from};
-ghost use Rattle.nntp_facts.specs.Given.{asks_of, is_known, demand, join, IsOneMore, IsGivenNumber, HasGivenNumbers, IsGiven, facts_of_session, size, weight, HasAtLeast};
-ghost use Rattle.nntp_facts.specs.Together.{MeetsDemand, IsWellFormed, Together, AgreeWithin, Join};
-ghost use Rattle.nntp_facts.specs.Permits.{SomePermits, IsFirstUnpermitted};
+ghost use Rattle.nntp_said.specs.Inner.Facts.{FitsAll};
+ghost use Rattle.nntp_said.specs.Facts.{Holds, Fact, facts_of, facts_from};
+ghost use Rattle.nntp_facts.specs.Given.{asks_of, is_known, demand, join, IsOneMore, IsGivenNumber, HasGivenNumbers, IsGiven, facts_of_session, HasAtLeast};
+ghost use Rattle.nntp_facts.specs.Inner.Given.{size, weight};
+ghost use Rattle.nntp_facts.specs.Together.{MeetsDemand};
+ghost use Rattle.nntp_facts.specs.Inner.Together.{IsWellFormed, Together, AgreeWithin, Join};
+ghost use Rattle.nntp_facts.specs.Inner.Permits.{SomePermits, IsFirstUnpermitted};
 ghost use Rattle.nntp_article.specs.Session.Explains.{Explains, ExplainsUpTo, Bad};
-ghost use Rattle.nntp_wire.specs.Octets.{are_octets};
+ghost use Rattle.nntp_wire.specs.Inner.Octets.{are_octets};
 ghost use Rattle.nntp_wire.specs.Session.{prompts_of, Spelled};
-ghost use Rattle.nntp_facts.specs.Outcome.{Outcome, Yes, No, is_yes, IsOutcome};
+ghost use Rattle.nntp_facts.specs.Outcome.{Outcome, Yes, No, IsOutcome};
+ghost use Rattle.nntp_facts.specs.Inner.Outcome.{is_yes};
 ghost use Rattle.nntp_pair.specs.declared.class.Class.{Class};
 ghost use Rattle.nntp_pair.specs.declared.class.Class.TheVariants.{OutOfPlace};
 ghost use Rattle.nntp_facts.specs.Classes.{HasClass, IsSettled, class_by, visible_from, position_from, asked_next};
 ghost use Rattle.nntp_pair.specs.Classes.{class_of};
-ghost use Rattle.nntp_pair.specs.Pairing.{Paired, Unpaired, IsNext, AreNext, IsBad, IsLasting, Ending, end, bad, IsPairing, HasPairs, responses_of, asked_of, asked_at, lines_in, streams};
+ghost use Rattle.nntp_pair.specs.Pairing.{Paired, Unpaired, IsNext, AreNext, IsBad, Ending, end, bad, IsPairing, responses_of, asked_of, asked_at, streams};
+ghost use Rattle.nntp_pair.specs.Inner.Pairing.{IsLasting, HasPairs, lines_in};
 ghost use Rattle.nntp_pair.specs.declared.class.PairClass.{PairClass};
 ghost use Rattle.nntp_wire.specs.Answer.{Asked, Response, Spells};
 ghost use Rattle.nntp_wire.specs.declared.marks.Marks.{Marks};
 ghost use Rattle.nntp_wire.specs.declared.marks.Marks.TheVariants.{Strict};
-ghost use Rattle.nntp_facts.specs.Conflict.{Placed, placed_from, FitsThere, a_group, told, SomeHas, told_with, below, IsCore, IsPartOfCore, IsEndOfCore, AreAmong, Point, ConflictAt, IsFirstPoint};
+ghost use Rattle.nntp_facts.specs.Conflict.{Placed, placed_from, a_group, told, SomeHas, told_with, below, IsCore, IsEndOfCore, AreAmong, Point, ConflictAt};
+ghost use Rattle.nntp_facts.specs.Conflict.{IsFirstPoint};
+ghost use Rattle.nntp_facts.specs.Inner.Conflict.{FitsThere, IsPartOfCore};
 
 pub use nntp_said::laws::{current_article_is_read_off, permitted_by_facts};
 
@@ -92,7 +100,8 @@ pub fn answers_add_up()
     ensures fitting { (profile : Profile) (v : Visible) (prompts : List Asked) (answers : List Response) (asked : Asked) (response : Response)
         → asked_next prompts answers ≡ Some asked
         → FitsAll profile v prompts (answers ++ response ∷ [])
-        ↔ (FitsAll profile v prompts answers × ((visible_from v prompts answers).closed ≡ false) × IsTrue (fits profile (visible_from v prompts answers) asked response)) }
+        ↔ (FitsAll profile v prompts answers × ((visible_from v prompts answers).closed ≡ false)
+        × IsTrue (fits profile (visible_from v prompts answers) asked response)) }
     ensures visible { (v : Visible) (prompts : List Asked) (answers : List Response) (asked : Asked) (response : Response)
         → asked_next prompts answers ≡ Some asked
         → visible_from v prompts (answers ++ response ∷ []) ≡ visible_after (visible_from v prompts answers) asked response }
@@ -159,9 +168,11 @@ pub fn permitted_where_all_stands_together()
     ensures exactly_if { (profile : Profile) (prompts : List Asked) (answers : List Response) → size (facts_of_session profile.marks prompts answers) < 2 ^ 210
         → SomePermits profile prompts answers ↔ (FitsAll profile start.visible prompts answers × Together (facts_of_session profile.marks prompts answers)) }
     ensures given_exists { (profile : Profile) (prompts : List Asked) (answers : List Response)
-        → FitsAll profile start.visible prompts answers → size (facts_of_session profile.marks prompts answers) < 2 ^ 210 → (G : Spool) × IsGiven (facts_of_session profile.marks prompts answers) G }
+        → FitsAll profile start.visible prompts answers → size (facts_of_session profile.marks prompts answers) < 2 ^ 210 → (G : Spool)
+        × IsGiven (facts_of_session profile.marks prompts answers) G }
     ensures given_permits { (profile : Profile) (G : Spool) (prompts : List Asked) (answers : List Response)
-        → FitsAll profile start.visible prompts answers → Together (facts_of_session profile.marks prompts answers) → size (facts_of_session profile.marks prompts answers) < 2 ^ 210
+        → FitsAll profile start.visible prompts answers → Together (facts_of_session profile.marks prompts answers)
+        → size (facts_of_session profile.marks prompts answers) < 2 ^ 210
         → IsGiven (facts_of_session profile.marks prompts answers) G → IsSpool profile.limit G × Run profile G start prompts answers }
 {}
 
@@ -172,10 +183,12 @@ pub fn next_answer_is_permitted_where_it_joins()
     ensures facts { (facts more : List Fact) → Together facts → AgreeWithin more → Together (facts ++ more) ↔ Join facts more }
     ensures within { (how : Marks) (v : Visible) (at : Position) (asked : Asked) (response : Response) → AgreeWithin (facts_of how v at asked response) }
     ensures answer { (profile : Profile) (prompts : List Asked) (answers : List Response) (asked : Asked) (response : Response)
-        → asked_next prompts answers ≡ Some asked → size (facts_of_session profile.marks prompts (answers ++ response ∷ [])) < 2 ^ 210 → SomePermits profile prompts answers
+        → asked_next prompts answers ≡ Some asked → size (facts_of_session profile.marks prompts (answers ++ response ∷ [])) < 2 ^ 210
+        → SomePermits profile prompts answers
         → SomePermits profile prompts (answers ++ response ∷ [])
         ↔ (((visible_from start.visible prompts answers).closed ≡ false) × IsTrue (fits profile (visible_from start.visible prompts answers) asked response)
-        × Join (facts_of_session profile.marks prompts answers) (facts_of profile.marks (visible_from start.visible prompts answers) (position_from Nowhere prompts answers) asked response)) }
+        × Join (facts_of_session profile.marks prompts answers) (facts_of profile.marks (visible_from start.visible prompts answers)
+        (position_from Nowhere prompts answers) asked response)) }
 {}
 
 /// Either some spool permits a session, or none does.
@@ -186,7 +199,8 @@ pub fn some_spool_permits_or_none()
 
 /// Some spool permits a session, or exactly one answer is bad, and never both.
 pub fn one_answer_is_bad()
-    ensures permitted_or_bad { (profile : Profile) (prompts : List Asked) (answers : List Response) → size (facts_of_session profile.marks prompts answers) < 2 ^ 210
+    ensures permitted_or_bad { (profile : Profile) (prompts : List Asked) (answers : List Response)
+        → size (facts_of_session profile.marks prompts answers) < 2 ^ 210
         → SomePermits profile prompts answers ⊎ ((k : ℕ) × IsFirstUnpermitted profile prompts answers k) }
     ensures never_both { (profile : Profile) (prompts : List Asked) (answers : List Response) (k : ℕ)
         → SomePermits profile prompts answers → IsFirstUnpermitted profile prompts answers k → ⊥ }
@@ -257,7 +271,8 @@ pub fn unpermitted_response_is_bad()
         → Bad profile client server (length pairs) }
     ensures class { (profile : Profile) (client server : List ℕ) (pairs : List Paired) (pair : Paired) (before after : Unpaired)
         → AreNext (streams client server) pairs before → IsNext before pair after
-        → HasClass profile client server (length pairs) (class_by (fits profile (visible_from start.visible (prompts_of client) (responses_of pairs)) (asked_at pair.line) pair.response)) }
+        → HasClass profile client server (length pairs) (class_by
+        (fits profile (visible_from start.visible (prompts_of client) (responses_of pairs)) (asked_at pair.line) pair.response)) }
     ensures unfitting { (profile : Profile) (client server : List ℕ) (pairs : List Paired) (pair : Paired) (before after : Unpaired)
         → AreNext (streams client server) pairs before → IsNext before pair after
         → fits profile (visible_from start.visible (prompts_of client) (responses_of pairs)) (asked_at pair.line) pair.response ≡ false
@@ -314,7 +329,8 @@ pub fn outcome_at_a_response()
         → AreNext (streams client server) pairs before → IsNext before pair after
         → SomePermits profile (asked_of pairs) (responses_of pairs)
         → (SomePermits profile (asked_of (pairs ++ pair ∷ [])) (responses_of (pairs ++ pair ∷ [])) → ⊥)
-        → IsOutcome profile client server (No (length pairs) (class_by (fits profile (visible_from start.visible (asked_of pairs) (responses_of pairs)) (asked_at pair.line) pair.response))) }
+        → IsOutcome profile client server (No (length pairs) (class_by
+        (fits profile (visible_from start.visible (asked_of pairs) (responses_of pairs)) (asked_at pair.line) pair.response))) }
     ensures unfitting { (profile : Profile) (client server : List ℕ) (pairs : List Paired) (pair : Paired) (before after : Unpaired)
         → AreNext (streams client server) pairs before → IsNext before pair after
         → SomePermits profile (asked_of pairs) (responses_of pairs)
@@ -333,13 +349,15 @@ pub fn fewer_facts_hold()
 pub fn answers_stand_together_where_a_spool_has_them()
     ensures all { (profile : Profile) (answers : List Placed) → AllByRecursion (FitsThere profile) answers → size (flat_map (told profile) answers) < 2 ^ 210
         → SomeHas profile (flat_map (told profile) answers) ↔ Together (flat_map (told profile) answers) }
-    ensures some { (profile : Profile) (bad : Placed) (answers : List Placed) (places : List ℕ) → FitsThere profile bad → AllByRecursion (FitsThere profile) answers
+    ensures some { (profile : Profile) (bad : Placed) (answers : List Placed) (places : List ℕ) → FitsThere profile bad
+        → AllByRecursion (FitsThere profile) answers
         → size (told_with profile bad answers places) < 2 ^ 210
         → SomeHas profile (told_with profile bad answers places) ↔ Together (told_with profile bad answers places) }
     ensures fitting { (profile : Profile) (v : Visible) (at : Position) (prompts : List Asked) (answers : List Response)
         → FitsAll profile v prompts answers → AllByRecursion (FitsThere profile) (placed_from v at prompts answers) }
     ensures session { (profile : Profile) (S : Spool) (v : Visible) (at : Position) (prompts : List Asked) (answers : List Response)
-        → AllByRecursion (Holds S) (flat_map (told profile) (placed_from v at prompts answers)) → AllByRecursion (Holds S) (facts_from profile.marks v at prompts answers) }
+        → AllByRecursion (Holds S) (flat_map (told profile) (placed_from v at prompts answers))
+        → AllByRecursion (Holds S) (facts_from profile.marks v at prompts answers) }
 {}
 
 /// Answers with which a bad one conflicts, and none of which can be left out, are found from the last one down. At
@@ -386,7 +404,8 @@ pub fn contradiction_conflicts_with_those_before()
 /// where it stands, conflicts at some point, and so at a first one.
 pub fn no_spool_has_what_conflicts()
     ensures none { (profile : Profile) (facts : List Fact) (point : Point) → ConflictAt facts point → SomeHas profile facts → ⊥ }
-    ensures point { (profile : Profile) (bad : Placed) (answers : List Placed) (places : List ℕ) → FitsThere profile bad → AllByRecursion (FitsThere profile) answers
+    ensures point { (profile : Profile) (bad : Placed) (answers : List Placed) (places : List ℕ) → FitsThere profile bad
+        → AllByRecursion (FitsThere profile) answers
         → AllByRecursion IsWellFormed (told_with profile bad answers places) → size (told_with profile bad answers places) < 2 ^ 210
         → (SomeHas profile (told_with profile bad answers places) → ⊥) → (point : Point) × IsFirstPoint (told_with profile bad answers places) point }
 {}

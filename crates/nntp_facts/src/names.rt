@@ -10,8 +10,8 @@ ghost use Rattle.nntp_article.specs.Session.Machine.{is_same};
 ghost use Rattle.nntp_said.specs.Facts.{Fact, GroupsAre};
 ghost use Rattle.nntp_facts.specs.Given.{is_shown_group};
 ghost use Rattle.nntp_facts.specs.Together.{denies_group};
-ghost use Rattle.nntp_facts.specs.Kept.{AreKeptNames};
-ghost use Rattle.nntp_facts.specs.ListedGroups.{MayList, WereListed};
+ghost use Rattle.nntp_facts.specs.Inner.Kept.{AreKeptNames};
+ghost use Rattle.nntp_facts.specs.Inner.ListedGroups.{MayList, WereListed};
 
 use nntp_wire::laws::matching_is_decided;
 use nntp_wire::{GroupName, Wildmat};
@@ -32,11 +32,16 @@ pub(crate) struct Names<A: Allocator = Global> {
 
 impl<A: Allocator> Model for Names<A> {
     ghost use Rattle.std.specs.Prelude.{map};
-    ghost use Rattle.nntp_facts.specs.Kept.{KeptNames};
+    ghost use Rattle.nntp_facts.specs.Inner.Kept.{KeptNames};
 
     ghost Value = { KeptNames };
 
-    ghost view = { λ a. record { denied = map (λ name. name.items) a.denied.keys; wildmats = map (λ e. (e.0.items, e.1)) a.wildmats.entries; all_listed = a.all_listed } };
+    ghost view = { λ a. record {
+      denied = map (λ name. name.items) a.denied.keys;
+      wildmats = map (λ e. (e.0.items, e.1)) a.wildmats.entries;
+      all_listed =
+          a.all_listed;
+    } };
 }
 
 impl<A: Allocator + Copy> Names<A> {
@@ -53,7 +58,8 @@ impl<A: Allocator + Copy> Names<A> {
 
     /// Adds that there is no such group.
     pub(crate) fn deny(&mut self, alloc: A, name: &[u8]) -> Result<(), AllocError>
-        ensures { OnOk result ((facts more : List Fact) → AreKeptNames facts self.old → ((other : Name) → list_any (denies_group other) more ≡ is_same name.now other)
+        ensures { OnOk result ((facts more : List Fact) → AreKeptNames facts self.old
+            → ((other : Name) → list_any (denies_group other) more ≡ is_same name.now other)
             → AreKeptNames (facts ++ more) self.new) }
     {
         self.denied.insert(Vec::from_slice(alloc, name)?)?;

@@ -1,14 +1,14 @@
 //! What all answers so far say of the numbers of one group.
 ghost use Rattle.std.specs.Prelude.{◌≡◌, ℕ, true, nat_lt, ◌^◌, ◌-◌, ◌<◌, ◌↔◌, ◌&&◌, ◌||◌, List, [], ◌++◌, Option, IsTrue, IfOk, OnOk};
 ghost use Rattle.std.specs.List.{list_all};
-ghost use Rattle.nntp_intervals.specs.Intervals.{holds};
+ghost use Rattle.nntp_intervals.specs.Inner.Intervals.{holds};
 ghost use Rattle.nntp_said.specs.Asks.{Ask};
-ghost use Rattle.nntp_facts.specs.Together.{AsksStand};
-ghost use Rattle.nntp_facts.specs.Part.{is_within, Says, IsRegular};
-ghost use Rattle.nntp_facts.specs.PartView.{said};
+ghost use Rattle.nntp_facts.specs.Inner.Together.{AsksStand};
+ghost use Rattle.nntp_facts.specs.Inner.Part.{is_within, Says, IsRegular};
+ghost use Rattle.nntp_facts.specs.Inner.PartView.{said};
 ghost use Rattle.nntp_facts.specs.Given.{join};
-ghost use Rattle.nntp_facts.specs.Readers.{known_ends_in, unless_shown, one_more_in, unseen_in, unseen_high_in};
-ghost use Rattle.nntp_facts.specs.Summary.{IsSummary, AreBounded, AddsNothing, ends_after, denied_after, is_open, FirstFreeBelow, has_room, is_settled};
+ghost use Rattle.nntp_facts.specs.Inner.Readers.{known_ends_in, unless_shown, one_more_in, unseen_in, unseen_high_in};
+ghost use Rattle.nntp_facts.specs.Inner.Summary.{IsSummary, AreBounded, AddsNothing, ends_after, denied_after, is_open, FirstFreeBelow, has_room, is_settled};
 
 mod conflict;
 
@@ -40,8 +40,8 @@ pub(crate) struct Numbers<A: Allocator = Global> {
 }
 
 impl<A: Allocator> Model for Numbers<A> {
-    ghost use Rattle.nntp_facts.specs.Summary.{Summary};
-    ghost use Rattle.nntp_facts.specs.GroupView.{coded_summary};
+    ghost use Rattle.nntp_facts.specs.Inner.Summary.{Summary};
+    ghost use Rattle.nntp_facts.specs.Inner.GroupView.{coded_summary};
 
     ghost Value = { Summary };
 

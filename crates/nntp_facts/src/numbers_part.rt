@@ -5,11 +5,12 @@ ghost use Rattle.nntp_wire.specs.declared.marks.Marks.TheVariants.{Lenient};
 ghost use Rattle.nntp_article.specs.declared.session.profile.Profile.{Profile};
 ghost use Rattle.nntp_facts.specs.Conflict.{widest};
 ghost use Rattle.nntp_said.specs.Asks.{Estimates, Bounds};
-ghost use Rattle.nntp_said.specs.FactView.{ask_of};
-ghost use Rattle.nntp_facts.specs.Part.{Says, only_has};
-ghost use Rattle.nntp_facts.specs.PartOf.{IsSmall, impossible, listing, none_above, none_below, nothing_said, part_with, standing_at, standing_nowhere, stepping_down, stepping_up};
-ghost use Rattle.nntp_facts.specs.PartView.{said};
-ghost use Rattle.nntp_facts.specs.Summary.{AreBounded};
+ghost use Rattle.nntp_said.specs.Inner.FactView.{ask_of};
+ghost use Rattle.nntp_facts.specs.Inner.Part.{Says, only_has};
+ghost use Rattle.nntp_facts.specs.Inner.PartOf.{IsSmall, impossible, listing, none_above, none_below, nothing_said, part_with, standing_at, standing_nowhere};
+ghost use Rattle.nntp_facts.specs.Inner.PartOf.{stepping_down, stepping_up};
+ghost use Rattle.nntp_facts.specs.Inner.PartView.{said};
+ghost use Rattle.nntp_facts.specs.Inner.Summary.{AreBounded};
 
 use crate::demand::Demand;
 use crate::ends::Ends;

@@ -2,14 +2,15 @@
 ghost use Rattle.std.specs.Prelude.{◌≡◌, ◌<◌, ◌^◌, [], option_map, unwrap_or, IfSome, IsTrue};
 ghost use Rattle.std.specs.List.{AllByRecursion};
 ghost use Rattle.nntp_wire.specs.declared.marks.Marks.{Marks};
-ghost use Rattle.nntp_wire.specs.AnswerView.{response};
-ghost use Rattle.nntp_wire.specs.View.{asked};
+ghost use Rattle.nntp_wire.specs.Inner.AnswerView.{response};
+ghost use Rattle.nntp_wire.specs.Inner.View.{asked};
 ghost use Rattle.nntp_wire.specs.Name.{IsGroupName};
 ghost use Rattle.nntp_article.specs.Session.Machine.{Visible};
 ghost use Rattle.nntp_facts.specs.Conflict.{said};
 ghost use Rattle.nntp_said.specs.Facts.{facts_of};
-ghost use Rattle.nntp_facts.specs.Together.{IsWellFormed};
-ghost use Rattle.nntp_pair.specs.Pairing.{asked_at, lines_in};
+ghost use Rattle.nntp_facts.specs.Inner.Together.{IsWellFormed};
+ghost use Rattle.nntp_pair.specs.Pairing.{asked_at};
+ghost use Rattle.nntp_pair.specs.Inner.Pairing.{lines_in};
 
 use crate::same::{is_same_answer, is_same_line, is_same_name, is_same_position};
 use nntp_pair::Exchange;

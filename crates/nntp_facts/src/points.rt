@@ -3,11 +3,12 @@ ghost use Rattle.std.specs.Prelude.{◌≡◌, ◌<◌, ◌^◌, ◌∷◌, List
 ghost use Rattle.std.specs.List.{AllByRecursion};
 ghost use Rattle.nntp_article.specs.Session.Limit.{profile_of};
 ghost use Rattle.nntp_article.specs.declared.session.profile.Profile.{Profile};
-ghost use Rattle.nntp_facts.specs.Conflict.{Placed as PlacedValue, FitsThere, told_with, places_of, HasLast, IsFound, IsFirstPoint};
-ghost use Rattle.nntp_facts.specs.Points.{AreHeld, with_numbers};
-ghost use Rattle.nntp_facts.specs.PointView.{point_of};
-ghost use Rattle.nntp_pair.specs.Pairing.{lines_in};
-ghost use Rattle.nntp_facts.specs.StatementView.{held_of, listing_of};
+ghost use Rattle.nntp_facts.specs.Conflict.{Placed as PlacedValue, told_with, places_of, IsFound, IsFirstPoint};
+ghost use Rattle.nntp_facts.specs.Inner.Conflict.{FitsThere, HasLast};
+ghost use Rattle.nntp_facts.specs.Inner.Points.{AreHeld, with_numbers};
+ghost use Rattle.nntp_facts.specs.Inner.PointView.{point_of};
+ghost use Rattle.nntp_pair.specs.Inner.Pairing.{lines_in};
+ghost use Rattle.nntp_facts.specs.Inner.StatementView.{held_of, listing_of};
 
 mod statement;
 
@@ -88,7 +89,8 @@ impl<'a, A: Allocator + Copy> Conflict<'a, A> {
         bad: &'a Placed<'a>,
         core: &Core<A>,
     ) -> Result<Conflict<'a, A>, AllocError>
-        ensures { IfOk result (λ conflict. AllByRecursion (FitsThere (profile_of limit marks)) (bad.now ∷ answers.now) → IsFound (profile_of limit marks) bad.now answers.now core.now
+        ensures { IfOk result (λ conflict. AllByRecursion (FitsThere (profile_of limit marks)) (bad.now ∷ answers.now)
+            → IsFound (profile_of limit marks) bad.now answers.now core.now
             → HasLast core.now → AreHeld (profile_of limit marks) bad.now answers.now (places_of core.now) (held_of conflict)) }
     {
         let places = core.all_places(alloc)?;
@@ -129,8 +131,10 @@ impl<'a, A: Allocator + Copy> Conflict<'a, A> {
     ///
     /// If memory is refused.
     pub fn point(&self) -> Result<Option<Point<'_>>, AllocError>
-        ensures { IfOk result (λ point. (profile : Profile) (bad : PlacedValue) (answers : List PlacedValue) (places : List ℕ) → AllByRecursion (FitsThere profile) (bad ∷ answers)
-            → AreHeld profile bad answers places (held_of self.now) → MatchOption point ⊥ (λ point. IsFirstPoint (told_with profile bad answers places) (point_of point))) }
+        ensures { IfOk result (λ point. (profile : Profile) (bad : PlacedValue) (answers : List PlacedValue) (places : List ℕ)
+            → AllByRecursion (FitsThere profile) (bad ∷ answers)
+            → AreHeld profile bad answers places (held_of self.now)
+            → MatchOption point ⊥ (λ point. IsFirstPoint (told_with profile bad answers places) (point_of point))) }
     {
         let told = Statement::of(self.marks, self.last.answer, &self.last.numbers);
         for kind in &KINDS {

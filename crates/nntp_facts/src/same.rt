@@ -1,7 +1,7 @@
 //! Whether answers, their lines and the places where they stand are the same.
 ghost use Rattle.std.specs.Prelude.{◌≡◌, ◌↔◌, IsTrue};
 ghost use Rattle.std.specs.Option.{option_copied};
-ghost use Rattle.nntp_wire.specs.AnswerView.{response};
+ghost use Rattle.nntp_wire.specs.Inner.AnswerView.{response};
 
 use nntp_said::Position;
 use nntp_wire::{Answer, Block, GroupName};

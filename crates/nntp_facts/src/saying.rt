@@ -1,19 +1,20 @@
 //! What an answer says of the spool (RFC 3977, sections 6 and 7.6.3).
 ghost use Rattle.std.specs.Prelude.{◌≡◌, List, [], ◌∷◌, None, Some, option_map, IfOk, IsTrue};
 ghost use Rattle.nntp_wire.specs.Name.{IsGroupName};
-ghost use Rattle.nntp_wire.specs.View.{asked};
-ghost use Rattle.nntp_wire.specs.AnswerView.{response};
+ghost use Rattle.nntp_wire.specs.Inner.View.{asked};
+ghost use Rattle.nntp_wire.specs.Inner.AnswerView.{response};
 ghost use Rattle.nntp_wire.specs.Listing.{listed_numbers};
 ghost use Rattle.nntp_article.specs.declared.session.profile.Profile.{Profile};
 ghost use Rattle.nntp_article.specs.Session.Machine.{Visible, fits};
 ghost use Rattle.nntp_said.specs.Facts.{Fact as FactValue, Asks, IdAt as IdIs, here, facts_of, group_of};
-ghost use Rattle.nntp_said.specs.FactView.{ask_of, fact_of};
-ghost use Rattle.nntp_facts.specs.Saying.{HasSmall, IsSelectedShown, TellsHere, TellsThere, begun, nothing, numbers_listed, numbers_shown, saying_by, saying_with};
+ghost use Rattle.nntp_said.specs.Inner.FactView.{ask_of, fact_of};
+ghost use Rattle.nntp_facts.specs.Inner.Saying.{HasSmall, IsSelectedShown, TellsHere, TellsThere, begun, nothing, numbers_listed, numbers_shown, saying_by};
+ghost use Rattle.nntp_facts.specs.Inner.Saying.{saying_with};
 ghost use Rattle.nntp_said.specs.Asks.{Bounds};
-ghost use Rattle.nntp_facts.specs.Part.{Says};
-ghost use Rattle.nntp_facts.specs.PartView.{said};
-ghost use Rattle.nntp_facts.specs.SayingView.{id_at, of_group, saying_of};
-ghost use Rattle.nntp_facts.specs.Summary.{AreBounded};
+ghost use Rattle.nntp_facts.specs.Inner.Part.{Says};
+ghost use Rattle.nntp_facts.specs.Inner.PartView.{said};
+ghost use Rattle.nntp_facts.specs.Inner.SayingView.{id_at, of_group, saying_of};
+ghost use Rattle.nntp_facts.specs.Inner.Summary.{AreBounded};
 
 use crate::numbers_part::NumbersPart;
 use nntp_said::{Ask, Fact, Position, SaidFacts, facts_of};
@@ -130,7 +131,8 @@ impl<'s> Saying<'s> {
         answer: &'s Answer<'s>,
         numbers: &'s [u64],
     ) -> Saying<'s>
-        ensures { (profile : Profile) (v : Visible) (facts : List FactValue) → IsTrue (fits profile v (asked prompt.now) (response answer.now)) → IsSelectedShown v facts
+        ensures { (profile : Profile) (v : Visible) (facts : List FactValue) → IsTrue (fits profile v (asked prompt.now) (response answer.now))
+            → IsSelectedShown v facts
             → selected.now ≡ here v → numbers.now ≡ numbers_listed (response answer.now)
             → TellsHere selected.now facts (saying_of result) (facts_of how v at (asked prompt.now) (response answer.now)) }
     {
@@ -212,7 +214,8 @@ impl<'s> Saying<'s> {
 
     /// Returns the group of which an answer speaks: the one that it says to be there, or the selected one.
     pub(crate) fn group_of(&self, selected: Option<&'s GroupName<'s>>) -> Option<&'s GroupName<'s>>
-        ensures { (facts : List FactValue) → TellsThere (option_map (λ name. name.now) selected.entry) (saying_of self.now) facts → option_map (λ name. name.now) result ≡ group_of facts }
+        ensures { (facts : List FactValue) → TellsThere (option_map (λ name. name.now) selected.entry) (saying_of self.now) facts
+            → option_map (λ name. name.now) result ≡ group_of facts }
     {
         match (self.there_is, &self.group) {
             (Some(name), _) => Some(name),

@@ -4,9 +4,9 @@ ghost use Rattle.std.specs.Ordering.{nat_cmp};
 ghost use Rattle.std.specs.BTreeMap.{get};
 ghost use Rattle.std.specs.BTreeMap.Range.{is_past_end};
 ghost use Rattle.std.specs.List.Sorted.{IsStrictlySortedBy};
-ghost use Rattle.nntp_intervals.specs.Intervals.{is_between};
+ghost use Rattle.nntp_intervals.specs.Inner.Intervals.{is_between};
 ghost use Rattle.nntp_facts.specs.Given.{wants};
-ghost use Rattle.nntp_facts.specs.Summary.{has, shown_after, PassSoMany, and_one};
+ghost use Rattle.nntp_facts.specs.Inner.Summary.{has, shown_after, PassSoMany, and_one};
 
 use crate::demand::Demand;
 use std::alloc::{AllocError, Allocator};

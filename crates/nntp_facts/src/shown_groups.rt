@@ -1,8 +1,8 @@
 //! The groups that answers show, one after the other.
 ghost use Rattle.std.specs.Prelude.{◌≡◌, option_map, slice_get};
 ghost use Rattle.std.specs.Iterator.{YieldsFirst, item_count};
-ghost use Rattle.nntp_facts.specs.Readers.{shown_in};
-ghost use Rattle.nntp_facts.specs.ReadersView.{named, number_value};
+ghost use Rattle.nntp_facts.specs.Inner.Readers.{shown_in};
+ghost use Rattle.nntp_facts.specs.Inner.ReadersView.{named, number_value};
 
 use crate::group::Group;
 use crate::shown_numbers::{ShownNumber, ShownNumbers};
@@ -18,8 +18,8 @@ pub struct ShownGroup<'a, A: Allocator = Global> {
 }
 
 impl<'a, A: Allocator> Model for ShownGroup<'a, A> {
-    ghost use Rattle.nntp_facts.specs.Readers.{ShownGroup as GroupValue, shown_group};
-    ghost use Rattle.nntp_facts.specs.ReadersView.{coded_shown_group};
+    ghost use Rattle.nntp_facts.specs.Inner.Readers.{ShownGroup as GroupValue, shown_group};
+    ghost use Rattle.nntp_facts.specs.Inner.ReadersView.{coded_shown_group};
 
     ghost Value = { GroupValue };
 
@@ -80,8 +80,8 @@ pub struct ShownGroups<'a, A: Allocator = Global> {
 impl<'a, A: Allocator> Model for ShownGroups<'a, A> {
     ghost use Rattle.std.specs.Prelude.{List};
     ghost use Rattle.std.specs.Coded.{coded_list};
-    ghost use Rattle.nntp_facts.specs.Readers.{ShownGroup as GroupValue, shown_in};
-    ghost use Rattle.nntp_facts.specs.ReadersView.{named, coded_shown_group};
+    ghost use Rattle.nntp_facts.specs.Inner.Readers.{ShownGroup as GroupValue, shown_in};
+    ghost use Rattle.nntp_facts.specs.Inner.ReadersView.{named, coded_shown_group};
 
     ghost Value = { List GroupValue };
 

@@ -1,8 +1,8 @@
 //! The numbers that answers show in a group, one after the other.
 ghost use Rattle.std.specs.Prelude.{◌≡◌};
 ghost use Rattle.std.specs.Iterator.{YieldsFirstBy, item_count};
-ghost use Rattle.nntp_facts.specs.Readers.{with_ids};
-ghost use Rattle.nntp_facts.specs.ReadersView.{number_value};
+ghost use Rattle.nntp_facts.specs.Inner.Readers.{with_ids};
+ghost use Rattle.nntp_facts.specs.Inner.ReadersView.{number_value};
 
 use crate::group::Group;
 use std::alloc::{Allocator, Global};
@@ -29,7 +29,7 @@ pub struct ShownNumbers<'a, A: Allocator = Global> {
 impl<'a, A: Allocator> Model for ShownNumbers<'a, A> {
     ghost use Rattle.std.specs.Prelude.{List, ℕ, Option};
     ghost use Rattle.nntp_article.specs.Article.Parts.{Id};
-    ghost use Rattle.nntp_facts.specs.Readers.{with_ids};
+    ghost use Rattle.nntp_facts.specs.Inner.Readers.{with_ids};
 
     ghost Value = { List (ℕ × Option Id) };
 

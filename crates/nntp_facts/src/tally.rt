@@ -1,8 +1,8 @@
 //! The count of numbers, and of those that a demand wants.
 ghost use Rattle.std.specs.Prelude.{◌≡◌, ℕ, Bool, IsTrue, ◌||◌, ◌==◌, ◌+◌, ◌-◌, ◌^◌, ◌<◌, ◌≤◌};
 ghost use Rattle.nntp_article.specs.Session.Machine.{is_ascending};
-ghost use Rattle.nntp_facts.specs.Part.{is_one_of, is_end_of};
-ghost use Rattle.nntp_facts.specs.Summary.{shown_after, IsTally};
+ghost use Rattle.nntp_facts.specs.Inner.Part.{is_one_of, is_end_of};
+ghost use Rattle.nntp_facts.specs.Inner.Summary.{shown_after, IsTally};
 
 use crate::demand::Demand;
 use crate::ends::Ends;
@@ -48,7 +48,8 @@ impl Tally {
         ends: Option<Ends>,
         demand: Demand,
     ) -> Tally
-        ensures tally { IsTrue (is_ascending numbers.now) → IsTally (λ n. shown_after shown.now.keys numbers.now n || is_end_of ends n) demand result.found result.count }
+        ensures tally { IsTrue (is_ascending numbers.now)
+            → IsTally (λ n. shown_after shown.now.keys numbers.now n || is_end_of ends n) demand result.found result.count }
         ensures small { result.count < 2 ^ 64 - 1 }
     {
         let tally = tally_shown(shown, numbers, demand);

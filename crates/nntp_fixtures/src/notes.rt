@@ -1,6 +1,6 @@
 //! What is noted of all exchanges of a session.
 ghost use Rattle.std.specs.Prelude.{◌≡◌, true, IfOk};
-ghost use Rattle.nntp_witness.specs.Witness.{HaveNotedSome};
+ghost use Rattle.nntp_witness.specs.Inner.Witness.{HaveNotedSome};
 
 use nntp_facts::{Facts, FactsError, Noted};
 use nntp_pair::{Class, Exchange, Pairs, Step};

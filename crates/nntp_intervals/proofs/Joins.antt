@@ -1,12 +1,8 @@
 -- An interval that takes the place of those that it meets.
 use Rattle.std.proofs.Common.{◌≡◌, ◌⊎◌, inl, inr, ℕ, ◌+◌, ◌-◌, ◌^◌, ◌<◌, ◌≤◌, true, false, cond, Option, None, Some, List, sym, ap, subst, ◌∙◌, arith}
-use Rattle.std.specs.Prelude.{◌||◌, ◌↔◌, Bool, IsTrue}
-use Rattle.std.specs.Ordering.{nat_cmp, is_eq}
-use Rattle.std.specs.BTreeMap.{BTreeMap, get, IsOrdered}
-use Rattle.std.proofs.lemmas.Bool.{or_cases, cases_lt, true≢false}
-use Rattle.std.proofs.lemmas.Bool.Decides.{nat_tests, same_from_decides}
-use Rattle.nntp_intervals.specs.Intervals.{holds, is_between, AreApart, IsInterval, Covers}
-use Rattle.nntp_intervals.specs.Neighbours.{IsFirstJoined, IsLastJoined, is_within}
+use Rattle.std.{proofs.lemmas.Bool.{or_cases, cases_lt, true≢false, Decides.{nat_tests, same_from_decides}}, specs.Prelude.{◌||◌, ◌↔◌, Bool, IsTrue}}
+use Rattle.std.specs.{Ordering.{nat_cmp, is_eq}, BTreeMap.{BTreeMap, get, IsOrdered}}
+use Rattle.nntp_intervals.specs.Inner.{Intervals.{holds, is_between, AreApart, IsInterval, Covers}, Neighbours.{IsFirstJoined, IsLastJoined, is_within}}
 use Rattle.nntp_intervals.proofs.LookUps.{last_at, Ascends, Apart, held_from, held_at, apart_at, are_apart}
 
 abbrev IsBeside : ℕ → ℕ → ℕ → Type 0

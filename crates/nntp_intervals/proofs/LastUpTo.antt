@@ -1,14 +1,9 @@
 -- The last interval that begins at a number or before it.
 use Rattle.std.proofs.Common.{◌≡◌, ℕ, ◌+◌, ◌<◌, ◌≤◌, false, Option, None, Some, IsSome, List, [], ◌∷◌, ◌++◌, refl, sym, ap, subst, ◌∙◌, arith}
-use Rattle.std.specs.Ordering.{nat_cmp}
-use Rattle.std.specs.BTreeMap.{BTreeMap, IsOrdered}
-use Rattle.std.specs.BTreeMap.Range.{IsRangeOf}
+use Rattle.std.{proofs.lemmas.Bool.{false_from_ne_true, Decides.{nat_tests}}, specs.{Ordering.{nat_cmp}, BTreeMap.{BTreeMap, IsOrdered, Range.{IsRangeOf}}}}
 use Rattle.std.specs.declared.ops.Bound.TheVariants.{Included, Unbounded}
-use Rattle.std.proofs.lemmas.Bool.{false_from_ne_true}
-use Rattle.std.proofs.lemmas.Bool.Decides.{nat_tests}
-use Rattle.nntp_intervals.specs.Intervals.{holds, AreApart}
-use Rattle.nntp_intervals.specs.Neighbours.{IsLastUpTo, IsFreeBefore, IsFreeUpTo}
-use Rattle.nntp_intervals.proofs.LookUps.{last_at, Ascends, Holder, Apart, held_from, held_at, apart_at}
+use Rattle.nntp_intervals.{specs.Inner.{Intervals.{holds, AreApart}, Neighbours.{IsLastUpTo, IsFreeBefore, IsFreeUpTo}}, proofs.LookUps.{last_at, Ascends}}
+use Rattle.nntp_intervals.proofs.LookUps.{Holder, Apart, held_from, held_at, apart_at}
 
 some_none : {A : Type 0} (o : Option A) (x : A) → o ≡ None → o ≡ Some x → ⊥
 some_none o x none some = cc

@@ -1,13 +1,8 @@
 -- Which numbers are held, and whether the intervals are apart, by what a look-up finds at each first number.
-use Rattle.std.proofs.Common.{◌≡◌, ◌⊎◌, inl, inr, ℕ, ◌+◌, ◌<◌, ◌≤◌, true, Option, Some, List, [], ◌∷◌, arith}
-use Rattle.std.specs.Ordering.{nat_cmp, is_eq}
-use Rattle.std.specs.declared.cmp.Ordering.TheVariants.{Less}
-use Rattle.std.specs.List.{AllByRecursion}
-use Rattle.std.specs.List.Sorted.{IsStrictlySortedBy}
-use Rattle.std.specs.Map.{lookup, keys_of}
-use Rattle.std.proofs.lemmas.Bool.{or_cases}
-use Rattle.std.proofs.lemmas.Bool.Decides.{nat_tests}
-use Rattle.nntp_intervals.specs.Intervals.{holds, is_between, IsInterval, AreApart}
+use Rattle.std.proofs.{Common.{◌≡◌, ◌⊎◌, inl, inr, ℕ, ◌+◌, ◌<◌, ◌≤◌, true, Option, Some, List, [], ◌∷◌, arith}, lemmas.Bool.{or_cases, Decides.{nat_tests}}}
+use Rattle.std.specs.{Ordering.{nat_cmp, is_eq}, declared.cmp.Ordering.TheVariants.{Less}, List.{AllByRecursion, Sorted.{IsStrictlySortedBy}}, Map.{lookup}}
+use Rattle.std.specs.Map.{keys_of}
+use Rattle.nntp_intervals.specs.Inner.Intervals.{holds, is_between, IsInterval, AreApart}
 
 -- the last number of the interval that begins at first
 abbrev pub last_at : List (ℕ × ℕ) → ℕ → Option ℕ

@@ -1,9 +1,7 @@
 -- Whether a range meets the set.
-use Rattle.std.proofs.Common.{◌⊎◌, inl, inr, ℕ, ◌<◌, ◌≤◌, List, sym, ◌∙◌, arith}
+use Rattle.std.proofs.{Common.{◌⊎◌, inl, inr, ℕ, ◌<◌, ◌≤◌, List, sym, ◌∙◌, arith}, lemmas.Bool.{cases_lt, le-leb, leb-true, true≢false}}
 use Rattle.std.specs.Prelude.{IsTrue, ◌↔◌, nat_le}
-use Rattle.std.proofs.lemmas.Bool.{cases_lt, le-leb, leb-true, true≢false}
-use Rattle.nntp_intervals.specs.Intervals.{holds, Meets}
-use Rattle.nntp_intervals.specs.Neighbours.{IsLastUpTo}
+use Rattle.nntp_intervals.specs.Inner.{Intervals.{holds, Meets}, Neighbours.{IsLastUpTo}}
 
 -- the last interval that begins in the range or before it decides
 pub meets_last : (set : List (ℕ × ℕ)) (first last start end : ℕ) → first ≤ last → IsLastUpTo set last start end → IsTrue (nat_le first end) ↔ Meets set first last

@@ -2,8 +2,8 @@
 ghost use Rattle.std.specs.Prelude.{◌≡◌, ℕ, ◌||◌, ◌↔◌, [], if◌then◌else◌, IsSome, IsTrue, IfOk, OnOk, OnErr, MatchOption};
 ghost use Rattle.std.specs.Ordering.{nat_cmp};
 ghost use Rattle.std.specs.BTreeMap.{get, IsOrdered};
-ghost use Rattle.nntp_intervals.specs.Intervals.{holds, is_between, IsLeastFree, IsFullFrom, Covers, Meets};
-ghost use Rattle.nntp_intervals.specs.Neighbours.{IsLastUpTo, IsFreeUpTo, IsFirstJoined, IsLastJoined, is_within};
+ghost use Rattle.nntp_intervals.specs.Inner.Intervals.{holds, is_between, IsLeastFree, IsFullFrom, Covers, Meets};
+ghost use Rattle.nntp_intervals.specs.Inner.Neighbours.{IsLastUpTo, IsFreeUpTo, IsFirstJoined, IsLastJoined, is_within};
 
 use std::alloc::{AllocError, Allocator, Global};
 use std::collections::BTreeMap;
@@ -28,7 +28,7 @@ impl<A: Allocator> Model for IntervalSet<A> {
 
     ghost view = { λ a. a.lasts.entries };
 
-    ghost use Rattle.nntp_intervals.specs.Intervals.{AreApart};
+    ghost use Rattle.nntp_intervals.specs.Inner.Intervals.{AreApart};
 
     ghost invariant = { λ a. AreApart a.lasts.entries };
 }
@@ -167,7 +167,8 @@ fn remove_within<A: Allocator>(lasts: &mut BTreeMap<u64, u64, A>, start: u64, en
 /// Returns where the first interval begins that begins behind `start`, if it doesn't begin behind
 /// `end`.
 fn first_within<A: Allocator>(lasts: &BTreeMap<u64, u64, A>, start: u64, end: u64) -> Option<u64>
-    ensures { MatchOption result ((n : ℕ) → IsTrue (is_within start end n) → get nat_cmp lasts.now n ≡ None) (λ n. IsTrue (is_within start end n) × IsSome (get nat_cmp lasts.now n)) }
+    ensures { MatchOption result ((n : ℕ) → IsTrue (is_within start end n) → get nat_cmp lasts.now n ≡ None) (λ n. IsTrue (is_within start end n)
+        × IsSome (get nat_cmp lasts.now n)) }
 {
     match lasts
         .range((Bound::Excluded(start), Bound::Unbounded))

@@ -1,19 +1,12 @@
 -- What a feed tells is determined, stays, and is the pairing of what came.
-use Rattle.std.proofs.Common.{◌≡◌, ◌≢◌, ℕ, List, [], ◌++◌, length, true, false, refl, sym, ◌∙◌, ap, subst}
-use Rattle.std.proofs.lemmas.List.{append-nil}
-use Rattle.std.proofs.lemmas.Bool.{false≢true}
+use Rattle.std.proofs.{Common.{◌≡◌, ◌≢◌, ℕ, List, [], ◌++◌, length, true, false, refl, sym, ◌∙◌, ap, subst}, lemmas.{List.{append-nil}, Bool.{false≢true}}}
 use Rattle.std.specs.Prelude.{nat_lt}
-use Rattle.nntp_pair.specs.declared.class.PairClass.{PairClass}
-use Rattle.nntp_pair.specs.declared.class.PairClass.TheVariants.{Surplus, Cut, Malformed}
-use Rattle.nntp_pair.specs.declared.peek.Peek.{Peek}
+use Rattle.nntp_pair.specs.{declared.{class.PairClass.{PairClass, TheVariants.{Surplus, Cut, Malformed}}, peek.Peek.{Peek}}, Pairing.{Paired, Unpaired, IsNext}}
+use Rattle.nntp_pair.specs.{Pairing.{IsBad, AreNext, IsPairing, Ends, end, bad, streams}, Inner.{Pairing.{IsLasting, with_more}, Feeding.{Fed, IsFed, IsPeek}}}
+use Rattle.nntp_pair.{specs.Inner.{Feeding.{IsEnding, left_of, with_octets}, Searching.{left_from}}, proofs.NextLemmas.{one-next, next-no-end, one-end}}
+use Rattle.nntp_pair.proofs.{PairingLemmas.{index-counts, next-more, bad-stays, some-stay}, FeedLemmas.{places-more}}
 use Rattle.nntp_pair.specs.declared.peek.Peek.TheVariants as peek
 use Rattle.nntp_pair.specs.declared.ending.Ending.TheVariants as ending
-use Rattle.nntp_pair.specs.Pairing.{Paired, Unpaired, IsNext, IsBad, AreNext, IsPairing, Ends, end, bad, IsLasting, streams, with_more}
-use Rattle.nntp_pair.specs.Feeding.{Fed, IsFed, IsPeek, IsEnding, left_of, with_octets}
-use Rattle.nntp_pair.specs.Searching.{left_from}
-use Rattle.nntp_pair.proofs.NextLemmas.{one-next, next-no-end, one-end}
-use Rattle.nntp_pair.proofs.PairingLemmas.{index-counts, next-more, bad-stays, some-stay}
-use Rattle.nntp_pair.proofs.FeedLemmas.{places-more}
 
 -- a feed that has failed tells nothing else
 failed : (fed : Fed) → fed.has_failed ≡ false → fed.has_failed ≡ true → ⊥

@@ -1,32 +1,15 @@
 -- What a feed holds, and how it goes on with more octets and behind an exchange.
-use Rattle.std.proofs.Common.{◌≡◌, ◌≢◌, ℕ, ◌+◌, ◌-◌, ◌*◌, ◌^◌, ◌<◌, ◌≤◌, List, [], ◌∷◌, ◌++◌, length, drop, map, arith, Option}
-use Rattle.std.proofs.Common.{None, Some, Bool, true, false, refl, sym, ◌∙◌, ap, subst, append_assoc, length-append}
-use Rattle.std.proofs.Common.{MatchOption, inl, inr}
-use Rattle.std.proofs.lemmas.List.{append-nil, map-append, drop_at}
-use Rattle.std.proofs.lemmas.Bool.{false≢true, eqb-true, eqb-false}
-use Rattle.std.specs.Prelude.{◌==◌, nat_lt, ⊤}
-use Rattle.nntp_wire.specs.Octets.{crlf}
-use Rattle.nntp_wire.specs.Lines.{HasNoCrlf, lines_of_stream}
-use Rattle.nntp_wire.specs.Answer.{Asked, Response, Spells}
-use Rattle.nntp_wire.specs.Frame.{HasFrame, framed, frame_octets}
-use Rattle.nntp_wire.specs.Prompts.{prompt_kind}
-use Rattle.nntp_wire.specs.Search.{IsFrameThrough}
-use Rattle.nntp_wire.specs.Session.{closes}
-use Rattle.nntp_wire.specs.declared.framing.FrameSearch.{FrameSearch}
-use Rattle.nntp_wire.proofs.SearchLemmas.{line_searched-more, frame_searched-more}
-use Rattle.nntp_wire.proofs.SpellLemmas.{one-frame}
-use Rattle.nntp_wire.proofs.StreamLemmas.{lines-first, lines-joined}
-use Rattle.nntp_pair.specs.declared.class.PairClass.{PairClass}
-use Rattle.nntp_pair.specs.declared.class.PairClass.TheVariants.{Surplus, Cut, Malformed}
-use Rattle.nntp_pair.specs.declared.searches.Searches.{Searches}
-use Rattle.nntp_pair.specs.Pairing.{Paired, Unpaired, IsNext, IsAnswered, Awaits, AreNext, IsBad, IsCut, IsMalformed, streams, asked_at, places_from}
-use Rattle.nntp_pair.specs.Feeding.{Fed, IsFed, HasNext, EndsForGood, left_of, with_octets}
-use Rattle.nntp_pair.specs.Sides.{given, count_of}
-use Rattle.nntp_pair.specs.declared.octet_counts.OctetCounts.{OctetCounts}
-use Rattle.nntp_pair.specs.declared.side.Side.{Side}
-use Rattle.nntp_pair.specs.declared.side.Side.TheVariants.{Client, Server}
-use Rattle.nntp_pair.specs.Searching.{left_from, BeginsWithPlace, IsForNext, AreSearched, AreThrough, IsInStep}
-use Rattle.nntp_pair.proofs.NextLemmas.{one-awaited}
+use Rattle.std.proofs.Common.{◌≡◌, ◌≢◌, ℕ, ◌+◌, ◌-◌, ◌*◌, ◌^◌, ◌<◌, ◌≤◌, List, [], ◌∷◌, ◌++◌, length, drop, map, arith, Option, None, Some, Bool, true, false}
+use Rattle.std.proofs.{Common.{refl, sym, ◌∙◌, ap, subst, append_assoc, length-append, MatchOption, inl, inr}, lemmas.List.{append-nil, map-append, drop_at}}
+use Rattle.std.{proofs.lemmas.Bool.{false≢true, eqb-true, eqb-false}, specs.Prelude.{◌==◌, nat_lt, ⊤}}
+use Rattle.nntp_wire.specs.{Octets.{crlf}, Lines.{HasNoCrlf, lines_of_stream}, Answer.{Asked, Response, Spells}, Frame.{HasFrame, framed, frame_octets}}
+use Rattle.nntp_wire.specs.{Inner.{Prompts.{prompt_kind}, Search.{IsFrameThrough}}, Session.{closes}, declared.framing.FrameSearch.{FrameSearch}}
+use Rattle.nntp_wire.proofs.{SearchLemmas.{line_searched-more, frame_searched-more}, SpellLemmas.{one-frame}, StreamLemmas.{lines-first, lines-joined}}
+use Rattle.nntp_pair.specs.declared.{class.PairClass.{PairClass, TheVariants.{Surplus, Cut, Malformed}}, searches.Searches.{Searches}}
+use Rattle.nntp_pair.specs.{declared.{octet_counts.OctetCounts.{OctetCounts}, side.Side.{Side, TheVariants.{Client, Server}}}, Pairing.{Paired, Unpaired}}
+use Rattle.nntp_pair.specs.{Pairing.{IsNext, IsAnswered, Awaits, AreNext, IsBad, IsCut, IsMalformed, streams, asked_at}, Inner.Pairing.{places_from}}
+use Rattle.nntp_pair.specs.Inner.{Feeding.{Fed, IsFed, EndsForGood, left_of, with_octets}, Sides.{given, count_of}, Searching.{left_from, BeginsWithPlace}}
+use Rattle.nntp_pair.{specs.{Inner.Searching.{IsForNext, AreSearched, AreThrough, IsInStep}, Feeding.{HasNext}}, proofs.NextLemmas.{one-awaited}}
 use Rattle.nntp_pair.proofs.PairingLemmas.{AreNext-push, frame-more}
 
 pub is-empty : (octets : List ℕ) → (length octets == 0) ≡ true → octets ≡ []

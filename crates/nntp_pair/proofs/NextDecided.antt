@@ -1,16 +1,9 @@
 -- At each place of a pairing a pair comes next, or the pairing ends.
-use Rattle.std.proofs.Common.{◌≡◌, ◌⊎◌, ℕ, List, [], ◌∷◌, ◌++◌, Option, Bool, true, false, count_by, inl, inr, refl, sym, ◌∙◌, subst}
-use Rattle.std.specs.Prelude.{is_some}
-use Rattle.nntp_wire.specs.Answer.{Response, Spells}
-use Rattle.nntp_wire.specs.Frame.{HasFrame, frame_octets}
-use Rattle.nntp_wire.proofs.SpellLemmas.{spelling-frame}
-use Rattle.nntp_wire.proofs.SpellsDecided.{dec_spelling}
+use Rattle.std.{proofs.Common.{◌≡◌, ◌⊎◌, ℕ, List, [], ◌∷◌, ◌++◌, Option, Bool, true, false, count_by, inl, inr, refl, sym, ◌∙◌, subst}, specs.Prelude.{is_some}}
+use Rattle.nntp_wire.{specs.{Answer.{Response, Spells}, Frame.{HasFrame, frame_octets}}, proofs.{SpellLemmas.{spelling-frame}, SpellsDecided.{dec_spelling}}}
 use Rattle.nntp_wire.proofs.FramesDecided.{dec_frame}
-use Rattle.nntp_pair.specs.declared.class.PairClass.{PairClass}
-use Rattle.nntp_pair.specs.declared.class.PairClass.TheVariants.{Surplus, Cut, Malformed}
-use Rattle.nntp_pair.specs.Pairing.{Unpaired, IsAnswered, IsBad, Awaits, Ending, end, bad, Ends, asked_at}
-use Rattle.nntp_pair.specs.Feeding.{HasNext}
-use Rattle.nntp_pair.proofs.FeedLemmas.{next-of}
+use Rattle.nntp_pair.specs.{declared.class.PairClass.{PairClass, TheVariants.{Surplus, Cut, Malformed}}, Pairing.{Unpaired, IsAnswered, IsBad, Awaits, Ending}}
+use Rattle.nntp_pair.{specs.{Pairing.{end, bad, Ends, asked_at}, Feeding.{HasNext}}, proofs.FeedLemmas.{next-of}}
 
 -- what a spelling at the front of the octets answers
 spelling-answers : (place : Option (List ℕ)) (server octets rest : List ℕ) (response : Response) → Spells (asked_at place) response octets → server ≡ octets ++ rest

@@ -1,15 +1,10 @@
 -- What comes next in a pairing is determined.
 use Rattle.std.proofs.Common.{◌≡◌, ℕ, ◌<◌, List, [], ◌∷◌, ◌++◌, length, Option, refl, sym, ◌∙◌, ap, subst, inl, inr, arith, length-append}
 use Rattle.std.proofs.lemmas.Bool.{false≢true}
-use Rattle.nntp_wire.specs.Octets.{crlf}
-use Rattle.nntp_wire.specs.Answer.{Response, Spells}
-use Rattle.nntp_wire.specs.Frame.{HasFrame, framed, frame_octets}
-use Rattle.nntp_wire.specs.Session.{closes}
-use Rattle.nntp_wire.proofs.SpellLemmas.{one-frame}
-use Rattle.nntp_wire.proofs.ResponseLemmas.{one-response}
-use Rattle.nntp_pair.specs.declared.class.PairClass.{PairClass}
-use Rattle.nntp_pair.specs.declared.class.PairClass.TheVariants.{Surplus, Cut, Malformed}
-use Rattle.nntp_pair.specs.Pairing.{Paired, Unpaired, IsAnswered, IsNext, Awaits, IsBad, Ending, end, bad, Ends, asked_at}
+use Rattle.nntp_wire.specs.{Octets.{crlf}, Answer.{Response, Spells}, Frame.{HasFrame, framed, frame_octets}, Session.{closes}}
+use Rattle.nntp_wire.proofs.{SpellLemmas.{one-frame}, ResponseLemmas.{one-response}}
+use Rattle.nntp_pair.specs.{declared.class.PairClass.{PairClass, TheVariants.{Surplus, Cut, Malformed}}, Pairing.{Paired, Unpaired, IsAnswered, IsNext, Awaits}}
+use Rattle.nntp_pair.specs.Pairing.{IsBad, Ending, end, bad, Ends, asked_at}
 
 -- pairs of the same parts are the same
 same_paired : (p q : Paired) → p.index ≡ q.index → p.line ≡ q.line → p.initial ≡ q.initial → p.response ≡ q.response → p ≡ q

@@ -1,15 +1,9 @@
 -- What the parts of a pairing say of the whole.
-use Rattle.std.proofs.Common.{◌≡◌, ℕ, ◌<◌, ◌≤◌, ◌^◌, List, [], ◌∷◌, ◌++◌, Option, Some, Bool, true, false, refl, sym, ap, subst}
-use Rattle.std.proofs.Common.{◌∙◌, length, map, count_by, cond, ◌+◌, arith, get_or, Fits, w8, length-append}
-use Rattle.std.proofs.lemmas.List.Sums.{sum_by-cons}
-use Rattle.std.specs.Prelude.{is_some}
-use Rattle.nntp_wire.specs.Lines.{lines_of_stream}
-use Rattle.nntp_wire.specs.Octets.{are_octets}
-use Rattle.nntp_wire.specs.Answer.{Asked, Response, group_is, numbers_are, sends, active_are, plain, Spells}
-use Rattle.nntp_wire.specs.Frame.{HasFrame, frame_octets}
-use Rattle.nntp_wire.proofs.OctetLemmas.{octets-fit, octets-parts}
-use Rattle.nntp_wire.proofs.SpellsDecided.{spelling-long}
-use Rattle.nntp_pair.specs.Pairing.{IsMalformed, IsSpelled, lines_in, asked_at, places_from}
+use Rattle.std.proofs.Common.{◌≡◌, ℕ, ◌<◌, ◌≤◌, ◌^◌, List, [], ◌∷◌, ◌++◌, Option, Some, Bool, true, false, refl, sym, ap, subst, ◌∙◌, length, map, count_by}
+use Rattle.std.{proofs.{Common.{cond, ◌+◌, arith, get_or, Fits, w8, length-append}, lemmas.List.Sums.{sum_by-cons}}, specs.Prelude.{is_some}}
+use Rattle.nntp_wire.specs.{Lines.{lines_of_stream}, Inner.Octets.{are_octets}, Answer.{Asked, Response, group_is, numbers_are, sends, active_are, plain}}
+use Rattle.nntp_wire.{specs.{Answer.{Spells}, Frame.{HasFrame, frame_octets}}, proofs.{OctetLemmas.{octets-fit, octets-parts}, SpellsDecided.{spelling-long}}}
+use Rattle.nntp_pair.specs.{Pairing.{IsMalformed, asked_at}, Inner.Pairing.{IsSpelled, lines_in, places_from}}
 
 -- a spelling has three octets, and one for each line
 pub lines-few : (asked : Asked) (response : Response) (octets : List ℕ) → Spells asked response octets → lines_in response + 3 ≤ length octets

@@ -1,12 +1,9 @@
 -- A pairing is determined, and stays when more octets follow.
-use Rattle.std.proofs.Common.{◌≡◌, ◌≢◌, ℕ, ◌+◌, List, [], ◌∷◌, ◌++◌, length, drop, map, arith, Option, None, Some, false, refl, sym, ◌∙◌, ap, subst, inl, append_assoc}
-use Rattle.std.proofs.lemmas.List.{map-append}
-use Rattle.nntp_wire.specs.Frame.{HasFrame, frame_octets}
-use Rattle.nntp_wire.specs.Lines.{lines_of_stream}
-use Rattle.nntp_wire.proofs.StreamLemmas.{lines-joined}
-use Rattle.nntp_pair.specs.declared.class.PairClass.{PairClass}
-use Rattle.nntp_pair.specs.declared.class.PairClass.TheVariants.{Surplus, Cut, Malformed}
-use Rattle.nntp_pair.specs.Pairing.{Paired, Unpaired, IsNext, AreNext, Awaits, IsBad, IsLasting, Ending, bad, Ends, IsPairing, streams, with_more, asked_at, places_of}
+use Rattle.std.proofs.Common.{◌≡◌, ◌≢◌, ℕ, ◌+◌, List, [], ◌∷◌, ◌++◌, length, drop, map, arith, Option, None, Some, false, refl, sym, ◌∙◌, ap, subst, inl}
+use Rattle.std.proofs.{Common.{append_assoc}, lemmas.List.{map-append}}
+use Rattle.nntp_wire.{specs.{Frame.{HasFrame, frame_octets}, Lines.{lines_of_stream}}, proofs.StreamLemmas.{lines-joined}}
+use Rattle.nntp_pair.specs.{declared.class.PairClass.{PairClass, TheVariants.{Surplus, Cut, Malformed}}, Pairing.{Paired, Unpaired, IsNext, AreNext, Awaits}}
+use Rattle.nntp_pair.specs.{Pairing.{IsBad, Ending, bad, Ends, IsPairing, streams, asked_at, places_of}, Inner.Pairing.{IsLasting, with_more}}
 use Rattle.nntp_pair.proofs.NextLemmas.{one-next, next-no-end, one-end}
 
 -- one more pair

@@ -1,19 +1,11 @@
 -- A frame that spells nothing is passed over in one way, and only where the pairing would end at it.
-use Rattle.std.proofs.Common.{◌≡◌, ◌≢◌, ◌↔◌, ℕ, ◌+◌, ◌<◌, List, ◌∷◌, ◌++◌, length, drop, Option, None, Some, MatchOption, Bool, true, false, not, refl, sym, ◌∙◌, ap, subst, arith, length-append}
-use Rattle.std.specs.Prelude.{is_some}
-use Rattle.std.proofs.lemmas.Bool.{true≢false}
-use Rattle.nntp_wire.specs.Octets.{crlf}
-use Rattle.nntp_wire.specs.Answer.{Asked, Spells, code_of, is_block_due}
-use Rattle.nntp_wire.specs.Frame.{FrameParts, IsFrame, HasFrame, is_due_by, framed, frame_octets}
-use Rattle.nntp_wire.specs.Misspelling.{misspelling}
-use Rattle.nntp_wire.specs.declared.misspelling.Misspelling.{Misspelling}
-use Rattle.nntp_wire.specs.declared.misspelling.Misspelling.TheVariants.{WrongBlock}
-use Rattle.nntp_wire.proofs.MisspelledFrames.{misspelled-alone}
-use Rattle.nntp_wire.proofs.MisspellingsAreSo.{so}
-use Rattle.nntp_wire.proofs.SpellLemmas.{one-frame}
-use Rattle.nntp_pair.specs.declared.class.PairClass.TheVariants.{Malformed}
-use Rattle.nntp_pair.specs.Pairing.{Unpaired, IsPassedOver, Awaits, IsBad, IsMalformed, Ending, bad, Ends, asked_at}
-use Rattle.nntp_pair.proofs.NextLemmas.{same_unpaired, one-awaited, one-end}
+use Rattle.std.proofs.Common.{◌≡◌, ◌≢◌, ◌↔◌, ℕ, ◌+◌, ◌<◌, List, ◌∷◌, ◌++◌, length, drop, Option, None, Some, MatchOption, Bool, true, false, not, refl, sym}
+use Rattle.std.{proofs.{Common.{◌∙◌, ap, subst, arith, length-append}, lemmas.Bool.{true≢false}}, specs.Prelude.{is_some}}
+use Rattle.nntp_wire.specs.{Octets.{crlf}, Answer.{Asked, Spells, code_of, is_block_due}, Inner.Frame.{FrameParts, IsFrame}, Frame.{HasFrame, is_due_by}}
+use Rattle.nntp_wire.specs.{Frame.{framed, frame_octets}, Misspelling.{misspelling}, declared.misspelling.Misspelling.{Misspelling, TheVariants.{WrongBlock}}}
+use Rattle.nntp_wire.proofs.{MisspelledFrames.{misspelled-alone}, MisspellingsAreSo.{so}, SpellLemmas.{one-frame}}
+use Rattle.nntp_pair.specs.{declared.class.PairClass.TheVariants.{Malformed}, Pairing.{Unpaired, IsPassedOver, Awaits, IsBad, IsMalformed, Ending, bad, Ends}}
+use Rattle.nntp_pair.{specs.Pairing.{asked_at}, proofs.NextLemmas.{same_unpaired, one-awaited, one-end}}
 
 -- a frame takes octets
 pub frame-takes : (place : Option (List ℕ)) (server initial : List ℕ) (block : Option (List ℕ)) (rest : List ℕ) → HasFrame (asked_at place) server initial block rest → length rest < length server

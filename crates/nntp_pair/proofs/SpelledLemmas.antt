@@ -1,18 +1,10 @@
 -- Pairs are spelled one after the other, and what is so spelled is paired.
 use Rattle.std.proofs.Common.{◌≡◌, ℕ, ◌+◌, List, [], ◌∷◌, ◌++◌, map, Option, Some, Bool, false, refl, sym, ◌∙◌, ap, subst, append_assoc}
-use Rattle.std.proofs.lemmas.List.{append-nil, map-append}
-use Rattle.std.specs.Prelude.{⊤, is_some, count_by}
-use Rattle.nntp_wire.specs.Answer.{Asked, Response, Spells}
-use Rattle.nntp_wire.specs.Command.{request_of}
-use Rattle.nntp_wire.specs.Answer.{greeting, to}
-use Rattle.nntp_wire.specs.Frame.{HasFrame, frame_octets}
-use Rattle.nntp_wire.specs.Lines.{lines_of_stream}
-use Rattle.nntp_wire.specs.Session.{closes, prompts_of, AreSpelled, StaysOpen}
-use Rattle.nntp_wire.proofs.SpellLemmas.{spelling-frame}
-use Rattle.nntp_pair.specs.declared.class.PairClass.{PairClass}
-use Rattle.nntp_pair.specs.Pairing.{Paired, Unpaired, AreNext, Ending, end, bad, Ends, IsPairing, responses_of, HasPairs, streams, asked_at, places_of}
-use Rattle.nntp_pair.proofs.NextLemmas.{next-no-end}
-use Rattle.nntp_pair.proofs.PairingLemmas.{first-pairs}
+use Rattle.std.{proofs.lemmas.List.{append-nil, map-append}, specs.Prelude.{⊤, is_some, count_by}}
+use Rattle.nntp_wire.specs.{Answer.{Asked, Response, Spells, greeting, to}, Command.{request_of}, Frame.{HasFrame, frame_octets}, Lines.{lines_of_stream}}
+use Rattle.nntp_wire.{specs.{Session.{closes, prompts_of}, Inner.Session.{AreSpelled, StaysOpen}}, proofs.SpellLemmas.{spelling-frame}}
+use Rattle.nntp_pair.specs.{declared.class.PairClass.{PairClass}, Pairing.{Paired, Unpaired, AreNext, Ending, end, bad, Ends, IsPairing, responses_of, streams}}
+use Rattle.nntp_pair.{specs.{Pairing.{asked_at, places_of}, Inner.Pairing.{HasPairs}}, proofs.{NextLemmas.{next-no-end}, PairingLemmas.{first-pairs}}}
 
 -- what is asked at the places of a client
 map-asked : (lines : List (List ℕ)) → map asked_at (map Some lines) ≡ map (λ line. to (request_of line)) lines

@@ -1,8 +1,6 @@
 -- The class of octets at which a pairing ends, among those of all bad answers (RFC 3977, sections 3.1, 3.2 and 3.5).
-use Rattle.nntp_pair.specs.declared.class.Class.{Class}
-use Rattle.nntp_pair.specs.declared.class.Class.TheVariants.{Surplus, Cut, Malformed}
-use Rattle.nntp_pair.specs.declared.class.PairClass.{PairClass}
-use Rattle.nntp_pair.specs.declared.class.PairClass.TheVariants.{Surplus as PairSurplus, Cut as PairCut, Malformed as PairMalformed}
+use Rattle.nntp_pair.specs.declared.class.{Class.{Class, TheVariants.{Surplus, Cut, Malformed}}, PairClass.{PairClass, TheVariants.{Surplus as PairSurplus}}}
+use Rattle.nntp_pair.specs.declared.class.PairClass.TheVariants.{Cut as PairCut, Malformed as PairMalformed}
 
 -- the class of octets at which a pairing ends
 abbrev pub class_of : PairClass → Class

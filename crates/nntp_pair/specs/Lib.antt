@@ -1,6 +1,4 @@
 pub mod Classes
 pub mod Pairing
-pub mod Sides
-pub mod Step
 pub mod Feeding
-pub mod Searching
+pub mod Inner

@@ -1,22 +1,12 @@
 -- Which response answers what (RFC 3977, sections 3.1 and 3.5): the greeting nothing that was sent, and then each response the next line of the client.
-use Rattle.std.specs.Prelude.{◌≡◌, ◌≢◌, ◌⊎◌, ℕ, ◌+◌, Bool, true, false, List, [], ◌∷◌, ◌++◌, Option, None, Some, is_some, map, count_by, length, IsTrue, ⊤}
-use Rattle.nntp_wire.specs.Octets.{are_octets}
-use Rattle.nntp_wire.specs.Lines.{lines_of_stream}
-use Rattle.nntp_wire.specs.Command.{request_of}
-use Rattle.nntp_wire.specs.Answer.{Asked, greeting, to, Response, numbers_are, active_are, Spells}
-use Rattle.nntp_wire.specs.Frame.{HasFrame, frame_octets}
+use Rattle.std.specs.Prelude.{◌≡◌, ◌≢◌, ◌⊎◌, ℕ, ◌+◌, Bool, true, false, List, [], ◌∷◌, Option, None, Some, is_some, map, count_by}
+use Rattle.nntp_wire.specs.{Lines.{lines_of_stream}, Command.{request_of}, Answer.{Asked, greeting, to, Response, Spells}, Frame.{HasFrame, frame_octets}}
 use Rattle.nntp_wire.specs.Session.{closes}
-use Rattle.nntp_pair.specs.declared.class.PairClass.{PairClass}
-use Rattle.nntp_pair.specs.declared.class.PairClass.TheVariants.{Surplus, Cut, Malformed}
+use Rattle.nntp_pair.specs.declared.class.PairClass.{PairClass, TheVariants.{Surplus, Cut, Malformed}}
 
 -- the places of a session: the greeting's, which has no line, and then one for each line of the client
 abbrev pub places_of : List ℕ → List (Option (List ℕ))
 places_of client = None ∷ map Some (lines_of_stream client)
-
--- the same once the greeting's place is behind
-abbrev pub places_from : Bool → List ℕ → List (Option (List ℕ))
-places_from false client = places_of client
-places_from true client = map Some (lines_of_stream client)
 
 -- what is answered at a place
 abbrev pub asked_at : Option (List ℕ) → Asked
@@ -40,18 +30,6 @@ pub record IsMalformed (asked : Asked) (server : List ℕ) : Type 0 where
   pub rest : List ℕ
   pub frame : HasFrame asked server initial block rest
   pub nothing : (response : Response) → ¬ (Spells asked response (frame_octets initial block))
-
--- with some block the initial line spells the response to what is asked at the place, in octets
-pub record IsSpelled (place : Option (List ℕ)) (initial : List ℕ) (response : Response) : Type 0 where
-  pub block : Option (List ℕ)
-  pub spells : Spells (asked_at place) response (frame_octets initial block)
-  pub octets : IsTrue (are_octets (frame_octets initial block))
-
--- how many lines with a name or a number a response has
-abbrev pub lines_in : Response → ℕ
-lines_in (numbers_are m name lines) = length lines
-lines_in (active_are lines) = length lines
-lines_in response = 0
 
 -- a response with its place, counted from 0, and the line that it answers
 pub record Paired : Type 0 where
@@ -117,12 +95,6 @@ abbrev pub Ends : Unpaired → Ending → Type 0
 Ends left (end unanswered) = (left.server ≡ []) × (unanswered ≡ count_by is_some left.places)
 Ends left (bad class) = (left.server ≢ []) × IsBad class left
 
--- and no octets that follow can change that
-abbrev pub IsLasting : PairClass → Unpaired → Type 0
-IsLasting Surplus left = left.is_closed ≡ true
-IsLasting Cut left = ⊥
-IsLasting Malformed left = ⊤
-
 -- before the first pair both streams are left
 abbrev pub streams : List ℕ → List ℕ → Unpaired
 streams client server = record { index = 0; places = places_of client; server = server; is_closed = false }
@@ -140,11 +112,3 @@ responses_of pairs = map (λ pair. pair.response) pairs
 -- what these responses answer
 abbrev pub asked_of : List Paired → List Asked
 asked_of pairs = map (λ pair. asked_at pair.line) pairs
-
--- pairs with these responses come next, and then the rest of the server's octets
-abbrev pub HasPairs : Unpaired → List Response → List ℕ → Type 0
-HasPairs before responses rest = (pairs : List Paired) × (left : Unpaired) × AreNext before pairs left × (responses_of pairs ≡ responses) × (left.server ≡ rest)
-
--- what is left, with more places and more octets behind
-abbrev pub with_more : List (Option (List ℕ)) → List ℕ → Unpaired → Unpaired
-with_more places octets left = record { index = left.index; places = left.places ++ places; server = left.server ++ octets; is_closed = left.is_closed }

@@ -1,6 +1,6 @@
 //! The octets of a stream that came and that no exchange has passed.
 ghost use Rattle.std.specs.Prelude.{◌≡◌, ◌≤◌, ◌++◌, [], length, drop, OnOk, OnErr};
-ghost use Rattle.nntp_pair.specs.Sides.{given};
+ghost use Rattle.nntp_pair.specs.Inner.Sides.{given};
 ghost use Rattle.nntp_pair.specs.declared.side.Side.TheVariants.{Client, Server};
 
 use crate::side::Side;

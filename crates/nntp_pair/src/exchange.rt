@@ -1,13 +1,14 @@
 //! A response with what it answers.
 ghost use Rattle.std.specs.Prelude.{◌≡◌, ◌<◌, ◌^◌, drop};
 ghost use Rattle.std.specs.Option.{option_copied};
-ghost use Rattle.nntp_wire.specs.AnswerView.{response};
+ghost use Rattle.nntp_wire.specs.Inner.AnswerView.{response};
 ghost use Rattle.nntp_wire.specs.Answer.{Spells};
 ghost use Rattle.nntp_wire.specs.Frame.{HasFrame, frame_octets};
-ghost use Rattle.nntp_wire.specs.Prompts.{prompt_kind};
+ghost use Rattle.nntp_wire.specs.Inner.Prompts.{prompt_kind};
 ghost use Rattle.nntp_wire.specs.Session.{closes};
-ghost use Rattle.nntp_wire.specs.View.{asked};
-ghost use Rattle.nntp_pair.specs.Pairing.{IsAnswered, IsSpelled, asked_at, lines_in};
+ghost use Rattle.nntp_wire.specs.Inner.View.{asked};
+ghost use Rattle.nntp_pair.specs.Pairing.{IsAnswered, asked_at};
+ghost use Rattle.nntp_pair.specs.Inner.Pairing.{IsSpelled, lines_in};
 
 use nntp_wire::{Answer, Command, Frame, Prompt, PromptKind};
 use std::marker::Model;
@@ -25,9 +26,10 @@ pub struct Exchange<'a> {
 impl<'a> Model for Exchange<'a> {
     ghost use Rattle.std.specs.Prelude.{◌≡◌, ◌<◌, ◌^◌};
     ghost use Rattle.std.specs.Option.{option_copied};
-    ghost use Rattle.nntp_wire.specs.AnswerView.{response};
-    ghost use Rattle.nntp_wire.specs.View.{asked};
-    ghost use Rattle.nntp_pair.specs.Pairing.{Paired, IsSpelled, asked_at, lines_in};
+    ghost use Rattle.nntp_wire.specs.Inner.AnswerView.{response};
+    ghost use Rattle.nntp_wire.specs.Inner.View.{asked};
+    ghost use Rattle.nntp_pair.specs.Pairing.{Paired, asked_at};
+    ghost use Rattle.nntp_pair.specs.Inner.Pairing.{IsSpelled, lines_in};
 
     ghost Value = { Paired };
 

@@ -2,7 +2,8 @@
 ghost use Rattle.std.specs.Prelude.{◌≡◌, ◌++◌, ◌∷◌, [], ℕ, List, MatchResult};
 ghost use Rattle.std.specs.Option.{option_copied};
 ghost use Rattle.nntp_pair.specs.Pairing.{Paired, Unpaired, IsNext, line_ahead};
-ghost use Rattle.nntp_pair.specs.Feeding.{Fed, IsFed, IsTaken, IsUntaken, HasNext, IsPeek, IsEnding, left_of, unfed, refused};
+ghost use Rattle.nntp_pair.specs.Inner.Feeding.{Fed, IsFed, IsTaken, IsUntaken, IsPeek, IsEnding, left_of, unfed, refused};
+ghost use Rattle.nntp_pair.specs.Feeding.{HasNext};
 ghost use Rattle.nntp_pair.specs.declared.side.Side.TheVariants.{Client, Server};
 
 use crate::buffer::{Buffer, extend};
@@ -35,12 +36,19 @@ pub struct Feed<A: Allocator = Global> {
 }
 
 impl<A: Allocator> Model for Feed<A> {
-    ghost use Rattle.nntp_pair.specs.Feeding.{Fed};
-    ghost use Rattle.nntp_pair.specs.Searching.{IsInStep};
+    ghost use Rattle.nntp_pair.specs.Inner.Feeding.{Fed};
+    ghost use Rattle.nntp_pair.specs.Inner.Searching.{IsInStep};
 
     ghost Value = { Fed };
 
-    ghost view = { λ f. record { index = f.index; client = f.client; server = f.server; is_closed = f.is_closed; counts = f.counts; has_failed = f.has_failed } };
+    ghost view = { λ f. record {
+      index = f.index;
+      client = f.client;
+      server = f.server;
+      is_closed = f.is_closed;
+      counts = f.counts;
+      has_failed = f.has_failed;
+    } };
 
     ghost invariant = { λ f. IsInStep f.index f.is_closed f.client f.server f.counts.server f.searches };
 }

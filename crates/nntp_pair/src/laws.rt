@@ -3,15 +3,17 @@ ghost use Rattle.std.specs.Prelude.{◌≡◌, ◌≢◌, ◌↔◌, ◌⊎◌, 
 ghost use Rattle.nntp_wire.specs.Answer.{Response};
 ghost use Rattle.nntp_wire.specs.Misspelling.{misspelling};
 ghost use Rattle.nntp_wire.specs.declared.misspelling.Misspelling.TheVariants.{WrongBlock};
-ghost use Rattle.nntp_wire.specs.Session.{prompts_of, AreSpelled, StaysOpen};
+ghost use Rattle.nntp_wire.specs.Session.{prompts_of};
+ghost use Rattle.nntp_wire.specs.Inner.Session.{AreSpelled, StaysOpen};
 ghost use Rattle.nntp_pair.specs.declared.class.PairClass.{PairClass};
 ghost use Rattle.nntp_pair.specs.declared.class.PairClass.TheVariants.{Malformed};
 ghost use Rattle.nntp_pair.specs.declared.peek.Peek.{Peek};
 ghost use Rattle.nntp_pair.specs.declared.peek.Peek.TheVariants.{Nothing};
 ghost use Rattle.nntp_pair.specs.declared.ending.Ending.TheVariants.{End, Bad};
-ghost use Rattle.nntp_pair.specs.Feeding.{Fed, IsFed, IsPeek, IsEnding, left_of, with_octets};
+ghost use Rattle.nntp_pair.specs.Inner.Feeding.{Fed, IsFed, IsPeek, IsEnding, left_of, with_octets};
 ghost use Rattle.nntp_pair.specs.Pairing.{Paired, Unpaired, IsNext, IsPassedOver, AreNext, Ending, end, bad};
-ghost use Rattle.nntp_pair.specs.Pairing.{Ends, IsPairing, IsLasting, HasPairs, responses_of, asked_at, places_of, streams, with_more};
+ghost use Rattle.nntp_pair.specs.Pairing.{Ends, IsPairing, responses_of, asked_at, places_of, streams};
+ghost use Rattle.nntp_pair.specs.Inner.Pairing.{IsLasting, HasPairs, with_more};
 
 /// One pair comes next, and then one thing is left.
 pub fn one_next_pair()

@@ -1,6 +1,6 @@
 //! How many octets came of both streams.
 ghost use Rattle.std.specs.Prelude.{◌≡◌, ◌≤◌, ◌<◌, ◌^◌, ◌+◌, length, MatchOption};
-ghost use Rattle.nntp_pair.specs.Sides.{given, count_of, counted};
+ghost use Rattle.nntp_pair.specs.Inner.Sides.{given, count_of, counted};
 ghost use Rattle.nntp_pair.specs.declared.side.Side.TheVariants.{Client, Server};
 
 use crate::side::Side;
@@ -18,7 +18,8 @@ impl OctetCounts {
     /// The counts with these octets of a side more. None: that side's would be more than 2^64 - 1.
     pub fn with(self, side: Side, octets: &[u8]) -> Option<OctetCounts>
         ensures { MatchOption result (2 ^ 64 ≤ count_of side self + length octets.now)
-            (λ counts. (count_of side self + length octets.now < 2 ^ 64) × (counts ≡ counted (given Client side octets.now) (given Server side octets.now) self)) }
+            (λ counts. (count_of side self + length octets.now < 2 ^ 64)
+            × (counts ≡ counted (given Client side octets.now) (given Server side octets.now) self)) }
     {
         let more = octets.len() as u64;
         match side {

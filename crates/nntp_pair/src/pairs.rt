@@ -1,9 +1,9 @@
 //! The pairing of both streams, one exchange at a time.
 ghost use Rattle.std.specs.Prelude.{◌≡◌, ◌<◌, ◌^◌, length, count_by, drop, is_some};
 ghost use Rattle.std.specs.Option.{option_copied};
-ghost use Rattle.nntp_wire.specs.View.{asked};
+ghost use Rattle.nntp_wire.specs.Inner.View.{asked};
 ghost use Rattle.nntp_pair.specs.Pairing.{IsBad, IsPassedOver, asked_at, streams, line_ahead};
-ghost use Rattle.nntp_pair.specs.Step.{IsStep, OnExchange};
+ghost use Rattle.nntp_pair.specs.Inner.Step.{IsStep, OnExchange};
 ghost use Rattle.nntp_pair.specs.declared.class.PairClass.TheVariants.{Malformed};
 ghost use Rattle.nntp_pair.specs.declared.step.Step.TheVariants.{Bad};
 

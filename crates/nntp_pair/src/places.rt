@@ -17,7 +17,7 @@ pub(crate) struct Places<'a> {
 
 impl<'a> Model for Places<'a> {
     ghost use Rattle.std.specs.Prelude.{List, Option, ℕ};
-    ghost use Rattle.nntp_pair.specs.Pairing.{places_from};
+    ghost use Rattle.nntp_pair.specs.Inner.Pairing.{places_from};
 
     ghost Value = { List (Option (List ℕ)) };
 

@@ -1,9 +1,9 @@
 //! The searches in both streams as they come.
 ghost use Rattle.std.specs.Prelude.{◌≡◌, false, ℕ, List, [], nat_lt, MatchOption};
 ghost use Rattle.std.specs.Option.{option_copied};
-ghost use Rattle.nntp_wire.specs.Search.{IsLineSearched, IsLineThrough};
-ghost use Rattle.nntp_pair.specs.Pairing.{places_from};
-ghost use Rattle.nntp_pair.specs.Searching.{AreSearched, AreThrough, BeginsWithPlace, IsForNext, left_from};
+ghost use Rattle.nntp_wire.specs.Inner.Search.{IsLineSearched, IsLineThrough};
+ghost use Rattle.nntp_pair.specs.Inner.Pairing.{places_from};
+ghost use Rattle.nntp_pair.specs.Inner.Searching.{AreSearched, AreThrough, BeginsWithPlace, IsForNext, left_from};
 
 use crate::exchange::kind_at;
 use nntp_wire::{FrameSearch, LineSearch};
@@ -68,7 +68,8 @@ impl Searches {
     ) -> Option<(Option<&'a [u8]>, &'a [u8])>
         requires searched { IsLineSearched client.now self.now.line }
         requires through { IsLineThrough client.now self.now.line }
-        ensures { MatchOption result (places_from (nat_lt 0 index) client.now ≡ []) (λ p. BeginsWithPlace (nat_lt 0 index) client.now (option_copied p.0) p.1.now) }
+        ensures { MatchOption result (places_from (nat_lt 0 index) client.now
+            ≡ []) (λ p. BeginsWithPlace (nat_lt 0 index) client.now (option_copied p.0) p.1.now) }
     {
         if index == 0 {
             return Some((None, client));

@@ -1,9 +1,7 @@
 -- What reports print of a bad answer.
 use Rattle.std.specs.Prelude.{◌≡◌, ◌⊎◌, ℕ, List, ◌++◌, Option, None, Some, codes, decimal, take}
-use Rattle.nntp_wire.specs.Lines.{HasNoCrlf}
-use Rattle.nntp_wire.specs.Octets.{crlf}
-use Rattle.nntp_pair.specs.declared.class.Class.{Class}
-use Rattle.nntp_pair.specs.declared.class.Class.TheVariants.{Surplus, Cut, Malformed, OutOfPlace, Contradiction}
+use Rattle.nntp_wire.specs.{Lines.{HasNoCrlf}, Octets.{crlf}}
+use Rattle.nntp_pair.specs.declared.class.Class.{Class, TheVariants.{Surplus, Cut, Malformed, OutOfPlace, Contradiction}}
 use Rattle.nntp_printing.specs.Printing.{escaped}
 
 -- the word that is printed for a class

@@ -1,7 +1,5 @@
 -- Octets as reports print them.
-use Rattle.std.specs.Prelude.{ℕ, ◌==◌, ◌/◌, ◌%◌, ◌+◌, nat_lt, if◌then◌else◌, List, [], ◌∷◌, ◌++◌, codes}
-use Rattle.std.specs.Int.{is_in_range}
-use Rattle.std.specs.List.{flat_map}
+use Rattle.std.specs.{Prelude.{ℕ, ◌==◌, ◌/◌, ◌%◌, ◌+◌, nat_lt, if◌then◌else◌, List, [], ◌∷◌, ◌++◌, codes}, Int.{is_in_range}, List.{flat_map}}
 
 -- the hexadecimal digit of a number below 16, in lower case
 abbrev pub hexadecimal_digit : ℕ → ℕ

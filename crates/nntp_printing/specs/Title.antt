@@ -1,7 +1,6 @@
 -- What reports print before what they tell of one of several sessions.
 use Rattle.std.specs.Prelude.{ℕ, List, [], ◌∷◌, ◌++◌, codes, decimal}
-use Rattle.nntp_printing.specs.BadAnswer.{shown}
-use Rattle.nntp_printing.specs.Printing.{escaped}
+use Rattle.nntp_printing.specs.{BadAnswer.{shown}, Printing.{escaped}}
 
 -- the title of a session: its number, and the first octets of its name, if it has one
 abbrev pub title_line : ℕ → List ℕ → List ℕ

@@ -1,5 +1,6 @@
 -- A `&` to a `Refusing` as a `&` to the allocator in it, and what both walks share.
-use Rattle.std.proofs.Common.{ℕ, ◌+◌, [], ◌∷◌}
+use Rattle.std.proofs.{Common.{ℕ, ◌+◌, [], ◌∷◌}, alloc.{Calls.{Al, Answer, α, seen}, AllocError.TheLaws.{the_row_laws as error_laws}}}
+use Rattle.std.proofs.result.Result.TheLaws.{the_row_laws as result_laws}
 use seplogic.Ra.Ura.{Ura}
 use base.Logic.{ent}
 use base.Fml.{Lft}
@@ -10,18 +11,13 @@ use types.Logic.{Logic, sem}
 use types.Kit.{‵, ◌$◌, ◌∵◌, !, qed, done, keep, fsplit}
 use denote.Builtin.{RefOf, RawPtr}
 use denote.Memory.{hidden_shr, shared_of}
-use denote.Param.{bounded, param}
-use denote.Param.Laws.{Laws, param_laws}
+use denote.Param.{bounded, param, Laws.{Laws, param_laws}}
 use denote.RattleType.{RattleType}
 use denote.Signature.{Slot, plain}
-use Rattle.std.proofs.alloc.Calls.{Al, Answer, α, seen}
-use Rattle.std.proofs.alloc.AllocError.TheLaws.{the_row_laws as error_laws}
-use Rattle.std.proofs.result.Result.TheLaws.{the_row_laws as result_laws}
-use Rattle.std.specs.contracts.alloc.AllocError as AllocError
 use borrow.Table.RawPtr.{ptr_laws}
-use Rattle.nntp_refusing.proofs.Refusing.TheLaws.{the_row_laws}
+use Rattle.nntp_refusing.{proofs.Refusing.TheLaws.{the_row_laws}, specs.declared.Refusing.{Refusing}}
+use Rattle.std.specs.contracts.alloc.AllocError as AllocError
 use Rattle.nntp_refusing.specs.contracts.Refusing as R
-use Rattle.nntp_refusing.specs.declared.Refusing.{Refusing}
 
 -- the row of a `Refusing` over the allocator Z
 abbrev pub row : Al → RattleType

@@ -151,12 +151,14 @@ fn one_too_many(alloc: Global) -> Result<(String, String), AllocError> {
 fn four_told(alloc: Global) -> Result<String, AllocError> {
     let mut report = String::from_str(
         alloc,
-        "bad answer 22 Contradiction\ncommand STAT 21\nanswer 223 21 <a21@x>\nin g since 1 at 20 since 21\nabout count g\nsays number g 21 is <a21@x>\nbecause some of 0 to 17\n",
+        "bad answer 22 Contradiction\ncommand STAT 21\nanswer 223 21 <a21@x>\nin g since 1 at 20 since 21\nabout count g\nsays number g 21 is <a21@x>\n\
+        because some of 0 to 17\n",
     )?;
     for before in 16..20 {
         let number = before + 1;
         let lines = format!(in alloc;
-            "because answer {}\ncommand STAT {number}\nanswer 223 {number} <a{number}@x>\nin g since 1 at {before} since {number}\nsays number g {number} is <a{number}@x>\n",
+            "because answer {}\ncommand STAT {number}\nanswer 223 {number} <a{number}@x>\nin g since 1 at {before} since {number}\n\
+            says number g {number} is <a{number}@x>\n",
             before + 2
         )?;
         report.push_str(lines.as_str())?;

@@ -27,28 +27,33 @@ pub(crate) const SEVERAL: &[Captured] = &[
     Captured {
         name: "two sessions",
         task: CHECK,
-        capture: b"session 3\noneclient 15\nGROUP g\r\nQUIT\r\nserver 30\n200 hi\r\n211 0 1 0 g\r\n205 bye\r\nsession 0\nclient 6\nQUIT\r\nserver 17\n200 hi\r\n205 bye\r\n",
+        capture: b"session 3\noneclient 15\nGROUP g\r\nQUIT\r\nserver 30\n200 hi\r\n211 0 1 0 g\r\n205 bye\r\nsession 0\nclient 6\nQUIT\r\nserver 17\n\
+            200 hi\r\n205 bye\r\n",
         report: b"consistent sessions=2 answers=5 groups=1 numbers=0 articles=0\nspool 1\ngroup g 0\nend\n",
         answer: true,
     },
     Captured {
         name: "two sessions",
         task: VERIFY,
-        capture: b"session 3\noneclient 15\nGROUP g\r\nQUIT\r\nserver 30\n200 hi\r\n211 0 1 0 g\r\n205 bye\r\nspool 9\nspool 1\ngsession 0\nclient 6\nQUIT\r\nserver 17\n200 hi\r\n205 bye\r\nspool 13\nroup g 0\nend\n",
+        capture: b"session 3\noneclient 15\nGROUP g\r\nQUIT\r\nserver 30\n200 hi\r\n211 0 1 0 g\r\n205 bye\r\nspool 9\nspool 1\ngsession 0\nclient 6\nQUIT\r\n\
+            server 17\n200 hi\r\n205 bye\r\nspool 13\nroup g 0\nend\n",
         report: b"permits sessions=2 answers=5\n",
         answer: true,
     },
     Captured {
         name: "two sessions",
         task: Task::Show,
-        capture: b"session 3\noneclient 15\nGROUP g\r\nQUIT\r\nserver 30\n200 hi\r\n211 0 1 0 g\r\n205 bye\r\nsession 0\nclient 6\nQUIT\r\nserver 17\n200 hi\r\n205 bye\r\n",
-        report: b"session 1 one\n0 greeting -> 200 hi\n1 GROUP g -> 211 0 1 0 g\n  group g\n2 QUIT -> 205 bye\nend answers=3 unanswered=0\nsession 2\n0 greeting -> 200 hi\n1 QUIT -> 205 bye\nend answers=2 unanswered=0\n",
+        capture: b"session 3\noneclient 15\nGROUP g\r\nQUIT\r\nserver 30\n200 hi\r\n211 0 1 0 g\r\n205 bye\r\nsession 0\nclient 6\nQUIT\r\nserver 17\n\
+            200 hi\r\n205 bye\r\n",
+        report: b"session 1 one\n0 greeting -> 200 hi\n1 GROUP g -> 211 0 1 0 g\n  group g\n2 QUIT -> 205 bye\nend answers=3 unanswered=0\nsession 2\n\
+            0 greeting -> 200 hi\n1 QUIT -> 205 bye\nend answers=2 unanswered=0\n",
         answer: true,
     },
     Captured {
         name: "two sessions",
         task: EXPLAIN,
-        capture: b"session 3\noneclient 15\nGROUP g\r\nQUIT\r\nserver 30\n200 hi\r\n211 0 1 0 g\r\n205 bye\r\nsession 0\nclient 6\nQUIT\r\nserver 17\n200 hi\r\n205 bye\r\n",
+        capture: b"session 3\noneclient 15\nGROUP g\r\nQUIT\r\nserver 30\n200 hi\r\n211 0 1 0 g\r\n205 bye\r\nsession 0\nclient 6\nQUIT\r\nserver 17\n\
+            200 hi\r\n205 bye\r\n",
         report: b"end sessions=2 answers=5 bad=0 unanswered=0\n",
         answer: true,
     },
@@ -83,57 +88,69 @@ pub(crate) const SEVERAL: &[Captured] = &[
     Captured {
         name: "a session without a name, and one that contradicts it",
         task: CHECK,
-        capture: b"client 11\nGROUP g\r\nQUserver 13\n200 hi\r\n211 0client 4\nIT\r\nserver 17\n 1 0 g\r\n205 bye\r\nsession 5\nb\\\n\x00\xffclient 9\nGROUP g\r\nserver 16\n200 hi\r\n411 no\r\n",
+        capture: b"client 11\nGROUP g\r\nQUserver 13\n200 hi\r\n211 0client 4\nIT\r\nserver 17\n 1 0 g\r\n205 bye\r\nsession 5\nb\\\n\x00\xffclient 9\n\
+            GROUP g\r\nserver 16\n200 hi\r\n411 no\r\n",
         report: b"session 2 b\\\\\\x0a\\x00\\xff\nbad answer 1 Contradiction\ncommand GROUP g\nanswer 411 no\n",
         answer: false,
     },
     Captured {
         name: "a session without a name, and one that contradicts it",
         task: VERIFY,
-        capture: b"client 11\nGROUP g\r\nQUserver 13\n200 hi\r\n211 0client 4\nIT\r\nserver 17\n 1 0 g\r\n205 bye\r\nsession 5\nb\\\n\x00\xffclient 9\nGROUP g\r\nserver 16\n200 hi\r\n411 no\r\nspool 22\nspool 1\ngroup g 0\nend\n",
+        capture: b"client 11\nGROUP g\r\nQUserver 13\n200 hi\r\n211 0client 4\nIT\r\nserver 17\n 1 0 g\r\n205 bye\r\nsession 5\nb\\\n\x00\xffclient 9\n\
+            GROUP g\r\nserver 16\n200 hi\r\n411 no\r\nspool 22\nspool 1\ngroup g 0\nend\n",
         report: b"session 2 b\\\\\\x0a\\x00\\xff\nrefuses answer 1\n",
         answer: false,
     },
     Captured {
         name: "a session without a name, and one that contradicts it",
         task: Task::Show,
-        capture: b"client 11\nGROUP g\r\nQUserver 13\n200 hi\r\n211 0client 4\nIT\r\nserver 17\n 1 0 g\r\n205 bye\r\nsession 5\nb\\\n\x00\xffclient 9\nGROUP g\r\nserver 16\n200 hi\r\n411 no\r\n",
-        report: b"session 1\n0 greeting -> 200 hi\n1 GROUP g -> 211 0 1 0 g\n  group g\n2 QUIT -> 205 bye\nend answers=3 unanswered=0\nsession 2 b\\\\\\x0a\\x00\\xff\n0 greeting -> 200 hi\n1 GROUP g -> 411 no\nend answers=2 unanswered=0\n",
+        capture: b"client 11\nGROUP g\r\nQUserver 13\n200 hi\r\n211 0client 4\nIT\r\nserver 17\n 1 0 g\r\n205 bye\r\nsession 5\nb\\\n\x00\xffclient 9\n\
+            GROUP g\r\nserver 16\n200 hi\r\n411 no\r\n",
+        report: b"session 1\n0 greeting -> 200 hi\n1 GROUP g -> 211 0 1 0 g\n  group g\n2 QUIT -> 205 bye\nend answers=3 unanswered=0\n\
+            session 2 b\\\\\\x0a\\x00\\xff\n0 greeting -> 200 hi\n1 GROUP g -> 411 no\nend answers=2 unanswered=0\n",
         answer: true,
     },
     Captured {
         name: "a session without a name, and one that contradicts it",
         task: EXPLAIN,
-        capture: b"client 11\nGROUP g\r\nQUserver 13\n200 hi\r\n211 0client 4\nIT\r\nserver 17\n 1 0 g\r\n205 bye\r\nsession 5\nb\\\n\x00\xffclient 9\nGROUP g\r\nserver 16\n200 hi\r\n411 no\r\n",
-        report: b"session 2 b\\\\\\x0a\\x00\\xff\nbad answer 1 Contradiction\ncommand GROUP g\nanswer 411 no\nin no group\nabout group g\nsays no group g\nbecause answer 1 of session 1\ncommand GROUP g\nanswer 211 0 1 0 g\nin no group\nsays group g\nend sessions=2 answers=5 bad=1 unanswered=0\n",
+        capture: b"client 11\nGROUP g\r\nQUserver 13\n200 hi\r\n211 0client 4\nIT\r\nserver 17\n 1 0 g\r\n205 bye\r\nsession 5\nb\\\n\x00\xffclient 9\n\
+            GROUP g\r\nserver 16\n200 hi\r\n411 no\r\n",
+        report: b"session 2 b\\\\\\x0a\\x00\\xff\nbad answer 1 Contradiction\ncommand GROUP g\nanswer 411 no\nin no group\nabout group g\nsays no group g\n\
+            because answer 1 of session 1\ncommand GROUP g\nanswer 211 0 1 0 g\nin no group\nsays group g\nend sessions=2 answers=5 bad=1 unanswered=0\n",
         answer: false,
     },
     Captured {
         name: "octets that answer nothing in the first and in the last",
         task: CHECK,
-        capture: b"session 5\nfirstclient 6\nQUIT\r\nserver 21\n200 hi\r\n205 bye\r\nmoresession 6\nsecondsession 5\nthirdclient 9\nGROUP g\r\nserver 9\n200 hi\r\n4",
+        capture: b"session 5\nfirstclient 6\nQUIT\r\nserver 21\n200 hi\r\n205 bye\r\nmoresession 6\nsecondsession 5\nthirdclient 9\nGROUP g\r\nserver 9\n\
+            200 hi\r\n4",
         report: b"session 1 first\nbad answer 2 Surplus\nno command\nanswer more\n",
         answer: false,
     },
     Captured {
         name: "octets that answer nothing in the first and in the last",
         task: VERIFY,
-        capture: b"session 5\nfirstclient 6\nQUIT\r\nserver 21\n200 hi\r\n205 bye\r\nmoresession 6\nsecondsession 5\nthirdclient 9\nGROUP g\r\nserver 9\n200 hi\r\n4spool 12\nspool 1\nend\n",
+        capture: b"session 5\nfirstclient 6\nQUIT\r\nserver 21\n200 hi\r\n205 bye\r\nmoresession 6\nsecondsession 5\nthirdclient 9\nGROUP g\r\nserver 9\n\
+            200 hi\r\n4spool 12\nspool 1\nend\n",
         report: b"session 1 first\nrefuses answer 2\n",
         answer: false,
     },
     Captured {
         name: "octets that answer nothing in the first and in the last",
         task: Task::Show,
-        capture: b"session 5\nfirstclient 6\nQUIT\r\nserver 21\n200 hi\r\n205 bye\r\nmoresession 6\nsecondsession 5\nthirdclient 9\nGROUP g\r\nserver 9\n200 hi\r\n4",
-        report: b"session 1 first\n0 greeting -> 200 hi\n1 QUIT -> 205 bye\nbad answer 2 Surplus\nsession 2 second\nend answers=0 unanswered=0\nsession 3 third\n0 greeting -> 200 hi\nbad answer 1 Cut\n",
+        capture: b"session 5\nfirstclient 6\nQUIT\r\nserver 21\n200 hi\r\n205 bye\r\nmoresession 6\nsecondsession 5\nthirdclient 9\nGROUP g\r\nserver 9\n\
+            200 hi\r\n4",
+        report: b"session 1 first\n0 greeting -> 200 hi\n1 QUIT -> 205 bye\nbad answer 2 Surplus\nsession 2 second\nend answers=0 unanswered=0\n\
+            session 3 third\n0 greeting -> 200 hi\nbad answer 1 Cut\n",
         answer: false,
     },
     Captured {
         name: "octets that answer nothing in the first and in the last",
         task: EXPLAIN,
-        capture: b"session 5\nfirstclient 6\nQUIT\r\nserver 21\n200 hi\r\n205 bye\r\nmoresession 6\nsecondsession 5\nthirdclient 9\nGROUP g\r\nserver 9\n200 hi\r\n4",
-        report: b"session 1 first\nbad answer 2 Surplus\nno command\nanswer more\nin no group\nwhy closed\nbecause answer 1\ncommand QUIT\nanswer 205 bye\nin no group\nsession 3 third\nbad answer 1 Cut\ncommand GROUP g\nanswer 4\nin no group\nwhy line\nend sessions=3 answers=5 bad=2 unanswered=0\n",
+        capture: b"session 5\nfirstclient 6\nQUIT\r\nserver 21\n200 hi\r\n205 bye\r\nmoresession 6\nsecondsession 5\nthirdclient 9\nGROUP g\r\nserver 9\n\
+            200 hi\r\n4",
+        report: b"session 1 first\nbad answer 2 Surplus\nno command\nanswer more\nin no group\nwhy closed\nbecause answer 1\ncommand QUIT\nanswer 205 bye\n\
+            in no group\nsession 3 third\nbad answer 1 Cut\ncommand GROUP g\nanswer 4\nin no group\nwhy line\nend sessions=3 answers=5 bad=2 unanswered=0\n",
         answer: false,
     },
     Captured {

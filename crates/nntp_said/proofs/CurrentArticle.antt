@@ -1,13 +1,8 @@
 -- The current article of a session can be read off the session.
-use Rattle.nntp_wire.specs.declared.marks.Marks.{Marks}
+use Rattle.nntp_wire.specs.{declared.marks.Marks.{Marks}, Answer.{Asked, Response, to, sends, plain}, Command.{current, retrieve}}
 use Rattle.std.proofs.Common.{◌≡◌, List, [], ◌∷◌, refl, sym, subst, ◌∙◌}
-use Rattle.nntp_article.specs.Session.Spool.{Spool}
-use Rattle.nntp_article.specs.declared.session.profile.Profile.{Profile}
-use Rattle.nntp_article.specs.Session.Machine.{Visible, Agrees, Run, after, visible_after}
-use Rattle.nntp_said.specs.Asks.{RunsAt, position_after, state_at}
-use Rattle.nntp_said.specs.declared.position.Position.{Position}
-use Rattle.nntp_wire.specs.Answer.{Asked, Response, to, sends, plain}
-use Rattle.nntp_wire.specs.Command.{current, retrieve}
+use Rattle.nntp_article.specs.{Session.{Spool.{Spool}, Machine.{Visible, Agrees, Run, after, visible_after}}, declared.session.profile.Profile.{Profile}}
+use Rattle.nntp_said.specs.{Inner.Asks.{RunsAt, state_at}, Asks.{position_after}, declared.position.Position.{Position}}
 
 pub after-state_at : (how : Marks) (S : Spool) (v : Visible) (at : Position) (p : Asked) (a : Response)
     → Agrees how S (state_at S v at) p a → after S (state_at S v at) p a ≡ state_at S (visible_after v p a)

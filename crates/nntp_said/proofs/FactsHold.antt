@@ -1,18 +1,13 @@
 -- A spool permits a session exactly if each answer fits and all that the answers say holds of it.
-use Rattle.nntp_wire.specs.declared.marks.Marks.{Marks}
-use Rattle.std.proofs.Common.{◌≡◌, ℕ, Bool, true, false, cond, ◌==◌, ◌&&◌, ◌||◌, ◌↔◌, ◌⊎◌, inl, inr, IsTrue, List, [], ◌∷◌, ◌++◌, None, Some, is_some, refl, sym, subst, ◌∙◌, arith}
-use Rattle.std.specs.Prelude.{IsFalse, is_none, ⊤}
-use Rattle.std.specs.List.{AllByRecursion}
-use Rattle.std.proofs.lemmas.Bool.{and_parts, or_cases, eqb-true, true≢false, false≢true}
-use Rattle.std.proofs.lemmas.Bool.Decides.{nat_tests}
-use Rattle.nntp_article.specs.Session.Spool.{Spool}
-use Rattle.nntp_article.specs.declared.session.profile.Profile.{Profile}
-use Rattle.nntp_article.specs.Session.Machine.{Visible, State, Agrees, MayAnswer, visible_after, CodeAgrees, is_generic, is_one_of, code_fits, fits}
-use Rattle.nntp_said.specs.Asks.{state_at, position_after, RunsAt}
-use Rattle.nntp_said.specs.declared.position.Position.{Position}
-use Rattle.nntp_said.specs.Facts.{Fact, Holds, facts_of, facts_of_code, facts_from, on, FitsAll}
-use Rattle.nntp_wire.specs.Answer.{Asked, Response, greeting, to, sends, plain}
-use Rattle.nntp_wire.specs.Command.{Request, by_id, by_number, current, group, list_group, next, last, retrieve}
+use Rattle.nntp_wire.specs.{declared.marks.Marks.{Marks}, Answer.{Asked, Response, greeting, to, sends, plain}, Command.{Request, by_id, by_number, current}}
+use Rattle.nntp_wire.specs.Command.{group, list_group, next, last, retrieve}
+use Rattle.std.proofs.Common.{◌≡◌, ℕ, Bool, true, false, cond, ◌==◌, ◌&&◌, ◌||◌, ◌↔◌, ◌⊎◌, inl, inr, IsTrue, List, [], ◌∷◌, ◌++◌, None, Some, is_some, refl}
+use Rattle.std.proofs.{Common.{sym, subst, ◌∙◌, arith}, lemmas.Bool.{and_parts, or_cases, eqb-true, true≢false, false≢true, Decides.{nat_tests}}}
+use Rattle.std.specs.{Prelude.{IsFalse, is_none, ⊤}, List.{AllByRecursion}}
+use Rattle.nntp_article.specs.Session.{Spool.{Spool}, Machine.{Visible, State, Agrees, MayAnswer, visible_after, CodeAgrees, is_generic, is_one_of, code_fits}}
+use Rattle.nntp_article.specs.{Session.Machine.{fits}, declared.session.profile.Profile.{Profile}}
+use Rattle.nntp_said.specs.{Inner.{Asks.{state_at, RunsAt}, Facts.{FitsAll}}, Asks.{position_after}, declared.position.Position.{Position}, Facts.{Fact, Holds}}
+use Rattle.nntp_said.specs.Facts.{facts_of, facts_of_code, facts_from, on}
 
 both : (S : Spool) (xs ys : List Fact) → AllByRecursion (Holds S) xs → AllByRecursion (Holds S) ys → AllByRecursion (Holds S) (xs ++ ys)
 both S [] ys h g = g

@@ -1,9 +1,7 @@
 -- Facts that give an id at a number, one after the other.
 use Rattle.std.proofs.Common.{◌↔◌, ◌⊎◌, inl, inr, List, [], ◌∷◌, Option, None, Some}
 use Rattle.nntp_article.specs.Article.Parts.{Id}
-use Rattle.nntp_said.specs.Facts.{Fact, IdAt}
-use Rattle.nntp_said.specs.Places.{Place}
-use Rattle.nntp_said.specs.FactView.{with_fact}
+use Rattle.nntp_said.specs.{Facts.{Fact, IdAt}, Inner.{Places.{Place}, FactView.{with_fact}}}
 use Rattle.nntp_said.specs.declared.fact.Fact as code
 
 -- of a fact and of those behind it

@@ -1,22 +1,15 @@
 -- The table of what an answer says, by its rows: a list of facts each, with what is known of them where the answer fits.
-use Rattle.std.proofs.Common.{◌≡◌, ℕ, Bool, true, false, cond, ◌==◌, ◌&&◌, IsTrue, List, [], ◌∷◌, ◌++◌, Option, None, Some, is_some, inl, inr, refl, sym, subst, ◌∙◌, arith}
-use Rattle.std.specs.Prelude.{⊤}
-use Rattle.std.specs.List.{list_all}
+use Rattle.std.proofs.Common.{◌≡◌, ℕ, Bool, true, false, cond, ◌==◌, ◌&&◌, IsTrue, List, [], ◌∷◌, ◌++◌, Option, None, Some, is_some, inl, inr, refl, sym, subst}
+use Rattle.std.{proofs.{Common.{◌∙◌, arith}, lemmas.Bool.{and_parts, or_cases, eqb-true, true≢false}}, specs.{Prelude.{⊤}, List.{list_all}}}
 use Rattle.std.specs.Option.{option_map_or, option_or}
-use Rattle.std.proofs.lemmas.Bool.{and_parts, or_cases, eqb-true, true≢false}
-use Rattle.nntp_article.specs.Article.Parts.{Id}
-use Rattle.nntp_article.specs.Session.Spool.{Name}
-use Rattle.nntp_article.specs.declared.session.profile.Profile.{Profile}
-use Rattle.nntp_article.specs.Session.Machine.{Visible, fits, marks_fit, is_ascending, is_same, is_article_number, is_in_range, number_fits, head_fits, active_fits, names_differ}
+use Rattle.nntp_article.specs.{Article.Parts.{Id}, Session.{Spool.{Name}, Machine.{Visible, fits, marks_fit, is_ascending, is_same, is_article_number}}}
+use Rattle.nntp_article.specs.{Session.Machine.{is_in_range, number_fits, head_fits, active_fits, names_differ}, declared.session.profile.Profile.{Profile}}
 use Rattle.nntp_said.specs.Asks.{Estimates, ListsIn, Lacks, StandsAt, StandsNowhere, StepsUp, StepsDown, IsTop, IsBottom}
-use Rattle.nntp_said.specs.declared.position.Position.{Position}
-use Rattle.nntp_said.specs.Facts.{Fact, ThereIs, ThereIsNo, Asks, IdAt, TextIs, NoArticle, GroupsAre, here, facts_of_code, facts_of}
-use Rattle.nntp_wire.specs.Listing.{listed_numbers, active_groups}
-use Rattle.nntp_wire.specs.Answer.{Asked, Response, Success, success_code, to, group_is, numbers_are, sends, active_are, plain}
-use Rattle.nntp_wire.specs.Command.{Request, Target, by_id, by_number, current, group, list_group, next, last, retrieve, list_active}
-use Rattle.nntp_wire.specs.declared.command.What.{What}
-use Rattle.nntp_wire.specs.declared.range.Range.{Range}
-use Rattle.nntp_wire.specs.declared.water_marks.WaterMarks.{WaterMarks}
+use Rattle.nntp_said.specs.{declared.position.Position.{Position}, Facts.{Fact, ThereIs, ThereIsNo, Asks, IdAt, TextIs, NoArticle, GroupsAre, here}}
+use Rattle.nntp_said.specs.Facts.{facts_of_code, facts_of}
+use Rattle.nntp_wire.specs.{Listing.{listed_numbers, active_groups}, Answer.{Asked, Response, Success, success_code, to, group_is, numbers_are, sends}}
+use Rattle.nntp_wire.specs.{Answer.{active_are, plain}, Command.{Request, Target, by_id, by_number, current, group, list_group, next, last, retrieve}}
+use Rattle.nntp_wire.specs.{Command.{list_active}, declared.{command.What.{What}, range.Range.{Range}, water_marks.WaterMarks.{WaterMarks}}}
 
 -- numbers that are listed ascend, and each is an article number in the range
 abbrev pub AreListed : Profile → Range → List ℕ → Type 0

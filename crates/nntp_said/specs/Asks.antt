@@ -1,16 +1,9 @@
 -- What answers ask of the numbers of a group, with the current article read off the session (RFC 3977, section 6.1).
-use Rattle.std.specs.Prelude.{◌≡◌, ℕ, ◌≤◌, List, [], ◌∷◌, Option, None, Some, MatchOption, ⊤}
-use Rattle.std.specs.FinMap.{get}
-use Rattle.nntp_article.specs.Session.Spool.{Spool, Numbers, IsNumber, least, IsNextAbove, IsNextBelow, NoneAbove, NoneBelow, Lists}
-use Rattle.nntp_article.specs.declared.session.profile.Profile.{Profile}
-use Rattle.nntp_article.specs.Session.Machine.{Visible, State, MayAnswer, visible_after, selected_numbers, Bound}
-use Rattle.nntp_wire.specs.declared.range.Range.{Range}
-use Rattle.nntp_wire.specs.declared.marks.Marks.{Marks}
-use Rattle.nntp_wire.specs.Answer.{Asked, Response, to, group_is, numbers_are, sends}
-use Rattle.nntp_wire.specs.declared.water_marks.WaterMarks.{WaterMarks}
-use Rattle.nntp_said.specs.declared.position.Position.{Position}
-use Rattle.nntp_said.specs.declared.position.Position.TheVariants.{Nowhere, First, Known}
-use Rattle.nntp_wire.specs.Command.{by_number, current, next, last, retrieve}
+use Rattle.std.specs.{Prelude.{◌≡◌, ℕ, ◌≤◌, List, Option, None, Some, MatchOption}, FinMap.{get}}
+use Rattle.nntp_article.specs.Session.{Spool.{Numbers, IsNumber, least, IsNextAbove, IsNextBelow, NoneAbove, NoneBelow, Lists}, Machine.{Bound}}
+use Rattle.nntp_wire.specs.{declared.{range.Range.{Range}, marks.Marks.{Marks}, water_marks.WaterMarks.{WaterMarks}}, Answer.{Asked, Response, to, group_is}}
+use Rattle.nntp_wire.specs.{Answer.{numbers_are, sends}, Command.{by_number, current, next, last, retrieve}}
+use Rattle.nntp_said.specs.declared.position.Position.{Position, TheVariants.{Nowhere, First, Known}}
 
 -- where an answer leaves the session
 abbrev pub position_after : Position → Asked → Response → Position
@@ -27,17 +20,6 @@ abbrev pub current_in : Numbers → Position → Option ℕ
 current_in N Nowhere = None
 current_in N First = least N
 current_in N (Known n) = Some n
-
--- the state over a spool
-abbrev pub state_at : Spool → Visible → Position → State
-state_at S v at = record { visible = v; current = current_in (selected_numbers S v) at }
-
--- each answer is permitted, with the current article read off the session
-abbrev pub RunsAt : Profile → Spool → Visible → Position → List Asked → List Response → Type 0
-RunsAt profile S v at ps [] = ⊤
-RunsAt profile S v at [] (response ∷ more) = ⊥
-RunsAt profile S v at (asked ∷ ps) (response ∷ more) =
-    MayAnswer profile S (state_at S v at) asked response × RunsAt profile S (visible_after v asked response) (position_after at asked response) ps more
 
 -- one thing that an answer says of the numbers of a group
 pub data Ask : Type 0 where

@@ -1,17 +1,12 @@
 -- What each answer of a session says of the spool, with the current article read off the session.
-use Rattle.std.specs.Prelude.{◌≡◌, ℕ, false, ◌==◌, if◌then◌else◌, List, [], ◌∷◌, ◌++◌, Option, None, Some, unwrap_or, ⊤, IsTrue}
-use Rattle.std.specs.FinMap.{get}
-use Rattle.nntp_article.specs.Session.Spool.{Spool, IsGroup, numbers, HasText, Name}
-use Rattle.nntp_article.specs.declared.session.profile.Profile.{Profile}
-use Rattle.nntp_article.specs.Session.Machine.{Visible, visible_after, ActivesAgree, fits}
+use Rattle.std.specs.{Prelude.{◌≡◌, ℕ, ◌==◌, if◌then◌else◌, List, [], ◌∷◌, ◌++◌, Option, None, Some, unwrap_or}, FinMap.{get}}
+use Rattle.nntp_article.specs.{Session.{Spool.{Spool, IsGroup, numbers, HasText, Name}, Machine.{Visible, visible_after, ActivesAgree}}, Article.Parts.{Id}}
+use Rattle.nntp_article.specs.Article.Parts.{Line}
 use Rattle.nntp_said.specs.Asks.{position_after, Ask, Meets, Estimates, ListsIn, Lacks, StandsAt, StandsNowhere, StepsUp, StepsDown, IsTop, IsBottom}
 use Rattle.nntp_said.specs.declared.position.Position.{Position}
-use Rattle.nntp_article.specs.Article.Parts.{Id, Line}
-use Rattle.nntp_wire.specs.Listing.{ActiveValue, listed_numbers, active_groups}
-use Rattle.nntp_wire.specs.declared.marks.Marks.{Marks}
-use Rattle.nntp_wire.specs.declared.command.What.{What}
-use Rattle.nntp_wire.specs.Command.{Request, by_id, by_number, current, group, next, last, retrieve, list_group, list_active}
-use Rattle.nntp_wire.specs.Answer.{Asked, Response, to, group_is, numbers_are, sends, active_are, plain}
+use Rattle.nntp_wire.specs.{Listing.{ActiveValue, listed_numbers, active_groups}, declared.{marks.Marks.{Marks}, command.What.{What}}, Command.{Request, by_id}}
+use Rattle.nntp_wire.specs.{Command.{by_number, current, group, next, last, retrieve, list_group, list_active}, Answer.{Asked, Response, to, group_is}}
+use Rattle.nntp_wire.specs.Answer.{numbers_are, sends, active_are, plain}
 
 -- one thing that an answer says of the spool
 pub data Fact : Type 0 where
@@ -79,10 +74,3 @@ facts_from how v at [] answers = []
 facts_from how v at (asked ∷ ps) [] = []
 facts_from how v at (asked ∷ ps) (response ∷ more) =
     facts_of how v at asked response ++ facts_from how (visible_after v asked response) (position_after at asked response) ps more
-
--- the visible condition holds at each place, whatever the spool
-abbrev pub FitsAll : Profile → Visible → List Asked → List Response → Type 0
-FitsAll profile v ps [] = ⊤
-FitsAll profile v [] (response ∷ more) = ⊥
-FitsAll profile v (asked ∷ ps) (response ∷ more) =
-    (v.closed ≡ false) × IsTrue (fits profile v asked response) × FitsAll profile (visible_after v asked response) ps more

@@ -1,4 +1,3 @@
 pub mod Asks
 pub mod Facts
-pub mod FactView
-pub mod Places
+pub mod Inner

@@ -5,8 +5,9 @@ ghost use Rattle.nntp_wire.specs.Answer.{Asked, Response};
 ghost use Rattle.nntp_article.specs.Session.Spool.{Spool};
 ghost use Rattle.nntp_article.specs.declared.session.profile.Profile.{Profile};
 ghost use Rattle.nntp_article.specs.Session.Machine.{Run, start};
-ghost use Rattle.nntp_said.specs.Asks.{RunsAt};
-ghost use Rattle.nntp_said.specs.Facts.{FitsAll, Holds, facts_from};
+ghost use Rattle.nntp_said.specs.Inner.Asks.{RunsAt};
+ghost use Rattle.nntp_said.specs.Inner.Facts.{FitsAll};
+ghost use Rattle.nntp_said.specs.Facts.{Holds, facts_from};
 ghost use Rattle.nntp_said.specs.declared.position.Position.TheVariants.{Nowhere};
 
 /// A spool permits a session exactly if it permits each answer with the current article read off

@@ -1,8 +1,8 @@
 //! The facts that an answer says, one after the other.
-ghost use Rattle.std.specs.Prelude.{◌≡◌, ◌↔◌, IsTrue, [], ◌∷◌};
+ghost use Rattle.std.specs.Prelude.{◌≡◌, ◌↔◌, IsTrue, [], ◌∷◌, drop, option_map, slice_get};
 ghost use Rattle.std.specs.Iterator.{YieldsFirstBy, item_count};
-ghost use Rattle.nntp_said.specs.FactView.{fact_of, with_fact};
-ghost use Rattle.nntp_said.specs.Places.{Place};
+ghost use Rattle.nntp_said.specs.Inner.FactView.{fact_of, with_fact};
+ghost use Rattle.nntp_said.specs.Inner.Places.{Place};
 
 use crate::fact::Fact;
 use nntp_wire::MessageId;
@@ -19,7 +19,7 @@ pub struct SaidFacts<'s> {
 impl<'s> Model for SaidFacts<'s> {
     ghost use Rattle.std.specs.Prelude.{List, []};
     ghost use Rattle.nntp_said.specs.Facts.{Fact as FactValue};
-    ghost use Rattle.nntp_said.specs.FactView.{with_fact};
+    ghost use Rattle.nntp_said.specs.Inner.FactView.{with_fact};
 
     ghost Value = { List FactValue };
 
@@ -68,6 +68,29 @@ impl<'s> SaidFacts<'s> {
             first: Some(first),
             second: Some(second),
             third: Some(third),
+        }
+    }
+
+    /// Returns the first of the facts that are left, where it stands.
+    pub fn first(&self) -> Option<&Fact<'s>>
+        ensures { option_map (λ fact. fact_of fact.now) result ≡ slice_get self.now 0 }
+    {
+        self.first
+            .as_ref()
+            .or(self.second.as_ref())
+            .or(self.third.as_ref())
+    }
+
+    /// Goes past the first of the facts that are left, if one is.
+    pub fn pass_first(&mut self)
+        ensures { self.new ≡ drop 1 self.old }
+    {
+        if self.first.is_some() {
+            self.first = None;
+        } else if self.second.is_some() {
+            self.second = None;
+        } else {
+            self.third = None;
         }
     }
 

@@ -1,14 +1,14 @@
 //! What each kind of answer says of the spool (RFC 3977, sections 6 and 7.6.3).
 ghost use Rattle.std.specs.Prelude.{◌≡◌, ℕ};
 ghost use Rattle.nntp_wire.specs.declared.marks.Marks.{Marks};
-ghost use Rattle.nntp_wire.specs.View.{asked, request, target};
-ghost use Rattle.nntp_wire.specs.AnswerView.{response};
+ghost use Rattle.nntp_wire.specs.Inner.View.{asked, request, target};
+ghost use Rattle.nntp_wire.specs.Inner.AnswerView.{response};
 ghost use Rattle.nntp_wire.specs.Answer.{to, sends};
 ghost use Rattle.nntp_wire.specs.Command.{retrieve};
 ghost use Rattle.nntp_article.specs.Session.Machine.{Visible};
 ghost use Rattle.nntp_said.specs.Asks.{Estimates};
 ghost use Rattle.nntp_said.specs.Facts.{Asks, here, facts_of, facts_of_code};
-ghost use Rattle.nntp_said.specs.FactView.{fact_of};
+ghost use Rattle.nntp_said.specs.Inner.FactView.{fact_of};
 
 use crate::fact::{Ask, Fact};
 use crate::position::Position;

@@ -1,29 +1,19 @@
 -- The order of facts, and how often each is said, doesn't matter to the spool that is given for them; so the order of sessions doesn't.
-use Rattle.std.proofs.Common.{◌≡◌, ℕ, ◌+◌, Bool, true, false, cond, ◌==◌, ◌||◌, ◌&&◌, IsTrue, List, [], ◌∷◌, ◌++◌, Option, None, Some, is_some, inl, inr, refl, sym, ap, ap₂, subst, ◌∙◌}
-use Rattle.std.specs.Prelude.{IsFalse, unwrap_or, Contains}
-use Rattle.std.specs.List.{list_any, flat_map}
-use Rattle.std.specs.FinMap.{entries}
-use Rattle.std.proofs.lemmas.Bool.{true≢false, eqb-true, eq-eqb}
-use Rattle.nntp_article.specs.Article.Parts.{Id}
-use Rattle.nntp_article.specs.Session.Spool.{Spool, Numbers, Name}
-use Rattle.nntp_article.specs.declared.session.profile.Profile.{Profile}
+use Rattle.std.proofs.Common.{◌≡◌, ℕ, ◌+◌, Bool, true, false, cond, ◌==◌, ◌||◌, ◌&&◌, IsTrue, List, [], ◌∷◌, ◌++◌, Option, None, Some, is_some, inl, inr, refl}
+use Rattle.std.{proofs.{Common.{sym, ap, ap₂, subst, ◌∙◌}, lemmas.Bool.{true≢false, eqb-true, eq-eqb}}, specs.Prelude.{IsFalse, unwrap_or, Contains}}
+use Rattle.std.specs.{List.{list_any, flat_map}, FinMap.{entries}}
+use Rattle.nntp_article.specs.{Article.Parts.{Id}, Session.Spool.{Spool, Numbers, Name}, declared.session.profile.Profile.{Profile}}
 use Rattle.nntp_wire.specs.Session.{prompts_of}
-use Rattle.nntp_said.specs.Asks.{Ask}
-use Rattle.nntp_said.specs.Facts.{Fact}
-use Rattle.nntp_facts.specs.Given.{shows, says_some, is_end, denies, demand_in, join, demand, wants, is_known, IsFirstFree, IsOneMore, IsGivenNumber, asks_in, asks_of, shows_group, gives_article, mentions, first_given, id_in, id_shown, head_in, body_in, plain_head, invented, AreInvented, unshown_in, unshown_ids, IsGiven, facts_of_session}
-use Rattle.nntp_facts.specs.Together.{GiveOne, Together}
-use Rattle.nntp_facts.specs.declared.demand.Demand.{Demand}
-use Rattle.nntp_facts.specs.declared.demand.Demand.TheVariants.{NoDemand, NotEmpty, OnlyOne, SecondIs, Impossible}
-use Rattle.nntp_facts.proofs.GivenNumbers.JoinedDemands.{demand_append}
-use Rattle.nntp_facts.proofs.Given.GivenHolds.{one_given}
-use Rattle.nntp_facts.proofs.Given.OneGivenSpool.{given_once}
-use Rattle.nntp_facts.proofs.Members.{In, all_at, all_from, any_in, found_in, to_flat, from_flat, in_front, in_back, in_cases, first_found, first_there, in_contains, contains_in}
-use Rattle.nntp_facts.proofs.Streams.OneOutcome.{same_answers}
-use Rattle.nntp_facts.specs.Answered.{facts_of_all}
-use Rattle.nntp_several.specs.Outcome.{IsLeastOfAll}
-use Rattle.nntp_several.specs.Sessions.{Recorded, ExplainsIt, ExplainsEach, ExplainsAll, answered_by}
+use Rattle.nntp_said.specs.{Asks.{Ask}, Facts.{Fact}}
+use Rattle.nntp_facts.specs.Given.{shows, says_some, is_end, denies, demand_in, join, demand, wants, is_known, IsFirstFree, IsOneMore, IsGivenNumber, asks_in}
+use Rattle.nntp_facts.specs.Given.{asks_of, shows_group, gives_article, mentions, first_given, id_in, id_shown, head_in, body_in, plain_head, invented}
+use Rattle.nntp_facts.specs.{Given.{AreInvented, unshown_in, unshown_ids, IsGiven, facts_of_session}, Together.{GiveOne}, Inner.Together.{Together}}
+use Rattle.nntp_facts.specs.{declared.demand.Demand.{Demand, TheVariants.{NoDemand, NotEmpty, OnlyOne, SecondIs, Impossible}}, Answered.{facts_of_all}}
+use Rattle.nntp_facts.proofs.{GivenNumbers.JoinedDemands.{demand_append}, Given.{GivenHolds.{one_given}, OneGivenSpool.{given_once}}}
+use Rattle.nntp_facts.proofs.{Given.SessionsByFacts.{stand_each}, Members.{In, all_at, all_from, any_in, found_in, to_flat, from_flat, in_front, in_back}}
+use Rattle.nntp_facts.proofs.{Members.{in_cases, first_found, first_there, in_contains, contains_in}, Streams.OneOutcome.{same_answers}}
+use Rattle.nntp_several.specs.{Outcome.{IsLeastOfAll}, Sessions.{Recorded, ExplainsIt, ExplainsEach, ExplainsAll, answered_by}}
 use Rattle.nntp_several.proofs.ExplainedSessions.{runs_each}
-use Rattle.nntp_facts.proofs.Given.SessionsByFacts.{stand_each}
 
 -- ---- tests
 

@@ -1,17 +1,11 @@
 -- What is bad of several sessions for good stays so, and one answer is told.
-use Rattle.std.proofs.Common.{◌≡◌, ◌⊎◌, ℕ, zero, suc, ◌<◌, ◌≤◌, List, [], ◌∷◌, ◌++◌, length, take, Option, None, Some, slice_get, inl, inr, refl, sym, ap, subst, ◌∙◌, arith}
-use Rattle.std.specs.Prelude.{MatchOption}
-use Rattle.std.proofs.lemmas.Bool.{cases_lt}
+use Rattle.std.proofs.Common.{◌≡◌, ◌⊎◌, ℕ, zero, suc, ◌<◌, ◌≤◌, List, [], ◌∷◌, ◌++◌, length, take, Option, None, Some, slice_get, inl, inr, refl, sym, ap}
+use Rattle.std.{proofs.{Common.{subst, ◌∙◌, arith}, lemmas.Bool.{cases_lt}}, specs.Prelude.{MatchOption}}
 use Rattle.nntp_article.specs.declared.session.profile.Profile.{Profile}
 use Rattle.nntp_pair.specs.declared.class.Class.{Class}
-use Rattle.nntp_facts.specs.Classes.{HasClass, IsSettled}
-use Rattle.nntp_facts.proofs.Streams.OneClass.{bad_stays, class_stays}
-use Rattle.nntp_several.specs.Told.{with_more, IsBadForGoodOfAll, IsToldBadOfAll}
-use Rattle.nntp_several.specs.Outcome.{NoOfAll, IsOutcomeOfAll}
-use Rattle.nntp_several.specs.Sessions.{Recorded, ExplainsEach, BadBehind}
-use Rattle.nntp_several.proofs.ExplainedSessions.{there}
-use Rattle.nntp_several.proofs.OneOutcomeOfAll.{one_outcome_of_all}
-use Rattle.nntp_several.proofs.SessionsRead.{outcome_at}
+use Rattle.nntp_facts.{specs.Classes.{HasClass, IsSettled}, proofs.Streams.OneClass.{bad_stays, class_stays}}
+use Rattle.nntp_several.specs.{Told.{with_more, IsBadForGoodOfAll, IsToldBadOfAll}, Outcome.{NoOfAll, IsOutcomeOfAll}, Sessions.{Recorded, ExplainsEach}}
+use Rattle.nntp_several.{specs.Sessions.{BadBehind}, proofs.{ExplainedSessions.{there}, OneOutcomeOfAll.{one_outcome_of_all}, SessionsRead.{outcome_at}}}
 
 -- a settled answer that is bad stays so whatever octets of its session and whatever sessions follow
 pub settled_of_all : (profile : Profile) (before : List Recorded) (s : Recorded) (more_client more_server : List ℕ) (more : List Recorded) (k : ℕ) (class : Class)
@@ -75,7 +69,8 @@ bad_for_good_stays_of_all profile before s more_client more_server more j k clas
         (settled_of_all profile before s more_client more_server more k class is_bad has settled)
 
 -- one answer is told
-pub one_told_of_all : (profile : Profile) (before : List Recorded) (s : Recorded) (told other : Option (ℕ × ℕ × Class)) → IsToldBadOfAll profile before s told → IsToldBadOfAll profile before s other → told ≡ other
+pub one_told_of_all : (profile : Profile) (before : List Recorded) (s : Recorded) (told other : Option (ℕ × ℕ × Class)) → IsToldBadOfAll profile before s told → IsToldBadOfAll profile before s other
+    → told ≡ other
 one_told_of_all profile before s None None h g = refl
 one_told_of_all profile before s None (Some bad) h g = absurd (h bad.0 bad.1 bad.2 g)
 one_told_of_all profile before s (Some bad) None h g = absurd (g bad.0 bad.1 bad.2 h)

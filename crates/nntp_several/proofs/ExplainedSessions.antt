@@ -1,24 +1,14 @@
 -- Some spool explains several sessions, or exactly one answer is bad.
-use Rattle.std.proofs.Common.{◌≡◌, ℕ, zero, suc, ◌+◌, ◌<◌, ◌≤◌, ◌^◌, ◌⊎◌, List, [], ◌∷◌, ◌++◌, length, take, Option, None, Some, slice_get, inl, inr, refl, sym, ap, subst, ◌∙◌, arith, length-append, append_assoc, append-nil}
-use Rattle.std.specs.Prelude.{MatchOption}
+use Rattle.std.proofs.Common.{◌≡◌, ℕ, zero, suc, ◌+◌, ◌<◌, ◌≤◌, ◌^◌, ◌⊎◌, List, [], ◌∷◌, ◌++◌, length, take, Option, None, Some, slice_get, inl, inr, refl, sym}
+use Rattle.std.{proofs.{Common.{ap, subst, ◌∙◌, arith, length-append, append_assoc, append-nil}, lemmas.Bool.{cases_order}}, specs.Prelude.{MatchOption}}
 use Rattle.std.specs.List.{AllByRecursion}
-use Rattle.std.proofs.lemmas.Bool.{cases_order}
-use Rattle.nntp_wire.specs.Answer.{Response}
-use Rattle.nntp_wire.specs.Session.{prompts_of}
-use Rattle.nntp_wire.specs.declared.marks.Marks.{Marks}
-use Rattle.nntp_article.specs.Session.Spool.{Spool, IsSpool}
-use Rattle.nntp_article.specs.declared.session.profile.Profile.{Profile}
-use Rattle.nntp_article.specs.Session.Machine.{Run, start}
-use Rattle.nntp_article.specs.Session.Explains.{Explains}
-use Rattle.nntp_facts.specs.Given.{size}
-use Rattle.nntp_facts.proofs.Members.{all_both, all_front, all_back}
-use Rattle.nntp_facts.proofs.Given.FirstBadAnswer.{size-append, none_permitted}
-use Rattle.nntp_facts.proofs.Session.OneMoreAnswer.{size_by_octets}
-use Rattle.nntp_facts.proofs.Streams.ExplainedOrBad.{bad_once, explained_not_bad_among, explained_or_bad_among, IsDecided}
-use Rattle.nntp_facts.proofs.Streams.OneOutcome.{same_answers}
-use Rattle.nntp_facts.specs.Answered.{Answered, PermitsEach, facts_in, facts_of_all}
-use Rattle.nntp_several.specs.Sessions.{Recorded, ExplainsIt, ExplainsEach, ExplainsAll, BadBehind, BadOfAll, octets_of, answered_by}
-use Rattle.nntp_facts.proofs.Given.SessionsByFacts.{some_or_none_of_all}
+use Rattle.nntp_wire.specs.{Answer.{Response}, Session.{prompts_of}, declared.marks.Marks.{Marks}}
+use Rattle.nntp_article.specs.{Session.{Spool.{Spool, IsSpool}, Machine.{Run, start}, Explains.{Explains}}, declared.session.profile.Profile.{Profile}}
+use Rattle.nntp_facts.{specs.{Inner.Given.{size}, Answered.{Answered, PermitsEach, facts_in, facts_of_all}}, proofs.Members.{all_both, all_front, all_back}}
+use Rattle.nntp_facts.proofs.Given.{FirstBadAnswer.{size-append, none_permitted}, SessionsByFacts.{some_or_none_of_all}}
+use Rattle.nntp_facts.proofs.{Session.OneMoreAnswer.{size_by_octets}, Streams.ExplainedOrBad.{bad_once, explained_not_bad_among, explained_or_bad_among}}
+use Rattle.nntp_facts.proofs.Streams.{ExplainedOrBad.{IsDecided}, OneOutcome.{same_answers}}
+use Rattle.nntp_several.specs.{Sessions.{Recorded, ExplainsIt, ExplainsEach, ExplainsAll, BadBehind, BadOfAll, answered_by}, Inner.Sessions.{octets_of}}
 
 -- ---- explained sessions and their answers
 

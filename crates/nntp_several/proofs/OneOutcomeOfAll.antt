@@ -1,23 +1,18 @@
 -- Several sessions have one outcome, and it is a yes exactly if some spool explains them all.
-use Rattle.std.proofs.Common.{◌≡◌, ◌↔◌, ℕ, zero, suc, ◌<◌, ◌^◌, IsTrue, List, [], ◌∷◌, Option, None, Some, slice_get, take, inl, inr, refl, sym, ap, subst, ◌∙◌, append-nil, arith}
-use Rattle.std.specs.Prelude.{MatchOption}
-use Rattle.std.proofs.lemmas.Bool.{true≢false}
-use Rattle.nntp_article.specs.Session.Spool.{Spool}
-use Rattle.nntp_article.specs.declared.session.profile.Profile.{Profile}
-use Rattle.nntp_article.specs.Session.Explains.{Explains, Bad}
+use Rattle.std.proofs.Common.{◌≡◌, ◌↔◌, ℕ, zero, suc, ◌<◌, ◌^◌, IsTrue, List, [], ◌∷◌, Option, None, Some, slice_get, take, inl, inr, refl, sym, ap, subst, ◌∙◌}
+use Rattle.std.{proofs.{Common.{append-nil, arith}, lemmas.Bool.{true≢false}}, specs.Prelude.{MatchOption}}
+use Rattle.nntp_article.specs.{Session.{Spool.{Spool}, Explains.{Explains, Bad}}, declared.session.profile.Profile.{Profile}}
 use Rattle.nntp_wire.specs.Session.{prompts_of}
 use Rattle.nntp_said.specs.Facts.{Fact}
-use Rattle.nntp_facts.specs.Given.{IsGiven, HasAtLeast, facts_of_session, size}
-use Rattle.nntp_pair.specs.declared.class.Class.{Class}
-use Rattle.nntp_facts.specs.Classes.{HasClass}
-use Rattle.nntp_facts.specs.Outcome.{Outcome, Yes, No, IsLeastExplanation, IsOutcome}
-use Rattle.nntp_facts.proofs.Given.OneGivenSpool.{given_once}
-use Rattle.nntp_facts.proofs.Streams.OneClass.{before_bad, class_there, one_class}
-use Rattle.nntp_facts.specs.Answered.{PermitsEach, facts_of_all}
-use Rattle.nntp_several.specs.Sessions.{Recorded, ExplainsEach, ExplainsAll, BadOfAll, octets_of, answered_by, counts_of}
-use Rattle.nntp_several.specs.Outcome.{OutcomeOfAll, YesOfAll, NoOfAll, is_yes_of_all, IsLeastOfAll, HasClassThere, IsOutcomeOfAll, of_one}
+use Rattle.nntp_facts.specs.{Given.{IsGiven, HasAtLeast, facts_of_session}, Inner.Given.{size}, Classes.{HasClass}, Outcome.{Outcome, Yes, No}}
+use Rattle.nntp_facts.{specs.{Outcome.{IsLeastExplanation, IsOutcome}, Answered.{PermitsEach, facts_of_all}}, proofs.Given.OneGivenSpool.{given_once}}
 use Rattle.nntp_facts.proofs.Given.SessionsByFacts.{stand_each, made_for_all, given_exists_of_all, given_permits_all, least_of_all}
-use Rattle.nntp_several.proofs.ExplainedSessions.{same_each, runs_each, explains_each, size_by_all_octets, bad_there, explained_or_bad_of_all, explained_not_bad_of_all, bad_once_of_all}
+use Rattle.nntp_facts.proofs.Streams.OneClass.{before_bad, class_there, one_class}
+use Rattle.nntp_pair.specs.declared.class.Class.{Class}
+use Rattle.nntp_several.specs.{Sessions.{Recorded, ExplainsEach, ExplainsAll, BadOfAll, answered_by, counts_of}, Inner.Sessions.{octets_of}}
+use Rattle.nntp_several.specs.{Inner.Outcome.{is_yes_of_all, of_one}, Outcome.{OutcomeOfAll, YesOfAll, NoOfAll, IsLeastOfAll, HasClassThere, IsOutcomeOfAll}}
+use Rattle.nntp_several.proofs.ExplainedSessions.{same_each, runs_each, explains_each, size_by_all_octets, bad_there, explained_or_bad_of_all}
+use Rattle.nntp_several.proofs.ExplainedSessions.{explained_not_bad_of_all, bad_once_of_all}
 
 -- ---- yes
 

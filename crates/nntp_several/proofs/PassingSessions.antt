@@ -1,30 +1,19 @@
 -- Judging sessions one exchange after the other: how it begins, passes an exchange, goes on to the next session, and ends.
-use Rattle.std.proofs.Common.{◌≡◌, ℕ, ◌+◌, ◌<◌, ◌^◌, List, [], ◌∷◌, ◌++◌, length, map, refl, sym, ap, subst, ◌∙◌, arith}
-use Rattle.std.proofs.lemmas.List.{map-append}
-use Rattle.nntp_article.specs.Session.Spool.{Spool}
-use Rattle.nntp_article.specs.declared.session.profile.Profile.{Profile}
-use Rattle.nntp_article.specs.Session.Machine.{Run, start}
-use Rattle.nntp_pair.specs.declared.class.PairClass.{PairClass}
-use Rattle.nntp_pair.specs.Pairing.{Paired, Unpaired, IsNext, Ends, end, bad, streams}
-use Rattle.nntp_pair.proofs.PairingLemmas.{AreNext-push}
-use Rattle.nntp_pair.specs.declared.class.Class.TheVariants.{OutOfPlace as IsOutOfPlace, Contradiction as Contradicts}
-use Rattle.nntp_facts.specs.declared.noted.Noted.TheVariants.{Consistent, OutOfPlace, Contradiction}
-use Rattle.nntp_pair.specs.Classes.{class_of}
-use Rattle.nntp_facts.specs.Given.{IsGiven, size}
-use Rattle.nntp_facts.proofs.Members.{all_front}
-use Rattle.nntp_facts.specs.Answered.{Answered, SomePermitsEach, facts_of_all}
-use Rattle.nntp_facts.specs.Noted.{FactsKept, exchanged, said_behind, HasNotedBehind, IsNotedBehind, begun}
-use Rattle.nntp_several.specs.Outcome.{YesOfAll, NoOfAll, IsOutcomeOfAll}
-use Rattle.nntp_several.specs.Paired.{IsPairedWhole, ArePaired}
-use Rattle.nntp_several.specs.Passing.{PassedOfAll}
-use Rattle.nntp_several.specs.Sessions.{Recorded}
-use Rattle.nntp_facts.proofs.Reading.NotedAsJudged.{unfit_refused, contradiction_refused}
+use Rattle.std.proofs.{Common.{◌≡◌, ℕ, ◌+◌, ◌<◌, ◌^◌, List, [], ◌∷◌, ◌++◌, length, map, refl, sym, ap, subst, ◌∙◌, arith}, lemmas.List.{map-append}}
+use Rattle.nntp_article.specs.{Session.{Spool.{Spool}, Machine.{Run, start}}, declared.session.profile.Profile.{Profile}}
+use Rattle.nntp_pair.specs.declared.class.{PairClass.{PairClass}, Class.TheVariants.{OutOfPlace as IsOutOfPlace, Contradiction as Contradicts}}
+use Rattle.nntp_pair.{specs.{Pairing.{Paired, Unpaired, IsNext, Ends, end, bad, streams}, Classes.{class_of}}, proofs.PairingLemmas.{AreNext-push}}
+use Rattle.nntp_facts.specs.{declared.noted.Noted.TheVariants.{Consistent, OutOfPlace, Contradiction}, Given.{IsGiven}, Inner.{Given.{size}, Noted.{FactsKept}}}
+use Rattle.nntp_facts.specs.{Inner.Noted.{said_behind, HasNotedBehind, IsNotedBehind, begun}, Answered.{Answered, SomePermitsEach, facts_of_all}}
+use Rattle.nntp_facts.{specs.Noted.{exchanged}, proofs.{Members.{all_front}, Reading.NotedAsJudged.{unfit_refused, contradiction_refused}}}
 use Rattle.nntp_facts.proofs.Keeping.NotedSessions.{facts_behind, small_behind, session_begins}
-use Rattle.nntp_several.proofs.SessionsRead.{earlier_then}
-use Rattle.nntp_several.proofs.WaysToOutcome.{outcome_at_all_ends, outcome_at_octets_of_all, outcome_at_response_of_all}
+use Rattle.nntp_several.specs.{Outcome.{YesOfAll, NoOfAll, IsOutcomeOfAll}, Inner.{Paired.{IsPairedWhole, ArePaired}, Passing.{PassedOfAll}}}
+use Rattle.nntp_several.{specs.Sessions.{Recorded}, proofs.{SessionsRead.{earlier_then}, WaysToOutcome.{outcome_at_all_ends, outcome_at_octets_of_all}}}
+use Rattle.nntp_several.proofs.WaysToOutcome.{outcome_at_response_of_all}
 
 -- one session more is paired whole
-pub paired_push : (before : List Recorded) (earlier : List (List Paired)) (s : Recorded) (pairs : List Paired) → ArePaired before earlier → IsPairedWhole s pairs → ArePaired (before ++ s ∷ []) (earlier ++ pairs ∷ [])
+pub paired_push : (before : List Recorded) (earlier : List (List Paired)) (s : Recorded) (pairs : List Paired) → ArePaired before earlier → IsPairedWhole s pairs
+    → ArePaired (before ++ s ∷ []) (earlier ++ pairs ∷ [])
 paired_push [] [] s pairs p w = (w, tt)
 paired_push [] (x ∷ earlier) s pairs p w = absurd p
 paired_push (r ∷ before) [] s pairs p w = absurd p
@@ -38,7 +27,8 @@ as_many_sessions (r ∷ before) [] p = absurd p
 as_many_sessions (r ∷ before) (x ∷ earlier) p = let rest = as_many_sessions before earlier p.1 in omega (arith, rest)
 
 -- some spool permits the exchanges of earlier sessions
-pub earlier_permitted : (profile : Profile) (facts : FactsKept) (earlier : List (List Paired)) (past : List Paired) → HasNotedBehind profile facts earlier past → SomePermitsEach profile (map exchanged earlier)
+pub earlier_permitted : (profile : Profile) (facts : FactsKept) (earlier : List (List Paired)) (past : List Paired) → HasNotedBehind profile facts earlier past
+    → SomePermitsEach profile (map exchanged earlier)
 earlier_permitted profile facts earlier past h =
     let p = h.permitted in
     (p.0, p.1, all_front (λ (s : Answered). Run profile p.0 start s.prompts s.answers) (map exchanged earlier) (exchanged past ∷ []) p.2)
@@ -73,35 +63,41 @@ pub passing_ends : (profile : Profile) (before : List Recorded) (s : Recorded) (
 passing_ends profile before s facts left unanswered G p ends given =
     let exchanges = p.earlier ++ p.pairs ∷ [] in
     let both = map-append exchanged p.earlier (p.pairs ∷ []) in
-    let small = subst (λ sessions. size (facts_of_all profile.marks sessions) < 2 ^ 210) (sym both) (small_behind profile.marks p.earlier p.pairs p.stands.sessions p.stands.earlier_few (record { lines = p.stands.lines; few = p.stands.few })) in
+    let small = subst (λ sessions. size (facts_of_all profile.marks sessions) < 2 ^ 210) (sym both)
+    (small_behind profile.marks p.earlier p.pairs p.stands.sessions p.stands.earlier_few (record { lines = p.stands.lines; few = p.stands.few })) in
     let facts_are = ap (facts_of_all profile.marks) both ∙ facts_behind profile.marks (map exchanged p.earlier) (exchanged p.pairs) in
     outcome_at_all_ends profile (before ++ s ∷ []) exchanges G small
     (paired_push before p.earlier s p.pairs p.ended (unanswered, record { left = left; paired = p.next; ends = ends }))
     (earlier_then profile p.earlier p.pairs p.stands.permitted) (subst (λ facts. IsGiven facts G) (sym facts_are) given)
 
 -- at octets that answer nothing
-pub passing_stops : (profile : Profile) (before : List Recorded) (s : Recorded) (more : List Recorded) (facts : FactsKept) (left : Unpaired) (class : PairClass) (p : PassedOfAll profile before s facts left)
+pub passing_stops : (profile : Profile) (before : List Recorded) (s : Recorded) (more : List Recorded) (facts : FactsKept) (left : Unpaired) (class : PairClass)
+    (p : PassedOfAll profile before s facts left)
     → Ends left (bad class) → IsOutcomeOfAll profile (before ++ s ∷ more) (NoOfAll (length before) (length p.pairs) (class_of class))
 passing_stops profile before s more facts left class p ends =
     outcome_at_octets_of_all profile before p.earlier p.ended s more (earlier_permitted profile facts p.earlier p.pairs p.stands) p.pairs class
     (record { left = left; paired = p.next; ends = ends }) p.stands.permitted
 
 -- at a contradiction
-pub passing_contradicted : (profile : Profile) (before : List Recorded) (s : Recorded) (more : List Recorded) (old now : FactsKept) (left after : Unpaired) (pair : Paired) (p : PassedOfAll profile before s old left)
+pub passing_contradicted : (profile : Profile) (before : List Recorded) (s : Recorded) (more : List Recorded) (old now : FactsKept) (left after : Unpaired) (pair : Paired)
+    (p : PassedOfAll profile before s old left)
     → IsNext left pair after → IsNotedBehind profile p.earlier p.pairs pair old now Contradiction
     → IsOutcomeOfAll profile (before ++ s ∷ more) (NoOfAll (length before) (length p.pairs) Contradicts)
 passing_contradicted profile before s more old now left after pair p next noted =
     let r = contradiction_refused profile p.earlier p.pairs pair old now left after p.stands noted next in
-    let is = outcome_at_response_of_all profile before p.earlier p.ended s more (earlier_permitted profile old p.earlier p.pairs p.stands) p.pairs pair left after p.next next p.stands.permitted r.0.1 in
+    let is = outcome_at_response_of_all profile before p.earlier p.ended s more (earlier_permitted profile old p.earlier p.pairs p.stands) p.pairs pair left after p.next next p.stands.permitted
+    r.0.1 in
     let class : _ ≡ Contradicts = (let e = r.1 in cc) in
     subst (λ class. IsOutcomeOfAll profile (before ++ s ∷ more) (NoOfAll (length before) (length p.pairs) class)) class is
 
 -- and at an answer that is out of place
-pub passing_unfitting : (profile : Profile) (before : List Recorded) (s : Recorded) (more : List Recorded) (old now : FactsKept) (left after : Unpaired) (pair : Paired) (p : PassedOfAll profile before s old left)
+pub passing_unfitting : (profile : Profile) (before : List Recorded) (s : Recorded) (more : List Recorded) (old now : FactsKept) (left after : Unpaired) (pair : Paired)
+    (p : PassedOfAll profile before s old left)
     → IsNext left pair after → IsNotedBehind profile p.earlier p.pairs pair old now OutOfPlace
     → IsOutcomeOfAll profile (before ++ s ∷ more) (NoOfAll (length before) (length p.pairs) IsOutOfPlace)
 passing_unfitting profile before s more old now left after pair p next noted =
     let r = unfit_refused profile p.earlier p.pairs pair old now left after p.stands noted next in
-    let is = outcome_at_response_of_all profile before p.earlier p.ended s more (earlier_permitted profile old p.earlier p.pairs p.stands) p.pairs pair left after p.next next p.stands.permitted r.0.1 in
+    let is = outcome_at_response_of_all profile before p.earlier p.ended s more (earlier_permitted profile old p.earlier p.pairs p.stands) p.pairs pair left after p.next next p.stands.permitted
+    r.0.1 in
     let class : _ ≡ IsOutOfPlace = (let e = r.1 in cc) in
     subst (λ class. IsOutcomeOfAll profile (before ++ s ∷ more) (NoOfAll (length before) (length p.pairs) class)) class is

@@ -1,41 +1,22 @@
 -- Several sessions have one reading; its first bad answer is that of the outcome; and all is accepted exactly if some spool explains them.
-use Rattle.std.proofs.Common.{◌≡◌, ◌⊎◌, ◌↔◌, ℕ, ◌+◌, ◌<◌, ◌≤◌, ◌^◌, List, [], ◌∷◌, ◌++◌, length, map, Some, inl, inr, refl, sym, ap, subst, ◌∙◌, arith, append_assoc, append-nil, length-append}
-use Rattle.std.proofs.lemmas.List.{map-append}
-use Rattle.std.specs.Prelude.{MatchOption}
-use Rattle.std.specs.List.{AllByRecursion}
-use Rattle.nntp_wire.specs.Session.{prompts_of}
-use Rattle.nntp_wire.specs.declared.marks.Marks.{Marks}
-use Rattle.nntp_article.specs.Session.Spool.{Spool, IsSpool}
-use Rattle.nntp_article.specs.declared.session.profile.Profile.{Profile}
-use Rattle.nntp_article.specs.Session.Machine.{Run, start, fits}
-use Rattle.nntp_pair.specs.declared.class.PairClass.{PairClass}
-use Rattle.nntp_pair.specs.declared.class.PairClass.TheVariants.{Malformed as PairMalformed}
-use Rattle.nntp_pair.specs.Pairing.{Paired, Unpaired, IsNext, AreNext, Ending, end, bad, IsPairing, asked_at, asked_of, responses_of, streams}
+use Rattle.std.proofs.Common.{◌≡◌, ◌⊎◌, ◌↔◌, ℕ, ◌+◌, ◌<◌, ◌≤◌, ◌^◌, List, [], ◌∷◌, ◌++◌, length, map, Some, inl, inr, refl, sym, ap, subst, ◌∙◌, arith}
+use Rattle.std.{proofs.{Common.{append_assoc, append-nil, length-append}, lemmas.List.{map-append}}, specs.{Prelude.{MatchOption}, List.{AllByRecursion}}}
+use Rattle.nntp_wire.specs.{Session.{prompts_of}, declared.marks.Marks.{Marks}}
+use Rattle.nntp_article.specs.{Session.{Spool.{Spool, IsSpool}, Machine.{Run, start, fits}}, declared.session.profile.Profile.{Profile}}
+use Rattle.nntp_pair.specs.{declared.class.{PairClass.{PairClass, TheVariants.{Malformed as PairMalformed}}, Class.{Class}}, Pairing.{Paired, Unpaired, IsNext}}
+use Rattle.nntp_pair.specs.{Pairing.{AreNext, Ending, end, bad, IsPairing, asked_at, asked_of, responses_of, streams}, Classes.{class_of}}
 use Rattle.nntp_pair.proofs.PassedLemmas.{passed-ends}
-use Rattle.nntp_pair.specs.declared.class.Class.{Class}
-use Rattle.nntp_facts.specs.Classes.{visible_from, HasClass, class_by}
-use Rattle.nntp_pair.specs.Classes.{class_of}
-use Rattle.nntp_facts.specs.Given.{size, weight}
-use Rattle.nntp_facts.specs.Reading.{Judged, Accepted, Refused, Unspelled, accepted_of, IsReadingBy, IsReading, class_behind}
-use Rattle.nntp_facts.proofs.Members.{all_both, all_front, all_back}
-use Rattle.nntp_facts.proofs.Given.FirstBadAnswer.{size-append, none_permitted}
-use Rattle.nntp_facts.proofs.Ids.SizeOfASession.{session_size}
-use Rattle.nntp_facts.proofs.Session.OneMoreAnswer.{pairs_run}
-use Rattle.nntp_facts.proofs.Streams.ExplainedPairs.{by_all_pairs}
-use Rattle.nntp_facts.proofs.Streams.OneOutcome.{bad_response}
-use Rattle.nntp_facts.proofs.Streams.PairedStreams.{explained_end, bad_end}
-use Rattle.nntp_facts.proofs.Reading.FirstBadOfAReading.{accepted_all, accepted_or_bad}
-use Rattle.nntp_facts.proofs.Reading.JudgedAnswers.{accepted_light, accepted_first, all_paired}
-use Rattle.nntp_facts.proofs.Reading.OneReading.{one_reading, some_reading_by}
-use Rattle.nntp_facts.specs.Answered.{PermitsEach, SomePermitsEach, facts_of_all}
-use Rattle.nntp_facts.specs.Noted.{exchanged, said_behind, ArePermittedBehind}
-use Rattle.nntp_several.specs.Outcome.{NoOfAll, IsOutcomeOfAll}
-use Rattle.nntp_several.specs.Reading.{ReadSession, AreReadings, IsReadingOfAll, IsGood, IsFirstBad}
-use Rattle.nntp_several.specs.Sessions.{Recorded, ExplainsIt, ExplainsEach, ExplainsAll, BadBehind, octets_of}
+use Rattle.nntp_facts.specs.{Classes.{visible_from, HasClass, class_by}, Inner.{Given.{size, weight}, Noted.{said_behind}}, Reading.{Judged, Accepted, Refused}}
+use Rattle.nntp_facts.specs.{Reading.{Unspelled, accepted_of, IsReadingBy, IsReading, class_behind}, Answered.{PermitsEach, SomePermitsEach, facts_of_all}}
+use Rattle.nntp_facts.{specs.Noted.{exchanged, ArePermittedBehind}, proofs.{Members.{all_both, all_front, all_back}, Given.FirstBadAnswer.{size-append}}}
+use Rattle.nntp_facts.proofs.{Given.{FirstBadAnswer.{none_permitted}, SessionsByFacts.{some_or_none_of_all}}, Ids.SizeOfASession.{session_size}}
+use Rattle.nntp_facts.proofs.{Session.OneMoreAnswer.{pairs_run}, Streams.{ExplainedPairs.{by_all_pairs}, OneOutcome.{bad_response}}}
+use Rattle.nntp_facts.proofs.{Streams.PairedStreams.{explained_end, bad_end}, Reading.FirstBadOfAReading.{accepted_all, accepted_or_bad}}
+use Rattle.nntp_facts.proofs.Reading.{JudgedAnswers.{accepted_light, accepted_first, all_paired}, OneReading.{one_reading, some_reading_by}}
+use Rattle.nntp_facts.proofs.Keeping.{NotedExchange.{Runs}, NotedSessions.{facts_behind}}
+use Rattle.nntp_several.specs.{Outcome.{NoOfAll, IsOutcomeOfAll}, Reading.{ReadSession, AreReadings, IsReadingOfAll}, Inner.Reading.{IsGood, IsFirstBad}}
+use Rattle.nntp_several.specs.{Inner.Sessions.{octets_of}, Sessions.{Recorded, ExplainsIt, ExplainsEach, ExplainsAll, BadBehind}}
 use Rattle.nntp_several.proofs.ExplainedSessions.{there, bad_at, explained_not_bad_of_all}
-use Rattle.nntp_facts.proofs.Keeping.NotedExchange.{Runs}
-use Rattle.nntp_facts.proofs.Keeping.NotedSessions.{facts_behind}
-use Rattle.nntp_facts.proofs.Given.SessionsByFacts.{some_or_none_of_all}
 
 -- ---- one reading
 

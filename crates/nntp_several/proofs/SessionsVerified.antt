@@ -1,19 +1,12 @@
 -- What `verify` answers of several sessions is one; and of a spool that explains them all it is that it permits them.
-use Rattle.std.proofs.Common.{◌≡◌, ℕ, ◌+◌, ◌<◌, ◌≤◌, List, [], ◌∷◌, ◌++◌, length, take, get_or, Option, None, Some, slice_get, inl, inr, refl, sym, ap, ap₂, subst, ◌∙◌, arith}
+use Rattle.std.proofs.Common.{◌≡◌, ℕ, ◌+◌, ◌<◌, ◌≤◌, List, [], ◌∷◌, ◌++◌, length, take, get_or, Option, None, Some, slice_get, inl, inr, refl, sym, ap, ap₂}
+use Rattle.std.proofs.{Common.{subst, ◌∙◌, arith}, lemmas.{Bool.{cases_order}, List.{take_more, take_all, length-take-le}, Option.{slice_get-get_or}}}
 use Rattle.std.specs.Prelude.{MatchOption}
-use Rattle.std.proofs.lemmas.Bool.{cases_order}
-use Rattle.std.proofs.lemmas.List.{take_more, take_all, length-take-le}
-use Rattle.std.proofs.lemmas.Option.{slice_get-get_or}
-use Rattle.nntp_article.specs.Session.Spool.{Spool}
-use Rattle.nntp_article.specs.declared.session.profile.Profile.{Profile}
-use Rattle.nntp_article.specs.Session.Explains.{Explains}
-use Rattle.nntp_facts.proofs.Streams.ExplainedOrBad.{first_explained}
-use Rattle.nntp_facts.proofs.Streams.OneOutcome.{same_answers}
-use Rattle.nntp_spool.specs.Sessions.{RefusesAt}
-use Rattle.nntp_spool.proofs.PermittedPairs.{explained-unrefused}
-use Rattle.nntp_several.specs.Verifying.{VerifiedOfAll, PermitsAll, RefusesOne, IsVerifiedOfAll}
-use Rattle.nntp_several.specs.Sessions.{Recorded, ExplainsIt, ExplainsEach, OfEach, answered_by, counts_of}
-use Rattle.nntp_several.proofs.ExplainedSessions.{each_to, taken_to}
+use Rattle.nntp_article.specs.{Session.{Spool.{Spool}, Explains.{Explains}}, declared.session.profile.Profile.{Profile}}
+use Rattle.nntp_facts.proofs.Streams.{ExplainedOrBad.{first_explained}, OneOutcome.{same_answers}}
+use Rattle.nntp_spool.{specs.Sessions.{RefusesAt}, proofs.PermittedPairs.{explained-unrefused}}
+use Rattle.nntp_several.specs.{Verifying.{VerifiedOfAll, PermitsAll, RefusesOne, IsVerifiedOfAll}, Sessions.{Recorded, ExplainsIt, ExplainsEach, OfEach}}
+use Rattle.nntp_several.{specs.Sessions.{answered_by, counts_of}, proofs.ExplainedSessions.{each_to, taken_to}}
 
 -- an answer of a session is refused
 abbrev Refused : Profile → Spool → List Recorded → ℕ → ℕ → Type 0
@@ -29,7 +22,8 @@ record RefusedThere (profile : Profile) (S : Spool) (sessions : List Recorded) (
 refused_there : (profile : Profile) (S : Spool) (sessions : List Recorded) (j k : ℕ) → Refused profile S sessions j k → RefusedThere profile S sessions j k
 refused_there profile S sessions j k h = by (slice_get sessions j) refl h
   where
-    by : (o : Option Recorded) → slice_get sessions j ≡ o → MatchOption o ⊥ (λ s. ExplainsEach profile S (take j sessions) × RefusesAt profile S s.client s.server k) → RefusedThere profile S sessions j k
+    by : (o : Option Recorded) → slice_get sessions j ≡ o → MatchOption o ⊥ (λ s. ExplainsEach profile S (take j sessions) × RefusesAt profile S s.client s.server k)
+        → RefusedThere profile S sessions j k
     by None e h = absurd h
     by (Some s) e h = record { session = s; place = e; before = h.0; refused = h.1 }
 

@@ -1,25 +1,15 @@
 -- How the pairings of sessions, and whether some spool permits their exchanges, lead to the outcome.
-use Rattle.std.proofs.Common.{◌≡◌, ◌<◌, ◌^◌, List, [], ◌∷◌, ◌++◌, length, map, refl, sym, ap, ap₂, subst, ◌∙◌}
-use Rattle.std.proofs.lemmas.List.{length-map}
+use Rattle.std.proofs.{Common.{◌≡◌, ◌<◌, ◌^◌, List, [], ◌∷◌, ◌++◌, length, map, refl, sym, ap, ap₂, subst, ◌∙◌}, lemmas.List.{length-map}}
 use Rattle.nntp_wire.specs.Session.{prompts_of}
-use Rattle.nntp_article.specs.Session.Spool.{Spool}
-use Rattle.nntp_article.specs.declared.session.profile.Profile.{Profile}
-use Rattle.nntp_article.specs.Session.Machine.{Run, start, fits}
-use Rattle.nntp_pair.specs.declared.class.PairClass.{PairClass}
-use Rattle.nntp_pair.specs.Pairing.{Paired, Unpaired, IsNext, AreNext, end, bad, IsPairing, asked_at, asked_of, responses_of, streams}
-use Rattle.nntp_facts.specs.Classes.{visible_from, class_by}
-use Rattle.nntp_pair.specs.Classes.{class_of}
-use Rattle.nntp_facts.specs.Given.{IsGiven, facts_of_session, size}
-use Rattle.nntp_facts.proofs.Session.OneMoreAnswer.{facts_by_pairs, pairs_run}
-use Rattle.nntp_facts.proofs.Streams.ExplainedPairs.{by_all_pairs}
-use Rattle.nntp_facts.proofs.Streams.PairedStreams.{explained_end}
-use Rattle.nntp_facts.specs.Answered.{SomePermitsEach, facts_of_all}
-use Rattle.nntp_facts.specs.Noted.{exchanged, ArePermittedBehind}
-use Rattle.nntp_several.specs.Outcome.{YesOfAll, NoOfAll, IsLeastOfAll, IsOutcomeOfAll}
-use Rattle.nntp_several.specs.Paired.{ArePaired}
-use Rattle.nntp_several.specs.Sessions.{Recorded, ExplainsEach, answered_by, counts_of}
-use Rattle.nntp_several.proofs.OneOutcomeOfAll.{given_explains_all}
-use Rattle.nntp_several.proofs.SessionsRead.{Follows, octets_here, pair_here, outcome_at}
+use Rattle.nntp_article.specs.{Session.{Spool.{Spool}, Machine.{Run, start, fits}}, declared.session.profile.Profile.{Profile}}
+use Rattle.nntp_pair.specs.{declared.class.PairClass.{PairClass}, Pairing.{Paired, Unpaired, IsNext, AreNext, end, bad, IsPairing, asked_at, asked_of}}
+use Rattle.nntp_pair.specs.{Pairing.{responses_of, streams}, Classes.{class_of}}
+use Rattle.nntp_facts.specs.{Classes.{visible_from, class_by}, Given.{IsGiven, facts_of_session}, Inner.Given.{size}, Answered.{SomePermitsEach, facts_of_all}}
+use Rattle.nntp_facts.{specs.Noted.{exchanged, ArePermittedBehind}, proofs.Session.OneMoreAnswer.{facts_by_pairs, pairs_run}}
+use Rattle.nntp_facts.proofs.Streams.{ExplainedPairs.{by_all_pairs}, PairedStreams.{explained_end}}
+use Rattle.nntp_several.specs.{Outcome.{YesOfAll, NoOfAll, IsLeastOfAll, IsOutcomeOfAll}, Inner.Paired.{ArePaired}, Sessions.{Recorded, ExplainsEach}}
+use Rattle.nntp_several.{specs.Sessions.{answered_by, counts_of}, proofs.{OneOutcomeOfAll.{given_explains_all}, SessionsRead.{Follows, octets_here, pair_here}}}
+use Rattle.nntp_several.proofs.SessionsRead.{outcome_at}
 
 -- to permit the exchanges of sessions is to explain these
 pub follows : (profile : Profile) (sessions : List Recorded) (exchanges : List (List Paired)) → ArePaired sessions exchanges → Follows profile exchanges sessions
@@ -71,7 +61,8 @@ outcome_at_all_ends profile sessions exchanges G small p (S, spool, h) given =
 -- below, sessions are paired to their ends, and their exchanges permitted; then comes a session
 module _ (profile : Profile) (before : List Recorded) (earlier : List (List Paired)) (paired : ArePaired before earlier) (s : Recorded) (more : List Recorded) where
   -- at octets that answer nothing
-  pub outcome_at_octets_of_all : (h : SomePermitsEach profile (map exchanged earlier)) (pairs : List Paired) (class : PairClass) → IsPairing s.client s.server pairs (bad class) → ArePermittedBehind profile earlier pairs
+  pub outcome_at_octets_of_all : (h : SomePermitsEach profile (map exchanged earlier)) (pairs : List Paired) (class : PairClass) → IsPairing s.client s.server pairs (bad class)
+      → ArePermittedBehind profile earlier pairs
       → IsOutcomeOfAll profile (before ++ s ∷ more) (NoOfAll (length before) (length pairs) (class_of class))
   outcome_at_octets_of_all h pairs class pairing permitted =
       let is = octets_here profile earlier before (follows profile before earlier paired) h s pairs class pairing permitted in

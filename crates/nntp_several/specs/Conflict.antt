@@ -1,6 +1,5 @@
 -- With which answers of several sessions a bad one conflicts.
-use Rattle.std.specs.Prelude.{List, ◌++◌}
-use Rattle.std.specs.List.{flat_map}
+use Rattle.std.specs.{Prelude.{List, ◌++◌}, List.{flat_map}}
 use Rattle.nntp_pair.specs.Pairing.{Paired}
 use Rattle.nntp_facts.specs.Conflict.{Placed, placed_of}
 

@@ -1,9 +1,7 @@
 pub mod Sessions
 pub mod Verifying
-pub mod VerifyingView
 pub mod Outcome
 pub mod Reading
-pub mod Paired
 pub mod Conflict
-pub mod Passing
 pub mod Told
+pub mod Inner

@@ -1,12 +1,8 @@
 -- What yes and no say of several sessions.
-use Rattle.std.specs.Prelude.{◌≡◌, ℕ, Bool, true, false, List, [], ◌∷◌, slice_get, MatchOption}
-use Rattle.nntp_article.specs.declared.session.profile.Profile.{Profile}
-use Rattle.nntp_article.specs.Session.Spool.{Spool}
-use Rattle.nntp_facts.specs.Given.{IsGiven, HasAtLeast}
+use Rattle.std.specs.Prelude.{◌≡◌, ℕ, List, slice_get, MatchOption}
+use Rattle.nntp_article.specs.{declared.session.profile.Profile.{Profile}, Session.Spool.{Spool}}
+use Rattle.nntp_facts.specs.{Given.{IsGiven, HasAtLeast}, Classes.{HasClass}, Answered.{facts_of_all}}
 use Rattle.nntp_pair.specs.declared.class.Class.{Class}
-use Rattle.nntp_facts.specs.Classes.{HasClass}
-use Rattle.nntp_facts.specs.Outcome.{Outcome, Yes, No}
-use Rattle.nntp_facts.specs.Answered.{facts_of_all}
 use Rattle.nntp_several.specs.Sessions.{Recorded, ExplainsAll, BadOfAll, answered_by, counts_of}
 
 -- yes with this spool, and so many answers of each session; or no at this answer of this session, of this class
@@ -14,12 +10,8 @@ pub data OutcomeOfAll : Type 0 where
   YesOfAll : (spool : Spool) → (answers : List ℕ) → OutcomeOfAll
   NoOfAll : (session : ℕ) → (answer : ℕ) → (class : Class) → OutcomeOfAll
 
--- the outcome is a yes
-abbrev pub is_yes_of_all : OutcomeOfAll → Bool
-is_yes_of_all (YesOfAll spool answers) = true
-is_yes_of_all (NoOfAll session answer class) = false
-
--- the spool explains all sessions, with so many answers of each; it is the one that is given for what all of them say; and no spool that explains them lacks what they show, or has fewer numbers in a group
+-- the spool explains all sessions, with so many answers of each; it is the one that is given for what all of them say; and no spool that explains them lacks what they show, or has fewer numbers in a
+-- group
 pub record IsLeastOfAll (profile : Profile) (sessions : List Recorded) (S : Spool) (answers : List ℕ) : Type 0 where
   pub explains : ExplainsAll profile S sessions
   pub count : answers ≡ counts_of (answered_by profile S sessions explains.1)
@@ -34,8 +26,3 @@ HasClassThere profile sessions j k class = MatchOption (slice_get sessions j) �
 abbrev pub IsOutcomeOfAll : Profile → List Recorded → OutcomeOfAll → Type 0
 IsOutcomeOfAll profile sessions (YesOfAll S answers) = IsLeastOfAll profile sessions S answers
 IsOutcomeOfAll profile sessions (NoOfAll j k class) = BadOfAll profile sessions j k × HasClassThere profile sessions j k class
-
--- what is said of two streams, as what is said of the one session that they are
-abbrev pub of_one : Outcome → OutcomeOfAll
-of_one (Yes S n) = YesOfAll S (n ∷ [])
-of_one (No k class) = NoOfAll 0 k class

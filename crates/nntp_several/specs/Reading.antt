@@ -1,12 +1,8 @@
 -- Several sessions read to their ends: an answer that is bad is passed over, and the next one is judged behind those that were accepted, of earlier sessions and of its own.
-use Rattle.std.specs.Prelude.{◌≡◌, ◌⊎◌, List, [], ◌∷◌, ◌++◌, ℕ, length, map, Some, ⊤}
+use Rattle.std.specs.Prelude.{List, [], ◌∷◌, ◌++◌, ⊤}
 use Rattle.nntp_article.specs.declared.session.profile.Profile.{Profile}
-use Rattle.nntp_pair.specs.declared.class.PairClass.{PairClass}
-use Rattle.nntp_pair.specs.Pairing.{Paired, Ending, end, bad}
-use Rattle.nntp_pair.specs.declared.class.Class.{Class}
-use Rattle.nntp_pair.specs.Classes.{class_of}
-use Rattle.nntp_facts.specs.Reading.{Judged, Accepted, accepted_of, IsReadingBy, class_behind}
-use Rattle.nntp_facts.specs.Noted.{ArePermittedBehind}
+use Rattle.nntp_pair.specs.Pairing.{Paired, Ending}
+use Rattle.nntp_facts.specs.{Reading.{Judged, accepted_of, IsReadingBy}, Noted.{ArePermittedBehind}}
 use Rattle.nntp_several.specs.Sessions.{Recorded}
 
 -- a session as it is read
@@ -25,27 +21,3 @@ AreReadings profile earlier sessions readings = ⊥
 -- the reading of sessions
 abbrev pub IsReadingOfAll : Profile → List Recorded → List ReadSession → Type 0
 IsReadingOfAll profile sessions readings = AreReadings profile [] sessions readings
-
--- all answers of a session are accepted, and no octet is left
-abbrev pub IsGood : ReadSession → Type 0
-IsGood r = (r.answers ≡ map Accepted (accepted_of r.answers)) × (unanswered : ℕ) × (r.ending ≡ end unanswered)
-
--- the first bad answer of a session is an answer behind these, which are all accepted
-pub record IsBadAnswer (profile : Profile) (r : ReadSession) (pairs : List Paired) (class : Class) : Type 0 where
-  pub answer : Judged
-  pub more : List Judged
-  pub answers : r.answers ≡ map Accepted pairs ++ answer ∷ more
-  pub class_is : class_behind profile pairs answer ≡ Some class
-
--- or it is the octets at which the reading ends, behind these, which are all that there are
-pub record AreBadOctets (r : ReadSession) (pairs : List Paired) (class : Class) : Type 0 where
-  pub pair_class : PairClass
-  pub answers : r.answers ≡ map Accepted pairs
-  pub ending : r.ending ≡ bad pair_class
-  pub class_is : class ≡ class_of pair_class
-
--- the answer is the first bad one of a session, of this class
-pub record IsFirstBad (profile : Profile) (r : ReadSession) (answer : ℕ) (class : Class) : Type 0 where
-  pub pairs : List Paired
-  pub place : answer ≡ length pairs
-  pub is_bad : IsBadAnswer profile r pairs class ⊎ AreBadOctets r pairs class

@@ -1,10 +1,7 @@
 -- A spool explains what clients and servers sent in several sessions (RFC 3977, sections 3.1 and 3.5).
-use Rattle.std.specs.Prelude.{ℕ, ◌+◌, List, [], ◌∷◌, length, map, take, slice_get, MatchOption, ⊤}
-use Rattle.std.specs.List.{AllByRecursion}
+use Rattle.std.specs.{Prelude.{ℕ, List, [], ◌∷◌, length, map, take, slice_get, MatchOption, ⊤}, List.{AllByRecursion}}
 use Rattle.nntp_wire.specs.Session.{prompts_of}
-use Rattle.nntp_article.specs.Session.Spool.{Spool, IsSpool}
-use Rattle.nntp_article.specs.declared.session.profile.Profile.{Profile}
-use Rattle.nntp_article.specs.Session.Explains.{Explains, BadAmong}
+use Rattle.nntp_article.specs.{Session.{Spool.{Spool, IsSpool}, Explains.{Explains, BadAmong}}, declared.session.profile.Profile.{Profile}}
 use Rattle.nntp_facts.specs.Answered.{Answered}
 
 -- what client and server sent in a session
@@ -56,8 +53,3 @@ answered_by profile S (session ∷ more) explained =
 -- how many these are, of each session
 abbrev pub counts_of : List Answered → List ℕ
 counts_of sessions = map (λ session. length session.answers) sessions
-
--- the octets of all servers
-abbrev pub octets_of : List Recorded → ℕ
-octets_of [] = 0
-octets_of (session ∷ more) = length session.server + octets_of more

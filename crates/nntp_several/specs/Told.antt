@@ -1,10 +1,9 @@
 -- Which answer of several sessions is bad whatever follows (RFC 3977, section 3.5).
 use Rattle.std.specs.Prelude.{◌⊎◌, ℕ, ◌<◌, List, [], ◌∷◌, ◌++◌, length, Option, MatchOption}
-use Rattle.nntp_several.specs.Sessions.{Recorded}
+use Rattle.nntp_several.specs.{Sessions.{Recorded}, Outcome.{NoOfAll, IsOutcomeOfAll}}
 use Rattle.nntp_article.specs.declared.session.profile.Profile.{Profile}
 use Rattle.nntp_pair.specs.declared.class.Class.{Class}
 use Rattle.nntp_facts.specs.Classes.{IsSettled}
-use Rattle.nntp_several.specs.Outcome.{NoOfAll, IsOutcomeOfAll}
 
 -- the session with more octets
 abbrev pub with_more : Recorded → List ℕ → List ℕ → Recorded

@@ -1,8 +1,6 @@
 -- What `verify_sessions` answers.
 use Rattle.std.specs.Prelude.{ℕ, List, take, slice_get, MatchOption}
-use Rattle.nntp_article.specs.Session.Spool.{Spool}
-use Rattle.nntp_article.specs.Session.Explains.{Explains}
-use Rattle.nntp_article.specs.declared.session.profile.Profile.{Profile}
+use Rattle.nntp_article.specs.{Session.{Spool.{Spool}, Explains.{Explains}}, declared.session.profile.Profile.{Profile}}
 use Rattle.nntp_spool.specs.Sessions.{RefusesAt}
 use Rattle.nntp_several.specs.Sessions.{Recorded, ExplainsEach, OfEach}
 

@@ -2,7 +2,7 @@
 ghost use Rattle.std.specs.Prelude.{IfOk};
 ghost use Rattle.nntp_article.specs.Session.Limit.{profile_of};
 ghost use Rattle.nntp_several.specs.Verifying.{IsVerifiedOfAll};
-ghost use Rattle.nntp_several.specs.VerifyingView.{verified_shown};
+ghost use Rattle.nntp_several.specs.Inner.VerifyingView.{verified_shown};
 
 use crate::recorded::Recorded;
 use nntp_spool::{Spool, Verified, verify};

@@ -1,16 +1,10 @@
 -- An answer, as the facts that it says.
-use Rattle.std.proofs.Common.{◌≡◌, Bool, false, ◌↔◌, IsTrue, List, refl, subst, Result, Ok, Err, IfOk}
-use Rattle.std.specs.List.{AllByRecursion}
+use Rattle.std.{proofs.Common.{◌≡◌, Bool, false, ◌↔◌, IsTrue, List, refl, subst, Result, Ok, Err, IfOk}, specs.List.{AllByRecursion}}
 use Rattle.nntp_wire.specs.Answer.{Asked, Response}
-use Rattle.nntp_article.specs.Session.Spool.{Spool}
-use Rattle.nntp_article.specs.declared.session.profile.Profile.{Profile}
-use Rattle.nntp_article.specs.Session.Machine.{Visible, MayAnswer, fits}
-use Rattle.nntp_said.specs.Asks.{state_at}
-use Rattle.nntp_said.specs.Facts.{Fact, Holds, facts_of}
-use Rattle.nntp_said.specs.declared.position.Position.{Position}
-use Rattle.nntp_said.proofs.Rows.{Row, row, listing, active}
-use Rattle.nntp_said.proofs.FactsHold.{may_by_facts}
-use Rattle.nntp_spool.specs.Sessions.{AreInOrder}
+use Rattle.nntp_article.specs.{Session.{Spool.{Spool}, Machine.{Visible, MayAnswer, fits}}, declared.session.profile.Profile.{Profile}}
+use Rattle.nntp_said.{specs.{Inner.Asks.{state_at}, Facts.{Fact, Holds, facts_of}, declared.position.Position.{Position}}, proofs.Rows.{Row, row, listing}}
+use Rattle.nntp_said.proofs.{Rows.{active}, FactsHold.{may_by_facts}}
+use Rattle.nntp_spool.specs.Inner.Sessions.{AreInOrder}
 
 -- ---- what is listed
 

@@ -1,15 +1,9 @@
 -- The lines of an article that are read are those that are written, and those that are written are read.
-use Rattle.std.proofs.Common.{◌≡◌, ℕ, zero, suc, ◌+◌, Bool, true, false, cond, List, [], ◌∷◌, ◌++◌, Option, None, Some, Ok, length, refl, sym, ap, subst, ◌∙◌, append_assoc}
-use Rattle.std.specs.Prelude.{◌&&◌, ◌==◌}
-use Rattle.std.specs.List.{list_all}
-use Rattle.std.proofs.lemmas.Bool.{and_from, and_parts, eqb-true}
-use Rattle.std.proofs.lemmas.List.{append-nil}
-use Rattle.nntp_article.specs.Article.Parts.{Line}
-use Rattle.nntp_article.specs.Session.Spool.{is_line}
-use Rattle.nntp_spool.specs.Text.{barred}
-use Rattle.nntp_spool.specs.Reading.{◌>>=◌, shaped, Place, line_at, barred_line_at, repeat}
-use Rattle.nntp_spool.specs.Fields.{unbarred}
-use Rattle.nntp_spool.proofs.NumbersRead.{bind_ok, shaped_ok, ok_is, line_takes, done}
+use Rattle.std.proofs.Common.{◌≡◌, ℕ, zero, suc, ◌+◌, Bool, true, false, cond, List, [], ◌∷◌, ◌++◌, Option, None, Some, Ok, length, refl, sym, ap, subst, ◌∙◌}
+use Rattle.std.{proofs.{Common.{append_assoc}, lemmas.{Bool.{and_from, and_parts, eqb-true}, List.{append-nil}}}, specs.{Prelude.{◌&&◌, ◌==◌}, List.{list_all}}}
+use Rattle.nntp_article.specs.{Article.Parts.{Line}, Session.Spool.{is_line}}
+use Rattle.nntp_spool.{specs.{Text.{barred}, Reading.{◌>>=◌, shaped, Place, line_at, barred_line_at, repeat}, Fields.{unbarred}}, proofs.NumbersRead.{bind_ok}}
+use Rattle.nntp_spool.proofs.NumbersRead.{shaped_ok, ok_is, line_takes, done}
 
 abbrev some : Line → Option Line
 some line = Some line

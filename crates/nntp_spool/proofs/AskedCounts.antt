@@ -1,12 +1,9 @@
 -- Counts of matching groups that are remembered.
-use Rattle.std.proofs.Common.{◌≡◌, ℕ, Bool, true, false, cond, List, Option, None, Some, refl, sym, subst}
-use Rattle.std.specs.Prelude.{IfSome}
-use Rattle.std.specs.Ordering.{nat_cmp, eq_by_cmp}
-use Rattle.std.specs.Cmp.Lexicographic.{slice_cmp, nat_list_cmp_total}
-use Rattle.std.specs.FinMap.{get, get-insert}
+use Rattle.std.{proofs.Common.{◌≡◌, ℕ, Bool, true, false, cond, List, Option, None, Some, refl, sym, ap, subst, ◌∙◌}, specs.Prelude.{IfSome}}
+use Rattle.std.specs.{Ordering.{nat_cmp, eq_by_cmp}, Cmp.Lexicographic.{slice_cmp, nat_list_cmp_total}, FinMap.{get, get-insert}}
 use Rattle.nntp_wire.proofs.ShownMaps.{equal_is}
 use Rattle.nntp_article.specs.Session.Spool.{Spool}
-use Rattle.nntp_spool.specs.AskedCounts.{AskedCounts, AreCounted, asked_count, with_count}
+use Rattle.nntp_spool.{specs.Inner.AskedCounts.{AskedCounts, AreCounted, asked_count, remembered, with_count}, proofs.MapEntries.{tied_itself}}
 use Rattle.nntp_spool.proofs.ShownMaps.{octet_keys}
 
 pub counts_are : (a b : AskedCounts) → a.all ≡ b.all → a.by_wildmat ≡ b.by_wildmat → a ≡ b
@@ -23,3 +20,9 @@ one_more S counts (Some w) n e all (Some v) =
     by : (b : Bool) → eq_by_cmp (slice_cmp nat_cmp) v w ≡ b → IfSome (cond b (Some n) (get counts.by_wildmat v)) (λ m. m ≡ asked_count S (Some v))
     by true t = subst (λ w. n ≡ asked_count S (Some w)) (sym (octet_keys v w (equal_is (slice_cmp nat_cmp v w) t))) e
     by false f = all (Some v)
+
+-- what is remembered is found again
+pub found_again : (counts : AskedCounts) (p : Option (List ℕ)) (n : ℕ) → remembered (with_count p n counts) p ≡ Some n
+found_again counts None n = refl
+found_again counts (Some w) n =
+    get-insert nat_list_cmp_total counts.by_wildmat w n w ∙ ap (λ b. cond b (Some n) (get counts.by_wildmat w)) (tied_itself nat_list_cmp_total w)

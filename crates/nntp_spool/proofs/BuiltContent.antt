@@ -1,24 +1,13 @@
 -- What a builder adds leaves groups and articles that a spool may hold.
 use Rattle.std.proofs.Common.{◌≡◌, ◌⊎◌, inl, inr, ℕ, Bool, true, false, cond, not, Option, None, Some, is_none, refl, sym, ap, subst, ◌∙◌}
-use Rattle.std.specs.Prelude.{◌&&◌, unwrap_or}
-use Rattle.std.specs.List.{list_all}
-use Rattle.std.specs.Ordering.{nat_cmp}
-use Rattle.std.specs.Cmp.Lexicographic.{slice_cmp, nat_list_cmp_total}
-use Rattle.std.specs.FinMap.{get, insert, empty, get-empty}
-use Rattle.std.proofs.lemmas.Bool.{true≢false, and_parts, not-false}
-use Rattle.nntp_wire.specs.Decided.{is_group_name, is_message_id}
-use Rattle.nntp_article.specs.Article.Parts.{Id}
-use Rattle.nntp_article.specs.Session.Machine.{is_article_number}
-use Rattle.nntp_article.specs.Session.Spool.{Name, Spool, Numbers, Text, numbers, is_line}
+use Rattle.std.{proofs.lemmas.Bool.{true≢false, and_parts, not-false}, specs.{Prelude.{◌&&◌, unwrap_or}, List.{list_all}, Ordering.{nat_cmp}}}
+use Rattle.std.specs.{Cmp.Lexicographic.{slice_cmp, nat_list_cmp_total}, FinMap.{get, insert, empty, get-empty}}
+use Rattle.nntp_wire.{specs.Decided.{is_group_name, is_message_id}, proofs.ShownMaps.{insert-same}}
+use Rattle.nntp_article.specs.{Article.Parts.{Id}, Session.{Machine.{is_article_number}, Spool.{Name, Spool, Numbers, Text, numbers, is_line}}}
+use Rattle.nntp_spool.specs.{Numbers.{has_id}, Inner.{Numbers.{with_number}, Content.{with_number_in, without_articles, AreNumbers, IsNamed, IsArticle}}}
+use Rattle.nntp_spool.specs.{Inner.{Content.{IsContent}, Building.{group_fault, place_fault, article_fault}}, Content.{is_head_of, with_group, with_article}}
+use Rattle.nntp_spool.{specs.Content.{no_spool}, proofs.{MapEntries.{got_more}, NumbersInOrder.{no_numbers, one_more}, ShownMaps.{octet_keys, spool_is}}}
 use Rattle.nntp_spool.specs.declared.value.spool_fault.SpoolFault.TheVariants as faults
-use Rattle.nntp_spool.specs.Numbers.{has_id, with_number}
-use Rattle.nntp_spool.specs.Content.{is_head_of, with_group, with_number_in, with_article, without_articles, no_spool}
-use Rattle.nntp_spool.specs.Building.{group_fault, place_fault, article_fault}
-use Rattle.nntp_spool.specs.Content.{AreNumbers, IsNamed, IsArticle, IsContent}
-use Rattle.nntp_spool.proofs.MapEntries.{got_more}
-use Rattle.nntp_spool.proofs.NumbersInOrder.{no_numbers, one_more}
-use Rattle.nntp_wire.proofs.ShownMaps.{insert-same}
-use Rattle.nntp_spool.proofs.ShownMaps.{octet_keys, spool_is}
 
 -- a test that found no fault
 no_fault : {A : Type 0} (b : Bool) (x : A) (o : Option A) → cond b (Some x) o ≡ None → (b ≡ false) × (o ≡ None)

@@ -1,12 +1,8 @@
 -- The numbers of a group, each behind those before it.
-use Rattle.std.specs.Prelude.{◌≡◌, ℕ, true, false, List, [], ◌∷◌, map}
-use Rattle.std.specs.FinMap.{insert}
+use Rattle.std.specs.{Prelude.{◌≡◌, ℕ, true, false, List, [], ◌∷◌, map}, FinMap.{insert}}
 use Rattle.nntp_wire.specs.Decided.{is_message_id}
-use Rattle.nntp_article.specs.Session.Spool.{Numbers}
-use Rattle.nntp_article.specs.Session.Machine.{is_article_number}
-use Rattle.nntp_spool.specs.Text.{number_line}
-use Rattle.nntp_spool.specs.Ascending.{is_last}
-use Rattle.nntp_spool.specs.Numbers.{has_id}
+use Rattle.nntp_article.specs.Session.{Spool.{Numbers}, Machine.{is_article_number}}
+use Rattle.nntp_spool.specs.{Text.{number_line}, Ascending.{is_last}, Numbers.{has_id}}
 
 -- a number that may stand behind others
 pub record Follows (limit : ℕ) (N : Numbers) (n : ℕ) (id : List ℕ) : Type 0 where

@@ -1,19 +1,9 @@
 -- Entries that come in the order of their keys, as the text of a spool has them.
 use Rattle.std.proofs.Common.{◌≡◌, ◌-◌, Bool, true, T, None, Some, option_map, List, [], ◌∷◌, ◌++◌, map, length, refl, sym, ap, subst, ◌∙◌, arith}
-use Rattle.std.specs.declared.cmp.Ordering.{Ordering}
-use Rattle.std.specs.Prelude.{◌&&◌}
-use Rattle.std.specs.Ordering.{is_lt}
-use Rattle.std.specs.Cmp.{IsTotalOrder}
-use Rattle.std.specs.List.{slice_get, list_all}
-use Rattle.std.specs.FinMap.{FinMap, insert, entries, is_sorted, entries_sorted, same_entries_map, IsAntisymmetric}
-use Rattle.std.specs.FinMap.Entries.{below_all}
-use Rattle.std.proofs.lemmas.Bool.{and_parts}
-use Rattle.std.proofs.lemmas.List.{append_assoc, length-map, map-append}
-use Rattle.std.proofs.lemmas.Option.{slice_get-map, slice_get-get_or}
-use Rattle.std.specs.BTreeMap.{insert_entry}
-use Rattle.nntp_spool.specs.Ascending.{is_last}
-use Rattle.nntp_spool.proofs.GreatestKeys.{last_of_list}
-use Rattle.nntp_spool.proofs.MapEntries.{is_passed, less_is, entries-insert_last}
+use Rattle.std.proofs.lemmas.{Bool.{and_parts}, List.{append_assoc, length-map, map-append}, Option.{slice_get-map, slice_get-get_or}}
+use Rattle.std.specs.{declared.cmp.Ordering.{Ordering}, Prelude.{◌&&◌}, Ordering.{is_lt}, Cmp.{IsTotalOrder}, List.{slice_get, list_all}, FinMap.{FinMap}}
+use Rattle.std.specs.{FinMap.{insert, entries, is_sorted, entries_sorted, same_entries_map, IsAntisymmetric, Entries.{below_all}}, BTreeMap.{insert_entry}}
+use Rattle.nntp_spool.{specs.Ascending.{is_last}, proofs.{GreatestKeys.{last_of_list}, MapEntries.{is_passed, less_is, entries-insert_last}}}
 use Rattle.nntp_wire.proofs.ShownMaps.{shown, shown_entry, entries-from_entries}
 
 passes : (b : Bool) → b ≡ true → T b

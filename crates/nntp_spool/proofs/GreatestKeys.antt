@@ -1,23 +1,13 @@
 -- Whether a key is greater than all others, from the greatest of them.
 use Rattle.std.proofs.Common.{◌≡◌, ℕ, ◌≤◌, Bool, true, false, cond, Option, None, Some, is_some, option_map, List, [], ◌∷◌, map, refl, sym, ap, ◌∙◌, arith}
-use Rattle.std.specs.Prelude.{zero, suc, ◌+◌, length, ◌&&◌, nat_lt, ◌==◌}
-use Rattle.std.specs.declared.cmp.Ordering.{Ordering}
-use Rattle.std.specs.declared.cmp.Ordering.TheVariants.{Less, Equal, Greater}
-use Rattle.std.specs.Ordering.{is_lt, is_le, is_eq, ordering_reverse}
-use Rattle.std.specs.Cmp.{IsTotalOrder, both_ways, nat_cmp_total}
-use Rattle.std.specs.BTreeMap.Comparable.{le_lt_trans}
-use Rattle.std.specs.List.{All, AllByRecursion, list_all, slice_get}
-use Rattle.std.specs.Map.{lookup, keys_of}
-use Rattle.std.specs.FinMap.{FinMap, get, entries, IsAntisymmetric, is_sorted, get-from_entries, nat_cmp-IsAntisymmetric}
-use Rattle.std.specs.FinMap.Entries.{below_all}
-use Rattle.std.proofs.lemmas.Bool.{true≢false, and_parts}
-use Rattle.std.proofs.lemmas.Bool.Decides.{nat_tests}
-use Rattle.std.proofs.lemmas.List.Elements.{recursion_from_All}
+use Rattle.std.{proofs.lemmas.{Bool.{true≢false, and_parts, Decides.{nat_tests}}, List.Elements.{recursion_from_All}}, specs.Prelude.{zero, suc, ◌+◌, length}}
+use Rattle.std.specs.{Prelude.{◌&&◌, nat_lt, ◌==◌}, declared.cmp.Ordering.{Ordering, TheVariants.{Less, Equal, Greater}}, Ordering.{is_lt, is_le, is_eq}}
+use Rattle.std.specs.{Ordering.{ordering_reverse}, Cmp.{IsTotalOrder, both_ways, nat_cmp_total}, BTreeMap.Comparable.{le_lt_trans}, List.{All, AllByRecursion}}
+use Rattle.std.specs.{List.{list_all, slice_get}, Map.{lookup, keys_of}, FinMap.{FinMap, get, entries, IsAntisymmetric, is_sorted, get-from_entries}}
+use Rattle.std.specs.FinMap.{nat_cmp-IsAntisymmetric, Entries.{below_all}}
 use Rattle.nntp_article.specs.Session.Spool.{Numbers, IsNumber}
-use Rattle.nntp_spool.specs.Ascending.{is_last}
-use Rattle.nntp_spool.proofs.MapEntries.{less_is, some_is, got_all, all_got, all_found, tied_itself, apart}
-use Rattle.nntp_spool.proofs.NumbersInOrder.{all_passed}
-use Rattle.nntp_spool.proofs.WholeSpools.{passed_all}
+use Rattle.nntp_spool.{specs.Ascending.{is_last}, proofs.MapEntries.{less_is, some_is, got_all, all_got, all_found, tied_itself, apart}}
+use Rattle.nntp_spool.proofs.{NumbersInOrder.{all_passed}, WholeSpools.{passed_all}}
 use Rattle.nntp_wire.proofs.ShownMaps.{shown, shown_entry, get-shown}
 
 module _ {K : Type 0} {R : K → K → Ordering} (o : IsTotalOrder R) where
@@ -31,7 +21,8 @@ module _ {K : Type 0} {R : K → K → Ordering} (o : IsTotalOrder R) where
       up_to Greater e = refl
 
   -- of keys that ascend, the last is the greatest
-  pub last_of_list : {X : Type 0} (xs : List (K × X)) (i : ℕ) (e : K × X) (k : K) → i + 1 ≡ length xs → is_sorted R xs ≡ true → slice_get xs i ≡ Some e → is_lt (R e.0 k) ≡ list_all (λ f. is_lt (R f.0 k)) xs
+  pub last_of_list : {X : Type 0} (xs : List (K × X)) (i : ℕ) (e : K × X) (k : K) → i + 1 ≡ length xs → is_sorted R xs ≡ true → slice_get xs i ≡ Some e → is_lt (R e.0 k)
+      ≡ list_all (λ f. is_lt (R f.0 k)) xs
   last_of_list [] i e k at h is = absurd (omega arith)
   last_of_list (x ∷ []) zero e k at h is = ap (λ f. is_lt (R f.0 k)) (sym (some_is x e is)) ∙ alone (is_lt (R x.0 k))
     where

@@ -1,20 +1,32 @@
 -- Facts that hold of a spool, one after the other.
-use Rattle.std.proofs.Common.{◌≡◌, ◌↔◌, inl, inr, List, [], ◌∷◌, Option, None, Some, IsSome, refl, ap, subst}
-use Rattle.std.specs.Prelude.{option_map}
-use Rattle.std.specs.List.{AllByRecursion}
-use Rattle.std.specs.FinMap.{get}
-use Rattle.nntp_wire.specs.declared.command.What.TheVariants.{Stat}
-use Rattle.nntp_article.specs.Article.Parts.{Id}
-use Rattle.nntp_article.specs.Session.Spool.{Spool, Text, HasText, text_of}
-use Rattle.nntp_said.specs.Facts.{Fact, Holds, IdAt, TextIs}
-use Rattle.nntp_said.specs.Places.{Place}
-use Rattle.nntp_spool.specs.Content.{IdsHaveArticles}
-use Rattle.nntp_spool.specs.Sessions.{AreInOrder}
+use Rattle.std.{proofs.Common.{◌≡◌, ◌↔◌, inl, inr, List, [], ◌∷◌, drop, Option, None, Some, IsSome, refl, sym, ap, subst}, specs.Prelude.{option_map}}
+use Rattle.std.specs.{Prelude.{slice_get}, List.{AllByRecursion}, FinMap.{get}}
+use Rattle.nntp_wire.specs.declared.command.What.{What, TheVariants.{Stat}}
+use Rattle.nntp_article.specs.{Article.Parts.{Id, Line}, Session.Spool.{Spool, Text, HasText, text_of}}
+use Rattle.nntp_said.specs.{Facts.{Fact, Holds, IdAt, TextIs}, Inner.Places.{Place}}
+use Rattle.nntp_spool.specs.Inner.{Content.{IdsHaveArticles}, Sessions.{AreInOrder}}
 
 -- those that are left hold exactly if all do
 pub record AreLeft (S : Spool) (facts left : List Fact) : Type 0 where
   pub same : AllByRecursion (Holds S) left ↔ AllByRecursion (Holds S) facts
   pub order : AreInOrder left
+
+-- none is left, so all hold
+pub none_left : (S : Spool) (facts left : List Fact) → AreLeft S facts left → None ≡ slice_get left 0 → AllByRecursion (Holds S) facts
+none_left S facts [] are e = are.same.0 tt
+none_left S facts (fact ∷ left) are e = absurd cc
+
+-- the first of them holds where those behind it do, so it may be passed
+pub first_passed : (S : Spool) (facts left behind : List Fact) → AreLeft S facts left → behind ≡ drop 1 left
+    → (AllByRecursion (Holds S) (drop 1 left) → AllByRecursion (Holds S) left) → AreLeft S facts behind
+first_passed S facts [] behind are e h = subst (AreLeft S facts) (sym e) are
+first_passed S facts (fact ∷ left) behind are e h =
+    subst (AreLeft S facts) (sym e) (record { same = (λ held. are.same.0 (h held), λ all. (are.same.1 all).1); order = are.order.1 })
+
+-- it does where it holds by itself
+pub first_held : (S : Spool) (fact : Fact) (left : List Fact) → Some fact ≡ slice_get left 0 → Holds S fact → AllByRecursion (Holds S) (drop 1 left) → AllByRecursion (Holds S) left
+first_held S fact [] e held h = absurd cc
+first_held S fact (first ∷ left) e held h = let is : fact ≡ first = cc in (subst (Holds S) is held, h)
 
 -- an id that stands at a number has an article
 placed_has : (S : Spool) (id : Id) (facts : List Fact) → IdsHaveArticles S → Place id facts → AllByRecursion (Holds S) facts → IsSome (get S.articles id)
@@ -26,9 +38,17 @@ placed_has S id (IdAt name n other ∷ facts) ids place h = elim place [
 placed_has S id (fact ∷ facts) ids place h = placed_has S id facts ids place h.1
 
 -- and nothing is sent of it
-pub placed_text : (S : Spool) (id : Id) (facts : List Fact) → IdsHaveArticles S → Place id facts → AllByRecursion (Holds S) facts → Holds S (TextIs Stat id None)
+placed_text : (S : Spool) (id : Id) (facts : List Fact) → IdsHaveArticles S → Place id facts → AllByRecursion (Holds S) facts → Holds S (TextIs Stat id None)
 placed_text S id facts ids place h = by (get S.articles id) refl (placed_has S id facts ids place h)
   where
     by : (o : Option Text) → get S.articles id ≡ o → IsSome o → HasText S Stat id None
     by None e s = absurd cc
     by (Some t) e s = ap (option_map (text_of Stat)) e
+
+-- so the first of the facts holds where it says this, and one behind it gives the id at a number
+pub first_implied : (S : Spool) (what : What) (id : Id) (lines : Option (List Line)) (facts : List Fact) → Some (TextIs what id lines) ≡ slice_get facts 0
+    → what ≡ Stat → lines ≡ None → Place id facts → IdsHaveArticles S → AllByRecursion (Holds S) (drop 1 facts) → AllByRecursion (Holds S) facts
+first_implied S what id lines [] first stat nothing place ids h = elim place [ ]
+first_implied S what id lines (fact ∷ facts) first stat nothing place ids h =
+    let is : TextIs Stat id None ≡ fact = cc in
+    (subst (Holds S) is (placed_text S id facts ids (subst (λ fact. Place id (fact ∷ facts)) (sym is) place) h), h)

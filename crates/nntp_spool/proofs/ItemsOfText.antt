@@ -1,27 +1,17 @@
 -- The groups and articles that are read are those that are written, and those that are written are read.
-use Rattle.std.proofs.Common.{◌≡◌, inl, inr, ℕ, zero, suc, ◌+◌, ◌^◌, ◌<◌, Bool, true, false, cond, List, [], ◌∷◌, ◌++◌, Some, Result, Ok, length, refl, sym, ap, subst, ◌∙◌, append_assoc, arith}
-use Rattle.std.specs.Prelude.{codes}
-use Rattle.std.specs.declared.cmp.Ordering.{Ordering}
-use Rattle.std.specs.Ordering.{nat_cmp, is_lt}
-use Rattle.std.specs.Cmp.Lexicographic.{slice_cmp, nat_list_cmp_total}
-use Rattle.std.specs.List.{list_all, flat_map, AllByRecursion}
-use Rattle.std.specs.FinMap.{FinMap, get, insert, empty, entries, find, is_sorted, entries_sorted, get-entries, len-empty, len-entries, same_entries_map}
-use Rattle.std.proofs.lemmas.Bool.{true≢false, and_parts}
-use Rattle.std.proofs.lemmas.List.{append-nil, nil_from_length}
-use Rattle.nntp_article.specs.Article.Parts.{Line, Id, is_empty}
-use Rattle.nntp_article.specs.Session.Spool.{Name, Spool, Numbers, Text}
-use Rattle.nntp_spool.specs.declared.text.read_fault.ReadFault.{ReadFault}
+use Rattle.std.proofs.Common.{◌≡◌, inl, inr, ℕ, zero, suc, ◌+◌, ◌^◌, ◌<◌, Bool, true, false, cond, List, [], ◌∷◌, ◌++◌, Some, Result, Ok, length, refl, sym, ap}
+use Rattle.std.proofs.{Common.{subst, ◌∙◌, append_assoc, arith}, lemmas.{Bool.{true≢false, and_parts}, List.{append-nil, nil_from_length}}}
+use Rattle.std.specs.{Prelude.{codes}, declared.cmp.Ordering.{Ordering}, Ordering.{nat_cmp, is_lt}, Cmp.Lexicographic.{slice_cmp, nat_list_cmp_total}}
+use Rattle.std.specs.{List.{list_all, flat_map, AllByRecursion}, FinMap.{FinMap, get, insert, empty, entries, find, is_sorted, entries_sorted, get-entries}}
+use Rattle.std.specs.FinMap.{len-empty, len-entries, same_entries_map}
+use Rattle.nntp_article.specs.{Article.Parts.{Line, Id, is_empty}, Session.Spool.{Name, Spool, Numbers, Text}}
+use Rattle.nntp_spool.specs.{declared.text.read_fault.ReadFault.{ReadFault}, Inner.{Text.{HasLineCounts}, Content.{IsNamed, IsArticle, IsContent}}}
+use Rattle.nntp_spool.specs.{Text.{group_lines, article_lines, content_lines}, Reading.{◌>>=◌, fault, Place, Turn, item_at, items_at, turn_then, is_end}}
+use Rattle.nntp_spool.specs.{Reading.{content_at}, Ascending.{is_last}, Content.{with_group, with_article, no_spool, ids_have_articles}}
+use Rattle.nntp_spool.proofs.{ShownMaps.{spool_is, octet_keys}, MapEntries.{is_passed, less_before, find_middle, all_got, entries-insert_last}}
+use Rattle.nntp_spool.proofs.{NumbersInOrder.{few_numbers}, NumbersRead.{bind_ok, ok_is, done, fits_test}, ItemsRead.{TakenItem, item_takes, item_group_again}}
+use Rattle.nntp_spool.proofs.ItemsRead.{item_article_again, item_end_again}
 use Rattle.nntp_spool.specs.declared.text.read_fault.Kind.TheVariants as kinds
-use Rattle.nntp_spool.specs.Text.{HasLineCounts, group_lines, article_lines, content_lines}
-use Rattle.nntp_spool.specs.Reading.{◌>>=◌, fault, Place, Turn, item_at, items_at, turn_then, is_end, content_at}
-use Rattle.nntp_spool.specs.Ascending.{is_last}
-use Rattle.nntp_spool.specs.Content.{with_group, with_article, no_spool, ids_have_articles}
-use Rattle.nntp_spool.specs.Content.{IsNamed, IsArticle, IsContent}
-use Rattle.nntp_spool.proofs.ShownMaps.{spool_is, octet_keys}
-use Rattle.nntp_spool.proofs.MapEntries.{is_passed, less_before, find_middle, all_got, entries-insert_last}
-use Rattle.nntp_spool.proofs.NumbersInOrder.{few_numbers}
-use Rattle.nntp_spool.proofs.NumbersRead.{bind_ok, ok_is, done, fits_test}
-use Rattle.nntp_spool.proofs.ItemsRead.{TakenItem, item_takes, item_group_again, item_article_again, item_end_again}
 
 -- ---- what was read
 

@@ -1,25 +1,17 @@
 -- A group and an article that are read are those that are written, and those that are written are read.
-use Rattle.std.proofs.Common.{◌≡◌, ◌⊎◌, inl, inr, ℕ, ◌+◌, ◌^◌, ◌<◌, Bool, true, false, cond, List, [], ◌∷◌, ◌++◌, Result, Ok, Err, length, refl, sym, ap, subst, ◌∙◌, append_assoc, arith}
-use Rattle.std.specs.Prelude.{codes}
-use Rattle.std.specs.List.{list_all}
-use Rattle.std.specs.FinMap.{empty, entries, len, len-entries}
+use Rattle.std.proofs.Common.{◌≡◌, ◌⊎◌, inl, inr, ℕ, ◌+◌, ◌^◌, ◌<◌, Bool, true, false, cond, List, [], ◌∷◌, ◌++◌, Result, Ok, Err, length, refl, sym, ap, subst}
+use Rattle.std.{proofs.Common.{◌∙◌, append_assoc, arith}, specs.{Prelude.{codes}, List.{list_all}, FinMap.{empty, entries, len, len-entries}}}
 use Rattle.nntp_wire.specs.Decided.{is_group_name, is_message_id}
-use Rattle.nntp_article.specs.Article.Parts.{Line, Id}
-use Rattle.nntp_article.specs.Session.Spool.{Name, Spool, Numbers, Text, is_line}
-use Rattle.nntp_spool.specs.declared.text.read_fault.ReadFault.{ReadFault}
-use Rattle.nntp_spool.specs.declared.text.read_fault.Kind.TheVariants as kinds
-use Rattle.nntp_spool.specs.Text.{group_line, article_line, barred, group_lines, article_lines}
-use Rattle.nntp_spool.specs.Reading.{◌>>=◌, fault, shaped, Place, Turn, On, Done, line_at, next_line, numbers_at, barred_lines_at, group_at, article_at, item_then, item_at}
-use Rattle.nntp_spool.specs.Fields.{OpeningValue, Group, Article, End, fields_of, opening_of}
-use Rattle.nntp_spool.specs.Ascending.{is_last}
-use Rattle.nntp_spool.specs.Content.{with_group, with_article, is_head_of, ids_have_articles}
-use Rattle.nntp_spool.proofs.FollowingNumbers.{number_lines}
-use Rattle.nntp_spool.specs.Content.{AreNumbers, IsNamed, IsArticle}
-use Rattle.nntp_spool.proofs.NameOctets.{name-lacks, name-some, id-lacks, id-some}
-use Rattle.nntp_spool.proofs.LineFields.{opening-group_line, opening-article_line, OpeningLine, opening_line}
-use Rattle.nntp_spool.proofs.NumbersRead.{bind_ok, unless_ok, guard_ok, shaped_ok, ok_is, done, line_takes, numbers_take, numbers_again, entries-with_all}
-use Rattle.nntp_spool.proofs.ArticleLinesRead.{barred_lines_take, barred_lines_again}
+use Rattle.nntp_article.specs.{Article.Parts.{Line, Id}, Session.Spool.{Name, Spool, Numbers, Text, is_line}}
+use Rattle.nntp_spool.specs.{declared.text.read_fault.ReadFault.{ReadFault}, Text.{group_line, article_line, barred, group_lines, article_lines}}
+use Rattle.nntp_spool.specs.Reading.{◌>>=◌, fault, shaped, Place, Turn, On, Done, line_at, next_line, numbers_at, barred_lines_at, group_at, article_at}
+use Rattle.nntp_spool.specs.{Reading.{item_then, item_at}, Fields.{OpeningValue, Group, Article, End, fields_of, opening_of}, Ascending.{is_last}}
+use Rattle.nntp_spool.specs.{Content.{with_group, with_article, is_head_of, ids_have_articles}, Inner.Content.{AreNumbers, IsNamed, IsArticle}}
+use Rattle.nntp_spool.proofs.{FollowingNumbers.{number_lines}, NameOctets.{name-lacks, name-some, id-lacks, id-some}, LineFields.{opening-group_line}}
+use Rattle.nntp_spool.proofs.{LineFields.{opening-article_line, OpeningLine, opening_line}, NumbersRead.{bind_ok, unless_ok, guard_ok, shaped_ok, ok_is, done}}
+use Rattle.nntp_spool.proofs.{NumbersRead.{line_takes, numbers_take, numbers_again, entries-with_all}, ArticleLinesRead.{barred_lines_take, barred_lines_again}}
 use Rattle.nntp_spool.proofs.NumbersInOrder.{entries-empty, no_numbers, all_more, with_all-entries}
+use Rattle.nntp_spool.specs.declared.text.read_fault.Kind.TheVariants as kinds
 
 -- ---- what was read
 

@@ -32,4 +32,3 @@ pub mod NumberFaults
 pub mod GatheredEntries
 pub mod SearchedEntries
 pub mod GreatestKeys
-pub mod MatchingGroups

@@ -1,15 +1,11 @@
 -- The lines of a limit: what they are read as, and what they say.
 use Rattle.std.proofs.Common.{◌≡◌, ℕ, ◌≤◌, ◌<◌, ◌^◌, Bool, true, false, cond, List, ◌∷◌, ◌++◌, Ok, length, refl, sym, ap, ◌∙◌, arith}
-use Rattle.std.specs.Prelude.{codes, bytes_eq}
-use Rattle.std.proofs.lemmas.Slice.Eq.{bytes_eq-Decides}
-use Rattle.nntp_wire.specs.Limit.{greatest}
-use Rattle.nntp_wire.specs.declared.limit.Limit.{Limit}
-use Rattle.nntp_wire.specs.declared.limit.Limit.TheVariants.{Narrow, Wide}
+use Rattle.std.{proofs.lemmas.Slice.Eq.{bytes_eq-Decides}, specs.Prelude.{codes, bytes_eq}}
+use Rattle.nntp_wire.specs.{Limit.{greatest}, declared.limit.Limit.{Limit, TheVariants.{Narrow, Wide}}}
 use Rattle.nntp_article.specs.Article.Parts.{Line}
+use Rattle.nntp_spool.{specs.{Text.{limit_lines}, Reading.{Place, fault, line_at, wide_at, limit_at}}, proofs.NumbersRead.{bind_ok, done, ok_is, line_takes}}
+use Rattle.nntp_spool.proofs.NumbersRead.{fits_test}
 use Rattle.nntp_spool.specs.declared.text.read_fault.Kind.TheVariants as kinds
-use Rattle.nntp_spool.specs.Text.{limit_lines}
-use Rattle.nntp_spool.specs.Reading.{Place, fault, line_at, wide_at, limit_at}
-use Rattle.nntp_spool.proofs.NumbersRead.{bind_ok, done, ok_is, line_takes, fits_test}
 
 pub greatest_small : (limit : Limit) → greatest limit < 2 ^ 64
 greatest_small Narrow = omega arith

@@ -1,19 +1,12 @@
 -- Words of a line, and the one spelling of a number.
-use Rattle.std.proofs.Common.{◌≡◌, ℕ, zero, suc, ◌^◌, ◌<◌, Bool, true, false, not, cond, eqb, List, [], ◌∷◌, ◌++◌, Option, None, Some, length, get_or, refl, sym, ap, subst, ◌∙◌, arith}
-use Rattle.std.specs.Prelude.{◌&&◌, ◌||◌, ◌==◌, nat_lt, bytes_eq, codes}
-use Rattle.std.proofs.lemmas.Slice.Eq.{bytes_eq-Decides}
-use Rattle.std.specs.List.{list_all, join_with_byte}
-use Rattle.std.specs.Char.{is_ascii_digit}
-use Rattle.std.specs.Fmt.{decimal}
-use Rattle.std.proofs.lemmas.Bool.{true≢false, and_from, and_parts, not-true}
-use Rattle.std.proofs.lemmas.Bool.Decides.{nat_tests}
-use Rattle.std.proofs.lemmas.List.Splits.{join_with_byte-slice_split}
-use Rattle.std.proofs.lemmas.Fmt.{digits_decimal, digits_value-decimal, decimal-digits_value, decimal_nonempty, first_decimal, decimal_digit}
+use Rattle.std.proofs.Common.{◌≡◌, ℕ, zero, suc, ◌^◌, ◌<◌, Bool, true, false, not, cond, eqb, List, [], ◌∷◌, ◌++◌, Option, None, Some, length, get_or, refl}
+use Rattle.std.proofs.{Common.{sym, ap, subst, ◌∙◌, arith}, lemmas.{Slice.Eq.{bytes_eq-Decides}, Bool.{true≢false, and_from, and_parts, not-true}}}
+use Rattle.std.proofs.lemmas.{Bool.Decides.{nat_tests}, List.Splits.{join_with_byte-slice_split}, Fmt.{digits_decimal, digits_value-decimal}}
+use Rattle.std.{proofs.lemmas.Fmt.{decimal-digits_value, decimal_nonempty, first_decimal, decimal_digit}, specs.Prelude.{◌&&◌, ◌||◌, ◌==◌, nat_lt, bytes_eq}}
+use Rattle.std.specs.{Prelude.{codes}, List.{list_all, join_with_byte}, Char.{is_ascii_digit}, Fmt.{decimal}}
 use Rattle.nntp_article.specs.Article.Parts.{is_empty}
-use Rattle.nntp_spool.specs.Text.{number_line, group_line, article_line}
-use Rattle.nntp_spool.specs.Fields.{fields_of, are_digits, is_decimal, is_count, value_of, number_and_id, opening_of, OpeningValue, Group, Article, End}
-use Rattle.nntp_spool.proofs.SplitLines.{segments_at}
-use Rattle.nntp_spool.proofs.Decimals.{own}
+use Rattle.nntp_spool.specs.{Text.{number_line, group_line, article_line}, Fields.{fields_of, are_digits, is_decimal, is_count, value_of, number_and_id}}
+use Rattle.nntp_spool.{specs.Fields.{opening_of, OpeningValue, Group, Article, End}, proofs.{SplitLines.{segments_at}, Decimals.{own}}}
 
 -- ---- octets that are not there
 

@@ -1,21 +1,13 @@
 -- The groups of lines, one after the other.
 use Rattle.std.proofs.Common.{◌≡◌, ℕ, zero, suc, ◌≤◌, Bool, true, false, IsTrue, length, List, [], ◌∷◌, Option, None, Some, map, refl, sym, subst, arith}
-use Rattle.std.specs.Prelude.{◌↔◌, ◌||◌, Contains, IfSome}
-use Rattle.std.specs.List.{list_any, count_by, AllByRecursion}
-use Rattle.std.specs.Option.{option_map_or}
-use Rattle.std.specs.Cmp.Lexicographic.{bytes_decides}
+use Rattle.std.{proofs.lemmas.{Bool.{true≢false, and_parts, or_right}, List.Elements.{recursion_from_All, All-from_recursion}}, specs.Prelude.{◌↔◌, ◌||◌}}
+use Rattle.std.specs.{Prelude.{Contains, IfSome}, List.{list_any, count_by, AllByRecursion}, Option.{option_map_or}, Cmp.Lexicographic.{bytes_decides}}
 use Rattle.std.specs.FinMap.{entries}
-use Rattle.std.proofs.lemmas.Bool.{true≢false, and_parts, or_right}
-use Rattle.std.proofs.lemmas.List.Elements.{recursion_from_All, All-from_recursion}
-use Rattle.nntp_wire.specs.Decided.{is_group_name, matches_name, is_asked}
-use Rattle.nntp_wire.specs.Name.{IsGroupName}
-use Rattle.nntp_wire.specs.Wildmat.{MatchesName}
-use Rattle.nntp_wire.specs.Listing.{ActiveValue}
+use Rattle.nntp_wire.specs.{Decided.{is_group_name, matches_name}, Inner.Decided.{is_asked}, Name.{IsGroupName}, Wildmat.{MatchesName}, Listing.{ActiveValue}}
 use Rattle.nntp_wire.proofs.DecidedLemmas.{group_name-iff}
-use Rattle.nntp_article.specs.Session.Spool.{Spool, Name, IsGroup, IsNumber, numbers}
-use Rattle.nntp_article.specs.Session.Machine.{is_same, names_differ, ActivesAgree}
-use Rattle.nntp_spool.specs.ListedGroups.{LineAgrees}
-use Rattle.nntp_spool.proofs.MatchingGroups.{as_many, each_listed}
+use Rattle.nntp_article.specs.Session.{Spool.{Spool, Name, IsGroup, IsNumber, numbers}, Machine.{is_same, names_differ, ActivesAgree}}
+use Rattle.nntp_article.proofs.SessionLemmas.MatchingGroups.{as_many, each_listed}
+use Rattle.nntp_spool.specs.Inner.ListedGroups.{LineAgrees}
 
 -- ---- names that are listed
 

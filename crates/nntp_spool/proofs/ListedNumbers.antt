@@ -1,13 +1,10 @@
 -- Numbers that are listed one after the other are those of a group within a range.
 use Rattle.std.proofs.Common.{◌≡◌, ◌⊎◌, inl, inr, ℕ, zero, suc, ◌<◌, ◌≤◌, true, List, [], ◌∷◌, Option, None, Some, IsSome, MatchOption, refl, sym, subst, arith}
-use Rattle.std.specs.Prelude.{Contains, IfSome, ◌↔◌, nat_lt, ⊤}
-use Rattle.std.specs.List.{list_all}
+use Rattle.std.{proofs.lemmas.Bool.{and_parts, cases_lt, Decides.{nat_tests}}, specs.{Prelude.{Contains, IfSome, ◌↔◌, nat_lt, ⊤}, List.{list_all}}}
 use Rattle.std.specs.FinMap.{get}
-use Rattle.std.proofs.lemmas.Bool.{and_parts, cases_lt}
-use Rattle.std.proofs.lemmas.Bool.Decides.{nat_tests}
 use Rattle.nntp_wire.specs.declared.range.Range.{Range}
 use Rattle.nntp_article.specs.Session.Spool.{Numbers, IsNumber, IsNextAbove, Lists, NoneAbove}
-use Rattle.nntp_spool.specs.ListedNumbers.{IsAbove, IsNextFrom, ListsFrom}
+use Rattle.nntp_spool.specs.Inner.ListedNumbers.{IsAbove, IsNextFrom, ListsFrom}
 
 -- none is not some
 some_none : {A : Type 0} (o : Option A) → o ≡ None → IsSome o → ⊥

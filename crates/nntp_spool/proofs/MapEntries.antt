@@ -1,13 +1,8 @@
 -- Entries in the order of their keys.
 use Rattle.std.proofs.Common.{◌≡◌, ◌⊎◌, inl, inr, Bool, true, false, cond, T, List, [], ◌∷◌, ◌++◌, Option, None, Some, refl, sym, ap, subst, ◌∙◌}
-use Rattle.std.specs.declared.cmp.Ordering.{Ordering}
-use Rattle.std.specs.declared.cmp.Ordering.TheVariants.{Less, Equal, Greater}
-use Rattle.std.specs.Ordering.{is_lt, eq_by_cmp, ordering_reverse}
-use Rattle.std.specs.Cmp.{IsTotalOrder, eq_by_cmp_equiv}
-use Rattle.std.specs.List.{list_all, AllByRecursion}
-use Rattle.std.specs.FinMap.{FinMap, get, entries, insert, put, find, is_sorted, entries-insert, get-insert, entries_sorted, get-entries, IsAntisymmetric}
-use Rattle.std.specs.FinMap.Entries.{below_all}
-use Rattle.std.proofs.lemmas.Bool.{and_parts}
+use Rattle.std.{proofs.lemmas.Bool.{and_parts}, specs.{declared.cmp.Ordering.{Ordering, TheVariants.{Less, Equal, Greater}}, Ordering.{is_lt, eq_by_cmp}}}
+use Rattle.std.specs.{Ordering.{ordering_reverse}, Cmp.{IsTotalOrder, eq_by_cmp_equiv}, List.{list_all, AllByRecursion}, FinMap.{FinMap, get, entries, insert}}
+use Rattle.std.specs.FinMap.{put, find, is_sorted, entries-insert, get-insert, entries_sorted, get-entries, IsAntisymmetric, Entries.{below_all}}
 use Rattle.nntp_wire.proofs.ShownMaps.{equal_is}
 use Rattle.nntp_spool.specs.Ascending.{is_last}
 

@@ -1,16 +1,8 @@
 -- Octets that stand in no group name and in no message id.
-use Rattle.std.proofs.Common.{◌≡◌, ℕ, ◌<◌, ◌≤◌, Bool, true, false, not, eqb, List, [], ◌∷◌, length, refl, sym, ap, ◌∙◌, arith}
-use Rattle.std.specs.Prelude.{◌&&◌, nat_le}
-use Rattle.std.specs.List.{list_all}
-use Rattle.std.specs.Char.{encode_utf8}
-use Rattle.std.specs.Str.{encode_utf8_all}
-use Rattle.std.proofs.lemmas.Bool.{true≢false, and_parts, eqb-true}
-use Rattle.std.proofs.lemmas.Bool.Decides.{nat_tests}
-use Rattle.std.proofs.lemmas.List.{append-nil}
-use Rattle.std.proofs.lemmas.Str.{inside_one}
-use Rattle.nntp_wire.specs.Name.{is_name_char}
-use Rattle.nntp_wire.specs.Decided.{is_group_name, is_message_id, is_id_octet, begins_id}
-use Rattle.nntp_wire.proofs.DecidedLemmas.{group_name-iff}
+use Rattle.std.proofs.{Common.{◌≡◌, ℕ, ◌<◌, ◌≤◌, Bool, true, false, not, eqb, List, [], ◌∷◌, length, refl, sym, ap, ◌∙◌, arith}, lemmas.Bool.{true≢false}}
+use Rattle.std.{proofs.lemmas.{Bool.{and_parts, eqb-true, Decides.{nat_tests}}, List.{append-nil}, Str.{inside_one}}, specs.Prelude.{◌&&◌, nat_le}}
+use Rattle.std.specs.{List.{list_all}, Char.{encode_utf8}, Str.{encode_utf8_all}}
+use Rattle.nntp_wire.{specs.{Name.{is_name_char}, Decided.{is_group_name, is_message_id, is_id_octet, begins_id}}, proofs.DecidedLemmas.{group_name-iff}}
 use Rattle.nntp_article.specs.Article.Parts.{is_empty}
 use Rattle.nntp_spool.proofs.LineFields.{lacks, lacks_from, lacks-append, list_all_weaken}
 

@@ -1,17 +1,11 @@
 -- What a builder answers to a number that has a fault, or that no memory is left for.
-use Rattle.std.proofs.Common.{◌≡◌, ◌∙◌, refl, ap, ℕ, Bool, true, false, Option, Some, None, Result, Err}
-use Rattle.std.specs.Prelude.{if◌then◌else◌, is_some, is_none, not}
+use Rattle.std.{proofs.Common.{◌≡◌, ◌∙◌, refl, ap, ℕ, Bool, true, false, Option, Some, None, Result, Err}, specs.Prelude.{if◌then◌else◌, is_some, is_none, not}}
 use Rattle.std.specs.FinMap.{get, insert}
-use Rattle.nntp_wire.specs.Decided.{is_message_id}
-use Rattle.nntp_wire.specs.Limit.{greatest}
-use Rattle.nntp_article.specs.Article.Parts.{Id}
-use Rattle.nntp_article.specs.Session.Machine.{is_article_number}
-use Rattle.nntp_article.specs.Session.Spool.{Name, Spool, numbers}
-use Rattle.nntp_spool.specs.declared.value.spool_fault.SpoolFault.{SpoolFault}
+use Rattle.nntp_wire.specs.{Decided.{is_message_id}, Limit.{greatest}}
+use Rattle.nntp_article.specs.{Article.Parts.{Id}, Session.{Machine.{is_article_number}, Spool.{Name, Spool, numbers}}}
+use Rattle.nntp_spool.specs.{declared.value.spool_fault.SpoolFault.{SpoolFault}, Numbers.{has_id}, Inner.Building.{Building, Builds, BuildsBy, number_fault}}
+use Rattle.nntp_spool.specs.{Inner.Building.{place_fault}, Content.{with_group}}
 use Rattle.nntp_spool.specs.declared.value.spool_fault.SpoolFault.TheVariants as faults
-use Rattle.nntp_spool.specs.Numbers.{has_id}
-use Rattle.nntp_spool.specs.Building.{Building, Builds, BuildsBy, number_fault, place_fault}
-use Rattle.nntp_spool.specs.Content.{with_group}
 
 -- a fault by the first of four tests is that by the five
 first_of_four : (a b c d e : Bool) (w x y z last f : SpoolFault) → (if a then Some w else (if b then Some x else (if c then Some y else (if d then Some z else None)))) ≡ Some f
@@ -49,7 +43,8 @@ module _ (old : Building) (name : Name) (n : ℕ) (id : Id) where
   -- the number has a fault at its place
   pub misplaced : (f : SpoolFault) → old.failed ≡ false → placed ≡ Some f → builds (Err f) old
   misplaced f works is =
-      by old.failed _ _ f works (first_of_four (is_none (get old.spool.groups name)) (not (is_article_number (greatest old.limit) n)) (not (is_message_id id)) (is_some (get (numbers old.spool name) n))
+      by old.failed _ _ f works (first_of_four (is_none (get old.spool.groups name)) (not (is_article_number (greatest old.limit) n)) (not (is_message_id id))
+      (is_some (get (numbers old.spool name) n))
       (has_id (numbers old.spool name) id) faults.UnknownGroup faults.BadNumber faults.BadId faults.DuplicateNumber faults.DuplicateId f is)
 
   -- with none there, only another number of its id is a fault

@@ -1,30 +1,12 @@
 -- The ids of a group's numbers, and one more.
 use Rattle.std.proofs.Common.{◌≡◌, ℕ, Bool, true, false, cond, List, [], ◌∷◌, Option, None, Some, is_some, option_map, refl, sym, ap, subst, ◌∙◌, ⊎_elim}
-use Rattle.std.specs.declared.cmp.Ordering.{Ordering}
-use Rattle.std.specs.declared.cmp.Ordering.TheVariants.{Less, Equal, Greater}
-use Rattle.std.specs.Prelude.{◌||◌, not, bytes_eq}
-use Rattle.std.specs.Ordering.{nat_cmp, is_eq, match_ordering}
-use Rattle.std.specs.Cmp.Lexicographic.{slice_cmp}
-use Rattle.std.specs.Bool.{Decides}
-use Rattle.std.specs.List.{list_all, list_any}
-use Rattle.std.specs.Set.{remove_key}
-use Rattle.std.specs.declared.rc.RcStr.{RcStr}
-use Rattle.std.specs.Rc.{rc_str_bytes}
-use Rattle.std.specs.BTreeSet.{insert_key}
-use Rattle.std.specs.FinMap.{get, insert, empty, entries, find, put, entries-insert, get-entries}
-use Rattle.std.specs.FinMap.Entries.{by_order}
-use Rattle.std.specs.Cmp.{nat_cmp_total}
-use Rattle.std.proofs.lemmas.Bool.{true≢false, false≢true, and_parts, and_from, cases_Bool}
-use Rattle.std.proofs.lemmas.Bool.Decides.{same_from_decides}
-use Rattle.std.proofs.lemmas.Map.Text.{is_eq-slice_cmp}
-use Rattle.std.proofs.lemmas.Slice.Eq.{bytes_eq-Decides}
-use Rattle.nntp_article.specs.Session.Spool.{Numbers}
-use Rattle.nntp_article.specs.Article.Parts.{Id}
-use Rattle.nntp_spool.specs.Numbers.{has_id}
-use Rattle.nntp_spool.specs.Numbers.{AreIdsOf}
-use Rattle.nntp_article.proofs.SessionLemmas.SetKeys.{or_swap, any-insert_key}
-use Rattle.nntp_spool.proofs.NumbersInOrder.{either_false, entries-empty}
-use Rattle.nntp_spool.proofs.ShownMaps.{octet_keys}
+use Rattle.std.proofs.lemmas.{Bool.{true≢false, false≢true, and_parts, and_from, cases_Bool, Decides.{same_from_decides}}, Map.Text.{is_eq-slice_cmp}}
+use Rattle.std.{proofs.lemmas.Slice.Eq.{bytes_eq-Decides}, specs.declared.{cmp.Ordering.{Ordering, TheVariants.{Less, Equal, Greater}}, rc.RcStr.{RcStr}}}
+use Rattle.std.specs.{Prelude.{◌||◌, not, bytes_eq}, Ordering.{nat_cmp, is_eq, match_ordering}, Cmp.{nat_cmp_total, Lexicographic.{slice_cmp}}, Bool.{Decides}}
+use Rattle.std.specs.{List.{list_all, list_any}, Set.{remove_key}, Rc.{rc_str_bytes}, BTreeSet.{insert_key}, FinMap.{get, insert, empty, entries, find, put}}
+use Rattle.std.specs.FinMap.{entries-insert, get-entries, Entries.{by_order}}
+use Rattle.nntp_article.{specs.{Session.Spool.{Numbers}, Article.Parts.{Id}}, proofs.SessionLemmas.SetKeys.{or_swap, any-insert_key}}
+use Rattle.nntp_spool.{specs.{Numbers.{has_id}, Inner.Numbers.{AreIdsOf}}, proofs.{NumbersInOrder.{either_false, entries-empty}, ShownMaps.{octet_keys}}}
 
 some_none : {A : Type 0} (x : A) → Some x ≡ None → ⊥
 some_none x e = cc
@@ -120,11 +102,13 @@ module _ {A : Type 0} where
   is_of_itself id k is = is_eq-slice_cmp id (rc_str_bytes k) ∙ (bytes_eq-Decides id (rc_str_bytes k)).1 (sym is)
 
   -- what was put among keys is taken out again
-  remove-insert : (id : List ℕ) (k : RcStr A) (ks : List (RcStr A)) → rc_str_bytes k ≡ id → list_any (λ known. bytes_eq id (rc_str_bytes known)) ks ≡ false → remove_key (is_of id) (insert_key octets_cmp ks k) ≡ ks
+  remove-insert : (id : List ℕ) (k : RcStr A) (ks : List (RcStr A)) → rc_str_bytes k ≡ id → list_any (λ known. bytes_eq id (rc_str_bytes known)) ks ≡ false
+      → remove_key (is_of id) (insert_key octets_cmp ks k) ≡ ks
   remove-insert id k [] is absent = rw (is_of_itself id k is) refl
   remove-insert id k (x ∷ ks) is absent =
       let both = either_false (bytes_eq id (rc_str_bytes x)) (list_any (λ known. bytes_eq id (rc_str_bytes known)) ks) absent in
-      by (slice_cmp nat_cmp (rc_str_bytes k) (rc_str_bytes x)) (ap (λ (i : List ℕ). slice_cmp nat_cmp i (rc_str_bytes x)) is) (is_eq-slice_cmp id (rc_str_bytes x) ∙ both.0) (remove-insert id k ks is both.1)
+      by (slice_cmp nat_cmp (rc_str_bytes k) (rc_str_bytes x)) (ap (λ (i : List ℕ). slice_cmp nat_cmp i (rc_str_bytes x)) is) (is_eq-slice_cmp id (rc_str_bytes x)
+      ∙ both.0) (remove-insert id k ks is both.1)
     where
       by : (r : Ordering) → r ≡ slice_cmp nat_cmp id (rc_str_bytes x) → is_of id x ≡ false → remove_key (is_of id) (insert_key octets_cmp ks k) ≡ ks
           → remove_key (is_of id) (match_ordering r (k ∷ x ∷ ks) (x ∷ ks) (x ∷ insert_key octets_cmp ks k)) ≡ x ∷ ks

@@ -1,23 +1,13 @@
 -- Numbers that follow one another are numbers of a group, and the other way round.
-use Rattle.std.proofs.Common.{◌≡◌, ◌⊎◌, inl, inr, ℕ, ◌+◌, ◌<◌, ◌≤◌, ◌^◌, Bool, true, false, cond, List, [], ◌∷◌, ◌++◌, None, Some, length, refl, sym, ap, ◌∙◌, append_assoc, arith}
-use Rattle.std.specs.Prelude.{◌||◌, ◌==◌, nat_lt, bytes_eq}
-use Rattle.std.specs.List.{list_all, list_any, AllByRecursion}
-use Rattle.std.specs.declared.cmp.Ordering.TheVariants.{Less, Equal, Greater}
-use Rattle.std.specs.Ordering.{nat_cmp, is_lt, eq_by_cmp}
-use Rattle.std.specs.Cmp.{nat_cmp_total}
-use Rattle.std.specs.FinMap.{get, insert, empty, entries, len, find, is_sorted, entries_sorted, get-entries, get-empty, len-empty, len-entries, same_entries_map, nat_cmp-IsAntisymmetric}
-use Rattle.std.specs.FinMap.Entries.{below_all}
-use Rattle.std.proofs.lemmas.Bool.{true≢false, and_parts}
-use Rattle.std.proofs.lemmas.Bool.Decides.{nat_tests}
-use Rattle.std.proofs.lemmas.List.{nil_from_length}
-use Rattle.std.proofs.lemmas.Slice.Eq.{bytes_eq-Decides}
+use Rattle.std.proofs.Common.{◌≡◌, ◌⊎◌, inl, inr, ℕ, ◌+◌, ◌<◌, ◌≤◌, ◌^◌, Bool, true, false, cond, List, [], ◌∷◌, ◌++◌, None, Some, length, refl, sym, ap, ◌∙◌}
+use Rattle.std.proofs.{Common.{append_assoc, arith}, lemmas.{Bool.{true≢false, and_parts, Decides.{nat_tests}}, List.{nil_from_length}}}
+use Rattle.std.{proofs.lemmas.Slice.Eq.{bytes_eq-Decides}, specs.{Prelude.{◌||◌, ◌==◌, nat_lt, bytes_eq}, List.{list_all, list_any, AllByRecursion}}}
+use Rattle.std.specs.{declared.cmp.Ordering.TheVariants.{Less, Equal, Greater}, Ordering.{nat_cmp, is_lt, eq_by_cmp}, Cmp.{nat_cmp_total}, FinMap.{get, insert}}
+use Rattle.std.specs.FinMap.{empty, entries, len, find, is_sorted, entries_sorted, get-entries, get-empty, len-empty, len-entries, same_entries_map}
+use Rattle.std.specs.FinMap.{nat_cmp-IsAntisymmetric, Entries.{below_all}}
 use Rattle.nntp_wire.specs.Decided.{is_message_id}
-use Rattle.nntp_article.specs.Session.Machine.{is_article_number}
-use Rattle.nntp_article.specs.Session.Spool.{Numbers}
-use Rattle.nntp_spool.specs.Numbers.{has_id}
-use Rattle.nntp_spool.specs.Ascending.{is_last}
-use Rattle.nntp_spool.proofs.FollowingNumbers.{AllFollow, with_all}
-use Rattle.nntp_spool.specs.Content.{AreNumbers}
+use Rattle.nntp_article.specs.Session.{Machine.{is_article_number}, Spool.{Numbers}}
+use Rattle.nntp_spool.{specs.{Numbers.{has_id}, Ascending.{is_last}, Inner.Content.{AreNumbers}}, proofs.FollowingNumbers.{AllFollow, with_all}}
 use Rattle.nntp_spool.proofs.MapEntries.{is_passed, less_before, find_middle, find_front, got_all, all_got, entries-insert_last, apart, tied_itself, got_more}
 use Rattle.nntp_spool.proofs.NumbersRead.{entries-with_all}
 

@@ -1,25 +1,14 @@
 -- The numbers of a group that are read are those that are written, and those that are written are read.
-use Rattle.std.proofs.Common.{◌≡◌, ℕ, zero, suc, ◌+◌, ◌^◌, ◌<◌, Bool, true, false, not, cond, List, [], ◌∷◌, ◌++◌, Option, None}
-use Rattle.std.proofs.Common.{Some, Result, Ok, Err, length, refl, sym, ap, subst, ◌∙◌, append_assoc, arith}
-use Rattle.std.specs.Cmp.{nat_cmp_total}
-use Rattle.std.specs.FinMap.{entries, insert}
-use Rattle.std.proofs.lemmas.Bool.{and_parts}
-use Rattle.std.proofs.lemmas.Bool.Decides.{nat_tests}
-use Rattle.std.proofs.lemmas.List.{append-nil}
+use Rattle.std.proofs.Common.{◌≡◌, ℕ, zero, suc, ◌+◌, ◌^◌, ◌<◌, Bool, true, false, not, cond, List, [], ◌∷◌, ◌++◌, Option, None, Some, Result, Ok, Err, length}
+use Rattle.std.proofs.{Common.{refl, sym, ap, subst, ◌∙◌, append_assoc, arith}, lemmas.{Bool.{and_parts, Decides.{nat_tests}}, List.{append-nil}}}
+use Rattle.std.specs.{Cmp.{nat_cmp_total}, FinMap.{entries, insert}}
 use Rattle.nntp_wire.specs.Decided.{is_message_id}
-use Rattle.nntp_article.specs.Session.Spool.{Numbers}
-use Rattle.nntp_article.specs.Session.Machine.{is_article_number}
-use Rattle.nntp_spool.specs.declared.text.read_fault.ReadFault.{ReadFault}
-use Rattle.nntp_spool.specs.declared.text.read_fault.Kind.TheVariants as kinds
-use Rattle.nntp_spool.specs.Text.{number_line}
-use Rattle.nntp_spool.specs.Reading.{◌>>=◌, fault, shaped, Place, line_at, next_line, number_in, number_at, repeat}
-use Rattle.nntp_spool.specs.Fields.{fields_of, number_and_id}
-use Rattle.nntp_spool.specs.Ascending.{is_last}
-use Rattle.nntp_spool.specs.Numbers.{has_id}
-use Rattle.nntp_spool.proofs.FollowingNumbers.{Follows, AllFollow, number_lines, with_all}
-use Rattle.nntp_spool.proofs.MapEntries.{entries-insert_last}
-use Rattle.nntp_spool.proofs.NameOctets.{id-lacks, id-some}
+use Rattle.nntp_article.specs.Session.{Spool.{Numbers}, Machine.{is_article_number}}
+use Rattle.nntp_spool.specs.{declared.text.read_fault.ReadFault.{ReadFault}, Text.{number_line}, Reading.{◌>>=◌, fault, shaped, Place, line_at, next_line}}
+use Rattle.nntp_spool.specs.{Reading.{number_in, number_at, repeat}, Fields.{fields_of, number_and_id}, Ascending.{is_last}, Numbers.{has_id}}
+use Rattle.nntp_spool.proofs.{FollowingNumbers.{Follows, AllFollow, number_lines, with_all}, MapEntries.{entries-insert_last}, NameOctets.{id-lacks, id-some}}
 use Rattle.nntp_spool.proofs.LineFields.{number_and_id-number_line, number_line-number_and_id}
+use Rattle.nntp_spool.specs.declared.text.read_fault.Kind.TheVariants as kinds
 
 -- the value of a step that did not fail
 pub bind_ok : {A B : Type 0} (r : Result A ReadFault) (f : A → Result B ReadFault) (y : B) → (r >>= f) ≡ Ok y → (x : A) × (r ≡ Ok x) × (f x ≡ Ok y)

@@ -1,20 +1,13 @@
 -- What a spool permits of a pairing is what it explains of the streams.
 use Rattle.std.proofs.Common.{◌≡◌, ℕ, ◌+◌, ◌<◌, List, [], ◌∷◌, ◌++◌, length, map, refl, sym, ap, subst, ◌∙◌, arith, length-append, append_assoc, ◌≤◌, inl, inr}
-use Rattle.std.proofs.lemmas.Bool.{cases_lt}
-use Rattle.std.proofs.lemmas.List.{length-map}
-use Rattle.nntp_wire.specs.Answer.{Asked, Response}
-use Rattle.nntp_wire.specs.Session.{prompts_of}
-use Rattle.nntp_pair.specs.declared.class.PairClass.{PairClass}
-use Rattle.nntp_pair.specs.Pairing.{Paired, Unpaired, IsNext, AreNext, Ends, bad, responses_of, asked_at, places_of, streams}
-use Rattle.nntp_pair.proofs.NextLemmas.{next-shorter, one-next, next-no-end}
-use Rattle.nntp_pair.proofs.PairingLemmas.{AreNext-push}
+use Rattle.std.proofs.lemmas.{Bool.{cases_lt}, List.{length-map}}
+use Rattle.nntp_wire.specs.{Answer.{Asked, Response}, Session.{prompts_of}}
+use Rattle.nntp_pair.specs.{declared.class.PairClass.{PairClass}, Pairing.{Paired, Unpaired, IsNext, AreNext, Ends, bad, responses_of, asked_at, places_of}}
+use Rattle.nntp_pair.{specs.Pairing.{streams}, proofs.{NextLemmas.{next-shorter, one-next, next-no-end}, PairingLemmas.{AreNext-push}}}
 use Rattle.nntp_pair.proofs.SpelledLemmas.{places-prompts, pairs-spelled, spelled-pairs}
-use Rattle.nntp_article.specs.Session.Spool.{Spool, IsSpool}
-use Rattle.nntp_article.specs.declared.session.profile.Profile.{Profile}
-use Rattle.nntp_article.specs.Session.Machine.{State, start, MayAnswer, Run, after}
-use Rattle.nntp_article.specs.Session.Explains.{Explains, ExplainsUpTo}
-use Rattle.nntp_article.proofs.SessionLemmas.ClosingAnswers.{run-stays-open}
-use Rattle.nntp_spool.specs.Sessions.{state_after, MayAnswerAll, RefusesAt}
+use Rattle.nntp_article.specs.Session.{Spool.{Spool, IsSpool}, Machine.{State, start, MayAnswer, Run, after}, Explains.{Explains, ExplainsUpTo}}
+use Rattle.nntp_article.{specs.declared.session.profile.Profile.{Profile}, proofs.SessionLemmas.ClosingAnswers.{run-stays-open}}
+use Rattle.nntp_spool.specs.{Inner.Sessions.{state_after, MayAnswerAll}, Sessions.{RefusesAt}}
 
 -- ---- pairs
 

@@ -1,10 +1,9 @@
 -- A loop that takes one step of a reading in each turn.
 use Rattle.std.proofs.Common.{◌≡◌, ℕ, suc, Bool, ◌-◌, ◌+◌, ◌<◌, Result, Ok, Err, refl, sym, ◌∙◌, arith}
-use Rattle.nntp_spool.specs.declared.text.read_fault.ReadFault.{ReadFault}
-use Rattle.nntp_spool.specs.declared.text.read_fault.ReadError.{ReadError}
-use Rattle.nntp_spool.specs.declared.text.read_fault.ReadError.TheVariants as errors
+use Rattle.nntp_spool.specs.{declared.text.read_fault.{ReadFault.{ReadFault}, ReadError.{ReadError}}, Inner.Reading.{Fails}, Reading.{repeat, Place, On, Done}}
+use Rattle.nntp_spool.specs.Reading.{item_at, items_at}
 use Rattle.nntp_article.specs.Session.Spool.{Spool}
-use Rattle.nntp_spool.specs.Reading.{Fails, repeat, Place, On, Done, item_at, items_at}
+use Rattle.nntp_spool.specs.declared.text.read_fault.ReadError.TheVariants as errors
 
 module _ {S : Type 0} (step : S → Result S ReadFault) where
   pub goes_on : (count i : ℕ) (s t : S) (total : Result S ReadFault) → i < count → step s ≡ Ok t → repeat step (count - i) s ≡ total → repeat step (count - (i + 1)) t ≡ total

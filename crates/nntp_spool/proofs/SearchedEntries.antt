@@ -1,18 +1,10 @@
 -- What a binary search finds among entries in the order of their keys.
-use Rattle.std.proofs.Common.{◌≡◌, ℕ, ◌+◌, ◌<◌, zero, suc, true, false, Option, None, Some, option_map, List, [], ◌∷◌, map, length, get_or, ⊎_elim, refl, sym, ap, subst, ◌∙◌, arith}
-use Rattle.std.specs.declared.cmp.Ordering.{Ordering}
-use Rattle.std.specs.declared.cmp.Ordering.TheVariants.{Less, Equal, Greater}
-use Rattle.std.specs.Ordering.{is_lt, is_eq, eq_by_cmp, ordering_reverse, ordering_index}
-use Rattle.std.specs.Cmp.{IsTotalOrder, IsEquivalence, eq_by_cmp_equiv}
-use Rattle.std.specs.List.{slice_get, AllByRecursion, IsDistinct}
-use Rattle.std.specs.List.Sorted.{IsNonDecreasingBy, IsPartitionPoint}
-use Rattle.std.specs.Map.{lookup, keys_of}
-use Rattle.std.specs.FinMap.{get, is_sorted, IsAntisymmetric}
-use Rattle.std.specs.FinMap.Entries.{below_all}
-use Rattle.std.proofs.lemmas.Bool.{and_parts, cases_lt}
-use Rattle.std.proofs.lemmas.Option.{slice_get-get_or, slice_get_within, get_or_from_slice_get}
-use Rattle.std.proofs.lemmas.Map.Entries.{lookup_from_place, place_from_lookup}
-use Rattle.std.proofs.lemmas.List.Sorted.{searchable_from_sorted}
+use Rattle.std.proofs.Common.{◌≡◌, ℕ, ◌+◌, ◌<◌, zero, suc, true, false, Option, None, Some, option_map, List, [], ◌∷◌, map, length, get_or, ⊎_elim, refl, sym}
+use Rattle.std.proofs.{Common.{ap, subst, ◌∙◌, arith}, lemmas.{Bool.{and_parts, cases_lt}, Option.{slice_get-get_or, slice_get_within, get_or_from_slice_get}}}
+use Rattle.std.proofs.lemmas.{Map.Entries.{lookup_from_place, place_from_lookup}, List.Sorted.{searchable_from_sorted}}
+use Rattle.std.specs.{declared.cmp.Ordering.{Ordering, TheVariants.{Less, Equal, Greater}}, Ordering.{is_lt, is_eq, eq_by_cmp, ordering_reverse}}
+use Rattle.std.specs.{Ordering.{ordering_index}, Cmp.{IsTotalOrder, IsEquivalence, eq_by_cmp_equiv}, List.{slice_get, AllByRecursion, IsDistinct}}
+use Rattle.std.specs.{List.Sorted.{IsNonDecreasingBy, IsPartitionPoint}, Map.{lookup, keys_of}, FinMap.{get, is_sorted, IsAntisymmetric, Entries.{below_all}}}
 use Rattle.nntp_wire.proofs.ShownMaps.{shown, shown_entry, get-shown, equal_is}
 use Rattle.nntp_spool.proofs.MapEntries.{less_is}
 
@@ -77,7 +69,8 @@ module _ {L V K X : Type 0} (R : K → K → Ordering) (key : L → K) (value : 
       turned : (a b : K) → is_lt (R a b) ≡ true → is_lt (R b a) ≡ false
       turned a b h = ap is_lt (o.antisymm b a ∙ ap ordering_reverse (less_is (R a b) h))
 
-      rises : (fs : List (L × V)) → is_sorted R (map (shown_entry R key value) fs) ≡ true → (k : ℕ) (d : L × V) → suc k < length fs → is_lt (R (key (get_or fs (suc k) d).0) (key (get_or fs k d).0)) ≡ false
+      rises : (fs : List (L × V)) → is_sorted R (map (shown_entry R key value) fs) ≡ true → (k : ℕ) (d : L × V) → suc k < length fs → is_lt (R (key (get_or fs (suc k) d).0) (key (get_or fs k d).0))
+          ≡ false
       rises [] h k d lt = absurd (omega (arith, lt))
       rises (e ∷ []) h k d lt = absurd (omega (arith, lt))
       rises (e ∷ f ∷ fs) h zero d lt =

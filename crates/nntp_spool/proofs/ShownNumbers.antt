@@ -1,15 +1,10 @@
 -- The least number of what a `BTreeMap` shows, from what std says of its first entry and of a range.
 use Rattle.std.proofs.Common.{◌≡◌, ℕ, ◌≤◌, Option, None, Some, MatchOption, is_some, option_map, List, [], ◌∷◌, ◌++◌, sym, ap, subst, ◌∙◌, arith}
-use Rattle.std.specs.Ordering.{nat_cmp, is_eq}
-use Rattle.std.specs.Cmp.{nat_cmp_total}
-use Rattle.std.specs.FinMap as map
-use Rattle.std.specs.Map.{lookup}
-use Rattle.std.specs.BTreeMap.Range.{IsRangeOf}
-use Rattle.std.specs.declared.ops.Bound.TheVariants.{Excluded, Unbounded}
-use Rattle.std.specs.BTreeMap.{BTreeMap, get, IsLowerBound, IsUpperBound}
-use Rattle.std.proofs.lemmas.Bool.Decides.{nat_tests}
-use Rattle.nntp_article.specs.Session.Spool.{Numbers, IsNumber, IsFirst, IsNextAbove, IsNextBelow, NoneAbove, NoneBelow}
+use Rattle.std.{proofs.lemmas.Bool.Decides.{nat_tests}, specs.{Ordering.{nat_cmp, is_eq}, Cmp.{nat_cmp_total}, Map.{lookup}, BTreeMap.{BTreeMap, get}}}
+use Rattle.std.specs.{BTreeMap.{IsLowerBound, IsUpperBound, Range.{IsRangeOf}}, declared.ops.Bound.TheVariants.{Excluded, Unbounded}}
+use Rattle.nntp_article.specs.{Session.Spool.{Numbers, IsNumber, IsNextAbove, IsNextBelow, NoneAbove, NoneBelow}, Inner.Spool.{IsFirst}}
 use Rattle.nntp_wire.proofs.ShownMaps.{shown, get-shown, is_some-option_map}
+use Rattle.std.specs.FinMap as map
 
 abbrev pub IsLastOf : Numbers → Option ℕ → Type 0
 IsLastOf N last = MatchOption last ((m : ℕ) → map.get N m ≡ None) (λ n. IsNumber N n × ((m : ℕ) → IsNumber N m → m ≤ n))

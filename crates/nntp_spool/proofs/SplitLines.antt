@@ -1,16 +1,13 @@
 -- The segments of octets between the octets that are a given one.
-use Rattle.std.proofs.Common.{◌≡◌, ℕ, zero, suc, ◌+◌, true, false, cond, eqb, List, [], ◌∷◌, Option, None, Some, Ok, length, take, drop, add-one, inl, inr, refl, sym, ap, ◌∙◌, arith}
-use Rattle.std.specs.Prelude.{position}
-use Rattle.std.specs.List.{slice_split, onto_first, position_or_len}
-use Rattle.std.proofs.lemmas.Bool.{cases_lt, le-ltb, lt-ltb}
+use Rattle.std.proofs.Common.{◌≡◌, ℕ, zero, suc, ◌+◌, true, false, cond, eqb, List, [], ◌∷◌, Option, None, Some, Ok, length, take, drop, add-one, inl, inr}
+use Rattle.std.proofs.{Common.{refl, sym, ap, ◌∙◌, arith}, lemmas.{Bool.{cases_lt, le-ltb, lt-ltb, Decides.{nat_tests}}, List.Splits.{slice_split_first}}}
+use Rattle.std.{proofs.lemmas.List.{Splits.{slice_split_none}, Sums.{fails_before_first}}, specs.{Prelude.{position}, List.{slice_split, onto_first}}}
+use Rattle.std.specs.List.{position_or_len}
 use Rattle.memchr.specs.Find.{IsFirstByte, is_byte}
 use Rattle.nntp_wire.proofs.ArgumentLemmas.{position-found}
-use Rattle.nntp_spool.specs.declared.text.read_fault.Kind.TheVariants as kinds
 use Rattle.nntp_spool.specs.Reading.{next_line, segments_of, fault, is_end}
 use Rattle.nntp_article.specs.Article.Parts.{is_empty}
-use Rattle.std.proofs.lemmas.Bool.Decides.{nat_tests}
-use Rattle.std.proofs.lemmas.List.Splits.{slice_split_first, slice_split_none}
-use Rattle.std.proofs.lemmas.List.Sums.{fails_before_first}
+use Rattle.nntp_spool.specs.declared.text.read_fault.Kind.TheVariants as kinds
 
 abbrev some : ℕ → Option ℕ
 some n = Some n

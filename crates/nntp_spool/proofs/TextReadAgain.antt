@@ -1,35 +1,16 @@
 -- The text of a whole spool is read as this spool.
-use Rattle.std.proofs.Common.{◌≡◌, ℕ, ◌+◌, ◌^◌, ◌<◌, ◌≤◌, Bool, true, false, eqb, List, [], ◌∷◌, ◌++◌, Ok, length, map, refl, sym, ap, ◌∙◌, append_assoc, arith, length-append}
-use Rattle.std.specs.Prelude.{codes, ◌||◌, not, nat_lt}
-use Rattle.std.specs.Fmt.{decimal}
-use Rattle.std.specs.Ordering.{nat_cmp}
-use Rattle.std.specs.Cmp.{nat_cmp_total}
-use Rattle.std.specs.Cmp.Lexicographic.{slice_cmp, nat_list_cmp_total}
-use Rattle.std.specs.List.{list_all, flat_map, AllByRecursion}
-use Rattle.std.specs.FinMap.{entries, len, nat_cmp-IsAntisymmetric}
-use Rattle.std.proofs.lemmas.Bool.{and_from, and_parts}
-use Rattle.std.proofs.lemmas.Bool.Decides.{nat_tests}
-use Rattle.std.proofs.lemmas.List.{length-map}
-use Rattle.std.proofs.lemmas.List.Folds.{list_all-append}
-use Rattle.nntp_wire.specs.Limit.{greatest}
-use Rattle.nntp_wire.specs.Octets.{is_clean, is_line_breaking}
-use Rattle.nntp_wire.specs.declared.limit.Limit.{Limit}
-use Rattle.nntp_wire.specs.declared.limit.Limit.TheVariants.{Narrow, Wide}
-use Rattle.nntp_article.specs.Article.Parts.{Line, Id}
-use Rattle.nntp_article.specs.Session.Spool.{Name, Spool, Numbers, Text, is_line}
-use Rattle.nntp_article.specs.Session.Machine.{is_article_number}
-use Rattle.nntp_spool.specs.Limited.{LimitedSpool}
-use Rattle.nntp_spool.specs.Text.{HasLineCounts, number_line, group_line, article_line, barred, group_lines, article_lines, limit_lines, content_lines, spool_lines, spool_text, with_line_ends}
-use Rattle.nntp_spool.specs.Reading.{segments_of, limit_at, content_at, spool_at}
-use Rattle.nntp_spool.specs.Content.{no_spool, ids_have_articles}
-use Rattle.nntp_spool.specs.Content.{IsNamed, IsArticle, IsContent}
-use Rattle.nntp_spool.proofs.MapEntries.{all_got, got_all}
-use Rattle.nntp_spool.proofs.LineFields.{lacks, lacks-append, lacks-digits, are_digits-decimal, parts_front, list_all_weaken}
-use Rattle.nntp_spool.proofs.NameOctets.{name-lacks, id-lacks}
-use Rattle.nntp_spool.proofs.ShownMaps.{octet_keys}
-use Rattle.nntp_spool.proofs.NumbersInOrder.{few_numbers}
-use Rattle.nntp_spool.proofs.LimitLines.{greatest_small, some_limit_line, limit_again}
-use Rattle.nntp_spool.proofs.ItemsOfText.{no_entries, groups_again, first_lines, tail_lines}
+use Rattle.std.proofs.Common.{◌≡◌, ℕ, ◌+◌, ◌^◌, ◌<◌, ◌≤◌, Bool, true, false, eqb, List, [], ◌∷◌, ◌++◌, Ok, length, map, refl, sym, ap, ◌∙◌, append_assoc, arith}
+use Rattle.std.proofs.{Common.{length-append}, lemmas.{Bool.{and_from, and_parts, Decides.{nat_tests}}, List.{length-map, Folds.{list_all-append}}}}
+use Rattle.std.specs.{Prelude.{codes, ◌||◌, not, nat_lt}, Fmt.{decimal}, Ordering.{nat_cmp}, Cmp.{nat_cmp_total, Lexicographic.{slice_cmp, nat_list_cmp_total}}}
+use Rattle.std.specs.{List.{list_all, flat_map, AllByRecursion}, FinMap.{entries, len, nat_cmp-IsAntisymmetric}}
+use Rattle.nntp_wire.specs.{Limit.{greatest}, Octets.{is_clean, is_line_breaking}, declared.limit.Limit.{Limit, TheVariants.{Narrow, Wide}}}
+use Rattle.nntp_article.specs.{Article.Parts.{Line, Id}, Session.{Spool.{Name, Spool, Numbers, Text, is_line}, Machine.{is_article_number}}}
+use Rattle.nntp_spool.specs.{Limited.{LimitedSpool}, Inner.{Text.{HasLineCounts}, Content.{IsNamed, IsArticle, IsContent}}, Text.{number_line, group_line}}
+use Rattle.nntp_spool.specs.Text.{article_line, barred, group_lines, article_lines, limit_lines, content_lines, spool_lines, spool_text, with_line_ends}
+use Rattle.nntp_spool.{specs.{Reading.{segments_of, limit_at, content_at, spool_at}, Content.{no_spool, ids_have_articles}}, proofs.MapEntries.{all_got}}
+use Rattle.nntp_spool.proofs.{MapEntries.{got_all}, LineFields.{lacks, lacks-append, lacks-digits, are_digits-decimal, parts_front, list_all_weaken}}
+use Rattle.nntp_spool.proofs.{NameOctets.{name-lacks, id-lacks}, ShownMaps.{octet_keys}, NumbersInOrder.{few_numbers}, LimitLines.{greatest_small}}
+use Rattle.nntp_spool.proofs.{LimitLines.{some_limit_line, limit_again}, ItemsOfText.{no_entries, groups_again, first_lines, tail_lines}}
 
 -- ---- lines have no line feed inside
 

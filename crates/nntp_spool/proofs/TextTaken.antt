@@ -1,19 +1,11 @@
 -- A text that is read is that of the spool it is read as.
-use Rattle.std.proofs.Common.{◌≡◌, ℕ, true, List, [], ◌∷◌, ◌++◌, Ok, length, refl, sym, ap, subst, ◌∙◌, append_assoc}
-use Rattle.std.specs.List.{join_with_byte}
-use Rattle.std.proofs.lemmas.List.{append-nil}
-use Rattle.std.proofs.lemmas.List.Splits.{join_with_byte-slice_split}
-use Rattle.nntp_wire.specs.Limit.{greatest}
-use Rattle.nntp_wire.specs.declared.limit.Limit.{Limit}
-use Rattle.nntp_article.specs.Article.Parts.{Line}
-use Rattle.nntp_article.specs.Session.Spool.{Spool}
-use Rattle.nntp_spool.specs.Limited.{LimitedSpool}
-use Rattle.nntp_spool.specs.Text.{limit_lines, content_lines, spool_lines, spool_text, with_line_ends}
-use Rattle.nntp_spool.specs.Reading.{◌>>=◌, Place, segments_of, limit_at, content_at, spool_at}
-use Rattle.nntp_spool.specs.Content.{IsContent, ids_have_articles}
-use Rattle.nntp_spool.proofs.NumbersRead.{bind_ok, ok_is, done}
-use Rattle.nntp_spool.proofs.LimitLines.{greatest_small, limit_takes}
-use Rattle.nntp_spool.proofs.ItemsOfText.{content_takes}
+use Rattle.std.proofs.{Common.{◌≡◌, ℕ, true, List, [], ◌∷◌, ◌++◌, Ok, length, refl, sym, ap, subst, ◌∙◌, append_assoc}, lemmas.List.{append-nil}}
+use Rattle.std.{proofs.lemmas.List.Splits.{join_with_byte-slice_split}, specs.List.{join_with_byte}}
+use Rattle.nntp_wire.specs.{Limit.{greatest}, declared.limit.Limit.{Limit}}
+use Rattle.nntp_article.specs.{Article.Parts.{Line}, Session.Spool.{Spool}}
+use Rattle.nntp_spool.specs.{Limited.{LimitedSpool}, Text.{limit_lines, content_lines, spool_lines, spool_text, with_line_ends}, Reading.{◌>>=◌, Place}}
+use Rattle.nntp_spool.specs.{Reading.{segments_of, limit_at, content_at, spool_at}, Inner.Content.{IsContent}, Content.{ids_have_articles}}
+use Rattle.nntp_spool.proofs.{NumbersRead.{bind_ok, ok_is, done}, LimitLines.{greatest_small, limit_takes}, ItemsOfText.{content_takes}}
 
 joined : (lines : List Line) → join_with_byte 10 (lines ++ [] ∷ []) ≡ with_line_ends lines
 joined [] = refl

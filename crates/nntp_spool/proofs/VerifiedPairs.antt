@@ -1,20 +1,13 @@
 -- A session, exchange by exchange.
 use Rattle.std.proofs.Common.{◌≡◌, ℕ, ◌+◌, List, [], ◌∷◌, ◌++◌, length, refl, sym, ap, subst, ◌∙◌, length-append, Result, IfOk}
-use Rattle.nntp_pair.specs.Pairing.{Paired, Unpaired, IsNext, AreNext, Ends, bad, asked_at, streams}
-use Rattle.nntp_pair.specs.declared.class.PairClass.{PairClass}
+use Rattle.nntp_pair.specs.{Pairing.{Paired, Unpaired, IsNext, AreNext, Ends, bad, asked_at, streams}, declared.class.PairClass.{PairClass}}
 use Rattle.nntp_pair.proofs.PairingLemmas.{AreNext-push, index-counts}
-use Rattle.nntp_article.specs.Session.Spool.{Spool, IsSpool}
-use Rattle.nntp_article.specs.declared.session.profile.Profile.{Profile}
-use Rattle.nntp_article.specs.Session.Explains.{Explains, ExplainsUpTo}
-use Rattle.nntp_article.specs.Session.Machine.{State, Visible, start, MayAnswer, after, visible_after}
-use Rattle.nntp_said.specs.Asks.{position_after, state_at}
-use Rattle.nntp_said.specs.declared.position.Position.{Position}
-use Rattle.nntp_said.specs.declared.position.Position.TheVariants.{Nowhere}
+use Rattle.nntp_article.specs.Session.{Spool.{Spool, IsSpool}, Explains.{Explains, ExplainsUpTo}, Machine.{State, Visible, start, MayAnswer, after}}
+use Rattle.nntp_article.specs.{Session.Machine.{visible_after}, declared.session.profile.Profile.{Profile}}
+use Rattle.nntp_said.specs.{Asks.{position_after}, Inner.Asks.{state_at}, declared.position.Position.{Position, TheVariants.{Nowhere}}}
 use Rattle.nntp_said.proofs.CurrentArticle.{after-state_at}
-use Rattle.nntp_spool.specs.declared.verification.verified.Verified.{Verified}
-use Rattle.nntp_spool.specs.Verifying.{IsVerified}
-use Rattle.nntp_spool.specs.Sessions.{state_after, MayAnswerAll, RefusesAt}
-use Rattle.nntp_spool.proofs.PermittedPairs.{state-more, all-more, permitted-explained, unpermitted-refused, bad-refused}
+use Rattle.nntp_spool.specs.{declared.verification.verified.Verified.{Verified}, Verifying.{IsVerified}, Inner.Sessions.{state_after, MayAnswerAll}}
+use Rattle.nntp_spool.{specs.Sessions.{RefusesAt}, proofs.PermittedPairs.{state-more, all-more, permitted-explained, unpermitted-refused, bad-refused}}
 
 -- a spool and a profile that are the same leave what is verified as it is
 pub verified_by_same : {E : Type 0} (profile other : Profile) (S T : Spool) (client server : List ℕ) (r : Result Verified E) → profile ≡ other

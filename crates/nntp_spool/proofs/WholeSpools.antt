@@ -1,35 +1,16 @@
 -- A spool is groups and articles that a spool may hold, each id with its article.
-use Rattle.std.proofs.Common.{◌≡◌, ℕ, ◌≤◌, ◌<◌, ◌^◌, Ok, Err, Bool, true, IsSome, List, [], ◌∷◌, ◌++◌, Option, None, Some, is_some, length, refl, sym, ap, subst, ◌∙◌, arith}
-use Rattle.std.specs.Prelude.{unwrap_or}
-use Rattle.std.specs.List.{list_all, AllByRecursion}
-use Rattle.std.specs.Option.{option_map_or}
-use Rattle.std.specs.Ordering.{nat_cmp}
-use Rattle.std.specs.Cmp.{nat_cmp_total}
-use Rattle.std.specs.Cmp.Lexicographic.{nat_list_cmp_total, bytes_decides}
-use Rattle.std.specs.FinMap.{get, empty, entries, get-empty, nat_cmp-IsAntisymmetric}
-use Rattle.std.proofs.lemmas.Bool.{true≢false, and_from, and_parts}
-use Rattle.std.proofs.lemmas.Bool.Decides.{nat_tests}
-use Rattle.std.proofs.lemmas.List.Sums.{AllPass-from_list_all, list_all-from_AllPass}
-use Rattle.std.proofs.lemmas.List.Folds.{list_all-append}
-use Rattle.nntp_wire.proofs.DecidedLemmas.{group_name-iff, message_id-iff}
-use Rattle.nntp_wire.specs.Limit.{greatest}
-use Rattle.nntp_wire.specs.Octets.{is_clean}
-use Rattle.nntp_spool.proofs.LineFields.{list_all_weaken}
-use Rattle.nntp_article.specs.Article.Parts.{Line, Id, is_head, is_clean_head, said_id}
-use Rattle.nntp_article.specs.Session.Machine.{is_article_number, says_own_id, is_same}
+use Rattle.std.proofs.Common.{◌≡◌, ℕ, ◌≤◌, ◌<◌, ◌^◌, Ok, Err, Bool, true, IsSome, List, [], ◌∷◌, ◌++◌, Option, None, Some, is_some, length, refl, sym, ap}
+use Rattle.std.proofs.{Common.{subst, ◌∙◌, arith}, lemmas.{Bool.{true≢false, and_from, and_parts, Decides.{nat_tests}}, List.Sums.{AllPass-from_list_all}}}
+use Rattle.std.{proofs.lemmas.List.{Sums.{list_all-from_AllPass}, Folds.{list_all-append}}, specs.{Prelude.{unwrap_or}, List.{list_all, AllByRecursion}}}
+use Rattle.std.specs.{Option.{option_map_or}, Ordering.{nat_cmp}, Cmp.{nat_cmp_total, Lexicographic.{nat_list_cmp_total, bytes_decides}}, FinMap.{get, empty}}
+use Rattle.std.specs.FinMap.{entries, get-empty, nat_cmp-IsAntisymmetric}
+use Rattle.nntp_wire.{proofs.DecidedLemmas.{group_name-iff, message_id-iff}, specs.{Limit.{greatest}, Octets.{is_clean}}}
+use Rattle.nntp_spool.proofs.{LineFields.{list_all_weaken}, MapEntries.{all_got, got_all}, NumbersInOrder.{no_numbers, all_passed}, NumbersRead.{ok_is, done}}
+use Rattle.nntp_spool.{proofs.{ShownMaps.{octet_keys}, TextTaken.{text_takes}, TextReadAgain.{text_again, counted}}, specs.Content.{all_known}}
+use Rattle.nntp_spool.specs.{Content.{ids_have_articles}, Inner.{Content.{IdsHaveArticles, AreNumbers, IsNamed, IsContent}, Text.{IsWritten}}}
+use Rattle.nntp_spool.specs.{Reading.{spool_at}, declared.text.read_fault.ReadFault.{ReadFault}, Limited.{LimitedSpool, IsWithinLimit}, Text.{spool_text}}
+use Rattle.nntp_article.specs.{Article.Parts.{Line, Id, is_head, is_clean_head, said_id}, Session.Machine.{is_article_number, says_own_id, is_same}}
 use Rattle.nntp_article.specs.Session.Spool.{Name, Spool, Numbers, numbers, IsSpool, is_line}
-use Rattle.nntp_spool.specs.Content.{all_known, IdsHaveArticles, ids_have_articles}
-use Rattle.nntp_spool.specs.Reading.{spool_at}
-use Rattle.nntp_spool.specs.declared.text.read_fault.ReadFault.{ReadFault}
-use Rattle.nntp_spool.specs.Limited.{LimitedSpool, IsWithinLimit}
-use Rattle.nntp_spool.specs.Text.{spool_text, IsWritten}
-use Rattle.nntp_spool.specs.Content.{AreNumbers, IsNamed, IsContent}
-use Rattle.nntp_spool.proofs.MapEntries.{all_got, got_all}
-use Rattle.nntp_spool.proofs.NumbersInOrder.{no_numbers, all_passed}
-use Rattle.nntp_spool.proofs.NumbersRead.{ok_is, done}
-use Rattle.nntp_spool.proofs.ShownMaps.{octet_keys}
-use Rattle.nntp_spool.proofs.TextTaken.{text_takes}
-use Rattle.nntp_spool.proofs.TextReadAgain.{text_again, counted}
 
 value_of_some : {A : Type 0} (o : Option A) → IsSome o → (x : A) × (o ≡ Some x)
 value_of_some None h = absurd (true≢false (sym h))

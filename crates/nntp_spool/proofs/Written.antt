@@ -1,10 +1,7 @@
 -- What a writer took after several calls.
-use Rattle.std.proofs.Common.{◌≡◌, ℕ, ◌<◌, ◌+◌, List, [], ◌∷◌, ◌++◌, Option, None, Some, Result, Ok, Err, length, get_or, take, drop, drop-cons, add-one, subst, refl, sym, ap, ◌∙◌, append_assoc}
-use Rattle.std.proofs.lemmas.List.{append-nil, take-append-drop}
-use Rattle.std.specs.Io.KnownBytes.{Appends}
-use Rattle.nntp_spool.specs.Writing.{Wrote, WritesBut}
-use Rattle.nntp_spool.specs.Watched.{inner_of}
-use Rattle.nntp_spool.specs.declared.watched.Watched.{Watched}
+use Rattle.std.proofs.Common.{◌≡◌, ℕ, ◌<◌, ◌+◌, List, [], ◌∷◌, ◌++◌, Option, None, Some, Result, Ok, Err, length, get_or, take, drop, drop-cons, add-one, subst}
+use Rattle.std.{proofs.{Common.{refl, sym, ap, ◌∙◌, append_assoc}, lemmas.List.{append-nil, take-append-drop}}, specs.Io.KnownBytes.{Appends}}
+use Rattle.nntp_spool.specs.{Writing.{Wrote}, Inner.Writing.{WritesBut}, Watched.{inner_of}, declared.watched.Watched.{Watched}}
 
 Appends-nil : (a : Option (List ℕ)) → Appends a a []
 Appends-nil None = tt

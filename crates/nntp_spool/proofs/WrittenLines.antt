@@ -1,12 +1,8 @@
 -- What a writer took of lines.
-use Rattle.std.proofs.Common.{◌≡◌, ℕ, List, [], ◌∷◌, ◌++◌, Option, subst, sym, ap}
-use Rattle.std.proofs.lemmas.List.{append-nil}
-use Rattle.std.proofs.lemmas.List.Concat.{flat_map-append}
+use Rattle.std.proofs.{Common.{◌≡◌, ℕ, List, [], ◌∷◌, ◌++◌, Option, subst, sym, ap}, lemmas.List.{append-nil, Concat.{flat_map-append}}}
 use Rattle.nntp_wire.specs.declared.limit.Limit.{Limit}
 use Rattle.nntp_article.specs.Session.Spool.{Spool}
-use Rattle.nntp_spool.specs.Limited.{LimitedSpool}
-use Rattle.nntp_spool.specs.Text.{with_line_ends, group_line, article_line, limit_lines, content_lines, spool_text}
-use Rattle.nntp_spool.specs.Writing.{Wrote}
+use Rattle.nntp_spool.specs.{Limited.{LimitedSpool}, Text.{with_line_ends, group_line, article_line, limit_lines, content_lines, spool_text}, Writing.{Wrote}}
 use Rattle.nntp_spool.proofs.Written.{Wrote-on, Wrote-first}
 
 pub with_line_ends-cons : (line : List ℕ) (lines : List (List ℕ)) → with_line_ends (line ∷ lines) ≡ with_line_ends (line ∷ []) ++ with_line_ends lines

@@ -1,9 +1,5 @@
 -- Keys that come in ascending order.
-use Rattle.std.specs.Prelude.{Bool}
-use Rattle.std.specs.List.{list_all}
-use Rattle.std.specs.Ordering.{is_lt}
-use Rattle.std.specs.declared.cmp.Ordering.{Ordering}
-use Rattle.std.specs.FinMap.{FinMap, entries}
+use Rattle.std.specs.{Prelude.{Bool}, List.{list_all}, Ordering.{is_lt}, declared.cmp.Ordering.{Ordering}, FinMap.{FinMap, entries}}
 
 -- the key is greater than each one before it
 abbrev pub is_last : {K X : Type 0} {R : K → K → Ordering} → FinMap R X → K → Bool

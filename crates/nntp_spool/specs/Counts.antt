@@ -1,6 +1,5 @@
 -- How much a spool holds.
-use Rattle.std.specs.Prelude.{ℕ, sum, map}
-use Rattle.std.specs.FinMap.{entries, len}
+use Rattle.std.specs.{Prelude.{ℕ, sum, map}, FinMap.{entries, len}}
 use Rattle.nntp_article.specs.Session.Spool.{Spool}
 
 -- the numbers over all groups

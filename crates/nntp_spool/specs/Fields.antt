@@ -1,10 +1,7 @@
 -- The fields of a line of a spool's text.
 use Rattle.std.specs.Prelude.{ℕ, ◌^◌, Bool, false, not, ◌&&◌, ◌||◌, ◌==◌, nat_lt, if◌then◌else◌, List, [], ◌∷◌, Option, None, Some, codes, bytes_eq}
-use Rattle.std.specs.List.{slice_split, list_all}
-use Rattle.std.specs.Char.{is_ascii_digit}
-use Rattle.std.specs.Str.Parse.{digits_value}
-use Rattle.nntp_article.specs.Article.Parts.{Line, Id, is_empty}
-use Rattle.nntp_article.specs.Session.Spool.{Name, is_line}
+use Rattle.std.specs.{List.{slice_split, list_all}, Char.{is_ascii_digit}, Str.Parse.{digits_value}}
+use Rattle.nntp_article.specs.{Article.Parts.{Line, Id, is_empty}, Session.Spool.{Name, is_line}}
 
 -- the fields of a line, which stand between spaces
 abbrev pub fields_of : Line → List (List ℕ)

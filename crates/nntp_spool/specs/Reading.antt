@@ -1,24 +1,12 @@
 -- Reading a spool's text line by line, with the first fault that is met.
-use Rattle.std.specs.Prelude.{◌≡◌, ℕ, zero, suc, ◌+◌, Bool, true, false, not, ◌&&◌, ◌==◌, if◌then◌else◌, List, [], ◌∷◌, ◌++◌, Option, None, Some, Result, Ok, Err, length, codes, bytes_eq}
-use Rattle.std.specs.List.{slice_split}
-use Rattle.std.specs.FinMap.{insert, empty}
-use Rattle.nntp_wire.specs.Decided.{is_group_name, is_message_id}
-use Rattle.nntp_wire.specs.Limit.{greatest}
-use Rattle.nntp_wire.specs.declared.limit.Limit.{Limit}
-use Rattle.nntp_wire.specs.declared.limit.Limit.TheVariants.{Narrow, Wide}
-use Rattle.nntp_article.specs.Article.Parts.{Line, Id, is_empty}
-use Rattle.nntp_article.specs.Session.Spool.{Name, Spool, Numbers}
-use Rattle.nntp_article.specs.Session.Machine.{is_article_number}
-use Rattle.nntp_spool.specs.declared.text.read_fault.Kind.{Kind}
+use Rattle.std.specs.Prelude.{ℕ, zero, suc, ◌+◌, Bool, true, false, not, ◌&&◌, ◌==◌, if◌then◌else◌, List, [], ◌∷◌, ◌++◌, Option, None, Some, Result, Ok, Err}
+use Rattle.std.specs.{Prelude.{length, codes, bytes_eq}, List.{slice_split}, FinMap.{insert, empty}}
+use Rattle.nntp_wire.specs.{Decided.{is_group_name, is_message_id}, Limit.{greatest}, declared.limit.Limit.{Limit, TheVariants.{Narrow, Wide}}}
+use Rattle.nntp_article.specs.{Article.Parts.{Line, Id, is_empty}, Session.{Spool.{Name, Spool, Numbers}, Machine.{is_article_number}}}
+use Rattle.nntp_spool.specs.{declared.text.read_fault.{Kind.{Kind}, ReadFault.{ReadFault}}, Limited.{LimitedSpool}, Ascending.{is_last}, Numbers.{has_id}}
+use Rattle.nntp_spool.specs.{Content.{no_spool, with_group, with_article, is_head_of, ids_have_articles}, Fields.{fields_of, OpeningValue, Group, Article, End}}
+use Rattle.nntp_spool.specs.Fields.{opening_of, number_and_id, unbarred}
 use Rattle.nntp_spool.specs.declared.text.read_fault.Kind.TheVariants as kinds
-use Rattle.nntp_spool.specs.declared.text.read_fault.ReadFault.{ReadFault}
-use Rattle.nntp_spool.specs.declared.text.read_fault.ReadError.{ReadError}
-use Rattle.nntp_spool.specs.declared.text.read_fault.ReadError.TheVariants as errors
-use Rattle.nntp_spool.specs.Limited.{LimitedSpool}
-use Rattle.nntp_spool.specs.Ascending.{is_last}
-use Rattle.nntp_spool.specs.Numbers.{has_id}
-use Rattle.nntp_spool.specs.Content.{no_spool, with_group, with_article, is_head_of, ids_have_articles}
-use Rattle.nntp_spool.specs.Fields.{fields_of, OpeningValue, Group, Article, End, opening_of, number_and_id, unbarred}
 
 infixl 10 ◌>>=◌
 abbrev pub ◌>>=◌ : {A B : Type 0} → Result A ReadFault → (A → Result B ReadFault) → Result B ReadFault
@@ -27,15 +15,6 @@ abbrev pub ◌>>=◌ : {A B : Type 0} → Result A ReadFault → (A → Result B
 
 abbrev pub fault : {A : Type 0} → ℕ → Kind → Result A ReadFault
 fault line kind = Err (record { line = line; kind = kind })
-
--- What a function returned, seen by view, is what reading gives, unless memory ran out.
-abbrev pub Fails : {Y : Type 0} → ReadError → Result Y ReadFault → Type 0
-Fails errors.Memory read = Unit {0}
-Fails (errors.Fault f) read = read ≡ Err f
-
-abbrev pub Gives : {X Y : Type 0} → (X → Y) → Result X ReadError → Result Y ReadFault → Type 0
-Gives view (Ok x) read = read ≡ Ok (view x)
-Gives view (Err e) read = Fails e read
 
 -- ---- lines
 

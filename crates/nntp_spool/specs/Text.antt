@@ -1,14 +1,8 @@
 -- The one text of a spool.
-use Rattle.std.specs.Prelude.{◌≡◌, Some, ℕ, List, [], ◌∷◌, ◌++◌, length, map, codes}
-use Rattle.std.specs.Fmt.{decimal}
-use Rattle.std.specs.List.{flat_map, join_with_byte}
-use Rattle.std.specs.FinMap.{get, entries, len}
-use Rattle.nntp_wire.specs.declared.limit.Limit.{Limit}
-use Rattle.nntp_wire.specs.declared.limit.Limit.TheVariants.{Narrow, Wide}
-use Rattle.nntp_article.specs.Article.Parts.{Line, Id}
-use Rattle.nntp_article.specs.Session.Spool.{Name, Spool, Numbers, Text}
-use Rattle.nntp_spool.specs.ArticleLines.{HasLineCount}
-use Rattle.nntp_spool.specs.Limited.{LimitedSpool, IsWithinLimit}
+use Rattle.std.specs.{Prelude.{ℕ, List, [], ◌∷◌, ◌++◌, length, map, codes}, Fmt.{decimal}, List.{flat_map, join_with_byte}, FinMap.{entries, len}}
+use Rattle.nntp_wire.specs.declared.limit.Limit.{Limit, TheVariants.{Narrow, Wide}}
+use Rattle.nntp_article.specs.{Article.Parts.{Line, Id}, Session.Spool.{Name, Spool, Numbers, Text}}
+use Rattle.nntp_spool.specs.Limited.{LimitedSpool}
 
 -- words, with one space between each two
 abbrev pub spaced : List (List ℕ) → Line
@@ -52,12 +46,3 @@ with_line_ends lines = flat_map (λ line. line ++ 10 ∷ []) lines
 
 abbrev pub spool_text : LimitedSpool → List ℕ
 spool_text L = with_line_ends (spool_lines L)
-
--- each head and each body has fewer than 2^64 lines, as those of articles in memory have
-abbrev pub HasLineCounts : Spool → Type 0
-HasLineCounts S = (id : Id) (t : Text) → get S.articles id ≡ Some t → HasLineCount t
-
--- a spool whose counts fit 64 bits, as those of each spool in memory do; a count of numbers is within the limit of article numbers
-pub record IsWritten (L : LimitedSpool) : Type 0 where
-  pub is_spool : IsWithinLimit L
-  pub line_counts : HasLineCounts L.spool

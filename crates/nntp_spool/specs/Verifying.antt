@@ -1,11 +1,7 @@
 -- What `verify` answers.
 use Rattle.std.specs.Prelude.{ℕ, List}
-use Rattle.nntp_article.specs.Session.Spool.{Spool}
-use Rattle.nntp_article.specs.declared.session.profile.Profile.{Profile}
-use Rattle.nntp_article.specs.Session.Explains.{Explains}
-use Rattle.nntp_spool.specs.declared.verification.verified.Verified.{Verified}
-use Rattle.nntp_spool.specs.declared.verification.verified.Verified.TheVariants.{Permits, Refuses}
-use Rattle.nntp_spool.specs.Sessions.{RefusesAt}
+use Rattle.nntp_article.specs.{Session.{Spool.{Spool}, Explains.{Explains}}, declared.session.profile.Profile.{Profile}}
+use Rattle.nntp_spool.specs.{declared.verification.verified.Verified.{Verified, TheVariants.{Permits, Refuses}}, Sessions.{RefusesAt}}
 
 -- the spool explains both streams, with so many answers; or this answer is the first that it doesn't explain
 abbrev pub IsVerified : Profile → Spool → List ℕ → List ℕ → Verified → Type 0

@@ -1,16 +1,6 @@
 -- What a writer took of some octets.
-use Rattle.std.specs.Prelude.{◌≡◌, ℕ, List, [], ◌++◌, Option, Result, Ok, Err}
-use Rattle.std.specs.Io.KnownBytes.{Appends}
+use Rattle.std.specs.{Prelude.{◌≡◌, ℕ, List, ◌++◌, Option}, Io.KnownBytes.{Appends}}
 
 -- the writer took the octets but for the rest
 abbrev pub Wrote : Option (List ℕ) → Option (List ℕ) → List ℕ → List ℕ → Type 0
 Wrote old new octets rest = (front : List ℕ) × (octets ≡ front ++ rest) × Appends old new front
-
--- the writer took the octets but for the rest, or after a fault a front of them
-abbrev pub WritesBut : {A E : Type 0} → Result A E → Option (List ℕ) → Option (List ℕ) → List ℕ → List ℕ → Type 0
-WritesBut (Ok x) old new octets rest = Wrote old new octets rest
-WritesBut (Err e) old new octets rest = (left : List ℕ) × Wrote old new octets left
-
--- the writer took all of the octets, or after a fault a front of them
-abbrev pub Writes : {A E : Type 0} → Result A E → Option (List ℕ) → Option (List ℕ) → List ℕ → Type 0
-Writes result old new octets = WritesBut result old new octets []

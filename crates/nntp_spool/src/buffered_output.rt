@@ -1,8 +1,8 @@
 //! Octets that are gathered for a writer.
 ghost use Rattle.std.specs.Prelude.{◌≡◌, [], ◌||◌, is_err, OnOk};
 ghost use Rattle.std.specs.List.{flat_map};
-ghost use Rattle.nntp_spool.specs.Writing.{Writes};
-ghost use Rattle.nntp_spool.specs.Buffering.{taken, waiting, writer_failed, IsSameWriter, Buffers};
+ghost use Rattle.nntp_spool.specs.Inner.Writing.{Writes};
+ghost use Rattle.nntp_spool.specs.Inner.Buffering.{taken, waiting, writer_failed, IsSameWriter, Buffers};
 
 use crate::output::{WriteFault, put};
 use crate::watched::Watched;

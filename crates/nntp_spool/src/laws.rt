@@ -4,11 +4,13 @@ ghost use Rattle.nntp_pair.specs.declared.class.PairClass.{PairClass};
 ghost use Rattle.nntp_pair.specs.Pairing.{Paired, Unpaired, IsNext, AreNext, Ends, bad, asked_at, streams};
 ghost use Rattle.nntp_article.specs.Session.Machine.{start, MayAnswer};
 ghost use Rattle.nntp_article.specs.Session.Explains.{Explains, ExplainsUpTo};
-ghost use Rattle.nntp_spool.specs.Sessions.{state_after, MayAnswerAll, RefusesAt};
+ghost use Rattle.nntp_spool.specs.Inner.Sessions.{state_after, MayAnswerAll};
+ghost use Rattle.nntp_spool.specs.Sessions.{RefusesAt};
 ghost use Rattle.nntp_article.specs.Session.Spool.{Spool, IsSpool};
 ghost use Rattle.nntp_article.specs.declared.session.profile.Profile.{Profile};
 ghost use Rattle.nntp_spool.specs.Limited.{LimitedSpool, IsWithinLimit};
-ghost use Rattle.nntp_spool.specs.Text.{spool_text, IsWritten};
+ghost use Rattle.nntp_spool.specs.Text.{spool_text};
+ghost use Rattle.nntp_spool.specs.Inner.Text.{IsWritten};
 ghost use Rattle.nntp_spool.specs.Reading.{spool_at};
 
 /// Octets that are read as a spool are the text of this spool.
@@ -52,7 +54,8 @@ pub fn what_is_not_permitted_is_refused()
 /// doesn't explain.
 pub fn what_answers_nothing_is_refused()
     ensures { (profile : Profile) (S : Spool) (client server : List ℕ) (pairs : List Paired) (left : Unpaired) (class : PairClass) → IsSpool profile.limit S
-        → AreNext (streams client server) pairs left → MayAnswerAll profile S start pairs → Ends left (bad class) → RefusesAt profile S client server (length pairs) }
+        → AreNext (streams client server) pairs left → MayAnswerAll profile S start pairs → Ends left (bad class)
+        → RefusesAt profile S client server (length pairs) }
 {}
 
 /// A spool that explains two streams refuses none of their answers. So `verify` answers `Permits`

@@ -1,7 +1,8 @@
 //! Octets that are handed to a writer.
 ghost use Rattle.std.specs.Prelude.{◌≡◌, ◌||◌, is_err};
-ghost use Rattle.nntp_spool.specs.Watched.{inner_of, has_failed_of};
-ghost use Rattle.nntp_spool.specs.Writing.{Writes};
+ghost use Rattle.nntp_spool.specs.Watched.{inner_of};
+ghost use Rattle.nntp_spool.specs.Inner.Watched.{has_failed_of};
+ghost use Rattle.nntp_spool.specs.Inner.Writing.{Writes};
 
 use crate::watched::Watched;
 use std::io::Write;

@@ -4,8 +4,8 @@ ghost use Rattle.nntp_pair.specs.Pairing.{asked_at};
 ghost use Rattle.nntp_article.specs.Session.Limit.{profile_of};
 ghost use Rattle.nntp_article.specs.Session.Machine.{MayAnswer, start};
 ghost use Rattle.nntp_article.specs.Session.Spool.{IsSpool};
-ghost use Rattle.nntp_said.specs.Asks.{state_at};
-ghost use Rattle.nntp_spool.specs.AskedCounts.{AreCounted};
+ghost use Rattle.nntp_said.specs.Inner.Asks.{state_at};
+ghost use Rattle.nntp_spool.specs.Inner.AskedCounts.{AreCounted};
 ghost use Rattle.nntp_spool.specs.Verifying.{IsVerified};
 
 mod asked_counts;

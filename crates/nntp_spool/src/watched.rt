@@ -15,7 +15,8 @@ pub struct Watched<T> {
 }
 
 impl<T> Watched<T> {
-    ghost use Rattle.nntp_spool.specs.Watched.{inner_of, has_failed_of};
+    ghost use Rattle.nntp_spool.specs.Watched.{inner_of};
+    ghost use Rattle.nntp_spool.specs.Inner.Watched.{has_failed_of};
 
     /// Watches a reader or a writer from now on.
     pub fn new(inner: T) -> Watched<T>
@@ -59,7 +60,8 @@ impl<T> Watched<T> {
 }
 
 impl<R: Read> Read for Watched<R> {
-    ghost use Rattle.nntp_spool.specs.Watched.{inner_of, has_failed_of};
+    ghost use Rattle.nntp_spool.specs.Watched.{inner_of};
+    ghost use Rattle.nntp_spool.specs.Inner.Watched.{has_failed_of};
 
     ghost remaining = { λ w. R.remaining (inner_of w) };
 
@@ -80,7 +82,8 @@ impl<R: Read> Read for Watched<R> {
 }
 
 impl<W: Write> Write for Watched<W> {
-    ghost use Rattle.nntp_spool.specs.Watched.{inner_of, has_failed_of, takes_none};
+    ghost use Rattle.nntp_spool.specs.Watched.{inner_of};
+    ghost use Rattle.nntp_spool.specs.Inner.Watched.{has_failed_of, takes_none};
 
     ghost contents = { λ w. W.contents (inner_of w) };
 

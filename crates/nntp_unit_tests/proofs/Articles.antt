@@ -1,12 +1,8 @@
 -- Heads, bodies and headers, and what they say.
-use Rattle.std.proofs.Common.{◌≡◌, Bool, true, false, List, [], ◌∷◌, ◌++◌, Option, None, Some, map, refl}
-use Rattle.std.specs.Prelude.{codes}
-use Rattle.std.specs.List.{list_any}
-use Rattle.std.specs.Char.{encode_utf8}
-use Rattle.std.specs.Str.{chars, is_utf8}
+use Rattle.std.{proofs.Common.{◌≡◌, Bool, true, false, List, [], ◌∷◌, ◌++◌, Option, None, Some, map, refl}, specs.{Prelude.{codes}, List.{list_any}}}
+use Rattle.std.specs.{Char.{encode_utf8}, Str.{chars, is_utf8}}
 use Rattle.nntp_article.specs.Article.Parts.{Line, Id, is_empty, head_part, body_part, headers, is_head, is_clean_head, name_of, content_of, said_id}
-use Rattle.nntp_article.specs.Article.Control.{ControlValue, cancel, new_group, rm_group, other, controls_of}
-use Rattle.nntp_article.specs.Article.Required.{missing_of}
+use Rattle.nntp_article.specs.Article.{Control.{ControlValue, cancel, new_group, rm_group, other, controls_of}, Required.{missing_of}}
 use Rattle.nntp_article.specs.declared.article.missing_headers.Missing.{Missing}
 use Rattle.nntp_unit_tests.proofs.Rows.{Makes}
 

@@ -1,15 +1,9 @@
 -- What a line of the client asks for.
-use Rattle.std.proofs.Common.{◌≡◌, ℕ, List, [], ◌∷◌, ◌++◌, Option, None, Some, map, replicate, refl}
-use Rattle.std.specs.Prelude.{codes}
-use Rattle.std.specs.Char.{encode_utf8}
-use Rattle.std.specs.Str.{chars, is_utf8}
-use Rattle.nntp_wire.specs.Command.{Request, by_id, by_number, current, capabilities, mode_reader, next, last, quit, opaque, ill_formed, group, list_group, retrieve, list_active}
-use Rattle.nntp_wire.specs.Command.{form_of, request_of}
-use Rattle.nntp_wire.specs.Prompts.{prompt_kind}
-use Rattle.nntp_wire.specs.Answer.{to}
-use Rattle.nntp_wire.specs.declared.command.What.TheVariants.{Article, Head, Body, Stat}
-use Rattle.nntp_wire.specs.declared.range.Range.{Range}
-use Rattle.nntp_wire.specs.declared.prompt_kind.PromptKind.{PromptKind}
+use Rattle.std.{proofs.Common.{◌≡◌, ℕ, List, [], ◌∷◌, ◌++◌, Option, None, Some, map, replicate, refl}, specs.{Prelude.{codes}, Char.{encode_utf8}, Str.{chars}}}
+use Rattle.std.specs.Str.{is_utf8}
+use Rattle.nntp_wire.specs.Command.{Request, by_id, by_number, current, capabilities, mode_reader, next, last, quit, opaque, ill_formed, group, list_group}
+use Rattle.nntp_wire.specs.{Command.{retrieve, list_active, form_of, request_of}, Inner.Prompts.{prompt_kind}, Answer.{to}}
+use Rattle.nntp_wire.specs.declared.{command.What.TheVariants.{Article, Head, Body, Stat}, range.Range.{Range}, prompt_kind.PromptKind.{PromptKind}}
 use Rattle.nntp_wire.specs.declared.prompt_kind.PromptKind.TheVariants.{ListGroup, ModeReader, Quit, Other}
 use Rattle.nntp_unit_tests.proofs.Rows.{Makes}
 

@@ -1,11 +1,7 @@
 -- Message ids and group names.
-use Rattle.std.proofs.Common.{◌≡◌, ℕ, Bool, true, false, List, [], ◌∷◌, ◌++◌, replicate, refl}
-use Rattle.std.specs.Prelude.{codes}
-use Rattle.std.specs.Char.{encode_utf8}
-use Rattle.std.specs.Str.{chars, is_utf8}
-use Rattle.nntp_wire.specs.Name.{IsMessageId}
-use Rattle.nntp_wire.specs.Decided.{is_message_id, is_group_name}
-use Rattle.nntp_wire.proofs.DecidedLemmas.{message_id-iff}
+use Rattle.std.{proofs.Common.{◌≡◌, ℕ, Bool, true, false, List, [], ◌∷◌, ◌++◌, replicate, refl}, specs.{Prelude.{codes}, Char.{encode_utf8}, Str.{chars}}}
+use Rattle.std.specs.Str.{is_utf8}
+use Rattle.nntp_wire.{specs.{Name.{IsMessageId}, Decided.{is_message_id, is_group_name}}, proofs.DecidedLemmas.{message_id-iff}}
 use Rattle.nntp_unit_tests.proofs.Rows.{Makes}
 
 -- ---- message ids

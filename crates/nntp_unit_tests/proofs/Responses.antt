@@ -1,17 +1,10 @@
 -- Why a response is malformed, and which answers close the connection.
-use Rattle.std.proofs.Common.{◌≡◌, ℕ, Bool, true, false, List, [], ◌∷◌, ◌++◌, Option, None, Some, replicate, refl}
-use Rattle.std.specs.Prelude.{codes}
-use Rattle.std.specs.Char.{encode_utf8}
-use Rattle.std.specs.Str.{chars, is_utf8}
-use Rattle.nntp_wire.specs.Lines.{ended}
-use Rattle.nntp_wire.specs.Command.{form_of, request_of}
-use Rattle.nntp_wire.specs.Answer.{Asked, greeting, to, plain}
-use Rattle.nntp_wire.specs.Session.{closes}
-use Rattle.nntp_wire.specs.Misspelling.{misspelling}
-use Rattle.nntp_wire.specs.declared.misspelling.Misspelling.{Misspelling}
-use Rattle.nntp_wire.specs.declared.misspelling.Misspelling.TheVariants.{WrongOctet, TooLong, NoCode, WrongArgument, WrongLine, WrongBlock}
-use Rattle.nntp_wire.specs.declared.misspelling.Due.TheVariants.{Number, GroupName, MessageId}
-use Rattle.nntp_wire.specs.declared.misspelling.LineFault.TheVariants.{BadOctet, SingleDot, NoNumber, NoGroup, NoVersions}
+use Rattle.std.{proofs.Common.{◌≡◌, ℕ, Bool, true, false, List, [], ◌∷◌, ◌++◌, Option, None, Some, replicate, refl}, specs.Prelude.{codes}}
+use Rattle.std.specs.{Char.{encode_utf8}, Str.{chars, is_utf8}}
+use Rattle.nntp_wire.specs.{Lines.{ended}, Command.{form_of, request_of}, Answer.{Asked, greeting, to, plain}, Session.{closes}, Misspelling.{misspelling}}
+use Rattle.nntp_wire.specs.declared.misspelling.Misspelling.{Misspelling, TheVariants.{WrongOctet, TooLong, NoCode, WrongArgument, WrongLine, WrongBlock}}
+use Rattle.nntp_wire.specs.declared.misspelling.{Due.TheVariants.{Number, GroupName, MessageId}, LineFault.TheVariants.{BadOctet, SingleDot, NoNumber, NoGroup}}
+use Rattle.nntp_wire.specs.declared.misspelling.LineFault.TheVariants.{NoVersions}
 use Rattle.nntp_unit_tests.proofs.Rows.{Makes}
 
 -- what a line asks

@@ -1,14 +1,9 @@
 -- Octets that spell responses.
-use Rattle.std.proofs.Common.{ℕ, List, [], ◌∷◌, None, Some, refl}
-use Rattle.std.specs.Prelude.{codes}
-use Rattle.std.specs.Char.{encode_utf8}
-use Rattle.std.specs.Str.{chars, is_utf8}
-use Rattle.nntp_wire.specs.Command.{by_id, current, capabilities, next, opaque, group, list_group, from_one, retrieve, list_active}
-use Rattle.nntp_wire.specs.Argument.{HasArticle, HasGroup}
-use Rattle.nntp_wire.specs.Answer.{Spells, greeting, to, group_is, numbers_are, sends, active_are, plain}
-use Rattle.nntp_wire.specs.declared.command.What.TheVariants.{Body, Stat}
-use Rattle.nntp_wire.specs.declared.water_marks.WaterMarks.{WaterMarks}
-use Rattle.nntp_wire.proofs.DecidedLemmas.{message_id-iff, group_name-iff}
+use Rattle.std.{proofs.Common.{ℕ, List, [], ◌∷◌, None, Some, refl}, specs.{Prelude.{codes}, Char.{encode_utf8}, Str.{chars, is_utf8}}}
+use Rattle.nntp_wire.specs.{Command.{by_id, current, capabilities, next, opaque, group, list_group, from_one, retrieve, list_active}, Argument.{HasArticle}}
+use Rattle.nntp_wire.specs.{Argument.{HasGroup}, Answer.{Spells, greeting, to, group_is, numbers_are, sends, active_are, plain}}
+use Rattle.nntp_wire.{specs.declared.{command.What.TheVariants.{Body, Stat}, water_marks.WaterMarks.{WaterMarks}}, proofs.DecidedLemmas.{message_id-iff}}
+use Rattle.nntp_wire.proofs.DecidedLemmas.{group_name-iff}
 
 -- ---- a code alone
 
@@ -99,7 +94,17 @@ abbrev numbers : List (List ℕ)
 numbers = codes "2" ∷ codes " 4 " ∷ []
 
 numbers_of_a_group : Spells (to (list_group None from_one)) (numbers_are (marks 2 1 4) (codes "g") numbers) (codes "211 2 1 4 g list\r\n2\r\n 4 \r\n.\r\n")
-numbers_of_a_group = record { line = codes "211 2 1 4 g list"; code = 211; block = Some numbers; whole = refl; status = refl; due = refl; clean = (refl, (refl, tt)); says = (marks_and_name, refl, refl) }
+numbers_of_a_group = record {
+  line = codes "211 2 1 4 g list";
+  code = 211;
+  block = Some numbers;
+  whole = refl;
+  status = refl;
+  due = refl;
+  clean = (refl, (refl, tt));
+  says =
+      (marks_and_name, refl, refl);
+}
 
 -- ---- groups
 

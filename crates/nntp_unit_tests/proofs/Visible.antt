@@ -1,23 +1,12 @@
 -- Which answers fit the visible state of a session, and why the others don't.
-use Rattle.std.proofs.Common.{◌≡◌, ℕ, Bool, true, false, List, [], ◌∷◌, Option, None, Some, refl, ap}
-use Rattle.std.specs.Prelude.{codes, unwrap_or, nat_le}
-use Rattle.std.specs.Cmp.Lexicographic.{slice_cmp}
-use Rattle.std.specs.Ordering.{nat_cmp}
-use Rattle.std.specs.FinMap.{FinMap, empty, get, insert}
-use Rattle.std.specs.Char.{encode_utf8}
-use Rattle.std.specs.Str.{chars, is_utf8}
-use Rattle.nntp_wire.specs.Limit.{greatest}
-use Rattle.nntp_wire.specs.Reason.{unless, first}
-use Rattle.nntp_wire.specs.Command.{Target, by_id, by_number, current, group, list_group, retrieve, list_active, next, quit}
-use Rattle.nntp_wire.specs.Answer.{Asked, greeting, to, Response, group_is, numbers_are, sends, active_are, plain}
-use Rattle.nntp_wire.specs.declared.command.What.TheVariants.{Head, Stat}
-use Rattle.nntp_wire.specs.declared.limit.Limit.{Limit}
-use Rattle.nntp_wire.specs.declared.limit.Limit.TheVariants.{Narrow, Wide}
-use Rattle.nntp_wire.specs.declared.marks.Marks.TheVariants.{Lenient}
-use Rattle.nntp_article.specs.Article.Parts.{Line}
-use Rattle.nntp_article.specs.declared.session.profile.Profile.{Profile}
-use Rattle.nntp_article.specs.Session.Machine.{Visible, start, is_article_number, visible_after}
-use Rattle.nntp_article.specs.Session.Misfit.{Misfit, wrong_code, wrong_name, wrong_number, wrong_id, below_low, wrong_marks, beyond_limit, not_above, beyond_range, unmatched, listed_twice, no_head, other_id, misfit}
+use Rattle.std.{proofs.Common.{◌≡◌, ℕ, Bool, true, false, List, [], ◌∷◌, Option, None, Some, refl, ap}, specs.Prelude.{codes, unwrap_or, nat_le}}
+use Rattle.std.specs.{Cmp.Lexicographic.{slice_cmp}, Ordering.{nat_cmp}, FinMap.{FinMap, empty, get, insert}, Char.{encode_utf8}, Str.{chars, is_utf8}}
+use Rattle.nntp_wire.specs.{Limit.{greatest}, Reason.{unless, first}, Command.{Target, by_id, by_number, current, group, list_group, retrieve, list_active}}
+use Rattle.nntp_wire.specs.{Command.{next, quit}, Answer.{Asked, greeting, to, Response, group_is, numbers_are, sends, active_are, plain}}
+use Rattle.nntp_wire.specs.declared.{command.What.TheVariants.{Head, Stat}, limit.Limit.{Limit, TheVariants.{Narrow, Wide}}, marks.Marks.TheVariants.{Lenient}}
+use Rattle.nntp_article.specs.{Article.Parts.{Line}, declared.session.profile.Profile.{Profile}, Session.Machine.{Visible, start, is_article_number}}
+use Rattle.nntp_article.specs.Session.{Machine.{visible_after}, Misfit.{Misfit, wrong_code, wrong_name, wrong_number, wrong_id, below_low, wrong_marks}}
+use Rattle.nntp_article.specs.Session.Misfit.{beyond_limit, not_above, beyond_range, unmatched, listed_twice, no_head, other_id, misfit}
 use Rattle.nntp_unit_tests.proofs.Rows.{Makes}
 
 abbrev within : Limit → Profile

@@ -1,10 +1,7 @@
 -- Wildmats, and the names that they match.
-use Rattle.std.proofs.Common.{◌≡◌, ℕ, Bool, true, false, List, [], ◌∷◌, Option, None, Some, map, refl}
-use Rattle.std.specs.Prelude.{codes}
-use Rattle.std.specs.Char.{encode_utf8}
+use Rattle.std.{proofs.Common.{◌≡◌, ℕ, Bool, true, false, List, [], ◌∷◌, Option, None, Some, map, refl}, specs.{Prelude.{codes}, Char.{encode_utf8}}}
 use Rattle.std.specs.Str.{chars, is_utf8}
-use Rattle.nntp_wire.specs.Wildmat.{is_wildmat}
-use Rattle.nntp_wire.specs.Decided.{matches_name, is_asked}
+use Rattle.nntp_wire.specs.{Wildmat.{is_wildmat}, Decided.{matches_name}, Inner.Decided.{is_asked}}
 use Rattle.nntp_unit_tests.proofs.Rows.{Makes}
 
 -- a character of two octets

@@ -1,12 +1,6 @@
 -- Numbers, words and the lines of a stream.
-use Rattle.std.proofs.Common.{◌≡◌, ℕ, List, [], ◌∷◌, Option, None, Some, refl}
-use Rattle.std.specs.Prelude.{codes}
-use Rattle.std.specs.Char.{encode_utf8}
-use Rattle.std.specs.Str.{chars, is_utf8}
-use Rattle.nntp_wire.specs.Number.{number_of}
-use Rattle.nntp_wire.specs.Words.{words_of}
-use Rattle.nntp_wire.specs.Lines.{parts_of, lines_of_stream}
-use Rattle.nntp_wire.specs.Listing.{ActiveValue, listed_number_of, active_of}
+use Rattle.std.{proofs.Common.{◌≡◌, ℕ, List, [], ◌∷◌, Option, None, Some, refl}, specs.{Prelude.{codes}, Char.{encode_utf8}, Str.{chars, is_utf8}}}
+use Rattle.nntp_wire.specs.{Number.{number_of}, Words.{words_of}, Lines.{parts_of, lines_of_stream}, Listing.{ActiveValue, listed_number_of, active_of}}
 use Rattle.nntp_unit_tests.proofs.Rows.{Makes}
 
 -- ---- numbers

@@ -10,6 +10,8 @@ mod pair;
 #[cfg(test)]
 mod refusing;
 #[cfg(test)]
+mod said;
+#[cfg(test)]
 mod spool;
 #[cfg(test)]
 mod wire;

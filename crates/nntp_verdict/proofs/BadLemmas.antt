@@ -1,43 +1,25 @@
 -- What a checker tells as bad: an answer of a session that has ended, or the one at the end of the pairing, if that end stays.
 use Rattle.std.proofs.Common.{◌≡◌, ◌⊎◌, ◌∙◌, sym, ap, subst, refl, ℕ, zero, suc, ◌<◌, List, [], ◌∷◌, ◌++◌, length, Option, None, Some, inl, inr, arith}
 use Rattle.std.specs.Prelude.{IsTrue, is_some, ⊤}
-use Rattle.nntp_wire.specs.declared.limit.Limit.{Limit}
-use Rattle.nntp_wire.specs.declared.marks.Marks.{Marks}
-use Rattle.nntp_article.specs.Session.Limit.{profile_of}
-use Rattle.nntp_article.specs.declared.session.profile.Profile.{Profile}
-use Rattle.nntp_pair.specs.declared.class.PairClass.{PairClass}
-use Rattle.nntp_pair.specs.declared.octet_counts.OctetCounts.{OctetCounts}
-use Rattle.nntp_pair.specs.Pairing.{Unpaired, Ends, Ending, IsLasting, end, bad as pair_end}
-use Rattle.nntp_pair.specs.Feeding.{HasNext, EndsForGood}
-use Rattle.nntp_pair.proofs.NextDecided.{next-or-end}
-use Rattle.nntp_pair.proofs.PairingLemmas.{index-counts}
-use Rattle.nntp_pair.specs.declared.class.Class.{Class}
-use Rattle.nntp_pair.specs.declared.class.Class.TheVariants as class
-use Rattle.nntp_facts.specs.Classes.{IsSettled}
-use Rattle.nntp_pair.specs.Classes.{class_of}
-use Rattle.nntp_facts.specs.Outcome.{No}
-use Rattle.nntp_facts.specs.Noted.{FactsKept}
-use Rattle.nntp_facts.proofs.Streams.OneClass.{bad_stays as answer_stays, class_stays, settled_stays}
-use Rattle.nntp_facts.proofs.Streams.ClassAtTheEnd.{settled_lasts}
-use Rattle.nntp_several.specs.Outcome.{NoOfAll}
-use Rattle.nntp_several.specs.Passing.{PassedOfAll}
-use Rattle.nntp_several.specs.Sessions.{Recorded}
-use Rattle.nntp_several.specs.Told.{IsBadForGoodOfAll, IsToldBadOfAll}
-use Rattle.nntp_several.proofs.BadForGood.{one_told_of_all}
-use Rattle.nntp_several.proofs.ExplainedSessions.{explained_not_bad_of_all}
-use Rattle.nntp_several.proofs.OneOutcomeOfAll.{one_outcome_of_all, one_session_outcome}
-use Rattle.nntp_several.proofs.PassingSessions.{paired_push}
-use Rattle.nntp_several.proofs.SessionsRead.{earlier_then}
-use Rattle.nntp_several.proofs.WaysToOutcome.{follows}
-use Rattle.nntp_verdict.specs.Judging.{is_whole}
-use Rattle.nntp_verdict.specs.Verdict.{JudgementOfAll, consistent_of_all, bad_of_all}
-use Rattle.nntp_verdict.specs.Checking.{StandsForAll, IsBadForGood, IsToldBad, decided, told_bad, without_session}
-use Rattle.nntp_verdict.proofs.CheckerLemmas.{decided-verdict}
+use Rattle.nntp_wire.specs.declared.{limit.Limit.{Limit}, marks.Marks.{Marks}}
+use Rattle.nntp_article.specs.{Session.Limit.{profile_of}, declared.session.profile.Profile.{Profile}}
+use Rattle.nntp_pair.specs.{declared.{class.{PairClass.{PairClass}, Class.{Class}}, octet_counts.OctetCounts.{OctetCounts}}, Pairing.{Unpaired, Ends, Ending}}
+use Rattle.nntp_pair.specs.{Pairing.{end, bad as pair_end}, Inner.{Pairing.{IsLasting}, Feeding.{EndsForGood}}, Feeding.{HasNext}, Classes.{class_of}}
+use Rattle.nntp_pair.proofs.{NextDecided.{next-or-end}, PairingLemmas.{index-counts}}
+use Rattle.nntp_facts.{specs.{Classes.{IsSettled}, Outcome.{No}, Inner.Noted.{FactsKept}}, proofs.Streams.OneClass.{bad_stays as answer_stays, class_stays}}
+use Rattle.nntp_facts.proofs.Streams.{OneClass.{settled_stays}, ClassAtTheEnd.{settled_lasts}}
+use Rattle.nntp_several.specs.{Outcome.{NoOfAll}, Inner.Passing.{PassedOfAll}, Sessions.{Recorded}, Told.{IsBadForGoodOfAll, IsToldBadOfAll}}
+use Rattle.nntp_several.proofs.{BadForGood.{one_told_of_all}, ExplainedSessions.{explained_not_bad_of_all}, OneOutcomeOfAll.{one_outcome_of_all}}
+use Rattle.nntp_several.proofs.{OneOutcomeOfAll.{one_session_outcome}, PassingSessions.{paired_push}, SessionsRead.{earlier_then}, WaysToOutcome.{follows}}
+use Rattle.nntp_verdict.specs.{Inner.{Judging.{is_whole}, Checking.{StandsForAll, decided, told_bad, without_session}}, Verdict.{JudgementOfAll}}
+use Rattle.nntp_verdict.{specs.{Verdict.{consistent_of_all, bad_of_all}, Checking.{IsBadForGood, IsToldBad}}, proofs.CheckerLemmas.{decided-verdict}}
 use Rattle.nntp_verdict.proofs.JudgeLemmas.{octets-right}
+use Rattle.nntp_pair.specs.declared.class.Class.TheVariants as class
 
 module _ (profile : Profile) (before : List Recorded) (session : Recorded) (facts : FactsKept) (left : Unpaired) (p : PassedOfAll profile before session facts left) where
   -- an end that stays is bad for good
-  pub told : (class : PairClass) → EndsForGood class left → (j : ℕ) → j ≡ length before → (index : ℕ) → index ≡ left.index → (of : Class) → of ≡ class_of class → IsBadForGoodOfAll profile before session j index of
+  pub told : (class : PairClass) → EndsForGood class left → (j : ℕ) → j ≡ length before → (index : ℕ) → index ≡ left.index → (of : Class) → of ≡ class_of class
+      → IsBadForGoodOfAll profile before session j index of
   told class ends j is index at of of-is = subst (λ j. IsBadForGoodOfAll profile before session j index of) (sym is) (
     octets-right profile before session [] facts left class p ends.0 index at of of-is,
     inr (subst (λ (x : ℕ × Class). IsSettled session.client session.server x.0 x.1) (λ i. (sym (at ∙ index-counts session.client session.server p.pairs left p.next) i, sym of-is i))
@@ -86,7 +68,8 @@ settled-whole client server answer class.OutOfPlace whole = tt
 settled-whole client server answer class.Contradiction whole = tt
 
 -- what is decided is told as bad
-pub decided-told : (limit : Limit) (marks : Marks) (j : JudgementOfAll) (counts : OctetCounts) (before : List Recorded) (session : Recorded) → StandsForAll limit marks (decided j counts) before session
+pub decided-told : (limit : Limit) (marks : Marks) (j : JudgementOfAll) (counts : OctetCounts) (before : List Recorded) (session : Recorded)
+    → StandsForAll limit marks (decided j counts) before session
     → IsToldBadOfAll (profile_of limit marks) before session (told_bad j)
 decided-told limit marks (consistent_of_all L answers) counts before session stands = absurd stands.0.for_good
 decided-told limit marks (bad_of_all j k class command reply) counts before session stands =
@@ -102,7 +85,8 @@ decided-told limit marks (bad_of_all j k class command reply) counts before sess
 bad-alone : (profile : Profile) (client server : List ℕ) (k : ℕ) (c : Class) → IsBadForGood profile client server k c → IsBadForGoodOfAll profile [] (record { client = client; server = server }) 0 k c
 bad-alone profile client server k c (outcome, settled) = ((one_session_outcome profile (record { client = client; server = server }) (No k c)).1 outcome, inr settled)
 
-only-bad : (profile : Profile) (client server : List ℕ) (j k : ℕ) (c : Class) → IsBadForGoodOfAll profile [] (record { client = client; server = server }) j k c → IsBadForGood profile client server k c
+only-bad : (profile : Profile) (client server : List ℕ) (j k : ℕ) (c : Class) → IsBadForGoodOfAll profile [] (record { client = client; server = server }) j k c
+    → IsBadForGood profile client server k c
 only-bad profile client server zero k c (outcome, inl less) = absurd (omega (arith, less))
 only-bad profile client server zero k c (outcome, inr settled) = ((one_session_outcome profile (record { client = client; server = server }) (No k c)).0 outcome, settled)
 only-bad profile client server (suc j) k c (outcome, settled) = absurd outcome.0

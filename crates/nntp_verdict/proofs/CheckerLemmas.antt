@@ -1,36 +1,22 @@
 -- What a checker holds, as octets and sessions come.
-use Rattle.std.proofs.Common.{◌≡◌, ◌≢◌, ◌∙◌, refl, sym, ap, subst, ℕ, ◌+◌, ◌<◌, ◌≤◌, ◌^◌, false, List, [], ◌∷◌, ◌++◌, length, take, Option, None, Some, slice_get, inl, inr, arith}
-use Rattle.std.specs.Prelude.{MatchOption}
-use Rattle.std.proofs.Common.{append_assoc, append-nil, length-append, Result, Ok, Err, MatchResult, OnOk, IfErr}
-use Rattle.std.proofs.lemmas.Bool.{false≢true, true≢false}
-use Rattle.std.proofs.lemmas.Option.{slice_get_within}
-use Rattle.nntp_article.specs.Session.Limit.{profile_of}
-use Rattle.nntp_article.specs.declared.session.profile.Profile.{Profile}
-use Rattle.nntp_wire.specs.declared.limit.Limit.{Limit}
-use Rattle.nntp_wire.specs.declared.marks.Marks.{Marks}
-use Rattle.nntp_pair.specs.Pairing.{Paired, Unpaired, IsNext, bad as pair_end}
-use Rattle.nntp_pair.specs.declared.class.PairClass.{PairClass}
-use Rattle.nntp_pair.specs.Feeding.{Fed, IsFed, IsTaken, IsPeek, HasNext, EndsForGood, left_of, unfed, with_octets}
-use Rattle.nntp_pair.specs.Sides.{given, counted, count_of}
-use Rattle.nntp_pair.specs.declared.octet_counts.OctetCounts.{OctetCounts}
-use Rattle.nntp_pair.specs.declared.peek.Peek.{Peek}
-use Rattle.nntp_pair.specs.declared.peek.Peek.TheVariants as peek
-use Rattle.nntp_pair.specs.declared.side.Side.{Side}
-use Rattle.nntp_pair.specs.declared.side.Side.TheVariants.{Client, Server}
-use Rattle.nntp_pair.specs.declared.pair_error.PairError.{PairError}
-use Rattle.nntp_pair.specs.declared.pair_error.PairError.TheVariants as errors
-use Rattle.nntp_pair.proofs.FedLaws.{fed-paired}
-use Rattle.nntp_pair.proofs.NextLemmas.{next-no-end, next-shorter}
-use Rattle.nntp_facts.specs.Noted.{FactsKept, IsDue}
-use Rattle.nntp_several.specs.Sessions.{Recorded, BadBehind}
-use Rattle.nntp_several.specs.Told.{with_more}
-use Rattle.nntp_several.proofs.SessionsVerified.{as_many_counts}
-use Rattle.nntp_verdict.specs.Judging.{IsAnsweredThroughout, IsVerdictOfAll, IsVerdictFrom, IsNoForGood, IsNoAtWholeAnswer, HaveEnded, Passed}
-use Rattle.nntp_verdict.specs.Verdict.{JudgementOfAll, consistent_of_all, bad_of_all, verdict_of_last}
-use Rattle.nntp_verdict.specs.Checking.{Checked, judging, decided, failed, Keeps, HasPassed, IsHeld, StandsForAll, HasBegun, IsFinished, IsFinishedOfAll, has_failed, counts_of, unrecorded, IsTaken as IsTakenBy}
-use Rattle.nntp_verdict.specs.CheckerView.{IsUntaken, checked}
-use Rattle.nntp_verdict.specs.declared.checker.Checker.{Checker}
+use Rattle.std.proofs.Common.{◌≡◌, ◌≢◌, ◌∙◌, refl, sym, ap, subst, ℕ, ◌+◌, ◌<◌, ◌≤◌, ◌^◌, false, List, [], ◌∷◌, ◌++◌, length, take, Option, None, Some}
+use Rattle.std.proofs.Common.{slice_get, inl, inr, arith, append_assoc, append-nil, length-append, Result, Ok, Err, MatchResult, OnOk, IfErr}
+use Rattle.std.{proofs.lemmas.{Bool.{false≢true, true≢false}, Option.{slice_get_within}}, specs.Prelude.{MatchOption}}
+use Rattle.nntp_article.specs.{Session.Limit.{profile_of}, declared.session.profile.Profile.{Profile}}
+use Rattle.nntp_wire.specs.declared.{limit.Limit.{Limit}, marks.Marks.{Marks}}
+use Rattle.nntp_pair.specs.{Pairing.{Paired, Unpaired, IsNext, bad as pair_end}, declared.{class.PairClass.{PairClass}, octet_counts.OctetCounts.{OctetCounts}}}
+use Rattle.nntp_pair.specs.{declared.{peek.Peek.{Peek}, side.Side.{Side, TheVariants.{Client, Server}}, pair_error.PairError.{PairError}}, Inner.Feeding.{Fed}}
+use Rattle.nntp_pair.specs.Inner.{Feeding.{IsFed, IsTaken, IsPeek, EndsForGood, left_of, unfed, with_octets}, Sides.{given, counted, count_of}}
+use Rattle.nntp_pair.{specs.Feeding.{HasNext}, proofs.{FedLaws.{fed-paired}, NextLemmas.{next-no-end, next-shorter}}}
+use Rattle.nntp_facts.specs.Inner.Noted.{FactsKept, IsDue}
+use Rattle.nntp_several.{specs.{Sessions.{Recorded, BadBehind}, Told.{with_more}}, proofs.SessionsVerified.{as_many_counts}}
+use Rattle.nntp_verdict.specs.{Judging.{IsAnsweredThroughout, IsVerdictOfAll}, Inner.Judging.{IsVerdictFrom, IsNoForGood, IsNoAtWholeAnswer, HaveEnded, Passed}}
+use Rattle.nntp_verdict.specs.Inner.{Verdict.{verdict_of_last}, Checking.{Checked, judging, decided, failed, Keeps, HasPassed, IsHeld, StandsForAll, HasBegun}}
+use Rattle.nntp_verdict.specs.Inner.{Checking.{IsFinished, IsFinishedOfAll, has_failed, counts_of, unrecorded, IsTaken as IsTakenBy}, CheckerView.{IsUntaken}}
+use Rattle.nntp_verdict.specs.{Inner.CheckerView.{checked}, Verdict.{JudgementOfAll, consistent_of_all, bad_of_all}, declared.checker.Checker.{Checker}}
 use Rattle.nntp_verdict.proofs.JudgeLemmas.{is-due, alone}
+use Rattle.nntp_pair.specs.declared.peek.Peek.TheVariants as peek
+use Rattle.nntp_pair.specs.declared.pair_error.PairError.TheVariants as errors
 
 module _ (profile : Profile) (before : List Recorded) (session : Recorded) (facts : FactsKept) (answers : List ℕ) (fed : Fed) (k : Keeps profile before session facts answers fed) where
   -- the exchanges have passed
@@ -71,7 +57,8 @@ module _ (profile : Profile) (before : List Recorded) (session : Recorded) (fact
   decides limit marks j for_good verdict = (record { for_good = for_good; verdict = verdict }, k.fed_is.client_came, k.fed_is.server_came)
 
 -- what has passed is held
-pub held : (profile : Profile) (before : List Recorded) (session : Recorded) (facts : FactsKept) (answers : List ℕ) (fed : Fed) → HasPassed profile before session facts answers fed → fed.has_failed ≡ false
+pub held : (profile : Profile) (before : List Recorded) (session : Recorded) (facts : FactsKept) (answers : List ℕ) (fed : Fed) → HasPassed profile before session facts answers fed → fed.has_failed
+    ≡ false
     → IsHeld facts answers fed
 held profile before session facts answers fed p whole = record {
   before = before;
@@ -131,7 +118,8 @@ whole-for-good ended (consistent_of_all L answers) whole = whole
 whole-for-good ended (bad_of_all j k class command reply) whole = inr whole
 
 -- what is decided stays so with more octets of both streams
-pub decided-more : (limit : Limit) (marks : Marks) (j : JudgementOfAll) (counts : OctetCounts) (before : List Recorded) (session : Recorded) (client server : List ℕ) → StandsForAll limit marks (decided j counts) before session
+pub decided-more : (limit : Limit) (marks : Marks) (j : JudgementOfAll) (counts : OctetCounts) (before : List Recorded) (session : Recorded) (client server : List ℕ)
+    → StandsForAll limit marks (decided j counts) before session
     → StandsForAll limit marks (decided j (counted client server counts)) before (with_more session client server)
 decided-more limit marks j counts before session client server (d, came_client, came_server) = (
   record {
@@ -185,7 +173,8 @@ decided-ended limit marks j before session verdict = (
 )
 
 -- so it does where it was decided before
-pub decided-goes-on : (limit : Limit) (marks : Marks) (j : JudgementOfAll) (counts : OctetCounts) (before : List Recorded) (session : Recorded) → StandsForAll limit marks (decided j counts) before session
+pub decided-goes-on : (limit : Limit) (marks : Marks) (j : JudgementOfAll) (counts : OctetCounts) (before : List Recorded) (session : Recorded)
+    → StandsForAll limit marks (decided j counts) before session
     → StandsForAll limit marks (decided j (record { client = 0; server = 0 })) (before ++ session ∷ []) unrecorded
 decided-goes-on limit marks j counts before session stands =
     decided-ended limit marks j before session (decided-from limit marks j counts before session stands)
@@ -201,7 +190,8 @@ stands-counts limit marks failed before session s = absurd s
 
 -- where there is room for octets, none but want of memory keeps it from taking them
 pub untaken-memory : {A : Type 0} (error : PairError) (side : Side) (octets : List ℕ) (before after : Checker A) (limit : Limit) (marks : Marks) (ended : List Recorded) (session : Recorded)
-    → StandsForAll limit marks (checked before) ended session → length session.client + length session.server + length octets < 2 ^ 64 → IsUntaken error side octets before after → error ≡ errors.Memory
+    → StandsForAll limit marks (checked before) ended session → length session.client + length session.server + length octets < 2 ^ 64 → IsUntaken error side octets before after → error
+    ≡ errors.Memory
 untaken-memory errors.Memory side octets before after limit marks ended session stands room is = refl
 untaken-memory errors.Failed side octets before after limit marks ended session stands room is =
     absurd (false≢true (sym (stands-counts limit marks (checked before) ended session stands).0 ∙ is.0))

@@ -1,17 +1,12 @@
 -- What a feed holds stays when more octets follow.
 use Rattle.std.proofs.Common.{◌≡◌, ◌∙◌, sym, ap, subst, ℕ, Bool, true, false, nat_lt, List, ◌∷◌, ◌++◌, map, Option, None, Some, inl, inr, append_assoc}
 use Rattle.std.proofs.lemmas.List.{map-append}
-use Rattle.nntp_wire.specs.Octets.{crlf}
-use Rattle.nntp_wire.specs.Frame.{framed}
-use Rattle.nntp_wire.specs.Lines.{lines_of_stream, HasNoCrlf}
-use Rattle.nntp_wire.proofs.StreamLemmas.{lines-joined}
-use Rattle.nntp_pair.specs.declared.class.PairClass.TheVariants.{Malformed}
-use Rattle.nntp_pair.specs.Pairing.{Paired, Unpaired, IsNext, line_ahead, places_from, with_more}
-use Rattle.nntp_pair.specs.Feeding.{Fed, EndsForGood, left_of, with_octets}
-use Rattle.nntp_pair.proofs.PairingLemmas.{next-more, bad-stays, some-stay}
+use Rattle.nntp_wire.{specs.{Octets.{crlf}, Frame.{framed}, Lines.{lines_of_stream, HasNoCrlf}}, proofs.StreamLemmas.{lines-joined}}
+use Rattle.nntp_pair.specs.{declared.class.PairClass.TheVariants.{Malformed}, Pairing.{Paired, Unpaired, IsNext, line_ahead}, Inner.Pairing.{places_from}}
+use Rattle.nntp_pair.{specs.Inner.{Pairing.{with_more}, Feeding.{Fed, EndsForGood, left_of, with_octets}}, proofs.PairingLemmas.{next-more, bad-stays}}
+use Rattle.nntp_pair.proofs.PairingLemmas.{some-stay}
 use Rattle.nntp_printing.specs.BadAnswer.{IsFirstLine}
-use Rattle.nntp_verdict.specs.Judging.{StopsHere}
-use Rattle.nntp_verdict.proofs.ShownPlaces.{no-line}
+use Rattle.nntp_verdict.{specs.Inner.Judging.{StopsHere}, proofs.ShownPlaces.{no-line}}
 
 -- the lines and the places of a longer stream
 lines-longer : (client more : List ℕ) → map Some (lines_of_stream (client ++ more)) ≡ map Some (lines_of_stream client) ++ map Some (lines-joined client more).0

@@ -1,46 +1,28 @@
 -- How a judgement goes through the exchanges of sessions.
-use Rattle.std.proofs.Common.{◌≡◌, ◌≢◌, ◌∙◌, sym, subst, refl, ℕ, zero, suc, ◌+◌, ◌<◌, ◌≤◌, ◌^◌, List, [], ◌∷◌, ◌++◌, map, take, drop, get_or, Option, None, Some, MatchOption, Result, Ok, Err, IfOk, length, ap, ap₂, inr, arith, append_assoc, append-nil, length-append}
-use Rattle.std.specs.Option.{option_map}
-use Rattle.std.proofs.lemmas.List.{length-map, map-append, take_more, take_all, drop_more, take-append-drop}
-use Rattle.nntp_wire.specs.Limit.{greatest}
-use Rattle.nntp_wire.specs.Octets.{crlf}
-use Rattle.nntp_wire.specs.declared.limit.Limit.{Limit}
-use Rattle.nntp_wire.specs.declared.marks.Marks.{Marks}
-use Rattle.nntp_wire.specs.declared.limit.Limit.TheVariants.{Narrow, Wide}
-use Rattle.nntp_wire.specs.Frame.{framed, frame_octets}
-use Rattle.nntp_article.specs.Session.Limit.{profile_of}
-use Rattle.nntp_article.specs.declared.session.profile.Profile.{Profile}
-use Rattle.nntp_article.specs.Session.Machine.{Visible, visible_after, start}
+use Rattle.std.proofs.Common.{◌≡◌, ◌≢◌, ◌∙◌, sym, subst, refl, ℕ, zero, suc, ◌+◌, ◌<◌, ◌≤◌, ◌^◌, List, [], ◌∷◌, ◌++◌, map, take, drop, get_or, Option, None}
+use Rattle.std.proofs.Common.{Some, MatchOption, Result, Ok, Err, IfOk, length, ap, ap₂, inr, arith, append_assoc, append-nil, length-append}
+use Rattle.std.{proofs.lemmas.List.{length-map, map-append, take_more, take_all, drop_more, take-append-drop}, specs.Option.{option_map}}
+use Rattle.nntp_wire.specs.{Limit.{greatest}, Octets.{crlf}, declared.{limit.Limit.{Limit, TheVariants.{Narrow, Wide}}, marks.Marks.{Marks}}, Frame.{framed}}
+use Rattle.nntp_wire.specs.Frame.{frame_octets}
+use Rattle.nntp_article.specs.{Session.{Limit.{profile_of}, Machine.{Visible, visible_after, start}}, declared.session.profile.Profile.{Profile}}
 use Rattle.nntp_article.proofs.SessionLemmas.ClosingAnswers.{after-closes}
 use Rattle.nntp_pair.specs.Pairing.{Paired, Unpaired, IsNext, AreNext, Ends, IsBad, end, bad as pair_end, line_ahead, streams, asked_at, asked_of, responses_of}
-use Rattle.nntp_pair.specs.declared.class.PairClass.{PairClass}
-use Rattle.nntp_pair.specs.declared.class.PairClass.TheVariants as pair
-use Rattle.nntp_pair.proofs.PairingLemmas.{AreNext-push, index-counts}
-use Rattle.nntp_pair.specs.declared.class.Class.{Class}
-use Rattle.nntp_pair.specs.declared.class.Class.TheVariants.{OutOfPlace, Contradiction}
-use Rattle.nntp_pair.specs.Feeding.{HasNext}
-use Rattle.nntp_facts.specs.declared.noted.Noted.{Noted}
-use Rattle.nntp_facts.specs.declared.noted.Noted.TheVariants as kinds
-use Rattle.nntp_facts.specs.Answered.{facts_of_all}
-use Rattle.nntp_facts.specs.Classes.{visible_from}
-use Rattle.nntp_pair.specs.Classes.{class_of}
-use Rattle.nntp_facts.specs.Given.{IsGiven, size}
-use Rattle.nntp_facts.specs.Noted.{FactsKept, exchanged, HasNotedBehind, IsDue, IsNotedBehind, begun}
+use Rattle.nntp_pair.specs.{declared.class.{PairClass.{PairClass}, Class.{Class, TheVariants.{OutOfPlace, Contradiction}}}, Feeding.{HasNext}}
+use Rattle.nntp_pair.{specs.Classes.{class_of}, proofs.PairingLemmas.{AreNext-push, index-counts}}
+use Rattle.nntp_facts.specs.{declared.noted.Noted.{Noted}, Answered.{facts_of_all}, Classes.{visible_from}, Given.{IsGiven}, Inner.Given.{size}}
+use Rattle.nntp_facts.specs.{Inner.Noted.{FactsKept, HasNotedBehind, IsDue, IsNotedBehind, begun}, Noted.{exchanged}}
 use Rattle.nntp_facts.proofs.Keeping.NotedSessions.{facts_behind, small_behind, session_begins}
-use Rattle.nntp_spool.specs.Limited.{LimitedSpool}
-use Rattle.nntp_spool.specs.Text.{IsWritten}
-use Rattle.nntp_spool.proofs.WholeSpools.{written_is_read}
-use Rattle.nntp_several.specs.Outcome.{NoOfAll, IsOutcomeOfAll}
-use Rattle.nntp_several.specs.Paired.{ArePaired}
-use Rattle.nntp_several.specs.Passing.{PassedOfAll}
-use Rattle.nntp_several.specs.Sessions.{Recorded}
+use Rattle.nntp_spool.{specs.{Limited.{LimitedSpool}, Inner.Text.{IsWritten}}, proofs.WholeSpools.{written_is_read}}
+use Rattle.nntp_several.specs.{Outcome.{NoOfAll, IsOutcomeOfAll}, Inner.{Paired.{ArePaired}, Passing.{PassedOfAll}}, Sessions.{Recorded}}
 use Rattle.nntp_several.proofs.PassingSessions.{paired_push, as_many_sessions, earlier_permitted, passing_stops, passing_contradicted, passing_unfitting}
-use Rattle.nntp_witness.specs.Witness.{IsWitnessWithin}
+use Rattle.nntp_witness.specs.Inner.Witness.{IsWitnessWithin}
 use Rattle.nntp_printing.specs.BadAnswer.{IsFirstLine, shown}
-use Rattle.nntp_verdict.specs.declared.sessions_verdict.SessionsVerdict.{SessionsVerdict}
-use Rattle.nntp_verdict.specs.Judging.{StopsAt, SuitsClass, IsVerdict, IsVerdictOfAll, IsVerdictFrom, HaveEnded, Passed, StopsHere, pair_class_of, class_noted}
-use Rattle.nntp_verdict.specs.Verdict.{consistent, bad, JudgementOfAll, consistent_of_all, bad_of_all, sessions_verdict_shown, verdict_of_last}
+use Rattle.nntp_verdict.specs.{declared.sessions_verdict.SessionsVerdict.{SessionsVerdict}, Judging.{StopsAt, SuitsClass, IsVerdict, IsVerdictOfAll}}
+use Rattle.nntp_verdict.specs.{Judging.{pair_class_of}, Inner.{Judging.{IsVerdictFrom, HaveEnded, Passed, StopsHere, class_noted}, Verdict.{verdict_of_last}}}
+use Rattle.nntp_verdict.specs.Verdict.{consistent, bad, JudgementOfAll, consistent_of_all, bad_of_all, sessions_verdict_shown}
 use Rattle.nntp_verdict.proofs.VerdictLaws.{one_session_verdict, verdict_at_ends, verdict_within}
+use Rattle.nntp_pair.specs.declared.class.PairClass.TheVariants as pair
+use Rattle.nntp_facts.specs.declared.noted.Noted.TheVariants as kinds
 
 -- what is left of both streams is closed exactly if the visible state is
 closed-by : (v : Visible) (before left : Unpaired) (pairs : List Paired) → before.is_closed ≡ v.closed
@@ -204,12 +186,14 @@ at-end limit marks sessions facts answers L e witness written =
     (earlier_permitted profile facts e.earlier [] e.stands) small (subst (λ facts. IsGiven facts L.spool) said witness.0.given))
 
 -- what is so of a judgement is so of a verdict that shows it
-pub told : {A E : Type 0} (r : Result (SessionsVerdict A) E) (P : JudgementOfAll → Type 0) (j : JudgementOfAll) → P j → IfOk r (λ v. sessions_verdict_shown v ≡ j) → IfOk r (λ v. P (sessions_verdict_shown v))
+pub told : {A E : Type 0} (r : Result (SessionsVerdict A) E) (P : JudgementOfAll → Type 0) (j : JudgementOfAll) → P j → IfOk r (λ v. sessions_verdict_shown v ≡ j)
+    → IfOk r (λ v. P (sessions_verdict_shown v))
 told (Ok v) P j p ok = subst P (sym ok) p
 told (Err e) P j p ok = ok
 
 -- a no of the session behind those that ended, of which this is the number of answers
-no-here : (limit : Limit) (marks : Marks) (before : List Recorded) (session : Recorded) (more : List Recorded) (j k : ℕ) (class : Class) (command : Option (List ℕ)) (reply : List ℕ) → j ≡ length before
+no-here : (limit : Limit) (marks : Marks) (before : List Recorded) (session : Recorded) (more : List Recorded) (j k : ℕ) (class : Class) (command : Option (List ℕ)) (reply : List ℕ) → j
+    ≡ length before
     → IsOutcomeOfAll (profile_of limit marks) (before ++ session ∷ more) (NoOfAll (length before) k class) → StopsAt session.client session.server k class command reply
     → IsVerdictOfAll limit marks (before ++ session ∷ more) (bad_of_all j k class command reply)
 no-here limit marks before session more j k class command reply is outcome place =
@@ -240,7 +224,8 @@ module _ (limit : Limit) (marks : Marks) (before : List Recorded) (session : Rec
 -- ---- from one session to the next
 
 -- a session has ended where no octet is left
-pub ends : (profile : Profile) (before : List Recorded) (session : Recorded) (old new : FactsKept) (answers counts : List ℕ) (n unanswered : ℕ) (left : Unpaired) → Passed profile before session old answers left
+pub ends : (profile : Profile) (before : List Recorded) (session : Recorded) (old new : FactsKept) (answers counts : List ℕ) (n unanswered : ℕ) (left : Unpaired)
+    → Passed profile before session old answers left
     → n ≡ left.index → Ends left (end unanswered) → counts ≡ answers ++ n ∷ [] → length counts < 2 ^ 64 → new ≡ begun old → HaveEnded profile (before ++ session ∷ []) new counts
 ends profile before session old new answers counts n unanswered left p at ended pushed few is =
     let q = p.passed in

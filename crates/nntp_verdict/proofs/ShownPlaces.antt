@@ -1,13 +1,8 @@
 -- A place of two streams shows one command and one reply.
-use Rattle.std.proofs.Common.{◌≡◌, ◌∙◌, sym, ap, subst, ℕ, List, [], ◌∷◌, ◌++◌, length, Option, inl, inr, append_assoc}
-use Rattle.std.specs.Option.{option_map}
-use Rattle.nntp_wire.specs.Octets.{crlf}
-use Rattle.nntp_wire.specs.Lines.{HasNoCrlf}
+use Rattle.std.{proofs.Common.{◌≡◌, ◌∙◌, sym, ap, subst, ℕ, List, [], ◌∷◌, ◌++◌, length, Option, inl, inr, append_assoc}, specs.Option.{option_map}}
+use Rattle.nntp_wire.{specs.{Octets.{crlf}, Lines.{HasNoCrlf}}, proofs.FrameLemmas.{one_line, occurs-behind}}
 use Rattle.memchr.specs.Find.{OccursAt}
-use Rattle.nntp_wire.proofs.FrameLemmas.{one_line, occurs-behind}
-use Rattle.nntp_pair.specs.Pairing.{Paired, Unpaired, AreNext, line_ahead, streams}
-use Rattle.nntp_pair.proofs.NextLemmas.{one-next}
-use Rattle.nntp_pair.specs.declared.class.Class.{Class}
+use Rattle.nntp_pair.{specs.{Pairing.{Paired, Unpaired, AreNext, line_ahead, streams}, declared.class.Class.{Class}}, proofs.NextLemmas.{one-next}}
 use Rattle.nntp_printing.specs.BadAnswer.{IsFirstLine, shown}
 use Rattle.nntp_verdict.specs.Judging.{StopsAt}
 

@@ -1,34 +1,19 @@
 -- Sessions have one verdict, and it is a yes exactly if some spool explains them; that of one session is that of its two streams.
-use Rattle.std.proofs.Common.{◌++◌, refl, ◌≡◌, ◌∙◌, ◌↔◌, sym, ap, subst, ℕ, zero, suc, IsTrue, List, [], ◌∷◌, length, Option, None, Some, slice_get, ◌<◌, ◌^◌, map, Ok}
-use Rattle.std.specs.Prelude.{MatchOption}
-use Rattle.nntp_wire.specs.declared.limit.Limit.{Limit}
-use Rattle.nntp_wire.specs.declared.marks.Marks.{Marks}
-use Rattle.nntp_article.specs.Session.Explains.{Explains}
-use Rattle.nntp_article.specs.Session.Limit.{profile_of}
-use Rattle.nntp_article.specs.Session.Spool.{Spool}
-use Rattle.nntp_pair.specs.Pairing.{Paired}
-use Rattle.nntp_pair.specs.declared.class.Class.{Class}
-use Rattle.nntp_facts.specs.Outcome.{Yes, No}
-use Rattle.nntp_spool.specs.Limited.{LimitedSpool}
-use Rattle.nntp_spool.specs.Verifying.{IsVerified}
-use Rattle.nntp_several.specs.Verifying.{VerifiedOfAll, PermitsAll, RefusesOne, IsVerifiedOfAll}
-use Rattle.nntp_spool.specs.declared.verification.verified.Verified.{Verified}
-use Rattle.nntp_spool.specs.declared.verification.verified.Verified.TheVariants.{Permits, Refuses}
-use Rattle.nntp_verdict.specs.Judging.{StopsAt, IsVerdict, IsVerdictOfAll, IsAnsweredThroughout}
+use Rattle.std.proofs.Common.{◌++◌, refl, ◌≡◌, ◌∙◌, ◌↔◌, sym, ap, subst, ℕ, zero, suc, IsTrue, List, [], ◌∷◌, length, Option, None, Some, slice_get, ◌<◌, ◌^◌}
+use Rattle.std.{proofs.Common.{map, Ok}, specs.Prelude.{MatchOption}}
+use Rattle.nntp_wire.specs.declared.{limit.Limit.{Limit}, marks.Marks.{Marks}}
+use Rattle.nntp_article.specs.Session.{Explains.{Explains}, Limit.{profile_of}, Spool.{Spool}}
+use Rattle.nntp_pair.specs.{Pairing.{Paired}, declared.class.Class.{Class}}
+use Rattle.nntp_facts.specs.{Outcome.{Yes, No}, Given.{IsGiven}, Inner.Given.{size}, Answered.{SomePermitsEach, facts_of_all}, Noted.{exchanged}}
+use Rattle.nntp_spool.specs.{Limited.{LimitedSpool}, Verifying.{IsVerified}, declared.verification.verified.Verified.{Verified, TheVariants.{Permits, Refuses}}}
+use Rattle.nntp_spool.specs.{Reading.{spool_at}, Text.{spool_text}}
+use Rattle.nntp_several.specs.{Verifying.{VerifiedOfAll, PermitsAll, RefusesOne, IsVerifiedOfAll}, Sessions.{Recorded, ExplainsAll, OfEach}}
+use Rattle.nntp_several.{specs.{Outcome.{OutcomeOfAll, YesOfAll, NoOfAll, IsOutcomeOfAll}, Inner.Paired.{ArePaired}}, proofs.ExplainedSessions.{there}}
+use Rattle.nntp_several.proofs.{SessionsVerified.{permits_alone}, WaysToOutcome.{outcome_at_all_ends}, OneOutcomeOfAll.{one_outcome_of_all}}
+use Rattle.nntp_several.proofs.OneOutcomeOfAll.{yes_explained_of_all, one_explained, one_session_outcome}
+use Rattle.nntp_verdict.specs.{Judging.{StopsAt, IsVerdict, IsVerdictOfAll, IsAnsweredThroughout}, Verdict.{Judgement, consistent, bad, JudgementOfAll}}
+use Rattle.nntp_verdict.specs.{Verdict.{consistent_of_all, bad_of_all, is_consistent_of_all}, Inner.Verdict.{is_consistent, verdict_of_one, verdict_of_last}}
 use Rattle.nntp_verdict.proofs.ShownPlaces.{one-place}
-use Rattle.nntp_several.specs.Sessions.{Recorded, ExplainsAll, OfEach}
-use Rattle.nntp_several.specs.Outcome.{OutcomeOfAll, YesOfAll, NoOfAll, IsOutcomeOfAll}
-use Rattle.nntp_facts.specs.Given.{IsGiven, size}
-use Rattle.nntp_spool.specs.Reading.{spool_at}
-use Rattle.nntp_spool.specs.Text.{spool_text}
-use Rattle.nntp_facts.specs.Answered.{SomePermitsEach, facts_of_all}
-use Rattle.nntp_facts.specs.Noted.{exchanged}
-use Rattle.nntp_several.specs.Paired.{ArePaired}
-use Rattle.nntp_several.proofs.ExplainedSessions.{there}
-use Rattle.nntp_several.proofs.SessionsVerified.{permits_alone}
-use Rattle.nntp_several.proofs.WaysToOutcome.{outcome_at_all_ends}
-use Rattle.nntp_verdict.specs.Verdict.{Judgement, consistent, bad, is_consistent, JudgementOfAll, consistent_of_all, bad_of_all, is_consistent_of_all, verdict_of_one, verdict_of_last}
-use Rattle.nntp_several.proofs.OneOutcomeOfAll.{one_outcome_of_all, yes_explained_of_all, one_explained, one_session_outcome}
 
 -- ---- one verdict
 

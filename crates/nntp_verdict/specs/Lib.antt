@@ -1,5 +1,4 @@
 pub mod Verdict
 pub mod Judging
 pub mod Checking
-pub mod Coded
-pub mod CheckerView
+pub mod Inner

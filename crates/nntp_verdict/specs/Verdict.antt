@@ -1,22 +1,14 @@
 -- What is said of a session, and of several.
-use Rattle.std.specs.Prelude.{ℕ, ◌-◌, Bool, true, false, List, [], ◌∷◌, length, Option, slice_get, unwrap_or}
-use Rattle.std.specs.Option.{option_map}
+use Rattle.std.specs.{Prelude.{ℕ, Bool, true, false, List, Option}, Option.{option_map}}
 use Rattle.nntp_pair.specs.declared.class.Class.{Class}
 use Rattle.nntp_spool.specs.Limited.{LimitedSpool}
-use Rattle.nntp_verdict.specs.declared.verdict.Verdict.{Verdict}
-use Rattle.nntp_verdict.specs.declared.verdict.Verdict.TheVariants.{Consistent, Bad}
-use Rattle.nntp_verdict.specs.declared.sessions_verdict.SessionsVerdict.{SessionsVerdict}
+use Rattle.nntp_verdict.specs.declared.{verdict.Verdict.{Verdict, TheVariants.{Consistent, Bad}}, sessions_verdict.SessionsVerdict.{SessionsVerdict}}
 use Rattle.nntp_verdict.specs.declared.sessions_verdict.SessionsVerdict.TheVariants as several
 
 -- a verdict: a spool that explains so many answers, or the answer that none explains
 pub data Judgement : Type 0 where
   consistent : (spool : LimitedSpool) → (answers : ℕ) → Judgement
   bad : (answer : ℕ) → (class : Class) → (command : Option (List ℕ)) → (reply : List ℕ) → Judgement
-
--- some spool was found
-abbrev pub is_consistent : Judgement → Bool
-is_consistent (consistent spool answers) = true
-is_consistent (bad answer class command reply) = false
 
 -- the verdict without where it lies in memory
 abbrev pub verdict_shown : {A : Type 0} → Verdict A → Judgement
@@ -39,17 +31,3 @@ is_consistent_of_all (bad_of_all session answer class command reply) = false
 abbrev pub sessions_verdict_shown : {A : Type 0} → SessionsVerdict A → JudgementOfAll
 sessions_verdict_shown (several.Consistent spool answers) = consistent_of_all spool answers.items
 sessions_verdict_shown (several.Bad session answer class command reply) = bad_of_all session answer class (option_map (λ line. line.items) command) reply.items
-
--- a verdict on two streams, as one on the one session that they are
-abbrev pub verdict_of_one : Judgement → JudgementOfAll
-verdict_of_one (consistent L n) = consistent_of_all L (n ∷ [])
-verdict_of_one (bad k class command reply) = bad_of_all 0 k class command reply
-
--- the last of these numbers, or none of them
-abbrev pub last_of : List ℕ → ℕ
-last_of ns = unwrap_or (slice_get ns (length ns - 1)) 0
-
--- a verdict on several, as what it says of the last one, or of the bad answer without its session
-abbrev pub verdict_of_last : JudgementOfAll → Judgement
-verdict_of_last (consistent_of_all L ns) = consistent L (last_of ns)
-verdict_of_last (bad_of_all j k class command reply) = bad k class command reply

@@ -2,14 +2,20 @@
 ghost use Rattle.std.specs.Prelude.{◌≡◌, [], ◌∷◌, ◌++◌, ℕ, List, true, false, None, IfOk, MatchOption, MatchResult};
 ghost use Rattle.nntp_article.specs.Session.Limit.{profile_of};
 ghost use Rattle.nntp_article.specs.declared.session.profile.Profile.{Profile};
-ghost use Rattle.nntp_pair.specs.Feeding.{HasNext, left_of};
+ghost use Rattle.nntp_pair.specs.Feeding.{HasNext};
+ghost use Rattle.nntp_pair.specs.Inner.Feeding.{left_of};
 ghost use Rattle.nntp_pair.specs.declared.side.Side.TheVariants.{Client, Server};
 ghost use Rattle.nntp_several.specs.Sessions.{Recorded};
 ghost use Rattle.nntp_several.specs.Told.{IsToldBadOfAll};
-ghost use Rattle.nntp_verdict.specs.Checking.{Keeps, HasPassed, StandsFor, StandsForAll, IsTaken, HasBegun, IsToldBad, IsToldWithoutSession, IsFinished, IsFinishedOfAll, IsUnfinished, judging, decided, told_bad, without_session, has_failed, counts_of, unrecorded};
-ghost use Rattle.nntp_verdict.specs.CheckerView.{IsUntaken, IsUnbegun, checked, of_state};
-ghost use Rattle.nntp_verdict.specs.Judging.{IsVerdictOfAll, IsVerdictFrom, HaveEnded};
-ghost use Rattle.nntp_verdict.specs.Verdict.{JudgementOfAll, sessions_verdict_shown, verdict_of_last, verdict_shown};
+ghost use Rattle.nntp_verdict.specs.Inner.Checking.{Keeps, HasPassed, StandsFor, StandsForAll, IsTaken, HasBegun, IsToldWithoutSession, IsFinished};
+ghost use Rattle.nntp_verdict.specs.Inner.Checking.{IsFinishedOfAll, IsUnfinished, judging, decided, told_bad, without_session, has_failed, counts_of};
+ghost use Rattle.nntp_verdict.specs.Inner.Checking.{unrecorded};
+ghost use Rattle.nntp_verdict.specs.Checking.{IsToldBad};
+ghost use Rattle.nntp_verdict.specs.Inner.CheckerView.{IsUntaken, IsUnbegun, checked, of_state};
+ghost use Rattle.nntp_verdict.specs.Judging.{IsVerdictOfAll};
+ghost use Rattle.nntp_verdict.specs.Inner.Judging.{IsVerdictFrom, HaveEnded};
+ghost use Rattle.nntp_verdict.specs.Verdict.{JudgementOfAll, sessions_verdict_shown, verdict_shown};
+ghost use Rattle.nntp_verdict.specs.Inner.Verdict.{verdict_of_last};
 
 use crate::judge::Judge;
 use crate::sessions_verdict::SessionsVerdict;
@@ -50,8 +56,8 @@ struct Ongoing<A: Allocator> {
 }
 
 impl<A: Allocator> Model for Ongoing<A> {
-    ghost use Rattle.nntp_verdict.specs.Checking.{Held, IsHeld};
-    ghost use Rattle.nntp_verdict.specs.Coded.{coded_held};
+    ghost use Rattle.nntp_verdict.specs.Inner.Checking.{Held, IsHeld};
+    ghost use Rattle.nntp_verdict.specs.Inner.Coded.{coded_held};
 
     ghost Value = { Held };
 
@@ -81,7 +87,8 @@ impl<A: Allocator + Copy> Checker<A> {
     /// 2^64 - 1 octets; both leave the checker as it was. `Memory` where memory is refused: then each later call answers
     /// `Failed`, and [`bad`](Checker::bad) tells of no answer.
     pub fn feed_client(&mut self, piece: &[u8]) -> Result<(), PairError>
-        ensures { MatchResult result (λ _. IsTaken Client piece.now (checked self.old) (checked self.new)) (λ error. IsUntaken error Client piece.now self.old self.new) }
+        ensures { MatchResult result (λ _. IsTaken Client piece.now (checked self.old) (checked self.new))
+            (λ error. IsUntaken error Client piece.now self.old self.new) }
     {
         self.take(Side::Client, piece)
     }
@@ -92,14 +99,16 @@ impl<A: Allocator + Copy> Checker<A> {
     ///
     /// Those of [`feed_client`](Checker::feed_client).
     pub fn feed_server(&mut self, piece: &[u8]) -> Result<(), PairError>
-        ensures { MatchResult result (λ _. IsTaken Server piece.now (checked self.old) (checked self.new)) (λ error. IsUntaken error Server piece.now self.old self.new) }
+        ensures { MatchResult result (λ _. IsTaken Server piece.now (checked self.old) (checked self.new))
+            (λ error. IsUntaken error Server piece.now self.old self.new) }
     {
         self.take(Side::Server, piece)
     }
 
     /// Takes the next octets of a side's stream, and judges the answers that are whole then.
     fn take(&mut self, side: Side, piece: &[u8]) -> Result<(), PairError>
-        ensures { MatchResult result (λ _. IsTaken side piece.now (checked self.old) (checked self.new)) (λ error. IsUntaken error side piece.now self.old self.new) }
+        ensures { MatchResult result (λ _. IsTaken side piece.now (checked self.old) (checked self.new))
+            (λ error. IsUntaken error side piece.now self.old self.new) }
     {
         let Some(counts) = self.state.counts() else {
             return Err(PairError::Failed);
@@ -149,7 +158,8 @@ impl<A: Allocator + Copy> Checker<A> {
     /// `Failed` where memory was refused to an earlier call, `Memory` where memory is refused to this one.
     pub fn finish(self) -> Result<Verdict<A>, PairError>
         ensures alone { MatchResult result (λ verdict. IsFinished (checked self) (verdict_shown verdict)) (λ error. IsUnfinished error (checked self)) }
-        ensures sessions { IfOk result (λ verdict. (all : JudgementOfAll) × IsFinishedOfAll (checked self) all × (verdict_shown verdict ≡ verdict_of_last all)) }
+        ensures sessions { IfOk result (λ verdict. (all : JudgementOfAll) × IsFinishedOfAll (checked self) all
+            × (verdict_shown verdict ≡ verdict_of_last all)) }
     {
         let verdict = self.finish_sessions()?;
         Ok(verdict.of_last())
@@ -176,7 +186,8 @@ impl<A: Allocator + Copy> Checker<A> {
     /// is for the k-th line of the client, counted from 1. None where memory was refused. Of several sessions it is what
     /// [`bad_of_sessions`](Checker::bad_of_sessions) tells, without the session.
     pub fn bad(&self) -> Option<(u64, Class)>
-        ensures told { (limit : Limit) (marks : Marks) (client server : List ℕ) → StandsFor limit marks (checked self.now) client server → IsToldBad (profile_of limit marks) client server result }
+        ensures told { (limit : Limit) (marks : Marks) (client server : List ℕ) → StandsFor limit marks (checked self.now) client server
+            → IsToldBad (profile_of limit marks) client server result }
         ensures failed { has_failed (checked self.now) ≡ true → result ≡ None }
         ensures sessions { (limit : Limit) (marks : Marks) (before : List Recorded) (session : Recorded)
             → StandsForAll limit marks (checked self.now) before session → IsToldWithoutSession (profile_of limit marks) before session result }
@@ -311,7 +322,8 @@ impl<A: Allocator + Copy> Ongoing<A> {
 
     /// The place of octets that answer nothing, whatever follows, and their class.
     fn bad(&self) -> Option<(u64, u64, Class)>
-        ensures { (profile : Profile) (before : List Recorded) (session : Recorded) → HasPassed profile before session self.now.facts self.now.answers self.now.fed
+        ensures { (profile : Profile) (before : List Recorded) (session : Recorded)
+            → HasPassed profile before session self.now.facts self.now.answers self.now.fed
             → IsToldBadOfAll profile before session result }
     {
         match self.feed.peek() {

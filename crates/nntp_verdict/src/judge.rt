@@ -3,11 +3,12 @@ ghost use Rattle.std.specs.Prelude.{◌≡◌, ℕ, List, [], ◌∷◌, ◌++�
 ghost use Rattle.std.specs.Option.{option_copied, option_map};
 ghost use Rattle.nntp_pair.specs.Pairing.{Unpaired, IsNext, Ends, end};
 ghost use Rattle.nntp_article.specs.Session.Limit.{profile_of};
-ghost use Rattle.nntp_facts.specs.Noted.{IsDue};
+ghost use Rattle.nntp_facts.specs.Inner.Noted.{IsDue};
 ghost use Rattle.nntp_several.specs.Sessions.{Recorded as RecordedValue};
-ghost use Rattle.nntp_witness.specs.Witness.{HaveNotedSome};
+ghost use Rattle.nntp_witness.specs.Inner.Witness.{HaveNotedSome};
 ghost use Rattle.nntp_printing.specs.BadAnswer.{shown};
-ghost use Rattle.nntp_verdict.specs.Judging.{IsVerdict, IsVerdictOfAll, IsVerdictFrom, HaveEnded, Passed, StopsHere, IsNoAtWholeAnswer, OnMalformed, class_noted};
+ghost use Rattle.nntp_verdict.specs.Judging.{IsVerdict, IsVerdictOfAll};
+ghost use Rattle.nntp_verdict.specs.Inner.Judging.{IsVerdictFrom, HaveEnded, Passed, StopsHere, IsNoAtWholeAnswer, OnMalformed, class_noted};
 ghost use Rattle.nntp_verdict.specs.Verdict.{bad_of_all, sessions_verdict_shown, verdict_shown};
 
 use crate::sessions_verdict::SessionsVerdict;
@@ -121,7 +122,8 @@ impl<A: Allocator + Copy> Judge<A> {
         &mut self,
         session: &Recorded<'_>,
     ) -> Result<Option<SessionsVerdict<A>>, AllocError>
-        requires { (limit : Limit) × (marks : Marks) × (before : List RecordedValue) × HaveEnded (profile_of limit marks) before self.old.facts self.old.answers.items }
+        requires { (limit : Limit) × (marks : Marks) × (before : List RecordedValue)
+            × HaveEnded (profile_of limit marks) before self.old.facts self.old.answers.items }
         ensures { IfOk result (λ told. (limit : Limit) (marks : Marks) (before : List RecordedValue)
             → HaveEnded (profile_of limit marks) before self.old.facts self.old.answers.items
             → MatchOption told (HaveEnded (profile_of limit marks) (before ++ session.now ∷ []) self.new.facts self.new.answers.items)
@@ -248,7 +250,8 @@ fn bad<A: Allocator + Copy>(
     line: Option<&[u8]>,
     initial: &[u8],
 ) -> Result<SessionsVerdict<A>, AllocError>
-    ensures { IfOk result (λ verdict. sessions_verdict_shown verdict ≡ bad_of_all session answer class (option_map shown (option_copied line.entry)) (shown initial.now)) }
+    ensures { IfOk result (λ verdict. sessions_verdict_shown verdict
+        ≡ bad_of_all session answer class (option_map shown (option_copied line.entry)) (shown initial.now)) }
 {
     let command = match shown_line(line) {
         Some(line) => Some(Vec::from_slice(alloc, line)?),

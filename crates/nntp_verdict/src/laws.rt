@@ -10,7 +10,8 @@ ghost use Rattle.nntp_article.specs.declared.session.profile.Profile.{Profile};
 ghost use Rattle.nntp_verdict.specs.Checking.{IsBadForGood, IsToldBad};
 ghost use Rattle.nntp_verdict.specs.Judging.{IsVerdict};
 ghost use Rattle.nntp_pair.specs.declared.class.Class.{Class};
-ghost use Rattle.nntp_verdict.specs.Verdict.{Judgement, is_consistent};
+ghost use Rattle.nntp_verdict.specs.Verdict.{Judgement};
+ghost use Rattle.nntp_verdict.specs.Inner.Verdict.{is_consistent};
 
 mod sessions;
 
@@ -36,7 +37,8 @@ pub fn bad_for_good_stays()
 
 /// What may be told of two streams as bad is one thing; and where an answer is told, it is told whatever octets follow.
 pub fn one_is_told_bad()
-    ensures one { (profile : Profile) (client server : List ℕ) (told other : Option (ℕ × Class)) → IsToldBad profile client server told → IsToldBad profile client server other → told ≡ other }
+    ensures one { (profile : Profile) (client server : List ℕ) (told other : Option (ℕ × Class)) → IsToldBad profile client server told
+        → IsToldBad profile client server other → told ≡ other }
     ensures stays { (profile : Profile) (client server client_more server_more : List ℕ) (told other : Option (ℕ × Class)) → IsTrue (is_some told)
         → IsToldBad profile client server told → IsToldBad profile (client ++ client_more) (server ++ server_more) other → other ≡ told }
 {}

@@ -1,6 +1,7 @@
 //! What is said of several sessions.
 ghost use Rattle.std.specs.Prelude.{◌≡◌};
-ghost use Rattle.nntp_verdict.specs.Verdict.{is_consistent_of_all, last_of, sessions_verdict_shown, verdict_of_last, verdict_shown};
+ghost use Rattle.nntp_verdict.specs.Verdict.{is_consistent_of_all, sessions_verdict_shown, verdict_shown};
+ghost use Rattle.nntp_verdict.specs.Inner.Verdict.{last_of, verdict_of_last};
 
 use crate::verdict::Verdict;
 use nntp_pair::Class;

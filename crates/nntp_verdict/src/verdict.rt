@@ -1,6 +1,7 @@
 //! What is said of a session.
 ghost use Rattle.std.specs.Prelude.{◌≡◌};
-ghost use Rattle.nntp_verdict.specs.Verdict.{is_consistent, verdict_shown};
+ghost use Rattle.nntp_verdict.specs.Inner.Verdict.{is_consistent};
+ghost use Rattle.nntp_verdict.specs.Verdict.{verdict_shown};
 
 use nntp_pair::Class;
 use nntp_spool::Spool;

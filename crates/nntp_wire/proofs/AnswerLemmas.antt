@@ -1,26 +1,13 @@
 -- What a line and a block do not say, and what a frame says.
-use Rattle.std.proofs.Common.{◌≡◌, ◌⊎◌, inl, inr, ℕ, List, ◌++◌, refl, sym, ◌∙◌, ap, Option, None, Some, Bool, true, false}
-use Rattle.std.proofs.Common.{◌≤◌, length, take, drop, arith, cond, length-append}
-use Rattle.std.proofs.lemmas.List.{append_cancel_right}
-use Rattle.std.proofs.lemmas.Bool.Decides.{nat_tests}
-use Rattle.std.specs.Prelude.{is_some}
-use Rattle.nntp_wire.specs.Number.{number_value}
-use Rattle.nntp_wire.specs.declared.answer.Answer.{Answer}
-use Rattle.nntp_wire.specs.declared.kind.Kind.{Kind}
-use Rattle.nntp_wire.specs.declared.kind.Kind.TheVariants.{Group, Numbers, Sent, Active, Capabilities, Plain}
-use Rattle.nntp_wire.proofs.SpellLemmas.{clean-line, status-clean, status-code}
-use Rattle.nntp_wire.proofs.FrameLemmas.{one_line}
+use Rattle.std.proofs.Common.{◌≡◌, ◌⊎◌, inl, inr, ℕ, List, ◌++◌, refl, sym, ◌∙◌, ap, Option, None, Some, Bool, true, false, ◌≤◌, length, take, drop, arith}
+use Rattle.std.{proofs.{Common.{cond, length-append}, lemmas.{List.{append_cancel_right}, Bool.Decides.{nat_tests}}}, specs.Prelude.{is_some}}
+use Rattle.nntp_wire.specs.{Number.{number_value}, declared.{answer.Answer.{Answer}, kind.Kind.{Kind, TheVariants.{Group, Numbers, Sent, Active}}}}
+use Rattle.nntp_wire.specs.{declared.{kind.Kind.TheVariants.{Capabilities, Plain}, water_marks.WaterMarks.{WaterMarks}}, Octets.{crlf}, Lines.{HasNoCrlf}}
+use Rattle.nntp_wire.specs.{Block.{sent, dot_line}, Argument.{HasArticle, HasGroup}, Answer.{Asked, Response, group_is, numbers_are, sends, SaysGroup}}
+use Rattle.nntp_wire.specs.Answer.{SaysNumbers, SaysArticle, SaysByLines, SaysActive, SaysCapabilities, SaysCode, Says, Spells, has_code, status_of, kind_of}
+use Rattle.nntp_wire.specs.{Answer.{is_block_due, block_octets, IsCleanBlock}, Inner.AnswerView.{Answers, Reads, IsBlock, SendsBlock}, Frame.{frame_octets}}
+use Rattle.nntp_wire.{specs.Frame.{framed, IsBeforeDotLine}, proofs.{SpellLemmas.{clean-line, status-clean, status-code}, FrameLemmas.{one_line}}}
 use Rattle.nntp_wire.proofs.ResponseLemmas.{one-sent}
-use Rattle.nntp_wire.specs.Octets.{crlf}
-use Rattle.nntp_wire.specs.Lines.{HasNoCrlf}
-use Rattle.nntp_wire.specs.Block.{sent, dot_line}
-use Rattle.nntp_wire.specs.declared.water_marks.WaterMarks.{WaterMarks}
-use Rattle.nntp_wire.specs.Argument.{HasArticle, HasGroup}
-use Rattle.nntp_wire.specs.Answer.{Asked, Response, group_is, numbers_are, sends, SaysGroup, SaysNumbers, SaysArticle}
-use Rattle.nntp_wire.specs.Answer.{SaysByLines, SaysActive, SaysCapabilities, SaysCode, Says, Spells, has_code, status_of}
-use Rattle.nntp_wire.specs.Answer.{kind_of, is_block_due, block_octets, IsCleanBlock}
-use Rattle.nntp_wire.specs.AnswerView.{Answers, Reads, IsBlock, SendsBlock}
-use Rattle.nntp_wire.specs.Frame.{frame_octets, framed, IsBeforeDotLine}
 
 -- no group, no response
 pub no-group : (bytes : List ℕ) → ((m : WaterMarks) (name : List ℕ) → ¬ (HasGroup bytes m name)) → (r : Response) → SaysGroup bytes r → ⊥

@@ -1,18 +1,12 @@
 -- The code of an answer tells whether the server closes the connection after it.
 use Rattle.std.proofs.Common.{◌≡◌, ℕ, ◌≤◌, List, Option, None, Some, Bool, true, false, cond, refl, sym, ap, ◌∙◌, arith, ◌⊎◌, inl, inr}
-use Rattle.std.proofs.lemmas.Bool.{true≢false, eqb-true}
-use Rattle.std.proofs.lemmas.Bool.Decides.{nat_tests}
-use Rattle.std.specs.Prelude.{◌==◌}
-use Rattle.nntp_wire.specs.Lines.{HasNoCrlf}
-use Rattle.nntp_wire.specs.Command.{capabilities, mode_reader, next, last, quit, opaque, ill_formed, group, list_group, retrieve, list_active}
-use Rattle.nntp_wire.specs.Answer.{Asked, greeting, to, Response, group_is, numbers_are, sends, active_are, plain, Spells, Says, kind_of, code_of, block_octets}
-use Rattle.nntp_wire.specs.Frame.{frame_octets, framed}
-use Rattle.nntp_wire.specs.Session.{closes}
-use Rattle.nntp_wire.specs.declared.command.What.TheVariants.{Article, Head, Body, Stat}
-use Rattle.nntp_wire.specs.declared.kind.Kind.{Kind}
-use Rattle.nntp_wire.specs.declared.kind.Kind.TheVariants.{Group, Numbers, Sent, Active, Capabilities, Plain}
-use Rattle.nntp_wire.proofs.FrameLemmas.{one_line}
-use Rattle.nntp_wire.proofs.SpellLemmas.{clean-line, status-clean, status-code}
+use Rattle.std.{proofs.lemmas.Bool.{true≢false, eqb-true, Decides.{nat_tests}}, specs.Prelude.{◌==◌}}
+use Rattle.nntp_wire.specs.{Lines.{HasNoCrlf}, Command.{capabilities, mode_reader, next, last, quit, opaque, ill_formed, group, list_group, retrieve}}
+use Rattle.nntp_wire.specs.{Command.{list_active}, Answer.{Asked, greeting, to, Response, group_is, numbers_are, sends, active_are, plain, Spells, Says}}
+use Rattle.nntp_wire.specs.{Answer.{kind_of, code_of, block_octets}, Frame.{frame_octets, framed}, Session.{closes}}
+use Rattle.nntp_wire.specs.declared.{command.What.TheVariants.{Article, Head, Body, Stat}, kind.Kind.{Kind, TheVariants.{Group, Numbers, Sent, Active}}}
+use Rattle.nntp_wire.{specs.declared.kind.Kind.TheVariants.{Capabilities, Plain}, proofs.{FrameLemmas.{one_line}, SpellLemmas.{clean-line, status-clean}}}
+use Rattle.nntp_wire.proofs.SpellLemmas.{status-code}
 
 -- a response that is no more than its code
 abbrev is_plain : Response → Bool

@@ -1,8 +1,6 @@
 -- What can be decided.
-use Rattle.std.proofs.Common.{◌≡◌, ℕ, ◌⊎◌, ◌≤◌, Bool, true, false, IsTrue, Option, None, Some, List, [], ◌∷◌, inl, inr, refl, arith}
-use Rattle.std.specs.Prelude.{nat_le, IsFalse}
-use Rattle.std.specs.List.{AllByRecursion}
-use Rattle.std.proofs.lemmas.Bool.{cases_Bool, leb-true, leb-false}
+use Rattle.std.proofs.{Common.{◌≡◌, ℕ, ◌⊎◌, ◌≤◌, Bool, true, false, IsTrue, Option, None, Some, List, [], ◌∷◌, inl, inr, refl, arith}, lemmas.Bool.{cases_Bool}}
+use Rattle.std.{proofs.lemmas.Bool.{leb-true, leb-false}, specs.{Prelude.{nat_le, IsFalse}, List.{AllByRecursion}}}
 
 -- it holds, or it does not
 abbrev pub Dec : Type 0 → Type 0

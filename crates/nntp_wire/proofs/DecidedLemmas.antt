@@ -1,15 +1,12 @@
 -- The tests that compute are the relations of nntp_wire.
-use Rattle.std.proofs.Common.{◌≡◌, ◌↔◌, ℕ, ◌<◌, ◌≤◌, Bool, true, false, ◌&&◌, ◌||◌, ◌==◌, not, IsTrue, List, [], ◌∷◌, ◌++◌, length, map, length-append, inl, inr, refl, sym, ap, subst, ◌∙◌, arith}
-use Rattle.std.specs.Prelude.{nat_le, nat_lt}
-use Rattle.std.specs.List.{list_all, list_any, AllByRecursion}
-use Rattle.std.specs.Str.{chars, is_utf8, encode_utf8_all}
-use Rattle.std.proofs.lemmas.Bool.{and_parts, and_from, or_cases, or_left, or_right, cases_Bool, leb-true, le-leb, lt-ltb, ltb-true, eqb-true, true≢false, not-true}
-use Rattle.std.proofs.lemmas.Bool.Decides.{nat_tests}
-use Rattle.std.proofs.lemmas.Str.{IsUtf8-from_is_utf8, is_utf8-from_IsUtf8, chars-encodes, chars-nil}
-use Rattle.std.proofs.lemmas.List.Elements.{recursion_from_All, All-from_recursion}
-use Rattle.nntp_wire.specs.Name.{IsIdOctet, IsMessageId, IsGroupName, is_name_char}
-use Rattle.nntp_wire.specs.Wildmat.{Item, star, question, character, Matches, MatchesPattern, IsChosen, MatchesName, item_of, patterns_of, is_negated, without_negation}
-use Rattle.nntp_wire.specs.Decided.{is_id_octet, ends_id, begins_id, is_message_id, is_group_name, suffixes, matches, matches_pattern, is_chosen, matches_name}
+use Rattle.std.proofs.Common.{◌≡◌, ◌↔◌, ℕ, ◌<◌, ◌≤◌, Bool, true, false, ◌&&◌, ◌||◌, ◌==◌, not, IsTrue, List, [], ◌∷◌, ◌++◌, length, map, length-append, inl}
+use Rattle.std.proofs.{Common.{inr, refl, sym, ap, subst, ◌∙◌, arith}, lemmas.Bool.{and_parts, and_from, or_cases, or_left, or_right, cases_Bool, leb-true}}
+use Rattle.std.proofs.lemmas.{Bool.{le-leb, lt-ltb, ltb-true, eqb-true, true≢false, not-true, Decides.{nat_tests}}, Str.{IsUtf8-from_is_utf8}}
+use Rattle.std.proofs.lemmas.{Str.{is_utf8-from_IsUtf8, chars-encodes, chars-nil}, List.Elements.{recursion_from_All, All-from_recursion}}
+use Rattle.std.specs.{Prelude.{nat_le, nat_lt}, List.{list_all, list_any, AllByRecursion}, Str.{chars, is_utf8, encode_utf8_all}}
+use Rattle.nntp_wire.specs.{Name.{IsIdOctet, IsMessageId, IsGroupName, is_name_char}, Wildmat.{Item, star, question, character, Matches, MatchesPattern}}
+use Rattle.nntp_wire.specs.{Wildmat.{IsChosen, MatchesName, item_of, patterns_of, is_negated, without_negation}, Decided.{is_id_octet, ends_id, begins_id}}
+use Rattle.nntp_wire.specs.Decided.{is_message_id, is_group_name, suffixes, matches, matches_pattern, is_chosen, matches_name}
 
 -- ---- message ids
 

@@ -1,19 +1,10 @@
 -- The arguments behind a code are those that are due exactly if they name a group with its marks, or an article.
-use Rattle.std.proofs.Common.{◌≡◌, ℕ, ◌+◌, ◌&&◌, Bool, true, false, List, [], ◌∷◌}
-use Rattle.std.proofs.Common.{inl, inr, refl, sym, ap, ◌∙◌, cond}
-use Rattle.std.specs.Prelude.{is_none}
-use Rattle.std.specs.List.{slice_split}
-use Rattle.std.proofs.lemmas.Bool.{cases_Bool, and_from, and_parts, false≢true}
-use Rattle.nntp_wire.specs.Number.{number_value}
-use Rattle.nntp_wire.specs.Argument.{BeginsWithArgument, BeginsWithNumber, HasArticle}
-use Rattle.nntp_wire.specs.Misspelling.{is_space, arguments_of, dues, is_argument, argument_misspelling}
-use Rattle.nntp_wire.specs.declared.kind.Kind.TheVariants.{Group, Sent}
-use Rattle.nntp_wire.specs.declared.misspelling.Due.{Due}
-use Rattle.nntp_wire.specs.declared.misspelling.Due.TheVariants.{Number, GroupName, MessageId}
-use Rattle.nntp_wire.proofs.Reasons.{none_unless, none_two}
-use Rattle.nntp_wire.proofs.MisspellingLemmas.{argument-first, argument-some}
-use Rattle.nntp_wire.proofs.DecidedLemmas.{message_id-iff, group_name-iff}
-use Rattle.nntp_wire.proofs.SaysDecided.{Grouped}
+use Rattle.std.proofs.{Common.{◌≡◌, ℕ, ◌+◌, ◌&&◌, Bool, true, false, List, [], ◌∷◌, inl, inr, refl, sym, ap, ◌∙◌, cond}, lemmas.Bool.{cases_Bool, and_from}}
+use Rattle.std.{proofs.lemmas.Bool.{and_parts, false≢true}, specs.{Prelude.{is_none}, List.{slice_split}}}
+use Rattle.nntp_wire.specs.{Number.{number_value}, Argument.{BeginsWithArgument, BeginsWithNumber, HasArticle}, Misspelling.{is_space, arguments_of, dues}}
+use Rattle.nntp_wire.specs.{Misspelling.{is_argument, argument_misspelling}, declared.{kind.Kind.TheVariants.{Group, Sent}, misspelling.Due.{Due}}}
+use Rattle.nntp_wire.{specs.declared.misspelling.Due.TheVariants.{Number, GroupName, MessageId}, proofs.Reasons.{none_unless, none_two}}
+use Rattle.nntp_wire.proofs.{MisspellingLemmas.{argument-first, argument-some}, DecidedLemmas.{message_id-iff, group_name-iff}, SaysDecided.{Grouped}}
 
 -- the arguments begin with what is due
 abbrev pub are_arguments : List Due → List (List ℕ) → Bool

@@ -1,12 +1,9 @@
 -- The first empty line of a block.
-use Rattle.std.proofs.Common.{◌≡◌, ◌≢◌, ℕ, ◌+◌, ◌≤◌, List, [], ◌∷◌, ◌++◌, length, take, drop, refl, sym, ◌∙◌, ap, subst, arith, append_assoc, append-nil, length-append}
-use Rattle.std.proofs.lemmas.List.{take_at, drop_at}
-use Rattle.bstr.specs.Text.{lines_of}
-use Rattle.bstr.proofs.lemmas.LineLemmas.{lines-nil}
-use Rattle.nntp_wire.specs.Octets.{crlf}
-use Rattle.nntp_wire.specs.Block.{stuffed, unstuffed, sent, received, AreClean, Sends, HasNoEmptyLine}
-use Rattle.nntp_wire.proofs.BlockLemmas.{lines-sent, unstuffed-stuffed}
-use Rattle.nntp_wire.proofs.SubBlockLemmas.{clean-append, sent-append, received-of}
+use Rattle.std.proofs.Common.{◌≡◌, ◌≢◌, ℕ, ◌+◌, ◌≤◌, List, [], ◌∷◌, ◌++◌, length, take, drop, refl, sym, ◌∙◌, ap, subst, arith, append_assoc, append-nil}
+use Rattle.std.proofs.{Common.{length-append}, lemmas.List.{take_at, drop_at}}
+use Rattle.bstr.{specs.Text.{lines_of}, proofs.lemmas.LineLemmas.{lines-nil}}
+use Rattle.nntp_wire.specs.{Octets.{crlf}, Block.{stuffed, unstuffed, sent, AreClean}, Inner.Block.{received, Sends, HasNoEmptyLine}}
+use Rattle.nntp_wire.proofs.{BlockLemmas.{lines-sent, unstuffed-stuffed}, SubBlockLemmas.{clean-append, sent-append, received-of}}
 
 none-append : (xs ys : List (List ℕ)) → HasNoEmptyLine xs → HasNoEmptyLine ys → HasNoEmptyLine (xs ++ ys)
 none-append [] ys a b = b

@@ -1,16 +1,8 @@
 -- Whether octets begin with a whole frame can be decided, and octets behind a frame leave it.
 use Rattle.std.proofs.Common.{◌≡◌, ◌≢◌, ◌⊎◌, true, false, ℕ, List, [], ◌∷◌, ◌++◌, Option, None, Some, inl, inr, refl, sym, ap, subst, ◌∙◌, append_assoc}
-use Rattle.std.specs.Prelude.{is_some}
-use Rattle.std.specs.List.{AllByRecursion}
-use Rattle.std.proofs.lemmas.List.{append-nil}
-use Rattle.std.proofs.lemmas.Bool.{cases_Bool, cases_eq, true≢false}
-use Rattle.nntp_wire.specs.Octets.{dot, crlf}
-use Rattle.nntp_wire.specs.Lines.{HasNoCrlf, ended, lines_of_stream}
-use Rattle.nntp_wire.specs.Block.{dot_line}
-use Rattle.nntp_wire.specs.Answer.{Asked, code_of}
-use Rattle.nntp_wire.specs.Frame.{HasFrame, IsBlockLine, IsBeforeDotLine, is_due_by, framed, frame_octets}
-use Rattle.nntp_wire.proofs.Decide.{Dec}
-use Rattle.nntp_wire.proofs.FrameLemmas.{line-one}
+use Rattle.std.{proofs.lemmas.{List.{append-nil}, Bool.{cases_Bool, cases_eq, true≢false}}, specs.{Prelude.{is_some}, List.{AllByRecursion}}}
+use Rattle.nntp_wire.specs.{Octets.{dot, crlf}, Lines.{HasNoCrlf, ended, lines_of_stream}, Block.{dot_line}, Answer.{Asked, code_of}, Frame.{HasFrame}}
+use Rattle.nntp_wire.{specs.Frame.{IsBlockLine, IsBeforeDotLine, is_due_by, framed, frame_octets}, proofs.{Decide.{Dec}, FrameLemmas.{line-one}}}
 use Rattle.nntp_wire.proofs.StreamLemmas.{stream-split, lines-first, lines-ended}
 
 -- octets begin with a frame

@@ -1,10 +1,6 @@
 -- Message ids are text.
-use Rattle.std.proofs.Common.{◌<◌, ℕ, List, [], ◌∷◌, ◌++◌, All, sym, subst, arith}
-use Rattle.std.specs.List.{AllByRecursion}
-use Rattle.std.specs.Str.{IsUtf8}
-use Rattle.std.proofs.Math.ListN.{get_or-eq_default}
-use Rattle.std.proofs.lemmas.List.Elements.{All-from_recursion, recursion_from_All}
-use Rattle.std.proofs.lemmas.Str.{IsUtf8-from_ascii}
+use Rattle.std.proofs.{Common.{◌<◌, ℕ, List, [], ◌∷◌, ◌++◌, All, sym, subst, arith}, Math.ListN.{get_or-eq_default}, lemmas.List.Elements.{All-from_recursion}}
+use Rattle.std.{proofs.lemmas.{List.Elements.{recursion_from_All}, Str.{IsUtf8-from_ascii}}, specs.{List.{AllByRecursion}, Str.{IsUtf8}}}
 use Rattle.nntp_wire.specs.Name.{IsIdOctet, IsMessageId}
 
 -- ASCII is UTF-8

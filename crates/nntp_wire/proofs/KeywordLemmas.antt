@@ -1,16 +1,9 @@
 -- A word that is one of the keywords has the form of a keyword.
-use Rattle.std.proofs.Common.{◌≡◌, ℕ, Bool, true, false, List, [], ◌∷◌, length, map, get_or, arith, refl, sym, ◌∙◌, ap, Some}
-use Rattle.std.specs.Prelude.{◌&&◌, nat_le}
-use Rattle.std.specs.List.{find, list_all}
-use Rattle.std.specs.Option.{option_map}
-use Rattle.std.specs.Char.{to_ascii_lowercase, is_ascii_alphabetic}
-use Rattle.std.proofs.lemmas.List.{length-map}
-use Rattle.std.proofs.lemmas.Bool.{and_parts}
-use Rattle.std.proofs.lemmas.Bool.Decides.{nat_tests}
-use Rattle.std.proofs.lemmas.Slice.Eq.{bytes_eq-Decides}
-use Rattle.nntp_wire.specs.Octets.{is_clean}
-use Rattle.nntp_wire.specs.Words.{words_of, is_same_word}
-use Rattle.nntp_wire.specs.Command.{Request, keywords, form_of, is_keyword, is_keyword_octet, request_by, request_of}
+use Rattle.std.proofs.{Common.{◌≡◌, ℕ, Bool, true, false, List, [], ◌∷◌, length, map, get_or, arith, refl, sym, ◌∙◌, ap, Some}, lemmas.List.{length-map}}
+use Rattle.std.{proofs.lemmas.{Bool.{and_parts, Decides.{nat_tests}}, Slice.Eq.{bytes_eq-Decides}}, specs.{Prelude.{◌&&◌, nat_le}, List.{find, list_all}}}
+use Rattle.std.specs.{Option.{option_map}, Char.{to_ascii_lowercase, is_ascii_alphabetic}}
+use Rattle.nntp_wire.specs.{Octets.{is_clean}, Words.{words_of, is_same_word}, Command.{Request, keywords, form_of, is_keyword, is_keyword_octet, request_by}}
+use Rattle.nntp_wire.specs.Command.{request_of}
 
 -- the first letter, in lower case
 pub lower_first : (word : List ℕ) → to_ascii_lowercase (get_or word 0 0) ≡ get_or (map to_ascii_lowercase word) 0 0
@@ -34,7 +27,8 @@ lower_octets (b ∷ bs) = rw (lower_octet b) (ap (λ t. is_keyword_octet b && t)
 -- a word has the form of a keyword in either case
 lower_keyword : (word : List ℕ) → is_keyword (map to_ascii_lowercase word) ≡ is_keyword word
 lower_keyword word =
-    let first : is_ascii_alphabetic (get_or (map to_ascii_lowercase word) 0 0) ≡ is_ascii_alphabetic (get_or word 0 0) = ap is_ascii_alphabetic (sym (lower_first word)) ∙ lower_letter (get_or word 0 0) in
+    let first : is_ascii_alphabetic (get_or (map to_ascii_lowercase word) 0 0) ≡ is_ascii_alphabetic (get_or word 0 0) = ap is_ascii_alphabetic (sym (lower_first word))
+    ∙ lower_letter (get_or word 0 0) in
     rw (length-map word to_ascii_lowercase, first, lower_octets word) refl
 
 -- a keyword that is looked up among these

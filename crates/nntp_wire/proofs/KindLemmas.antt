@@ -1,20 +1,11 @@
 -- Most lines have the kind Other by their first letter.
 use Rattle.std.proofs.Common.{◌≡◌, ℕ, ◌<◌, Bool, true, false, ◌⊎◌, inl, inr, ◌||◌, List, [], ◌∷◌, length, get_or, arith, refl, sym, ◌∙◌, ap, Option, None, Some}
-use Rattle.std.proofs.lemmas.Bool.{false≢true, lt-ltb}
-use Rattle.std.specs.Prelude.{◌==◌, nat_le, ⊤}
-use Rattle.std.specs.List.{find, filter, onto_first, slice_split}
-use Rattle.std.proofs.lemmas.List.Splits.{slice_split-cons_no}
-use Rattle.std.specs.Option.{option_map}
-use Rattle.std.specs.Char.{to_ascii_lowercase}
-use Rattle.nntp_wire.specs.Octets.{is_blank, is_clean}
-use Rattle.nntp_wire.proofs.KeywordLemmas.{lower_first, same_lower}
-use Rattle.nntp_wire.specs.Words.{words_of, is_some_octets, is_same_word}
-use Rattle.nntp_wire.specs.Answer.{to}
-use Rattle.nntp_wire.specs.Command.{Request, keywords, form_of, is_keyword, request_by, request_by_keyword, request_of_words, request_of, capabilities_of, group_of, alone, next, retrieve_of, retrieve_by, target_of}
-use Rattle.nntp_wire.specs.Prompts.{prompt_kind}
-use Rattle.nntp_wire.specs.declared.prompt_kind.PromptKind.TheVariants.{Other}
-use Rattle.nntp_wire.specs.declared.command.What.{What}
-use Rattle.nntp_wire.specs.declared.command.What.TheVariants.{Article, Head, Body, Stat}
+use Rattle.std.{proofs.lemmas.{Bool.{false≢true, lt-ltb}, List.Splits.{slice_split-cons_no}}, specs.{Prelude.{◌==◌, nat_le, ⊤}, List.{find, filter}}}
+use Rattle.std.specs.{List.{onto_first, slice_split}, Option.{option_map}, Char.{to_ascii_lowercase}}
+use Rattle.nntp_wire.specs.{Octets.{is_blank, is_clean}, Words.{words_of, is_some_octets, is_same_word}, Answer.{to}, Command.{Request, keywords, form_of}}
+use Rattle.nntp_wire.specs.Command.{is_keyword, request_by, request_by_keyword, request_of_words, request_of, capabilities_of, group_of, alone, next}
+use Rattle.nntp_wire.specs.{Command.{retrieve_of, retrieve_by, target_of}, Inner.Prompts.{prompt_kind}, declared.prompt_kind.PromptKind.TheVariants.{Other}}
+use Rattle.nntp_wire.{specs.declared.command.What.{What, TheVariants.{Article, Head, Body, Stat}}, proofs.KeywordLemmas.{lower_first, same_lower}}
 
 -- the word begins as LISTGROUP, MODE or QUIT does, in either case
 abbrev pub begins_kind : List ℕ → Bool

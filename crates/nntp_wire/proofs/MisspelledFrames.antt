@@ -1,31 +1,19 @@
 -- A frame spells nothing exactly if there is a reason why.
-use Rattle.std.proofs.Common.{◌≡◌, ℕ, ◌+◌, ◌↔◌, ◌==◌, ◌&&◌, ◌||◌, Bool, true, false, not, List, [], ◌∷◌, length, map, drop}
-use Rattle.std.proofs.Common.{Option, None, Some, inl, inr, refl, sym, ap, subst, ◌∙◌, cond}
-use Rattle.std.specs.Prelude.{is_none, is_some, option_map, ⊤}
-use Rattle.std.specs.List.{AllByRecursion}
-use Rattle.std.proofs.lemmas.List.{append-nil}
-use Rattle.std.proofs.lemmas.Bool.{cases_Bool, and_from, and_parts, eqb-true, false≢true, true≢false, not-true}
-use Rattle.nntp_wire.specs.Octets.{dot, is_clean}
-use Rattle.nntp_wire.specs.Lines.{HasNoCrlf, ended, lines_of_stream}
-use Rattle.nntp_wire.specs.Words.{words_of}
-use Rattle.nntp_wire.specs.Block.{stuffed, unstuffed, AreClean}
+use Rattle.std.proofs.Common.{◌≡◌, ℕ, ◌+◌, ◌↔◌, ◌==◌, ◌&&◌, ◌||◌, Bool, true, false, not, List, [], ◌∷◌, length, map, drop, Option, None, Some, inl, inr, refl}
+use Rattle.std.proofs.{Common.{sym, ap, subst, ◌∙◌, cond}, lemmas.{List.{append-nil}, Bool.{cases_Bool, and_from, and_parts, eqb-true, false≢true, true≢false}}}
+use Rattle.std.{proofs.lemmas.Bool.{not-true}, specs.{Prelude.{is_none, is_some, option_map, ⊤}, List.{AllByRecursion}}}
+use Rattle.nntp_wire.specs.{Octets.{dot, is_clean}, Lines.{HasNoCrlf, ended, lines_of_stream}, Words.{words_of}, Block.{stuffed, unstuffed, AreClean}}
 use Rattle.nntp_wire.specs.Listing.{listed_number_of, active_of, gives_versions, are_listed_numbers, are_active_lines, begins_with_versions}
-use Rattle.nntp_wire.specs.Command.{capabilities, mode_reader, quit, opaque, ill_formed, group, list_group, next, last, retrieve, list_active}
-use Rattle.nntp_wire.specs.Answer.{Asked, Response, greeting, to, group_is, numbers_are, sends, active_are, plain, Says, Spells, code_of, is_fitting, status_of, kind_of, is_block_due, success_code}
-use Rattle.nntp_wire.specs.AnswerView.{SendsBlock, IsBlock, Reads}
-use Rattle.nntp_wire.specs.Frame.{FrameParts, IsFrame, IsBlockLine, IsBeforeDotLine, frame_octets}
-use Rattle.nntp_wire.specs.Misspelling.{arguments_of, dues, has_no_single_dot, listing_fault, line_fault, kind_behind}
-use Rattle.nntp_wire.specs.Misspelling.{line_misspelling, lines_misspelling, block_misspelling, misspelling_behind, code_misspelling, misspelling}
-use Rattle.nntp_wire.specs.declared.kind.Kind.{Kind}
-use Rattle.nntp_wire.specs.declared.kind.Kind.TheVariants.{Group, Numbers, Sent, Active, Capabilities, Plain}
-use Rattle.nntp_wire.proofs.Reasons.{none_unless, none_two, none_three, none_by_test, and_true}
-use Rattle.nntp_wire.proofs.DueArguments.{are_arguments, none_arguments, group_taken, group_put, article_taken, article_put}
-use Rattle.nntp_wire.proofs.BlockLemmas.{stuffed-clean, unstuffed-clean, unstuffed-stuffed}
-use Rattle.nntp_wire.proofs.SpellLemmas.{sent-lines, status-code}
-use Rattle.nntp_wire.proofs.FrameLemmas.{line-nil}
-use Rattle.nntp_wire.proofs.StreamLemmas.{split-lines}
-use Rattle.nntp_wire.proofs.AnswerLemmas.{reads-spells, spells-reads}
-use Rattle.nntp_wire.proofs.SaysDecided.{group_said, numbers_said, article_said, active_said}
+use Rattle.nntp_wire.specs.{Command.{capabilities, mode_reader, quit, opaque, ill_formed, group, list_group, next, last, retrieve, list_active}, Answer.{Asked}}
+use Rattle.nntp_wire.specs.Answer.{Response, greeting, to, group_is, numbers_are, sends, active_are, plain, Says, Spells, code_of, is_fitting, status_of}
+use Rattle.nntp_wire.specs.{Answer.{kind_of, is_block_due, success_code}, Inner.{AnswerView.{SendsBlock, IsBlock, Reads}, Frame.{FrameParts, IsFrame}}}
+use Rattle.nntp_wire.specs.{Frame.{IsBlockLine, IsBeforeDotLine, frame_octets}, Misspelling.{arguments_of, dues, has_no_single_dot, listing_fault, line_fault}}
+use Rattle.nntp_wire.specs.Misspelling.{kind_behind, line_misspelling, lines_misspelling, block_misspelling, misspelling_behind, code_misspelling, misspelling}
+use Rattle.nntp_wire.{specs.declared.kind.Kind.{Kind, TheVariants.{Group, Numbers, Sent, Active, Capabilities, Plain}}, proofs.Reasons.{none_unless, none_two}}
+use Rattle.nntp_wire.proofs.{Reasons.{none_three, none_by_test, and_true}, DueArguments.{are_arguments, none_arguments, group_taken, group_put, article_taken}}
+use Rattle.nntp_wire.proofs.{DueArguments.{article_put}, BlockLemmas.{stuffed-clean, unstuffed-clean, unstuffed-stuffed}, SpellLemmas.{sent-lines, status-code}}
+use Rattle.nntp_wire.proofs.{FrameLemmas.{line-nil}, StreamLemmas.{split-lines}, AnswerLemmas.{reads-spells, spells-reads}, SaysDecided.{group_said}}
+use Rattle.nntp_wire.proofs.SaysDecided.{numbers_said, article_said, active_said}
 
 -- ---- lines
 

@@ -1,16 +1,10 @@
 -- The arguments and the lines that a reason counts.
-use Rattle.std.proofs.Common.{◌≡◌, ℕ, ◌+◌, ◌<◌, true, false, List, [], ◌∷◌, ◌++◌, None, Some, refl, sym, ap, ◌∙◌, cond, length, drop, get_or, drop-cons, add-one, inl, inr}
-use Rattle.std.proofs.lemmas.Bool.{cases_Bool, eqb-true, and_parts, not-true}
-use Rattle.std.specs.Prelude.{option_map}
-use Rattle.std.specs.List.{list_all, slice_split, onto_first}
-use Rattle.nntp_wire.specs.Octets.{space}
-use Rattle.nntp_wire.specs.Argument.{no_space, is_comment, BeginsWithArgument}
-use Rattle.nntp_wire.specs.Reason.{unless, first}
-use Rattle.nntp_wire.specs.Misspelling.{is_space, arguments_of, is_argument, argument_misspelling, line_fault, kind_behind, line_misspelling}
-use Rattle.nntp_wire.specs.declared.kind.Kind.{Kind}
-use Rattle.nntp_wire.specs.declared.misspelling.Misspelling.TheVariants.{WrongArgument, WrongLine}
-use Rattle.nntp_wire.specs.declared.misspelling.Due.{Due}
-use Rattle.nntp_wire.proofs.Reasons.{first_alone}
+use Rattle.std.proofs.Common.{◌≡◌, ℕ, ◌+◌, ◌<◌, true, false, List, [], ◌∷◌, ◌++◌, None, Some, refl, sym, ap, ◌∙◌, cond, length, drop, get_or, drop-cons}
+use Rattle.std.{proofs.{Common.{add-one, inl, inr}, lemmas.Bool.{cases_Bool, eqb-true, and_parts, not-true}}, specs.{Prelude.{option_map}, List.{list_all}}}
+use Rattle.std.specs.List.{slice_split, onto_first}
+use Rattle.nntp_wire.specs.{Octets.{space}, Argument.{no_space, is_comment, BeginsWithArgument}, Reason.{unless, first}, Misspelling.{is_space, arguments_of}}
+use Rattle.nntp_wire.specs.{Misspelling.{is_argument, argument_misspelling, line_fault, kind_behind, line_misspelling}, declared.kind.Kind.{Kind}}
+use Rattle.nntp_wire.{specs.declared.misspelling.{Misspelling.TheVariants.{WrongArgument, WrongLine}, Due.{Due}}, proofs.Reasons.{first_alone}}
 use Rattle.nntp_wire.proofs.SaysDecided.{up_to_space}
 
 -- ---- arguments

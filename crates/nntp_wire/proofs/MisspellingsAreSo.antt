@@ -1,25 +1,15 @@
 -- What a reason why a frame spells nothing names is wrong.
-use Rattle.std.proofs.Common.{◌≡◌, ℕ, suc, ◌+◌, Bool, true, false, not, List, [], ◌∷◌, length, drop, Option, None, Some, MatchOption, refl, sym, ap, subst, arith}
-use Rattle.std.specs.Prelude.{slice_get, is_some, option_map, IfSome}
-use Rattle.std.proofs.lemmas.Option.{IfSome_then}
-use Rattle.nntp_wire.specs.Octets.{is_clean}
-use Rattle.nntp_wire.specs.Lines.{lines_of_stream}
-use Rattle.nntp_wire.specs.Words.{words_of}
-use Rattle.nntp_wire.specs.Block.{unstuffed}
-use Rattle.nntp_wire.specs.Listing.{listed_number_of, active_of, gives_versions}
-use Rattle.nntp_wire.specs.Answer.{Asked, code_of, is_fitting, kind_of, is_block_due}
-use Rattle.nntp_wire.specs.Reason.{unless}
-use Rattle.nntp_wire.specs.Misspelling.{arguments_of, dues, is_argument, argument_misspelling, has_no_single_dot, listing_fault, line_fault, kind_behind}
-use Rattle.nntp_wire.specs.Misspelling.{line_misspelling, lines_misspelling, block_misspelling}
-use Rattle.nntp_wire.specs.Misspelling.{misspelling_behind, code_misspelling, misspelling, IsWrongArgument, has_fault, IsWrongLine}
-use Rattle.nntp_wire.specs.declared.kind.Kind.{Kind}
-use Rattle.nntp_wire.specs.declared.kind.Kind.TheVariants.{Group, Numbers, Sent, Active, Capabilities, Plain}
-use Rattle.nntp_wire.specs.declared.misspelling.Misspelling.{Misspelling}
-use Rattle.nntp_wire.specs.declared.misspelling.Misspelling.TheVariants.{WrongOctet, TooLong, NoCode, WrongArgument, WrongLine, WrongBlock}
-use Rattle.nntp_wire.specs.declared.misspelling.Due.{Due}
-use Rattle.nntp_wire.specs.declared.misspelling.LineFault.{LineFault}
-use Rattle.nntp_wire.specs.declared.misspelling.LineFault.TheVariants.{BadOctet, SingleDot, NoNumber, NoGroup, NoVersions}
-use Rattle.nntp_wire.proofs.Reasons.{so_unless, so_first}
+use Rattle.std.proofs.Common.{◌≡◌, ℕ, suc, ◌+◌, Bool, true, false, not, List, [], ◌∷◌, length, drop, Option, None, Some, MatchOption, refl, sym, ap, subst}
+use Rattle.std.{proofs.{Common.{arith}, lemmas.Option.{IfSome_then}}, specs.Prelude.{slice_get, is_some, option_map, IfSome}}
+use Rattle.nntp_wire.specs.{Octets.{is_clean}, Lines.{lines_of_stream}, Words.{words_of}, Block.{unstuffed}, Listing.{listed_number_of, active_of}}
+use Rattle.nntp_wire.specs.{Listing.{gives_versions}, Answer.{Asked, code_of, is_fitting, kind_of, is_block_due}, Reason.{unless}, Misspelling.{arguments_of}}
+use Rattle.nntp_wire.specs.Misspelling.{dues, is_argument, argument_misspelling, has_no_single_dot, listing_fault, line_fault, kind_behind, line_misspelling}
+use Rattle.nntp_wire.specs.Misspelling.{lines_misspelling, block_misspelling, misspelling_behind, code_misspelling, misspelling}
+use Rattle.nntp_wire.specs.{Inner.Misspelling.{IsWrongArgument, has_fault, IsWrongLine}, declared.kind.Kind.{Kind, TheVariants.{Group, Numbers, Sent, Active}}}
+use Rattle.nntp_wire.specs.declared.{kind.Kind.TheVariants.{Capabilities, Plain}, misspelling.Misspelling.{Misspelling, TheVariants.{WrongOctet, TooLong}}}
+use Rattle.nntp_wire.specs.declared.misspelling.{Misspelling.TheVariants.{NoCode, WrongArgument, WrongLine, WrongBlock}, Due.{Due}, LineFault.{LineFault}}
+use Rattle.nntp_wire.{specs.declared.misspelling.LineFault.TheVariants.{BadOctet, SingleDot, NoNumber, NoGroup, NoVersions}, proofs.Reasons.{so_unless}}
+use Rattle.nntp_wire.proofs.Reasons.{so_first}
 
 -- ---- arguments
 

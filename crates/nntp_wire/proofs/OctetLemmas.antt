@@ -1,12 +1,7 @@
 -- What is below 256: the items of a slice, and of lists of such.
 use Rattle.std.proofs.Common.{◌≡◌, ℕ, suc, Bool, true, false, cond, ◌==◌, List, [], ◌∷◌, ◌++◌, get_or, refl, sym, ◌∙◌, arith, Fits, w8}
-use Rattle.std.specs.Prelude.{nat_lt}
-use Rattle.std.specs.List.{list_all}
-use Rattle.std.proofs.lemmas.Bool.{and_parts, and_from}
-use Rattle.std.proofs.lemmas.Bool.Decides.{nat_tests}
-use Rattle.std.proofs.lemmas.List.Folds.{list_all-append}
-use Rattle.nntp_wire.specs.Octets.{are_octets, crlf, dot}
-use Rattle.nntp_wire.specs.Block.{stuffed, sent}
+use Rattle.std.{proofs.lemmas.{Bool.{and_parts, and_from, Decides.{nat_tests}}, List.Folds.{list_all-append}}, specs.{Prelude.{nat_lt}, List.{list_all}}}
+use Rattle.nntp_wire.specs.{Inner.Octets.{are_octets}, Octets.{crlf, dot}, Block.{stuffed, sent}}
 
 -- what a slice of u8 holds
 pub octets-fit : (xs : List ℕ) → ((i : ℕ) → Fits w8 (get_or xs i 0)) → are_octets xs ≡ true

@@ -1,15 +1,9 @@
 -- Items against characters, from one `*` to the next.
-use Rattle.std.proofs.Common.{◌≡◌, ◌≢◌, ◌↔◌, ℕ, ◌<◌, List, [], ◌∷◌, ◌++◌, length, Bor, refl, sym, ◌∙◌, ap, arith, true, false, Bool, ◌⊎◌, inl, inr, ⊎_elim, map, length-append}
-use Rattle.std.specs.Prelude.{◌==◌, if◌then◌else◌}
-use Rattle.std.proofs.lemmas.Bool.{cases_eq, and_parts}
-use Rattle.std.proofs.lemmas.Bool.Decides.{nat_tests}
-use Rattle.std.specs.Char.{IsScalar, encode_utf8}
-use Rattle.std.specs.Str.{encode_utf8_all}
-use Rattle.nntp_wire.specs.Name.{IsUtf8Of}
-use Rattle.nntp_wire.specs.Pattern.{Fits, Takes}
-use Rattle.nntp_wire.specs.declared.pattern.Step.TheVariants.{Star, One, Fails}
-use Rattle.nntp_wire.specs.Wildmat.{Item, star, question, character, Matches, item_of}
-use Rattle.nntp_wire.proofs.NameLemmas.{encode_utf8-some, one_first_char}
+use Rattle.std.proofs.Common.{◌≡◌, ◌≢◌, ◌↔◌, ℕ, ◌<◌, List, [], ◌∷◌, ◌++◌, length, Bor, refl, sym, ◌∙◌, ap, arith, true, false, Bool, ◌⊎◌, inl, inr, ⊎_elim, map}
+use Rattle.std.{proofs.{Common.{length-append}, lemmas.Bool.{cases_eq, and_parts, Decides.{nat_tests}}}, specs.{Prelude.{◌==◌, if◌then◌else◌}, Char.{IsScalar}}}
+use Rattle.std.specs.{Char.{encode_utf8}, Str.{encode_utf8_all}}
+use Rattle.nntp_wire.specs.{Name.{IsUtf8Of}, Inner.Pattern.{Fits, Takes}, declared.pattern.Step.TheVariants.{Star, One, Fails}, Wildmat.{Item, star, question}}
+use Rattle.nntp_wire.{specs.Wildmat.{character, Matches, item_of}, proofs.NameLemmas.{encode_utf8-some, one_first_char}}
 
 -- octets that begin with a character are those of a list that does
 pub utf8-cons : (ps bytes rest : List ℕ) (c : ℕ) → IsScalar c → bytes ≡ encode_utf8 c ++ rest → IsUtf8Of ps bytes → (ds : List ℕ) × (ps ≡ c ∷ ds) × IsUtf8Of ds rest

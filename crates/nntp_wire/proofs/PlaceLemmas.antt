@@ -1,14 +1,8 @@
 -- Octets of sent lines, each beside the two behind it.
-use Rattle.std.proofs.Common.{◌≡◌, ◌≢◌, ◌<◌, ◌∙◌, ◌↔◌, ◌++◌, ◌∷◌, [], List, ℕ, Bool, true, false, length, sym, ap, subst, refl}
-use Rattle.std.proofs.Common.{arith, ⊎_elim, append_assoc, append-nil, length-append, slice_index_or, ◌≤◌, ◌-◌, take, nat_eq}
-use Rattle.std.specs.Prelude.{◌&&◌, not, ◌==◌}
-use Rattle.std.proofs.Math.Bool.{and-true}
-use Rattle.std.proofs.lemmas.Bool.{cases_eq, and_parts}
-use Rattle.std.proofs.lemmas.Bool.Decides.{nat_tests, Decides-eqb}
-use Rattle.std.specs.List.{ends_with}
-use Rattle.std.proofs.lemmas.Slice.Eq.{ends_is}
-use Rattle.nntp_wire.specs.Octets.{dot, crlf, is_clean, is_line_breaking}
-use Rattle.nntp_wire.specs.Block.{are_fit, is_fit, stuffed, unstuffed, sent, AreClean, IsSent}
+use Rattle.std.proofs.Common.{◌≡◌, ◌≢◌, ◌<◌, ◌∙◌, ◌↔◌, ◌++◌, ◌∷◌, [], List, ℕ, Bool, true, false, length, sym, ap, subst, refl, arith, ⊎_elim, append_assoc}
+use Rattle.std.proofs.{Common.{append-nil, length-append, slice_index_or, ◌≤◌, ◌-◌, take, nat_eq}, Math.Bool.{and-true}, lemmas.Bool.{cases_eq, and_parts}}
+use Rattle.std.{proofs.lemmas.{Bool.Decides.{nat_tests, Decides-eqb}, Slice.Eq.{ends_is}}, specs.{Prelude.{◌&&◌, not, ◌==◌}, List.{ends_with}}}
+use Rattle.nntp_wire.specs.{Octets.{dot, crlf, is_clean, is_line_breaking}, Inner.Block.{are_fit, is_fit, IsSent}, Block.{stuffed, unstuffed, sent, AreClean}}
 use Rattle.nntp_wire.proofs.BlockLemmas.{sent-cons, stuffed-iff, stuffed-clean, unstuffed-stuffed}
 
 -- fewer than three octets fit

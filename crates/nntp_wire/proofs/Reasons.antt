@@ -1,8 +1,6 @@
 -- Of several conditions, the first that fails: where there is none, and what holds of it.
-use Rattle.std.proofs.Common.{◌≡◌, Bool, true, false, ◌&&◌, Option, None, Some, List, [], ◌∷◌, map, refl, sym, ap, ◌∙◌}
-use Rattle.std.specs.Prelude.{is_none, IfSome}
-use Rattle.std.specs.List.{list_all}
-use Rattle.std.proofs.lemmas.Bool.{true≢false}
+use Rattle.std.proofs.{Common.{◌≡◌, Bool, true, false, ◌&&◌, Option, None, Some, List, [], ◌∷◌, map, refl, sym, ap, ◌∙◌}, lemmas.Bool.{true≢false}}
+use Rattle.std.specs.{Prelude.{is_none, IfSome}, List.{list_all}}
 use Rattle.nntp_wire.specs.Reason.{unless, first}
 
 -- ---- no reason

@@ -1,16 +1,9 @@
 -- Octets spell one response.
-use Rattle.std.proofs.Common.{◌≡◌, ℕ, List, [], ◌∷◌, drop, refl, sym, ◌∙◌, ap, map, Option, None, Some}
-use Rattle.std.proofs.lemmas.Bool.{false≢true}
-use Rattle.std.specs.Prelude.{is_some}
-use Rattle.nntp_wire.specs.Block.{stuffed, unstuffed}
-use Rattle.nntp_wire.specs.Answer.{Asked, Success, Response, group_is, numbers_are, sends, active_are, plain, Spells, Says}
-use Rattle.nntp_wire.specs.Answer.{SaysGroup, SaysNumbers, SaysArticle, SaysActive, SaysCode, kind_of, status_of, is_block_due}
-use Rattle.nntp_wire.specs.Answer.{block_octets, IsCleanBlock}
-use Rattle.nntp_wire.specs.declared.kind.Kind.{Kind}
-use Rattle.nntp_wire.specs.declared.kind.Kind.TheVariants.{Group, Numbers, Sent, Active, Capabilities, Plain}
-use Rattle.nntp_wire.proofs.ArgumentLemmas.{one-article, one-group}
-use Rattle.nntp_wire.proofs.SpellLemmas.{clean-line, one_block, sent-lines, status-clean}
-use Rattle.nntp_wire.proofs.BlockLemmas.{unstuffed-stuffed}
+use Rattle.std.{proofs.{Common.{◌≡◌, ℕ, List, [], ◌∷◌, drop, refl, sym, ◌∙◌, ap, map, Option, None, Some}, lemmas.Bool.{false≢true}}, specs.Prelude.{is_some}}
+use Rattle.nntp_wire.specs.{Block.{stuffed, unstuffed}, Answer.{Asked, Success, Response, group_is, numbers_are, sends, active_are, plain, Spells, Says}}
+use Rattle.nntp_wire.specs.Answer.{SaysGroup, SaysNumbers, SaysArticle, SaysActive, SaysCode, kind_of, status_of, is_block_due, block_octets, IsCleanBlock}
+use Rattle.nntp_wire.{specs.declared.kind.Kind.{Kind, TheVariants.{Group, Numbers, Sent, Active, Capabilities, Plain}}, proofs.ArgumentLemmas.{one-article}}
+use Rattle.nntp_wire.proofs.{ArgumentLemmas.{one-group}, SpellLemmas.{clean-line, one_block, sent-lines, status-clean}, BlockLemmas.{unstuffed-stuffed}}
 use Rattle.nntp_wire.proofs.FrameLemmas.{one_line}
 
 same_success : (s t : Success) → s.code ≡ t.code → s.number ≡ t.number → s.id ≡ t.id → s.block ≡ t.block → s ≡ t

@@ -1,19 +1,12 @@
 -- Whether what stands behind a code says a response can be decided.
 use Rattle.std.proofs.Common.{◌≡◌, ℕ, true, ◌==◌, not, IsTrue, List, [], ◌∷◌, ◌++◌, Option, None, Some, inl, inr, refl, sym, ap, subst, ◌∙◌}
-use Rattle.std.specs.List.{list_all}
-use Rattle.std.proofs.lemmas.Bool.{and_from, cases_Bool, cases_eq, true≢false}
-use Rattle.nntp_wire.specs.Octets.{space}
-use Rattle.nntp_wire.specs.Number.{is_number, number_value}
-use Rattle.nntp_wire.specs.Name.{IsMessageId, IsGroupName}
-use Rattle.nntp_wire.specs.Argument.{no_space, is_comment, BeginsWithArgument, BeginsWithNumber, HasArticle, HasGroup}
-use Rattle.nntp_wire.specs.Listing.{are_listed_numbers, are_active_lines, begins_with_versions}
-use Rattle.nntp_wire.specs.declared.water_marks.WaterMarks.{WaterMarks}
-use Rattle.nntp_wire.specs.Answer.{Response, group_is, numbers_are, sends, active_are, plain, Says, SaysGroup, SaysNumbers, SaysArticle, SaysActive}
-use Rattle.nntp_wire.specs.declared.kind.Kind.{Kind}
-use Rattle.nntp_wire.specs.declared.kind.Kind.TheVariants.{Group, Numbers, Sent, Active, Capabilities, Plain}
-use Rattle.nntp_wire.proofs.ArgumentLemmas.{one-argument, no-second, no-id, no-low, no-high, no-fourth, no-name}
-use Rattle.nntp_wire.specs.Decided.{is_message_id, is_group_name}
-use Rattle.nntp_wire.proofs.Decide.{Dec, dec_true, dec_both, dec_by}
+use Rattle.std.{proofs.lemmas.Bool.{and_from, cases_Bool, cases_eq, true≢false}, specs.List.{list_all}}
+use Rattle.nntp_wire.specs.{Octets.{space}, Number.{is_number, number_value}, Name.{IsMessageId, IsGroupName}, Argument.{no_space, is_comment}}
+use Rattle.nntp_wire.specs.{Argument.{BeginsWithArgument, BeginsWithNumber, HasArticle, HasGroup}, Listing.{are_listed_numbers, are_active_lines}}
+use Rattle.nntp_wire.specs.{Listing.{begins_with_versions}, declared.{water_marks.WaterMarks.{WaterMarks}, kind.Kind.{Kind, TheVariants.{Group, Numbers}}}}
+use Rattle.nntp_wire.specs.{declared.kind.Kind.TheVariants.{Sent, Active, Capabilities, Plain}, Answer.{Response, group_is, numbers_are, sends, active_are}}
+use Rattle.nntp_wire.specs.{Answer.{plain, Says, SaysGroup, SaysNumbers, SaysArticle, SaysActive}, Decided.{is_message_id, is_group_name}}
+use Rattle.nntp_wire.proofs.{ArgumentLemmas.{one-argument, no-second, no-id, no-low, no-high, no-fourth, no-name}, Decide.{Dec, dec_true, dec_both, dec_by}}
 use Rattle.nntp_wire.proofs.DecidedLemmas.{message_id-iff, group_name-iff}
 
 dec_id : (id : List ℕ) → Dec (IsMessageId id)

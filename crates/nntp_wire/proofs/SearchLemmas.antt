@@ -1,16 +1,9 @@
 -- How far a search has come stays true when more octets follow, and how it goes on.
-use Rattle.std.proofs.Common.{◌≡◌, ℕ, ◌+◌, ◌-◌, ◌<◌, ◌≤◌, List, [], ◌++◌, length, drop, sym, ◌∙◌, subst, arith, append_assoc, length-append, length-drop, get_or, ap, ◌⊎◌, inl, inr}
-use Rattle.std.specs.Prelude.{◌==◌}
-use Rattle.std.proofs.lemmas.List.{get_or_append_left, get_or-drop}
-use Rattle.std.proofs.lemmas.Bool.{cases_lt}
+use Rattle.std.proofs.Common.{◌≡◌, ℕ, ◌+◌, ◌-◌, ◌<◌, ◌≤◌, List, [], ◌++◌, length, drop, sym, ◌∙◌, subst, arith, append_assoc, length-append, length-drop}
+use Rattle.std.{proofs.{Common.{get_or, ap, ◌⊎◌, inl, inr}, lemmas.{List.{get_or_append_left, get_or-drop}, Bool.{cases_lt}}}, specs.Prelude.{◌==◌}}
 use Rattle.memchr.specs.Find.{OccursAt, NoneBefore, Nowhere, Passes, is_byte}
-use Rattle.nntp_wire.specs.Octets.{crlf}
-use Rattle.nntp_wire.specs.Block.{end_of_block}
-use Rattle.nntp_wire.specs.Search.{IsPassed, IsSearched, IsLineSearched, IsFrameSearched}
-use Rattle.nntp_wire.specs.declared.search.Search.{Search}
-use Rattle.nntp_wire.specs.declared.search.Search.TheVariants.{Passed, Found}
-use Rattle.nntp_wire.specs.declared.stream.LineSearch.{LineSearch}
-use Rattle.nntp_wire.specs.declared.framing.FrameSearch.{FrameSearch}
+use Rattle.nntp_wire.specs.{Octets.{crlf}, Inner.{Block.{end_of_block}, Search.{IsPassed, IsSearched, IsLineSearched, IsFrameSearched}}}
+use Rattle.nntp_wire.specs.declared.{search.Search.{Search, TheVariants.{Passed, Found}}, stream.LineSearch.{LineSearch}, framing.FrameSearch.{FrameSearch}}
 
 -- a needle stands in a stream also when more follows
 pub occurs-more : (s more p : List ℕ) (k : ℕ) → OccursAt s p k → OccursAt (s ++ more) p k

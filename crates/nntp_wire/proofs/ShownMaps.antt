@@ -1,20 +1,10 @@
 -- The finite map that the entries of a `BTreeMap` show, under a view of its keys and one of its values.
-use Rattle.std.proofs.Common.{◌≡◌, Bool, true, false, cond, T, Option, None, Some, IsSome, is_some, option_map, List, [], ◌∷◌, map, length, refl, sym, ap, subst, ◌∙◌, arith}
-use Rattle.std.specs.declared.cmp.Ordering.{Ordering}
-use Rattle.std.specs.declared.cmp.Ordering.TheVariants.{Less, Equal, Greater}
-use Rattle.std.specs.Ordering.{eq_by_cmp, is_eq, match_ordering}
-use Rattle.std.specs.Cmp.{IsTotalOrder, eq_by_cmp_equiv}
-use Rattle.std.proofs.lemmas.Bool.{true≢false}
-use Rattle.std.specs.Prelude.{◌&&◌}
-use Rattle.std.specs.List.{AllByRecursion, list_all}
-use Rattle.std.specs.List.Sorted.{IsStrictlySortedBy}
-use Rattle.std.specs.FinMap.{FinMap, get, insert, entries, len, find, put, is_sorted, from_entries, from_sorted}
-use Rattle.std.specs.FinMap.{IsAntisymmetric, same_map, get-from_entries, get-from_sorted, entries-from_sorted, len-entries}
-use Rattle.std.specs.FinMap.{get-insert}
-use Rattle.std.specs.FinMap.Entries.{find-put, below_all, by_order}
-use Rattle.std.proofs.lemmas.List.{length-map}
-use Rattle.std.specs.Map.{lookup, keys_of, set_value}
-use Rattle.std.specs.BTreeMap.{insert_entry}
+use Rattle.std.proofs.Common.{◌≡◌, Bool, true, false, cond, T, Option, None, Some, IsSome, is_some, option_map, List, [], ◌∷◌, map, length, refl, sym, ap}
+use Rattle.std.{proofs.{Common.{subst, ◌∙◌, arith}, lemmas.{Bool.{true≢false}, List.{length-map}}}, specs.declared.cmp.Ordering.{Ordering, TheVariants.{Less}}}
+use Rattle.std.specs.{declared.cmp.Ordering.TheVariants.{Equal, Greater}, Ordering.{eq_by_cmp, is_eq, match_ordering}, Cmp.{IsTotalOrder, eq_by_cmp_equiv}}
+use Rattle.std.specs.{Prelude.{◌&&◌}, List.{AllByRecursion, list_all, Sorted.{IsStrictlySortedBy}}, FinMap.{FinMap, get, insert, entries, len, find, put}}
+use Rattle.std.specs.FinMap.{is_sorted, from_entries, from_sorted, IsAntisymmetric, same_map, get-from_entries, get-from_sorted, entries-from_sorted}
+use Rattle.std.specs.{FinMap.{len-entries, get-insert, Entries.{find-put, below_all, by_order}}, Map.{lookup, keys_of, set_value}, BTreeMap.{insert_entry}}
 
 module _ {K X : Type 0} {R : K → K → Ordering} (o : IsTotalOrder R) where
   pub from_entries-put : IsAntisymmetric R → (es : List (K × X)) (k : K) (v : X) → from_entries {R = R} (put R k v es) ≡ insert (from_entries es) k v

@@ -1,22 +1,12 @@
 -- Whether octets begin with a spelling of some response can be decided.
-use Rattle.std.proofs.Common.{◌≡◌, ℕ, zero, suc, ◌+◌, ◌≤◌, ◌≢◌, true, false, cond, not, List, [], ◌∷◌, ◌++◌, length, map, drop}
-use Rattle.std.proofs.Common.{Option, None, Some, ◌⊎◌, inl, inr, refl, sym, ap, subst, ◌∙◌, arith, append_assoc, length-append}
-use Rattle.std.specs.Prelude.{is_some}
-use Rattle.std.proofs.lemmas.List.{append-nil}
-use Rattle.std.proofs.lemmas.Bool.{and_from, and_parts, cases_Bool, cases_eq, true≢false, false≢true, ne_eqb, eq-eqb}
-use Rattle.nntp_wire.specs.Octets.{dot, crlf, is_clean, is_line_breaking}
-use Rattle.nntp_wire.specs.Lines.{ended}
-use Rattle.nntp_wire.specs.Block.{stuffed, sent, dot_line, AreClean}
-use Rattle.nntp_wire.specs.Answer.{Asked, Response, Spells, Says, kind_of, status_of, is_block_due, block_octets, IsCleanBlock, group_is, numbers_are, sends, active_are, plain}
-use Rattle.nntp_wire.proofs.Decide.{Dec, dec_by}
-use Rattle.nntp_wire.proofs.FrameLemmas.{one_line}
-use Rattle.nntp_wire.proofs.BlockLemmas.{stuffed-clean}
-use Rattle.nntp_wire.proofs.SpellLemmas.{clean-line, status-clean, spelling-frame, one-frame, one_block, sent-lines}
-use Rattle.nntp_wire.proofs.ResponseLemmas.{one-response, one-sent}
-use Rattle.nntp_wire.proofs.SaysDecided.{dec_says}
-use Rattle.nntp_wire.specs.Frame.{HasFrame, frame_octets}
-use Rattle.nntp_wire.specs.declared.kind.Kind.{Kind}
-use Rattle.nntp_wire.specs.declared.kind.Kind.TheVariants.{Group, Numbers, Sent, Active, Capabilities, Plain}
+use Rattle.std.proofs.Common.{◌≡◌, ℕ, zero, suc, ◌+◌, ◌≤◌, ◌≢◌, true, false, cond, not, List, [], ◌∷◌, ◌++◌, length, map, drop, Option, None, Some, ◌⊎◌, inl}
+use Rattle.std.proofs.{Common.{inr, refl, sym, ap, subst, ◌∙◌, arith, append_assoc, length-append}, lemmas.{List.{append-nil}, Bool.{and_from, and_parts}}}
+use Rattle.std.{proofs.lemmas.Bool.{cases_Bool, cases_eq, true≢false, false≢true, ne_eqb, eq-eqb}, specs.Prelude.{is_some}}
+use Rattle.nntp_wire.specs.{Octets.{dot, crlf, is_clean, is_line_breaking}, Lines.{ended}, Block.{stuffed, sent, dot_line, AreClean}, Answer.{Asked, Response}}
+use Rattle.nntp_wire.specs.Answer.{Spells, Says, kind_of, status_of, is_block_due, block_octets, IsCleanBlock, group_is, numbers_are, sends, active_are, plain}
+use Rattle.nntp_wire.specs.{Frame.{HasFrame, frame_octets}, declared.kind.Kind.{Kind, TheVariants.{Group, Numbers, Sent, Active, Capabilities, Plain}}}
+use Rattle.nntp_wire.proofs.{Decide.{Dec, dec_by}, FrameLemmas.{one_line}, BlockLemmas.{stuffed-clean}, SpellLemmas.{clean-line, status-clean, spelling-frame}}
+use Rattle.nntp_wire.proofs.{SpellLemmas.{one-frame, one_block, sent-lines}, ResponseLemmas.{one-response, one-sent}, SaysDecided.{dec_says}}
 use Rattle.nntp_wire.proofs.AnswerLemmas.{status-long}
 
 -- ---- one response at the front

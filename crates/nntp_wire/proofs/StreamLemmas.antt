@@ -1,13 +1,10 @@
 -- The lines of a stream.
 use Rattle.std.proofs.Common.{◌≡◌, ◌≢◌, ℕ, List, [], ◌∷◌, ◌++◌, drop, refl, sym, ◌∙◌, ap, subst, inl, inr, arith, append_assoc, ⊎_elim, Bool, true, false, cond}
-use Rattle.std.proofs.lemmas.List.{append-nil, append_cancel_left}
-use Rattle.std.proofs.lemmas.Bool.{cases_eq}
-use Rattle.std.proofs.lemmas.Bool.Decides.{nat_tests}
-use Rattle.std.specs.Prelude.{◌&&◌, ◌==◌, ◌⊎◌}
+use Rattle.std.{proofs.lemmas.{List.{append-nil, append_cancel_left}, Bool.{cases_eq, Decides.{nat_tests}}}, specs.Prelude.{◌&&◌, ◌==◌, ◌⊎◌}}
 use Rattle.std.specs.List.{AllByRecursion}
-use Rattle.nntp_wire.specs.Octets.{crlf, carriage_return}
-use Rattle.nntp_wire.specs.Lines.{HasNoCrlf, IsSplit, ended, lines_of_stream, parts_of, with_octet, all_but_last, begins_with_line_feed}
-use Rattle.nntp_wire.proofs.FrameLemmas.{line-tail, line-cons, line-one, line-nil, occurs-behind}
+use Rattle.nntp_wire.specs.{Octets.{crlf, carriage_return}, Lines.{HasNoCrlf, ended, lines_of_stream, parts_of, with_octet, all_but_last}}
+use Rattle.nntp_wire.{specs.{Lines.{begins_with_line_feed}, Inner.Lines.{IsSplit}}, proofs.FrameLemmas.{line-tail, line-cons, line-one, line-nil}}
+use Rattle.nntp_wire.proofs.FrameLemmas.{occurs-behind}
 
 -- one octet more in front leaves a first part
 with_octet-some : (b : ℕ) (parts : List (List ℕ)) → (part : List ℕ) × (more : List (List ℕ)) × (with_octet b parts ≡ part ∷ more)

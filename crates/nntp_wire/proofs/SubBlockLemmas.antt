@@ -1,12 +1,8 @@
 -- The first lines of a block, and those behind them.
-use Rattle.std.proofs.Common.{◌≡◌, ◌↔◌, ℕ, zero, suc, ◌+◌, ◌-◌, ◌≤◌, List, [], ◌∷◌, ◌++◌, length, take, drop, refl, sym, ◌∙◌, ap, subst, arith, append_assoc, append-nil, length-append, IsTrue}
-use Rattle.std.proofs.lemmas.List.{take_at, drop_at, take_all, drop_all}
-use Rattle.nntp_wire.specs.Octets.{crlf, is_clean}
-use Rattle.nntp_wire.specs.Lines.{HasNoCrlf}
-use Rattle.nntp_wire.specs.Block.{stuffed, sent, received, AreClean, Sends, IsSent}
-use Rattle.nntp_wire.proofs.FrameLemmas.{one_line, occurs-behind}
-use Rattle.nntp_wire.proofs.SpellLemmas.{stuffed-line}
-use Rattle.nntp_wire.proofs.BlockLemmas.{received-sent, sends-received}
+use Rattle.std.proofs.Common.{◌≡◌, ◌↔◌, ℕ, zero, suc, ◌+◌, ◌-◌, ◌≤◌, List, [], ◌∷◌, ◌++◌, length, take, drop, refl, sym, ◌∙◌, ap, subst, arith, append_assoc}
+use Rattle.std.proofs.{Common.{append-nil, length-append, IsTrue}, lemmas.List.{take_at, drop_at, take_all, drop_all}}
+use Rattle.nntp_wire.specs.{Octets.{crlf, is_clean}, Lines.{HasNoCrlf}, Block.{stuffed, sent, AreClean}, Inner.Block.{received, Sends, IsSent}}
+use Rattle.nntp_wire.proofs.{FrameLemmas.{one_line, occurs-behind}, SpellLemmas.{stuffed-line}, BlockLemmas.{received-sent, sends-received}}
 
 pub clean-append : (xs ys : List (List ℕ)) → AreClean xs → AreClean ys → AreClean (xs ++ ys)
 clean-append [] ys a b = b

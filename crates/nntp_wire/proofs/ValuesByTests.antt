@@ -1,7 +1,5 @@
 -- A value that is there exactly if a test passes.
-use Rattle.std.proofs.Common.{◌≡◌, ◌↔◌, Bool, true, false, Option, None, Some, IsTrue, refl}
-use Rattle.std.proofs.lemmas.Bool.{false≢true}
-use Rattle.std.specs.Prelude.{is_some}
+use Rattle.std.{proofs.{Common.{◌≡◌, ◌↔◌, Bool, true, false, Option, None, Some, IsTrue, refl}, lemmas.Bool.{false≢true}}, specs.Prelude.{is_some}}
 use Rattle.std.specs.Option.{SomeIff}
 
 pub some-test : {T : Type 0} (test : Bool) (P : Type 0) (v : T) (r : Option T) (b : Bool) → IsTrue test ↔ P → SomeIff r P v → b ≡ is_some r → b ≡ test

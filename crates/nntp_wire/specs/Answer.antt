@@ -1,19 +1,10 @@
 -- Responses and their spellings (RFC 3977, sections 3.1, 3.2, 5, 6 and 7.6.3).
-use Rattle.std.specs.Prelude.{ℕ, ◌≡◌, Bool, true, ◌&&◌, ◌||◌, ◌==◌, nat_le, if◌then◌else◌, List, [], ◌∷◌, ◌++◌, length, take, drop, slice_index, Option, None, Some, is_some, IsTrue, ⊤}
-use Rattle.std.specs.List.{list_all, list_any}
-use Rattle.std.specs.Char.{is_ascii_digit}
-use Rattle.std.specs.Int.{is_in_range}
-use Rattle.nntp_wire.specs.Octets.{crlf, is_clean}
-use Rattle.nntp_wire.specs.Number.{number_value}
-use Rattle.nntp_wire.specs.Argument.{is_comment, HasArticle, HasGroup}
-use Rattle.nntp_wire.specs.Listing.{are_listed_numbers, are_active_lines, begins_with_versions}
-use Rattle.nntp_wire.specs.Block.{sent, dot_line, AreClean}
-use Rattle.nntp_wire.specs.Command.{Request, capabilities, next, last, opaque, group, list_group, retrieve, list_active}
-use Rattle.nntp_wire.specs.declared.command.What.{What}
-use Rattle.nntp_wire.specs.declared.command.What.TheVariants.{Article, Head, Body, Stat}
-use Rattle.nntp_wire.specs.declared.water_marks.WaterMarks.{WaterMarks}
-use Rattle.nntp_wire.specs.declared.kind.Kind.{Kind}
-use Rattle.nntp_wire.specs.declared.kind.Kind.TheVariants.{Group, Numbers, Sent, Active, Capabilities, Plain}
+use Rattle.std.specs.Prelude.{ℕ, ◌≡◌, Bool, true, ◌&&◌, ◌||◌, ◌==◌, nat_le, if◌then◌else◌, List, [], ◌∷◌, ◌++◌, length, take, drop, slice_index, Option, None}
+use Rattle.std.specs.{Prelude.{Some, is_some, IsTrue, ⊤}, List.{list_all, list_any}, Char.{is_ascii_digit}, Int.{is_in_range}}
+use Rattle.nntp_wire.specs.{Octets.{crlf, is_clean}, Number.{number_value}, Argument.{is_comment, HasArticle, HasGroup}, Listing.{are_listed_numbers}}
+use Rattle.nntp_wire.specs.{Listing.{are_active_lines, begins_with_versions}, Block.{sent, dot_line, AreClean}, Command.{Request, capabilities, next, last}}
+use Rattle.nntp_wire.specs.{Command.{opaque, group, list_group, retrieve, list_active}, declared.command.What.{What, TheVariants.{Article, Head, Body, Stat}}}
+use Rattle.nntp_wire.specs.declared.{water_marks.WaterMarks.{WaterMarks}, kind.Kind.{Kind, TheVariants.{Group, Numbers, Sent, Active, Capabilities, Plain}}}
 
 -- what a response answers
 pub data Asked : Type 0 where

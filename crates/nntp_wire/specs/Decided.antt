@@ -1,10 +1,7 @@
 -- Tests that compute relations: message ids, group names and the matching of wildmats (RFC 3977, sections 3.6, 4 and 9.8).
-use Rattle.std.specs.Prelude.{ℕ, Bool, true, false, not, ◌&&◌, ◌||◌, ◌==◌, nat_lt, nat_le, List, [], ◌∷◌, length, map, Option}
-use Rattle.std.specs.List.{list_all, list_any}
-use Rattle.std.specs.Option.{option_map_or}
-use Rattle.std.specs.Str.{chars, is_utf8}
-use Rattle.nntp_wire.specs.Name.{is_name_char}
-use Rattle.nntp_wire.specs.Wildmat.{Item, star, question, character, item_of, patterns_of, is_negated, without_negation}
+use Rattle.std.specs.{Prelude.{ℕ, Bool, true, false, not, ◌&&◌, ◌||◌, ◌==◌, nat_lt, nat_le, List, [], ◌∷◌, length, map}, List.{list_all, list_any}, Str.{chars}}
+use Rattle.std.specs.Str.{is_utf8}
+use Rattle.nntp_wire.specs.{Name.{is_name_char}, Wildmat.{Item, star, question, character, item_of, patterns_of, is_negated, without_negation}}
 
 -- the octet is visible ASCII
 abbrev pub is_id_octet : ℕ → Bool
@@ -58,7 +55,3 @@ is_chosen (pattern ∷ more) text =
 -- the test for `MatchesName`: the wildmat matches the name
 abbrev pub matches_name : List ℕ → List ℕ → Bool
 matches_name wildmat name = is_chosen (patterns_of wildmat) (chars name)
-
--- the octets are a group's name that LIST ACTIVE asks for: one that matches, or any without a wildmat (section 7.6.3)
-abbrev pub is_asked : Option (List ℕ) → List ℕ → Bool
-is_asked p name = is_group_name name && option_map_or (λ w. matches_name w name) p true

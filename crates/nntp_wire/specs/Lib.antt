@@ -4,7 +4,6 @@ pub mod Words
 pub mod Number
 pub mod Name
 pub mod Wildmat
-pub mod Pattern
 pub mod Block
 pub mod Command
 pub mod Argument
@@ -12,13 +11,8 @@ pub mod Decided
 pub mod Listing
 pub mod Answer
 pub mod Frame
-pub mod Prompts
-pub mod Search
-pub mod View
-pub mod Keyword
 pub mod Limit
-pub mod AnswerView
 pub mod Session
-pub mod Held
 pub mod Reason
 pub mod Misspelling
+pub mod Inner

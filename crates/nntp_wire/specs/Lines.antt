@@ -1,6 +1,5 @@
 -- A stream as lines (RFC 3977, section 3.1).
-use Rattle.std.specs.Prelude.{◌≡◌, ℕ, Bool, false, ◌&&◌, ◌==◌, if◌then◌else◌, List, [], ◌∷◌, ◌++◌, drop}
-use Rattle.std.specs.List.{flat_map, AllByRecursion}
+use Rattle.std.specs.{Prelude.{ℕ, Bool, false, ◌&&◌, ◌==◌, if◌then◌else◌, List, [], ◌∷◌, ◌++◌, drop}, List.{flat_map}}
 use Rattle.memchr.specs.Find.{OccursAt}
 use Rattle.nntp_wire.specs.Octets.{line_feed, carriage_return, crlf}
 
@@ -11,12 +10,6 @@ HasNoCrlf bytes = (k : ℕ) → ¬ (OccursAt bytes crlf k)
 -- the octets of these lines, each followed by CRLF
 abbrev pub ended : List (List ℕ) → List ℕ
 ended lines = flat_map (λ line. line ++ crlf) lines
-
--- the stream is these lines, each followed by CRLF, and then a rest without CRLF
-pub record IsSplit (stream : List ℕ) (lines : List (List ℕ)) (rest : List ℕ) : Type 0 where
-  pub whole : stream ≡ ended lines ++ rest
-  pub each : AllByRecursion HasNoCrlf lines
-  pub last : HasNoCrlf rest
 
 -- the part begins with LF
 abbrev pub begins_with_line_feed : List ℕ → Bool

@@ -1,24 +1,13 @@
 -- Why a frame spells no response: the rule of spelling that fails first (RFC 3977, sections 3.1, 3.1.1, 3.2, 5.2, 6 and 7.6.3).
-use Rattle.std.specs.Prelude.{ℕ, ◌≡◌, ◌+◌, Bool, true, false, not, ◌||◌, ◌==◌, if◌then◌else◌, List, [], ◌∷◌, length, drop, slice_get}
-use Rattle.std.specs.Prelude.{Option, None, Some, is_some, option_map, IfSome, MatchOption, IsTrue, IsFalse}
+use Rattle.std.specs.Prelude.{ℕ, ◌+◌, Bool, true, false, not, ◌||◌, ◌==◌, if◌then◌else◌, List, [], ◌∷◌, length, drop, Option, None, Some, is_some, option_map}
 use Rattle.std.specs.List.{slice_split}
-use Rattle.nntp_wire.specs.Octets.{space, dot, is_clean}
-use Rattle.nntp_wire.specs.Lines.{lines_of_stream}
-use Rattle.nntp_wire.specs.Words.{words_of}
-use Rattle.nntp_wire.specs.Number.{is_number}
-use Rattle.nntp_wire.specs.Decided.{is_message_id, is_group_name}
-use Rattle.nntp_wire.specs.Block.{unstuffed}
-use Rattle.nntp_wire.specs.Listing.{listed_number_of, active_of, gives_versions}
-use Rattle.nntp_wire.specs.Answer.{Asked, code_of, is_fitting, is_block_due, kind_of}
-use Rattle.nntp_wire.specs.Reason.{unless, first}
-use Rattle.nntp_wire.specs.declared.kind.Kind.{Kind}
-use Rattle.nntp_wire.specs.declared.kind.Kind.TheVariants.{Group, Numbers, Sent, Active, Capabilities, Plain}
-use Rattle.nntp_wire.specs.declared.misspelling.Misspelling.{Misspelling}
-use Rattle.nntp_wire.specs.declared.misspelling.Misspelling.TheVariants.{WrongOctet, TooLong, NoCode, WrongArgument, WrongLine, WrongBlock}
-use Rattle.nntp_wire.specs.declared.misspelling.Due.{Due}
-use Rattle.nntp_wire.specs.declared.misspelling.Due.TheVariants.{Number, GroupName, MessageId}
-use Rattle.nntp_wire.specs.declared.misspelling.LineFault.{LineFault}
-use Rattle.nntp_wire.specs.declared.misspelling.LineFault.TheVariants.{BadOctet, SingleDot, NoNumber, NoGroup, NoVersions}
+use Rattle.nntp_wire.specs.{Octets.{space, dot, is_clean}, Lines.{lines_of_stream}, Words.{words_of}, Number.{is_number}, Decided.{is_message_id}}
+use Rattle.nntp_wire.specs.{Decided.{is_group_name}, Block.{unstuffed}, Listing.{listed_number_of, active_of, gives_versions}, Answer.{Asked, code_of}}
+use Rattle.nntp_wire.specs.{Answer.{is_fitting, is_block_due, kind_of}, Reason.{unless, first}, declared.kind.Kind.{Kind, TheVariants.{Group, Numbers, Sent}}}
+use Rattle.nntp_wire.specs.declared.{kind.Kind.TheVariants.{Active, Capabilities, Plain}, misspelling.Misspelling.{Misspelling, TheVariants.{WrongOctet}}}
+use Rattle.nntp_wire.specs.declared.misspelling.{Misspelling.TheVariants.{TooLong, NoCode, WrongArgument, WrongLine, WrongBlock}, Due.{Due}}
+use Rattle.nntp_wire.specs.declared.misspelling.{Due.TheVariants.{Number, GroupName, MessageId}, LineFault.{LineFault, TheVariants.{BadOctet, SingleDot}}}
+use Rattle.nntp_wire.specs.declared.misspelling.LineFault.TheVariants.{NoNumber, NoGroup, NoVersions}
 
 -- ---- arguments (section 3.2)
 
@@ -109,26 +98,3 @@ misspelling asked line sent = first (
     ∷ unless (is_fitting asked (length line)) (TooLong (length line + 2))
     ∷ code_misspelling asked line sent (code_of line)
     ∷ [])
-
--- ---- what a reason names
-
--- the argument at this place, where the first is at 1, isn't what is due there, or isn't there
-pub record IsWrongArgument (dues : List Due) (arguments : List (List ℕ)) (place : ℕ) (due : Due) : Type 0 where
-  pub index : ℕ
-  pub counted : place ≡ index + 1
-  pub is_due : slice_get dues index ≡ Some due
-  pub is_other : IfSome (slice_get arguments index) (λ argument. IsFalse (is_argument due argument))
-
--- the line, as it is sent, has this fault
-abbrev pub has_fault : LineFault → List ℕ → Bool
-has_fault BadOctet line = not (is_clean line)
-has_fault SingleDot line = not (has_no_single_dot line)
-has_fault NoNumber line = not (is_some (listed_number_of (unstuffed line)))
-has_fault NoGroup line = not (is_some (active_of (unstuffed line)))
-has_fault NoVersions line = not (gives_versions (words_of (unstuffed line)))
-
--- the line at this place, where the first is at 1, has this fault; or there is no line that could give versions
-pub record IsWrongLine (lines : List (List ℕ)) (place : ℕ) (fault : LineFault) : Type 0 where
-  pub index : ℕ
-  pub counted : place ≡ index + 1
-  pub is_wrong : MatchOption (slice_get lines index) ((fault ≡ NoVersions) × (lines ≡ [])) (λ line. IsTrue (has_fault fault line))

@@ -1,8 +1,6 @@
 -- What is answered in a session, how the answers are spelled, and when the server closes the connection (RFC 3977, sections 3.2.1, 3.5, 5.1, 5.3 and 5.4).
-use Rattle.std.specs.Prelude.{◌≡◌, ℕ, Bool, false, ◌||◌, ◌==◌, List, [], ◌∷◌, ◌++◌, map, ⊤}
-use Rattle.nntp_wire.specs.Lines.{lines_of_stream}
-use Rattle.nntp_wire.specs.Command.{request_of, mode_reader, quit}
-use Rattle.nntp_wire.specs.Answer.{Asked, greeting, to, Response, plain, Spells}
+use Rattle.std.specs.Prelude.{◌≡◌, ℕ, Bool, false, ◌||◌, ◌==◌, List, [], ◌∷◌, ◌++◌, map}
+use Rattle.nntp_wire.specs.{Lines.{lines_of_stream}, Command.{request_of, mode_reader, quit}, Answer.{Asked, greeting, to, Response, plain, Spells}}
 
 -- what the server answers: first nothing that was asked, and then each line of the client in turn
 abbrev pub prompts_of : List ℕ → List Asked
@@ -22,14 +20,3 @@ Spelled prompts [] octets = octets ≡ []
 Spelled [] (response ∷ responses) octets = ⊥
 Spelled (asked ∷ prompts) (response ∷ responses) octets =
     (front : List ℕ) × (behind : List ℕ) × Spells asked response front × Spelled prompts responses behind × (octets ≡ front ++ behind)
-
--- the server's octets are a spelling of each answer, and then the rest
-abbrev pub AreSpelled : List Asked → List Response → List ℕ → List ℕ → Type 0
-AreSpelled prompts responses server rest = (octets : List ℕ) × Spelled prompts responses octets × (server ≡ octets ++ rest)
-
--- no answer but the last closes the connection
-abbrev pub StaysOpen : List Asked → List Response → Type 0
-StaysOpen prompts [] = ⊤
-StaysOpen prompts (response ∷ []) = ⊤
-StaysOpen [] (response ∷ next ∷ responses) = ⊤
-StaysOpen (asked ∷ prompts) (response ∷ next ∷ responses) = (closes asked response ≡ false) × StaysOpen prompts (next ∷ responses)

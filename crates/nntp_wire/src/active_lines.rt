@@ -2,7 +2,7 @@
 ghost use Rattle.std.specs.Prelude.{◌≡◌, ◌<◌, ◌^◌, length, List, option_map, is_some};
 ghost use Rattle.std.specs.Iterator.{YieldsFirstBy, item_count};
 ghost use Rattle.nntp_wire.specs.Listing.{active_of, active_groups, are_active_lines};
-ghost use Rattle.nntp_wire.specs.View.{active_value};
+ghost use Rattle.nntp_wire.specs.Inner.View.{active_value};
 
 use crate::block::{Block, Lines};
 use crate::group_name::GroupName;

@@ -1,11 +1,11 @@
 //! When the server closes the connection (RFC 3977, sections 3.2.1, 5.1, 5.3 and 5.4).
 ghost use Rattle.std.specs.Prelude.{◌≡◌};
 ghost use Rattle.nntp_wire.specs.Answer.{Asked, Response, plain, Spells};
-ghost use Rattle.nntp_wire.specs.AnswerView.{response};
+ghost use Rattle.nntp_wire.specs.Inner.AnswerView.{response};
 ghost use Rattle.nntp_wire.specs.Frame.{frame_octets};
-ghost use Rattle.nntp_wire.specs.Prompts.{prompt_kind};
+ghost use Rattle.nntp_wire.specs.Inner.Prompts.{prompt_kind};
 ghost use Rattle.nntp_wire.specs.Session.{closes};
-ghost use Rattle.nntp_wire.specs.View.{asked};
+ghost use Rattle.nntp_wire.specs.Inner.View.{asked};
 
 use crate::answer::Answer;
 use crate::command::Prompt;
@@ -32,7 +32,8 @@ impl<'a> Frame<'a> {
     /// where `kind` is the kind of the frame's prompt (RFC 3977, sections 3.2.1, 5.1, 5.3 and 5.4).
     /// No octet is looked at.
     pub fn closes(&self, kind: PromptKind) -> bool
-        ensures { (asked : Asked) (response : Response) → prompt_kind asked ≡ kind → Spells asked response (frame_octets self.now.initial self.now.block) → result ≡ closes asked response }
+        ensures { (asked : Asked) (response : Response) → prompt_kind asked ≡ kind → Spells asked response (frame_octets self.now.initial self.now.block)
+            → result ≡ closes asked response }
     {
         match self.code() {
             Some(code) => closes_by(kind, code),

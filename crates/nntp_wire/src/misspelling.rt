@@ -4,7 +4,7 @@ ghost use Rattle.std.specs.Option.{option_copied};
 ghost use Rattle.nntp_wire.specs.Lines.{lines_of_stream};
 ghost use Rattle.nntp_wire.specs.Misspelling.{arguments_of, dues, is_argument, argument_misspelling, listing_fault, line_fault, kind_behind};
 ghost use Rattle.nntp_wire.specs.Misspelling.{lines_misspelling, line_misspelling, block_misspelling, misspelling};
-ghost use Rattle.nntp_wire.specs.View.{asked};
+ghost use Rattle.nntp_wire.specs.Inner.View.{asked};
 
 use crate::active_lines::is_active_line;
 use crate::arguments::argument;

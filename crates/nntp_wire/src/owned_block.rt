@@ -1,8 +1,10 @@
 //! Blocks that own their octets.
 ghost use Rattle.std.specs.Prelude.{◌≡◌, ◌<◌, ◌^◌, ◌↔◌, ◌++◌, ◌∷◌, [], List, ℕ, length, IsTrue, IfOk, OnOk, OnErr};
 ghost use Rattle.std.specs.List.{list_all};
-ghost use Rattle.nntp_wire.specs.Octets.{are_octets, crlf, is_clean};
-ghost use Rattle.nntp_wire.specs.Block.{AreClean, Sends, received, stuffed};
+ghost use Rattle.nntp_wire.specs.Inner.Octets.{are_octets};
+ghost use Rattle.nntp_wire.specs.Octets.{crlf, is_clean};
+ghost use Rattle.nntp_wire.specs.Block.{AreClean, stuffed};
+ghost use Rattle.nntp_wire.specs.Inner.Block.{Sends, received};
 
 use crate::block::Block;
 use std::alloc::{AllocError, Allocator, Global};
@@ -18,7 +20,7 @@ pub struct OwnedBlock<A: Allocator = Global> {
 
 impl<A: Allocator> Model for OwnedBlock<A> {
     ghost use Rattle.std.specs.Prelude.{List, ℕ};
-    ghost use Rattle.nntp_wire.specs.Block.{received, Sends};
+    ghost use Rattle.nntp_wire.specs.Inner.Block.{received, Sends};
 
     ghost Value = { List (List ℕ) };
 

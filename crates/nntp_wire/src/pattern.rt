@@ -2,7 +2,7 @@
 ghost use Rattle.std.specs.Prelude.{◌↔◌, List, ℕ, map, IsTrue};
 ghost use Rattle.nntp_wire.specs.Name.{IsUtf8Of};
 ghost use Rattle.nntp_wire.specs.Wildmat.{Matches, item_of};
-ghost use Rattle.nntp_wire.specs.Pattern.{Takes, IsShorter};
+ghost use Rattle.nntp_wire.specs.Inner.Pattern.{Takes, IsShorter};
 
 use crate::group_name::first_char;
 

@@ -2,8 +2,8 @@
 ghost use Rattle.std.specs.Prelude.{◌≡◌, IsFalse};
 ghost use Rattle.nntp_wire.specs.Answer.{to};
 ghost use Rattle.nntp_wire.specs.Command.{request_of};
-ghost use Rattle.nntp_wire.specs.Prompts.{prompt_kind};
-ghost use Rattle.nntp_wire.specs.View.{asked};
+ghost use Rattle.nntp_wire.specs.Inner.Prompts.{prompt_kind};
+ghost use Rattle.nntp_wire.specs.Inner.View.{asked};
 ghost use Rattle.nntp_wire.specs.declared.prompt_kind.PromptKind.TheVariants.{Other as OtherKind};
 
 use crate::command::{Command, Prompt};

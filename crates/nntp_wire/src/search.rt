@@ -2,8 +2,8 @@
 ghost use Rattle.std.specs.Prelude.{◌≡◌, ◌<◌, ◌≤◌, ◌+◌, ◌-◌, ℕ, List, length, slice_index, IsTrue, IsFalse};
 ghost use Rattle.memchr.specs.Find.{FindsNeedle, OccursAt};
 ghost use Rattle.nntp_wire.specs.Octets.{crlf};
-ghost use Rattle.nntp_wire.specs.Block.{end_of_block};
-ghost use Rattle.nntp_wire.specs.Search.{IsSearched, IsThrough};
+ghost use Rattle.nntp_wire.specs.Inner.Block.{end_of_block};
+ghost use Rattle.nntp_wire.specs.Inner.Search.{IsSearched, IsThrough};
 
 use memchr::{memchr, memmem};
 

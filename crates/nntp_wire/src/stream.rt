@@ -2,7 +2,7 @@
 ghost use Rattle.std.specs.Prelude.{◌≡◌, ℕ, List, [], ◌∷◌, ◌++◌, MatchOption};
 ghost use Rattle.nntp_wire.specs.Octets.{crlf};
 ghost use Rattle.nntp_wire.specs.Lines.{HasNoCrlf, lines_of_stream};
-ghost use Rattle.nntp_wire.specs.Search.{IsLineSearched, IsLineThrough};
+ghost use Rattle.nntp_wire.specs.Inner.Search.{IsLineSearched, IsLineThrough};
 
 use crate::search::Search;
 

@@ -1,6 +1,7 @@
 //! Parts of a block, line by line.
 ghost use Rattle.std.specs.Prelude.{◌≡◌, ◌++◌, ◌∷◌, [], take, drop, MatchOption};
-ghost use Rattle.nntp_wire.specs.Block.{HasNoEmptyLine, IsSent, Sends, received, sent};
+ghost use Rattle.nntp_wire.specs.Inner.Block.{HasNoEmptyLine, IsSent, Sends, received};
+ghost use Rattle.nntp_wire.specs.Block.{sent};
 
 use crate::block::Block;
 use crate::stream::split_first_line;

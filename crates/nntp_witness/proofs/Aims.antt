@@ -1,16 +1,12 @@
 -- The spool that is aimed at: what was said by exchanges that were noted has a given spool, which has all of it and permits them.
-use Rattle.std.proofs.Common.{List, [], ◌∷◌, ◌++◌, map, refl, sym, subst}
-use Rattle.std.specs.List.{AllByRecursion}
-use Rattle.nntp_article.specs.declared.session.profile.Profile.{Profile}
-use Rattle.nntp_article.specs.Session.Spool.{Spool}
+use Rattle.std.{proofs.Common.{List, [], ◌∷◌, ◌++◌, map, refl, sym, subst}, specs.List.{AllByRecursion}}
+use Rattle.nntp_article.specs.{declared.session.profile.Profile.{Profile}, Session.Spool.{Spool}}
 use Rattle.nntp_pair.specs.Pairing.{Paired}
-use Rattle.nntp_facts.specs.Answered.{Answered}
-use Rattle.nntp_said.specs.Facts.{Fact, Holds}
-use Rattle.nntp_facts.specs.Given.{IsGiven}
-use Rattle.nntp_facts.specs.Noted.{FactsKept, HasNotedBehind, exchanged, profile_kept, said_behind}
+use Rattle.nntp_facts.specs.{Answered.{Answered}, Given.{IsGiven}, Inner.Noted.{FactsKept, HasNotedBehind, profile_kept, said_behind}, Noted.{exchanged}}
 use Rattle.nntp_facts.proofs.Given.SessionsByFacts.{given_exists_of_all, given_permits_all, made_for_all, said_each, stand_each}
 use Rattle.nntp_facts.proofs.Keeping.NotedSessions.{facts_behind, small_behind}
-use Rattle.nntp_witness.specs.Witness.{HaveNoted, IsGivenSpool, IsWitness}
+use Rattle.nntp_said.specs.Facts.{Fact, Holds}
+use Rattle.nntp_witness.specs.Inner.Witness.{HaveNoted, IsGivenSpool, IsWitness}
 
 -- facts of some exchanges are so by the profile that they hold
 pub noted_as_kept : (profile : Profile) (facts : FactsKept) (earlier : List (List Paired)) (past : List Paired) → HasNotedBehind profile facts earlier past
@@ -18,7 +14,8 @@ pub noted_as_kept : (profile : Profile) (facts : FactsKept) (earlier : List (Lis
 noted_as_kept profile facts earlier past noted = subst (λ p. HasNotedBehind p facts earlier past) (sym noted.profile_is) noted
 
 -- what was said is what they say
-pub noted_say : (facts : FactsKept) (earlier : List (List Paired)) (past : List Paired) → HasNotedBehind (profile_kept facts) facts earlier past → HaveNoted facts (said_behind facts.marks earlier past)
+pub noted_say : (facts : FactsKept) (earlier : List (List Paired)) (past : List Paired) → HasNotedBehind (profile_kept facts) facts earlier past
+    → HaveNoted facts (said_behind facts.marks earlier past)
 noted_say facts earlier past stands = record { earlier = earlier; past = past; stands = stands; said_is = refl }
 
 -- what is so of what exchanges say that were noted is so of what was said

@@ -1,34 +1,18 @@
 -- The articles of the given spool that are shown, one after the other.
 use Rattle.std.proofs.Common.{◌≡◌, ℕ, true, false, cond, List, [], ◌∷◌, map, None, Some, is_some, IsSome, IsTrue, Result, inl, inr, refl, sym, ap, subst, ◌∙◌}
-use Rattle.std.specs.Prelude.{unwrap_or}
-use Rattle.std.specs.List.{AllByRecursion, list_any}
-use Rattle.std.specs.List.Sorted.{IsStrictlySortedBy}
-use Rattle.std.specs.declared.cmp.Ordering.TheVariants.{Less}
-use Rattle.std.specs.Ordering.{nat_cmp, is_lt, eq_by_cmp}
-use Rattle.std.specs.Cmp.Lexicographic.{slice_cmp, nat_list_cmp_total, same_text}
-use Rattle.std.specs.FinMap.{FinMap, get, insert, get-insert, same_map}
-use Rattle.std.proofs.lemmas.Bool.{true≢false, false≢true, or_cases}
-use Rattle.nntp_wire.proofs.OptionLemmas.{none_of, some_is}
-use Rattle.nntp_wire.specs.declared.limit.Limit.{Limit}
-use Rattle.nntp_article.specs.Article.Parts.{Id}
-use Rattle.nntp_article.specs.Session.Machine.{is_same}
-use Rattle.nntp_article.specs.Session.Spool.{Spool, Text}
+use Rattle.std.{proofs.lemmas.Bool.{true≢false, false≢true, or_cases}, specs.{Prelude.{unwrap_or}, List.{AllByRecursion, list_any}}}
+use Rattle.std.specs.{List.Sorted.{IsStrictlySortedBy}, declared.cmp.Ordering.TheVariants.{Less}, Ordering.{nat_cmp, is_lt, eq_by_cmp}}
+use Rattle.std.specs.{Cmp.Lexicographic.{slice_cmp, nat_list_cmp_total, same_text}, FinMap.{FinMap, get, insert, get-insert, same_map}}
+use Rattle.nntp_wire.{proofs.OptionLemmas.{none_of, some_is}, specs.declared.limit.Limit.{Limit}}
+use Rattle.nntp_article.specs.{Article.Parts.{Id}, Session.{Machine.{is_same}, Spool.{Spool, Text}}}
 use Rattle.nntp_said.specs.Facts.{Fact, IdAt, TextIs, Holds}
-use Rattle.nntp_facts.specs.Given.{IsGiven, mentions, is_mentioned, gives_article, plain_head}
-use Rattle.nntp_facts.specs.Readers.{ShownArticle, IsShownArticle, AreShownArticles}
-use Rattle.nntp_facts.specs.Together.{shows_article}
-use Rattle.nntp_facts.proofs.Given.ConstructedSpool.{names_apart}
-use Rattle.nntp_facts.proofs.Members.{In, all_at, all_from, any_in, found_in}
+use Rattle.nntp_facts.specs.{Given.{IsGiven, mentions, is_mentioned, gives_article, plain_head}, Inner.Readers.{ShownArticle, IsShownArticle, AreShownArticles}}
+use Rattle.nntp_facts.{specs.Together.{shows_article}, proofs.{Given.ConstructedSpool.{names_apart}, Members.{In, all_at, all_from, any_in, found_in}}}
 use Rattle.nntp_facts.proofs.Together.FactsOfASpoolStand.{same_itself}
-use Rattle.nntp_spool.specs.Building.{Building, Builds, article_fault}
-use Rattle.nntp_spool.specs.Content.{with_article}
-use Rattle.nntp_spool.specs.declared.value.spool_fault.SpoolFault.{SpoolFault}
+use Rattle.nntp_spool.specs.{Inner.Building.{Building, Builds, article_fault}, Content.{with_article}, declared.value.spool_fault.SpoolFault.{SpoolFault}}
 use Rattle.nntp_spool.proofs.MapEntries.{apart, got_more}
-use Rattle.nntp_witness.specs.Witness.{IsGivenSpool}
-use Rattle.nntp_witness.specs.Making.{Makes, IsPart, IsBegun, GroupsLeft, ArticlesLeft, given_text}
-use Rattle.nntp_witness.proofs.BuilderCalls.{called}
-use Rattle.nntp_witness.proofs.FaultsNone.{article_fits}
-use Rattle.nntp_witness.proofs.MoreMade.{got_here, got_still}
+use Rattle.nntp_witness.specs.Inner.{Witness.{IsGivenSpool}, Making.{Makes, IsPart, IsBegun, GroupsLeft, ArticlesLeft, given_text}}
+use Rattle.nntp_witness.proofs.{BuilderCalls.{called}, FaultsNone.{article_fits}, MoreMade.{got_here, got_still}}
 
 -- ---- what facts show
 

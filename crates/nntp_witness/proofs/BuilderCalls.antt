@@ -1,11 +1,8 @@
 -- Calls of a builder that hasn't failed, where there is no fault.
-use Rattle.std.proofs.Common.{◌≡◌, ◌∙◌, Bool, true, false, Option, None, Some, Result, Ok, Err, sym, subst}
-use Rattle.std.proofs.lemmas.Bool.{true≢false}
+use Rattle.std.proofs.{Common.{◌≡◌, ◌∙◌, Bool, true, false, Option, None, Some, Result, Ok, Err, sym, subst}, lemmas.Bool.{true≢false}}
 use Rattle.nntp_article.specs.Session.Spool.{Spool}
-use Rattle.nntp_spool.specs.Building.{Building, Builds, BuildsBy}
-use Rattle.nntp_spool.specs.declared.value.spool_fault.SpoolFault.{SpoolFault}
-use Rattle.nntp_spool.specs.declared.value.spool_fault.SpoolFault.TheVariants.{Memory}
-use Rattle.nntp_witness.specs.Making.{Makes}
+use Rattle.nntp_spool.specs.{Inner.Building.{Building, Builds, BuildsBy}, declared.value.spool_fault.SpoolFault.{SpoolFault, TheVariants.{Memory}}}
+use Rattle.nntp_witness.specs.Inner.Making.{Makes}
 
 -- the content, where it hasn't failed
 whole_still : (old : Building) (made : Spool) → old.failed ≡ false → record old { spool = made } ≡ record { limit = old.limit; spool = made; failed = false }

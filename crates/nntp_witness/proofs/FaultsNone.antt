@@ -1,32 +1,18 @@
 -- What the given spool has is added to a part of it without a fault.
 use Rattle.std.proofs.Common.{◌≡◌, ℕ, Bool, true, false, cond, not, ◌&&◌, List, [], ◌∷◌, Option, None, Some, is_some, refl, sym, ap, subst, ◌∙◌}
-use Rattle.std.specs.Prelude.{is_none, unwrap_or, IsFalse, bytes_eq}
-use Rattle.std.specs.List.{list_all}
-use Rattle.std.specs.Option.{option_or}
-use Rattle.std.specs.Cmp.{nat_cmp_total}
-use Rattle.std.specs.FinMap.{get, entries, nat_cmp-IsAntisymmetric}
-use Rattle.std.proofs.lemmas.Bool.{true≢false, and_from, false_from_ne_true, or_left, or_right}
-use Rattle.std.proofs.lemmas.Slice.Eq.{bytes_eq-Decides}
-use Rattle.nntp_wire.specs.Decided.{is_group_name, is_message_id}
-use Rattle.nntp_wire.specs.Limit.{greatest}
-use Rattle.nntp_wire.specs.declared.limit.Limit.{Limit}
-use Rattle.nntp_wire.proofs.OptionLemmas.{some_is}
-use Rattle.nntp_article.specs.Article.Parts.{Id, Line}
-use Rattle.nntp_article.specs.Session.Machine.{is_article_number}
-use Rattle.nntp_article.specs.Session.Spool.{Spool, Name, Numbers, Text, IsGroup, IsSpool, numbers, is_line}
+use Rattle.std.{proofs.lemmas.{Bool.{true≢false, and_from, false_from_ne_true, or_left, or_right}, Slice.Eq.{bytes_eq-Decides}}, specs.Prelude.{is_none}}
+use Rattle.std.specs.{Prelude.{unwrap_or, IsFalse, bytes_eq}, List.{list_all}, Option.{option_or}, Cmp.{nat_cmp_total}, FinMap.{get, entries}}
+use Rattle.std.specs.FinMap.{nat_cmp-IsAntisymmetric}
+use Rattle.nntp_wire.{specs.{Decided.{is_group_name, is_message_id}, Limit.{greatest}, declared.limit.Limit.{Limit}}, proofs.OptionLemmas.{some_is}}
+use Rattle.nntp_article.specs.{Article.Parts.{Id, Line}, Session.{Machine.{is_article_number}, Spool.{Spool, Name, Numbers, Text, IsGroup, IsSpool, numbers}}}
+use Rattle.nntp_article.specs.Session.Spool.{is_line}
 use Rattle.nntp_said.specs.Facts.{Fact, TextIs}
-use Rattle.nntp_facts.specs.Given.{mentions, is_mentioned, first_given, head_in, body_in, plain_head, IsGiven}
-use Rattle.nntp_facts.specs.Articles.{head_sent, body_sent}
-use Rattle.nntp_facts.proofs.Given.GivenHolds.{group_of_number}
-use Rattle.nntp_facts.proofs.Maps.{in_get}
-use Rattle.nntp_facts.proofs.Members.{found_in}
-use Rattle.nntp_facts.proofs.Keeping.SaidOfArticles.{head_of_text, body_of_text}
-use Rattle.nntp_spool.specs.Building.{group_fault, number_fault, article_fault}
-use Rattle.nntp_spool.specs.Content.{is_head_of}
-use Rattle.nntp_spool.specs.Numbers.{has_id}
-use Rattle.nntp_spool.specs.declared.value.spool_fault.SpoolFault.TheVariants as faults
+use Rattle.nntp_facts.specs.{Given.{mentions, is_mentioned, first_given, head_in, body_in, plain_head, IsGiven}, Inner.Articles.{head_sent, body_sent}}
+use Rattle.nntp_facts.proofs.{Given.GivenHolds.{group_of_number}, Maps.{in_get}, Members.{found_in}, Keeping.SaidOfArticles.{head_of_text, body_of_text}}
+use Rattle.nntp_spool.specs.{Inner.Building.{group_fault, number_fault, article_fault}, Content.{is_head_of}, Numbers.{has_id}}
 use Rattle.nntp_spool.proofs.WholeSpools.{content_of_spool}
-use Rattle.nntp_witness.specs.Making.{IsPart}
+use Rattle.nntp_witness.specs.Inner.Making.{IsPart}
+use Rattle.nntp_spool.specs.declared.value.spool_fault.SpoolFault.TheVariants as faults
 
 -- ---- faults by their tests
 

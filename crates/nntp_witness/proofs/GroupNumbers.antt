@@ -1,25 +1,15 @@
 -- The numbers of a group that are given: they ascend, and are those that the given spool has in it.
-use Rattle.std.proofs.Common.{◌≡◌, ◌≢◌, ℕ, ◌<◌, ◌≤◌, ◌⊎◌, cond, ◌==◌, IsTrue, List, [], ◌∷◌, ◌++◌, map, Option, None, Some, is_some, IsSome, inl, inr, refl, sym, ap, subst, ◌∙◌, arith}
-use Rattle.std.specs.Prelude.{IsFalse, IfSome}
-use Rattle.std.specs.List.{AllByRecursion}
-use Rattle.std.specs.List.Sorted.{IsStrictlySortedBy}
-use Rattle.std.specs.declared.cmp.Ordering.{Ordering}
-use Rattle.std.specs.declared.cmp.Ordering.TheVariants.{Less, Equal, Greater}
-use Rattle.std.specs.Ordering.{nat_cmp}
-use Rattle.std.specs.Cmp.{IsTotalOrder, nat_cmp_total}
-use Rattle.std.specs.FinMap.{FinMap, get, keys, entries, entries_sorted, IsAntisymmetric, nat_cmp-IsAntisymmetric}
-use Rattle.std.proofs.lemmas.Bool.{true≢false, eq-eqb, eqb-true, lt-ltb, cases_lt}
-use Rattle.std.proofs.lemmas.Cmp.{tied_itself}
-use Rattle.nntp_article.specs.Article.Parts.{Id}
-use Rattle.nntp_article.specs.Session.Spool.{Spool, IsGroup, numbers}
-use Rattle.nntp_said.specs.Asks.{Ask}
-use Rattle.nntp_said.specs.Facts.{Fact}
-use Rattle.nntp_facts.specs.Given.{asks_of, is_shown, IsGivenNumber, id_shown, IsGiven}
-use Rattle.nntp_facts.specs.Readers.{ShownGroup, HasShownNumbers, IsLeastGiven, IsGreatestGiven}
-use Rattle.nntp_facts.proofs.Maps.{sorted_keys, key_of, of_key}
-use Rattle.nntp_facts.proofs.Members.{In, all_at, all_from, all_both, any_in, found_in, in_map, from_map, in_front, in_back, in_cases}
-use Rattle.nntp_facts.proofs.Ids.OnePlaceOfAnId.{shown_with_id}
-use Rattle.nntp_witness.specs.Making.{unseen_number, given_numbers}
+use Rattle.std.proofs.Common.{◌≡◌, ◌≢◌, ℕ, ◌<◌, ◌≤◌, ◌⊎◌, cond, ◌==◌, IsTrue, List, [], ◌∷◌, ◌++◌, map, Option, None, Some, is_some, IsSome, inl, inr, refl}
+use Rattle.std.proofs.{Common.{sym, ap, subst, ◌∙◌, arith}, lemmas.{Bool.{true≢false, eq-eqb, eqb-true, lt-ltb, cases_lt}, Cmp.{tied_itself}}}
+use Rattle.std.specs.{Prelude.{IsFalse, IfSome}, List.{AllByRecursion, Sorted.{IsStrictlySortedBy}}, declared.cmp.Ordering.{Ordering, TheVariants.{Less}}}
+use Rattle.std.specs.{declared.cmp.Ordering.TheVariants.{Equal, Greater}, Ordering.{nat_cmp}, Cmp.{IsTotalOrder, nat_cmp_total}, FinMap.{FinMap, get, keys}}
+use Rattle.std.specs.FinMap.{entries, entries_sorted, IsAntisymmetric, nat_cmp-IsAntisymmetric}
+use Rattle.nntp_article.specs.{Article.Parts.{Id}, Session.Spool.{Spool, IsGroup, numbers}}
+use Rattle.nntp_said.specs.{Asks.{Ask}, Facts.{Fact}}
+use Rattle.nntp_facts.specs.{Given.{asks_of, is_shown, IsGivenNumber, id_shown, IsGiven}, Inner.Readers.{ShownGroup, HasShownNumbers, IsLeastGiven}}
+use Rattle.nntp_facts.{specs.Inner.Readers.{IsGreatestGiven}, proofs.{Maps.{sorted_keys, key_of, of_key}, Members.{In, all_at, all_from, all_both, any_in}}}
+use Rattle.nntp_facts.proofs.{Members.{found_in, in_map, from_map, in_front, in_back, in_cases}, Ids.OnePlaceOfAnId.{shown_with_id}}
+use Rattle.nntp_witness.specs.Inner.Making.{unseen_number, given_numbers}
 
 -- ---- lists in order as the keys of a map
 

@@ -1,36 +1,19 @@
 -- One group more of the spool that is made.
-use Rattle.std.proofs.Common.{◌≡◌, ◌≢◌, ◌⊎◌, ℕ, false, ◌==◌, List, [], ◌∷◌, ◌++◌, map, Option, None, Some, is_some, IsSome, IsTrue, Result, Ok, Err, inl, inr, refl, sym, ap, subst, ◌∙◌}
-use Rattle.std.specs.Prelude.{unwrap_or}
-use Rattle.std.specs.List.{AllByRecursion, list_any}
-use Rattle.std.specs.List.Sorted.{IsStrictlySortedBy}
-use Rattle.std.specs.declared.cmp.Ordering.TheVariants.{Less}
-use Rattle.std.specs.Ordering.{nat_cmp}
-use Rattle.std.specs.Cmp.{nat_cmp_total}
-use Rattle.std.specs.Cmp.Lexicographic.{slice_cmp, nat_list_cmp_total, same_text}
-use Rattle.std.specs.FinMap.{get, empty, keys, get-empty, same_map, nat_cmp-IsAntisymmetric}
-use Rattle.std.proofs.lemmas.Bool.{true≢false, or_cases, eq-eqb}
-use Rattle.std.proofs.lemmas.Cmp.{tied_itself}
-use Rattle.std.proofs.lemmas.List.{append-nil}
-use Rattle.nntp_wire.proofs.OptionLemmas.{none_of}
-use Rattle.nntp_article.proofs.SessionLemmas.FiniteMapsDecided.{dec_texts}
-use Rattle.nntp_wire.specs.Limit.{greatest}
-use Rattle.nntp_wire.specs.declared.limit.Limit.{Limit}
-use Rattle.nntp_article.specs.Article.Parts.{Id}
-use Rattle.nntp_article.specs.Session.Machine.{is_same}
-use Rattle.nntp_article.specs.Session.Spool.{Spool, Name, Numbers, IsNumber, IsSpool, numbers}
+use Rattle.std.proofs.Common.{◌≡◌, ◌≢◌, ◌⊎◌, ℕ, false, ◌==◌, List, [], ◌∷◌, ◌++◌, map, Option, None, Some, is_some, IsSome, IsTrue, Result, Ok, Err, inl, inr}
+use Rattle.std.proofs.{Common.{refl, sym, ap, subst, ◌∙◌}, lemmas.{Bool.{true≢false, or_cases, eq-eqb}, Cmp.{tied_itself}, List.{append-nil}}}
+use Rattle.std.specs.{Prelude.{unwrap_or}, List.{AllByRecursion, list_any, Sorted.{IsStrictlySortedBy}}, declared.cmp.Ordering.TheVariants.{Less}}
+use Rattle.std.specs.{Ordering.{nat_cmp}, Cmp.{nat_cmp_total, Lexicographic.{slice_cmp, nat_list_cmp_total, same_text}}, FinMap.{get, empty, keys, get-empty}}
+use Rattle.std.specs.FinMap.{same_map, nat_cmp-IsAntisymmetric}
+use Rattle.nntp_wire.{proofs.OptionLemmas.{none_of}, specs.{Limit.{greatest}, declared.limit.Limit.{Limit}}}
+use Rattle.nntp_article.{proofs.SessionLemmas.FiniteMapsDecided.{dec_texts}, specs.{Article.Parts.{Id}, Session.{Machine.{is_same}, Spool.{Spool, Name}}}}
+use Rattle.nntp_article.specs.Session.Spool.{Numbers, IsNumber, IsSpool, numbers}
 use Rattle.nntp_said.specs.Facts.{Fact}
-use Rattle.nntp_facts.specs.Given.{id_shown, IsGiven}
-use Rattle.nntp_facts.specs.Readers.{ShownGroup}
-use Rattle.nntp_facts.proofs.Maps.{key_of, of_key}
-use Rattle.nntp_facts.proofs.Members.{In, all_at, all_from, any_in, in_map, from_map}
-use Rattle.nntp_spool.specs.Building.{Building, Builds, group_fault}
-use Rattle.nntp_spool.specs.Content.{with_group}
-use Rattle.nntp_spool.specs.declared.value.spool_fault.SpoolFault.{SpoolFault}
+use Rattle.nntp_facts.{specs.{Given.{id_shown, IsGiven}, Inner.Readers.{ShownGroup}}, proofs.{Maps.{key_of, of_key}, Members.{In, all_at, all_from, any_in}}}
+use Rattle.nntp_facts.proofs.Members.{in_map, from_map}
+use Rattle.nntp_spool.specs.{Inner.Building.{Building, Builds, group_fault}, Content.{with_group}, declared.value.spool_fault.SpoolFault.{SpoolFault}}
 use Rattle.nntp_spool.specs.declared.value.spool_fault.SpoolFault.TheVariants.{Memory}
-use Rattle.nntp_witness.specs.Making.{Makes, unseen_number, given_numbers, unshown_of, GroupsLeft, NumbersLeft}
-use Rattle.nntp_witness.proofs.BuilderCalls.{call_done, call_refused}
-use Rattle.nntp_witness.proofs.FaultsNone.{group_fits}
-use Rattle.nntp_witness.proofs.GroupNumbers.{given_keys, given_ascends, given_ids}
+use Rattle.nntp_witness.{specs.Inner.Making.{Makes, unseen_number, given_numbers, unshown_of, GroupsLeft, NumbersLeft}, proofs.BuilderCalls.{call_done}}
+use Rattle.nntp_witness.proofs.{BuilderCalls.{call_refused}, FaultsNone.{group_fits}, GroupNumbers.{given_keys, given_ascends, given_ids}}
 use Rattle.nntp_witness.proofs.MoreMade.{numbers_here, group_here, group_other, part_with_group}
 
 -- ---- names

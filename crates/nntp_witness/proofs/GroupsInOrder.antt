@@ -1,25 +1,16 @@
 -- The groups that are shown are those of the given spool, in the same order, and the ids that none of them shows come in turn.
-use Rattle.std.proofs.Common.{◌≡◌, ℕ, ◌⊎◌, false, cond, ◌++◌, IsTrue, List, [], ◌∷◌, map, Option, None, Some, is_some, IsSome, inl, inr, refl, sym, ap, subst, ◌∙◌, arith}
-use Rattle.std.specs.Prelude.{unwrap_or}
-use Rattle.std.specs.List.{AllByRecursion, list_any, flat_map}
-use Rattle.std.specs.Ordering.{nat_cmp}
-use Rattle.std.specs.Cmp.{nat_cmp_total}
-use Rattle.std.specs.Cmp.Lexicographic.{slice_cmp, same_text, nat_list_cmp_total}
-use Rattle.std.specs.FinMap.{get, entries, empty, get-empty, nat_cmp-IsAntisymmetric}
+use Rattle.std.proofs.Common.{◌≡◌, ℕ, ◌⊎◌, false, cond, ◌++◌, IsTrue, List, [], ◌∷◌, map, Option, None, Some, is_some, IsSome, inl, inr, refl, sym, ap, subst}
+use Rattle.std.{proofs.Common.{◌∙◌, arith}, specs.{Prelude.{unwrap_or}, List.{AllByRecursion, list_any, flat_map}, Ordering.{nat_cmp}, Cmp.{nat_cmp_total}}}
+use Rattle.std.specs.{Cmp.Lexicographic.{slice_cmp, same_text, nat_list_cmp_total}, FinMap.{get, entries, empty, get-empty, nat_cmp-IsAntisymmetric}}
 use Rattle.nntp_wire.specs.declared.limit.Limit.{Limit}
-use Rattle.nntp_article.specs.Article.Parts.{Id}
-use Rattle.nntp_article.specs.Session.Machine.{is_same}
-use Rattle.nntp_article.specs.Session.Spool.{Spool, Name, Numbers, IsGroup, numbers}
+use Rattle.nntp_article.specs.{Article.Parts.{Id}, Session.{Machine.{is_same}, Spool.{Spool, Name, Numbers, IsGroup, numbers}}}
 use Rattle.nntp_said.specs.Facts.{Fact}
-use Rattle.nntp_facts.specs.Given.{id_shown, unshown_in, unshown_ids, AreInvented, IsGiven}
-use Rattle.nntp_facts.specs.Readers.{ShownGroup, HasShownNumbers, AreShownGroups}
-use Rattle.nntp_facts.proofs.Given.ConstructedSpool.{names_apart}
-use Rattle.nntp_facts.proofs.Maps.{in_get}
-use Rattle.nntp_facts.proofs.Members.{In, all_from, any_in, found_in, in_map, from_map}
+use Rattle.nntp_facts.specs.{Given.{id_shown, unshown_in, unshown_ids, AreInvented, IsGiven}, Inner.Readers.{ShownGroup, HasShownNumbers, AreShownGroups}}
+use Rattle.nntp_facts.proofs.{Given.ConstructedSpool.{names_apart}, Maps.{in_get}, Members.{In, all_from, any_in, found_in, in_map, from_map}}
 use Rattle.nntp_facts.proofs.Keeping.FactsOfOneGroup.{same_self}
 use Rattle.nntp_spool.specs.Content.{no_spool}
-use Rattle.nntp_witness.specs.Making.{given_numbers, unshown_at, unshown_of, IsPart, GroupsLeft}
-use Rattle.nntp_witness.proofs.GroupNumbers.{keys_listed, given_keys, given_ids}
+use Rattle.nntp_witness.{specs.Inner.Making.{given_numbers, unshown_at, unshown_of, IsPart, GroupsLeft}, proofs.GroupNumbers.{keys_listed, given_keys}}
+use Rattle.nntp_witness.proofs.GroupNumbers.{given_ids}
 
 -- ---- the ids of one group
 

@@ -1,6 +1,5 @@
 -- The first id, of those that are invented, that isn't mentioned.
-use Rattle.std.proofs.Common.{◌≡◌, ℕ, ◌+◌, ◌<◌, ◌≤◌, Bool, true, false, IsTrue, List, sym, ap, subst, ◌∙◌, arith, inl, inr}
-use Rattle.std.proofs.lemmas.Bool.{cases_lt}
+use Rattle.std.proofs.{Common.{◌≡◌, ℕ, ◌+◌, ◌<◌, ◌≤◌, Bool, true, false, IsTrue, List, sym, ap, subst, ◌∙◌, arith, inl, inr}, lemmas.Bool.{cases_lt}}
 use Rattle.nntp_article.specs.Article.Parts.{Id}
 use Rattle.nntp_said.specs.Facts.{Fact}
 use Rattle.nntp_facts.specs.Given.{is_mentioned, invented, IsFirstFree}

@@ -1,20 +1,14 @@
 -- A spool with one group more, or one number more, or with the article of one id more.
 use Rattle.std.proofs.Common.{◌≡◌, ◌≢◌, ◌⊎◌, ℕ, Bool, true, false, cond, List, None, Some, is_some, IsSome, inl, inr, refl, sym, ap, subst, ◌∙◌}
-use Rattle.std.specs.Prelude.{unwrap_or}
-use Rattle.std.specs.declared.cmp.Ordering.{Ordering}
-use Rattle.std.specs.Ordering.{nat_cmp, eq_by_cmp}
-use Rattle.std.specs.Cmp.{IsTotalOrder, nat_cmp_total, Equal-is}
-use Rattle.std.specs.Cmp.Lexicographic.{slice_cmp, nat_list_cmp_total}
-use Rattle.std.specs.FinMap.{FinMap, get, insert, empty, get-insert, get-empty, IsAntisymmetric, nat_cmp-IsAntisymmetric}
-use Rattle.nntp_article.proofs.SessionLemmas.FiniteMapsDecided.{dec_texts}
-use Rattle.nntp_article.specs.Article.Parts.{Id}
-use Rattle.nntp_article.specs.Session.Spool.{Spool, Name, Numbers, Text, IsGroup, numbers}
+use Rattle.std.specs.{Prelude.{unwrap_or}, declared.cmp.Ordering.{Ordering}, Ordering.{nat_cmp, eq_by_cmp}, Cmp.{IsTotalOrder, nat_cmp_total, Equal-is}}
+use Rattle.std.specs.{Cmp.Lexicographic.{slice_cmp, nat_list_cmp_total}, FinMap.{FinMap, get, insert, empty, get-insert, get-empty, IsAntisymmetric}}
+use Rattle.std.specs.FinMap.{nat_cmp-IsAntisymmetric}
+use Rattle.nntp_article.{proofs.SessionLemmas.FiniteMapsDecided.{dec_texts}, specs.{Article.Parts.{Id}, Session.Spool.{Spool, Name, Numbers, Text, IsGroup}}}
+use Rattle.nntp_article.specs.Session.Spool.{numbers}
 use Rattle.nntp_said.specs.Facts.{Fact}
 use Rattle.nntp_facts.specs.Given.{id_shown}
-use Rattle.nntp_spool.specs.Content.{with_group}
-use Rattle.nntp_spool.proofs.MapEntries.{tied_itself, got_more}
-use Rattle.nntp_spool.proofs.ShownMaps.{octet_keys}
-use Rattle.nntp_witness.specs.Making.{IsPart}
+use Rattle.nntp_spool.{specs.Content.{with_group}, proofs.{MapEntries.{tied_itself, got_more}, ShownMaps.{octet_keys}}}
+use Rattle.nntp_witness.specs.Inner.Making.{IsPart}
 
 -- ---- maps
 

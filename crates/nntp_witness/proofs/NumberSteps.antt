@@ -1,36 +1,20 @@
 -- One number more of the group that is made.
-use Rattle.std.proofs.Common.{◌≡◌, ◌≢◌, ◌⊎◌, ℕ, ◌+◌, ◌-◌, ◌<◌, ◌≤◌, ◌^◌, false, ◌==◌, List, [], ◌∷◌, ◌++◌, map, Option, None}
-use Rattle.std.proofs.Common.{Some, is_some, IsSome, IsTrue, Result, Ok, Err, inl, inr, refl, sym, ap, subst, ◌∙◌, arith}
-use Rattle.std.specs.Prelude.{unwrap_or, IsFalse}
-use Rattle.std.specs.List.{AllByRecursion, list_any}
-use Rattle.std.specs.List.Sorted.{IsStrictlySortedBy}
-use Rattle.std.specs.declared.cmp.Ordering.TheVariants.{Less}
-use Rattle.std.specs.Ordering.{nat_cmp}
-use Rattle.std.specs.Cmp.{nat_cmp_total}
-use Rattle.std.proofs.lemmas.Cmp.{tied_itself}
-use Rattle.std.specs.Cmp.Lexicographic.{slice_cmp, nat_list_cmp_total}
-use Rattle.std.specs.FinMap.{FinMap, get, insert, nat_cmp-IsAntisymmetric}
-use Rattle.std.proofs.lemmas.Bool.{or_cases, eqb-true}
-use Rattle.nntp_wire.specs.Limit.{greatest}
-use Rattle.nntp_wire.specs.Name.{IsMessageId}
-use Rattle.nntp_wire.specs.declared.limit.Limit.{Limit}
-use Rattle.nntp_article.specs.Article.Parts.{Id}
-use Rattle.nntp_article.specs.Session.Spool.{Spool, Name, Numbers, Text, IsNumber, IsSpool, numbers}
+use Rattle.std.proofs.Common.{◌≡◌, ◌≢◌, ◌⊎◌, ℕ, ◌+◌, ◌-◌, ◌<◌, ◌≤◌, ◌^◌, false, ◌==◌, List, [], ◌∷◌, ◌++◌, map, Option, None, Some, is_some, IsSome, IsTrue}
+use Rattle.std.proofs.{Common.{Result, Ok, Err, inl, inr, refl, sym, ap, subst, ◌∙◌, arith}, lemmas.{Cmp.{tied_itself}, Bool.{or_cases, eqb-true}}}
+use Rattle.std.specs.{Prelude.{unwrap_or, IsFalse}, List.{AllByRecursion, list_any, Sorted.{IsStrictlySortedBy}}, declared.cmp.Ordering.TheVariants.{Less}}
+use Rattle.std.specs.{Ordering.{nat_cmp}, Cmp.{nat_cmp_total, Lexicographic.{slice_cmp, nat_list_cmp_total}}, FinMap.{FinMap, get, insert}}
+use Rattle.std.specs.FinMap.{nat_cmp-IsAntisymmetric}
+use Rattle.nntp_wire.{specs.{Limit.{greatest}, Name.{IsMessageId}, declared.limit.Limit.{Limit}}, proofs.OptionLemmas.{none_of, some_is}}
+use Rattle.nntp_article.specs.{Article.Parts.{Id}, Session.Spool.{Spool, Name, Numbers, Text, IsNumber, IsSpool, numbers}}
 use Rattle.nntp_said.specs.Facts.{Fact}
 use Rattle.nntp_facts.specs.Given.{is_mentioned, invented, plain_head, AreInvented, IsFirstFree, IsGiven}
-use Rattle.nntp_facts.proofs.GivenNumbers.FirstFreeNumber.{first_free_once}
-use Rattle.nntp_facts.proofs.Ids.InventedIds.{invented_number, number-invented}
-use Rattle.nntp_wire.proofs.OptionLemmas.{none_of, some_is}
-use Rattle.nntp_spool.specs.Building.{Building, Builds, number_fault, article_fault}
-use Rattle.nntp_spool.specs.declared.value.spool_fault.SpoolFault.{SpoolFault}
-use Rattle.nntp_spool.specs.declared.value.spool_fault.SpoolFault.TheVariants.{Memory}
-use Rattle.nntp_spool.specs.Content.{with_group, with_article}
-use Rattle.nntp_spool.proofs.MapEntries.{got_more}
+use Rattle.nntp_facts.proofs.{GivenNumbers.FirstFreeNumber.{first_free_once}, Ids.InventedIds.{invented_number, number-invented}}
+use Rattle.nntp_spool.specs.{Inner.Building.{Building, Builds, number_fault, article_fault}, declared.value.spool_fault.SpoolFault.{SpoolFault}}
+use Rattle.nntp_spool.{specs.{declared.value.spool_fault.SpoolFault.TheVariants.{Memory}, Content.{with_group, with_article}}, proofs.MapEntries.{got_more}}
 use Rattle.nntp_spool.proofs.ShownMaps.{octet_keys}
-use Rattle.nntp_witness.specs.Making.{Makes, unshown_at, IsBegun, NumbersLeft}
-use Rattle.nntp_witness.proofs.MoreMade.{got_here, got_other, got_still, numbers_here, group_here, group_other, part_with_number}
-use Rattle.nntp_witness.proofs.BuilderCalls.{called, call_done, call_refused}
-use Rattle.nntp_witness.proofs.FaultsNone.{number_fits, article_fits, plain_text}
+use Rattle.nntp_witness.{specs.Inner.Making.{Makes, unshown_at, IsBegun, NumbersLeft}, proofs.MoreMade.{got_here, got_other, got_still, numbers_here}}
+use Rattle.nntp_witness.proofs.{MoreMade.{group_here, group_other, part_with_number}, BuilderCalls.{called, call_done, call_refused}, FaultsNone.{number_fits}}
+use Rattle.nntp_witness.proofs.FaultsNone.{article_fits, plain_text}
 
 -- ---- the numbers that are left
 

@@ -1,30 +1,16 @@
 -- Where nothing is left, the spool that is made is the given one.
-use Rattle.std.proofs.Common.{◌≡◌, ℕ, Bool, true, false, cond, not, ◌&&◌, ◌==◌, List, [], Option, None, Some, is_some, IsSome, IsTrue, Result, Ok, Err, inl, inr, refl, sym, ap, ◌∙◌}
-use Rattle.std.specs.Prelude.{unwrap_or}
-use Rattle.std.specs.List.{list_any}
-use Rattle.std.specs.Cmp.Lexicographic.{nat_list_cmp_total}
-use Rattle.std.specs.FinMap.{get, empty, same_map}
-use Rattle.std.proofs.lemmas.Bool.{true≢false, false≢true}
-use Rattle.nntp_wire.specs.Limit.{greatest}
-use Rattle.nntp_wire.specs.declared.limit.Limit.{Limit}
-use Rattle.nntp_article.specs.Article.Parts.{Id}
-use Rattle.nntp_article.specs.Session.Machine.{is_same}
-use Rattle.nntp_article.specs.Session.Spool.{Spool, Name, Text, numbers}
+use Rattle.std.proofs.Common.{◌≡◌, ℕ, Bool, true, false, cond, not, ◌&&◌, ◌==◌, List, [], Option, None, Some, is_some, IsSome, IsTrue, Result, Ok, Err, inl}
+use Rattle.std.{proofs.{Common.{inr, refl, sym, ap, ◌∙◌}, lemmas.Bool.{true≢false, false≢true}}, specs.{Prelude.{unwrap_or}, List.{list_any}}}
+use Rattle.std.specs.{Cmp.Lexicographic.{nat_list_cmp_total}, FinMap.{get, empty, same_map}}
+use Rattle.nntp_wire.specs.{Limit.{greatest}, declared.limit.Limit.{Limit}}
+use Rattle.nntp_article.specs.{Article.Parts.{Id}, Session.{Machine.{is_same}, Spool.{Spool, Name, Text, numbers}}}
 use Rattle.nntp_said.specs.Facts.{Fact, IdAt, TextIs}
-use Rattle.nntp_facts.specs.Given.{IsGiven, id_in, id_shown, is_sent, gives_article}
-use Rattle.nntp_facts.specs.Together.{shows_article}
-use Rattle.nntp_facts.proofs.Given.ConstructedSpool.{names_apart}
-use Rattle.nntp_facts.proofs.Members.{any_in, found_in, first_found}
-use Rattle.nntp_facts.proofs.Together.FactsOfASpoolStand.{same_itself}
-use Rattle.nntp_spool.specs.Building.{Building, finished}
-use Rattle.nntp_spool.specs.Content.{ids_have_articles}
-use Rattle.nntp_spool.specs.Limited.{LimitedSpool}
-use Rattle.nntp_spool.specs.declared.value.spool_fault.SpoolFault.{SpoolFault}
+use Rattle.nntp_facts.{specs.{Given.{IsGiven, id_in, id_shown, is_sent, gives_article}, Together.{shows_article}}, proofs.Given.ConstructedSpool.{names_apart}}
+use Rattle.nntp_facts.proofs.{Members.{any_in, found_in, first_found}, Together.FactsOfASpoolStand.{same_itself}}
+use Rattle.nntp_spool.specs.{Inner.Building.{Building, finished}, Content.{ids_have_articles}, Limited.{LimitedSpool}}
+use Rattle.nntp_spool.{specs.declared.value.spool_fault.SpoolFault.{SpoolFault}, proofs.{ShownMaps.{spool_is}, WholeSpools.{spool_knows}}}
+use Rattle.nntp_witness.specs.Inner.{Witness.{IsGivenSpool}, Making.{ArticlesLeft}}
 use Rattle.nntp_spool.specs.declared.value.spool_fault.SpoolFault.TheVariants as faults
-use Rattle.nntp_spool.proofs.ShownMaps.{spool_is}
-use Rattle.nntp_spool.proofs.WholeSpools.{spool_knows}
-use Rattle.nntp_witness.specs.Witness.{IsGivenSpool}
-use Rattle.nntp_witness.specs.Making.{ArticlesLeft}
 
 -- ---- what facts show
 

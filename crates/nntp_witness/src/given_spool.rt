@@ -4,10 +4,10 @@ ghost use Rattle.nntp_pair.specs.Pairing.{Paired};
 ghost use Rattle.nntp_article.specs.declared.session.profile.Profile.{Profile};
 ghost use Rattle.nntp_article.specs.Session.Spool.{Spool as SpoolValue};
 ghost use Rattle.nntp_said.specs.Facts.{Fact};
-ghost use Rattle.nntp_facts.specs.Noted.{HasNotedBehind};
-ghost use Rattle.nntp_spool.specs.Text.{IsWritten};
-ghost use Rattle.nntp_witness.specs.Witness.{HaveNoted, HaveNotedSome, IsGivenSpool, IsWitnessWithin};
-ghost use Rattle.nntp_witness.specs.Making.{Makes};
+ghost use Rattle.nntp_facts.specs.Inner.Noted.{HasNotedBehind};
+ghost use Rattle.nntp_spool.specs.Inner.Text.{IsWritten};
+ghost use Rattle.nntp_witness.specs.Inner.Witness.{HaveNoted, HaveNotedSome, IsGivenSpool, IsWitnessWithin};
+ghost use Rattle.nntp_witness.specs.Inner.Making.{Makes};
 
 use crate::maker::SpoolMaker;
 use nntp_facts::Facts;
@@ -30,7 +30,8 @@ use std::alloc::{AllocError, Allocator};
 /// [`AllocError`], if memory is refused.
 pub fn witness<A: Allocator + Copy>(alloc: A, facts: &Facts<A>) -> Result<Spool<A>, AllocError>
     requires { HaveNotedSome facts.now }
-    ensures given { IfOk result (λ spool. (profile : Profile) (earlier : List (List Paired)) (past : List Paired) → HasNotedBehind profile facts.now earlier past
+    ensures given { IfOk result (λ spool. (profile : Profile) (earlier : List (List Paired)) (past : List Paired)
+        → HasNotedBehind profile facts.now earlier past
         → IsWitnessWithin facts.now.limit profile earlier past spool) }
     ensures is_written { IfOk result IsWritten }
 {

@@ -3,7 +3,7 @@ ghost use Rattle.std.specs.Prelude.{◌≡◌, ◌-◌, ◌<◌, ◌^◌, List, 
 ghost use Rattle.std.specs.Rc.{rc_str_bytes};
 ghost use Rattle.nntp_said.specs.Facts.{Fact};
 ghost use Rattle.nntp_facts.specs.Given.{invented, is_mentioned, IsFirstFree};
-ghost use Rattle.nntp_witness.specs.Witness.{HaveNoted};
+ghost use Rattle.nntp_witness.specs.Inner.Witness.{HaveNoted};
 
 use itoa::Buffer;
 use nntp_facts::Facts;

@@ -4,11 +4,11 @@ ghost use Rattle.nntp_wire.specs.declared.limit.Limit.{Limit};
 ghost use Rattle.nntp_article.specs.Article.Parts.{Id};
 ghost use Rattle.nntp_article.specs.Session.Spool.{Spool as SpoolValue};
 ghost use Rattle.nntp_said.specs.Facts.{Fact};
-ghost use Rattle.nntp_facts.specs.Readers.{ShownGroup as GroupValue, ShownArticle as ArticleValue};
-ghost use Rattle.nntp_facts.specs.ReadersView.{number_value};
-ghost use Rattle.nntp_spool.specs.Text.{IsWritten};
-ghost use Rattle.nntp_witness.specs.Witness.{HaveNoted, IsGivenSpool};
-ghost use Rattle.nntp_witness.specs.Making.{Makes, unseen_number, GroupsLeft, NumbersLeft, ArticlesLeft};
+ghost use Rattle.nntp_facts.specs.Inner.Readers.{ShownGroup as GroupValue, ShownArticle as ArticleValue};
+ghost use Rattle.nntp_facts.specs.Inner.ReadersView.{number_value};
+ghost use Rattle.nntp_spool.specs.Inner.Text.{IsWritten};
+ghost use Rattle.nntp_witness.specs.Inner.Witness.{HaveNoted, IsGivenSpool};
+ghost use Rattle.nntp_witness.specs.Inner.Making.{Makes, unseen_number, GroupsLeft, NumbersLeft, ArticlesLeft};
 
 use crate::article::{given_body, given_head, no_lines, plain_head};
 use crate::invented::invent;

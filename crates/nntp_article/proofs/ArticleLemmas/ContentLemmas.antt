@@ -1,8 +1,6 @@
 -- A content, piece by piece.
 use Rattle.std.proofs.Common.{◌≡◌, ℕ, Bool, true, false, List, [], ◌∷◌, ◌++◌, length, take, refl, sym, ◌∙◌, ap, append_assoc, append-nil}
-use Rattle.std.proofs.lemmas.List.{take_at}
-use Rattle.std.specs.Prelude.{if◌then◌else◌}
-use Rattle.std.specs.List.{concat, after_first}
+use Rattle.std.{proofs.lemmas.List.{take_at}, specs.{Prelude.{if◌then◌else◌}, List.{concat, after_first}}}
 use Rattle.nntp_wire.specs.Octets.{is_blank}
 use Rattle.nntp_article.specs.Article.Parts.{Line, Header, is_empty, is_colon, skip_blanks, skip_last_blanks, content_of}
 use Rattle.nntp_article.proofs.ArticleLemmas.WordLemmas.{skip-blank, skip-other, ends_blank}

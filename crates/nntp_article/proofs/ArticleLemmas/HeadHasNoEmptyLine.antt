@@ -1,10 +1,7 @@
 -- A head has no empty line, so the first empty line ends it.
-use Rattle.std.proofs.Common.{◌≡◌, true, false, refl, List, [], ◌∷◌, ◌++◌, sym, ◌∙◌}
-use Rattle.std.specs.List.{list_any, list_all}
-use Rattle.std.proofs.lemmas.Bool.{and_parts}
-use Rattle.nntp_article.specs.Article.Parts.{Line, is_empty, begins_header, is_head_line, is_head, head_part, body_part}
-use Rattle.nntp_article.proofs.ArticleLemmas.HeadLemmas.{is_head-lines}
-use Rattle.nntp_article.proofs.ArticleLemmas.PartLemmas.{parts-split}
+use Rattle.std.{proofs.{Common.{◌≡◌, true, false, refl, List, [], ◌∷◌, ◌++◌, sym, ◌∙◌}, lemmas.Bool.{and_parts}}, specs.List.{list_any, list_all}}
+use Rattle.nntp_article.specs.{Article.Parts.{Line, is_empty, begins_header, is_head, head_part, body_part}, Inner.Parts.{is_head_line}}
+use Rattle.nntp_article.proofs.ArticleLemmas.{HeadLemmas.{is_head-lines}, PartLemmas.{parts-split}}
 
 -- no line that may stand in a head is empty
 no_empty_lines : (lines : List Line) → list_all is_head_line lines ≡ true → list_any is_empty lines ≡ false

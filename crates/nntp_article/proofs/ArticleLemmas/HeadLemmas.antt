@@ -1,10 +1,8 @@
 -- The headers of lines, from the front.
-use Rattle.std.proofs.Common.{◌≡◌, ℕ, suc, ◌+◌, Bool, true, false, List, [], ◌∷◌, take, drop, refl, sym, ◌∙◌, ap, arith}
-use Rattle.std.proofs.lemmas.Bool.{and_parts}
-use Rattle.std.proofs.lemmas.Bool.Decides.{nat_tests}
-use Rattle.std.specs.Prelude.{◌&&◌}
-use Rattle.std.specs.List.{list_all, prefix_len, take_while, before_first}
-use Rattle.nntp_article.specs.Article.Parts.{Line, is_empty, is_colon, name_of, is_continuation, begins_header, is_head_line, is_header, with_line, headers, is_head}
+use Rattle.std.proofs.{Common.{◌≡◌, ℕ, suc, ◌+◌, Bool, true, false, List, [], ◌∷◌, take, drop, refl, sym, ◌∙◌, ap, arith}, lemmas.Bool.{and_parts}}
+use Rattle.std.{proofs.lemmas.Bool.Decides.{nat_tests}, specs.{Prelude.{◌&&◌}, List.{list_all, prefix_len, take_while, before_first}}}
+use Rattle.nntp_article.specs.Article.Parts.{Line, is_empty, is_colon, name_of, is_continuation, begins_header, is_header, with_line, headers, is_head}
+use Rattle.nntp_article.specs.Inner.Parts.{is_head_line}
 
 -- the lines that continue the header before them, and those behind
 abbrev pub more : List Line → List Line

@@ -1,19 +1,10 @@
 -- A content is a message id exactly if that is its one word.
 use Rattle.std.proofs.Common.{◌≡◌, ℕ, ◌<◌, ◌≤◌, Bool, true, false, List, [], ◌∷◌, ◌++◌, Option, None, Some, length, refl, sym, ◌∙◌, ap, arith, append-nil}
-use Rattle.std.proofs.lemmas.Bool.{lt-ltb, leb-true, and_parts, and_from, not-true}
-use Rattle.std.proofs.lemmas.Bool.Decides.{nat_tests}
-use Rattle.std.proofs.lemmas.List.Splits.{slice_split_none, slice_split_at}
-use Rattle.std.proofs.lemmas.List.Sums.{AllPass-from_list_all}
-use Rattle.std.proofs.lemmas.List.Folds.{list_all-append}
-use Rattle.std.specs.Prelude.{not, if◌then◌else◌, ⊤}
-use Rattle.std.specs.List.{All, list_all}
-use Rattle.nntp_wire.specs.Octets.{is_blank}
-use Rattle.nntp_wire.specs.Words.{words_of}
-use Rattle.nntp_wire.specs.Decided.{is_message_id, is_id_octet}
-use Rattle.nntp_wire.proofs.WordLemmas.{words_of-blank}
-use Rattle.nntp_article.specs.Article.Parts.{Id, skip_blanks, skip_last_blanks}
-use Rattle.nntp_article.specs.Article.SaidId.{id_of_words}
-use Rattle.nntp_article.proofs.ArticleLemmas.WordLemmas.{words-skip, words-skip_last, skip-blank, skip-other}
+use Rattle.std.proofs.lemmas.{Bool.{lt-ltb, leb-true, and_parts, and_from, not-true, Decides.{nat_tests}}, List.Splits.{slice_split_none, slice_split_at}}
+use Rattle.std.{proofs.lemmas.List.{Sums.{AllPass-from_list_all}, Folds.{list_all-append}}, specs.{Prelude.{not, if◌then◌else◌, ⊤}, List.{All, list_all}}}
+use Rattle.nntp_wire.{specs.{Octets.{is_blank}, Words.{words_of}, Decided.{is_message_id, is_id_octet}}, proofs.WordLemmas.{words_of-blank}}
+use Rattle.nntp_article.{specs.{Article.Parts.{Id, skip_blanks, skip_last_blanks}, Inner.SaidId.{id_of_words}}, proofs.ArticleLemmas.WordLemmas.{words-skip}}
+use Rattle.nntp_article.proofs.ArticleLemmas.WordLemmas.{words-skip_last, skip-blank, skip-other}
 
 -- none of the octets is a blank
 abbrev pub is_solid : List ℕ → Bool

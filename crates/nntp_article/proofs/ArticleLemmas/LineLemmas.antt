@@ -1,13 +1,8 @@
 -- The colon of a line, and blanks at its ends.
 use Rattle.std.proofs.Common.{◌≡◌, ℕ, ◌+◌, Bool, true, false, List, [], ◌∷◌, ◌++◌, Option, None, Some, length, drop, refl, sym, ◌∙◌, ap, arith}
-use Rattle.std.proofs.lemmas.List.Sums.{position_or_len_is}
-use Rattle.std.proofs.lemmas.List.Folds.{list_all-append}
-use Rattle.std.proofs.lemmas.List.{take_all, drop_all, drop-drop}
-use Rattle.std.proofs.lemmas.Bool.{false_from_ne_true}
-use Rattle.std.proofs.lemmas.Bool.Decides.{nat_tests}
-use Rattle.std.specs.Prelude.{◌&&◌, ◌||◌, ◌==◌, not, cond}
-use Rattle.std.specs.Option.{option_eq}
-use Rattle.std.specs.List.{list_any, list_all, find, prefix_len, position_or_len, before_first, after_first}
+use Rattle.std.proofs.lemmas.{List.{take_all, drop_all, drop-drop, Sums.{position_or_len_is}, Folds.{list_all-append}}, Bool.{false_from_ne_true}}
+use Rattle.std.{proofs.lemmas.Bool.Decides.{nat_tests}, specs.{Prelude.{◌&&◌, ◌||◌, ◌==◌, not, cond}, Option.{option_eq}, List.{list_any, list_all, find}}}
+use Rattle.std.specs.List.{prefix_len, position_or_len, before_first, after_first}
 use Rattle.memchr.specs.Find.{IsFirstByte, is_byte}
 use Rattle.nntp_wire.specs.Octets.{is_blank}
 use Rattle.nntp_article.specs.Article.Parts.{Line, is_colon, is_empty, is_name_octet, begins_header, skip_last_blanks}

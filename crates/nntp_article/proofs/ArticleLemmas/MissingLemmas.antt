@@ -1,11 +1,7 @@
 -- The required headers, header by header.
-use Rattle.std.proofs.Common.{◌≡◌, ℕ, Bool, List, ◌∷◌, refl, arith}
-use Rattle.std.proofs.lemmas.Bool.Decides.{nat_tests}
-use Rattle.std.specs.Prelude.{◌&&◌, ◌||◌, not, codes}
+use Rattle.std.{proofs.{Common.{◌≡◌, ℕ, Bool, List, ◌∷◌, refl, arith}, lemmas.Bool.Decides.{nat_tests}}, specs.Prelude.{◌&&◌, ◌||◌, not, codes}}
 use Rattle.std.specs.List.{list_any}
-use Rattle.nntp_article.specs.Article.Parts.{Header, is_named}
-use Rattle.nntp_article.specs.Article.Required.{lacks}
-use Rattle.nntp_article.specs.declared.article.missing_headers.Missing.{Missing}
+use Rattle.nntp_article.specs.{Article.{Parts.{Header, is_named}, Required.{lacks}}, declared.article.missing_headers.Missing.{Missing}}
 
 -- what is missing beside these headers too
 abbrev pub still : Missing → List Header → Missing

@@ -1,13 +1,10 @@
 -- The headers and the parts of lines are determined.
-use Rattle.std.proofs.Common.{◌≡◌, ◌↔◌, ℕ, Bool, true, false, List, [], ◌∷◌, ◌++◌, refl, sym, ◌∙◌, ap, subst, arith, IsTrue}
-use Rattle.std.proofs.lemmas.Bool.{false≢true, and_parts, and_from, not-true}
-use Rattle.std.proofs.lemmas.Bool.Decides.{nat_tests}
-use Rattle.std.specs.Prelude.{not}
-use Rattle.std.specs.List.{list_any, list_all, flat_map, prefix_len, before_first}
+use Rattle.std.proofs.{Common.{◌≡◌, ◌↔◌, ℕ, Bool, true, false, List, [], ◌∷◌, ◌++◌, refl, sym, ◌∙◌, ap, subst, arith, IsTrue}, lemmas.Bool.{false≢true}}
+use Rattle.std.{proofs.lemmas.Bool.{and_parts, and_from, not-true, Decides.{nat_tests}}, specs.{Prelude.{not}, List.{list_any, list_all, flat_map, prefix_len}}}
+use Rattle.std.specs.List.{before_first}
 use Rattle.nntp_wire.specs.Octets.{is_blank}
-use Rattle.nntp_article.specs.Article.Parts.{Line, Header, is_empty, is_colon, is_continuation, is_name_octet, begins_header}
-use Rattle.nntp_article.specs.Article.Parts.{is_header, continues_first, with_line, headers, is_head, head_part, body_part}
-use Rattle.nntp_article.specs.Article.Parts.{AreHeaders, AreParts}
+use Rattle.nntp_article.specs.Article.Parts.{Line, Header, is_empty, is_colon, is_continuation, is_name_octet, begins_header, is_header, continues_first}
+use Rattle.nntp_article.specs.{Article.Parts.{with_line, headers, is_head, head_part, body_part}, Inner.Parts.{AreHeaders, AreParts}}
 use Rattle.nntp_article.proofs.ArticleLemmas.HeadLemmas.{one-more, more, after, more-yes, more-no, after-yes, after-no, headers-cons}
 use Rattle.nntp_article.proofs.ArticleLemmas.PartLemmas.{parts-split}
 

@@ -1,7 +1,6 @@
 -- The first empty line parts an article.
-use Rattle.std.proofs.Common.{◌≡◌, true, false, List, [], ◌∷◌, ◌++◌, refl, sym, ◌∙◌, ap}
-use Rattle.std.specs.List.{list_any}
-use Rattle.nntp_wire.specs.Block.{HasNoEmptyLine}
+use Rattle.std.{proofs.Common.{◌≡◌, true, false, List, [], ◌∷◌, ◌++◌, refl, sym, ◌∙◌, ap}, specs.List.{list_any}}
+use Rattle.nntp_wire.specs.Inner.Block.{HasNoEmptyLine}
 use Rattle.nntp_article.specs.Article.Parts.{Line, is_empty, head_part, body_part}
 
 -- the parts round an empty line with none before it

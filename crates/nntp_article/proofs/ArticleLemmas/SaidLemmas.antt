@@ -1,20 +1,12 @@
 -- What the lines so far leave to say of the id, line by line.
 use Rattle.std.proofs.Common.{Bor, ◌≡◌, ◌≢◌, ℕ, Bool, true, false, List, [], ◌∷◌, ◌++◌, Option, None, Some, refl, sym, ◌∙◌, ap, inl, inr, ◌⊎◌}
-use Rattle.std.proofs.lemmas.Bool.{false≢true, true≢false, or_cases, eqb-true}
-use Rattle.std.specs.Prelude.{◌==◌, not, if◌then◌else◌, codes}
-use Rattle.std.specs.Option.{SomeIff}
+use Rattle.std.{proofs.lemmas.Bool.{false≢true, true≢false, or_cases, eqb-true}, specs.{Prelude.{◌==◌, not, if◌then◌else◌, codes}, Option.{SomeIff}}}
 use Rattle.std.specs.List.{filter, flat_map, concat, prefix_len, after_first}
-use Rattle.nntp_wire.specs.Octets.{is_blank}
-use Rattle.nntp_wire.specs.Words.{words_of}
-use Rattle.nntp_wire.specs.Name.{IsMessageId}
-use Rattle.nntp_wire.specs.Decided.{is_message_id}
-use Rattle.nntp_wire.proofs.DecidedLemmas.{message_id-iff}
-use Rattle.nntp_article.specs.Article.Parts.{Line, Id, Header, is_continuation, is_colon, headers, is_named, only_id, said_id}
-use Rattle.nntp_article.specs.Article.SaidId.{names_id, id_of_words, id_alone, id_with, ids_behind}
-use Rattle.nntp_article.specs.declared.article.said_id.Found.{Found}
-use Rattle.nntp_article.specs.declared.article.said_id.Found.TheVariants.{NoHeader, NoWord, Word, NoId}
-use Rattle.nntp_article.proofs.ArticleLemmas.HeadLemmas.{one-more, more, after, more-yes, more-no, more-all, after-yes, after-no, headers-cons}
-use Rattle.nntp_article.proofs.ArticleLemmas.WordLemmas.{words-lines}
+use Rattle.nntp_wire.{specs.{Octets.{is_blank}, Words.{words_of}, Name.{IsMessageId}, Decided.{is_message_id}}, proofs.DecidedLemmas.{message_id-iff}}
+use Rattle.nntp_article.specs.{Article.Parts.{Line, Id, Header, is_continuation, is_colon, headers, is_named, only_id, said_id}, Inner.SaidId.{names_id}}
+use Rattle.nntp_article.specs.{Inner.SaidId.{id_of_words, id_alone, id_with, ids_behind}, declared.article.said_id.Found.{Found, TheVariants.{NoHeader}}}
+use Rattle.nntp_article.{specs.declared.article.said_id.Found.TheVariants.{NoWord, Word, NoId}, proofs.ArticleLemmas.HeadLemmas.{one-more, more, after}}
+use Rattle.nntp_article.proofs.ArticleLemmas.{HeadLemmas.{more-yes, more-no, more-all, after-yes, after-no, headers-cons}, WordLemmas.{words-lines}}
 use Rattle.nntp_article.proofs.ArticleLemmas.IdLemmas.{content-id}
 
 abbrev is_id_header : Header → Bool

@@ -1,13 +1,8 @@
 -- The words of a content, and of the lines that it stands on.
-use Rattle.std.proofs.Common.{◌≡◌, ℕ, ◌<◌, Bool, true, false, List, [], ◌∷◌, ◌++◌, length, refl, sym, ◌∙◌, ap, arith, append-nil}
-use Rattle.std.proofs.lemmas.Bool.{false≢true}
-use Rattle.std.proofs.lemmas.Bool.Decides.{nat_tests}
-use Rattle.std.proofs.lemmas.List.Splits.{slice_split-cons_yes, length-slice_split}
-use Rattle.std.specs.Prelude.{◌&&◌}
-use Rattle.std.specs.List.{list_all, flat_map, filter, concat, slice_split, onto_first}
-use Rattle.nntp_wire.specs.Octets.{is_blank}
-use Rattle.nntp_wire.specs.Words.{words_of, is_some_octets}
-use Rattle.nntp_wire.proofs.WordLemmas.{words_of-blank}
+use Rattle.std.proofs.{Common.{◌≡◌, ℕ, ◌<◌, Bool, true, false, List, [], ◌∷◌, ◌++◌, length, refl, sym, ◌∙◌, ap, arith, append-nil}, lemmas.Bool.{false≢true}}
+use Rattle.std.{proofs.lemmas.{Bool.Decides.{nat_tests}, List.Splits.{slice_split-cons_yes, length-slice_split}}, specs.{Prelude.{◌&&◌}, List.{list_all}}}
+use Rattle.std.specs.List.{flat_map, filter, concat, slice_split, onto_first}
+use Rattle.nntp_wire.{specs.{Octets.{is_blank}, Words.{words_of, is_some_octets}}, proofs.WordLemmas.{words_of-blank}}
 use Rattle.nntp_article.specs.Article.Parts.{Line, is_continuation, skip_blanks, skip_last_blanks}
 
 -- parts before a place that is split at, and behind it

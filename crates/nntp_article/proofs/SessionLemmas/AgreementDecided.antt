@@ -1,34 +1,21 @@
 -- Whether an answer agrees with a spool can be decided.
-use Rattle.std.proofs.Common.{◌≡◌, ℕ, suc, ◌↔◌, ◌≤◌, Bool, true, false, cond, ◌&&◌, ◌||◌, ◌==◌, IsTrue, Option, None, Some}
-use Rattle.std.proofs.Common.{is_some, IsSome, MatchOption, List, [], ◌∷◌, map, inl, inr, refl, sym, ap, subst, ◌∙◌, arith}
-use Rattle.std.specs.Prelude.{nat_le, IfSome, Contains, option_map}
-use Rattle.std.specs.List.{list_any, list_all}
-use Rattle.std.specs.Ordering.{eq_by_cmp}
-use Rattle.std.specs.Cmp.{IsTotalOrder, nat_cmp_total, eq_by_cmp_equiv}
-use Rattle.std.specs.FinMap.{FinMap, get, len, IsAntisymmetric, nat_cmp-IsAntisymmetric, slice_cmp-IsAntisymmetric}
-use Rattle.std.proofs.lemmas.Bool.{and_parts, and_from, leb-true, le-leb, or_cases, or_left, or_right, cases_lt, cases_eq, true≢false}
-use Rattle.std.proofs.lemmas.Map.Views.{Contains-from_any, list_any-from_Contains, tells_apart}
-use Rattle.std.proofs.lemmas.Map.Lookups.{exact_unsigned, exact_bytes, CmpEqualImpliesEq}
-use Rattle.std.proofs.lemmas.List.Elements.{recursion_from_All, All-from_recursion}
-use Rattle.std.specs.declared.cmp.Ordering.{Ordering}
-use Rattle.std.specs.Cmp.Lexicographic.{nat_list_cmp_total}
+use Rattle.std.proofs.Common.{◌≡◌, ℕ, suc, ◌↔◌, ◌≤◌, Bool, true, false, cond, ◌&&◌, ◌||◌, ◌==◌, IsTrue, Option, None, Some, is_some, IsSome, MatchOption, List}
+use Rattle.std.proofs.{Common.{[], ◌∷◌, map, inl, inr, refl, sym, ap, subst, ◌∙◌, arith}, lemmas.Bool.{and_parts, and_from, leb-true, le-leb, or_cases}}
+use Rattle.std.proofs.lemmas.{Bool.{or_left, or_right, cases_lt, cases_eq, true≢false}, Map.Views.{Contains-from_any, list_any-from_Contains, tells_apart}}
+use Rattle.std.proofs.lemmas.{Map.Lookups.{exact_unsigned, exact_bytes, CmpEqualImpliesEq}, List.Elements.{recursion_from_All, All-from_recursion}}
+use Rattle.std.specs.{Prelude.{nat_le, IfSome, Contains, option_map}, List.{list_any, list_all}, Ordering.{eq_by_cmp}, Cmp.{IsTotalOrder, nat_cmp_total}}
+use Rattle.std.specs.{Cmp.{eq_by_cmp_equiv, Lexicographic.{nat_list_cmp_total}}, FinMap.{FinMap, get, len, IsAntisymmetric, nat_cmp-IsAntisymmetric}}
+use Rattle.std.specs.{FinMap.{slice_cmp-IsAntisymmetric}, declared.cmp.Ordering.{Ordering}}
 use Rattle.nntp_article.specs.Session.Spool.{Spool, Numbers, IsNumber, numbers, IsNextAbove, IsNextBelow, NoneAbove, NoneBelow, Lists, IsInRange, text_of}
-use Rattle.nntp_article.specs.declared.session.profile.Profile.{Profile}
-use Rattle.nntp_article.specs.Session.Machine.{State, selected_numbers, AreEnds, Bound, is_generic, CodeAgrees, NumberAgrees, Agrees, ActivesAgree, MayAnswer, Run, fits, after}
-use Rattle.nntp_article.proofs.SessionLemmas.FiniteMapsDecided.{Dec, dec_true, dec_le, dec_both, dec_three, dec_by, dec_none}
-use Rattle.nntp_article.proofs.SessionLemmas.FiniteMapsDecided.{dec_some_text, each_key, dec_some, dec_option, dec_lists}
-use Rattle.nntp_article.proofs.SessionLemmas.FiniteMapsDecided.{dec_unless, dec_to, passes, fails, dec_all}
+use Rattle.nntp_article.specs.Session.Machine.{State, selected_numbers, AreEnds, Bound, is_generic, CodeAgrees, NumberAgrees, Agrees, ActivesAgree, MayAnswer}
+use Rattle.nntp_article.{specs.{Session.Machine.{Run, fits, after}, declared.session.profile.Profile.{Profile}}, proofs.SessionLemmas.FiniteMapsDecided.{Dec}}
+use Rattle.nntp_article.proofs.SessionLemmas.FiniteMapsDecided.{dec_true, dec_le, dec_both, dec_three, dec_by, dec_none, dec_some_text, each_key, dec_some}
+use Rattle.nntp_article.proofs.SessionLemmas.FiniteMapsDecided.{dec_option, dec_lists, dec_unless, dec_to, passes, fails, dec_all}
 use Rattle.nntp_wire.specs.Answer.{Success, Asked, Response, greeting, to, group_is, numbers_are, sends, active_are, plain}
-use Rattle.nntp_wire.specs.declared.water_marks.WaterMarks.{WaterMarks}
-use Rattle.nntp_wire.specs.declared.marks.Marks.{Marks}
-use Rattle.nntp_wire.specs.declared.marks.Marks.TheVariants.{Lenient, Strict}
-use Rattle.nntp_wire.specs.declared.range.Range.{Range}
-use Rattle.nntp_wire.specs.Listing.{ActiveValue, listed_numbers, active_groups}
-use Rattle.nntp_wire.specs.Wildmat.{MatchesName}
-use Rattle.nntp_wire.specs.Decided.{matches_name}
-use Rattle.nntp_wire.proofs.DecidedLemmas.{matches_name-iff}
-use Rattle.nntp_wire.specs.Command.{Target, Request, by_id, by_number, current, capabilities, mode_reader, quit, opaque, ill_formed, group, list_group, next, last, retrieve, list_active}
-use Rattle.nntp_wire.proofs.OptionLemmas.{none_of}
+use Rattle.nntp_wire.specs.declared.{water_marks.WaterMarks.{WaterMarks}, marks.Marks.{Marks, TheVariants.{Lenient, Strict}}, range.Range.{Range}}
+use Rattle.nntp_wire.specs.{Listing.{ActiveValue, listed_numbers, active_groups}, Wildmat.{MatchesName}, Decided.{matches_name}, Command.{Target, Request}}
+use Rattle.nntp_wire.specs.Command.{by_id, by_number, current, capabilities, mode_reader, quit, opaque, ill_formed, group, list_group, next, last, retrieve}
+use Rattle.nntp_wire.{specs.Command.{list_active}, proofs.{DecidedLemmas.{matches_name-iff}, OptionLemmas.{none_of}}}
 
 each_number : (N : Numbers) (p : ℕ → Bool) → Dec ((n : ℕ) → IsNumber N n → IsTrue (p n))
 each_number N p = each_key nat_cmp_total nat_cmp-IsAntisymmetric p N

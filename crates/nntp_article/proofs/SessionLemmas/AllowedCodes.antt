@@ -1,17 +1,10 @@
 -- The allowed codes fit.
 use Rattle.std.proofs.Common.{◌≡◌, ℕ, Bool, true, false, ◌==◌, IsTrue, IsFalse, Option, None, Some, List, [], ◌∷◌, inl, inr, refl, sym, subst}
-use Rattle.std.specs.Prelude.{⊤}
-use Rattle.std.specs.FinMap.{FinMap}
-use Rattle.std.specs.Ordering.{nat_cmp}
-use Rattle.std.specs.Cmp.Lexicographic.{slice_cmp}
-use Rattle.std.proofs.lemmas.Bool.{or_cases, eqb-true, true≢false}
-use Rattle.nntp_wire.specs.Answer.{Asked, greeting, to, plain}
-use Rattle.nntp_wire.specs.declared.command.What.{What}
-use Rattle.nntp_wire.specs.declared.command.What.TheVariants.{Article, Head, Body, Stat}
-use Rattle.nntp_wire.specs.Command.{Target, by_id, by_number, current, capabilities, mode_reader, quit, opaque, ill_formed, group, list_group, next, last, retrieve, list_active}
-use Rattle.nntp_article.specs.Session.Spool.{Name}
-use Rattle.nntp_article.specs.Session.Machine.{Visible, is_one_of, fits}
-use Rattle.nntp_article.specs.Session.Misfit.{allowed_codes, is_success}
+use Rattle.std.{proofs.lemmas.Bool.{or_cases, eqb-true, true≢false}, specs.{Prelude.{⊤}, FinMap.{FinMap}, Ordering.{nat_cmp}, Cmp.Lexicographic.{slice_cmp}}}
+use Rattle.nntp_wire.specs.{Answer.{Asked, greeting, to, plain}, declared.command.What.{What, TheVariants.{Article, Head, Body, Stat}}, Command.{Target, by_id}}
+use Rattle.nntp_wire.specs.Command.{by_number, current, capabilities, mode_reader, quit, opaque, ill_formed, group, list_group, next, last, retrieve}
+use Rattle.nntp_wire.specs.Command.{list_active}
+use Rattle.nntp_article.specs.{Session.{Spool.{Name}, Machine.{Visible, is_one_of, fits}, Misfit.{allowed_codes}}, Inner.Misfit.{is_success}}
 use Rattle.nntp_article.specs.declared.session.profile.Profile.{Profile}
 
 -- each of the codes has the property

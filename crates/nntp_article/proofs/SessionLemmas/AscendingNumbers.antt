@@ -1,12 +1,7 @@
 -- Each number is greater than all before it exactly if it is greater than the one before it.
-use Rattle.std.proofs.Common.{◌≡◌, ℕ, true, List, [], ◌∷◌, None, Some, refl, arith}
-use Rattle.std.specs.Prelude.{◌&&◌, nat_lt}
-use Rattle.std.specs.List.{list_all}
-use Rattle.std.proofs.lemmas.Bool.{and_from, and_parts}
-use Rattle.std.proofs.lemmas.Bool.Decides.{nat_tests}
-use Rattle.nntp_article.specs.Session.Machine.{is_ascending}
-use Rattle.nntp_article.specs.Session.Ascending.{ascends_from}
-use Rattle.std.specs.Cmp.{both_ways}
+use Rattle.std.proofs.{Common.{◌≡◌, ℕ, true, List, [], ◌∷◌, None, Some, refl, arith}, lemmas.Bool.{and_from, and_parts, Decides.{nat_tests}}}
+use Rattle.std.specs.{Prelude.{◌&&◌, nat_lt}, List.{list_all}, Cmp.{both_ways}}
+use Rattle.nntp_article.specs.{Session.Machine.{is_ascending}, Inner.Ascending.{ascends_from}}
 
 all_above : (m n : ℕ) (ns : List ℕ) → nat_lt m n ≡ true → list_all (λ k. nat_lt n k) ns ≡ true → list_all (λ k. nat_lt m k) ns ≡ true
 all_above m n [] lt h = refl

@@ -1,12 +1,8 @@
 -- A run closes the connection with its last answer, if at all (RFC 3977, sections 3.2.1, 5.1, 5.3 and 5.4).
 use Rattle.std.proofs.Common.{◌≡◌, false, ◌||◌, ℕ, List, [], ◌∷◌, refl, sym, ap, ◌∙◌}
-use Rattle.nntp_wire.specs.Command.{mode_reader, quit}
-use Rattle.nntp_wire.specs.Answer.{Asked, Response, greeting, to, group_is, numbers_are, sends, active_are, plain}
-use Rattle.nntp_wire.specs.declared.water_marks.WaterMarks.{WaterMarks}
-use Rattle.nntp_wire.specs.Session.{closes, StaysOpen}
-use Rattle.nntp_article.specs.Session.Spool.{Spool}
-use Rattle.nntp_article.specs.declared.session.profile.Profile.{Profile}
-use Rattle.nntp_article.specs.Session.Machine.{State, Visible, visible_after, Run}
+use Rattle.nntp_wire.specs.{Command.{mode_reader, quit}, Answer.{Asked, Response, greeting, to, group_is, numbers_are, sends, active_are, plain}}
+use Rattle.nntp_wire.specs.{declared.water_marks.WaterMarks.{WaterMarks}, Session.{closes}, Inner.Session.{StaysOpen}}
+use Rattle.nntp_article.specs.{Session.{Spool.{Spool}, Machine.{State, Visible, visible_after, Run}}, declared.session.profile.Profile.{Profile}}
 
 group-stays : (asked : Asked) (m : WaterMarks) (name : List ℕ) → closes asked (group_is m name) ≡ false
 group-stays greeting m name = refl

@@ -1,19 +1,10 @@
 -- Answers of small sessions: which of them fit, and what they leave of the visible state.
-use Rattle.std.proofs.Common.{◌≡◌, ℕ, Bool, true, false, ◌&&◌, List, [], ◌∷◌, Option, None, Some, refl, ap}
-use Rattle.std.specs.Prelude.{codes, nat_le, unwrap_or}
-use Rattle.std.specs.Cmp.Lexicographic.{slice_cmp}
-use Rattle.std.specs.Ordering.{nat_cmp}
-use Rattle.std.specs.FinMap.{FinMap, empty, get, insert}
-use Rattle.std.specs.Char.{encode_utf8}
-use Rattle.std.specs.Str.{chars, is_utf8}
+use Rattle.std.{proofs.Common.{◌≡◌, ℕ, Bool, true, false, ◌&&◌, List, [], ◌∷◌, Option, None, Some, refl, ap}, specs.Prelude.{codes, nat_le, unwrap_or}}
+use Rattle.std.specs.{Cmp.Lexicographic.{slice_cmp}, Ordering.{nat_cmp}, FinMap.{FinMap, empty, get, insert}, Char.{encode_utf8}, Str.{chars, is_utf8}}
 use Rattle.nntp_wire.specs.Command.{by_id, by_number, current, quit, opaque, ill_formed, group, list_group, retrieve, list_active, mode_reader, next, from_one}
 use Rattle.nntp_wire.specs.Answer.{Asked, greeting, to, Response, group_is, numbers_are, sends, active_are, plain}
-use Rattle.nntp_wire.specs.declared.command.What.TheVariants.{Article, Head, Body, Stat}
-use Rattle.nntp_article.specs.Article.Parts.{Line}
-use Rattle.nntp_wire.specs.Decided.{matches_name}
-use Rattle.nntp_article.specs.declared.session.profile.Profile.{Profile}
-use Rattle.nntp_wire.specs.declared.marks.Marks.TheVariants.{Lenient}
-use Rattle.nntp_article.specs.Session.Machine.{Visible, start, fits, visible_after}
+use Rattle.nntp_wire.specs.{declared.{command.What.TheVariants.{Article, Head, Body, Stat}, marks.Marks.TheVariants.{Lenient}}, Decided.{matches_name}}
+use Rattle.nntp_article.specs.{Article.Parts.{Line}, declared.session.profile.Profile.{Profile}, Session.Machine.{Visible, start, fits, visible_after}}
 
 abbrev reader : Profile
 reader = record { limit = 2147483647; marks = Lenient }

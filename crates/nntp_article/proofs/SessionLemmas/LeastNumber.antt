@@ -1,11 +1,7 @@
 -- The first key of a map from numbers is its least.
-use Rattle.std.proofs.Common.{◌≡◌, ℕ, ◌<◌, ◌≤◌, T, None, MatchOption, IsSome, List, [], ◌∷◌, map, refl, arith}
-use Rattle.std.specs.Prelude.{slice_get}
-use Rattle.std.specs.Ordering.{nat_cmp}
-use Rattle.std.specs.Cmp.{unsigned_tied}
-use Rattle.std.specs.FinMap.{FinMap, get, find, is_sorted, entries, entries_sorted, get-entries, keys}
-use Rattle.std.specs.FinMap.Entries.{below_all}
-use Rattle.std.proofs.lemmas.Bool.Decides.{nat_tests}
+use Rattle.std.proofs.{Common.{◌≡◌, ℕ, ◌<◌, ◌≤◌, T, None, MatchOption, IsSome, List, [], ◌∷◌, map, refl, arith}, lemmas.Bool.Decides.{nat_tests}}
+use Rattle.std.specs.{Prelude.{slice_get}, Ordering.{nat_cmp}, Cmp.{unsigned_tied}, FinMap.{FinMap, get, find, is_sorted, entries, entries_sorted, get-entries}}
+use Rattle.std.specs.FinMap.{keys, Entries.{below_all}}
 
 -- a number below all keys is below each that is found
 below_found : {X : Type 0} (x : ℕ) (es : List (ℕ × X)) (m : ℕ) → T (below_all nat_cmp x es) → IsSome (find nat_cmp m es) → x < m

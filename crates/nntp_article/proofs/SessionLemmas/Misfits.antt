@@ -1,30 +1,18 @@
 -- An answer fits exactly if there is no reason why it doesn't.
 use Rattle.std.proofs.Common.{◌≡◌, ℕ, ◌↔◌, Bool, true, false, not, ◌&&◌, ◌||◌, ◌==◌, IsTrue, Option, None, Some, is_some, List, [], ◌∷◌, refl, sym, ap, ◌∙◌}
-use Rattle.std.specs.Prelude.{◌+◌, ◌-◌, nat_le, nat_lt, is_none, unwrap_or, if◌then◌else◌}
-use Rattle.std.specs.List.{list_any, list_all}
-use Rattle.std.specs.Option.{option_map_or, option_or}
-use Rattle.std.specs.FinMap.{get}
-use Rattle.std.proofs.lemmas.Cmp.{nat_list_eq_equiv}
+use Rattle.std.{proofs.lemmas.Cmp.{nat_list_eq_equiv}, specs.{Prelude.{◌+◌, ◌-◌, nat_le, nat_lt, is_none, unwrap_or, if◌then◌else◌}, List.{list_any, list_all}}}
+use Rattle.std.specs.{Option.{option_map_or, option_or}, FinMap.{get}}
 use Rattle.nntp_wire.specs.Answer.{Success, Asked, Response, greeting, to, group_is, numbers_are, sends, active_are, plain, success_code}
-use Rattle.nntp_wire.specs.declared.water_marks.WaterMarks.{WaterMarks}
-use Rattle.nntp_wire.specs.declared.range.Range.{Range}
-use Rattle.nntp_wire.specs.declared.command.What.{What}
-use Rattle.nntp_wire.specs.declared.command.What.TheVariants.{Article, Head, Body, Stat}
-use Rattle.nntp_wire.specs.Listing.{ActiveValue, listed_numbers, active_groups}
-use Rattle.nntp_wire.specs.Decided.{matches_name}
-use Rattle.nntp_wire.specs.Command.{Target, by_id, by_number, current, group, list_group, next, last, retrieve, list_active}
-use Rattle.nntp_wire.specs.Reason.{unless}
-use Rattle.nntp_wire.proofs.Reasons.{none_unless, none_two, none_three, none_four, none_each, none_by_test, and_true}
-use Rattle.nntp_article.specs.Article.Parts.{Line, Id, is_empty, is_head, said_id, head_part}
-use Rattle.nntp_article.specs.Session.Spool.{Name}
-use Rattle.nntp_article.specs.Session.Machine.{Visible, is_same, is_generic, is_greeting, is_article_number, are_zeros, is_in_range, code_fits}
-use Rattle.nntp_article.specs.Session.Machine.{marks_fit, head_fits, active_fits, names_differ, number_fits, fits}
-use Rattle.nntp_article.specs.Session.Ascending.{ascends_from}
-use Rattle.nntp_article.specs.Session.Misfit.{Misfit, no_head, listed_twice, name_misfit, marks_misfit, step_misfit, order_misfit, listed_misfit, selected_misfit}
-use Rattle.nntp_article.specs.Session.Misfit.{target_misfit, said_misfit, head_misfit, active_misfit, twice_misfit, step_sent_misfit, code_misfit, misfit}
-use Rattle.nntp_article.specs.Session.MisfitView.{why_if}
-use Rattle.nntp_article.specs.declared.session.misfit.Misfit.{Misfit as Reason}
-use Rattle.nntp_article.specs.declared.session.profile.Profile.{Profile}
+use Rattle.nntp_wire.specs.declared.{water_marks.WaterMarks.{WaterMarks}, range.Range.{Range}, command.What.{What, TheVariants.{Article, Head, Body, Stat}}}
+use Rattle.nntp_wire.specs.{Listing.{ActiveValue, listed_numbers, active_groups}, Decided.{matches_name}, Command.{Target, by_id, by_number, current, group}}
+use Rattle.nntp_wire.{specs.{Command.{list_group, next, last, retrieve, list_active}, Reason.{unless}}, proofs.Reasons.{none_unless, none_two, none_three}}
+use Rattle.nntp_wire.proofs.Reasons.{none_four, none_each, none_by_test, and_true}
+use Rattle.nntp_article.specs.{Article.Parts.{Line, Id, is_empty, is_head, said_id, head_part}, Session.{Spool.{Name}, Machine.{Visible, is_same, is_generic}}}
+use Rattle.nntp_article.specs.Session.Machine.{is_greeting, is_article_number, are_zeros, is_in_range, code_fits, marks_fit, head_fits, active_fits}
+use Rattle.nntp_article.specs.Session.{Machine.{names_differ, number_fits, fits}, Misfit.{Misfit, no_head, listed_twice, name_misfit, marks_misfit}}
+use Rattle.nntp_article.specs.Session.Misfit.{step_misfit, order_misfit, listed_misfit, selected_misfit, target_misfit, said_misfit, head_misfit, active_misfit}
+use Rattle.nntp_article.specs.{Session.Misfit.{twice_misfit, step_sent_misfit, code_misfit, misfit}, Inner.{Ascending.{ascends_from}, MisfitView.{why_if}}}
+use Rattle.nntp_article.specs.declared.session.{misfit.Misfit.{Misfit as Reason}, profile.Profile.{Profile}}
 use Rattle.nntp_article.proofs.SessionLemmas.AscendingNumbers.{ascends-ascending}
 
 -- ---- rows

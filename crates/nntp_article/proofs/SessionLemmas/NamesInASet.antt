@@ -1,21 +1,11 @@
 -- Names that are put into a set, one after the other.
-use Rattle.std.proofs.Common.{◌≡◌, Bool, true, false, not, List, [], ◌∷◌, Some, map, refl, sym, ap, ◌∙◌}
-use Rattle.std.specs.Prelude.{◌||◌, if◌then◌else◌}
-use Rattle.std.specs.Borrow.{Bor}
-use Rattle.std.specs.declared.cmp.Ordering.{Ordering}
-use Rattle.std.specs.Ordering.{nat_cmp, is_eq}
-use Rattle.std.specs.Cmp.Lexicographic.{slice_cmp}
-use Rattle.std.specs.FinMap as finite
-use Rattle.std.specs.List.{list_any}
-use Rattle.std.specs.BTreeSet.{insert_key}
-use Rattle.std.proofs.lemmas.Bool.{true≢false}
-use Rattle.std.proofs.lemmas.Map.Text.{is_eq-slice_cmp}
+use Rattle.std.proofs.{Common.{◌≡◌, Bool, true, false, not, List, [], ◌∷◌, Some, map, refl, sym, ap, ◌∙◌}, lemmas.Bool.{true≢false}}
+use Rattle.std.{proofs.lemmas.Map.Text.{is_eq-slice_cmp}, specs.{Prelude.{◌||◌, if◌then◌else◌}, Borrow.{Bor}, declared.cmp.Ordering.{Ordering}}}
+use Rattle.std.specs.{Ordering.{nat_cmp, is_eq}, Cmp.Lexicographic.{slice_cmp}, List.{list_any}, BTreeSet.{insert_key}}
 use Rattle.nntp_wire.specs.Listing.{ActiveValue}
-use Rattle.nntp_article.specs.Session.Spool.{Name}
-use Rattle.nntp_article.specs.Session.Machine.{is_same}
-use Rattle.nntp_article.specs.Session.Misfit.{listed_twice, twice_misfit}
-use Rattle.nntp_article.proofs.SessionLemmas.SetKeys.{any-insert_key}
+use Rattle.nntp_article.{specs.Session.{Spool.{Name}, Machine.{is_same}, Misfit.{listed_twice, twice_misfit}}, proofs.SessionLemmas.SetKeys.{any-insert_key}}
 use Rattle.nntp_article.proofs.SessionLemmas.Misfits.{twice_by_names}
+use Rattle.std.specs.FinMap as finite
 
 -- a name that wasn't added was there
 pub taken : (added b : Bool) → added ≡ not b → added ≡ false → b ≡ true

@@ -1,32 +1,20 @@
 -- What a reason names is at fault.
-use Rattle.std.proofs.Common.{◌≡◌, ℕ, ◌≤◌, Bool, true, false, not, ◌&&◌, ◌||◌, ◌==◌, Option, None}
-use Rattle.std.proofs.Common.{Some, is_some, MatchOption, List, [], ◌∷◌, ◌++◌, map, ◌⊎◌, inl, inr, refl, sym, ap, subst, arith, ◌∙◌}
-use Rattle.std.specs.Prelude.{◌+◌, ◌-◌, nat_le, nat_lt, unwrap_or, option_map, if◌then◌else◌, IfSome}
-use Rattle.std.specs.List.{list_any}
-use Rattle.std.specs.Option.{option_map_or, option_or}
-use Rattle.std.specs.FinMap.{get}
-use Rattle.std.specs.Cmp.Lexicographic.{bytes_decides}
-use Rattle.std.proofs.lemmas.Bool.{true≢false, or_cases, leb-false, ltb-false}
-use Rattle.std.proofs.lemmas.Option.{IfSome_then}
+use Rattle.std.proofs.Common.{◌≡◌, ℕ, ◌≤◌, Bool, true, false, not, ◌&&◌, ◌||◌, ◌==◌, Option, None, Some, is_some, MatchOption, List, [], ◌∷◌, ◌++◌, map, ◌⊎◌}
+use Rattle.std.proofs.{Common.{inl, inr, refl, sym, ap, subst, arith, ◌∙◌}, lemmas.{Bool.{true≢false, or_cases, leb-false, ltb-false}, Option.{IfSome_then}}}
+use Rattle.std.specs.{Prelude.{◌+◌, ◌-◌, nat_le, nat_lt, unwrap_or, option_map, if◌then◌else◌, IfSome}, List.{list_any}, Option.{option_map_or, option_or}}
+use Rattle.std.specs.{FinMap.{get}, Cmp.Lexicographic.{bytes_decides}}
 use Rattle.nntp_wire.specs.Answer.{Success, Asked, Response, greeting, to, group_is, numbers_are, sends, active_are, plain, success_code}
-use Rattle.nntp_wire.specs.declared.water_marks.WaterMarks.{WaterMarks}
-use Rattle.nntp_wire.specs.declared.command.What.{What}
-use Rattle.nntp_wire.specs.declared.command.What.TheVariants.{Article, Head, Body, Stat}
-use Rattle.nntp_wire.specs.Listing.{ActiveValue, listed_numbers, active_groups}
-use Rattle.nntp_wire.specs.Decided.{matches_name}
-use Rattle.nntp_wire.specs.Command.{Target, by_id, by_number, current, group, list_group, next, last, retrieve, list_active}
-use Rattle.nntp_wire.specs.Reason.{unless, first}
-use Rattle.nntp_wire.proofs.Reasons.{so_unless, so_first, so_each}
-use Rattle.nntp_article.specs.Article.Parts.{Line, Id, is_empty, is_head, said_id, head_part}
-use Rattle.nntp_article.specs.Session.Spool.{Name}
-use Rattle.nntp_article.specs.Session.Machine.{Visible, is_same, is_generic, is_greeting, is_article_number, are_zeros, is_in_range, code_fits}
-use Rattle.nntp_article.specs.Session.Misfit.{Misfit, wrong_code, wrong_name, wrong_number, wrong_id, below_low, wrong_marks, beyond_limit, not_above, beyond_range, unmatched}
-use Rattle.nntp_article.specs.Session.Misfit.{listed_twice, no_head, other_id, name_misfit, marks_misfit, step_misfit, order_misfit, listed_misfit}
-use Rattle.nntp_article.specs.Session.Misfit.{selected_misfit, target_misfit, said_misfit, head_misfit, active_misfit, twice_misfit, step_sent_misfit}
-use Rattle.nntp_article.specs.Session.Misfit.{code_misfit, misfit, allowed_codes, answered_code, marked_by, numbers_of, is_outside, is_unmatched, AreNeighbours, IsAbove}
-use Rattle.nntp_article.specs.Session.Misfit.{asked_group, asked_number, asked_id, sent_by, sent_head, names_of, IsTwice}
-use Rattle.nntp_article.specs.Session.Misfit.{are_out_of_order, have_no_room, is_out_of_order, has_wrong_marks, has_parts, lacks_parts}
-use Rattle.nntp_article.specs.declared.session.profile.Profile.{Profile}
+use Rattle.nntp_wire.specs.{declared.{water_marks.WaterMarks.{WaterMarks}, command.What.{What, TheVariants.{Article, Head, Body, Stat}}}, Listing.{ActiveValue}}
+use Rattle.nntp_wire.specs.{Listing.{listed_numbers, active_groups}, Decided.{matches_name}, Command.{Target, by_id, by_number, current, group, list_group}}
+use Rattle.nntp_wire.{specs.{Command.{next, last, retrieve, list_active}, Reason.{unless, first}}, proofs.Reasons.{so_unless, so_first, so_each}}
+use Rattle.nntp_article.specs.{Article.Parts.{Line, Id, is_empty, is_head, said_id, head_part}, Session.{Spool.{Name}, Machine.{Visible, is_same, is_generic}}}
+use Rattle.nntp_article.specs.Session.{Machine.{is_greeting, is_article_number, are_zeros, is_in_range, code_fits}, Misfit.{Misfit, wrong_code, wrong_name}}
+use Rattle.nntp_article.specs.Session.Misfit.{wrong_number, wrong_id, below_low, wrong_marks, beyond_limit, not_above, beyond_range, unmatched, listed_twice}
+use Rattle.nntp_article.specs.Session.Misfit.{no_head, other_id, name_misfit, marks_misfit, step_misfit, order_misfit, listed_misfit, selected_misfit}
+use Rattle.nntp_article.specs.Session.Misfit.{target_misfit, said_misfit, head_misfit, active_misfit, twice_misfit, step_sent_misfit, code_misfit, misfit}
+use Rattle.nntp_article.specs.{Session.Misfit.{allowed_codes, answered_code}, Inner.Misfit.{marked_by, numbers_of, is_outside, is_unmatched, AreNeighbours}}
+use Rattle.nntp_article.specs.Inner.Misfit.{IsAbove, asked_group, asked_number, asked_id, sent_by, sent_head, names_of, IsTwice, are_out_of_order, have_no_room}
+use Rattle.nntp_article.specs.{Inner.Misfit.{is_out_of_order, has_wrong_marks, has_parts, lacks_parts}, declared.session.profile.Profile.{Profile}}
 
 so_if : (Q : Misfit → Type 0) (b : Bool) (o : Option Misfit) → (b ≡ false → IfSome o Q) → IfSome (if b then None else o) Q
 so_if Q true o p = tt

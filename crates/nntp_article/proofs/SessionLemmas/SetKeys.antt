@@ -1,11 +1,6 @@
 -- A test over the keys of a set, once one was put among them.
-use Rattle.std.proofs.Common.{◌≡◌, Bool, true, false, List, [], ◌∷◌, refl, ap, ◌∙◌}
-use Rattle.std.specs.declared.cmp.Ordering.{Ordering}
-use Rattle.std.specs.declared.cmp.Ordering.TheVariants.{Less, Equal, Greater}
-use Rattle.std.specs.Prelude.{◌||◌}
-use Rattle.std.specs.Ordering.{match_ordering}
-use Rattle.std.specs.List.{list_any}
-use Rattle.std.specs.BTreeSet.{insert_key}
+use Rattle.std.{proofs.Common.{◌≡◌, Bool, true, false, List, [], ◌∷◌, refl, ap, ◌∙◌}, specs.declared.cmp.Ordering.{Ordering, TheVariants.{Less, Equal}}}
+use Rattle.std.specs.{declared.cmp.Ordering.TheVariants.{Greater}, Prelude.{◌||◌}, Ordering.{match_ordering}, List.{list_any}, BTreeSet.{insert_key}}
 
 pub or_swap : (a b c : Bool) → (a || (b || c)) ≡ (b || (a || c))
 or_swap true true c = refl

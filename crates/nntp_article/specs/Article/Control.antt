@@ -1,9 +1,6 @@
 -- Control messages (RFC 1036, section 3).
-use Rattle.std.specs.Prelude.{ℕ, Bool, true, false, ◌&&◌, if◌then◌else◌, List, [], ◌∷◌, map, codes}
-use Rattle.std.specs.List.{filter}
-use Rattle.std.specs.Str.{bytes_eq}
-use Rattle.nntp_wire.specs.Words.{words_of}
-use Rattle.nntp_wire.specs.Decided.{is_message_id, is_group_name}
+use Rattle.std.specs.{Prelude.{ℕ, Bool, true, false, ◌&&◌, if◌then◌else◌, List, [], ◌∷◌, map, codes}, List.{filter}, Str.{bytes_eq}}
+use Rattle.nntp_wire.specs.{Words.{words_of}, Decided.{is_message_id, is_group_name}}
 use Rattle.nntp_article.specs.Article.Parts.{Line, Id, Header, headers, is_named, content_of}
 
 -- what a Control header says

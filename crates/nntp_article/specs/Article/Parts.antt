@@ -1,9 +1,7 @@
 -- Articles: their two parts, the headers of a head, and the id that a head says (RFC 3977, section 3.6; RFC 1036, section 2).
-use Rattle.std.specs.Prelude.{ℕ, ◌≡◌, Bool, true, false, not, ◌&&◌, ◌||◌, ◌==◌, nat_le, if◌then◌else◌, List, [], ◌∷◌, ◌++◌, Option, None, Some, codes}
-use Rattle.std.specs.List.{list_any, list_all, filter, concat, flat_map, before_first, after_first}
-use Rattle.nntp_wire.specs.Octets.{is_blank, is_clean}
-use Rattle.nntp_wire.specs.Words.{is_same_word}
-use Rattle.nntp_wire.specs.Decided.{is_message_id}
+use Rattle.std.specs.{Prelude.{ℕ, Bool, true, false, not, ◌&&◌, ◌==◌, nat_le, if◌then◌else◌, List, [], ◌∷◌, ◌++◌, Option, None, Some, codes}, List.{list_any}}
+use Rattle.std.specs.List.{list_all, filter, concat, before_first, after_first}
+use Rattle.nntp_wire.specs.{Octets.{is_blank, is_clean}, Words.{is_same_word}, Decided.{is_message_id}}
 
 -- a line without its CRLF
 abbrev pub Line : Type 0
@@ -31,11 +29,6 @@ body_part [] = []
 body_part ([] ∷ lines) = lines
 body_part ((c ∷ cs) ∷ lines) = body_part lines
 
--- the lines are the head, an empty line and the body, and the head has no empty line
-pub record AreParts (lines head body : List Line) : Type 0 where
-  pub whole : lines ≡ head ++ [] ∷ body
-  pub none : list_any is_empty head ≡ false
-
 -- ---- headers
 
 -- a header: its first line, and the lines that continue it
@@ -58,10 +51,6 @@ is_name_octet c = nat_le 0x21 c && nat_le c 0x7E && not (is_colon c)
 abbrev pub begins_header : Line → Bool
 begins_header line =
     list_any is_colon line && not (is_empty (before_first is_colon line)) && list_all is_name_octet (before_first is_colon line)
-
--- a line that may stand in a head: it begins a header or continues one
-abbrev pub is_head_line : Line → Bool
-is_head_line line = is_continuation line || begins_header line
 
 -- a first line that begins a header, and continuation lines
 abbrev pub is_header : Header → Bool
@@ -91,12 +80,6 @@ is_head lines = not (is_empty (headers lines)) && list_all is_header (headers li
 -- the same of lines that hold no NUL, CR or LF
 abbrev pub is_clean_head : List Line → Bool
 is_clean_head lines = list_all is_clean lines && is_head lines
-
--- the lines are these headers, one or more, one after the other
-pub record AreHeaders (lines : List Line) (found : List Header) : Type 0 where
-  pub some : is_empty found ≡ false
-  pub each : list_all is_header found ≡ true
-  pub whole : lines ≡ flat_map (λ header. header) found
 
 -- ---- what a header says
 

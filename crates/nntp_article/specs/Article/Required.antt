@@ -1,8 +1,6 @@
 -- The headers that each article has to have (RFC 1036, section 2.1).
-use Rattle.std.specs.Prelude.{ℕ, Bool, not, List, codes}
-use Rattle.std.specs.List.{list_any}
-use Rattle.nntp_article.specs.Article.Parts.{Line, Header, headers, is_named}
-use Rattle.nntp_article.specs.declared.article.missing_headers.Missing.{Missing}
+use Rattle.std.specs.{Prelude.{ℕ, Bool, not, List, codes}, List.{list_any}}
+use Rattle.nntp_article.specs.{Article.Parts.{Line, Header, headers, is_named}, declared.article.missing_headers.Missing.{Missing}}
 
 -- no header has this name
 abbrev pub lacks : List Header → List ℕ → Bool

@@ -1,10 +1,7 @@
 -- A spool explains what client and server sent (RFC 3977, sections 3.1 and 3.5).
 use Rattle.std.specs.Prelude.{◌≡◌, ◌≢◌, ℕ, ◌+◌, List, [], ◌++◌, length, ⊤}
-use Rattle.nntp_wire.specs.Answer.{Response}
-use Rattle.nntp_wire.specs.Session.{prompts_of, Spelled}
-use Rattle.nntp_article.specs.Session.Spool.{Spool, IsSpool}
-use Rattle.nntp_article.specs.declared.session.profile.Profile.{Profile}
-use Rattle.nntp_article.specs.Session.Machine.{Run, start}
+use Rattle.nntp_wire.specs.{Answer.{Response}, Session.{prompts_of, Spelled}}
+use Rattle.nntp_article.specs.{Session.{Spool.{Spool, IsSpool}, Machine.{Run, start}}, declared.session.profile.Profile.{Profile}}
 
 -- the spool permits the first n answers, and the server's octets go on with the rest
 pub record ExplainsUpTo (profile : Profile) (S : Spool) (client server : List ℕ) (n : ℕ) (rest : List ℕ) : Type 0 where

@@ -1,7 +1,5 @@
 -- What sessions are judged by.
-use Rattle.nntp_wire.specs.Limit.{greatest}
-use Rattle.nntp_wire.specs.declared.limit.Limit.{Limit}
-use Rattle.nntp_wire.specs.declared.marks.Marks.{Marks}
+use Rattle.nntp_wire.specs.{Limit.{greatest}, declared.{limit.Limit.{Limit}, marks.Marks.{Marks}}}
 use Rattle.nntp_article.specs.declared.session.profile.Profile.{Profile}
 
 -- article numbers within the limit, and marks that are read so

@@ -1,26 +1,15 @@
 -- The machine over one spool: states, what may be answered in a state, and runs (RFC 3977, sections 3.2.1, 5, 6 and 7.6).
-use Rattle.std.specs.Prelude.{◌≡◌, ℕ, ◌+◌, ◌-◌, ◌≤◌, ◌↔◌, Bool, true, false, not, ◌&&◌, ◌||◌, ◌==◌, nat_lt, nat_le}
-use Rattle.std.specs.Prelude.{if◌then◌else◌, cond, IsTrue, IsFalse, List, [], ◌∷◌, Option, None, Some, is_some, is_none}
-use Rattle.std.specs.Prelude.{MatchOption, IfSome, unwrap_or, Contains, All, map, ⊤}
-use Rattle.std.specs.List.{list_any, list_all}
-use Rattle.std.specs.Option.{option_map_or, option_or}
-use Rattle.std.specs.Cmp.Lexicographic.{slice_cmp, pointwise}
-use Rattle.std.specs.Ordering.{nat_cmp}
-use Rattle.std.specs.FinMap.{FinMap, get, insert, len, empty}
-use Rattle.nntp_wire.specs.Command.{Target, by_id, by_number, current, Request, capabilities, mode_reader, next, last, quit, opaque, ill_formed, group, list_group, retrieve, list_active}
-use Rattle.nntp_wire.specs.Answer.{Asked, greeting, to, Success, Response, group_is, numbers_are, sends, active_are, plain, success_code}
-use Rattle.nntp_wire.specs.declared.water_marks.WaterMarks.{WaterMarks}
-use Rattle.nntp_wire.specs.declared.marks.Marks.{Marks}
-use Rattle.nntp_wire.specs.declared.marks.Marks.TheVariants.{Lenient, Strict}
-use Rattle.nntp_wire.specs.Listing.{ActiveValue, listed_numbers, active_groups}
-use Rattle.nntp_wire.specs.Session.{closes}
-use Rattle.nntp_wire.specs.Wildmat.{MatchesName}
-use Rattle.nntp_wire.specs.declared.range.Range.{Range}
-use Rattle.nntp_wire.specs.declared.command.What.{What}
-use Rattle.nntp_wire.specs.declared.command.What.TheVariants.{Article, Head, Body, Stat}
-use Rattle.nntp_wire.specs.Decided.{matches_name}
-use Rattle.nntp_article.specs.Article.Parts.{Line, Id, is_empty, is_head, said_id, head_part}
-use Rattle.nntp_article.specs.Session.Spool.{Name, Spool, Numbers, IsGroup, IsNumber, numbers, least, IsNextAbove, IsNextBelow, NoneAbove, NoneBelow, Lists, HasText}
+use Rattle.std.specs.Prelude.{◌≡◌, ℕ, ◌+◌, ◌-◌, ◌≤◌, ◌↔◌, Bool, true, false, not, ◌&&◌, ◌||◌, ◌==◌, nat_lt, nat_le, if◌then◌else◌, cond, IsTrue, IsFalse, List}
+use Rattle.std.specs.{Prelude.{[], ◌∷◌, Option, None, Some, is_some, is_none, MatchOption, IfSome, unwrap_or, Contains, All, map, ⊤}, List.{list_any, list_all}}
+use Rattle.std.specs.{Option.{option_map_or, option_or}, Cmp.Lexicographic.{slice_cmp, pointwise}, Ordering.{nat_cmp}, FinMap.{FinMap, get, insert, len, empty}}
+use Rattle.nntp_wire.specs.Command.{Target, by_id, by_number, current, Request, capabilities, mode_reader, next, last, quit, opaque, ill_formed, group}
+use Rattle.nntp_wire.specs.{Command.{list_group, retrieve, list_active}, Answer.{Asked, greeting, to, Success, Response, group_is, numbers_are, sends}}
+use Rattle.nntp_wire.specs.{Answer.{active_are, plain, success_code}, declared.{water_marks.WaterMarks.{WaterMarks}, marks.Marks.{Marks}}}
+use Rattle.nntp_wire.specs.declared.{marks.Marks.TheVariants.{Lenient, Strict}, range.Range.{Range}, command.What.{What, TheVariants.{Article, Head, Body}}}
+use Rattle.nntp_wire.specs.{declared.command.What.TheVariants.{Stat}, Listing.{ActiveValue, listed_numbers, active_groups}, Session.{closes}}
+use Rattle.nntp_wire.specs.{Wildmat.{MatchesName}, Decided.{matches_name}}
+use Rattle.nntp_article.specs.{Article.Parts.{Line, Id, is_empty, is_head, said_id, head_part}, Session.Spool.{Name, Spool, Numbers, IsGroup, IsNumber}}
+use Rattle.nntp_article.specs.Session.Spool.{numbers, least, IsNextAbove, IsNextBelow, NoneAbove, NoneBelow, Lists, HasText}
 use Rattle.nntp_article.specs.declared.session.profile.Profile.{Profile}
 
 -- what a session shows of its state, whatever the spool

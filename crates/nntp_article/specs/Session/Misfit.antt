@@ -1,22 +1,13 @@
 -- Why an answer doesn't fit the visible state: the condition of `fits` that fails first (RFC 3977, sections 3.2.1, 5, 6 and 7.6).
-use Rattle.std.specs.Prelude.{ℕ, ◌≡◌, ◌<◌, ◌+◌, ◌-◌, ◌++◌, Bool, true, false, not, ◌&&◌, ◌||◌, ◌==◌, nat_lt, nat_le, if◌then◌else◌, List, [], ◌∷◌, map}
-use Rattle.std.specs.Prelude.{Option, None, Some, is_some, unwrap_or, option_map}
-use Rattle.std.specs.List.{list_any}
-use Rattle.std.specs.Option.{option_map_or, option_or}
-use Rattle.std.specs.FinMap.{get}
-use Rattle.nntp_wire.specs.Command.{Target, by_id, by_number, current, Request, capabilities, mode_reader, next, last, quit, opaque, ill_formed, group, list_group, retrieve, list_active}
-use Rattle.nntp_wire.specs.Answer.{Asked, greeting, to, Success, Response, group_is, numbers_are, sends, active_are, plain, success_code}
-use Rattle.nntp_wire.specs.declared.water_marks.WaterMarks.{WaterMarks}
-use Rattle.nntp_wire.specs.Listing.{ActiveValue, listed_numbers, active_groups}
-use Rattle.nntp_wire.specs.declared.range.Range.{Range}
-use Rattle.nntp_wire.specs.declared.command.What.{What}
-use Rattle.nntp_wire.specs.declared.command.What.TheVariants.{Article, Head, Body, Stat}
-use Rattle.nntp_wire.specs.Decided.{matches_name}
-use Rattle.nntp_wire.specs.Reason.{unless, first}
-use Rattle.nntp_article.specs.Article.Parts.{Line, Id, is_empty, is_head, said_id, head_part}
-use Rattle.nntp_article.specs.Session.Spool.{Name}
-use Rattle.nntp_article.specs.Session.Machine.{Visible, is_same, is_generic, is_greeting, is_article_number, are_zeros, is_in_range, code_fits}
-use Rattle.nntp_article.specs.declared.session.profile.Profile.{Profile}
+use Rattle.std.specs.Prelude.{ℕ, ◌+◌, ◌-◌, Bool, true, false, ◌&&◌, ◌||◌, ◌==◌, nat_lt, nat_le, if◌then◌else◌, List, [], ◌∷◌, map, Option, None, Some, is_some}
+use Rattle.std.specs.{Prelude.{unwrap_or}, List.{list_any}, Option.{option_map_or, option_or}, FinMap.{get}}
+use Rattle.nntp_wire.specs.Command.{Target, by_id, by_number, current, Request, capabilities, mode_reader, next, last, quit, opaque, ill_formed, group}
+use Rattle.nntp_wire.specs.{Command.{list_group, retrieve, list_active}, Answer.{Asked, greeting, to, Success, Response, group_is, numbers_are, sends}}
+use Rattle.nntp_wire.specs.{Answer.{active_are, plain, success_code}, declared.{water_marks.WaterMarks.{WaterMarks}, range.Range.{Range}, command.What.{What}}}
+use Rattle.nntp_wire.specs.{declared.command.What.TheVariants.{Article, Head, Body, Stat}, Listing.{ActiveValue, listed_numbers, active_groups}}
+use Rattle.nntp_wire.specs.{Decided.{matches_name}, Reason.{unless, first}}
+use Rattle.nntp_article.specs.{Article.Parts.{Line, Id, is_empty, is_head, said_id, head_part}, Session.{Spool.{Name}, Machine.{Visible, is_same, is_generic}}}
+use Rattle.nntp_article.specs.{Session.Machine.{is_greeting, is_article_number, are_zeros, is_in_range, code_fits}, declared.session.profile.Profile.{Profile}}
 
 -- why an answer doesn't fit
 pub data Misfit : Type 0 where
@@ -67,16 +58,6 @@ command_codes is_selected ill_formed = []
 abbrev pub allowed_codes : Visible → Asked → List ℕ
 allowed_codes v greeting = 200 ∷ 201 ∷ 400 ∷ 502 ∷ []
 allowed_codes v (to command) = command_codes (is_some v.selected) command
-
--- the code by which a command succeeds with an answer that says more than its code (sections 6 and 7.6.3)
-abbrev pub is_success : Asked → ℕ → Bool
-is_success (to (group word)) code = code == 211
-is_success (to (list_group word range)) code = code == 211
-is_success (to next) code = code == 223
-is_success (to last) code = code == 223
-is_success (to (retrieve what which)) code = code == success_code what
-is_success (to (list_active p)) code = code == 215
-is_success asked code = false
 
 -- the code of an answer
 abbrev pub answered_code : Response → ℕ
@@ -207,107 +188,3 @@ misfit profile v (to (retrieve what which)) (sends sent) = sent_misfit profile v
 misfit profile v (to (list_active p)) (active_are lines) =
     first (first (map (active_misfit profile p) (active_groups lines)) ∷ twice_misfit [] (active_groups lines) ∷ [])
 misfit profile v asked response = Some (code_misfit v asked (answered_code response))
-
--- ---- what the answer and the prompt hold that a reason speaks of
-
--- the group that a 211 names, and its marks (section 6.1.1)
-abbrev pub marked_by : Response → Option (Name × WaterMarks)
-marked_by (group_is m name) = Some (name, m)
-marked_by (numbers_are m name lines) = Some (name, m)
-marked_by response = None
-
--- the group that was asked for: where LISTGROUP names none, the selected one (section 6.1.2)
-abbrev pub asked_group : Visible → Asked → Option Name
-asked_group v (to (group word)) = Some word
-asked_group v (to (list_group word range)) = option_or word v.selected
-asked_group v asked = None
-
--- the number that was asked for (section 6.2)
-abbrev pub asked_number : Asked → Option ℕ
-asked_number (to (retrieve what (by_number number))) = number
-asked_number asked = None
-
--- the id that was asked for (section 6.2)
-abbrev pub asked_id : Asked → Option Id
-asked_id (to (retrieve what (by_id word))) = Some word
-asked_id asked = None
-
--- the article that is answered (section 6.2)
-abbrev pub sent_by : Response → Option Success
-sent_by (sends sent) = Some sent
-sent_by response = None
-
--- the head in what is sent (section 6.2)
-abbrev pub sent_head : Asked → Response → Option (List Line)
-sent_head (to (retrieve Article which)) (sends sent) = option_map head_part sent.block
-sent_head (to (retrieve Head which)) (sends sent) = sent.block
-sent_head asked response = None
-
--- the names of the groups that the answer lists (section 7.6.3)
-abbrev pub names_of : Response → List Name
-names_of (active_are lines) = map (λ line. line.name) (active_groups lines)
-names_of response = []
-
--- the numbers that the answer lists (section 6.1.2)
-abbrev pub numbers_of : Response → List ℕ
-numbers_of (numbers_are m name lines) = listed_numbers lines
-numbers_of response = []
-
--- the number is outside the range that was asked for, if one was (section 6.1.2)
-abbrev pub is_outside : Asked → ℕ → Bool
-is_outside (to (list_group word range)) n = not (is_in_range range n)
-is_outside asked n = false
-
--- the wildmat doesn't match the name, if one was given (section 7.6.3)
-abbrev pub is_unmatched : Asked → Name → Bool
-is_unmatched (to (list_active (Some w))) name = not (matches_name w name)
-is_unmatched asked name = false
-
--- the marks begin below 1, or are in no order (section 7.6.3)
-abbrev pub are_out_of_order : ℕ → ℕ → Bool
-are_out_of_order low high = not (nat_le 1 low && nat_le low (high + 1))
-
--- the marks of a 211 are, or leave no room for the estimate (section 6.1.1.2)
-abbrev pub have_no_room : WaterMarks → Bool
-have_no_room m = not (are_zeros m) && (are_out_of_order m.low m.high || not (nat_le m.estimate (m.high + 1 - m.low)))
-
--- a listed group has such marks (section 7.6.3)
-abbrev pub is_out_of_order : Name → ActiveValue → Bool
-is_out_of_order name line = is_same line.name name && not (line.low == 0 && line.high == 0) && are_out_of_order line.low line.high
-
--- the answer gives the group such marks
-abbrev pub has_wrong_marks : Response → Name → Bool
-has_wrong_marks (group_is m given) name = is_same given name && have_no_room m
-has_wrong_marks (numbers_are m given lines) name = is_same given name && have_no_room m
-has_wrong_marks (active_are lines) name = list_any (is_out_of_order name) (active_groups lines)
-has_wrong_marks response name = false
-
--- what is sent has the parts that were asked for (section 6.2)
-abbrev pub has_parts : What → Option (List Line) → Bool
-has_parts Article (Some lines) = list_any is_empty lines && is_head (head_part lines)
-has_parts Head (Some lines) = is_head lines
-has_parts Body (Some lines) = true
-has_parts Stat None = true
-has_parts what lines = false
-
--- the article that is answered lacks them
-abbrev pub lacks_parts : Asked → Response → Bool
-lacks_parts (to (retrieve what which)) (sends sent) = not (has_parts what sent.block)
-lacks_parts asked response = false
-
--- the two numbers stand in the list, one after the other
-pub record AreNeighbours (numbers : List ℕ) (before next : ℕ) : Type 0 where
-  pub front : List ℕ
-  pub behind : List ℕ
-  pub whole : numbers ≡ front ++ before ∷ next ∷ behind
-
--- the low mark was reported for the group that the answer names, and the answer's is below it (section 6.1.1.2)
-abbrev pub IsAbove : Visible → ℕ → Name × WaterMarks → Type 0
-IsAbove v low marked = (get v.lows marked.0 ≡ Some low) × (marked.1.low < low)
-
--- the name stands in the list twice
-pub record IsTwice (names : List Name) (name : Name) : Type 0 where
-  pub front : List Name
-  pub between : List Name
-  pub behind : List Name
-  pub whole : names ≡ front ++ name ∷ (between ++ name ∷ behind)

@@ -1,14 +1,8 @@
 -- The spool, and what the machine looks up in it (RFC 3977, section 6.1).
-use Rattle.std.specs.Prelude.{◌≡◌, ℕ, ◌<◌, ◌≤◌, ◌↔◌, Bool, ◌&&◌, nat_lt, IsTrue, List, [], ◌∷◌, ◌++◌, Option, None, Some, IsSome, IfSome, option_map, unwrap_or, slice_get, All, Contains, MatchOption}
-use Rattle.std.specs.Ordering.{nat_cmp}
-use Rattle.std.specs.Cmp.Lexicographic.{slice_cmp}
-use Rattle.std.specs.FinMap.{FinMap, get, empty, keys}
-use Rattle.std.specs.List.{list_all}
-use Rattle.nntp_wire.specs.Octets.{is_clean}
-use Rattle.nntp_wire.specs.Name.{IsGroupName, IsMessageId}
-use Rattle.nntp_wire.specs.declared.range.Range.{Range}
-use Rattle.nntp_wire.specs.declared.command.What.{What}
-use Rattle.nntp_wire.specs.declared.command.What.TheVariants.{Article, Head, Body, Stat}
+use Rattle.std.specs.Prelude.{◌≡◌, ℕ, ◌<◌, ◌≤◌, ◌↔◌, Bool, ◌&&◌, nat_lt, IsTrue, List, [], ◌∷◌, ◌++◌, Option, None, Some, IsSome, IfSome, option_map, unwrap_or}
+use Rattle.std.specs.{Prelude.{slice_get, All, Contains}, Ordering.{nat_cmp}, Cmp.Lexicographic.{slice_cmp}, FinMap.{FinMap, get, empty, keys}, List.{list_all}}
+use Rattle.nntp_wire.specs.{Octets.{is_clean}, Name.{IsGroupName, IsMessageId}, declared.{range.Range.{Range}, command.What.{What, TheVariants.{Article}}}}
+use Rattle.nntp_wire.specs.declared.command.What.TheVariants.{Head, Body, Stat}
 use Rattle.nntp_article.specs.Article.Parts.{Line, Id, is_head, said_id}
 
 -- the name of a group
@@ -48,10 +42,6 @@ IsNumber N n = IsSome (get N n)
 -- the least number, or none where there is no number: the first of the keys, which ascend
 abbrev pub least : Numbers → Option ℕ
 least N = slice_get (keys N) 0
-
--- first is none where there is no number, and else a number that none is below
-abbrev pub IsFirst : Numbers → Option ℕ → Type 0
-IsFirst N first = MatchOption first ((m : ℕ) → get N m ≡ None) (λ n. IsNumber N n × ((m : ℕ) → IsNumber N m → n ≤ m))
 
 -- n is the least number above c
 abbrev pub IsNextAbove : Numbers → ℕ → ℕ → Type 0

@@ -3,7 +3,7 @@ ghost use Rattle.std.specs.Prelude.{◌≡◌, ◌++◌, [], ◌∷◌, IfOk, ma
 ghost use Rattle.std.specs.Str.{bytes_eq};
 ghost use Rattle.nntp_wire.specs.Decided.{is_message_id, is_group_name};
 ghost use Rattle.nntp_article.specs.Article.Control.{controls_of, controls_among, control_of, control_of_two, control_of_three, other};
-ghost use Rattle.nntp_article.specs.Article.View.{control_value};
+ghost use Rattle.nntp_article.specs.Inner.View.{control_value};
 
 use crate::article::control_message::Control;
 use crate::article::head::Head;

@@ -21,7 +21,7 @@ pub struct Head<'a> {
 impl<'a> Model for Head<'a> {
     ghost use Rattle.std.specs.Prelude.{◌≡◌, IsTrue, List, [], ℕ};
     ghost use Rattle.nntp_article.specs.Article.Parts.{is_head, said_id};
-    ghost use Rattle.nntp_article.specs.Article.SaidId.{id_by};
+    ghost use Rattle.nntp_article.specs.Inner.SaidId.{id_by};
 
     ghost Value = { List (List ℕ) };
 

@@ -2,7 +2,8 @@
 ghost use Rattle.std.specs.Prelude.{◌≡◌, not};
 ghost use Rattle.std.specs.List.{find, before_first, after_first};
 ghost use Rattle.nntp_wire.specs.Octets.{is_blank, is_clean};
-ghost use Rattle.nntp_article.specs.Article.Parts.{is_continuation, is_colon, is_name_octet, begins_header, is_head_line, skip_blanks, skip_last_blanks};
+ghost use Rattle.nntp_article.specs.Article.Parts.{is_continuation, is_colon, is_name_octet, begins_header, skip_blanks, skip_last_blanks};
+ghost use Rattle.nntp_article.specs.Inner.Parts.{is_head_line};
 
 use memchr::{memchr, memchr3};
 

@@ -1,7 +1,8 @@
 //! Laws of the definitions of heads and parts (RFC 3977, section 3.6).
 ghost use Rattle.std.specs.Prelude.{◌≡◌, ◌↔◌, IsTrue, List};
 ghost use Rattle.std.specs.List.{list_any};
-ghost use Rattle.nntp_article.specs.Article.Parts.{Line, Header, is_empty, headers, is_head, head_part, body_part, AreHeaders, AreParts};
+ghost use Rattle.nntp_article.specs.Article.Parts.{Line, Header, is_empty, headers, is_head, head_part, body_part};
+ghost use Rattle.nntp_article.specs.Inner.Parts.{AreHeaders, AreParts};
 
 /// Lines are a head exactly if they are one or more headers, one after the other: its headers.
 pub fn head_is_its_headers()

@@ -5,11 +5,12 @@
 ghost use Rattle.std.specs.Prelude.{◌≡◌, ◌++◌, ◌∷◌, false, IsTrue, List, [], ℕ};
 ghost use Rattle.std.specs.List.{list_all, after_first};
 ghost use Rattle.std.specs.Option.{SomeIff, option_copied};
-ghost use Rattle.nntp_wire.specs.Held.{held};
+ghost use Rattle.nntp_wire.specs.Inner.Held.{held};
 ghost use Rattle.nntp_wire.specs.Octets.{is_clean};
 ghost use Rattle.nntp_wire.specs.Words.{words_of};
-ghost use Rattle.nntp_article.specs.Article.Parts.{Line, Header, is_colon, is_continuation, is_head, is_clean_head, is_head_line, said_id};
-ghost use Rattle.nntp_article.specs.Article.SaidId.{names_id, id_with, id_by};
+ghost use Rattle.nntp_article.specs.Article.Parts.{Line, Header, is_colon, is_continuation, is_head, is_clean_head, said_id};
+ghost use Rattle.nntp_article.specs.Inner.Parts.{is_head_line};
+ghost use Rattle.nntp_article.specs.Inner.SaidId.{names_id, id_with, id_by};
 
 use crate::article::head_line::{
     begins_header, is_clean, is_continuation, is_head_line, split_at_colon,

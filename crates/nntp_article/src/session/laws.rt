@@ -1,13 +1,16 @@
 //! Laws of the machine's definitions alone.
 ghost use Rattle.std.specs.Prelude.{◌≡◌, ◌≤◌, ◌↔◌, ◌==◌, ℕ, IsTrue, IsFalse, ◌⊎◌, List, None, Some, MatchOption};
-ghost use Rattle.nntp_article.specs.Session.Spool.{Name, Spool, Numbers, least, IsFirst};
+ghost use Rattle.nntp_article.specs.Session.Spool.{Name, Spool, Numbers, least};
+ghost use Rattle.nntp_article.specs.Inner.Spool.{IsFirst};
 ghost use Rattle.nntp_article.specs.declared.session.profile.Profile.{Profile};
 ghost use Rattle.nntp_article.specs.Session.Machine.{Visible, State, is_one_of, is_same, is_article_number, fits, Permits, Run};
 ghost use Rattle.nntp_article.specs.Article.Parts.{Id, said_id};
 ghost use Rattle.nntp_article.specs.Session.Misfit.{misfit, wrong_code, wrong_name, wrong_number, wrong_id, below_low, wrong_marks, beyond_limit, not_above};
-ghost use Rattle.nntp_article.specs.Session.Misfit.{beyond_range, unmatched, listed_twice, no_head, other_id, has_wrong_marks, lacks_parts};
-ghost use Rattle.nntp_article.specs.Session.Misfit.{asked_group, asked_number, asked_id, sent_by, sent_head, names_of, IsTwice};
-ghost use Rattle.nntp_article.specs.Session.Misfit.{allowed_codes, is_success, answered_code, marked_by, numbers_of, is_outside, is_unmatched, AreNeighbours, IsAbove};
+ghost use Rattle.nntp_article.specs.Session.Misfit.{beyond_range, unmatched, listed_twice, no_head, other_id};
+ghost use Rattle.nntp_article.specs.Inner.Misfit.{has_wrong_marks, lacks_parts};
+ghost use Rattle.nntp_article.specs.Inner.Misfit.{asked_group, asked_number, asked_id, sent_by, sent_head, names_of, IsTwice};
+ghost use Rattle.nntp_article.specs.Session.Misfit.{allowed_codes, answered_code};
+ghost use Rattle.nntp_article.specs.Inner.Misfit.{is_success, marked_by, numbers_of, is_outside, is_unmatched, AreNeighbours, IsAbove};
 ghost use Rattle.nntp_wire.specs.Answer.{Asked, Response, plain};
 
 /// An answer that some spool permits meets the visible condition, and the visible state after it is
@@ -81,5 +84,6 @@ pub fn reasons_are_so()
         → misfit profile v asked response ≡ Some no_head → IsTrue (lacks_parts asked response) }
     ensures own { (profile : Profile) (v : Visible) (asked : Asked) (response : Response) (said : Id)
         → misfit profile v asked response ≡ Some (other_id said)
-        → MatchOption (sent_head asked response) ⊥ (λ head. said_id head ≡ Some said) × MatchOption (sent_by response) ⊥ (λ sent. IsFalse (is_same said sent.id)) }
+        → MatchOption (sent_head asked response) ⊥ (λ head. said_id head ≡ Some said)
+        × MatchOption (sent_by response) ⊥ (λ sent. IsFalse (is_same said sent.id)) }
 {}

@@ -2,8 +2,8 @@
 ghost use Rattle.std.specs.Prelude.{◌≡◌, IsTrue, OnOk, OnErr, unwrap_or, []};
 ghost use Rattle.std.specs.Option.{option_copied};
 ghost use Rattle.std.specs.FinMap.{get, insert};
-ghost use Rattle.nntp_wire.specs.View.{asked};
-ghost use Rattle.nntp_wire.specs.AnswerView.{response};
+ghost use Rattle.nntp_wire.specs.Inner.View.{asked};
+ghost use Rattle.nntp_wire.specs.Inner.AnswerView.{response};
 ghost use Rattle.nntp_article.specs.Session.Machine.{start, visible_after, selects};
 
 mod allowed;
@@ -36,13 +36,18 @@ impl<A: Allocator> Model for Visible<A> {
     ghost use Rattle.std.specs.Prelude.{option_map, map};
     ghost use Rattle.std.specs.FinMap.{from_entries};
     ghost use Rattle.nntp_article.specs.Session.Machine.{Visible as VisibleState};
-    ghost use Rattle.nntp_article.specs.Session.Coded.{coded_visible};
+    ghost use Rattle.nntp_article.specs.Inner.Coded.{coded_visible};
 
     ghost Value = { VisibleState };
 
     ghost coded = { coded_visible };
 
-    ghost view = { λ a. record { closed = a.closed; selected = option_map (λ name. name.items) a.selected; lows = from_entries (map (λ e. (e.0.items, e.1)) a.lows.entries) } };
+    ghost view = { λ a. record {
+      closed = a.closed;
+      selected = option_map (λ name. name.items) a.selected;
+      lows = from_entries
+          (map (λ e. (e.0.items, e.1)) a.lows.entries);
+    } };
 }
 
 impl<A: Allocator + Copy> Visible<A> {

@@ -1,31 +1,19 @@
 -- A construction of the spool that is given.
-use Rattle.std.proofs.Common.{◌≡◌, ℕ, ◌+◌, ◌<◌, ◌≤◌, ◌↔◌, ◌⊎◌, true, cond, eqb, IsTrue, List, [], ◌∷◌, ◌++◌, map, length}
-use Rattle.std.proofs.Common.{Option, None, Some, is_some, IsSome, inl, inr, refl, sym, ap, subst, ◌∙◌, arith, length-append}
-use Rattle.std.specs.Prelude.{unwrap_or, option_to_list}
-use Rattle.std.specs.List.{list_any, flat_map}
-use Rattle.std.specs.Ordering.{nat_cmp}
-use Rattle.std.proofs.lemmas.Bool.{cases_lt, or_left, or_right, eq-eqb}
-use Rattle.std.proofs.lemmas.Map.Steps.{le-length_from_below}
-use Rattle.std.specs.Cmp.{nat_cmp_total}
-use Rattle.std.specs.Cmp.Lexicographic.{slice_cmp, same_text, nat_list_cmp_total}
-use Rattle.std.specs.FinMap.{FinMap, get, empty, keys, entries, from_sorted, entries-from_sorted, nat_cmp-IsAntisymmetric, slice_cmp-IsAntisymmetric, IsAntisymmetric}
-use Rattle.nntp_article.specs.Session.Spool.{Spool, Text, Numbers, IsNumber, IsGroup, numbers, Name}
-use Rattle.nntp_article.specs.Session.Machine.{is_same}
+use Rattle.std.proofs.Common.{◌≡◌, ℕ, ◌+◌, ◌<◌, ◌≤◌, ◌↔◌, ◌⊎◌, true, cond, eqb, IsTrue, List, [], ◌∷◌, ◌++◌, map, length, Option, None, Some, is_some, IsSome}
+use Rattle.std.proofs.{Common.{inl, inr, refl, sym, ap, subst, ◌∙◌, arith, length-append}, lemmas.Bool.{cases_lt, or_left, or_right, eq-eqb}}
+use Rattle.std.{proofs.lemmas.Map.Steps.{le-length_from_below}, specs.{Prelude.{unwrap_or, option_to_list}, List.{list_any, flat_map}, Ordering.{nat_cmp}}}
+use Rattle.std.specs.{Cmp.{nat_cmp_total, Lexicographic.{slice_cmp, same_text, nat_list_cmp_total}}, FinMap.{FinMap, get, empty, keys, entries, from_sorted}}
+use Rattle.std.specs.FinMap.{entries-from_sorted, nat_cmp-IsAntisymmetric, slice_cmp-IsAntisymmetric, IsAntisymmetric}
+use Rattle.nntp_article.specs.{Session.{Spool.{Spool, Text, Numbers, IsNumber, IsGroup, numbers, Name}, Machine.{is_same}}, Article.Parts.{Id}}
 use Rattle.nntp_said.specs.Facts.{Fact, TextIs}
-use Rattle.nntp_facts.specs.Given.{is_known, IsOneMore, HasGivenNumbers, asks_of, is_shown_group, first_given, id_shown}
-use Rattle.nntp_facts.specs.Given.{gives_article, is_sent, head_in, body_in, plain_head, is_mentioned, invented, unshown_in}
-use Rattle.nntp_facts.specs.Given.{unshown_ids, IsUsed, IsFirstFree, AreInvented, IsGiven}
-use Rattle.nntp_facts.proofs.Members.{In, in_front, in_back, in_cases, in_map, from_map, to_flat, from_flat, any_in, found_in, any_back}
-use Rattle.nntp_facts.proofs.Ids.SmallGivenSpool.{names_of, shown_name, name_shown}
-use Rattle.nntp_facts.proofs.Together.FactsOfASpoolStand.{same_itself}
-use Rattle.nntp_facts.proofs.Given.GivenHolds.{group_of_number}
-use Rattle.nntp_facts.proofs.Ids.InventedIds.{invented_number}
-use Rattle.nntp_facts.proofs.Ids.NumbersOfInventedIds.{mentioned, counted}
-use Rattle.nntp_facts.specs.Readers.{free}
-use Rattle.nntp_facts.proofs.GivenNumbers.FirstFreeNumber.{free_is, free_none}
-use Rattle.nntp_facts.proofs.Keeping.OneMoreNumber.{known_list, in_known_list, from_known_list, more, more_is, more_found}
-use Rattle.nntp_facts.proofs.Maps.{sorted_as, get_in, in_get, key_of, of_key, made_of, get-made_of, in-made_of, key_map, in_key_map, of_key_map}
-use Rattle.nntp_article.specs.Article.Parts.{Id}
+use Rattle.nntp_facts.specs.Given.{is_known, IsOneMore, HasGivenNumbers, asks_of, is_shown_group, first_given, id_shown, gives_article, is_sent, head_in}
+use Rattle.nntp_facts.specs.Given.{body_in, plain_head, is_mentioned, invented, unshown_in, unshown_ids, IsUsed, IsFirstFree, AreInvented, IsGiven}
+use Rattle.nntp_facts.{specs.Inner.Readers.{free}, proofs.Members.{In, in_front, in_back, in_cases, in_map, from_map, to_flat, from_flat, any_in, found_in}}
+use Rattle.nntp_facts.proofs.{Members.{any_back}, Ids.{SmallGivenSpool.{names_of, shown_name, name_shown}, InventedIds.{invented_number}}}
+use Rattle.nntp_facts.proofs.{Ids.NumbersOfInventedIds.{mentioned, counted}, Together.FactsOfASpoolStand.{same_itself}, Given.GivenHolds.{group_of_number}}
+use Rattle.nntp_facts.proofs.{GivenNumbers.FirstFreeNumber.{free_is, free_none}, Keeping.OneMoreNumber.{known_list, in_known_list, from_known_list, more}}
+use Rattle.nntp_facts.proofs.{Keeping.OneMoreNumber.{more_is, more_found}, Maps.{sorted_as, get_in, in_get, key_of, of_key, made_of, get-made_of, in-made_of}}
+use Rattle.nntp_facts.proofs.Maps.{key_map, in_key_map, of_key_map}
 
 -- only equal names tie
 pub names_apart : IsAntisymmetric (slice_cmp nat_cmp)

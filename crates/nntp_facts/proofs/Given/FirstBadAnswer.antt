@@ -1,24 +1,13 @@
 -- Some spool permits a session, or exactly one answer is the first that none does.
-use Rattle.nntp_wire.specs.declared.marks.Marks.{Marks}
-use Rattle.std.proofs.Common.{◌≡◌, ℕ, zero, suc, ◌+◌, ◌<◌, ◌≤◌, ◌^◌, ◌⊎◌, List, [], ◌∷◌, ◌++◌, length, take, Option, None, Some, is_some, inl, inr, sym, ap, subst, ◌∙◌, arith}
-use Rattle.std.specs.Prelude.{unwrap_or}
-use Rattle.std.specs.Ordering.{nat_cmp}
-use Rattle.std.specs.Cmp.Lexicographic.{slice_cmp}
-use Rattle.std.specs.FinMap.{get, empty, get-empty}
-use Rattle.std.proofs.Math.Seq.{take-length}
-use Rattle.std.proofs.lemmas.Bool.{cases_order, true≢false}
-use Rattle.nntp_article.specs.Session.Spool.{Spool, Numbers, IsSpool, numbers, Name}
-use Rattle.nntp_article.specs.declared.session.profile.Profile.{Profile}
-use Rattle.nntp_article.specs.Session.Machine.{State, Visible, Run, start, visible_after}
-use Rattle.nntp_said.specs.Asks.{position_after}
-use Rattle.nntp_said.specs.declared.position.Position.{Position}
-use Rattle.nntp_said.specs.declared.position.Position.TheVariants.{Nowhere}
-use Rattle.nntp_said.specs.Facts.{Fact, facts_of, facts_from}
-use Rattle.nntp_facts.specs.Given.{facts_of_session, size}
-use Rattle.nntp_facts.specs.Permits.{SomePermits, IsFirstUnpermitted}
+use Rattle.nntp_wire.specs.{declared.marks.Marks.{Marks}, Answer.{Asked, Response}}
+use Rattle.std.proofs.Common.{◌≡◌, ℕ, zero, suc, ◌+◌, ◌<◌, ◌≤◌, ◌^◌, ◌⊎◌, List, [], ◌∷◌, ◌++◌, length, take, Option, None, Some, is_some, inl, inr, sym, ap}
+use Rattle.std.{proofs.{Common.{subst, ◌∙◌, arith}, Math.Seq.{take-length}, lemmas.Bool.{cases_order, true≢false}}, specs.Prelude.{unwrap_or}}
+use Rattle.std.specs.{Ordering.{nat_cmp}, Cmp.Lexicographic.{slice_cmp}, FinMap.{get, empty, get-empty}}
+use Rattle.nntp_article.specs.Session.{Spool.{Spool, Numbers, IsSpool, numbers, Name}, Machine.{State, Visible, Run, start, visible_after}}
+use Rattle.nntp_article.specs.{declared.session.profile.Profile.{Profile}, Article.Parts.{Id}}
+use Rattle.nntp_said.specs.{Asks.{position_after}, declared.position.Position.{Position, TheVariants.{Nowhere}}, Facts.{Fact, facts_of, facts_from}}
+use Rattle.nntp_facts.specs.{Given.{facts_of_session}, Inner.{Given.{size}, Permits.{SomePermits, IsFirstUnpermitted}}}
 use Rattle.nntp_facts.proofs.Given.GivenSpoolExists.{some_or_none}
-use Rattle.nntp_article.specs.Article.Parts.{Id}
-use Rattle.nntp_wire.specs.Answer.{Asked, Response}
 
 -- ---- fewer answers
 

@@ -1,24 +1,14 @@
 -- The given spool of facts that fit, are placed and stand together has them, and is the least, whether or not they are of one session.
-use Rattle.std.proofs.Common.{◌<◌, ◌^◌, List, length}
-use Rattle.std.specs.List.{AllByRecursion}
+use Rattle.std.{proofs.Common.{◌<◌, ◌^◌, List, length}, specs.List.{AllByRecursion}}
 use Rattle.nntp_wire.specs.declared.marks.Marks.{Marks}
-use Rattle.nntp_article.specs.Session.Spool.{Spool, IsSpool, numbers, Name}
-use Rattle.nntp_article.specs.declared.session.profile.Profile.{Profile}
-use Rattle.nntp_said.specs.Asks.{Meets}
-use Rattle.nntp_said.specs.Facts.{Fact, Holds}
-use Rattle.nntp_facts.specs.Given.{IsGiven, unshown_ids, asks_of, size, HasAtLeast}
-use Rattle.nntp_facts.specs.Together.{Together}
-use Rattle.nntp_facts.proofs.Session.FittingFacts.{IsFitting}
-use Rattle.nntp_facts.proofs.Session.NumbersOfShownGroups.{Placed}
-use Rattle.nntp_facts.proofs.Session.NumbersWithinLimit.{free_in_limit}
-use Rattle.nntp_facts.proofs.Ids.SmallGivenSpool.{few_enough, unshown_ids_few}
-use Rattle.nntp_facts.proofs.Ids.InventedIds.{number-invented, invented_is_id}
-use Rattle.nntp_facts.proofs.Together.FactsOfASpoolStand.{group_in_S, id_in_S, head_in_S, body_in_S}
-use Rattle.nntp_facts.proofs.Given.ConstructedSpool.{made, made_group, made_given, made_is_given}
-use Rattle.nntp_facts.proofs.Given.GivenHolds.{Setting, all_hold}
-use Rattle.nntp_facts.proofs.Given.GivenIsSpool.{given_is_spool}
-use Rattle.nntp_facts.proofs.GivenNumbers.MetNumbersStand.{shown_are_numbers, as_few}
-use Rattle.nntp_facts.proofs.GivenNumbers.AskedOfAGroup.{met_by_facts}
+use Rattle.nntp_article.specs.{Session.Spool.{Spool, IsSpool, numbers, Name}, declared.session.profile.Profile.{Profile}}
+use Rattle.nntp_said.specs.{Asks.{Meets}, Facts.{Fact, Holds}}
+use Rattle.nntp_facts.specs.{Given.{IsGiven, unshown_ids, asks_of, HasAtLeast}, Inner.{Given.{size}, Together.{Together}}}
+use Rattle.nntp_facts.proofs.Session.{FittingFacts.{IsFitting}, NumbersOfShownGroups.{Placed}, NumbersWithinLimit.{free_in_limit}}
+use Rattle.nntp_facts.proofs.Ids.{SmallGivenSpool.{few_enough, unshown_ids_few}, InventedIds.{number-invented, invented_is_id}}
+use Rattle.nntp_facts.proofs.{Together.FactsOfASpoolStand.{group_in_S, id_in_S, head_in_S, body_in_S}, Given.ConstructedSpool.{made, made_group, made_given}}
+use Rattle.nntp_facts.proofs.Given.{ConstructedSpool.{made_is_given}, GivenHolds.{Setting, all_hold}, GivenIsSpool.{given_is_spool}}
+use Rattle.nntp_facts.proofs.GivenNumbers.{MetNumbersStand.{shown_are_numbers, as_few}, AskedOfAGroup.{met_by_facts}}
 
 -- a spool is given for facts that fit and are placed
 pub given_of_facts : (profile : Profile) (how : Marks) (facts : List Fact) → AllByRecursion (IsFitting profile) facts → AllByRecursion (Placed how facts) facts

@@ -1,39 +1,22 @@
 -- What stands together holds of the spool that is given for it.
-use Rattle.std.proofs.Common.{◌≡◌, ℕ, ◌+◌, ◌<◌, ◌⊎◌, Bool, true, false, cond, ◌&&◌, ◌==◌, IsTrue, List, [], ◌∷◌, ◌++◌, map}
-use Rattle.std.proofs.Common.{length, Option, None, Some, is_some, option_map, inl, inr, refl, sym, ap, subst, ◌∙◌}
-use Rattle.std.specs.Prelude.{IsFalse, IfSome, unwrap_or}
-use Rattle.std.specs.List.{AllByRecursion, list_any}
-use Rattle.std.specs.Option.{option_map_or}
-use Rattle.std.specs.Ordering.{nat_cmp}
-use Rattle.std.specs.FinMap.{get, empty, entries, get-entries, get-empty, nat_cmp-IsAntisymmetric, slice_cmp-IsAntisymmetric}
-use Rattle.std.proofs.lemmas.Bool.{true≢false, and_parts, and_from, and_cases, false_from_ne_true, not-false, eqb-true, eq-eqb}
-use Rattle.std.proofs.lemmas.List.Elements.{All-from_recursion}
-use Rattle.nntp_article.specs.Article.Parts.{head_part, body_part, is_empty, is_head, Id, Line}
-use Rattle.nntp_article.specs.Session.Spool.{Spool, Text, Numbers, IsNumber, IsGroup, numbers, HasText, text_of, Name}
+use Rattle.std.proofs.Common.{◌≡◌, ℕ, ◌+◌, ◌<◌, ◌⊎◌, Bool, true, false, cond, ◌&&◌, ◌==◌, IsTrue, List, [], ◌∷◌, ◌++◌, map, length, Option, None, Some, is_some}
+use Rattle.std.proofs.{Common.{option_map, inl, inr, refl, sym, ap, subst, ◌∙◌}, lemmas.Bool.{true≢false, and_parts, and_from, and_cases, false_from_ne_true}}
+use Rattle.std.{proofs.lemmas.{Bool.{not-false, eqb-true, eq-eqb}, List.Elements.{All-from_recursion}}, specs.Prelude.{IsFalse, IfSome, unwrap_or}}
+use Rattle.std.specs.{List.{AllByRecursion, list_any}, Option.{option_map_or}, Ordering.{nat_cmp}, FinMap.{get, empty, entries, get-entries, get-empty}}
+use Rattle.std.specs.FinMap.{nat_cmp-IsAntisymmetric, slice_cmp-IsAntisymmetric}
+use Rattle.nntp_article.specs.{Article.Parts.{head_part, body_part, is_empty, is_head, Id, Line}, Session.Spool.{Spool, Text, Numbers, IsNumber, IsGroup}}
+use Rattle.nntp_article.specs.Session.{Spool.{numbers, HasText, text_of, Name}, Machine.{is_same, head_fits, active_fits, ActivesAgree}}
 use Rattle.nntp_article.specs.declared.session.profile.Profile.{Profile}
-use Rattle.nntp_article.specs.Session.Machine.{is_same, head_fits, active_fits, ActivesAgree}
-use Rattle.nntp_said.specs.Asks.{Ask, Meets, Has, Bounds}
-use Rattle.nntp_said.specs.Facts.{Fact, Holds, ThereIs, ThereIsNo, Asks, IdAt, TextIs, NoArticle, GroupsAre}
-use Rattle.nntp_facts.specs.Given.{asks_in, asks_of, shows_group, id_in, id_shown, first_given, mentions, is_mentioned}
-use Rattle.nntp_facts.specs.Given.{gives_article, head_in, body_in, plain_head, invented, unshown_in, unshown_ids, IsGiven}
-use Rattle.nntp_facts.specs.Together.{IsWellFormed, denies_group, number_in, shows_article, denies_article, GiveOne, Together}
-use Rattle.nntp_facts.proofs.Members.{In, all_at, all_part, all_from, any_in, found_in, from_map, contains_in, in_contains, first_found}
-use Rattle.nntp_facts.proofs.GivenNumbers.LeastNumber.{not_number}
-use Rattle.nntp_facts.proofs.GivenNumbers.GivenNumbersMeet.{given_meet}
-use Rattle.nntp_facts.proofs.Together.FactsOfASpoolStand.{same_itself, in_listed, matching}
-use Rattle.nntp_facts.proofs.Session.NumbersOfShownGroups.{IsSelectable, Placed}
-use Rattle.nntp_facts.proofs.Session.FittingFacts.{IsFitting}
-use Rattle.nntp_facts.proofs.Ids.InventedIds.{invented_number}
-use Rattle.nntp_facts.proofs.Ids.NumbersOfInventedIds.{Numbered, numbered, of_numbered, part_numbered, unshown_there, unshown_apart, mentioned}
-use Rattle.nntp_wire.specs.Listing.{ActiveValue}
-use Rattle.nntp_wire.specs.declared.command.What.{What}
-use Rattle.nntp_wire.specs.declared.command.What.TheVariants.{Article, Head, Body, Stat}
-use Rattle.nntp_wire.specs.Name.{IsMessageId}
-use Rattle.nntp_wire.specs.Wildmat.{MatchesName}
-use Rattle.nntp_wire.specs.Decided.{matches_name}
-use Rattle.nntp_facts.proofs.Maps.{entry_in}
-use Rattle.nntp_wire.proofs.OptionLemmas.{none_of, some_is}
-use Rattle.nntp_wire.specs.declared.marks.Marks.{Marks}
+use Rattle.nntp_said.specs.{Asks.{Ask, Meets, Has, Bounds}, Facts.{Fact, Holds, ThereIs, ThereIsNo, Asks, IdAt, TextIs, NoArticle, GroupsAre}}
+use Rattle.nntp_facts.specs.Given.{asks_in, asks_of, shows_group, id_in, id_shown, first_given, mentions, is_mentioned, gives_article, head_in, body_in}
+use Rattle.nntp_facts.specs.{Given.{plain_head, invented, unshown_in, unshown_ids, IsGiven}, Inner.Together.{IsWellFormed, Together}, Together.{denies_group}}
+use Rattle.nntp_facts.{specs.Together.{number_in, shows_article, denies_article, GiveOne}, proofs.Members.{In, all_at, all_part, all_from, any_in, found_in}}
+use Rattle.nntp_facts.proofs.{Members.{from_map, contains_in, in_contains, first_found}, GivenNumbers.{LeastNumber.{not_number}, GivenNumbersMeet.{given_meet}}}
+use Rattle.nntp_facts.proofs.{Together.FactsOfASpoolStand.{same_itself, in_listed, matching}, Session.NumbersOfShownGroups.{IsSelectable, Placed}}
+use Rattle.nntp_facts.proofs.{Session.FittingFacts.{IsFitting}, Ids.{InventedIds.{invented_number}, NumbersOfInventedIds.{Numbered, numbered, of_numbered}}}
+use Rattle.nntp_facts.proofs.{Ids.NumbersOfInventedIds.{part_numbered, unshown_there, unshown_apart, mentioned}, Maps.{entry_in}}
+use Rattle.nntp_wire.specs.{Listing.{ActiveValue}, declared.{command.What.{What, TheVariants.{Article, Head, Body, Stat}}, marks.Marks.{Marks}}}
+use Rattle.nntp_wire.{specs.{Name.{IsMessageId}, Wildmat.{MatchesName}, Decided.{matches_name}}, proofs.OptionLemmas.{none_of, some_is}}
 
 -- an id at a number is one of the entries
 pub entry_of_number : (N : Numbers) (n : ℕ) (id : Id) → get N n ≡ Some id → In (n, id) (entries N)

@@ -1,30 +1,19 @@
 -- The spool that is given is a spool.
-use Rattle.std.specs.Ordering.{nat_cmp}
-use Rattle.nntp_facts.proofs.GivenNumbers.LeastNumber.{not_number}
-use Rattle.nntp_facts.proofs.Keeping.AsksSettled.{within_one}
-use Rattle.std.proofs.Common.{◌≡◌, ℕ, ◌≤◌, Bool, true, false, cond, ◌&&◌, IsTrue, List, [], ◌∷◌, ◌++◌, Option, None, Some, is_some, IsSome, inl, inr, refl, sym, ap, subst, ◌∙◌, arith}
-use Rattle.std.specs.Prelude.{unwrap_or}
-use Rattle.std.specs.List.{AllByRecursion, list_any}
-use Rattle.std.specs.Option.{option_map_or}
-use Rattle.std.specs.FinMap.{get, len, empty_of_len, get-empty}
-use Rattle.std.specs.Cmp.Lexicographic.{same_text}
-use Rattle.std.proofs.lemmas.Bool.{true≢false, and_parts, or_cases, cases_eq}
-use Rattle.std.proofs.lemmas.List.Elements.{All-from_recursion}
-use Rattle.nntp_article.specs.Article.Parts.{is_empty, is_head, said_id, head_part, body_part, Id, Line}
-use Rattle.nntp_article.specs.Session.Spool.{Spool, Text, IsNumber, IsGroup, numbers, IsSpool, Name, is_line, Numbers}
+use Rattle.std.specs.{Ordering.{nat_cmp}, Prelude.{unwrap_or}, List.{AllByRecursion, list_any}, Option.{option_map_or}, FinMap.{get, len, empty_of_len}}
+use Rattle.std.{specs.{FinMap.{get-empty}, Cmp.Lexicographic.{same_text}}, proofs.Common.{◌≡◌, ℕ, ◌≤◌, Bool, true, false, cond, ◌&&◌, IsTrue, List, [], ◌∷◌}}
+use Rattle.std.proofs.{Common.{◌++◌, Option, None, Some, is_some, IsSome, inl, inr, refl, sym, ap, subst, ◌∙◌, arith}, lemmas.Bool.{true≢false, and_parts}}
+use Rattle.std.proofs.lemmas.{Bool.{or_cases, cases_eq}, List.Elements.{All-from_recursion}}
+use Rattle.nntp_facts.proofs.{GivenNumbers.LeastNumber.{not_number}, Keeping.{AsksSettled.{within_one}, ShownNames.{shown_named}}, Members.{In, all_at}}
+use Rattle.nntp_facts.proofs.{Members.{all_both, any_in, found_in, first_found}, Ids.PlainHead.{plain_says, plain_is_head, plain_is_clean}}
+use Rattle.nntp_facts.proofs.{Session.{FittingFacts.{IsFitting}, NumbersWithinLimit.{free_in_limit, shown_in_limit, end_in_limit}}, Given.GivenHolds.{Setting}}
+use Rattle.nntp_facts.{proofs.Given.GivenHolds.{one_given, group_of_number, id_cases, shown_at, unshown_once}, specs.Given.{mentions, is_mentioned}}
+use Rattle.nntp_facts.specs.Given.{gives_article, id_shown, first_given, head_in, body_in, plain_head, asks_of, is_shown, is_given_end, says_some}
+use Rattle.nntp_facts.specs.{Inner.Together.{IsWellFormed}, Together.{number_in, IsFewFor}}
+use Rattle.nntp_article.specs.{Article.Parts.{is_empty, is_head, said_id, head_part, body_part, Id, Line}, Session.Spool.{Spool, Text, IsNumber, IsGroup}}
+use Rattle.nntp_article.specs.Session.{Spool.{numbers, IsSpool, Name, is_line, Numbers}, Machine.{is_same, says_own_id}}
 use Rattle.nntp_article.specs.declared.session.profile.Profile.{Profile}
-use Rattle.nntp_article.specs.Session.Machine.{is_same, says_own_id}
 use Rattle.nntp_said.specs.Facts.{Fact, TextIs}
-use Rattle.nntp_facts.specs.Given.{mentions, is_mentioned, gives_article, id_shown, first_given, head_in, body_in, plain_head, asks_of, is_shown, is_given_end, says_some}
-use Rattle.nntp_facts.specs.Together.{IsWellFormed, number_in, IsFewFor}
-use Rattle.nntp_facts.proofs.Members.{In, all_at, all_both, any_in, found_in, first_found}
-use Rattle.nntp_facts.proofs.Keeping.ShownNames.{shown_named}
-use Rattle.nntp_facts.proofs.Ids.PlainHead.{plain_says, plain_is_head, plain_is_clean}
-use Rattle.nntp_facts.proofs.Session.FittingFacts.{IsFitting}
-use Rattle.nntp_facts.proofs.Session.NumbersWithinLimit.{free_in_limit, shown_in_limit, end_in_limit}
-use Rattle.nntp_facts.proofs.Given.GivenHolds.{Setting, one_given, group_of_number, id_cases, shown_at, unshown_once}
-use Rattle.nntp_wire.specs.Name.{IsGroupName, IsMessageId}
-use Rattle.nntp_wire.specs.declared.command.What.TheVariants.{Article, Head, Body}
+use Rattle.nntp_wire.specs.{Name.{IsGroupName, IsMessageId}, declared.command.What.TheVariants.{Article, Head, Body}}
 
 -- a head for an id, without lines that hold NUL, CR or LF, and it says no other id
 record IsHeadOf (id : Id) (head : List Line) : Type 0 where

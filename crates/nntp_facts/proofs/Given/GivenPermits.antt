@@ -1,18 +1,10 @@
 -- The spool that is given for a session permits it.
-use Rattle.std.proofs.Common.{◌<◌, ◌^◌, List}
-use Rattle.std.specs.List.{AllByRecursion}
-use Rattle.nntp_article.specs.Session.Spool.{Spool, IsSpool}
-use Rattle.nntp_article.specs.declared.session.profile.Profile.{Profile}
-use Rattle.nntp_article.specs.Session.Machine.{Run, start}
-use Rattle.nntp_said.specs.declared.position.Position.TheVariants.{Nowhere}
-use Rattle.nntp_said.specs.Facts.{Holds, FitsAll}
-use Rattle.nntp_facts.specs.Given.{IsGiven, facts_of_session, size, HasAtLeast}
-use Rattle.nntp_facts.specs.Together.{Together}
-use Rattle.nntp_said.proofs.CurrentArticle.{read_off, run_from}
-use Rattle.nntp_said.proofs.FactsHold.{facts_of_run, run_of_facts}
-use Rattle.nntp_facts.proofs.Session.NumbersOfShownGroups.{session_placed}
-use Rattle.nntp_facts.proofs.Session.FittingFacts.{session_fitting}
-use Rattle.nntp_facts.proofs.Together.FactsOfASpoolStand.{stand}
+use Rattle.std.{proofs.Common.{◌<◌, ◌^◌, List}, specs.List.{AllByRecursion}}
+use Rattle.nntp_article.specs.{Session.{Spool.{Spool, IsSpool}, Machine.{Run, start}}, declared.session.profile.Profile.{Profile}}
+use Rattle.nntp_said.{specs.{declared.position.Position.TheVariants.{Nowhere}, Facts.{Holds}, Inner.Facts.{FitsAll}}, proofs.CurrentArticle.{read_off}}
+use Rattle.nntp_said.proofs.{CurrentArticle.{run_from}, FactsHold.{facts_of_run, run_of_facts}}
+use Rattle.nntp_facts.specs.{Given.{IsGiven, facts_of_session, HasAtLeast}, Inner.{Given.{size}, Together.{Together}}}
+use Rattle.nntp_facts.proofs.{Session.{NumbersOfShownGroups.{session_placed}, FittingFacts.{session_fitting}}, Together.FactsOfASpoolStand.{stand}}
 use Rattle.nntp_facts.proofs.Given.GivenHasFacts.{given_has, least_of_facts}
 use Rattle.nntp_wire.specs.Answer.{Asked, Response}
 

@@ -1,20 +1,11 @@
 -- What stands together is given a spool, and whether some spool permits a session is decided.
 use Rattle.std.proofs.Common.{◌<◌, ◌^◌, ◌⊎◌, ◌↔◌, List, inl, inr}
-use Rattle.nntp_article.proofs.SessionLemmas.FiniteMapsDecided.{Dec, dec_both}
-use Rattle.nntp_article.proofs.SessionLemmas.AgreementDecided.{dec_run}
-use Rattle.nntp_article.specs.Session.Spool.{Spool, IsSpool}
-use Rattle.nntp_article.specs.declared.session.profile.Profile.{Profile}
-use Rattle.nntp_article.specs.Session.Machine.{Run, start}
-use Rattle.nntp_said.specs.Facts.{FitsAll}
-use Rattle.nntp_facts.specs.Given.{IsGiven, facts_of_session, size}
-use Rattle.nntp_facts.specs.Together.{Together}
-use Rattle.nntp_facts.specs.Permits.{SomePermits}
-use Rattle.nntp_facts.proofs.Given.GivenPermits.{stands, given_permits}
-use Rattle.nntp_facts.proofs.Session.NumbersOfShownGroups.{session_placed}
-use Rattle.nntp_facts.proofs.Session.FittingFacts.{session_fitting}
-use Rattle.nntp_facts.proofs.Given.ConstructedSpool.{made}
-use Rattle.nntp_facts.proofs.Given.GivenHasFacts.{given_of_facts}
-use Rattle.nntp_facts.proofs.Given.SpoolsDecided.{dec_spool}
+use Rattle.nntp_article.{proofs.SessionLemmas.{FiniteMapsDecided.{Dec, dec_both}, AgreementDecided.{dec_run}}, specs.Session.Spool.{Spool, IsSpool}}
+use Rattle.nntp_article.specs.{Session.Machine.{Run, start}, declared.session.profile.Profile.{Profile}}
+use Rattle.nntp_said.specs.Inner.Facts.{FitsAll}
+use Rattle.nntp_facts.specs.{Given.{IsGiven, facts_of_session}, Inner.{Given.{size}, Together.{Together}, Permits.{SomePermits}}}
+use Rattle.nntp_facts.proofs.Given.{GivenPermits.{stands, given_permits}, ConstructedSpool.{made}, GivenHasFacts.{given_of_facts}, SpoolsDecided.{dec_spool}}
+use Rattle.nntp_facts.proofs.Session.{NumbersOfShownGroups.{session_placed}, FittingFacts.{session_fitting}}
 use Rattle.nntp_wire.specs.Answer.{Asked, Response}
 
 -- the spool that is made for a session

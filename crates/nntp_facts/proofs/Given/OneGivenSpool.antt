@@ -1,19 +1,11 @@
 -- There is one given spool at most.
 use Rattle.std.proofs.Common.{◌≡◌, ℕ, ◌+◌, cond, List, [], ◌∷◌, ◌++◌, map, Option, None, Some, is_some, IsSome, inl, inr, refl, sym, ap, subst, ◌∙◌}
-use Rattle.std.specs.Prelude.{unwrap_or}
-use Rattle.std.specs.List.{flat_map}
-use Rattle.std.specs.Cmp.{nat_cmp_total}
-use Rattle.std.specs.Cmp.Lexicographic.{nat_list_cmp_total}
+use Rattle.std.{proofs.lemmas.Bool.{true≢false}, specs.{Prelude.{unwrap_or}, List.{flat_map}, Cmp.{nat_cmp_total, Lexicographic.{nat_list_cmp_total}}}}
 use Rattle.std.specs.FinMap.{get, keys, entries, empty, same_entries_map, same_map, nat_cmp-IsAntisymmetric}
-use Rattle.std.proofs.lemmas.Bool.{true≢false}
-use Rattle.nntp_article.specs.Session.Spool.{Spool, Text, Numbers, IsNumber, IsGroup, numbers, Name}
+use Rattle.nntp_article.specs.{Session.Spool.{Spool, Text, Numbers, IsNumber, IsGroup, numbers, Name}, Article.Parts.{Id}}
 use Rattle.nntp_said.specs.Facts.{Fact}
-use Rattle.nntp_facts.specs.Given.{id_shown, is_mentioned, invented, AreInvented, unshown_in, IsGiven}
-use Rattle.nntp_facts.proofs.GivenNumbers.FirstFreeNumber.{first_free_once}
-use Rattle.nntp_facts.proofs.Members.{In}
-use Rattle.nntp_facts.proofs.Maps.{same_keys, in_get}
-use Rattle.nntp_facts.proofs.Given.ConstructedSpool.{names_apart}
-use Rattle.nntp_article.specs.Article.Parts.{Id}
+use Rattle.nntp_facts.{specs.Given.{id_shown, is_mentioned, invented, AreInvented, unshown_in, IsGiven}, proofs.GivenNumbers.FirstFreeNumber.{first_free_once}}
+use Rattle.nntp_facts.proofs.{Members.{In}, Maps.{same_keys, in_get}, Given.ConstructedSpool.{names_apart}}
 
 -- ids at numbers for which one is shown are those
 abbrev Agree : List Fact → Name → List (ℕ × Id) → Type 0

@@ -1,27 +1,14 @@
 -- Several sessions by what they say: a spool permits each of them exactly if they fit and it has all their facts; so some spool permits them exactly if they fit and all of it stands together.
-use Rattle.std.proofs.Common.{◌<◌, ◌^◌, ◌⊎◌, ◌↔◌, List, [], ◌∷◌, inl, inr}
-use Rattle.std.specs.List.{AllByRecursion}
-use Rattle.nntp_article.proofs.SessionLemmas.FiniteMapsDecided.{Dec, dec_both}
-use Rattle.nntp_article.proofs.SessionLemmas.AgreementDecided.{dec_run}
-use Rattle.nntp_article.specs.Session.Spool.{Spool, IsSpool}
-use Rattle.nntp_article.specs.declared.session.profile.Profile.{Profile}
-use Rattle.nntp_article.specs.Session.Machine.{start}
-use Rattle.nntp_said.specs.declared.position.Position.TheVariants.{Nowhere}
-use Rattle.nntp_said.specs.Facts.{Fact, Holds}
-use Rattle.nntp_facts.specs.Given.{IsGiven, HasAtLeast, size}
-use Rattle.nntp_facts.specs.Permits.{SomePermits}
-use Rattle.nntp_facts.specs.Together.{Together}
-use Rattle.nntp_facts.proofs.Members.{all_from, all_both, all_front, all_back}
-use Rattle.nntp_said.proofs.CurrentArticle.{run_from}
+use Rattle.std.{proofs.Common.{◌<◌, ◌^◌, ◌⊎◌, ◌↔◌, List, [], ◌∷◌, inl, inr}, specs.List.{AllByRecursion}}
+use Rattle.nntp_article.{proofs.SessionLemmas.{FiniteMapsDecided.{Dec, dec_both}, AgreementDecided.{dec_run}}, specs.Session.Spool.{Spool, IsSpool}}
+use Rattle.nntp_article.specs.{Session.Machine.{start}, declared.session.profile.Profile.{Profile}}
+use Rattle.nntp_said.{specs.{declared.position.Position.TheVariants.{Nowhere}, Facts.{Fact, Holds}}, proofs.CurrentArticle.{run_from}}
 use Rattle.nntp_said.proofs.FactsHold.{run_of_facts}
-use Rattle.nntp_facts.proofs.Session.FittingFacts.{IsFitting, session_fitting}
-use Rattle.nntp_facts.proofs.Session.NumbersOfShownGroups.{Among, Placed, placed_among}
-use Rattle.nntp_facts.proofs.Together.FactsOfASpoolStand.{stand}
-use Rattle.nntp_facts.proofs.Given.GivenHasFacts.{given_of_facts, given_has, least_of_facts}
-use Rattle.nntp_facts.proofs.Given.GivenPermits.{said}
-use Rattle.nntp_facts.proofs.Given.ConstructedSpool.{made}
-use Rattle.nntp_facts.proofs.Given.SpoolsDecided.{dec_spool}
-use Rattle.nntp_facts.specs.Answered.{Answered, PermitsEach, SomePermitsEach, FitEach, facts_in, facts_of_all}
+use Rattle.nntp_facts.specs.{Given.{IsGiven, HasAtLeast}, Inner.{Given.{size}, Permits.{SomePermits}, Together.{Together}, Answered.{FitEach}}}
+use Rattle.nntp_facts.{specs.Answered.{Answered, PermitsEach, SomePermitsEach, facts_in, facts_of_all}, proofs.Members.{all_from, all_both, all_front}}
+use Rattle.nntp_facts.proofs.{Members.{all_back}, Session.{FittingFacts.{IsFitting, session_fitting}, NumbersOfShownGroups.{Among, Placed, placed_among}}}
+use Rattle.nntp_facts.proofs.{Together.FactsOfASpoolStand.{stand}, Given.{GivenHasFacts.{given_of_facts, given_has, least_of_facts}, GivenPermits.{said}}}
+use Rattle.nntp_facts.proofs.Given.{ConstructedSpool.{made}, SpoolsDecided.{dec_spool}}
 
 -- ---- a spool permits sessions exactly if they fit and it has their facts
 

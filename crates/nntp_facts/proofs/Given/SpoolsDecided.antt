@@ -1,23 +1,13 @@
 -- Whether two maps are a spool can be decided.
-use Rattle.std.proofs.Common.{◌≡◌, ℕ, ◌≤◌, IsTrue, ◌++◌, Option, None, Some, is_some, IsSome, inl, refl, sym, ap, subst, ◌∙◌}
-use Rattle.std.proofs.lemmas.Bool.{cases_eq}
-use Rattle.std.specs.Prelude.{unwrap_or}
-use Rattle.std.specs.declared.cmp.Ordering.{Ordering}
-use Rattle.std.specs.List.{AllByRecursion}
-use Rattle.std.specs.Cmp.{IsTotalOrder, nat_cmp_total}
-use Rattle.std.specs.Cmp.Lexicographic.{nat_list_cmp_total}
-use Rattle.std.specs.FinMap.{FinMap, get, entries, empty, IsAntisymmetric, nat_cmp-IsAntisymmetric}
-use Rattle.std.proofs.lemmas.List.Elements.{recursion_from_All, All-from_recursion}
+use Rattle.std.proofs.{Common.{◌≡◌, ℕ, ◌≤◌, IsTrue, ◌++◌, Option, None, Some, is_some, IsSome, inl, refl, sym, ap, subst, ◌∙◌}, lemmas.Bool.{cases_eq}}
+use Rattle.std.{proofs.lemmas.List.Elements.{recursion_from_All, All-from_recursion}, specs.{Prelude.{unwrap_or}, declared.cmp.Ordering.{Ordering}}}
+use Rattle.std.specs.{List.{AllByRecursion}, Cmp.{IsTotalOrder, nat_cmp_total, Lexicographic.{nat_list_cmp_total}}, FinMap.{FinMap, get, entries, empty}}
+use Rattle.std.specs.FinMap.{IsAntisymmetric, nat_cmp-IsAntisymmetric}
 use Rattle.nntp_article.proofs.SessionLemmas.FiniteMapsDecided.{Dec, dec_true, dec_le, dec_both, dec_three, dec_by, dec_to, dec_texts}
-use Rattle.nntp_article.specs.Article.Parts.{is_head, said_id, Id}
-use Rattle.nntp_article.specs.Session.Spool.{Spool, Text, Numbers, numbers, IsSpool, Name, is_line}
-use Rattle.nntp_facts.proofs.Members.{all_at, all_from, dec_each_in}
-use Rattle.nntp_facts.proofs.Given.GivenHolds.{group_of_number}
-use Rattle.nntp_facts.proofs.Maps.{get_in, in_get}
-use Rattle.nntp_facts.proofs.Given.ConstructedSpool.{names_apart}
-use Rattle.nntp_wire.specs.Decided.{is_group_name, is_message_id}
-use Rattle.nntp_wire.specs.Name.{IsMessageId, IsGroupName}
-use Rattle.nntp_wire.proofs.DecidedLemmas.{message_id-iff, group_name-iff}
+use Rattle.nntp_article.specs.{Article.Parts.{is_head, said_id, Id}, Session.Spool.{Spool, Text, Numbers, numbers, IsSpool, Name, is_line}}
+use Rattle.nntp_facts.proofs.{Members.{all_at, all_from, dec_each_in}, Given.{GivenHolds.{group_of_number}, ConstructedSpool.{names_apart}}, Maps.{get_in}}
+use Rattle.nntp_facts.proofs.Maps.{in_get}
+use Rattle.nntp_wire.{specs.{Decided.{is_group_name, is_message_id}, Name.{IsMessageId, IsGroupName}}, proofs.DecidedLemmas.{message_id-iff, group_name-iff}}
 use Rattle.nntp_wire.proofs.OptionLemmas.{some_is}
 
 -- what can be decided of each entry of a map

@@ -1,15 +1,9 @@
 -- What a spool that meets all that a session says is asked of one group.
-use Rattle.std.proofs.Common.{◌≡◌, Bool, true, false, cond, List, [], ◌∷◌, ap, sym, subst, refl}
-use Rattle.std.proofs.lemmas.List.Elements.{recursion_from_All}
-use Rattle.std.specs.List.{AllByRecursion}
-use Rattle.std.specs.Cmp.Lexicographic.{same_text}
-use Rattle.nntp_article.specs.Session.Spool.{Spool, numbers, Name}
-use Rattle.nntp_article.specs.Session.Machine.{is_same}
-use Rattle.nntp_said.specs.Asks.{Ask, Meets, Has, Bounds}
-use Rattle.nntp_said.specs.Facts.{Fact, Holds, Asks, IdAt, GroupsAre}
-use Rattle.nntp_facts.specs.Given.{asks_in, asks_of}
-use Rattle.nntp_facts.proofs.Members.{all_at, all_parts}
-use Rattle.std.proofs.Common.{is_some}
+use Rattle.std.proofs.{Common.{◌≡◌, Bool, true, false, cond, List, [], ◌∷◌, ap, sym, subst, refl, is_some}, lemmas.List.Elements.{recursion_from_All}}
+use Rattle.std.specs.{List.{AllByRecursion}, Cmp.Lexicographic.{same_text}}
+use Rattle.nntp_article.specs.Session.{Spool.{Spool, numbers, Name}, Machine.{is_same}}
+use Rattle.nntp_said.specs.{Asks.{Ask, Meets, Has, Bounds}, Facts.{Fact, Holds, Asks, IdAt, GroupsAre}}
+use Rattle.nntp_facts.{specs.Given.{asks_in, asks_of}, proofs.Members.{all_at, all_parts}}
 
 -- what is asked under the test of the name
 if_same : (S : Spool) (name g : Name) (ask : Ask) → Meets (numbers S g) ask → (b : Bool) → is_same g name ≡ b → AllByRecursion (Meets (numbers S name)) (cond b (ask ∷ []) [])

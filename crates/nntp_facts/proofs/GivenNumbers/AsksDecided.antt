@@ -1,22 +1,15 @@
 -- Whether each part of what is asked of a group stands can be decided, where there are the given numbers.
-use Rattle.std.proofs.Common.{◌≡◌, ℕ, Bool, true, false, ◌||◌, ◌==◌, ◌⊎◌, IsTrue, List, is_some, inl, inr, refl, sym, ◌∙◌, arith}
-use Rattle.std.specs.Prelude.{not, nat_le, IsFalse}
-use Rattle.std.specs.List.{AllByRecursion, list_all}
-use Rattle.std.specs.Cmp.{nat_cmp_total}
-use Rattle.std.specs.FinMap.{get, len, keys, contains_key-keys, nat_cmp-IsAntisymmetric}
-use Rattle.std.proofs.lemmas.Bool.{true≢false, not-true, not-false, eqb-true, eq-eqb, leb-true, le-leb, or_cases, or_left, or_right, cases_lt}
+use Rattle.std.proofs.{Common.{◌≡◌, ℕ, Bool, true, false, ◌||◌, ◌==◌, ◌⊎◌, IsTrue, List, is_some, inl, inr, refl, sym, ◌∙◌, arith}, lemmas.Bool.{true≢false}}
+use Rattle.std.{proofs.lemmas.Bool.{not-true, not-false, eqb-true, eq-eqb, leb-true, le-leb, or_cases, or_left, or_right, cases_lt}, specs.Prelude.{not}}
+use Rattle.std.specs.{Prelude.{nat_le, IsFalse}, List.{AllByRecursion, list_all}, Cmp.{nat_cmp_total}, FinMap.{get, len, keys, contains_key-keys}}
+use Rattle.std.specs.FinMap.{nat_cmp-IsAntisymmetric}
 use Rattle.nntp_article.proofs.SessionLemmas.FiniteMapsDecided.{Dec, dec_true, dec_le, dec_by, dec_all, each_key, passes, fails}
 use Rattle.nntp_article.specs.Session.Spool.{Numbers, IsNumber}
-use Rattle.nntp_facts.specs.declared.demand.Demand.{Demand}
-use Rattle.nntp_facts.specs.declared.demand.Demand.TheVariants.{NoDemand, NotEmpty, OnlyOne, SecondIs, Impossible}
-use Rattle.nntp_said.specs.Asks.{Ask, Estimates}
-use Rattle.nntp_facts.specs.Given.{demand, is_known, is_denied, IsGivenNumber, HasGivenNumbers}
-use Rattle.nntp_facts.specs.Together.{MeetsDemand, IsFewFor}
-use Rattle.nntp_facts.specs.Conflict.{AreTooMany}
-use Rattle.nntp_facts.proofs.Members.{all_at, all_from}
-use Rattle.nntp_facts.proofs.GivenNumbers.LeastNumber.{Empty, Begins, firsts}
-use Rattle.nntp_facts.proofs.GivenNumbers.GivenNumbersMeet.{same_demand}
+use Rattle.nntp_facts.specs.{declared.demand.Demand.{Demand, TheVariants.{NoDemand, NotEmpty, OnlyOne, SecondIs, Impossible}}, Given.{demand, is_known}}
+use Rattle.nntp_facts.specs.{Given.{is_denied, IsGivenNumber, HasGivenNumbers}, Together.{MeetsDemand, IsFewFor}, Conflict.{AreTooMany}}
+use Rattle.nntp_facts.proofs.{Members.{all_at, all_from}, GivenNumbers.{LeastNumber.{Empty, Begins, firsts}, GivenNumbersMeet.{same_demand}}}
 use Rattle.nntp_facts.proofs.GivenNumbers.CountOfGivenNumbers.{as_many_given}
+use Rattle.nntp_said.specs.Asks.{Ask, Estimates}
 
 -- whether the numbers meet a demand
 dec_demand : (N : Numbers) (d : Demand) → Dec (MeetsDemand d (IsNumber N))

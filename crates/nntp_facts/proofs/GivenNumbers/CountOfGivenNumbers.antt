@@ -1,18 +1,12 @@
 -- The given numbers are those that are known, and the one more.
-use Rattle.std.proofs.Common.{refl, ◌≡◌, ℕ, ◌+◌, ◌↔◌, cond, IsTrue, List, [], Some, is_some, inl, inr, sym, ap, subst, ◌∙◌, arith}
-use Rattle.std.specs.Ordering.{nat_cmp, eq_by_cmp}
-use Rattle.std.specs.Cmp.{nat_cmp_total, unsigned_tied}
-use Rattle.std.specs.FinMap.{get, len, insert, get-insert, len-insert}
-use Rattle.std.proofs.lemmas.Bool.{true≢false, cases_eq, eq-eqb, ne_eqb, false_from_ne_true, ltb-true, lt-ltb}
+use Rattle.std.proofs.{Common.{refl, ◌≡◌, ℕ, ◌+◌, ◌↔◌, cond, IsTrue, List, [], Some, is_some, inl, inr, sym, ap, subst, ◌∙◌, arith}, lemmas.Bool.{true≢false}}
+use Rattle.std.{proofs.lemmas.Bool.{cases_eq, eq-eqb, ne_eqb, false_from_ne_true, ltb-true, lt-ltb}, specs.{Ordering.{nat_cmp, eq_by_cmp}, Cmp.{nat_cmp_total}}}
+use Rattle.std.specs.{Cmp.{unsigned_tied}, FinMap.{get, len, insert, get-insert, len-insert}}
 use Rattle.nntp_article.specs.Session.Spool.{Numbers, IsNumber}
 use Rattle.nntp_said.specs.Asks.{Ask}
-use Rattle.nntp_facts.specs.Given.{is_known, demand, wants, IsOneMore, IsGivenNumber, HasGivenNumbers}
-use Rattle.nntp_facts.specs.declared.demand.Demand.{Demand}
-use Rattle.nntp_facts.specs.declared.demand.Demand.TheVariants.{NoDemand, NotEmpty, OnlyOne, SecondIs, Impossible}
-use Rattle.nntp_facts.proofs.GivenNumbers.MetNumbersStand.{one_more_once, second_shown, shown_known}
-use Rattle.nntp_facts.proofs.GivenNumbers.GivenNumbersMeet.{same_demand}
-use Rattle.nntp_facts.specs.Together.{MeetsDemand}
-use Rattle.nntp_facts.proofs.Maps.{len_le}
+use Rattle.nntp_facts.specs.{Given.{is_known, demand, wants, IsOneMore, IsGivenNumber, HasGivenNumbers}, declared.demand.Demand.{Demand}}
+use Rattle.nntp_facts.specs.{declared.demand.Demand.TheVariants.{NoDemand, NotEmpty, OnlyOne, SecondIs, Impossible}, Together.{MeetsDemand}}
+use Rattle.nntp_facts.proofs.{GivenNumbers.{MetNumbersStand.{one_more_once, second_shown, shown_known}, GivenNumbersMeet.{same_demand}}, Maps.{len_le}}
 
 -- the one more isn't known
 more_unshown : (asks : List Ask) (e : ℕ) → IsOneMore asks e → IsTrue (is_known asks e) → ⊥

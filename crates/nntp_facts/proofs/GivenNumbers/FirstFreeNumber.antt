@@ -1,9 +1,7 @@
 -- The first number from one on that isn't taken: the search for it, and that there is one at most.
 use Rattle.std.proofs.Common.{◌≡◌, ℕ, zero, suc, ◌+◌, ◌<◌, ◌≤◌, Bool, true, false, cond, Option, None, Some, inl, inr, refl, sym, ap, ◌∙◌, arith}
-use Rattle.std.specs.Prelude.{IsFalse}
-use Rattle.std.proofs.lemmas.Bool.{cases_eq, cases_lt, cases_order, true≢false}
-use Rattle.nntp_facts.specs.Given.{IsFirstFree}
-use Rattle.nntp_facts.specs.Readers.{free}
+use Rattle.std.{proofs.lemmas.Bool.{cases_eq, cases_lt, cases_order, true≢false}, specs.Prelude.{IsFalse}}
+use Rattle.nntp_facts.specs.{Given.{IsFirstFree}, Inner.Readers.{free}}
 
 -- there is one at most
 pub first_free_once : (taken : ℕ → Bool) (k i j : ℕ) → IsFirstFree taken k i → IsFirstFree taken k j → i ≡ j

@@ -1,25 +1,17 @@
 -- The given numbers meet what is asked of them, if that stands together.
-use Rattle.nntp_wire.specs.declared.marks.Marks.TheVariants.{Lenient, Strict}
-use Rattle.nntp_wire.specs.declared.marks.Marks.{Marks}
+use Rattle.nntp_wire.{specs.declared.marks.Marks.{Marks, TheVariants.{Lenient, Strict}}, proofs.OptionLemmas.{none_of}}
 use Rattle.std.proofs.Common.{◌≡◌, ℕ, ◌≤◌, ◌⊎◌, Bool, true, false, ◌==◌, IsTrue, List, [], ◌∷◌, Some, inl, inr, refl, sym, ap, subst, ◌∙◌, arith}
-use Rattle.std.specs.Prelude.{IsFalse, cond}
-use Rattle.std.specs.List.{AllByRecursion, list_any}
-use Rattle.std.proofs.lemmas.Bool.{true≢false, and_cases, false_from_ne_true, eqb-true, ltb-true, ltb-false, cases_lt, eq-eqb}
-use Rattle.std.proofs.lemmas.Bool.{not-false, or_cases, or_left, or_right, and_parts, and_from, cases_Bool, or_parts}
-use Rattle.std.proofs.lemmas.Bool.Decides.{nat_tests}
-use Rattle.std.specs.FinMap.{get}
-use Rattle.nntp_article.specs.Session.Spool.{Numbers, IsNumber, IsNextAbove, NoneAbove, NoneBelow}
-use Rattle.nntp_article.specs.Session.Machine.{is_in_range, AreEnds}
+use Rattle.std.proofs.lemmas.Bool.{true≢false, and_cases, false_from_ne_true, eqb-true, ltb-true, ltb-false, cases_lt, eq-eqb, not-false, or_cases, or_left}
+use Rattle.std.{proofs.lemmas.Bool.{or_right, and_parts, and_from, cases_Bool, or_parts, Decides.{nat_tests}}, specs.Prelude.{IsFalse, cond}}
+use Rattle.std.specs.{List.{AllByRecursion, list_any}, FinMap.{get}}
+use Rattle.nntp_article.specs.Session.{Spool.{Numbers, IsNumber, IsNextAbove, NoneAbove, NoneBelow}, Machine.{is_in_range, AreEnds}}
 use Rattle.nntp_said.specs.Asks.{Ask, Meets, Estimates, Bounds, ListsIn, Has, Lacks, StandsAt, StandsNowhere, StepsUp, StepsDown, IsTop, IsBottom}
 use Rattle.nntp_said.specs.declared.position.Position.TheVariants.{Nowhere, First, Known}
-use Rattle.nntp_facts.specs.Given.{shows, denies, is_denied, demand_in, join, demand, IsGivenNumber, HasGivenNumbers, is_shown, says_some, is_end, is_given_end, wants}
-use Rattle.nntp_facts.specs.declared.demand.Demand.{Demand}
-use Rattle.nntp_facts.specs.declared.demand.Demand.TheVariants.{NoDemand, NotEmpty, OnlyOne, SecondIs, Impossible}
-use Rattle.nntp_facts.specs.Together.{is_possible, MeetsDemand, IsFewFor, AsksStand}
-use Rattle.nntp_facts.proofs.Members.{In, all_at, all_from, any_in, in_contains, each_of, found_in}
-use Rattle.nntp_facts.proofs.GivenNumbers.LeastNumber.{Empty, Begins, firsts, least_is, least_none}
+use Rattle.nntp_facts.specs.Given.{shows, denies, is_denied, demand_in, join, demand, IsGivenNumber, HasGivenNumbers, is_shown, says_some, is_end, is_given_end}
+use Rattle.nntp_facts.specs.{Given.{wants}, declared.demand.Demand.{Demand, TheVariants.{NoDemand, NotEmpty, OnlyOne, SecondIs, Impossible}}}
+use Rattle.nntp_facts.{specs.{Together.{is_possible, MeetsDemand, IsFewFor}, Inner.Together.{AsksStand}}, proofs.Members.{In, all_at, all_from, any_in}}
+use Rattle.nntp_facts.proofs.{Members.{in_contains, each_of, found_in}, GivenNumbers.LeastNumber.{Empty, Begins, firsts, least_is, least_none}}
 use Rattle.nntp_facts.proofs.GivenNumbers.MetNumbersStand.{of_first, listed_in, finds, in_range, in_range_back, shown_known}
-use Rattle.nntp_wire.proofs.OptionLemmas.{none_of}
 
 -- numbers that meet two demands as one meet each
 parted : (P : ℕ → Type 0) (d e : Demand) → MeetsDemand (join d e) P → MeetsDemand d P × MeetsDemand e P

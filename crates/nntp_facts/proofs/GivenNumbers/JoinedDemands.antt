@@ -1,10 +1,7 @@
 -- The demand of two lists of asks is that of both.
-use Rattle.std.proofs.Common.{◌≡◌, Bool, true, false, cond, ◌==◌, List, [], ◌∷◌, ◌++◌, refl, sym, ap, ◌∙◌}
-use Rattle.std.proofs.lemmas.Bool.{eqb-true, eq-eqb}
+use Rattle.std.proofs.{Common.{◌≡◌, Bool, true, false, cond, ◌==◌, List, [], ◌∷◌, ◌++◌, refl, sym, ap, ◌∙◌}, lemmas.Bool.{eqb-true, eq-eqb}}
 use Rattle.nntp_said.specs.Asks.{Ask}
-use Rattle.nntp_facts.specs.Given.{demand_in, join, demand}
-use Rattle.nntp_facts.specs.declared.demand.Demand.{Demand}
-use Rattle.nntp_facts.specs.declared.demand.Demand.TheVariants.{NoDemand, NotEmpty, OnlyOne, SecondIs, Impossible}
+use Rattle.nntp_facts.specs.{Given.{demand_in, join, demand}, declared.demand.Demand.{Demand, TheVariants.{NoDemand, NotEmpty, OnlyOne, SecondIs, Impossible}}}
 
 -- demands join in any order
 join_assoc : (d e f : Demand) → join (join d e) f ≡ join d (join e f)

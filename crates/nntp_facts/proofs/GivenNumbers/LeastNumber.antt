@@ -1,9 +1,6 @@
 -- The first number, by cases.
-use Rattle.std.proofs.Common.{◌≡◌, ℕ, ◌≤◌, Option, None, Some, is_some, refl, sym, ap, ◌∙◌, arith}
-use Rattle.std.specs.FinMap.{get}
-use Rattle.std.proofs.lemmas.Bool.{true≢false}
-use Rattle.nntp_article.specs.Session.Spool.{Numbers, IsNumber, IsFirst, least}
-use Rattle.nntp_article.proofs.SessionLemmas.LeastNumber.{first_of_map}
+use Rattle.std.{proofs.{Common.{◌≡◌, ℕ, ◌≤◌, Option, None, Some, is_some, refl, sym, ap, ◌∙◌, arith}, lemmas.Bool.{true≢false}}, specs.FinMap.{get}}
+use Rattle.nntp_article.{specs.{Session.Spool.{Numbers, IsNumber, least}, Inner.Spool.{IsFirst}}, proofs.SessionLemmas.LeastNumber.{first_of_map}}
 
 -- there is no number, or there is a first one
 pub data Firsts (N : Numbers) : Type 0 where

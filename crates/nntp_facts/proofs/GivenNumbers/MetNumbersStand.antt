@@ -1,31 +1,21 @@
 -- What numbers meet stands together.
-use Rattle.nntp_wire.specs.declared.marks.Marks.TheVariants.{Strict}
-use Rattle.std.proofs.Common.{◌≡◌, ℕ, ◌+◌, ◌<◌, ◌≤◌, ◌⊎◌, Bool, true, false, ◌==◌, not, IsTrue, List, [], ◌∷◌, Option, None}
-use Rattle.std.proofs.Common.{Some, is_some, MatchOption, inl, inr, refl, sym, ap, subst, ◌∙◌, arith, ◌&&◌}
-use Rattle.std.specs.Prelude.{IsFalse, nat_le, nat_lt, IfSome, Contains, cond, ◌-◌}
-use Rattle.std.specs.List.{AllByRecursion, list_any}
-use Rattle.std.specs.Ordering.{nat_cmp, eq_by_cmp}
-use Rattle.std.specs.Cmp.{nat_cmp_total, unsigned_tied, nat_eq_equiv, eq_by_cmp_equiv}
-use Rattle.std.specs.FinMap.{get, len, keys, insert, remove, get-insert, get-remove, len-insert, len-remove, empty_of_len, get-empty, contains_key-keys}
-use Rattle.std.proofs.lemmas.Bool.{true≢false, or_left, or_right, or_cases, and_parts, false_from_ne_true, eqb-true, ltb-true}
-use Rattle.std.proofs.lemmas.Bool.{cases_Bool, not-true, cases_eq, cases_order, eq-eqb, and_from, le-leb, lt-ltb, ne_eqb}
-use Rattle.std.proofs.lemmas.Map.Views.{Contains-from_any, list_any-from_Contains, tells_apart}
-use Rattle.std.proofs.lemmas.Map.Lookups.{exact_unsigned}
+use Rattle.nntp_wire.specs.declared.{marks.Marks.TheVariants.{Strict}, range.Range.{Range}}
+use Rattle.std.proofs.Common.{◌≡◌, ℕ, ◌+◌, ◌<◌, ◌≤◌, ◌⊎◌, Bool, true, false, ◌==◌, not, IsTrue, List, [], ◌∷◌, Option, None, Some, is_some, MatchOption, inl}
+use Rattle.std.proofs.{Common.{inr, refl, sym, ap, subst, ◌∙◌, arith, ◌&&◌}, lemmas.Bool.{true≢false, or_left, or_right, or_cases, and_parts}}
+use Rattle.std.proofs.lemmas.Bool.{false_from_ne_true, eqb-true, ltb-true, cases_Bool, not-true, cases_eq, cases_order, eq-eqb, and_from, le-leb, lt-ltb}
+use Rattle.std.proofs.lemmas.{Bool.{ne_eqb, Decides.{nat_tests}}, Map.Views.{Contains-from_any, list_any-from_Contains, tells_apart}}
+use Rattle.std.{proofs.lemmas.Map.Lookups.{exact_unsigned}, specs.{Prelude.{IsFalse, nat_le, nat_lt, IfSome, Contains, cond, ◌-◌}, List.{AllByRecursion}}}
+use Rattle.std.specs.{List.{list_any}, Ordering.{nat_cmp, eq_by_cmp}, Cmp.{nat_cmp_total, unsigned_tied, nat_eq_equiv, eq_by_cmp_equiv}, FinMap.{get, len}}
+use Rattle.std.specs.FinMap.{keys, insert, remove, get-insert, get-remove, len-insert, len-remove, empty_of_len, get-empty, contains_key-keys}
 use Rattle.std.specs.Option.{option_map_or}
-use Rattle.std.proofs.lemmas.Bool.Decides.{nat_tests}
-use Rattle.nntp_article.specs.Session.Spool.{Numbers, IsNumber, least, IsNextAbove, IsNextBelow, NoneAbove, NoneBelow, IsInRange}
-use Rattle.nntp_article.specs.Session.Machine.{is_in_range}
+use Rattle.nntp_article.specs.Session.{Spool.{Numbers, IsNumber, least, IsNextAbove, IsNextBelow, NoneAbove, NoneBelow, IsInRange}, Machine.{is_in_range}}
 use Rattle.nntp_said.specs.Asks.{current_in, Ask, Meets, Estimates, Bounds, ListsIn, Has, Lacks, StandsAt, StandsNowhere, StepsUp, StepsDown, IsTop, IsBottom}
 use Rattle.nntp_said.specs.declared.position.Position.TheVariants.{Nowhere, First, Known}
-use Rattle.nntp_facts.specs.Given.{shows, denies, is_shown, is_denied, demand_in, join, demand, wants, IsOneMore, IsGivenNumber, HasGivenNumbers, says_some, is_end, is_given_end, is_known}
-use Rattle.nntp_facts.specs.declared.demand.Demand.{Demand}
-use Rattle.nntp_facts.specs.declared.demand.Demand.TheVariants.{NoDemand, NotEmpty, OnlyOne, SecondIs, Impossible}
-use Rattle.nntp_facts.proofs.GivenNumbers.FirstFreeNumber.{first_free_once, first_free}
-use Rattle.nntp_facts.specs.Together.{is_possible, MeetsDemand, IsFewFor, AsksStand}
-use Rattle.nntp_facts.proofs.Members.{In, all_at, all_from, any_in, found_in, contains_in, in_contains, every}
-use Rattle.nntp_facts.proofs.GivenNumbers.LeastNumber.{Empty, Begins, firsts, not_number}
-use Rattle.nntp_wire.specs.declared.range.Range.{Range}
-use Rattle.nntp_facts.proofs.Maps.{len_le}
+use Rattle.nntp_facts.specs.Given.{shows, denies, is_shown, is_denied, demand_in, join, demand, wants, IsOneMore, IsGivenNumber, HasGivenNumbers, says_some}
+use Rattle.nntp_facts.specs.{Given.{is_end, is_given_end, is_known}, declared.demand.Demand.{Demand, TheVariants.{NoDemand, NotEmpty, OnlyOne, SecondIs}}}
+use Rattle.nntp_facts.specs.{declared.demand.Demand.TheVariants.{Impossible}, Together.{is_possible, MeetsDemand, IsFewFor}, Inner.Together.{AsksStand}}
+use Rattle.nntp_facts.proofs.{GivenNumbers.{FirstFreeNumber.{first_free_once, first_free}, LeastNumber.{Empty, Begins, firsts, not_number}}, Members.{In}}
+use Rattle.nntp_facts.proofs.{Members.{all_at, all_from, any_in, found_in, contains_in, in_contains, every}, Maps.{len_le}}
 
 pub at_some : (o : Option ℕ) (c : ℕ) (Q : ℕ → Type 0) → o ≡ Some c → MatchOption o ⊥ Q → Q c
 at_some o c Q e h = subst (λ o. MatchOption o ⊥ Q) e h

@@ -1,19 +1,11 @@
 -- Where marks are strict, no number is given beside those that are known.
-use Rattle.std.proofs.Common.{◌≡◌, ℕ, ◌≤◌, Bool, true, false, cond, ◌==◌, IsTrue, List, [], ◌∷◌, inl, inr, refl, sym, subst, ◌∙◌}
-use Rattle.std.specs.Prelude.{nat_lt}
-use Rattle.std.specs.List.{AllByRecursion, list_any}
-use Rattle.std.proofs.lemmas.Bool.{true≢false, and_from, or_left, or_right, cases_lt, eq-eqb, lt-ltb}
-use Rattle.nntp_wire.specs.declared.water_marks.WaterMarks.{WaterMarks}
-use Rattle.nntp_wire.specs.declared.marks.Marks.TheVariants.{Strict}
-use Rattle.nntp_wire.specs.Listing.{ActiveValue}
-use Rattle.nntp_article.specs.Session.Spool.{Name}
-use Rattle.nntp_article.specs.Session.Machine.{is_same}
-use Rattle.nntp_said.specs.Asks.{Ask, Estimates, Bounds, Has}
-use Rattle.nntp_said.specs.Facts.{Fact, Asks, IdAt, GroupsAre}
-use Rattle.nntp_facts.specs.Given.{asks_in, asks_of, denies, demand, is_shown, is_known, is_end, says_some, IsOneMore}
-use Rattle.nntp_facts.proofs.Members.{In, all_at, any_in, found_in, to_flat, from_flat}
-use Rattle.nntp_facts.proofs.GivenNumbers.MetNumbersStand.{wants_less}
-use Rattle.nntp_facts.proofs.GivenNumbers.GivenNumbersMeet.{some_said}
+use Rattle.std.proofs.{Common.{◌≡◌, ℕ, ◌≤◌, Bool, true, false, cond, ◌==◌, IsTrue, List, [], ◌∷◌, inl, inr, refl, sym, subst, ◌∙◌}, lemmas.Bool.{true≢false}}
+use Rattle.std.{proofs.lemmas.Bool.{and_from, or_left, or_right, cases_lt, eq-eqb, lt-ltb}, specs.{Prelude.{nat_lt}, List.{AllByRecursion, list_any}}}
+use Rattle.nntp_wire.specs.{declared.{water_marks.WaterMarks.{WaterMarks}, marks.Marks.TheVariants.{Strict}}, Listing.{ActiveValue}}
+use Rattle.nntp_article.specs.Session.{Spool.{Name}, Machine.{is_same}}
+use Rattle.nntp_said.specs.{Asks.{Ask, Estimates, Bounds, Has}, Facts.{Fact, Asks, IdAt, GroupsAre}}
+use Rattle.nntp_facts.{specs.Given.{asks_in, asks_of, denies, demand, is_shown, is_known, is_end, says_some, IsOneMore}, proofs.Members.{In, all_at, any_in}}
+use Rattle.nntp_facts.proofs.{Members.{found_in, to_flat, from_flat}, GivenNumbers.{MetNumbersStand.{wants_less}, GivenNumbersMeet.{some_said}}}
 use Rattle.nntp_facts.proofs.Session.NumbersOfShownGroups.{IsSelectable, Placed}
 
 module _ (facts : List Fact) (placed : AllByRecursion (Placed Strict facts) facts) where

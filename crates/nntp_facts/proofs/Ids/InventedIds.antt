@@ -1,18 +1,11 @@
 -- Invented ids: they are message ids, and differ from one another.
-use Rattle.std.proofs.Common.{◌≡◌, ℕ, ◌+◌, ◌-◌, ◌<◌, ◌≤◌, ◌^◌, true, false, ◌&&◌, not, ◌==◌, List, [], ◌∷◌, ◌++◌, length, take, drop, refl, ap, ◌∙◌, arith, length-append}
-use Rattle.std.specs.Prelude.{nat_le, codes, decimal}
-use Rattle.std.specs.List.{list_all}
-use Rattle.std.specs.Str.Parse.{AllDigits, digits_value}
-use Rattle.std.proofs.Math.Seq.{take-append_seam}
-use Rattle.std.proofs.lemmas.Bool.{and_from, le-leb, ne_eqb}
-use Rattle.std.proofs.lemmas.List.Folds.{list_all-append}
-use Rattle.std.proofs.lemmas.Fmt.{decimal_is_IsNumeral_wide, length-decimal-le_wide}
-use Rattle.std.proofs.lemmas.Str.Parse.{digit_from_value}
+use Rattle.std.proofs.Common.{◌≡◌, ℕ, ◌+◌, ◌-◌, ◌<◌, ◌≤◌, ◌^◌, true, false, ◌&&◌, not, ◌==◌, List, [], ◌∷◌, ◌++◌, length, take, drop, refl, ap, ◌∙◌, arith}
+use Rattle.std.proofs.{Common.{length-append}, Math.Seq.{take-append_seam}, lemmas.{Bool.{and_from, le-leb, ne_eqb}, List.Folds.{list_all-append}}}
+use Rattle.std.{proofs.lemmas.{Fmt.{decimal_is_IsNumeral_wide, length-decimal-le_wide}, Str.Parse.{digit_from_value}}, specs.Prelude.{nat_le, codes, decimal}}
+use Rattle.std.specs.{List.{list_all}, Str.Parse.{AllDigits, digits_value}}
 use Rattle.nntp_facts.specs.Given.{invented}
 use Rattle.nntp_article.specs.Article.Parts.{Id}
-use Rattle.nntp_wire.specs.Decided.{is_id_octet, ends_id}
-use Rattle.nntp_wire.specs.Name.{IsMessageId}
-use Rattle.nntp_wire.proofs.DecidedLemmas.{message_id-iff}
+use Rattle.nntp_wire.{specs.{Decided.{is_id_octet, ends_id}, Name.{IsMessageId}}, proofs.DecidedLemmas.{message_id-iff}}
 
 -- the number of an invented id
 pub invented_number : Id → ℕ

@@ -1,17 +1,11 @@
 -- The numbers of invented ids: they are small, rise, and aren't those of ids that are mentioned.
-use Rattle.std.proofs.Common.{◌≡◌, ℕ, ◌+◌, ◌<◌, ◌≤◌, true, false, cond, eqb, List, [], ◌∷◌, ◌++◌, length, None, is_some, inl, inr, sym, ap, subst, ◌∙◌, arith, length-append}
-use Rattle.std.specs.Prelude.{IsFalse, ⊤}
-use Rattle.std.specs.List.{list_any, flat_map}
-use Rattle.std.specs.Cmp.Lexicographic.{same_text}
-use Rattle.std.proofs.lemmas.Bool.{cases_lt, or_cases, or_left, or_right, eq-eqb}
-use Rattle.std.proofs.lemmas.Map.Steps.{le-length_from_below}
-use Rattle.nntp_article.specs.Session.Machine.{is_same}
+use Rattle.std.proofs.Common.{◌≡◌, ℕ, ◌+◌, ◌<◌, ◌≤◌, true, false, cond, eqb, List, [], ◌∷◌, ◌++◌, length, None, is_some, inl, inr, sym, ap, subst, ◌∙◌, arith}
+use Rattle.std.proofs.{Common.{length-append}, lemmas.{Bool.{cases_lt, or_cases, or_left, or_right, eq-eqb}, Map.Steps.{le-length_from_below}}}
+use Rattle.std.specs.{Prelude.{IsFalse, ⊤}, List.{list_any, flat_map}, Cmp.Lexicographic.{same_text}}
+use Rattle.nntp_article.specs.{Session.{Machine.{is_same}, Spool.{Name}}, Article.Parts.{Id}}
 use Rattle.nntp_said.specs.Facts.{Fact, IdAt, TextIs, NoArticle}
-use Rattle.nntp_facts.specs.Given.{mentions, is_mentioned, invented, AreInvented, id_shown, unshown_in}
-use Rattle.nntp_facts.proofs.Ids.InventedIds.{invented_number}
+use Rattle.nntp_facts.{specs.Given.{mentions, is_mentioned, invented, AreInvented, id_shown, unshown_in}, proofs.Ids.InventedIds.{invented_number}}
 use Rattle.nntp_facts.proofs.Members.{In, in_back, any_front, any_back}
-use Rattle.nntp_article.specs.Session.Spool.{Name}
-use Rattle.nntp_article.specs.Article.Parts.{Id}
 
 -- the number of the id that a fact mentions, as if it were an invented one
 abbrev pub mentioned_number : Fact → List ℕ

@@ -1,16 +1,10 @@
 -- An id that is shown at a number has this number.
-use Rattle.std.proofs.Common.{◌≡◌, ℕ, Bool, true, false, ◌&&◌, ◌==◌, cond, IsTrue, List, [], ◌∷◌, Option, None, Some, is_some, IsSome, inl, refl, sym, ap, subst, ◌∙◌}
-use Rattle.std.proofs.lemmas.Bool.{eqb-true}
-use Rattle.nntp_article.specs.Article.Parts.{Id}
-use Rattle.nntp_article.specs.Session.Spool.{Name}
-use Rattle.nntp_article.specs.Session.Machine.{is_same}
-use Rattle.nntp_said.specs.Asks.{Has}
-use Rattle.nntp_said.specs.Facts.{Fact, IdAt}
-use Rattle.nntp_facts.specs.Given.{shows, is_shown, asks_in, asks_of, first_given, id_in}
-use Rattle.nntp_facts.specs.Together.{number_in, GiveOne}
-use Rattle.nntp_facts.proofs.Members.{In, any_in, to_flat, first_found}
-use Rattle.nntp_facts.proofs.Given.GivenHolds.{one_given}
-use Rattle.nntp_facts.proofs.Keeping.FactsOfOneGroup.{same_self}
+use Rattle.std.proofs.Common.{◌≡◌, ℕ, Bool, true, false, ◌&&◌, ◌==◌, cond, IsTrue, List, [], ◌∷◌, Option, None, Some, is_some, IsSome, inl, refl, sym, ap}
+use Rattle.std.proofs.{Common.{subst, ◌∙◌}, lemmas.Bool.{eqb-true}}
+use Rattle.nntp_article.specs.{Article.Parts.{Id}, Session.{Spool.{Name}, Machine.{is_same}}}
+use Rattle.nntp_said.specs.{Asks.{Has}, Facts.{Fact, IdAt}}
+use Rattle.nntp_facts.{specs.{Given.{shows, is_shown, asks_in, asks_of, first_given, id_in}, Together.{number_in, GiveOne}}, proofs.Members.{In, any_in}}
+use Rattle.nntp_facts.proofs.{Members.{to_flat, first_found}, Given.GivenHolds.{one_given}, Keeping.FactsOfOneGroup.{same_self}}
 
 -- ---- of facts
 

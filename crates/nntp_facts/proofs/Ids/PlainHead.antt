@@ -1,14 +1,10 @@
 -- A head of one line that says an id.
-use Rattle.std.proofs.Common.{◌≡◌, ℕ, true, false, cond, ◌&&◌, ◌||◌, ◌==◌, not, IsTrue, List, [], ◌∷◌, ◌++◌, length, Some, None, refl, ap, ◌∙◌, arith, append-nil}
-use Rattle.std.specs.Prelude.{nat_le, codes, nat_lt}
+use Rattle.std.proofs.Common.{◌≡◌, ℕ, true, false, cond, ◌&&◌, ◌||◌, ◌==◌, not, IsTrue, List, [], ◌∷◌, ◌++◌, length, Some, None, refl, ap, ◌∙◌, arith}
+use Rattle.std.{proofs.{Common.{append-nil}, lemmas.Bool.{and_from, and_parts, ne_eqb, leb-true, lt-ltb}}, specs.Prelude.{nat_le, codes, nat_lt}}
 use Rattle.std.specs.List.{list_all, AllByRecursion}
-use Rattle.std.proofs.lemmas.Bool.{and_from, and_parts, ne_eqb, leb-true, lt-ltb}
-use Rattle.nntp_article.specs.Article.Parts.{is_head, said_id, skip_blanks, skip_last_blanks, content_of, Id}
+use Rattle.nntp_article.specs.{Article.Parts.{is_head, said_id, skip_blanks, skip_last_blanks, content_of, Id}, Session.Spool.{is_line}}
 use Rattle.nntp_facts.specs.Given.{plain_head}
-use Rattle.nntp_wire.specs.Decided.{is_id_octet, begins_id, is_message_id}
-use Rattle.nntp_article.specs.Session.Spool.{is_line}
-use Rattle.nntp_wire.specs.Name.{IsMessageId}
-use Rattle.nntp_wire.specs.Octets.{is_blank, is_clean, is_line_breaking}
+use Rattle.nntp_wire.specs.{Decided.{is_id_octet, begins_id, is_message_id}, Name.{IsMessageId}, Octets.{is_blank, is_clean, is_line_breaking}}
 use Rattle.nntp_wire.proofs.DecidedLemmas.{message_id-iff}
 
 -- an octet of an id is no blank

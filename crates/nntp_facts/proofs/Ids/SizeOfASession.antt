@@ -1,19 +1,11 @@
 -- What a session says is bounded by its answers.
-use Rattle.nntp_wire.specs.declared.marks.Marks.{Marks}
-use Rattle.std.proofs.Common.{◌+◌, ◌*◌, ◌<◌, ◌≤◌, ◌^◌, List, [], ◌∷◌, length, arith}
-use Rattle.nntp_article.specs.Session.Machine.{Visible, visible_after, start}
-use Rattle.nntp_said.specs.Asks.{position_after}
-use Rattle.nntp_said.specs.declared.position.Position.{Position}
-use Rattle.nntp_said.specs.declared.position.Position.TheVariants.{Nowhere}
-use Rattle.nntp_said.specs.Facts.{Fact, facts_of, facts_from, here}
-use Rattle.nntp_facts.specs.Given.{size, weight, facts_of_session}
-use Rattle.nntp_pair.specs.Pairing.{Paired, lines_in, asked_of, responses_of}
-use Rattle.nntp_facts.proofs.Given.FirstBadAnswer.{size-append}
-use Rattle.nntp_wire.specs.Answer.{Asked, Response}
-use Rattle.std.specs.List.{AllByRecursion}
-use Rattle.nntp_wire.proofs.ListingLemmas.{listed_numbers-few, active_groups-few}
-use Rattle.nntp_article.specs.declared.session.profile.Profile.{Profile}
+use Rattle.nntp_wire.{specs.{declared.marks.Marks.{Marks}, Answer.{Asked, Response}}, proofs.ListingLemmas.{listed_numbers-few, active_groups-few}}
+use Rattle.std.{proofs.Common.{◌+◌, ◌*◌, ◌<◌, ◌≤◌, ◌^◌, List, [], ◌∷◌, length, arith}, specs.List.{AllByRecursion}}
+use Rattle.nntp_article.specs.{Session.Machine.{Visible, visible_after, start}, declared.session.profile.Profile.{Profile}}
+use Rattle.nntp_said.specs.{Asks.{position_after}, declared.position.Position.{Position, TheVariants.{Nowhere}}, Facts.{Fact, facts_of, facts_from, here}}
 use Rattle.nntp_said.proofs.Rows.{Row, row, listing, active}
+use Rattle.nntp_facts.{specs.{Inner.Given.{size, weight}, Given.{facts_of_session}}, proofs.Given.FirstBadAnswer.{size-append}}
+use Rattle.nntp_pair.specs.{Pairing.{Paired, asked_of, responses_of}, Inner.Pairing.{lines_in}}
 
 -- a row says three, and one for each line
 row_size : {profile : Profile} {v : Visible} {at : Position} {Fits : Type 0} {a : Response} {facts : List Fact} → Row profile v at Fits a facts → size facts ≤ lines_in a + 3

@@ -1,29 +1,17 @@
 -- A session that says little is given a small spool.
-use Rattle.nntp_wire.specs.declared.marks.Marks.TheVariants.{Strict}
-use Rattle.std.proofs.Common.{◌≡◌, ℕ, ◌+◌, ◌<◌, ◌≤◌, ◌^◌, Bool, true, false, cond, not, ◌==◌, IsTrue, List, [], ◌∷◌, ◌++◌, map}
-use Rattle.std.proofs.Common.{length, Some, is_some, inl, inr, refl, sym, ap, subst, ◌∙◌, arith, length-append}
-use Rattle.std.specs.Prelude.{unwrap_or}
-use Rattle.std.specs.List.{list_any, flat_map, IsDistinct, AllByRecursion}
-use Rattle.std.specs.Ordering.{nat_cmp, eq_by_cmp}
-use Rattle.std.specs.Cmp.{nat_cmp_total, eq_by_cmp_equiv}
-use Rattle.std.specs.Cmp.Lexicographic.{slice_cmp, same_text, nat_list_cmp_total, nat_list_eq_equiv}
-use Rattle.std.specs.FinMap.{get, empty, get-entries, keys, entries, entries_sorted}
-use Rattle.std.proofs.lemmas.Bool.{cases_Bool, eqb-true, not-true, true≢false, or_cases, and_parts}
-use Rattle.std.proofs.lemmas.List.{length-map}
-use Rattle.std.proofs.lemmas.Map.Keys.{IsDistinct-from_sorted}
-use Rattle.nntp_article.specs.Session.Spool.{Spool, Numbers, IsNumber, IsGroup, numbers, Name}
-use Rattle.nntp_article.specs.Session.Machine.{is_same}
-use Rattle.nntp_said.specs.Asks.{Ask, Estimates, Bounds, ListsIn, Has, StandsAt, StepsUp, StepsDown}
-use Rattle.nntp_said.specs.declared.position.Position.TheVariants.{First}
+use Rattle.nntp_wire.specs.{declared.marks.Marks.TheVariants.{Strict}, Listing.{ActiveValue}}
+use Rattle.std.proofs.Common.{◌≡◌, ℕ, ◌+◌, ◌<◌, ◌≤◌, ◌^◌, Bool, true, false, cond, not, ◌==◌, IsTrue, List, [], ◌∷◌, ◌++◌, map, length, Some, is_some, inl, inr}
+use Rattle.std.proofs.{Common.{refl, sym, ap, subst, ◌∙◌, arith, length-append}, lemmas.Bool.{cases_Bool, eqb-true, not-true, true≢false, or_cases, and_parts}}
+use Rattle.std.{proofs.lemmas.{List.{length-map}, Map.Keys.{IsDistinct-from_sorted}}, specs.{Prelude.{unwrap_or}, List.{list_any, flat_map, IsDistinct}}}
+use Rattle.std.specs.{List.{AllByRecursion}, Ordering.{nat_cmp, eq_by_cmp}, Cmp.{nat_cmp_total, eq_by_cmp_equiv, Lexicographic.{slice_cmp, same_text}}}
+use Rattle.std.specs.{Cmp.Lexicographic.{nat_list_cmp_total, nat_list_eq_equiv}, FinMap.{get, empty, get-entries, keys, entries, entries_sorted}}
+use Rattle.nntp_article.specs.{Session.{Spool.{Spool, Numbers, IsNumber, IsGroup, numbers, Name}, Machine.{is_same}}, Article.Parts.{Id}}
+use Rattle.nntp_said.specs.{Asks.{Ask, Estimates, Bounds, ListsIn, Has, StandsAt, StepsUp, StepsDown}, declared.position.Position.TheVariants.{First}}
 use Rattle.nntp_said.specs.Facts.{Fact, ThereIs, Asks, IdAt, GroupsAre}
-use Rattle.nntp_facts.specs.Given.{shows, is_shown, IsOneMore, HasGivenNumbers, asks_in, asks_of, shows_group, is_shown_group}
-use Rattle.nntp_facts.specs.Given.{id_shown, unshown_in, unshown_ids, size_in, size, is_known, is_given_end, is_end, says_some}
-use Rattle.nntp_facts.proofs.Members.{In, any_in, found_in, in_map, from_map, to_flat, from_flat, parts_few}
-use Rattle.nntp_facts.proofs.GivenNumbers.MetNumbersStand.{one_more_once, any_unknown, key_in, key_is}
-use Rattle.nntp_article.specs.Article.Parts.{Id}
-use Rattle.nntp_wire.specs.Listing.{ActiveValue}
-use Rattle.nntp_facts.proofs.Ids.NumbersOfInventedIds.{mentioned}
-use Rattle.nntp_facts.proofs.Maps.{sorted_keys, keys_among, find_entry}
+use Rattle.nntp_facts.specs.Given.{shows, is_shown, IsOneMore, HasGivenNumbers, asks_in, asks_of, shows_group, is_shown_group, id_shown, unshown_in}
+use Rattle.nntp_facts.{specs.{Given.{unshown_ids, is_known, is_given_end, is_end, says_some}, Inner.Given.{size_in, size}}, proofs.Members.{In, any_in}}
+use Rattle.nntp_facts.proofs.{Members.{found_in, in_map, from_map, to_flat, from_flat, parts_few}, GivenNumbers.MetNumbersStand.{one_more_once, any_unknown}}
+use Rattle.nntp_facts.proofs.{GivenNumbers.MetNumbersStand.{key_in, key_is}, Ids.NumbersOfInventedIds.{mentioned}, Maps.{sorted_keys, keys_among, find_entry}}
 
 -- ---- the names and numbers that are shown, as lists
 

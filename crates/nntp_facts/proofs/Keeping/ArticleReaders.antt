@@ -1,30 +1,14 @@
 -- What is shown of the articles that are kept.
 use Rattle.std.proofs.Common.{◌≡◌, Bool, true, false, not, cond, IsTrue, List, [], ◌∷◌, map, Option, None, Some, refl, sym, ap, subst, ◌∙◌}
-use Rattle.std.specs.Prelude.{MatchOption}
-use Rattle.std.specs.List.{list_any, filter, AllByRecursion}
-use Rattle.std.specs.List.Sorted.{IsStrictlySortedBy}
-use Rattle.std.specs.Option.{option_map_or}
-use Rattle.std.specs.declared.cmp.Ordering.{Ordering}
-use Rattle.std.specs.declared.cmp.Ordering.TheVariants.{Less}
-use Rattle.std.specs.Ordering.{nat_cmp}
-use Rattle.std.specs.Cmp.{both_ways}
-use Rattle.std.specs.Cmp.Lexicographic.{slice_cmp, same_text}
-use Rattle.std.specs.FinMap.{FinMap, get, entries, entries_sorted}
-use Rattle.std.proofs.lemmas.Bool.{true≢false}
-use Rattle.nntp_article.specs.Article.Parts.{Id}
-use Rattle.nntp_article.specs.Session.Machine.{is_same}
+use Rattle.std.{proofs.lemmas.Bool.{true≢false}, specs.{List.{list_any, filter, AllByRecursion, Sorted.{IsStrictlySortedBy}}, declared.cmp.Ordering.{Ordering}}}
+use Rattle.std.specs.{declared.cmp.Ordering.TheVariants.{Less}, Ordering.{nat_cmp}, Cmp.{both_ways, Lexicographic.{slice_cmp, same_text}}, FinMap.{FinMap, get}}
+use Rattle.std.specs.FinMap.{entries, entries_sorted}
+use Rattle.nntp_article.specs.{Article.Parts.{Id}, Session.Machine.{is_same}}
 use Rattle.nntp_said.specs.Facts.{Fact}
-use Rattle.nntp_facts.specs.Given.{is_mentioned}
-use Rattle.nntp_facts.specs.Together.{shows_article}
-use Rattle.nntp_facts.specs.Kept.{KeptArticle, IsKeptArticle, AreKeptArticles}
-use Rattle.nntp_facts.specs.Articles.{articles_in}
-use Rattle.nntp_facts.specs.Readers.{ShownArticle, IsShownArticle, AreShownArticles, shown_article, shown_articles}
-use Rattle.nntp_facts.proofs.Keeping.KeptArticles.{listed}
-use Rattle.nntp_facts.proofs.Maps.{sorted_keys}
-use Rattle.nntp_facts.proofs.Members.{in_map, from_map, any_in, found_in}
-use Rattle.nntp_facts.proofs.Keeping.SaidOfArticles.{says}
-use Rattle.nntp_facts.proofs.Keeping.GroupReaders.{read_off, all_along}
-use Rattle.nntp_facts.proofs.Together.FactsOfASpoolStand.{same_itself}
+use Rattle.nntp_facts.specs.{Together.{shows_article}, Inner.{Together.{SaidOfArticle, said_of}, Kept.{KeptArticle, said_kept, AreKeptArticles}}}
+use Rattle.nntp_facts.specs.Inner.{Articles.{is_there, articles_in}, Readers.{ShownArticle, IsShownArticle, AreShownArticles, shown_article, shown_articles}}
+use Rattle.nntp_facts.proofs.{Keeping.{KeptArticles.{shown_kept, listed}, GroupReaders.{read_off, all_along}}, Maps.{sorted_keys}, Members.{in_map, from_map}}
+use Rattle.nntp_facts.proofs.{Members.{any_in, found_in}, Together.FactsOfASpoolStand.{same_itself}}
 
 -- ---- order
 
@@ -51,12 +35,12 @@ module _ {K X : Type 0} (R : K → K → Ordering) (p : K × X → Bool) where
 -- ---- the articles
 
 -- what is shown of an article that is kept is what the facts say
-article_is : (facts : List Fact) (id : Id) (a : KeptArticle) → IsKeptArticle facts id a → IsShownArticle facts (shown_article id a)
-article_is facts id a kept = record { sent = sym kept.sent; head = sym kept.head; body = sym kept.body }
-
--- what is kept of an id, or nothing
-kept_of : (facts : List Fact) (articles : FinMap (slice_cmp nat_cmp) KeptArticle) (id : Id) (a : KeptArticle) → get articles id ≡ Some a → AreKeptArticles facts articles → IsKeptArticle facts id a
-kept_of facts articles id a is kept = subst (λ o. MatchOption o (is_mentioned facts id ≡ false) (IsKeptArticle facts id)) is (kept id)
+article_is : (facts : List Fact) (id : Id) (a : KeptArticle) → said_of facts id ≡ said_kept (Some a) → IsShownArticle facts (shown_article id a)
+article_is facts id a kept = record {
+  sent = ap (λ (s : SaidOfArticle). s.is_sent) (sym kept);
+  head = ap (λ (s : SaidOfArticle). s.head) (sym kept);
+  body = ap (λ (s : SaidOfArticle). s.body) (sym kept);
+}
 
 -- what is shown of the articles that are kept is what the facts say
 pub articles_shown : (facts : List Fact) (articles : FinMap (slice_cmp nat_cmp) KeptArticle) → AreKeptArticles facts articles → AreShownArticles facts (shown_articles articles)
@@ -64,7 +48,7 @@ articles_shown facts articles kept = record {
   ascending = subst (IsStrictlySortedBy (slice_cmp nat_cmp)) (sym (read_off one (λ a. a.id) (λ e. e.0) there (λ e. refl)))
       (sorted_left (slice_cmp nat_cmp) (λ e. not e.1.is_denied) (entries articles) (sorted_keys (slice_cmp nat_cmp) (entries articles) (entries_sorted articles)));
   all = λ id. both_ways _ _ (shown id) (back id);
-  each = all_along (IsShownArticle facts) one there (λ e i. article_is facts e.0 e.1 (kept_of facts articles e.0 e.1 ((listed facts articles e.0 e.1 kept).0 i).0 kept));
+  each = all_along (IsShownArticle facts) one there (λ e i. article_is facts e.0 e.1 (kept e.0 ∙ ap said_kept ((listed facts articles e.0 e.1 kept).0 i).0));
 }
   where
     one : Id × KeptArticle → ShownArticle
@@ -84,5 +68,5 @@ articles_shown facts articles kept = record {
     back id t = by (get articles id) refl
       where
         by : (o : Option KeptArticle) → get articles id ≡ o → IsTrue (list_any (λ a. is_same a.id id) (map one there))
-        by None e = absurd (true≢false (sym t ∙ (says facts articles id kept).shown ∙ ap (λ o. option_map_or (λ a. not a.is_denied) o false) e))
+        by None e = absurd (true≢false (sym t ∙ shown_kept facts articles id kept ∙ ap is_there e))
         by (Some a) e = any_in (λ a. is_same a.id id) (one (id, a)) (map one there) (in_map one (id, a) there ((listed facts articles id a kept).1 (e, t))) (same_itself id)

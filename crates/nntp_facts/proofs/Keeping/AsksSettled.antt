@@ -1,24 +1,16 @@
 -- Whether what is asked stands together, from what is shown, the first free number, how many there are, and the demand.
 use Rattle.std.proofs.Common.{◌≡◌, ◌⊎◌, ℕ, ◌+◌, true, false, ◌&&◌, IsTrue, List, [], ◌∷◌, Option, None, Some, inl, inr, refl, sym, ap, subst, ◌∙◌}
-use Rattle.std.specs.Prelude.{◌↔◌}
-use Rattle.std.specs.List.{AllByRecursion}
-use Rattle.std.specs.FinMap.{len, insert}
-use Rattle.std.proofs.lemmas.Bool.{true≢false, and_parts, and_from, false_from_ne_true, ltb-true, lt-ltb, le-leb, leb-true}
+use Rattle.std.{proofs.lemmas.Bool.{true≢false, and_parts, and_from, false_from_ne_true, ltb-true, lt-ltb, le-leb, leb-true}, specs.Prelude.{◌↔◌}}
+use Rattle.std.specs.{List.{AllByRecursion}, FinMap.{len, insert}}
 use Rattle.nntp_article.specs.Session.Spool.{Numbers, IsNumber}
 use Rattle.nntp_said.specs.Asks.{Ask, Estimates}
-use Rattle.nntp_facts.specs.Conflict.{AreApart}
-use Rattle.nntp_facts.specs.Given.{is_known, is_denied, demand, wants, IsOneMore, IsGivenNumber, HasGivenNumbers}
-use Rattle.nntp_facts.specs.declared.demand.Demand.{Demand}
-use Rattle.nntp_facts.specs.declared.demand.Demand.TheVariants.{NoDemand, NotEmpty, OnlyOne, SecondIs, Impossible}
-use Rattle.nntp_facts.specs.Together.{is_possible, MeetsDemand, IsFewFor, AsksStand}
-use Rattle.nntp_facts.specs.Part.{estimate_in, is_within, is_within_all}
-use Rattle.nntp_facts.specs.Summary.{PassSoMany, FirstFree, has_room, is_settled, is_met, Looks}
-use Rattle.nntp_facts.specs.declared.shown.HowMany.{HowMany}
-use Rattle.nntp_facts.specs.declared.shown.HowMany.TheVariants.{Absent, Single, Several}
-use Rattle.nntp_facts.proofs.GivenNumbers.FirstFreeNumber.{first_free_once}
-use Rattle.nntp_facts.proofs.GivenNumbers.CountOfGivenNumbers.{none_more, one_more_given, one_more_counted, as_many_given, more_meets}
-use Rattle.nntp_facts.proofs.GivenNumbers.GivenNumbersMeet.{same_demand}
-use Rattle.nntp_facts.proofs.GivenNumbers.MetNumbersStand.{second_shown, shown_known, wanted_there}
+use Rattle.nntp_facts.specs.Inner.{Conflict.{AreApart}, Together.{AsksStand}, Part.{estimate_in, is_within, is_within_all}, Summary.{PassSoMany, FirstFree}}
+use Rattle.nntp_facts.specs.{Inner.Summary.{has_room, is_settled, is_met, Looks}, Given.{is_known, is_denied, demand, wants, IsOneMore, IsGivenNumber}}
+use Rattle.nntp_facts.specs.{Given.{HasGivenNumbers}, declared.demand.Demand.{Demand, TheVariants.{NoDemand, NotEmpty, OnlyOne, SecondIs, Impossible}}}
+use Rattle.nntp_facts.specs.{declared.shown.HowMany.{HowMany, TheVariants.{Absent, Single, Several}}, Together.{is_possible, MeetsDemand, IsFewFor}}
+use Rattle.nntp_facts.proofs.GivenNumbers.{FirstFreeNumber.{first_free_once}, CountOfGivenNumbers.{none_more, one_more_given, one_more_counted, as_many_given}}
+use Rattle.nntp_facts.proofs.GivenNumbers.{CountOfGivenNumbers.{more_meets}, GivenNumbersMeet.{same_demand}, MetNumbersStand.{second_shown, shown_known}}
+use Rattle.nntp_facts.proofs.GivenNumbers.MetNumbersStand.{wanted_there}
 
 -- ---- estimates
 

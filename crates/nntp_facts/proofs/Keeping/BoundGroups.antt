@@ -1,25 +1,13 @@
 -- What is told of groups, once more of them are listed.
-use Rattle.std.proofs.Common.{◌≡◌, ℕ, Bool, true, false, ◌||◌, cond, List, [], ◌∷◌, ◌++◌, Option, None, MatchOption, refl, sym, ap, subst, ◌∙◌, append-nil, append_assoc}
-use Rattle.std.specs.FinMap.{get}
-use Rattle.std.proofs.lemmas.Bool.{or_left, or_right}
-use Rattle.std.proofs.lemmas.List.Folds.{list_any-append}
-use Rattle.std.proofs.lemmas.Grind.{flat_map-append}
+use Rattle.std.proofs.Common.{◌≡◌, ℕ, Bool, true, false, ◌||◌, cond, List, [], ◌∷◌, ◌++◌, Option, None, MatchOption, refl, sym, ap, subst, ◌∙◌, append-nil}
+use Rattle.std.{proofs.{Common.{append_assoc}, lemmas.{Bool.{or_left, or_right}, List.Folds.{list_any-append}, Grind.{flat_map-append}}}, specs.FinMap.{get}}
 use Rattle.nntp_wire.specs.Listing.{ActiveValue}
-use Rattle.nntp_article.specs.Article.Parts.{Id}
-use Rattle.nntp_article.specs.Session.Spool.{Name}
-use Rattle.nntp_article.specs.Session.Machine.{is_same}
-use Rattle.nntp_said.specs.Asks.{Bounds}
-use Rattle.nntp_said.specs.Facts.{Fact, GroupsAre}
-use Rattle.nntp_facts.specs.Given.{asks_of, shows_group, is_shown_group, first_given, id_in}
-use Rattle.nntp_facts.specs.Together.{number_in}
-use Rattle.nntp_facts.specs.Kept.{told, IsKeptGroup, IsUntold, AreKeptGroups, with_part, Changes}
-use Rattle.nntp_facts.specs.ListedGroups.{is_listed}
-use Rattle.nntp_facts.proofs.Together.TwoListsOfFacts.{any_more, given_silent, or_none}
-use Rattle.nntp_facts.proofs.Together.FactsJoin.{asks_append}
-use Rattle.nntp_facts.proofs.Keeping.SilentFacts.{told_same}
-use Rattle.nntp_facts.proofs.Keeping.FactsOfOneGroup.{same_self}
-use Rattle.nntp_facts.proofs.Keeping.KeptGroups.{Groups}
-use Rattle.nntp_facts.proofs.Keeping.ListedGroups.{bounds_in}
+use Rattle.nntp_article.specs.{Article.Parts.{Id}, Session.{Spool.{Name}, Machine.{is_same}}}
+use Rattle.nntp_said.specs.{Asks.{Bounds}, Facts.{Fact, GroupsAre}}
+use Rattle.nntp_facts.specs.{Given.{asks_of, shows_group, is_shown_group, first_given, id_in}, Together.{number_in}, Inner.Kept.{told, IsKeptGroup, IsUntold}}
+use Rattle.nntp_facts.{specs.Inner.{Kept.{AreKeptGroups, with_part, Changes}, ListedGroups.{is_listed}}, proofs.Together.TwoListsOfFacts.{any_more}}
+use Rattle.nntp_facts.proofs.{Together.{TwoListsOfFacts.{given_silent, or_none}, FactsJoin.{asks_append}}, Keeping.SilentFacts.{told_same}}
+use Rattle.nntp_facts.proofs.Keeping.{FactsOfOneGroup.{same_self}, KeptGroups.{Groups}, ListedGroups.{bounds_in}}
 
 -- of no group that is listed nothing is told
 pub none_bound : (facts : List Fact) (p : Option (List ℕ)) (groups : Groups) → AreKeptGroups facts groups → AreKeptGroups (facts ++ GroupsAre p [] ∷ []) groups

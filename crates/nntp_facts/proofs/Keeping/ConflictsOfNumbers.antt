@@ -1,24 +1,17 @@
 -- The parts of what is asked of a group, each by itself: a known number that is denied, too many given numbers, an unmet demand.
-use Rattle.std.proofs.Common.{◌≡◌, ℕ, ◌+◌, ◌^◌, ◌<◌, Bool, true, false, not, cond, ◌&&◌, ◌||◌, ◌==◌, IsTrue, List, [], Option, None, Some, is_some, inl, inr, refl, sym, ap, subst, ◌∙◌, arith}
-use Rattle.std.specs.Prelude.{MatchOption, IsFalse, ◌↔◌}
-use Rattle.std.specs.FinMap.{len}
-use Rattle.std.proofs.lemmas.Bool.{cases_lt, true≢false, and_from, or_cases, eqb-true, false_from_ne_true}
-use Rattle.nntp_intervals.specs.Intervals.{holds}
+use Rattle.std.proofs.Common.{◌≡◌, ℕ, ◌+◌, ◌^◌, ◌<◌, Bool, true, false, not, cond, ◌&&◌, ◌||◌, ◌==◌, IsTrue, List, [], Option, None, Some, is_some, inl, inr}
+use Rattle.std.proofs.{Common.{refl, sym, ap, subst, ◌∙◌, arith}, lemmas.Bool.{cases_lt, true≢false, and_from, or_cases, eqb-true, false_from_ne_true}}
+use Rattle.std.specs.{Prelude.{MatchOption, IsFalse, ◌↔◌}, FinMap.{len}}
+use Rattle.nntp_intervals.specs.Inner.Intervals.{holds}
 use Rattle.nntp_article.specs.Session.Spool.{Numbers}
 use Rattle.nntp_said.specs.Asks.{Ask}
-use Rattle.nntp_facts.specs.Given.{is_shown, is_known, is_denied, demand, wants, IsOneMore, IsGivenNumber, HasGivenNumbers}
-use Rattle.nntp_facts.specs.Together.{MeetsDemand}
-use Rattle.nntp_facts.specs.Part.{is_end_of, is_within_all}
-use Rattle.nntp_facts.specs.Readers.{known_ends_in, one_more_in}
-use Rattle.nntp_facts.specs.Summary.{Summary, IsSummary, AreBounded, has, PassSoMany, AreCounted, IsTally, is_met, DeniedAmong, shown_after}
-use Rattle.nntp_facts.specs.Conflict.{AreApart, AreTooMany}
-use Rattle.nntp_facts.specs.declared.ends.Ends.{Ends}
-use Rattle.nntp_facts.specs.declared.shown.HowMany.{HowMany}
-use Rattle.nntp_facts.proofs.GivenNumbers.CountOfGivenNumbers.{as_many_given, more_meets, known_meet}
-use Rattle.nntp_facts.proofs.Keeping.HullOfMarks.{is_known_by, ends_known, apart_known, apart_by_hull}
+use Rattle.nntp_facts.specs.{Given.{is_shown, is_known, is_denied, demand, wants, IsOneMore, IsGivenNumber, HasGivenNumbers}, Together.{MeetsDemand}}
+use Rattle.nntp_facts.specs.Inner.{Part.{is_end_of, is_within_all}, Readers.{known_ends_in, one_more_in}, Summary.{Summary, IsSummary, AreBounded, has}}
+use Rattle.nntp_facts.specs.{Inner.{Summary.{PassSoMany, AreCounted, IsTally, is_met, DeniedAmong, shown_after}, Conflict.{AreApart}}, Conflict.{AreTooMany}}
+use Rattle.nntp_facts.{specs.declared.{ends.Ends.{Ends}, shown.HowMany.{HowMany}}, proofs.GivenNumbers.CountOfGivenNumbers.{as_many_given, more_meets}}
+use Rattle.nntp_facts.proofs.{GivenNumbers.CountOfGivenNumbers.{known_meet}, Keeping.HullOfMarks.{is_known_by, ends_known, apart_known, apart_by_hull}}
 use Rattle.nntp_facts.proofs.Keeping.AsksSettled.{few_for, within_all, no_more, as_shown, as_more, given_of_shown, given_of_more, met_by, met_if, is_met_if}
-use Rattle.nntp_facts.proofs.Keeping.Tallies.{same_tally, or_none}
-use Rattle.nntp_facts.proofs.Keeping.UnseenNumbers.{one_more_is, ends_kept, hull_is}
+use Rattle.nntp_facts.proofs.Keeping.{Tallies.{same_tally, or_none}, UnseenNumbers.{one_more_is, ends_kept, hull_is}}
 
 -- ---- known numbers that are denied
 

@@ -1,23 +1,14 @@
 -- Finding the answers with which a bad one conflicts.
-use Rattle.std.proofs.Common.{arith, zero, suc, ◌+◌, ◌*◌, ◌^◌, ◌<◌, ◌≤◌, ◌≡◌, ◌⊎◌, ℕ, Bool, true, false, IsTrue, Option, None, Some, inl, inr, refl, sym, ap, subst, ◌∙◌}
-use Rattle.std.proofs.Common.{List, [], ◌∷◌, ◌++◌, length, length-append, append-nil, append_assoc, take, get_or}
-use Rattle.std.specs.Prelude.{Contains, MatchOption, nat_lt}
-use Rattle.std.specs.Bool.{then_some}
+use Rattle.std.proofs.Common.{arith, zero, suc, ◌+◌, ◌*◌, ◌^◌, ◌<◌, ◌≤◌, ◌≡◌, ◌⊎◌, ℕ, Bool, true, false, IsTrue, Option, None, Some, inl, inr, refl, sym, ap}
+use Rattle.std.proofs.{Common.{subst, ◌∙◌, List, [], ◌∷◌, ◌++◌, length, length-append, append-nil, append_assoc, take, get_or}, lemmas.Bool.{and_from}}
+use Rattle.std.{proofs.lemmas.{Bool.{cases_lt, Decides.{nat_tests}}, List.{take_more}}, specs.{Prelude.{Contains, MatchOption, nat_lt}, Bool.{then_some}}}
 use Rattle.std.specs.List.{AllByRecursion}
-use Rattle.std.proofs.lemmas.Bool.{and_from, cases_lt}
-use Rattle.std.proofs.lemmas.Bool.Decides.{nat_tests}
-use Rattle.std.proofs.lemmas.List.{take_more}
-use Rattle.nntp_article.specs.Session.Machine.{is_ascending}
-use Rattle.nntp_article.specs.declared.session.profile.Profile.{Profile}
-use Rattle.nntp_facts.specs.Given.{size}
-use Rattle.nntp_facts.specs.Together.{Together}
-use Rattle.nntp_facts.specs.Conflict.{Placed, FitsThere, told, told_with, SomeHas, below, AreFound, IsPartOfCore, AreAmong, IsEndOfCore, IsFound}
-use Rattle.nntp_facts.specs.Kept.{Kept, IsKept}
-use Rattle.nntp_facts.specs.Told.{AreTold, AreToldWith, PlacesTold}
+use Rattle.nntp_article.specs.{Session.Machine.{is_ascending}, declared.session.profile.Profile.{Profile}}
+use Rattle.nntp_facts.specs.Inner.{Given.{size}, Together.{Together}, Conflict.{FitsThere, AreFound, IsPartOfCore}, Kept.{Kept, IsKept}, Told.{AreTold}}
+use Rattle.nntp_facts.specs.{Inner.Told.{AreToldWith, PlacesTold}, Conflict.{Placed, told, told_with, SomeHas, below, AreAmong, IsEndOfCore, IsFound}}
 use Rattle.nntp_facts.proofs.Members.{In, all_at, all_from, in_front, in_back, in_cases, contains_in, in_contains, every}
-use Rattle.nntp_facts.proofs.Given.FirstBadAnswer.{none_permitted}
-use Rattle.nntp_facts.proofs.Together.FactsOfASpoolStand.{stand}
-use Rattle.nntp_facts.proofs.Conflicts.{with_told, told_together, fewer_places, from_below, core_step, core_done, found_in_each}
+use Rattle.nntp_facts.proofs.{Given.FirstBadAnswer.{none_permitted}, Together.FactsOfASpoolStand.{stand}, Conflicts.{with_told, told_together, fewer_places}}
+use Rattle.nntp_facts.proofs.Conflicts.{from_below, core_step, core_done, found_in_each}
 
 -- ---- places
 

@@ -1,12 +1,10 @@
 -- What was found of a core stays so behind further answers.
-use Rattle.std.proofs.Common.{◌≡◌, ◌∙◌, ℕ, zero, suc, ◌+◌, ◌<◌, ◌≤◌, List, [], ◌∷◌, ◌++◌, Option, None, Some, length, length-append, slice_get, arith, refl, sym, ap, subst}
-use Rattle.std.specs.Prelude.{⊤, MatchOption}
-use Rattle.std.specs.List.{AllByRecursion, flat_map}
-use Rattle.std.specs.Option.{option_map_or}
+use Rattle.std.proofs.Common.{◌≡◌, ◌∙◌, ℕ, zero, suc, ◌+◌, ◌<◌, ◌≤◌, List, [], ◌∷◌, ◌++◌, Option, None, Some, length, length-append, slice_get, arith, refl}
+use Rattle.std.{proofs.Common.{sym, ap, subst}, specs.{Prelude.{⊤, MatchOption}, List.{AllByRecursion, flat_map}, Option.{option_map_or}}}
 use Rattle.nntp_article.specs.declared.session.profile.Profile.{Profile}
-use Rattle.nntp_facts.specs.Conflict.{Placed, SomeHas, IsCore, IsEndOfCore, IsFound, Core, HasLast, places_of, below, told, told_at, told_with}
-use Rattle.nntp_facts.proofs.Conflicts.{from_below}
-use Rattle.nntp_facts.proofs.Members.{all_at, all_both, all_from, all_front, all_back, contains_in, in_contains}
+use Rattle.nntp_facts.specs.Conflict.{Placed, SomeHas, IsCore, IsEndOfCore, IsFound, Core, places_of, below, told, told_at, told_with}
+use Rattle.nntp_facts.{specs.Inner.Conflict.{HasLast}, proofs.{Conflicts.{from_below}, Members.{all_at, all_both, all_from, all_front, all_back, contains_in}}}
+use Rattle.nntp_facts.proofs.Members.{in_contains}
 
 -- the front of a list has its places
 pub in_front_of : {A : Type 0} (xs more : List A) (k : ℕ) → k < length xs → slice_get (xs ++ more) k ≡ slice_get xs k

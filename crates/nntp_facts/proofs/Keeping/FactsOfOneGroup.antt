@@ -1,19 +1,11 @@
 -- Facts of one group: what they ask of its numbers, and the id that they give at one of them.
 use Rattle.std.proofs.Common.{◌≡◌, ℕ, Bool, true, false, ◌&&◌, ◌==◌, cond, List, [], Option, None, Some, inl, inr, refl, sym, ap, subst, ◌∙◌}
-use Rattle.std.specs.Prelude.{IfSome, ◌↔◌}
-use Rattle.std.specs.Ordering.{nat_cmp, eq_by_cmp}
-use Rattle.std.specs.Cmp.{unsigned_tied}
-use Rattle.std.specs.Cmp.Lexicographic.{slice_cmp, same_text, texts_ties, nat_list_eq_equiv}
-use Rattle.std.proofs.lemmas.Bool.{and_parts, and_from, eqb-true, eq-eqb, cases_eq, ne_eqb}
-use Rattle.nntp_article.specs.Article.Parts.{Id}
-use Rattle.nntp_article.specs.Session.Spool.{Name}
-use Rattle.nntp_article.specs.Session.Machine.{is_same}
-use Rattle.nntp_said.specs.Asks.{Ask}
-use Rattle.nntp_said.specs.Facts.{Fact}
-use Rattle.nntp_facts.specs.Given.{asks_of, first_given, id_in}
-use Rattle.nntp_facts.specs.Together.{number_in, GiveSame, JoinIds}
-use Rattle.nntp_facts.specs.Kept.{told, MayShow, id_of, place_of}
-use Rattle.nntp_facts.proofs.Together.TwoListsOfFacts.{none_if, both_if}
+use Rattle.std.{proofs.lemmas.Bool.{and_parts, and_from, eqb-true, eq-eqb, cases_eq, ne_eqb}, specs.{Prelude.{IfSome, ◌↔◌}, Ordering.{nat_cmp, eq_by_cmp}}}
+use Rattle.std.specs.Cmp.{unsigned_tied, Lexicographic.{slice_cmp, same_text, texts_ties, nat_list_eq_equiv}}
+use Rattle.nntp_article.specs.{Article.Parts.{Id}, Session.{Spool.{Name}, Machine.{is_same}}}
+use Rattle.nntp_said.specs.{Asks.{Ask}, Facts.{Fact}}
+use Rattle.nntp_facts.specs.{Given.{asks_of, first_given, id_in}, Together.{number_in}, Inner.{Together.{GiveSame, JoinIds}, Kept.{told, MayShow, id_of}}}
+use Rattle.nntp_facts.{specs.Inner.Kept.{place_of}, proofs.Together.TwoListsOfFacts.{none_if, both_if}}
 
 pub same_self : (xs : List ℕ) → is_same xs xs ≡ true
 same_self xs = nat_list_eq_equiv.refl xs

@@ -1,13 +1,10 @@
 -- The first free number, where a part has numbers.
 use Rattle.std.proofs.Common.{◌≡◌, ℕ, ◌<◌, ◌≤◌, ◌⊎◌, true, false, ◌&&◌, ◌||◌, ◌==◌, not, IsTrue, List, [], ◌∷◌, Some, inl, inr, refl, sym, ap, ◌∙◌, arith}
-use Rattle.std.specs.Prelude.{nat_lt, nat_le, slice_get}
-use Rattle.std.specs.List.{list_all}
-use Rattle.std.proofs.lemmas.Bool.{true≢false, and_parts, and_from, or_left, or_right, or_from, or_cases, cases_lt, false_from_ne_true, le-ltb, le-leb, leb-true, lt-ltb, eq-eqb, eqb-true}
+use Rattle.std.proofs.lemmas.Bool.{true≢false, and_parts, and_from, or_left, or_right, or_from, or_cases, cases_lt, false_from_ne_true, le-ltb, le-leb}
+use Rattle.std.{proofs.lemmas.Bool.{leb-true, lt-ltb, eq-eqb, eqb-true}, specs.{Prelude.{nat_lt, nat_le, slice_get}, List.{list_all}}}
 use Rattle.nntp_article.specs.Session.Machine.{is_ascending}
-use Rattle.nntp_intervals.specs.Intervals.{holds, is_between}
-use Rattle.nntp_facts.specs.Part.{Said, IsRegular, is_one_of, part_denies}
-use Rattle.nntp_facts.specs.Summary.{denied_after, is_open}
-use Rattle.nntp_facts.specs.Given.{IsFirstFree}
+use Rattle.nntp_intervals.specs.Inner.Intervals.{holds, is_between}
+use Rattle.nntp_facts.specs.{Inner.{Part.{Said, IsRegular, is_one_of, part_denies}, Summary.{denied_after, is_open}}, Given.{IsFirstFree}}
 use Rattle.nntp_facts.proofs.Keeping.GapsOfAPart.{not_above, open_parts, all_open}
 
 head_is : (ns : List ℕ) (n : ℕ) → slice_get ns 0 ≡ Some n → (xs : List ℕ) × (ns ≡ n ∷ xs)

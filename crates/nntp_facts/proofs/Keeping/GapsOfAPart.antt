@@ -1,16 +1,11 @@
 -- The intervals that the numbers of a part leave of its own.
-use Rattle.std.proofs.Common.{◌≡◌, ℕ, ◌+◌, ◌-◌, ◌^◌, ◌<◌, ◌≤◌, Bool, true, false, cond, not, ◌&&◌, ◌||◌, ◌==◌, IsTrue, List, [], ◌∷◌, None, Some, inl, inr, refl, sym, ap, subst, ◌∙◌, arith}
-use Rattle.std.specs.Prelude.{◌↔◌, nat_lt, nat_le}
-use Rattle.std.specs.List.{list_all}
-use Rattle.std.specs.Cmp.{both_ways}
-use Rattle.std.proofs.Math.Bool.{or-false, and-true}
-use Rattle.std.proofs.lemmas.Bool.{true≢false, not-true, and_parts, and_from, or_parts, or_from, or_left, or_right, or_cases}
-use Rattle.std.proofs.lemmas.Bool.{cases_lt, cases_order, false_from_ne_true, le-ltb, le-leb, leb-true, lt-ltb, ltb-true}
-use Rattle.std.proofs.lemmas.Bool.{ltb-false, eq-eqb, eqb-true, ne_eqb}
-use Rattle.nntp_intervals.specs.Intervals.{holds, is_between}
+use Rattle.std.proofs.Common.{◌≡◌, ℕ, ◌+◌, ◌-◌, ◌^◌, ◌<◌, ◌≤◌, Bool, true, false, cond, not, ◌&&◌, ◌||◌, ◌==◌, IsTrue, List, [], ◌∷◌, None, Some, inl, inr}
+use Rattle.std.proofs.{Common.{refl, sym, ap, subst, ◌∙◌, arith}, Math.Bool.{or-false, and-true}, lemmas.Bool.{true≢false, not-true, and_parts, and_from}}
+use Rattle.std.proofs.lemmas.Bool.{or_parts, or_from, or_left, or_right, or_cases, cases_lt, cases_order, false_from_ne_true, le-ltb, le-leb, leb-true, lt-ltb}
+use Rattle.std.{proofs.lemmas.Bool.{ltb-true, ltb-false, eq-eqb, eqb-true, ne_eqb}, specs.{Prelude.{◌↔◌, nat_lt, nat_le}, List.{list_all}, Cmp.{both_ways}}}
+use Rattle.nntp_intervals.specs.Inner.Intervals.{holds, is_between}
 use Rattle.nntp_article.specs.Session.Machine.{is_ascending}
-use Rattle.nntp_facts.specs.Part.{Said, IsRegular, part_denies, is_one_of}
-use Rattle.nntp_facts.specs.Summary.{has, AgreesWith, denied_after, is_open, gaps, number_behind}
+use Rattle.nntp_facts.specs.Inner.{Part.{Said, IsRegular, part_denies, is_one_of}, Summary.{has, AgreesWith, denied_after, is_open, gaps, number_behind}}
 
 -- the numbers are from a start to an end, from 1 on
 abbrev pub AreWithin : (start last : ℕ) → List ℕ → Type 0

@@ -1,23 +1,13 @@
 -- What is shown of the groups that are kept.
-use Rattle.std.proofs.Common.{◌≡◌, Bool, ◌==◌, ◌||◌, List, [], ◌∷◌, map, Some, refl, sym, ap, subst, ◌∙◌}
-use Rattle.std.specs.List.{list_any, AllByRecursion}
-use Rattle.std.specs.List.Sorted.{IsStrictlySortedBy}
-use Rattle.std.specs.BTreeMap.{is_at}
-use Rattle.std.specs.Ordering.{nat_cmp, eq_by_cmp}
-use Rattle.std.specs.Cmp.Lexicographic.{slice_cmp, nat_list_cmp_total}
+use Rattle.std.{proofs.Common.{◌≡◌, Bool, ◌==◌, ◌||◌, List, [], ◌∷◌, map, Some, refl, sym, ap, subst, ◌∙◌}, specs.List.{list_any, AllByRecursion}}
+use Rattle.std.specs.{List.Sorted.{IsStrictlySortedBy}, BTreeMap.{is_at}, Ordering.{nat_cmp, eq_by_cmp}, Cmp.Lexicographic.{slice_cmp, nat_list_cmp_total}}
 use Rattle.std.specs.FinMap.{FinMap, get, entries, entries_sorted, contains_key-keys, IsAntisymmetric, slice_cmp-IsAntisymmetric, nat_cmp-IsAntisymmetric}
-use Rattle.nntp_article.specs.Session.Spool.{Name}
-use Rattle.nntp_article.specs.Session.Machine.{is_same}
+use Rattle.nntp_article.specs.Session.{Spool.{Name}, Machine.{is_same}}
 use Rattle.nntp_said.specs.Facts.{Fact}
-use Rattle.nntp_facts.specs.Given.{asks_of}
-use Rattle.nntp_facts.specs.Together.{AsksStand}
-use Rattle.nntp_facts.specs.Kept.{KeptGroup, IsKeptGroup, told, AreKeptGroups}
-use Rattle.nntp_facts.specs.Readers.{AreShownNumbers, HasShownNumbers, AreShownGroups, ShownGroup, with_ids, shown_group, shown_groups}
-use Rattle.nntp_facts.proofs.Keeping.KeptGroups.{kept_of, shown_kept}
-use Rattle.nntp_facts.proofs.Maps.{sorted_keys, in_get}
-use Rattle.nntp_facts.proofs.Members.{In, all_from, from_map}
-use Rattle.nntp_facts.proofs.Keeping.FactsOfOneGroup.{flip_number, flip_text}
-use Rattle.nntp_facts.proofs.Keeping.UnseenNumbers.{are_unseen}
+use Rattle.nntp_facts.specs.{Given.{asks_of}, Inner.{Together.{AsksStand}, Kept.{KeptGroup, IsKeptGroup, told, AreKeptGroups}, Readers.{AreShownNumbers}}}
+use Rattle.nntp_facts.specs.Inner.Readers.{HasShownNumbers, AreShownGroups, ShownGroup, with_ids, shown_group, shown_groups}
+use Rattle.nntp_facts.proofs.Keeping.{KeptGroups.{kept_of, shown_kept}, FactsOfOneGroup.{flip_number, flip_text}, UnseenNumbers.{are_unseen}}
+use Rattle.nntp_facts.proofs.{Maps.{sorted_keys, in_get}, Members.{In, all_from, from_map}}
 
 -- ---- lists that are made of another
 

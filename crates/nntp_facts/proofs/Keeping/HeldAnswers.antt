@@ -1,23 +1,13 @@
 -- What is held of answers that conflict: all but the last of them stand together.
-use Rattle.std.proofs.Common.{◌≡◌, ℕ, ◌<◌, ◌≤◌, ◌^◌, List, [], ◌∷◌, ◌++◌, Option, None, Some, length, slice_get, Bool, IsTrue, true, false, arith, refl, sym, ap, subst, ◌∙◌, append-nil, inl, inr}
-use Rattle.std.specs.Prelude.{⊤, MatchOption, nat_lt}
-use Rattle.std.specs.List.{AllByRecursion, list_all}
-use Rattle.std.specs.Option.{option_map_or}
-use Rattle.std.proofs.lemmas.Bool.{and_parts}
-use Rattle.std.proofs.lemmas.Bool.Decides.{nat_tests}
-use Rattle.nntp_article.specs.Session.Machine.{is_ascending}
-use Rattle.nntp_article.specs.declared.session.profile.Profile.{Profile}
-use Rattle.nntp_pair.specs.Pairing.{lines_in}
-use Rattle.nntp_facts.specs.Conflict.{Placed, FitsThere, SomeHas, IsCore, IsEndOfCore, IsFound, Core, HasLast, places_of, below, told, told_with}
-use Rattle.nntp_facts.specs.Given.{size}
-use Rattle.nntp_facts.specs.Kept.{Kept, IsKept}
-use Rattle.nntp_facts.specs.Points.{Answers, AreHeld, with_numbers}
-use Rattle.nntp_facts.specs.Together.{Together}
-use Rattle.nntp_facts.specs.Told.{AreToldWith, PlacesTold}
-use Rattle.nntp_facts.proofs.Conflicts.{told_together, with_told, from_below}
-use Rattle.nntp_facts.proofs.Given.FirstBadAnswer.{size-append}
-use Rattle.nntp_facts.proofs.Keeping.CoresFound.{nothing_together}
-use Rattle.nntp_facts.proofs.Keeping.ToldAnswers.{told_size, with_place, fits_at}
+use Rattle.std.proofs.Common.{◌≡◌, ℕ, ◌<◌, ◌≤◌, ◌^◌, List, [], ◌∷◌, ◌++◌, Option, None, Some, length, slice_get, Bool, IsTrue, true, false, arith, refl, sym}
+use Rattle.std.{proofs.{Common.{ap, subst, ◌∙◌, append-nil, inl, inr}, lemmas.Bool.{and_parts, Decides.{nat_tests}}}, specs.Prelude.{⊤, MatchOption, nat_lt}}
+use Rattle.std.specs.{List.{AllByRecursion, list_all}, Option.{option_map_or}}
+use Rattle.nntp_article.specs.{Session.Machine.{is_ascending}, declared.session.profile.Profile.{Profile}}
+use Rattle.nntp_pair.specs.Inner.Pairing.{lines_in}
+use Rattle.nntp_facts.specs.{Conflict.{Placed, SomeHas, IsCore, IsEndOfCore, IsFound, Core, places_of, below, told, told_with}, Inner.Conflict.{FitsThere}}
+use Rattle.nntp_facts.specs.Inner.{Conflict.{HasLast}, Given.{size}, Kept.{Kept, IsKept}, Points.{Answers, AreHeld, with_numbers}, Together.{Together}}
+use Rattle.nntp_facts.{specs.Inner.Told.{AreToldWith, PlacesTold}, proofs.Conflicts.{told_together, with_told, from_below}}
+use Rattle.nntp_facts.proofs.{Given.FirstBadAnswer.{size-append}, Keeping.{CoresFound.{nothing_together}, ToldAnswers.{told_size, with_place, fits_at}}}
 use Rattle.nntp_facts.proofs.Members.{In, all_at, in_front, in_back, in_cases, in_contains, contains_in}
 
 -- ---- the last place

@@ -1,23 +1,14 @@
 -- The hull of the strict marks: what is known is known by it, where it isn't denied.
-use Rattle.std.proofs.Common.{◌≡◌, ℕ, ◌≤◌, ◌⊎◌, Bool, true, false, cond, ◌&&◌, ◌||◌, ◌==◌, IsTrue, List, [], ◌∷◌, ◌++◌, Option, None, Some, inl, inr, refl, sym, ap, subst, ◌∙◌, arith}
-use Rattle.std.specs.Prelude.{IsFalse, nat_lt, min, max}
-use Rattle.std.specs.List.{list_any}
-use Rattle.std.proofs.lemmas.Bool.{true≢false, and_from, or_left, or_right, or_cases, or_parts, cases_Bool, cases_lt, eq-eqb, eqb-true, lt-ltb, false_from_ne_true}
-use Rattle.std.proofs.Math.Nat.{min-eq_left, min-eq_right, max-eq_left, max-eq_right}
-use Rattle.nntp_wire.specs.declared.water_marks.WaterMarks.{WaterMarks}
-use Rattle.nntp_wire.specs.declared.marks.Marks.TheVariants.{Lenient, Strict}
-use Rattle.nntp_said.specs.Asks.{Ask, Estimates, ListsIn, Has, StandsAt, StepsUp, StepsDown, IsTop, IsBottom}
-use Rattle.nntp_said.specs.declared.position.Position.TheVariants.{First}
-use Rattle.nntp_facts.specs.Given.{shows, denies, is_shown, is_denied, is_known, is_end, says_some, demand_in, join, demand}
-use Rattle.nntp_facts.specs.Part.{join_ends, ends_in, ends_of, is_end_of, is_demanding}
-use Rattle.nntp_facts.specs.declared.demand.Demand.{Demand}
-use Rattle.nntp_facts.specs.declared.demand.Demand.TheVariants.{NoDemand, SecondIs, Impossible}
-use Rattle.nntp_facts.specs.declared.ends.Ends.{Ends}
-use Rattle.nntp_facts.specs.Together.{AsksStand}
-use Rattle.nntp_facts.specs.Conflict.{AreApart}
-use Rattle.nntp_facts.proofs.Members.{In, any_in, found_in}
+use Rattle.std.proofs.Common.{◌≡◌, ℕ, ◌≤◌, ◌⊎◌, Bool, true, false, cond, ◌&&◌, ◌||◌, ◌==◌, IsTrue, List, [], ◌∷◌, ◌++◌, Option, None, Some, inl, inr, refl, sym}
+use Rattle.std.proofs.{Common.{ap, subst, ◌∙◌, arith}, lemmas.Bool.{true≢false, and_from, or_left, or_right, or_cases, or_parts, cases_Bool, cases_lt, eq-eqb}}
+use Rattle.std.proofs.{lemmas.Bool.{eqb-true, lt-ltb, false_from_ne_true}, Math.Nat.{min-eq_left, min-eq_right, max-eq_left, max-eq_right}}
+use Rattle.std.specs.{Prelude.{IsFalse, nat_lt, min, max}, List.{list_any}, Cmp.{both_ways}}
+use Rattle.nntp_wire.specs.declared.{water_marks.WaterMarks.{WaterMarks}, marks.Marks.TheVariants.{Lenient, Strict}}
+use Rattle.nntp_said.specs.{Asks.{Ask, Estimates, ListsIn, Has, StandsAt, StepsUp, StepsDown, IsTop, IsBottom}, declared.position.Position.TheVariants.{First}}
+use Rattle.nntp_facts.specs.{Given.{shows, denies, is_shown, is_denied, is_known, is_end, says_some, demand_in, join, demand}, Inner.Part.{join_ends, ends_in}}
+use Rattle.nntp_facts.specs.{Inner.{Part.{ends_of, is_end_of, is_demanding}, Together.{AsksStand}, Conflict.{AreApart}}, declared.demand.Demand.{Demand}}
+use Rattle.nntp_facts.{specs.declared.{demand.Demand.TheVariants.{NoDemand, SecondIs, Impossible}, ends.Ends.{Ends}}, proofs.Members.{In, any_in, found_in}}
 use Rattle.nntp_facts.proofs.GivenNumbers.GivenNumbersMeet.{shows_some, no_demand}
-use Rattle.std.specs.Cmp.{both_ways}
 
 -- ---- the hull
 

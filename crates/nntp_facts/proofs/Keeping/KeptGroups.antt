@@ -1,26 +1,15 @@
 -- What is kept of groups, once more is told of one.
 use Rattle.std.proofs.Common.{◌≡◌, ℕ, Bool, true, false, ◌==◌, cond, List, ◌++◌, Option, None, Some, is_some, MatchOption, refl, sym, ap, subst, ◌∙◌}
-use Rattle.std.specs.Option.{option_or}
-use Rattle.std.specs.FinMap.{FinMap, get, insert, empty, get-insert, get-empty, slice_cmp-IsAntisymmetric, nat_cmp-IsAntisymmetric}
-use Rattle.std.specs.Ordering.{nat_cmp, eq_by_cmp}
-use Rattle.std.specs.Cmp.{nat_cmp_total, IsTotalOrder}
-use Rattle.std.specs.declared.cmp.Ordering.{Ordering}
-use Rattle.std.specs.Cmp.Lexicographic.{slice_cmp, same_text, nat_list_cmp_total}
-use Rattle.std.specs.Prelude.{◌↔◌, IfSome}
-use Rattle.std.specs.List.{list_any}
-use Rattle.std.proofs.lemmas.Bool.{true≢false, eqb-true, or_left}
-use Rattle.std.proofs.lemmas.List.Folds.{list_any-append}
+use Rattle.std.{proofs.lemmas.{Bool.{true≢false, eqb-true, or_left}, List.Folds.{list_any-append}}, specs.{Option.{option_or}, FinMap.{FinMap, get, insert}}}
+use Rattle.std.specs.{FinMap.{empty, get-insert, get-empty, slice_cmp-IsAntisymmetric, nat_cmp-IsAntisymmetric}, Ordering.{nat_cmp, eq_by_cmp}}
+use Rattle.std.specs.{Cmp.{nat_cmp_total, IsTotalOrder, Lexicographic.{slice_cmp, same_text, nat_list_cmp_total}}, declared.cmp.Ordering.{Ordering}}
+use Rattle.std.specs.{Prelude.{◌↔◌, IfSome}, List.{list_any}}
 use Rattle.nntp_wire.proofs.ShownMaps.{insert-same}
-use Rattle.nntp_article.specs.Article.Parts.{Id}
-use Rattle.nntp_article.specs.Session.Spool.{Name}
-use Rattle.nntp_article.specs.Session.Machine.{is_same}
+use Rattle.nntp_article.specs.{Article.Parts.{Id}, Session.{Spool.{Name}, Machine.{is_same}}}
 use Rattle.nntp_said.specs.Asks.{Ask}
-use Rattle.nntp_facts.specs.Summary.{IsSummary, AreBounded}
-use Rattle.nntp_facts.specs.Given.{denies}
-use Rattle.nntp_facts.specs.Kept.{KeptGroup, Told, IsKeptGroup, IsUntold, AreKept, with_part, Changes, Agree, MayHave, MayShow, ids_with, places_with, id_of, place_of}
-use Rattle.nntp_facts.proofs.Together.TwoListsOfFacts.{or_none}
-use Rattle.nntp_facts.proofs.Keeping.FactsOfOneGroup.{IsOr, flip_number, flip_text}
-use Rattle.nntp_facts.proofs.Keeping.SilentFacts.{kept_at}
+use Rattle.nntp_facts.specs.Inner.{Summary.{IsSummary, AreBounded}, Kept.{KeptGroup, Told, IsKeptGroup, IsUntold, AreKept, with_part, Changes, Agree, MayHave}}
+use Rattle.nntp_facts.{specs.{Inner.Kept.{MayShow, ids_with, places_with, id_of, place_of}, Given.{denies}}, proofs.Together.TwoListsOfFacts.{or_none}}
+use Rattle.nntp_facts.proofs.Keeping.{FactsOfOneGroup.{IsOr, flip_number, flip_text}, SilentFacts.{kept_at}}
 
 abbrev pub Groups : Type 0
 Groups = FinMap (slice_cmp nat_cmp) KeptGroup

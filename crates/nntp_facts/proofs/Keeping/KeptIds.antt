@@ -1,36 +1,17 @@
 -- What is kept of ids: of those that have articles, and of those that are denied.
-use Rattle.std.proofs.Common.{◌≡◌, ℕ, Bool, true, false, cond, ◌&&◌, ◌||◌, not, List, [], ◌∷◌, map, Vec, Option, None, Some, is_some, option_map, refl, sym, ap, subst, ◌∙◌}
-use Rattle.std.specs.Prelude.{unwrap_or}
-use Rattle.std.specs.List.{list_any, filter}
-use Rattle.std.specs.Option.{option_or, option_map_or, option_and_then}
-use Rattle.std.specs.declared.cmp.Ordering.{Ordering}
-use Rattle.std.specs.declared.cmp.Ordering.TheVariants.{Less, Equal, Greater}
-use Rattle.std.specs.declared.rc.RcStr.{RcStr}
-use Rattle.std.specs.Ordering.{nat_cmp, is_eq, eq_by_cmp}
-use Rattle.std.specs.Cmp.Lexicographic.{slice_cmp, nat_list_cmp_total, same_text}
-use Rattle.std.specs.FinMap.{FinMap, get, insert, entries, find, put, from_entries, get-insert, get-entries, entries-insert, same_map, slice_cmp-IsAntisymmetric, nat_cmp-IsAntisymmetric}
-use Rattle.std.specs.FinMap.Entries.{by_order}
-use Rattle.std.specs.BTreeSet.{insert_key}
-use Rattle.std.specs.Map.{lookup, set_value}
-use Rattle.std.specs.Str.{IsUtf8}
-use Rattle.std.specs.Rc.{rc_str_bytes}
-use Rattle.std.proofs.lemmas.Bool.{true≢false}
-use Rattle.std.proofs.lemmas.Map.Text.{is_eq-slice_cmp}
-use Rattle.std.proofs.lemmas.Slice.Eq.{bytes_eq-Decides}
-use Rattle.std.proofs.lemmas.Str.{IsUtf8-string_bytes}
+use Rattle.std.proofs.Common.{◌≡◌, ℕ, Bool, true, false, cond, ◌&&◌, ◌||◌, not, List, [], ◌∷◌, map, Vec, Option, None, Some, is_some, option_map, refl, sym, ap}
+use Rattle.std.proofs.{Common.{subst, ◌∙◌}, lemmas.{Bool.{true≢false}, Map.Text.{is_eq-slice_cmp}, Slice.Eq.{bytes_eq-Decides}, Str.{IsUtf8-string_bytes}}}
+use Rattle.std.specs.{Prelude.{unwrap_or}, List.{list_any, filter}, Option.{option_or, option_map_or}, declared.cmp.Ordering.{Ordering, TheVariants.{Less}}}
+use Rattle.std.specs.{declared.{cmp.Ordering.TheVariants.{Equal, Greater}, rc.RcStr.{RcStr}}, Ordering.{nat_cmp, is_eq, eq_by_cmp}}
+use Rattle.std.specs.{Cmp.Lexicographic.{slice_cmp, nat_list_cmp_total, same_text}, FinMap.{get, insert, entries, find, put, from_entries, get-insert}}
+use Rattle.std.specs.FinMap.{get-entries, entries-insert, same_map, slice_cmp-IsAntisymmetric, nat_cmp-IsAntisymmetric, Entries.{by_order}}
+use Rattle.std.specs.{BTreeSet.{insert_key}, Map.{lookup, set_value}, Str.{IsUtf8}, Rc.{rc_str_bytes}}
 use Rattle.nntp_wire.proofs.ShownMaps.{get-shown, replaced}
-use Rattle.nntp_article.specs.Article.Parts.{Id, Line}
-use Rattle.nntp_article.specs.Session.Machine.{is_same}
-use Rattle.nntp_facts.specs.Kept.{KeptArticle}
-use Rattle.nntp_facts.specs.Articles.{denied, is_there, with_new, with_denied, articles_in}
-use Rattle.nntp_facts.specs.ArticleView.{known_article, entries_value}
-use Rattle.nntp_facts.specs.declared.articles.known.KnownArticle.{KnownArticle}
-use Rattle.nntp_facts.proofs.Together.TwoListsOfFacts.{or_none}
-use Rattle.nntp_facts.proofs.Keeping.KeptArticles.{new_elsewhere, new_there}
-use Rattle.nntp_facts.proofs.Keeping.KeptNames.{any_put, any-map, is_key}
-
-abbrev pub Articles : Type 0
-Articles = FinMap (slice_cmp nat_cmp) KeptArticle
+use Rattle.nntp_article.specs.{Article.Parts.{Id, Line}, Session.Machine.{is_same}}
+use Rattle.nntp_facts.specs.Inner.{Together.{SaidOfArticle, said_nothing}, Kept.{KeptArticle, said_kept}, Articles.{denied, is_there, with_new, with_denied}}
+use Rattle.nntp_facts.specs.{Inner.{Articles.{articles_in}, ArticleView.{known_article, entries_value}}, declared.articles.known.KnownArticle.{KnownArticle}}
+use Rattle.nntp_facts.proofs.{Together.TwoListsOfFacts.{or_none}, Keeping.{KeptArticles.{Articles, new_elsewhere, new_there}, KeptNames.{any_put, any-map}}}
+use Rattle.nntp_facts.proofs.Keeping.KeptNames.{is_key}
 
 -- ---- denied ids beside articles
 
@@ -125,7 +106,8 @@ no_key {A} q not_text (e ∷ es) = rw (other e.0) (no_key q not_text es)
         by false e = refl
 
 -- the ids as the code keeps them
-module _ {A : Type 0} (es : List (RcStr A × KnownArticle A)) (ks : List (Vec ℕ A)) (articles : Articles) (view : with_denied (from_entries (entries_value es)) (map (λ k. k.items) ks) ≡ articles) (id : Id) where
+module _ {A : Type 0} (es : List (RcStr A × KnownArticle A)) (ks : List (Vec ℕ A)) (articles : Articles) (view : with_denied (from_entries (entries_value es)) (map (λ k. k.items) ks)
+    ≡ articles) (id : Id) where
   abbrev known : Option (KnownArticle A)
   known = lookup (λ k. is_eq (slice_cmp nat_cmp id (rc_str_bytes k))) es
 
@@ -168,7 +150,8 @@ module _ {A : Type 0} (es : List (RcStr A × KnownArticle A)) (ks : List (Vec �
   pub denied_there : (is_denied && not (is_there (get articles id))) ≡ option_map_or (λ a. a.is_denied) (get articles id) false
   denied_there = ap (λ o. is_denied && not (is_there o)) found ∙ by known is_denied ∙ ap (λ o. option_map_or (λ a. a.is_denied) o false) (sym found)
     where
-      by : (o : Option (KnownArticle A)) (b : Bool) → (b && not (is_there (option_or (option_map known_article o) (if_denied b)))) ≡ option_map_or (λ a. a.is_denied) (option_or (option_map known_article o) (if_denied b)) false
+      by : (o : Option (KnownArticle A)) (b : Bool) → (b && not (is_there (option_or (option_map known_article o) (if_denied b))))
+          ≡ option_map_or (λ a. a.is_denied) (option_or (option_map known_article o) (if_denied b)) false
       by (Some a) true = refl
       by (Some a) false = refl
       by None true = refl
@@ -189,12 +172,12 @@ module _ {A : Type 0} (es : List (RcStr A × KnownArticle A)) (ks : List (Vec �
   part_known a e = found ∙ ap (λ o. option_or (option_map known_article o) (if_denied is_denied)) (sym e)
 
   -- nothing was sent of an id of which none is
-  pub no_part_known : (part : KeptArticle → Option (List Line)) → part denied ≡ None → None ≡ known → option_and_then part (get articles id) ≡ None
-  no_part_known part none e = ap (option_and_then part) (found ∙ ap (λ o. option_or (option_map known_article o) (if_denied is_denied)) (sym e)) ∙ by is_denied
+  pub no_part_known : (part : SaidOfArticle → Option (List Line)) → part said_nothing ≡ None → part (said_kept (Some denied)) ≡ None → None ≡ known → part (said_kept (get articles id)) ≡ None
+  no_part_known part nothing none e = ap (λ o. part (said_kept o)) (found ∙ ap (λ o. option_or (option_map known_article o) (if_denied is_denied)) (sym e)) ∙ by is_denied
     where
-      by : (b : Bool) → option_and_then part (if_denied b) ≡ None
+      by : (b : Bool) → part (said_kept (if_denied b)) ≡ None
       by true = none
-      by false = refl
+      by false = nothing
 
   -- an article that is known is another from now on
   pub replaced_known : (fs : List (RcStr A × KnownArticle A)) (old new : KnownArticle A) → Some old ≡ known → fs ≡ set_value (λ k. is_eq (slice_cmp nat_cmp id (rc_str_bytes k))) es new

@@ -1,31 +1,15 @@
 -- Names that are kept: more of them, and whether a name is denied.
 use Rattle.std.proofs.Common.{◌≡◌, ℕ, Bool, true, false, ◌||◌, ◌&&◌, not, IsTrue, List, [], ◌∷◌, ◌++◌, map, Option, None, Some, inl, refl, sym, ap, subst, ◌∙◌}
-use Rattle.std.specs.Prelude.{length, IfSome, is_some, cond}
-use Rattle.std.specs.declared.cmp.Ordering.{Ordering}
-use Rattle.std.specs.declared.cmp.Ordering.TheVariants.{Less, Equal, Greater}
-use Rattle.std.specs.Ordering.{nat_cmp, match_ordering, is_eq}
-use Rattle.std.specs.Cmp.Lexicographic.{slice_cmp, same_text}
-use Rattle.std.specs.List.{AllByRecursion, list_any}
-use Rattle.std.specs.Option.{option_map_or}
-use Rattle.std.specs.BTreeSet.{insert_key}
-use Rattle.std.specs.BTreeMap.{insert_entry}
-use Rattle.std.specs.Map.{lookup, keys_of}
-use Rattle.std.proofs.lemmas.Bool.{true≢false, or_left}
-use Rattle.std.proofs.lemmas.List.Folds.{list_any-append}
-use Rattle.nntp_wire.specs.Decided.{matches_name}
-use Rattle.nntp_wire.specs.Wildmat.{is_wildmat}
-use Rattle.nntp_wire.specs.Listing.{ActiveValue}
-use Rattle.nntp_article.specs.Session.Spool.{Name}
-use Rattle.nntp_article.specs.Session.Machine.{is_same}
+use Rattle.std.{proofs.lemmas.{Bool.{true≢false, or_left}, List.Folds.{list_any-append}}, specs.Prelude.{length, IfSome, is_some, cond}}
+use Rattle.std.specs.{declared.cmp.Ordering.{Ordering, TheVariants.{Less, Equal, Greater}}, Ordering.{nat_cmp, match_ordering, is_eq}}
+use Rattle.std.specs.{Cmp.Lexicographic.{slice_cmp, same_text}, List.{AllByRecursion, list_any}, Option.{option_map_or}, BTreeSet.{insert_key}}
+use Rattle.std.specs.{BTreeMap.{insert_entry}, Map.{lookup, keys_of}}
+use Rattle.nntp_wire.specs.{Decided.{matches_name}, Wildmat.{is_wildmat}, Listing.{ActiveValue}}
+use Rattle.nntp_article.{specs.Session.{Spool.{Name}, Machine.{is_same}}, proofs.SessionLemmas.SetKeys.{any-insert_key}}
 use Rattle.nntp_said.specs.Facts.{Fact, GroupsAre}
-use Rattle.nntp_facts.specs.Given.{shows_group, is_shown_group}
-use Rattle.nntp_facts.specs.Together.{denies_group}
-use Rattle.nntp_facts.specs.Kept.{KeptNames, WasAnswered, AreKeptNames}
-use Rattle.nntp_facts.specs.ListedGroups.{MayList, WereListed}
-use Rattle.nntp_article.proofs.SessionLemmas.SetKeys.{any-insert_key}
-use Rattle.nntp_facts.proofs.Keeping.ListedAgain.{listed_still}
+use Rattle.nntp_facts.specs.{Given.{shows_group, is_shown_group}, Together.{denies_group}, Inner.Kept.{KeptNames, WasAnswered, AreKeptNames}}
+use Rattle.nntp_facts.{specs.Inner.ListedGroups.{MayList, WereListed}, proofs.Keeping.{CountedGroups.{listed_still}, FactsOfOneGroup.{flip_text}}}
 use Rattle.nntp_facts.proofs.Members.{all_at, all_from, contains_in, in_back}
-use Rattle.nntp_facts.proofs.Keeping.FactsOfOneGroup.{flip_text}
 
 -- ---- keys of a set
 

@@ -1,16 +1,10 @@
 -- What is kept of names and groups once more facts are added.
-use Rattle.std.proofs.Common.{◌≡◌, false, List, ◌++◌, MatchOption, sym, subst, ◌∙◌}
-use Rattle.std.specs.List.{list_any}
-use Rattle.std.specs.Ordering.{nat_cmp}
-use Rattle.std.specs.Cmp.Lexicographic.{slice_cmp}
-use Rattle.std.specs.FinMap.{FinMap, get}
+use Rattle.std.{proofs.Common.{◌≡◌, false, List, ◌++◌, MatchOption, sym, subst, ◌∙◌}, specs.{List.{list_any}, Ordering.{nat_cmp}}}
+use Rattle.std.specs.{Cmp.Lexicographic.{slice_cmp}, FinMap.{FinMap, get}}
 use Rattle.nntp_article.specs.Session.Spool.{Name}
 use Rattle.nntp_said.specs.Facts.{Fact}
-use Rattle.nntp_facts.specs.Together.{denies_group}
-use Rattle.nntp_facts.specs.Kept.{told, IsUntold, IsKeptGroup, KeptGroup, AreKept, KeptNames, AreKeptNames}
-use Rattle.nntp_facts.proofs.Together.TwoListsOfFacts.{any_silent}
-use Rattle.nntp_facts.proofs.Keeping.KeptNames.{not_before, counted_still, all_still}
-use Rattle.nntp_facts.proofs.Keeping.SilentFacts.{told_same}
+use Rattle.nntp_facts.specs.{Together.{denies_group}, Inner.Kept.{told, IsUntold, IsKeptGroup, KeptGroup, AreKept, KeptNames, AreKeptNames}}
+use Rattle.nntp_facts.proofs.{Together.TwoListsOfFacts.{any_silent}, Keeping.{KeptNames.{not_before, counted_still, all_still}, SilentFacts.{told_same}}}
 
 -- ---- names
 

@@ -1,23 +1,13 @@
 -- What a list of groups has to join.
 use Rattle.std.proofs.Common.{◌≡◌, ℕ, Bool, true, false, ◌||◌, cond, not, List, [], ◌∷◌, ◌++◌, Option, inl, inr, refl, sym, ap, subst, ◌∙◌, append-nil}
-use Rattle.std.specs.Prelude.{◌↔◌, IsFalse}
-use Rattle.std.specs.List.{AllByRecursion, list_any, list_all, flat_map}
-use Rattle.std.specs.Option.{option_map_or}
-use Rattle.std.proofs.lemmas.Bool.{true≢false, and_parts, and_from, or_left, false_from_ne_true, not-true, true_from_ne_false}
-use Rattle.std.specs.Cmp.Lexicographic.{same_text}
-use Rattle.nntp_wire.specs.Listing.{ActiveValue}
-use Rattle.nntp_wire.specs.Decided.{matches_name}
-use Rattle.nntp_article.specs.Session.Spool.{Name}
-use Rattle.nntp_article.specs.Session.Machine.{is_same, names_differ}
-use Rattle.nntp_said.specs.Asks.{Ask, Bounds}
-use Rattle.nntp_said.specs.Facts.{Fact, GroupsAre}
-use Rattle.nntp_facts.specs.Given.{asks_of, is_shown_group}
-use Rattle.nntp_facts.specs.Together.{IsWellFormed, AsksStand, denies_group, Together, Join}
-use Rattle.nntp_facts.specs.ListedGroups.{is_listed, LineJoins, NoneIsMissing}
-use Rattle.nntp_facts.proofs.Members.{In, all_at, all_from, any_in, found_in}
-use Rattle.nntp_facts.proofs.Keeping.SilentFacts.{ids_join, articles_join}
-use Rattle.nntp_facts.proofs.Keeping.FactsOfOneGroup.{same_self}
-use Rattle.std.proofs.Math.Bool.{or-false}
+use Rattle.std.proofs.{lemmas.Bool.{true≢false, and_parts, and_from, or_left, false_from_ne_true, not-true, true_from_ne_false}, Math.Bool.{or-false}}
+use Rattle.std.specs.{Prelude.{◌↔◌, IsFalse}, List.{AllByRecursion, list_any, list_all, flat_map}, Option.{option_map_or}, Cmp.Lexicographic.{same_text}}
+use Rattle.nntp_wire.specs.{Listing.{ActiveValue}, Decided.{matches_name}}
+use Rattle.nntp_article.specs.Session.{Spool.{Name}, Machine.{is_same, names_differ}}
+use Rattle.nntp_said.specs.{Asks.{Ask, Bounds}, Facts.{Fact, GroupsAre}}
+use Rattle.nntp_facts.specs.{Given.{asks_of, is_shown_group}, Inner.{Together.{IsWellFormed, AsksStand, Together, Join}, ListedGroups.{is_listed, LineJoins}}}
+use Rattle.nntp_facts.{specs.{Inner.ListedGroups.{NoneIsMissing}, Together.{denies_group}}, proofs.Members.{In, all_at, all_from, any_in, found_in}}
+use Rattle.nntp_facts.proofs.Keeping.{SilentFacts.{ids_join}, SaidOfArticles.{articles_join}, FactsOfOneGroup.{same_self}}
 
 -- the bounds that the lines report for a group
 abbrev pub bounds_in : Name → List ActiveValue → List Ask
@@ -94,6 +84,6 @@ module _ (facts : List Fact) (p : Option (List ℕ)) (lines : List ActiveValue) 
       };
       numbers = λ name. numbers_from t differ name (is_listed lines name) refl h.0;
       ids = ids_join facts (GroupsAre p lines ∷ []) (record { ids = λ name n. refl; places = λ name id. refl });
-      articles = articles_join facts (GroupsAre p lines ∷ []) (record { shown = λ id. refl; denied = λ id. refl; mentioned = λ id. refl; sent = λ id. refl; heads = λ id. refl; bodies = λ id. refl });
+      articles = articles_join facts (GroupsAre p lines ∷ []) (λ id. refl);
     },
   )

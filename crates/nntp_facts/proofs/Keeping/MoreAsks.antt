@@ -1,39 +1,23 @@
 -- More asks: what is kept and what they say tell whether all stands together.
-use Rattle.std.proofs.Common.{◌≡◌, ℕ, ◌^◌, ◌<◌, Bool, true, false, not, ◌&&◌, ◌||◌, ◌==◌, IsTrue, List, [], ◌∷◌, ◌++◌, length}
-use Rattle.std.proofs.Common.{suc, Option, None, Some, is_some, inl, inr, refl, sym, ap, subst, ◌∙◌, arith}
-use Rattle.std.specs.Prelude.{◌↔◌, IsFalse, nat_lt}
-use Rattle.std.specs.List.{list_any, list_all}
-use Rattle.std.specs.List.Sorted.{IsStrictlySortedBy}
-use Rattle.std.specs.BTreeMap.{is_at}
-use Rattle.std.specs.Ordering.{nat_cmp, eq_by_cmp}
-use Rattle.std.specs.Cmp.{nat_cmp_total, eq_by_cmp_equiv, both_ways}
-use Rattle.std.specs.FinMap.{get, len, keys, entries, entries_sorted, len-entries, nat_cmp-IsAntisymmetric, contains_key-keys}
-use Rattle.std.proofs.lemmas.Bool.{true≢false, and_parts, lt-ltb, and_from, or_left, or_right, or_cases, or_from, or_parts, cases_lt, eq-eqb, ne_eqb}
-use Rattle.std.proofs.lemmas.List.{length-map}
-use Rattle.std.proofs.lemmas.List.Folds.{list_any-append, list_all-append}
-use Rattle.std.proofs.lemmas.Map.Keys.{IsDistinct-from_sorted}
-use Rattle.std.proofs.lemmas.Map.Made.{length-from_same_keys}
-use Rattle.std.proofs.lemmas.Map.Views.{tells_apart}
-use Rattle.std.proofs.lemmas.Map.Lookups.{exact_unsigned}
-use Rattle.nntp_intervals.specs.Intervals.{holds, is_between}
+use Rattle.std.proofs.Common.{◌≡◌, ℕ, ◌^◌, ◌<◌, Bool, true, false, not, ◌&&◌, ◌||◌, ◌==◌, IsTrue, List, [], ◌∷◌, ◌++◌, length, suc, Option, None, Some, is_some}
+use Rattle.std.proofs.{Common.{inl, inr, refl, sym, ap, subst, ◌∙◌, arith}, lemmas.Bool.{true≢false, and_parts, lt-ltb, and_from, or_left, or_right, or_cases}}
+use Rattle.std.proofs.lemmas.{Bool.{or_from, or_parts, cases_lt, eq-eqb, ne_eqb}, List.{length-map, Folds.{list_any-append, list_all-append}}}
+use Rattle.std.proofs.lemmas.Map.{Keys.{IsDistinct-from_sorted}, Made.{length-from_same_keys}, Views.{tells_apart}, Lookups.{exact_unsigned}}
+use Rattle.std.specs.{Prelude.{◌↔◌, IsFalse, nat_lt}, List.{list_any, list_all, Sorted.{IsStrictlySortedBy}}, BTreeMap.{is_at}, Ordering.{nat_cmp, eq_by_cmp}}
+use Rattle.std.specs.{Cmp.{nat_cmp_total, eq_by_cmp_equiv, both_ways}, FinMap.{get, len, keys, entries, entries_sorted, len-entries, nat_cmp-IsAntisymmetric}}
+use Rattle.std.specs.FinMap.{contains_key-keys}
+use Rattle.nntp_intervals.specs.Inner.Intervals.{holds, is_between}
 use Rattle.nntp_article.specs.Session.Spool.{Numbers, IsNumber}
 use Rattle.nntp_said.specs.Asks.{Ask}
-use Rattle.nntp_facts.specs.Given.{shows, denies, is_shown, is_denied, says_some, demand, join, wants, is_known}
-use Rattle.nntp_facts.specs.declared.demand.Demand.{Demand}
-use Rattle.nntp_facts.specs.declared.demand.Demand.TheVariants.{NoDemand}
-use Rattle.nntp_facts.specs.Together.{is_possible, MeetsDemand, AsksStand}
-use Rattle.nntp_facts.specs.Part.{estimate_in, is_within, is_within_all, join_ends, ends_of, is_end_of, is_demanding, is_one_of, Said, part_denies, IsRegular, Says}
-use Rattle.nntp_facts.specs.Summary.{Summary, has, IsSummary, AreBounded, shown_after, says_some_after, ends_after, known_after}
-use Rattle.nntp_facts.specs.Summary.{denied_after, PassSoMany, FirstFree, is_settled, AreCounted, Looks, FirstFreeBelow}
-use Rattle.nntp_facts.specs.Summary.{AgreesWith, AreOpen, LooksAfter}
-use Rattle.nntp_facts.specs.declared.shown.HowMany.{HowMany}
-use Rattle.nntp_facts.proofs.Members.{In, any_in, found_in, all_both, all_back}
-use Rattle.nntp_facts.proofs.GivenNumbers.MetNumbersStand.{key_in, key_is, shown_known}
-use Rattle.nntp_facts.proofs.Maps.{key_map, in_key_map, of_key_map, sorted_keys}
-use Rattle.nntp_facts.proofs.GivenNumbers.JoinedDemands.{demand_append}
-use Rattle.nntp_facts.proofs.Keeping.HullOfMarks.{is_known_by, end_if, ends_append, some_is, apart_by_hull, stands_by_hull}
+use Rattle.nntp_facts.specs.{Given.{shows, denies, is_shown, is_denied, says_some, demand, join, wants, is_known}, declared.demand.Demand.{Demand}}
+use Rattle.nntp_facts.specs.{declared.{demand.Demand.TheVariants.{NoDemand}, shown.HowMany.{HowMany}}, Together.{is_possible, MeetsDemand}}
+use Rattle.nntp_facts.specs.Inner.{Together.{AsksStand}, Part.{estimate_in, is_within, is_within_all, join_ends, ends_of, is_end_of, is_demanding, is_one_of}}
+use Rattle.nntp_facts.specs.Inner.{Part.{Said, part_denies, IsRegular, Says}, Summary.{Summary, has, IsSummary, AreBounded, shown_after, says_some_after}}
+use Rattle.nntp_facts.specs.Inner.Summary.{ends_after, known_after, denied_after, PassSoMany, FirstFree, is_settled, AreCounted, Looks, FirstFreeBelow}
+use Rattle.nntp_facts.{specs.Inner.{Summary.{AgreesWith, AreOpen, LooksAfter}, Conflict.{AreApart}}, proofs.Members.{In, any_in, found_in, all_both, all_back}}
+use Rattle.nntp_facts.proofs.{GivenNumbers.{MetNumbersStand.{key_in, key_is, shown_known}, JoinedDemands.{demand_append}}, Maps.{key_map, in_key_map}}
+use Rattle.nntp_facts.proofs.{Maps.{of_key_map, sorted_keys}, Keeping.HullOfMarks.{is_known_by, end_if, ends_append, some_is, apart_by_hull, stands_by_hull}}
 use Rattle.nntp_facts.proofs.Keeping.AsksSettled.{settled, stands, ByShown, ArePossible}
-use Rattle.nntp_facts.specs.Conflict.{AreApart}
 
 -- ---- maps of ascending numbers
 

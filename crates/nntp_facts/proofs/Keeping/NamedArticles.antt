@@ -1,23 +1,13 @@
 -- What is kept of an id, once its entry among the articles is found or made.
-use Rattle.std.proofs.Common.{◌≡◌, ℕ, false, cond, List, map, Vec, Option, None, Some, is_some, option_map, refl, sym, ap, ◌∙◌}
-use Rattle.std.specs.Prelude.{unwrap_or}
-use Rattle.std.specs.Option.{option_map_or}
-use Rattle.std.specs.declared.cmp.Ordering.{Ordering}
-use Rattle.std.specs.declared.cmp.Ordering.TheVariants.{Equal}
-use Rattle.std.specs.declared.rc.RcStr.{RcStr}
-use Rattle.std.specs.Ordering.{nat_cmp, is_eq}
-use Rattle.std.specs.Cmp.Lexicographic.{slice_cmp, nat_list_cmp_total}
-use Rattle.std.specs.FinMap.{get, insert, from_entries, slice_cmp-IsAntisymmetric, nat_cmp-IsAntisymmetric}
-use Rattle.std.specs.Map.{lookup}
-use Rattle.std.specs.BTreeMap.{insert_entry}
-use Rattle.std.specs.Rc.{rc_str_bytes}
+use Rattle.std.{proofs.Common.{◌≡◌, ℕ, false, cond, List, map, Vec, Option, None, Some, is_some, option_map, refl, sym, ap, ◌∙◌}, specs.Prelude.{unwrap_or}}
+use Rattle.std.specs.{Option.{option_map_or}, declared.{cmp.Ordering.{Ordering, TheVariants.{Equal}}, rc.RcStr.{RcStr}}, Ordering.{nat_cmp, is_eq}}
+use Rattle.std.specs.{Cmp.Lexicographic.{slice_cmp, nat_list_cmp_total}, FinMap.{get, insert, from_entries, slice_cmp-IsAntisymmetric, nat_cmp-IsAntisymmetric}}
+use Rattle.std.specs.{Map.{lookup}, BTreeMap.{insert_entry}, Rc.{rc_str_bytes}}
 use Rattle.nntp_wire.proofs.ShownMaps.{insert-shown, insert-same}
 use Rattle.nntp_article.specs.Article.Parts.{Id}
-use Rattle.nntp_facts.specs.Kept.{KeptArticle}
-use Rattle.nntp_facts.specs.Articles.{unsent, with_new, with_denied}
-use Rattle.nntp_facts.specs.ArticleView.{known_article, entries_value}
-use Rattle.nntp_facts.specs.declared.articles.known.KnownArticle.{KnownArticle}
-use Rattle.nntp_facts.proofs.Keeping.KeptIds.{Articles, kept_known, with_denied-insert}
+use Rattle.nntp_facts.specs.Inner.{Kept.{KeptArticle}, Articles.{unsent, with_new, with_denied}, ArticleView.{known_article, entries_value}}
+use Rattle.nntp_facts.{specs.declared.articles.known.KnownArticle.{KnownArticle}, proofs.Keeping.{KeptArticles.{Articles}, KeptIds.{kept_known}}}
+use Rattle.nntp_facts.proofs.Keeping.KeptIds.{with_denied-insert}
 
 -- the order of the texts
 abbrev pub text_cmp : {A : Type 0} → RcStr A → RcStr A → Ordering

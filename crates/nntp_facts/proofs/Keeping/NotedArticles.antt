@@ -1,114 +1,141 @@
 -- What is added of articles, once an id is noted.
-use Rattle.std.proofs.Common.{◌≡◌, ℕ, Bool, true, false, cond, IsTrue, List, [], ◌∷◌, Option, None, Some, is_some, refl, sym, ap, subst, ◌∙◌}
-use Rattle.std.specs.Prelude.{unwrap_or}
-use Rattle.std.specs.List.{list_any}
-use Rattle.std.specs.Option.{option_map_or}
-use Rattle.std.specs.Ordering.{nat_cmp}
-use Rattle.std.specs.Cmp.Lexicographic.{slice_cmp, nat_list_cmp_total}
-use Rattle.std.specs.FinMap.{FinMap, get, insert, slice_cmp-IsAntisymmetric, nat_cmp-IsAntisymmetric}
-use Rattle.std.proofs.lemmas.Bool.{true≢false, not-true}
-use Rattle.nntp_wire.specs.declared.command.What.{What}
-use Rattle.nntp_wire.proofs.ShownMaps.{insert-same}
+use Rattle.std.proofs.Common.{◌≡◌, ◌↔◌, Bool, true, false, cond, not, IsTrue, List, Option, None, Some, is_some, refl, sym, ap, subst, ◌∙◌}
+use Rattle.std.{proofs.{lemmas.Bool.{true≢false, or_right, not-true, not-false}, Math.Bool.{or-false}}, specs.{Prelude.{unwrap_or}, List.{list_any}}}
+use Rattle.std.specs.{Option.{option_or, option_map_or}, Cmp.Lexicographic.{nat_list_cmp_total}, FinMap.{get, insert, slice_cmp-IsAntisymmetric}}
+use Rattle.std.specs.FinMap.{nat_cmp-IsAntisymmetric}
+use Rattle.nntp_wire.{specs.declared.command.What.{What}, proofs.ShownMaps.{insert-same}}
 use Rattle.nntp_article.specs.Article.Parts.{Id, Line}
-use Rattle.nntp_article.specs.Session.Spool.{Name}
-use Rattle.nntp_said.specs.Facts.{Fact, IdAt, TextIs, NoArticle}
-use Rattle.nntp_facts.specs.Together.{JoinArticles, shows_article}
-use Rattle.nntp_facts.specs.Kept.{KeptArticle, AreKeptArticles, IsAddedIf, IsFactAdded}
-use Rattle.nntp_facts.specs.Articles.{head_sent, body_sent, AreSame, MayBeSent, denied, unsent, with_sent, is_there, with_new}
-use Rattle.nntp_facts.proofs.Keeping.SaidOfArticles.{says}
-use Rattle.nntp_facts.proofs.Keeping.KeptArticles.{may_stand, stands, may_lack, lacks, may_send_known, may_send_unknown, sends}
+use Rattle.nntp_said.specs.Facts.{Fact}
+use Rattle.nntp_facts.specs.{Together.{shows_article}, Inner.{Kept.{KeptArticle, AreKeptArticles, IsAddedIf}, Articles.{head_sent, body_sent, MayBeSent}}}
+use Rattle.nntp_facts.specs.Inner.{Articles.{denied, unsent, with_sent, is_there, with_new}, Saying.{OfArticle, Lacks, Exists, Sends}, KeptSaying.{kept_by}}
+use Rattle.nntp_facts.{specs.Inner.KeptSaying.{IsArticleAdded}, proofs.{Together.TwoListsOfFacts.{or_none}, Keeping.KeptArticles.{Articles, get_elsewhere}}}
+use Rattle.nntp_facts.proofs.Keeping.KeptArticles.{get_there, new_elsewhere, new_there, MayKeep, kept_with, same_as_none, article_joins, article_kept}
+use Rattle.nntp_facts.proofs.Keeping.KeptArticles.{shown_kept}
 
-abbrev Articles : Type 0
-Articles = FinMap (slice_cmp nat_cmp) KeptArticle
+-- what is kept of an id of which nothing was sent
+abbrev bare : Bool → KeptArticle
+bare is_denied = record { is_denied = is_denied; is_sent = false; head = None; body = None }
 
--- ---- the map
+-- with it is kept what was, if anything was
+bare_with : (o : Option KeptArticle) (b : Bool) → unwrap_or o (bare b) ≡ kept_with o (bare b)
+bare_with None b = refl
+bare_with (Some a) b = λ i. record { is_denied = a.is_denied; is_sent = sym (or-false a.is_sent) i; head = sym (or_none a.head) i; body = sym (or_none a.body) i }
 
--- nothing new is kept of an id that has an article
-same_if_there : (articles : Articles) (id : Id) (b : KeptArticle) → is_there (get articles id) ≡ true → articles ≡ with_new articles id b
-same_if_there articles id b there = ap (λ s. cond s articles (insert articles id b)) (sym (by (get articles id) there))
-  where
-    by : (o : Option KeptArticle) → is_there o ≡ true → is_some o ≡ true
-    by None t = absurd (true≢false (sym t))
-    by (Some a) t = refl
+module _ (facts : List Fact) (old : Articles) (id : Id) (said : OfArticle) (kept : AreKeptArticles facts old) where
+  -- what may be kept of an id is kept, if nothing was
+  new_kept : (b : Bool) → kept_by said ≡ bare b → (new : Articles) → new ≡ with_new old id (bare b) → MayKeep (get old id) (kept_by said) → IsArticleAdded facts (Some (id, said)) old new true
+  new_kept b plain new is may = (
+    (article_joins facts old id said kept).1 may,
+    article_kept facts old id said kept new may
+        (ap (λ m. get m id) is ∙ new_there old id (bare b) ∙ ap Some (bare_with (get old id) b ∙ ap (kept_with (get old id)) (sym plain)))
+        (λ q e. ap (λ m. get m q) is ∙ new_elsewhere old id q (bare b) e),
+  )
 
--- ---- an id stands at a number
+  -- what may not changes nothing
+  refused : (MayKeep (get old id) (kept_by said) → ⊥) → IsArticleAdded facts (Some (id, said)) old old false
+  refused never = (λ j. never ((article_joins facts old id said kept).0 j), refl)
 
--- of an id that has an article, nothing changes
-pub there_again : (facts : List Fact) (articles : Articles) (name : Name) (n : ℕ) (id : Id) → AreKeptArticles facts articles → is_there (get articles id) ≡ true
-    → IsFactAdded facts (IdAt name n id) articles articles true
-there_again facts articles name n id kept there =
-    let joins : JoinArticles facts (IdAt name n id ∷ []) = (may_stand facts articles name n id kept).1 (by (get articles id) there) in
-    (joins, stands facts articles articles name n id (same_if_there articles id unsent there) kept joins)
-  where
-    by : (o : Option KeptArticle) → is_there o ≡ true → option_map_or (λ a. a.is_denied) o false ≡ false
-    by None t = refl
-    by (Some a) t = not-true a.is_denied t
+  -- so an article of an id that is denied
+  pub of_denied : (kept_by said).is_denied ≡ false → option_map_or (λ a. a.is_denied) (get old id) false ≡ true → IsArticleAdded facts (Some (id, said)) old old false
+  of_denied has is_denied = refused (by (get old id) is_denied)
+    where
+      by : (o : Option KeptArticle) → option_map_or (λ a. a.is_denied) o false ≡ true → MayKeep o (kept_by said) → ⊥
+      by None d m = true≢false (sym d)
+      by (Some a) d m = true≢false (sym d ∙ m.0 ∙ has)
 
--- nor of one of which this was said
-pub there_already : (facts : List Fact) (articles : Articles) (name : Name) (n : ℕ) (id : Id) → AreKeptArticles facts articles → IsTrue (list_any (shows_article id) facts)
-    → IsFactAdded facts (IdAt name n id) articles articles true
-there_already facts articles name n id kept shown = there_again facts articles name n id kept (sym (says facts articles id kept).shown ∙ shown)
+-- ---- an id has an article
 
 -- one that isn't denied is kept, if it wasn't before
-pub there_noted : (facts : List Fact) (old new : Articles) (name : Name) (n : ℕ) (id : Id) → AreKeptArticles facts old → option_map_or (λ a. a.is_denied) (get old id) false ≡ false
-    → new ≡ with_new old id unsent → IsFactAdded facts (IdAt name n id) old new true
-there_noted facts old new name n id kept free is =
-    let joins : JoinArticles facts (IdAt name n id ∷ []) = (may_stand facts old name n id kept).1 free in
-    (joins, stands facts old new name n id is kept joins)
+pub there_noted : (facts : List Fact) (old new : Articles) (id : Id) → AreKeptArticles facts old → option_map_or (λ a. a.is_denied) (get old id) false ≡ false
+    → new ≡ with_new old id unsent → IsArticleAdded facts (Some (id, Exists)) old new true
+there_noted facts old new id kept free is = new_kept facts old id Exists kept false refl new is (by (get old id) free)
+  where
+    by : (o : Option KeptArticle) → option_map_or (λ a. a.is_denied) o false ≡ false → MayKeep o unsent
+    by None e = tt
+    by (Some a) e = (e, tt, tt)
 
--- of a denied one nothing changes
-pub there_denied : (facts : List Fact) (articles : Articles) (name : Name) (n : ℕ) (id : Id) → AreKeptArticles facts articles → option_map_or (λ a. a.is_denied) (get articles id) false ≡ true
-    → IsFactAdded facts (IdAt name n id) articles articles false
-there_denied facts articles name n id kept denied = (λ j. true≢false (sym denied ∙ (may_stand facts articles name n id kept).0 j), refl)
+-- of one of which this was said nothing changes
+pub there_already : (facts : List Fact) (articles : Articles) (id : Id) → AreKeptArticles facts articles → IsTrue (list_any (shows_article id) facts)
+    → IsArticleAdded facts (Some (id, Exists)) articles articles true
+there_already facts articles id kept shown =
+    let p = by (get articles id) (sym (shown_kept facts articles id kept) ∙ shown) in
+    there_noted facts articles articles id kept p.0 (ap (λ b. cond b articles (insert articles id unsent)) (sym p.1))
+  where
+    by : (o : Option KeptArticle) → is_there o ≡ true → (option_map_or (λ a. a.is_denied) o false ≡ false) × (is_some o ≡ true)
+    by None t = absurd (true≢false (sym t))
+    by (Some a) t = (not-true a.is_denied t, refl)
 
 -- ---- an id has no article
 
 -- of an id that has one, nothing changes
-pub lack_there : (facts : List Fact) (articles : Articles) (id : Id) → AreKeptArticles facts articles → is_there (get articles id) ≡ true → IsFactAdded facts (NoArticle id) articles articles false
-lack_there facts articles id kept there = (λ j. true≢false (sym there ∙ (may_lack facts articles id kept).0 j), refl)
+pub lack_there : (facts : List Fact) (articles : Articles) (id : Id) → AreKeptArticles facts articles → is_there (get articles id) ≡ true
+    → IsArticleAdded facts (Some (id, Lacks)) articles articles false
+lack_there facts articles id kept there = refused facts articles id Lacks kept (by (get articles id) there)
+  where
+    by : (o : Option KeptArticle) → is_there o ≡ true → MayKeep o denied → ⊥
+    by None t m = true≢false (sym t)
+    by (Some a) t m = true≢false (sym t ∙ ap not m.0)
 
 -- another one is kept, if it wasn't before
-pub lack_new : (facts : List Fact) (old new : Articles) (id : Id) → AreKeptArticles facts old → is_there (get old id) ≡ false → new ≡ with_new old id denied → IsFactAdded facts (NoArticle id) old new true
-lack_new facts old new id kept unshown is =
-    let joins : JoinArticles facts (NoArticle id ∷ []) = (may_lack facts old id kept).1 unshown in
-    (joins, lacks facts old new id is kept joins)
+pub lack_new : (facts : List Fact) (old new : Articles) (id : Id) → AreKeptArticles facts old → is_there (get old id) ≡ false → new ≡ with_new old id denied
+    → IsArticleAdded facts (Some (id, Lacks)) old new true
+lack_new facts old new id kept unshown is = new_kept facts old id Lacks kept true refl new is (by (get old id) unshown)
+  where
+    by : (o : Option KeptArticle) → is_there o ≡ false → MayKeep o denied
+    by None e = tt
+    by (Some a) e = (not-false a.is_denied e, tt, tt)
 
 -- ---- something of an article is sent
 
--- of an id of which something is known, what is sent is added to that
-pub sent_known : (facts : List Fact) (old new : Articles) (what : What) (id : Id) (lines : Option (List Line)) (head body : Option (List Line)) (a b : KeptArticle) (does : Bool)
-    → AreKeptArticles facts old → Some a ≡ get old id → new ≡ insert old id b → head ≡ head_sent what lines → body ≡ body_sent what lines
-    → IsAddedIf (MayBeSent a head body) (λ k. k ≡ with_sent a head body) a b does → IsFactAdded facts (TextIs what id lines) old new does
-sent_known facts old new what id lines head body a b true kept known is heads bodies added =
-    let joins : JoinArticles facts (TextIs what id lines ∷ []) = (may_send_known facts old what id lines head body a kept known heads bodies).0 added.0 in
-    (joins, sends facts old new what id lines head body a b (ap (λ o. unwrap_or o unsent) known) heads bodies added.1 is kept joins)
-sent_known facts old new what id lines head body a b false kept known is heads bodies added = (
-  λ joins. added.0 ((may_send_known facts old what id lines head body a kept known heads bodies).1 joins),
-  is ∙ ap (insert old id) added.1 ∙ insert-same nat_list_cmp_total (slice_cmp-IsAntisymmetric nat_cmp-IsAntisymmetric) old id a (sym known),
-)
+module _ (what : What) (lines : Option (List Line)) where
+  -- it may be kept exactly if it may be sent of what is kept, or of an article of which nothing was
+  may_keep : (o : Option KeptArticle) → MayBeSent (unwrap_or o unsent) (head_sent what lines) (body_sent what lines) ↔ MayKeep o (kept_by (Sends what lines))
+  may_keep None = (λ m. tt, λ h. (refl, same_as_none (head_sent what lines), same_as_none (body_sent what lines)))
+  may_keep (Some a) = (λ m. m, λ h. h)
 
-same_as_none : (sent : Option (List Line)) → AreSame sent None
-same_as_none None = tt
-same_as_none (Some lines) = tt
+  -- and then is kept with it
+  sent_with : (o : Option KeptArticle) → with_sent (unwrap_or o unsent) (head_sent what lines) (body_sent what lines) ≡ kept_with o (kept_by (Sends what lines))
+  sent_with None = refl
+  sent_with (Some a) = λ i. record {
+    is_denied = a.is_denied;
+    is_sent = sym (or_right a.is_sent true refl) i;
+    head = option_or a.head (head_sent what lines);
+    body = option_or a.body (body_sent what lines);
+  }
 
--- so of an id that isn't denied, whether something of it is known or not
+-- what is sent of an article is added to what is known of it, if anything is
 pub sent_noted : (facts : List Fact) (old new : Articles) (what : What) (id : Id) (lines : Option (List Line)) (head body : Option (List Line)) (a b : KeptArticle) (does : Bool)
     → AreKeptArticles facts old → a ≡ unwrap_or (get old id) unsent → new ≡ insert old id b → head ≡ head_sent what lines → body ≡ body_sent what lines
-    → IsAddedIf (MayBeSent a head body) (λ k. k ≡ with_sent a head body) a b does → IsFactAdded facts (TextIs what id lines) old new does
-sent_noted facts old new what id lines head body a b does kept was is heads bodies added = by (get old id) refl does added
+    → IsAddedIf (MayBeSent a head body) (λ k. k ≡ with_sent a head body) a b does → IsArticleAdded facts (Some (id, Sends what lines)) old new does
+sent_noted facts old new what id lines head body a b does kept was is heads bodies = by does
   where
-    by : (o : Option KeptArticle) → get old id ≡ o → (does : Bool) → IsAddedIf (MayBeSent a head body) (λ k. k ≡ with_sent a head body) a b does → IsFactAdded facts (TextIs what id lines) old new does
-    by (Some k) e does added = sent_known facts old new what id lines head body a b does kept (ap Some (was ∙ ap (λ o. unwrap_or o unsent) e) ∙ sym e) is heads bodies added
-    by None e true added =
-        let joins : JoinArticles facts (TextIs what id lines ∷ []) = may_send_unknown facts old what id lines kept (sym e) in
-        (joins, sends facts old new what id lines head body a b was heads bodies added.1 is kept joins)
-    by None e false added = absurd (added.0 (subst (λ k. MayBeSent k head body) (sym (was ∙ ap (λ o. unwrap_or o unsent) e)) (refl, same_as_none head, same_as_none body)))
+    same_parts : MayBeSent a head body ≡ MayBeSent (unwrap_or (get old id) unsent) (head_sent what lines) (body_sent what lines)
+    same_parts = λ i. MayBeSent (was i) (heads i) (bodies i)
 
--- of a denied one nothing changes
-pub sent_denied : (facts : List Fact) (articles : Articles) (what : What) (id : Id) (lines : Option (List Line)) (head body : Option (List Line)) → AreKeptArticles facts articles
-    → option_map_or (λ a. a.is_denied) (get articles id) false ≡ true → head ≡ head_sent what lines → body ≡ body_sent what lines → IsFactAdded facts (TextIs what id lines) articles articles false
-sent_denied facts articles what id lines head body kept denied heads bodies = by (get articles id) refl denied
-  where
-    by : (o : Option KeptArticle) → o ≡ get articles id → option_map_or (λ a. a.is_denied) o false ≡ true → IsFactAdded facts (TextIs what id lines) articles articles false
-    by None e d = absurd (true≢false (sym d))
-    by (Some a) e d = (λ j. true≢false (sym d ∙ ((may_send_known facts articles what id lines head body a kept e heads bodies).1 j).0), refl)
+    joins : MayBeSent a head body → MayKeep (get old id) (kept_by (Sends what lines))
+    joins m = (may_keep what lines (get old id)).0 (subst (λ T. T) same_parts m)
+
+    back : MayKeep (get old id) (kept_by (Sends what lines)) → MayBeSent a head body
+    back h = subst (λ T. T) (sym same_parts) ((may_keep what lines (get old id)).1 h)
+
+    now : with_sent a head body ≡ with_sent (unwrap_or (get old id) unsent) (head_sent what lines) (body_sent what lines)
+    now = λ i. with_sent (was i) (heads i) (bodies i)
+
+    -- where it may not be sent, something was known of the id, and is still
+    as_before : b ≡ a → (MayBeSent a head body → ⊥) → new ≡ old
+    as_before same never = by (get old id) refl
+      where
+        by : (o : Option KeptArticle) → get old id ≡ o → new ≡ old
+        by None e = absurd (never (back (subst (λ o. MayKeep o (kept_by (Sends what lines))) (sym e) tt)))
+        by (Some k) e =
+            is ∙ ap (insert old id) (same ∙ was ∙ ap (λ o. unwrap_or o unsent) e)
+            ∙ insert-same nat_list_cmp_total (slice_cmp-IsAntisymmetric nat_cmp-IsAntisymmetric) old id k e
+
+    by : (does : Bool) → IsAddedIf (MayBeSent a head body) (λ k. k ≡ with_sent a head body) a b does → IsArticleAdded facts (Some (id, Sends what lines)) old new does
+    by true added = (
+      (article_joins facts old id (Sends what lines) kept).1 (joins added.0),
+      article_kept facts old id (Sends what lines) kept new (joins added.0)
+          (ap (λ m. get m id) is ∙ get_there old id b ∙ ap Some (added.1 ∙ now ∙ sent_with what lines (get old id)))
+          (λ q e. ap (λ m. get m q) is ∙ get_elsewhere old id q b e),
+    )
+    by false added = (λ j. added.0 (back ((article_joins facts old id (Sends what lines) kept).0 j)), as_before added.1 added.0)

@@ -1,34 +1,22 @@
 -- Noting an exchange behind earlier sessions: when it is permitted behind those that were accepted, and what stands then.
-use Rattle.nntp_wire.specs.declared.marks.Marks.{Marks}
-use Rattle.std.proofs.Common.{◌≡◌, ℕ, ◌+◌, ◌<◌, ◌≤◌, ◌^◌, ◌↔◌, Bool, false, true, IsTrue, List, [], ◌∷◌, ◌++◌, length, map, Option, None, Some, IfSome, refl, sym, ap, ap₂, subst, ◌∙◌, arith, append_assoc, length-append}
-use Rattle.std.specs.Prelude.{IsFalse}
+use Rattle.nntp_wire.specs.{declared.marks.Marks.{Marks}, Answer.{Asked, Response}}
+use Rattle.std.proofs.Common.{◌≡◌, ℕ, ◌+◌, ◌<◌, ◌≤◌, ◌^◌, ◌↔◌, Bool, false, true, IsTrue, List, [], ◌∷◌, ◌++◌, length, map, Option, None, Some, IfSome, refl}
+use Rattle.std.{proofs.{Common.{sym, ap, ap₂, subst, ◌∙◌, arith, append_assoc, length-append}, lemmas.List.{length-map, map-append}}, specs.Prelude.{IsFalse}}
 use Rattle.std.specs.List.{AllByRecursion, list_any}
-use Rattle.std.proofs.lemmas.List.{length-map, map-append}
-use Rattle.nntp_wire.specs.Answer.{Asked, Response}
-use Rattle.nntp_article.specs.Session.Limit.{profile_of}
+use Rattle.nntp_article.specs.Session.{Limit.{profile_of}, Spool.{Spool, Name}, Machine.{Visible, Run, start, fits, visible_after}}
 use Rattle.nntp_article.specs.declared.session.profile.Profile.{Profile}
-use Rattle.nntp_article.specs.Session.Spool.{Spool, Name}
-use Rattle.nntp_article.specs.Session.Machine.{Visible, Run, start, fits, visible_after}
-use Rattle.nntp_pair.specs.Pairing.{Paired, IsSpelled, asked_at, asked_of, responses_of, lines_in}
-use Rattle.nntp_said.specs.Asks.{position_after}
-use Rattle.nntp_said.specs.declared.position.Position.{Position}
-use Rattle.nntp_said.specs.declared.position.Position.TheVariants.{Nowhere}
-use Rattle.nntp_said.specs.Facts.{Fact, FitsAll, here, facts_of}
-use Rattle.nntp_facts.specs.Given.{facts_of_session, shows_group, size}
-use Rattle.nntp_facts.specs.Together.{IsWellFormed, Together, Join}
-use Rattle.nntp_facts.specs.Answered.{Answered, SomePermitsEach, facts_of_all}
-use Rattle.nntp_facts.specs.Classes.{visible_from, position_from}
-use Rattle.nntp_facts.specs.Kept.{Kept, IsKept, AreAdded}
-use Rattle.nntp_facts.specs.Saying.{Saying, IsSelectedShown, Tells, TellsHere, numbers_listed}
-use Rattle.nntp_facts.specs.Noted.{FactsKept, exchanged, said_by, said_behind, ArePermittedBehind, AreFew, HasNotedBehind, IsDue, MayBeNoted, said_then, IsNotedBehind}
-use Rattle.nntp_facts.specs.declared.noted.Noted.TheVariants.{Consistent, OutOfPlace, Contradiction}
-use Rattle.nntp_facts.proofs.Members.{all_both, all_front, all_back, any_back}
-use Rattle.nntp_facts.proofs.Session.LaterPrompts.{run_longer, facts_longer, visible_longer, position_longer, next_behind}
-use Rattle.nntp_facts.proofs.Session.OneMoreAnswer.{facts_grow, visible_grows, position_grows}
-use Rattle.nntp_facts.proofs.Session.SelectedGroupIsShown.{selected_shown}
-use Rattle.nntp_facts.proofs.Given.SessionsByFacts.{stand_each}
-use Rattle.nntp_facts.proofs.Together.WellFormed.{spelled_formed}
-use Rattle.nntp_facts.proofs.Keeping.NotedSessions.{facts_behind, permitted_more_behind, small_behind}
+use Rattle.nntp_pair.specs.{Pairing.{Paired, asked_at, asked_of, responses_of}, Inner.Pairing.{IsSpelled, lines_in}}
+use Rattle.nntp_said.specs.{Asks.{position_after}, declared.position.Position.{Position, TheVariants.{Nowhere}}, Facts.{Fact, here, facts_of}}
+use Rattle.nntp_said.specs.Inner.Facts.{FitsAll}
+use Rattle.nntp_facts.specs.{Given.{facts_of_session, shows_group}, Inner.{Given.{size}, Together.{IsWellFormed, Together, Join}, Kept.{Kept, IsKept}}}
+use Rattle.nntp_facts.specs.Inner.{Kept.{AreAdded}, Saying.{Saying, IsSelectedShown, Tells, TellsHere, numbers_listed}, Noted.{FactsKept, said_by, said_behind}}
+use Rattle.nntp_facts.specs.{Inner.Noted.{AreFew, HasNotedBehind, IsDue, MayBeNoted, said_then, IsNotedBehind}, Answered.{Answered, SomePermitsEach}}
+use Rattle.nntp_facts.specs.{Answered.{facts_of_all}, Classes.{visible_from, position_from}, Noted.{exchanged, ArePermittedBehind}}
+use Rattle.nntp_facts.{specs.declared.noted.Noted.TheVariants.{Consistent, OutOfPlace, Contradiction}, proofs.Members.{all_both, all_front, all_back, any_back}}
+use Rattle.nntp_facts.proofs.Session.{LaterPrompts.{run_longer, facts_longer, visible_longer, position_longer, next_behind}, OneMoreAnswer.{facts_grow}}
+use Rattle.nntp_facts.proofs.Session.{OneMoreAnswer.{visible_grows, position_grows}, SelectedGroupIsShown.{selected_shown}}
+use Rattle.nntp_facts.proofs.{Given.SessionsByFacts.{stand_each}, Together.WellFormed.{spelled_formed}, Keeping.NotedSessions.{facts_behind}}
+use Rattle.nntp_facts.proofs.Keeping.NotedSessions.{permitted_more_behind, small_behind}
 
 -- ---- one prompt and its answer more
 
@@ -134,7 +122,8 @@ module _ (profile : Profile) (facts : FactsKept) (earlier : List (List Paired)) 
 
   -- and shows the selected group
   pub shows_selected : IsSelectedShown facts.visible all
-  shows_selected = subst (λ v. IsSelectedShown v all) (sym s.visible) (by (visible_from start.visible (asked_of past) (responses_of past)).selected (selected_shown profile (asked_of past) (responses_of past) stands.0))
+  shows_selected = subst (λ v. IsSelectedShown v all) (sym s.visible)
+      (by (visible_from start.visible (asked_of past) (responses_of past)).selected (selected_shown profile (asked_of past) (responses_of past) stands.0))
     where
       by : (o : Option Name) → IfSome o (λ name. IsTrue (list_any (shows_group name) (said_by profile.marks past))) → IfSome o (λ name. IsTrue (list_any (shows_group name) all))
       by None t = tt
@@ -163,9 +152,11 @@ module _ (profile : Profile) (facts : FactsKept) (earlier : List (List Paired)) 
         After = SomePermitsEach profile (map exchanged earlier ++ of_these (asked_of past ++ asked_at pair.line ∷ []) (responses_of past ++ pair.response ∷ []) ∷ [])
 
         small : size (facts_of_all profile.marks (map exchanged earlier ++ of_these (asked_of past ++ asked_at pair.line ∷ []) (responses_of past ++ pair.response ∷ []) ∷ [])) < 2 ^ 210
-        small = subst (λ q. size (facts_of_all profile.marks (map exchanged earlier ++ q ∷ [])) < 2 ^ 210) (with_pair past pair) (small_behind profile.marks earlier (past ++ pair ∷ []) s.sessions s.earlier_few few)
+        small = subst (λ q. size (facts_of_all profile.marks (map exchanged earlier ++ q ∷ [])) < 2 ^ 210) (with_pair past pair) (small_behind profile.marks earlier (past ++ pair
+            ∷ []) s.sessions s.earlier_few few)
 
-        follows : After ↔ MayFollow profile (visible_from start.visible (asked_of past) (responses_of past)) (position_from Nowhere (asked_of past) (responses_of past)) all (asked_at pair.line) pair.response
+        follows : After ↔ MayFollow profile (visible_from start.visible (asked_of past) (responses_of past)) (position_from Nowhere (asked_of past) (responses_of past)) all (asked_at pair.line)
+            pair.response
         follows = permitted_next profile (map exchanged earlier) (asked_of past) (responses_of past) (asked_at pair.line) pair.response (as_many past) small s.permitted
 
         next : After ↔ MayFollow profile facts.visible facts.position all (asked_at pair.line) pair.response
@@ -199,7 +190,8 @@ module _ (profile : Profile) (facts : FactsKept) (earlier : List (List Paired)) 
       },
     )
       where
-        new_facts : new ≡ facts_of profile.marks (visible_from start.visible (asked_of past) (responses_of past)) (position_from Nowhere (asked_of past) (responses_of past)) (asked_at pair.line) pair.response
+        new_facts : new ≡ facts_of profile.marks (visible_from start.visible (asked_of past) (responses_of past)) (position_from Nowhere (asked_of past) (responses_of past)) (asked_at pair.line)
+            pair.response
         new_facts = ap₂ (λ v at. facts_of profile.marks v at (asked_at pair.line) pair.response) s.visible s.position
 
         own : said_by profile.marks past ++ new ≡ said_by profile.marks (past ++ pair ∷ [])

@@ -1,19 +1,14 @@
 -- What is kept in all, where the parts of an answer are noted.
-use Rattle.std.proofs.Common.{◌≡◌, ℕ, Bool, true, false, IsTrue, List, [], ◌∷◌, ◌++◌, Option, None, Some, sym, ap, subst, ◌∙◌}
-use Rattle.std.specs.Prelude.{◌↔◌, IfSome}
-use Rattle.std.specs.List.{AllByRecursion}
-use Rattle.std.proofs.lemmas.Bool.{true≢false}
+use Rattle.std.proofs.{Common.{◌≡◌, ℕ, Bool, true, false, IsTrue, List, [], ◌∷◌, ◌++◌, Option, None, Some, sym, ap, subst, ◌∙◌}, lemmas.Bool.{true≢false}}
+use Rattle.std.specs.{Prelude.{◌↔◌, IfSome}, List.{AllByRecursion}}
 use Rattle.nntp_article.specs.Article.Parts.{Id}
 use Rattle.nntp_wire.specs.Listing.{ActiveValue}
-use Rattle.nntp_said.specs.Asks.{Ask}
-use Rattle.nntp_said.specs.Facts.{Fact, GroupsAre}
-use Rattle.nntp_facts.specs.Together.{IsWellFormed, Together, JoinArticles, Join}
-use Rattle.nntp_facts.specs.ListedGroups.{MayList}
-use Rattle.nntp_facts.specs.Saying.{OfGroup, OfArticle, Lacks, Exists, Sends, Saying, sent_facts, there_facts, group_facts, missing_facts, lack_facts, groups_facts, facts_in, IsToExist, MayBeOf, IsAlone, Tells}
-use Rattle.nntp_facts.specs.Kept.{Kept, IsKept, AreKeptNames, AreKeptGroups, AreKeptArticles, IsAddedIf, AreAdded}
-use Rattle.nntp_facts.specs.KeptSaying.{IsTextOf, JoinGroups, MayBeSaid, article_facts}
-use Rattle.nntp_facts.proofs.Keeping.PartsJoin.{parts_join, same_articles}
-use Rattle.nntp_facts.proofs.Keeping.SameOfArticles.{kept_alike}
+use Rattle.nntp_said.specs.{Asks.{Ask}, Facts.{Fact, GroupsAre}}
+use Rattle.nntp_facts.specs.Inner.{Together.{IsWellFormed, said_of, join_said, Together, Join}, ListedGroups.{MayList}, Saying.{OfGroup, OfArticle, Lacks}}
+use Rattle.nntp_facts.specs.Inner.Saying.{Exists, Sends, Saying, sent_facts, there_facts, group_facts, missing_facts, lack_facts, groups_facts, facts_in}
+use Rattle.nntp_facts.specs.Inner.{Saying.{IsToExist, MayBeOf, IsAlone, Tells}, Kept.{Kept, IsKept, AreKeptNames, AreKeptGroups, AreAdded}}
+use Rattle.nntp_facts.{specs.Inner.KeptSaying.{IsTextOf, JoinGroups, MayBeSaid, ArticleJoins, IsArticleAdded}, proofs.Keeping.PartsJoin.{parts_join}}
+use Rattle.nntp_facts.proofs.Keeping.{PartsJoin.{said_of_parts}, SaidOfArticles.{said_append}, KeptArticles.{Articles}}
 
 -- what has the same parts is the same
 pub kept_is : (a b : Kept) → a.groups ≡ b.groups → a.names ≡ b.names → a.articles ≡ b.articles → a ≡ b
@@ -59,8 +54,8 @@ list_added facts more s wildmat lines old new does is t formed adds =
 
 module _ (facts more : List Fact) (s : Saying) (no_list : s.groups ≡ None) (t : Tells facts s more) (together : Together facts) (formed : AllByRecursion IsWellFormed more) where
   -- all joins exactly if the groups do and the article does
-  joins : Join facts more ↔ (JoinGroups facts s t.asks × JoinArticles facts (article_facts [] 0 s.article))
-  joins = subst (λ more. Join facts more ↔ (JoinGroups facts s t.asks × JoinArticles facts (article_facts [] 0 s.article))) t.same
+  joins : Join facts more ↔ (JoinGroups facts s t.asks × ArticleJoins facts s.article)
+  joins = subst (λ more. Join facts more ↔ (JoinGroups facts s t.asks × ArticleJoins facts s.article)) t.same
       (parts_join facts s t.asks no_list t.may together (subst (AllByRecursion IsWellFormed) (sym t.same) formed))
 
   -- so not where the groups don't
@@ -68,22 +63,19 @@ module _ (facts more : List Fact) (s : Saying) (no_list : s.groups ≡ None) (t 
   no_groups_join test fails is j = true≢false (sym (is.1 (joins.0 j).0) ∙ fails)
 
   -- nor where the article doesn't
-  pub no_article_joins : (does : Bool) (K : Type 0) (Has : K → Type 0) (old new : K) → does ≡ false
-      → IsAddedIf (JoinArticles facts (article_facts [] 0 s.article)) Has old new does → (Join facts more → ⊥) × (new ≡ old)
-  no_article_joins does K Has old new fails added = let refused = subst
-      (IsAddedIf (JoinArticles facts (article_facts [] 0 s.article)) Has old new) fails added in
-      (λ j. refused.0 (joins.0 j).1, refused.1)
+  pub no_article_joins : (does : Bool) (old new : Articles) → does ≡ false → IsArticleAdded facts s.article old new does → (Join facts more → ⊥) × (new ≡ old)
+  no_article_joins does old new fails added = let refused = subst (IsArticleAdded facts s.article old new) fails added in (λ j. refused.0 (joins.0 j).1, refused.1)
 
   -- else all is kept
   pub parts_kept : (does test : Bool) (k : Kept) → does ≡ true → test ≡ true → IsTrue test ↔ JoinGroups facts s t.asks
-      → (old : Kept) → IsAddedIf (JoinArticles facts (article_facts [] 0 s.article)) (AreKeptArticles (facts ++ article_facts [] 0 s.article)) old.articles k.articles does
+      → (old : Kept) → IsArticleAdded facts s.article old.articles k.articles does
       → AreKeptNames (facts ++ facts_in s t.asks) k.names → AreKeptGroups (facts ++ facts_in s t.asks) k.groups → Join facts more × IsKept (facts ++ more) k
   parts_kept does test k done passed is old article names groups =
-      let added = subst (IsAddedIf (JoinArticles facts (article_facts [] 0 s.article)) (AreKeptArticles (facts ++ article_facts [] 0 s.article)) old.articles k.articles) done article in (
+      let added = subst (IsArticleAdded facts s.article old.articles k.articles) done article in (
         joins.1 (is.0 passed, added.0),
         subst (λ more. IsKept (facts ++ more) k) t.same (record {
           groups = groups;
           names = names;
-          articles = kept_alike facts (article_facts [] 0 s.article) (facts_in s t.asks) k.articles (same_articles facts s t.asks no_list t.may) added.1;
+          articles = λ id. said_append facts (facts_in s t.asks) id ∙ ap (join_said (said_of facts id)) (said_of_parts facts s t.asks no_list t.may id) ∙ added.1 id;
         }),
       )

@@ -1,28 +1,16 @@
 -- Exchanges of several sessions are noted one after the other: the next one is permitted exactly if it fits its own session and what it says joins what all said.
-use Rattle.std.proofs.Common.{◌≡◌, ◌+◌, ◌*◌, ◌<◌, ◌≤◌, ◌^◌, ◌↔◌, false, IsTrue, List, [], ◌∷◌, ◌++◌, length, map, Some, refl, sym, ap, subst, ◌∙◌, arith, append_assoc, append-nil, length-append}
-use Rattle.std.proofs.lemmas.Grind.{flat_map-append}
-use Rattle.std.proofs.lemmas.List.{map-append}
-use Rattle.std.specs.List.{AllByRecursion}
-use Rattle.nntp_wire.specs.Answer.{Asked, Response}
-use Rattle.nntp_wire.specs.declared.marks.Marks.{Marks}
-use Rattle.nntp_article.specs.declared.session.profile.Profile.{Profile}
-use Rattle.nntp_article.specs.Session.Machine.{Run, start, fits}
+use Rattle.std.proofs.Common.{◌≡◌, ◌+◌, ◌*◌, ◌<◌, ◌≤◌, ◌^◌, ◌↔◌, false, IsTrue, List, [], ◌∷◌, ◌++◌, length, map, Some, refl, sym, ap, subst, ◌∙◌, arith}
+use Rattle.std.{proofs.{Common.{append_assoc, append-nil, length-append}, lemmas.{Grind.{flat_map-append}, List.{map-append}}}, specs.List.{AllByRecursion}}
+use Rattle.nntp_wire.specs.{Answer.{Asked, Response}, declared.marks.Marks.{Marks}}
+use Rattle.nntp_article.specs.{declared.session.profile.Profile.{Profile}, Session.Machine.{Run, start, fits}}
 use Rattle.nntp_pair.specs.Pairing.{Paired, asked_of, responses_of}
-use Rattle.nntp_said.specs.declared.position.Position.TheVariants.{Nowhere}
-use Rattle.nntp_facts.specs.Classes.{visible_from, position_from, asked_next}
-use Rattle.nntp_said.specs.Facts.{Fact, FitsAll, facts_of}
-use Rattle.nntp_facts.specs.Given.{facts_of_session, size}
-use Rattle.nntp_facts.specs.Kept.{IsKept}
-use Rattle.nntp_facts.specs.Noted.{FactsKept, exchanged, said_by, said_behind, AreFew, HasNotedBehind, begun}
-use Rattle.nntp_facts.specs.Permits.{SomePermits}
-use Rattle.nntp_facts.specs.Together.{Together, Join}
-use Rattle.nntp_facts.proofs.Members.{all_both, all_front, all_back}
-use Rattle.nntp_facts.proofs.Given.FirstBadAnswer.{size-append}
-use Rattle.nntp_facts.proofs.Ids.SizeOfASession.{session_size, pairs_weight}
-use Rattle.nntp_facts.proofs.Session.OneMoreAnswer.{facts_grow, fitting_grows}
-use Rattle.nntp_facts.proofs.Together.FactsJoin.{together_more, answer_agrees}
-use Rattle.nntp_facts.specs.Answered.{Answered, PermitsEach, SomePermitsEach, FitEach, facts_in, facts_of_all}
-use Rattle.nntp_facts.proofs.Given.SessionsByFacts.{stand_each, permitted_together_of_all, permits_alone}
+use Rattle.nntp_said.specs.{declared.position.Position.TheVariants.{Nowhere}, Facts.{Fact, facts_of}, Inner.Facts.{FitsAll}}
+use Rattle.nntp_facts.specs.{Classes.{visible_from, position_from, asked_next}, Given.{facts_of_session}, Inner.{Given.{size}, Kept.{IsKept}}}
+use Rattle.nntp_facts.specs.Inner.{Noted.{FactsKept, said_by, said_behind, AreFew, HasNotedBehind, begun}, Permits.{SomePermits}, Together.{Together, Join}}
+use Rattle.nntp_facts.specs.{Inner.Answered.{FitEach}, Noted.{exchanged}, Answered.{Answered, PermitsEach, SomePermitsEach, facts_in, facts_of_all}}
+use Rattle.nntp_facts.proofs.{Members.{all_both, all_front, all_back}, Given.{FirstBadAnswer.{size-append}, SessionsByFacts.{stand_each}}}
+use Rattle.nntp_facts.proofs.{Given.SessionsByFacts.{permitted_together_of_all, permits_alone}, Ids.SizeOfASession.{session_size, pairs_weight}}
+use Rattle.nntp_facts.proofs.{Session.OneMoreAnswer.{facts_grow, fitting_grows}, Together.FactsJoin.{together_more, answer_agrees}}
 
 -- what sessions say, and one more
 pub facts_behind : (how : Marks) (earlier : List Answered) (s : Answered) → facts_of_all how (earlier ++ s ∷ []) ≡ facts_of_all how earlier ++ facts_in how s
@@ -160,4 +148,5 @@ session_begins profile facts earlier past h count = record {
     pushed = ap (λ sessions. sessions ++ exchanged [] ∷ []) both
 
     said : said_behind profile.marks earlier past ≡ said_behind profile.marks (earlier ++ past ∷ []) []
-    said = sym (append-nil (facts_of_all profile.marks (map exchanged (earlier ++ past ∷ []))) ∙ ap (facts_of_all profile.marks) both ∙ facts_behind profile.marks (map exchanged earlier) (exchanged past))
+    said = sym (append-nil (facts_of_all profile.marks (map exchanged (earlier ++ past ∷ []))) ∙ ap (facts_of_all profile.marks) both
+        ∙ facts_behind profile.marks (map exchanged earlier) (exchanged past))

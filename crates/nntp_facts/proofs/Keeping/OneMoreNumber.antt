@@ -1,12 +1,9 @@
 -- Whether one more number is needed, and the search for it.
 use Rattle.std.proofs.Common.{◌≡◌, ℕ, ◌≤◌, Bool, true, false, cond, IsTrue, List, Option, None, Some, inl, inr, refl, sym, ap, subst, ◌∙◌, arith, [], ◌∷◌}
-use Rattle.std.specs.List.{list_any, flat_map}
-use Rattle.std.proofs.lemmas.Bool.{false_from_ne_true, true≢false}
+use Rattle.std.{proofs.lemmas.Bool.{false_from_ne_true, true≢false}, specs.List.{list_any, flat_map}}
 use Rattle.nntp_said.specs.Asks.{Ask}
-use Rattle.nntp_facts.specs.Given.{is_known, is_denied, demand, wants, IsOneMore}
-use Rattle.nntp_facts.specs.Readers.{free, if_wanted}
-use Rattle.nntp_facts.proofs.GivenNumbers.FirstFreeNumber.{free_is, free_none, first_free_once}
-use Rattle.nntp_facts.proofs.Members.{In, any_in, found_in, to_flat, from_flat}
+use Rattle.nntp_facts.specs.{Given.{is_known, is_denied, demand, wants, IsOneMore}, Inner.Readers.{free, if_wanted}}
+use Rattle.nntp_facts.proofs.{GivenNumbers.FirstFreeNumber.{free_is, free_none, first_free_once}, Members.{In, any_in, found_in, to_flat, from_flat}}
 use Rattle.nntp_facts.proofs.Ids.SmallGivenSpool.{named_by, known_named}
 
 -- ---- the numbers that are known

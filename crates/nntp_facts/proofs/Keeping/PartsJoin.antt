@@ -1,56 +1,37 @@
 -- When the parts of an answer join what was said, and what is kept then.
-use Rattle.std.proofs.Common.{◌≡◌, ℕ, Bool, true, false, ◌||◌, cond, List, [], ◌∷◌, ◌++◌, Option, None, Some, is_some, MatchOption, inl, inr, refl, sym, ap, subst, ◌∙◌}
-use Rattle.std.specs.Prelude.{◌↔◌, IsFalse, IfSome}
-use Rattle.std.specs.Option.{option_map_or, option_or}
-use Rattle.std.specs.List.{AllByRecursion, list_any}
-use Rattle.std.specs.Cmp.Lexicographic.{same_text}
-use Rattle.std.proofs.lemmas.Bool.{true≢false, or_left, or_right}
-use Rattle.std.proofs.lemmas.List.Folds.{list_any-append}
-use Rattle.nntp_wire.specs.declared.command.What.{What}
-use Rattle.nntp_article.specs.Article.Parts.{Id, Line}
-use Rattle.nntp_article.specs.Session.Spool.{Name}
-use Rattle.nntp_article.specs.Session.Machine.{is_same}
-use Rattle.nntp_said.specs.Asks.{Ask}
-use Rattle.nntp_said.specs.Facts.{Fact, ThereIs, ThereIsNo, Asks, IdAt, TextIs}
-use Rattle.nntp_facts.specs.Given.{asks_of, shows_group, is_shown_group, first_given, id_in, head_in, body_in, mentions, gives_article, denies}
-use Rattle.nntp_facts.specs.Together.{IsWellFormed, denies_group, number_in, shows_article, denies_article, Together, JoinNames, JoinNumbers, JoinIds, JoinArticles, Join}
-use Rattle.nntp_facts.specs.Saying.{OfGroup, OfArticle, Lacks, Exists, Sends, Saying, asked_id, sent_facts, lack_facts, id_facts, group_facts, facts_in, MaySay, IsToExist, MayBeOf, IsShownThen}
-use Rattle.nntp_facts.specs.Summary.{AreBounded}
-use Rattle.nntp_facts.specs.Part.{Says}
-use Rattle.nntp_facts.specs.Kept.{told, Told, IsUntold, AreKept, AreKeptGroups, with_part, Changes, Agree, IsShownAt, MayShow, AreKeptWith, id_of, place_of}
-use Rattle.nntp_facts.specs.KeptSaying.{GroupJoins, JoinGroups, article_facts}
-use Rattle.nntp_facts.proofs.Together.TwoListsOfFacts.{given_append}
-use Rattle.nntp_facts.proofs.Together.FactsJoin.{asks_append}
-use Rattle.nntp_facts.proofs.Keeping.KeptNamesAndGroups.{groups_kept}
-use Rattle.nntp_facts.proofs.Keeping.KeptGroups.{Groups}
-use Rattle.nntp_facts.proofs.Ids.OnePlaceOfAnId.{agree_together, shown_with_id}
-use Rattle.nntp_facts.proofs.Keeping.FactsOfOneGroup.{AskOf, asked_here, asked_elsewhere, GivesId, gives_joins, same_self}
-use Rattle.nntp_facts.proofs.Keeping.FactsOfParts.{IsRead, any_is_read, given_is_read, asks_are_read, ids_in, of_articles, of_group, group_asks, group_ids, group_places, shown_group, denied_group}
-use Rattle.nntp_facts.proofs.Keeping.SameOfArticles.{SaySame, join_alike, turned}
-use Rattle.nntp_facts.proofs.Keeping.SilentFacts.{numbers_join, no_numbers_join, GiveNoIds, ids_join, told_same}
+use Rattle.std.proofs.Common.{◌≡◌, ℕ, true, false, cond, List, [], ◌∷◌, ◌++◌, Option, None, Some, is_some, MatchOption, inl, inr, refl, sym, ap, subst, ◌∙◌}
+use Rattle.std.{proofs.lemmas.{Bool.{true≢false, or_left, or_right}, List.Folds.{list_any-append}}, specs.Prelude.{◌↔◌, IsFalse, IfSome}}
+use Rattle.std.specs.{Option.{option_map_or, option_or}, List.{AllByRecursion, list_any}, Cmp.Lexicographic.{same_text}}
+use Rattle.nntp_article.specs.{Article.Parts.{Id}, Session.{Spool.{Name}, Machine.{is_same}}}
+use Rattle.nntp_said.specs.{Asks.{Ask}, Facts.{Fact, IdAt, TextIs}}
+use Rattle.nntp_facts.specs.{Given.{asks_of, shows_group, is_shown_group, first_given, id_in, denies}, Inner.Together.{IsWellFormed, said_of, said_nothing}}
+use Rattle.nntp_facts.specs.Inner.{Together.{join_said, Together, JoinNames, JoinNumbers, JoinIds, JoinArticle, Join}, Saying.{OfGroup, OfArticle, Lacks}}
+use Rattle.nntp_facts.specs.Inner.Saying.{Exists, Sends, Saying, asked_id, sent_facts, lack_facts, id_facts, group_facts, facts_in, MaySay, IsToExist, MayBeOf}
+use Rattle.nntp_facts.specs.Inner.{Saying.{IsShownThen}, Summary.{AreBounded}, Part.{Says}, Kept.{told, Told, IsUntold, AreKept, AreKeptGroups, with_part}}
+use Rattle.nntp_facts.specs.Inner.{Kept.{Changes, Agree, IsShownAt, MayShow, AreKeptWith, id_of, place_of}, KeptSaying.{GroupJoins, JoinGroups, said_in}}
+use Rattle.nntp_facts.{specs.{Inner.KeptSaying.{ArticleJoins}, Together.{denies_group, number_in}}, proofs.Together.TwoListsOfFacts.{given_append}}
+use Rattle.nntp_facts.proofs.{Together.FactsJoin.{asks_append}, Keeping.{KeptNamesAndGroups.{groups_kept}, KeptGroups.{Groups}, FactsOfOneGroup.{AskOf}}}
+use Rattle.nntp_facts.proofs.Keeping.{FactsOfOneGroup.{asked_here, asked_elsewhere, GivesId, gives_joins, same_self}, FactsOfParts.{given_is_read}}
+use Rattle.nntp_facts.proofs.Keeping.FactsOfParts.{asks_are_read, ids_in, of_articles, of_group, group_asks, group_ids, group_places, shown_group, denied_group}
+use Rattle.nntp_facts.proofs.Keeping.{SaidOfArticles.{nothing_more, said_is_read, lack_said, there_said, text_said, text_at}, SilentFacts.{numbers_join}}
+use Rattle.nntp_facts.proofs.{Keeping.SilentFacts.{no_numbers_join, GiveNoIds, ids_join, told_same}, Ids.OnePlaceOfAnId.{agree_together, shown_with_id}}
 
 -- ---- articles
 
-module _ {M : Type 0} (read : List Fact → M) (both : M → M → M) (nothing : M) (is : IsRead read both nothing)
-    (anywhere : (name : Name) (n : ℕ) (id : Id) → read (IdAt name n id ∷ []) ≡ read (IdAt [] 0 id ∷ []))
-    (absorbed : (what : What) (id : Id) (lines : Option (List Line)) (name : Name) (n : ℕ)
-    → both (read (TextIs what id lines ∷ [])) (read (IdAt name n id ∷ [])) ≡ read (TextIs what id lines ∷ [])) where
-  -- an id at a number says no more of articles than the article's own part
-  with_id : (a : Option (Id × OfArticle)) (name : Name) (id : Option (ℕ × Id)) → IfSome id (λ e. IsToExist a e.1) → ((other : Id) → a ≡ Some (other, Exists) → MatchOption id ⊥ (λ e. e.1 ≡ other))
-      → both (read (sent_facts a)) (both (read (id_facts name id)) (read (lack_facts a))) ≡ read (article_facts [] 0 a)
-  with_id None name None placed may = ap (λ m. both m (both m m)) is.none ∙ is.left (both nothing nothing) ∙ is.left nothing ∙ sym is.none
-  with_id None name (Some e) placed may = absurd placed
-  with_id (Some (id, Lacks)) name None placed may = ap (λ m. both m (both m (read (lack_facts (Some (id, Lacks)))))) is.none ∙ is.left _ ∙ is.left _
-  with_id (Some (id, Lacks)) name (Some e) placed may = absurd placed
-  with_id (Some (id, Exists)) name None placed may = absurd (may id refl)
-  with_id (Some (id, Exists)) name (Some e) placed may =
-      ap (λ m. both m (both (read (IdAt name e.0 e.1 ∷ [])) m)) is.none ∙ is.left _ ∙ is.right _ ∙ anywhere name e.0 e.1 ∙ ap (λ id. read (IdAt [] 0 id ∷ [])) (may id refl)
-  with_id (Some (id, Sends what lines)) name None placed may = ap
-      (λ m. both (read (TextIs what id lines ∷ [])) (both m m)) is.none
-      ∙ ap (both (read (TextIs what id lines ∷ []))) (is.left nothing) ∙ is.right _
-  with_id (Some (id, Sends what lines)) name (Some e) placed may =
-      ap (λ m. both (read (TextIs what id lines ∷ [])) (both (read (IdAt name e.0 e.1 ∷ [])) m)) is.none ∙ ap (both (read (TextIs what id lines ∷ []))) (is.right _)
-      ∙ ap (λ other. both (read (TextIs what id lines ∷ [])) (read (IdAt name e.0 other ∷ []))) (sym placed) ∙ absorbed what id lines name e.0
+-- of each id the facts of the article's part, and the id at a number, say what that part does
+of_part : (a : Option (Id × OfArticle)) (name : Name) (e : Option (ℕ × Id)) → IfSome e (λ e. IsToExist a e.1) → ((other : Id) → a ≡ Some (other, Exists) → MatchOption e ⊥ (λ e. e.1 ≡ other))
+    → (id : Id) → join_said (said_of (sent_facts a) id) (join_said (said_of (id_facts name e) id) (said_of (lack_facts a) id)) ≡ said_in a id
+of_part None name None placed may id = refl
+of_part None name (Some e) placed may id = absurd placed
+of_part (Some (other, Lacks)) name None placed may id = lack_said other id
+of_part (Some (other, Lacks)) name (Some e) placed may id = absurd placed
+of_part (Some (other, Exists)) name None placed may id = absurd (may other refl)
+of_part (Some (other, Exists)) name (Some e) placed may id =
+    nothing_more (said_of (IdAt name e.0 e.1 ∷ []) id) ∙ there_said name e.0 e.1 id ∙ ap (λ q. said_in (Some (q, Exists)) id) (may other refl)
+of_part (Some (other, Sends what lines)) name None placed may id = nothing_more (said_of (TextIs what other lines ∷ []) id) ∙ text_said what other lines id
+of_part (Some (other, Sends what lines)) name (Some e) placed may id =
+    ap (join_said (said_of (TextIs what other lines ∷ []) id)) (nothing_more (said_of (IdAt name e.0 e.1 ∷ []) id) ∙ there_said name e.0 e.1 id ∙ ap (λ q. said_in (Some (q, Exists)) id) (sym placed))
+    ∙ ap (λ s. join_said s (said_in (Some (other, Exists)) id)) (text_said what other lines id) ∙ text_at what other lines id
 
 -- ids and numbers of what is told agree where facts stand together
 pub agree_told : (facts : List Fact) → Together facts → (name : Name) (id : Option (ℕ × Id)) → Agree (told facts name).ids (told facts name).places id
@@ -78,48 +59,17 @@ module _ (facts : List Fact) (s : Saying) (asks : List Ask) (no_list : s.groups 
   exists_at : (other : Id) → s.article ≡ Some (other, Exists) → MatchOption s.group ⊥ (λ g. MatchOption g.id ⊥ (λ e. e.1 ≡ other))
   exists_at other is = subst (λ a. IfSome a (MayBeOf s.group)) is may.article
 
-  -- all facts say of articles what the part says
-  alike : {M : Type 0} (read : List Fact → M) (both : M → M → M) (nothing : M) → IsRead read both nothing
-      → ((name : Name) → read (ThereIs name ∷ []) ≡ nothing) → ((name : Name) → read (ThereIsNo name ∷ []) ≡ nothing) → ((name : Name) (ask : Ask) → read (Asks name ask ∷ []) ≡ nothing)
-      → ((name : Name) (n : ℕ) (id : Id) → read (IdAt name n id ∷ []) ≡ read (IdAt [] 0 id ∷ []))
-      → ((what : What) (id : Id) (lines : Option (List Line)) (name : Name) (n : ℕ) → both (read (TextIs what id lines ∷ [])) (read (IdAt name n id ∷ [])) ≡ read (TextIs what id lines ∷ []))
-      → read (facts_in s asks) ≡ read (article_facts [] 0 s.article)
-  alike {M} read both nothing is there missing ask anywhere absorbed = of_articles read both nothing is s asks no_list there missing ask ∙ by s.group refl
+  -- of each id all facts say what the article's part does
+  pub said_of_parts : (id : Id) → said_of (facts_in s asks) id ≡ said_in s.article id
+  said_of_parts id =
+      of_articles (λ facts. said_of facts id) join_said said_nothing (said_is_read id) s asks no_list (λ name. refl) (λ name. refl) (λ name ask. refl)
+      ∙ by s.group may.placed exists_at
     where
-      by : (g : Option OfGroup) → s.group ≡ g → both (read (sent_facts s.article)) (both (read (ids_in s.group)) (read (lack_facts s.article))) ≡ read (article_facts [] 0 s.article)
-      by None none =
-          ap (λ g. both (read (sent_facts s.article)) (both (read (ids_in g)) (read (lack_facts s.article)))) none
-          ∙ with_id read both nothing is anywhere absorbed s.article [] None tt
-          (λ other e. subst (λ g. MatchOption g ⊥ (λ (g : OfGroup). MatchOption g.id ⊥ (λ e. e.1 ≡ other))) none
-          (exists_at other e))
-      by (Some g) some =
-          ap (λ g. both (read (sent_facts s.article)) (both (read (ids_in g)) (read (lack_facts s.article)))) some
-          ∙ with_id read both nothing is anywhere absorbed s.article g.name g.id (subst (λ o. IfSome o (λ (g : OfGroup). IfSome g.id (λ e. IsToExist s.article e.1))) some may.placed)
-          (λ other e. subst (λ g. MatchOption g ⊥ (λ (g : OfGroup). MatchOption g.id ⊥ (λ e. e.1 ≡ other))) some (exists_at other e))
-
-  or_twice : (b : Bool) → ((b || false) || (b || false)) ≡ (b || false)
-  or_twice true = refl
-  or_twice false = refl
-
-  or_absorbed : (b : Bool) → ((b || false) || false) ≡ (b || false)
-  or_absorbed true = refl
-  or_absorbed false = refl
-
-  pub same_articles : SaySame (article_facts [] 0 s.article) (facts_in s asks)
-  same_articles = record {
-    mentioned = λ id. alike (list_any (mentions id)) (λ a b. a || b) false (any_is_read (mentions id)) (λ name. refl)
-        (λ name. refl) (λ name ask. refl) (λ name n i. refl) (λ what i lines name n. or_twice (is_same i id));
-    denied = λ id. alike (list_any (denies_article id)) (λ a b. a || b) false (any_is_read (denies_article id)) (λ name. refl)
-        (λ name. refl) (λ name ask. refl) (λ name n i. refl) (λ what i lines name n. refl);
-    shown = λ id. alike (list_any (shows_article id)) (λ a b. a || b) false (any_is_read (shows_article id)) (λ name. refl)
-        (λ name. refl) (λ name ask. refl) (λ name n i. refl) (λ what i lines name n. or_twice (is_same i id));
-    sent = λ id. alike (list_any (gives_article id)) (λ a b. a || b) false (any_is_read (gives_article id)) (λ name. refl)
-        (λ name. refl) (λ name ask. refl) (λ name n i. refl) (λ what i lines name n. or_absorbed (is_same i id));
-    heads = λ id. alike (first_given (head_in id)) option_or None (given_is_read (head_in id)) (λ name. refl) (λ name. refl)
-        (λ name ask. refl) (λ name n i. refl) (λ what i lines name n. (given_is_read (head_in id)).right _);
-    bodies = λ id. alike (first_given (body_in id)) option_or None (given_is_read (body_in id)) (λ name. refl) (λ name. refl)
-        (λ name ask. refl) (λ name n i. refl) (λ what i lines name n. (given_is_read (body_in id)).right _);
-  }
+      by : (g : Option OfGroup) → IfSome g (λ g. IfSome g.id (λ e. IsToExist s.article e.1))
+          → ((other : Id) → s.article ≡ Some (other, Exists) → MatchOption g ⊥ (λ g. MatchOption g.id ⊥ (λ e. e.1 ≡ other)))
+          → join_said (said_of (sent_facts s.article) id) (join_said (said_of (ids_in g) id) (said_of (lack_facts s.article) id)) ≡ said_in s.article id
+      by None placed at = of_part s.article [] None tt at id
+      by (Some g) placed at = of_part s.article g.name g.id placed at id
 
   -- ---- groups
 
@@ -188,18 +138,18 @@ module _ (facts : List Fact) (s : Saying) (asks : List Ask) (no_list : s.groups 
           (λ j. (numbers.0 j.0, ids.0 j.1), λ h. (numbers.1 h.0, ids.1 h.1))
 
   -- all parts join exactly if each does
-  pub parts_join : Together facts → AllByRecursion IsWellFormed (facts_in s asks) → Join facts (facts_in s asks) ↔ (JoinGroups facts s asks × JoinArticles facts (article_facts [] 0 s.article))
+  pub parts_join : Together facts → AllByRecursion IsWellFormed (facts_in s asks) → Join facts (facts_in s asks) ↔ (JoinGroups facts s asks × ArticleJoins facts s.article)
   parts_join t formed = (
     λ j. (
       record { there_is = (names_join.0 j.names).0; there_is_no = (names_join.0 j.names).1; group = (group_join t).0 (j.numbers, j.ids) },
-      join_alike facts (facts_in s asks) (article_facts [] 0 s.article) (turned (article_facts [] 0 s.article) (facts_in s asks) same_articles) j.articles,
+      λ id. subst (JoinArticle (said_of facts id)) (said_of_parts id) (j.articles id),
     ),
     λ h. record {
       well_formed = formed;
       names = names_join.1 (h.0.there_is, h.0.there_is_no);
       numbers = ((group_join t).1 h.0.group).0;
       ids = ((group_join t).1 h.0.group).1;
-      articles = join_alike facts (article_facts [] 0 s.article) (facts_in s asks) same_articles h.1;
+      articles = λ id. subst (JoinArticle (said_of facts id)) (sym (said_of_parts id)) (h.1 id);
     },
   )
 

@@ -1,18 +1,9 @@
 -- How many of some ascending numbers pass a test.
-use Rattle.std.proofs.Common.{◌≡◌, ◌≢◌, ℕ, Bool, true, false, ◌&&◌, ◌||◌, ◌==◌, List, [], ◌∷◌, refl, sym, ap, subst, ◌∙◌, inl, inr}
-use Rattle.std.specs.List.{filter}
-use Rattle.std.specs.List.Sorted.{IsStrictlySortedBy}
-use Rattle.std.specs.declared.cmp.Ordering.TheVariants.{Less}
-use Rattle.std.specs.Ordering.{nat_cmp, eq_by_cmp, is_eq}
-use Rattle.std.specs.Cmp.{nat_cmp_total, eq_by_cmp_equiv}
-use Rattle.std.specs.BTreeMap.{is_at}
-use Rattle.std.proofs.lemmas.Bool.{true≢false, and_parts, and_from, or_left, or_right, or_cases, eq-eqb, eqb-true}
-use Rattle.std.proofs.lemmas.List.Kept.{IsStrictlySortedBy-filter}
-use Rattle.std.proofs.lemmas.Map.Views.{tells_apart, any-filter_same}
-use Rattle.std.proofs.lemmas.Map.Lookups.{exact_unsigned}
-use Rattle.nntp_facts.specs.Summary.{has, PassSoMany, and_one}
-use Rattle.nntp_facts.specs.declared.shown.HowMany.{HowMany}
-use Rattle.nntp_facts.specs.declared.shown.HowMany.TheVariants.{Absent, Single, Several}
+use Rattle.std.proofs.{Common.{◌≡◌, ◌≢◌, ℕ, Bool, true, false, ◌&&◌, ◌||◌, ◌==◌, List, [], ◌∷◌, refl, sym, ap, subst, ◌∙◌, inl, inr}, lemmas.Bool.{true≢false}}
+use Rattle.std.proofs.lemmas.{Bool.{and_parts, and_from, or_left, or_right, or_cases, eq-eqb, eqb-true}, List.Kept.{IsStrictlySortedBy-filter}}
+use Rattle.std.{proofs.lemmas.Map.{Views.{tells_apart, any-filter_same}, Lookups.{exact_unsigned}}, specs.List.{filter, Sorted.{IsStrictlySortedBy}}}
+use Rattle.std.specs.{declared.cmp.Ordering.TheVariants.{Less}, Ordering.{nat_cmp, eq_by_cmp, is_eq}, Cmp.{nat_cmp_total, eq_by_cmp_equiv}, BTreeMap.{is_at}}
+use Rattle.nntp_facts.specs.{Inner.Summary.{has, PassSoMany, and_one}, declared.shown.HowMany.{HowMany, TheVariants.{Absent, Single, Several}}}
 
 -- two numbers in order differ
 apart : (a b : ℕ) → nat_cmp a b ≡ Less → a ≢ b

@@ -1,35 +1,23 @@
 -- What was said before is said again: all stands together as before, and what is kept is right still.
-use Rattle.std.proofs.Common.{◌≡◌, ℕ, ◌+◌, ◌-◌, ◌^◌, ◌<◌, Bool, true, false, not, ◌&&◌, ◌||◌, ◌==◌, cond, IsTrue, List, ◌++◌, Option, None, Some, is_some, MatchOption, inl, inr, refl, sym, ap, subst, ◌∙◌, arith}
-use Rattle.std.specs.Prelude.{◌↔◌, nat_lt, nat_le, IfSome}
-use Rattle.std.specs.List.{list_any}
-use Rattle.std.specs.Cmp.Lexicographic.{nat_list_cmp_total}
-use Rattle.std.specs.FinMap.{len, get, insert, slice_cmp-IsAntisymmetric, nat_cmp-IsAntisymmetric}
-use Rattle.std.proofs.Math.Bool.{or-false}
-use Rattle.std.proofs.lemmas.Bool.{true≢false, and_parts, or_cases, or_from, eqb-true, eq-eqb, cases_lt, ltb-true, leb-true, le-leb, false_from_ne_true}
+use Rattle.std.proofs.Common.{◌≡◌, ℕ, ◌+◌, ◌-◌, ◌^◌, ◌<◌, Bool, true, false, not, ◌&&◌, ◌||◌, ◌==◌, cond, IsTrue, List, ◌++◌, Option, None, Some, is_some}
+use Rattle.std.proofs.{Common.{MatchOption, inl, inr, refl, sym, ap, subst, ◌∙◌, arith}, Math.Bool.{or-false}, lemmas.Bool.{true≢false, and_parts, or_cases}}
+use Rattle.std.{proofs.lemmas.Bool.{or_from, eqb-true, eq-eqb, cases_lt, ltb-true, leb-true, le-leb, false_from_ne_true}, specs.Prelude.{◌↔◌, nat_lt, nat_le}}
+use Rattle.std.specs.{Prelude.{IfSome}, List.{list_any}, Cmp.Lexicographic.{nat_list_cmp_total}, FinMap.{len, get, insert, slice_cmp-IsAntisymmetric}}
+use Rattle.std.specs.FinMap.{nat_cmp-IsAntisymmetric}
 use Rattle.nntp_wire.proofs.ShownMaps.{insert-same}
-use Rattle.nntp_intervals.specs.Intervals.{holds, is_between}
-use Rattle.nntp_article.specs.Article.Parts.{Id}
-use Rattle.nntp_article.specs.Session.Spool.{Name}
-use Rattle.nntp_article.specs.Session.Machine.{is_same}
-use Rattle.nntp_said.specs.Asks.{Ask}
-use Rattle.nntp_said.specs.Facts.{Fact, IdAt}
+use Rattle.nntp_intervals.specs.Inner.Intervals.{holds, is_between}
+use Rattle.nntp_article.specs.{Article.Parts.{Id}, Session.{Spool.{Name}, Machine.{is_same}}}
+use Rattle.nntp_said.specs.{Asks.{Ask}, Facts.{Fact, IdAt}}
 use Rattle.nntp_facts.specs.Given.{id_in, first_given, is_shown, is_denied, says_some, is_known, wants, demand, join, IsGivenNumber}
-use Rattle.nntp_facts.specs.declared.demand.Demand.{Demand}
-use Rattle.nntp_facts.specs.declared.demand.Demand.TheVariants.{NoDemand}
-use Rattle.nntp_facts.specs.declared.ends.Ends.{Ends}
-use Rattle.nntp_facts.specs.Together.{shows_article, MeetsDemand, AsksStand, is_possible}
-use Rattle.nntp_facts.specs.Part.{Said, Says, only_has, part_denies, is_one_of, is_within, ends_of, join_ends, is_end_of, is_demanding}
-use Rattle.nntp_facts.specs.Summary.{Summary, has, IsSummary, AreBounded, AddsNothing}
-use Rattle.nntp_facts.specs.Saying.{OfGroup, OfArticle, Exists, Saying, MayBeOf, MaySay}
-use Rattle.nntp_facts.specs.Kept.{KeptGroup, Told, told, IsKeptGroup, AreKept, Agree, IsShownAt, MayShow, ids_with, places_with, AreKeptWith}
-use Rattle.nntp_facts.specs.KeptSaying.{HasSaid, IsThereAlready}
-use Rattle.nntp_facts.proofs.Keeping.MoreAsks.{are_possible, added}
-use Rattle.nntp_facts.proofs.GivenNumbers.GivenNumbersMeet.{same_demand}
+use Rattle.nntp_facts.specs.{declared.{demand.Demand.{Demand, TheVariants.{NoDemand}}, ends.Ends.{Ends}}, Together.{shows_article, MeetsDemand, is_possible}}
+use Rattle.nntp_facts.specs.Inner.{Together.{AsksStand}, Part.{Said, Says, only_has, part_denies, is_one_of, is_within, ends_of, join_ends, is_end_of}}
+use Rattle.nntp_facts.specs.Inner.{Part.{is_demanding}, Summary.{Summary, has, IsSummary, AreBounded, AddsNothing}, Saying.{OfGroup, OfArticle, Exists, Saying}}
+use Rattle.nntp_facts.specs.Inner.{Saying.{MayBeOf, MaySay}, Kept.{KeptGroup, Told, told, IsKeptGroup, AreKept, Agree, IsShownAt, MayShow, ids_with}}
+use Rattle.nntp_facts.{specs.Inner.{Kept.{places_with, AreKeptWith}, KeptSaying.{HasSaid, IsThereAlready}}, proofs.Keeping.MoreAsks.{are_possible, added}}
 use Rattle.nntp_facts.proofs.Keeping.HullOfMarks.{is_known_by, apart_by_hull, stands_by_hull, said_some, shown_says, demand_says, some_is}
-use Rattle.nntp_facts.proofs.Keeping.KeptGroups.{Groups, kept_of, part_kept, bounded_more, agree_kept, same_id}
-use Rattle.nntp_facts.proofs.Members.{all_both, any_in, first_found}
+use Rattle.nntp_facts.proofs.Keeping.{KeptGroups.{Groups, kept_of, part_kept, bounded_more, agree_kept, same_id}, AsksSettled.{ArePossible, few_for}}
+use Rattle.nntp_facts.proofs.{Keeping.AsksSettled.{within_all}, GivenNumbers.GivenNumbersMeet.{same_demand}, Members.{all_both, any_in, first_found}}
 use Rattle.nntp_facts.proofs.Together.FactsOfASpoolStand.{same_itself}
-use Rattle.nntp_facts.proofs.Keeping.AsksSettled.{ArePossible, few_for, within_all}
 
 -- ---- asks of which the same is kept
 

@@ -1,20 +1,13 @@
 -- What a part says whose numbers are listed in a range.
-use Rattle.std.proofs.Common.{◌≡◌, ℕ, suc, ◌-◌, ◌^◌, ◌<◌, true, not, ◌&&◌, ◌||◌, ◌==◌, IsTrue, List, [], ◌∷◌, get_or, Option, None, Some, inl, inr, refl, sym, ap, ◌∙◌, arith}
-use Rattle.std.specs.Prelude.{nat_lt, nat_le, unwrap_or}
-use Rattle.std.specs.List.{list_all}
-use Rattle.std.specs.Option.{option_map_or}
-use Rattle.std.proofs.Math.Bool.{or-false, and-true}
-use Rattle.std.proofs.lemmas.Bool.{and_parts, and_from, or_left, or_cases, le-leb, leb-true, eq-eqb, eqb-true}
-use Rattle.nntp_wire.specs.declared.marks.Marks.{Marks}
-use Rattle.nntp_wire.specs.declared.water_marks.WaterMarks.{WaterMarks}
-use Rattle.nntp_wire.specs.declared.range.Range.{Range}
-use Rattle.nntp_intervals.specs.Intervals.{is_between}
+use Rattle.std.proofs.Common.{◌≡◌, ℕ, suc, ◌-◌, ◌^◌, ◌<◌, true, not, ◌&&◌, ◌||◌, ◌==◌, IsTrue, List, [], ◌∷◌, get_or, Option, None, Some, inl, inr, refl, sym}
+use Rattle.std.proofs.{Common.{ap, ◌∙◌, arith}, Math.Bool.{or-false, and-true}, lemmas.Bool.{and_parts, and_from, or_left, or_cases, le-leb, leb-true, eq-eqb}}
+use Rattle.std.{proofs.lemmas.Bool.{eqb-true}, specs.{Prelude.{nat_lt, nat_le, unwrap_or}, List.{list_all}, Option.{option_map_or}}}
+use Rattle.nntp_wire.specs.declared.{marks.Marks.{Marks}, water_marks.WaterMarks.{WaterMarks}, range.Range.{Range}}
+use Rattle.nntp_intervals.specs.Inner.Intervals.{is_between}
 use Rattle.nntp_article.specs.Session.Machine.{is_in_range}
 use Rattle.nntp_said.specs.Asks.{Estimates, ListsIn}
-use Rattle.nntp_facts.specs.Part.{Says, is_one_of, ends_in, join_ends, AreListable, last_in}
-use Rattle.nntp_facts.specs.PartOf.{IsSmall, nothing_said, part_with}
-use Rattle.nntp_facts.specs.declared.ends.Ends.{Ends}
-use Rattle.nntp_facts.proofs.Keeping.GapsOfAPart.{listed_later}
+use Rattle.nntp_facts.specs.Inner.{Part.{Says, is_one_of, ends_in, join_ends, AreListable, last_in}, PartOf.{IsSmall, nothing_said, part_with}}
+use Rattle.nntp_facts.{specs.declared.ends.Ends.{Ends}, proofs.Keeping.GapsOfAPart.{listed_later}}
 
 -- the range as an interval
 in_range : (r : Range) (n : ℕ) → n < 2 ^ 64 → is_in_range r n ≡ is_between r.first (last_in r) n
@@ -35,7 +28,8 @@ all_in_range r (k ∷ ks) within =
     and_from (is_in_range r k) (list_all (is_in_range r) ks) (within k (or_left (k == k) (is_one_of ks k) (eq-eqb k k refl))) (all_in_range r ks (λ n t. within n (listed_later k ks n t)))
 
 -- the marks and the list say this
-pub says_range : (how : Marks) (m : WaterMarks) (r : Range) (ns : List ℕ) → ((i : ℕ) → get_or ns i 0 < 2 ^ 64) → IsSmall (part_with ns (ListsIn r ns) (part_with ns (Estimates how m) nothing_said)) → AreListable r ns
+pub says_range : (how : Marks) (m : WaterMarks) (r : Range) (ns : List ℕ) → ((i : ℕ) → get_or ns i 0 < 2 ^ 64) → IsSmall (part_with ns (ListsIn r ns) (part_with ns (Estimates how m) nothing_said))
+    → AreListable r ns
     → Says (part_with ns (ListsIn r ns) (part_with ns (Estimates how m) nothing_said)) (Estimates how m ∷ ListsIn r ns ∷ [])
 says_range how m r ns fits small may = record {
   possibly = sym (and_from (list_all (is_in_range r) ns) true (all_in_range r ns (λ n t. (may.within n t).1)) refl);

@@ -1,14 +1,9 @@
 -- What a part says that one ask made.
-use Rattle.std.proofs.Common.{◌≡◌, ℕ, ◌+◌, ◌-◌, ◌^◌, ◌<◌, ◌≤◌, Bool, true, false, cond, List, [], ◌∷◌, refl, rules}
-use Rattle.std.specs.Prelude.{nat_lt}
-use Rattle.nntp_wire.specs.declared.marks.Marks.{Marks}
-use Rattle.nntp_wire.specs.declared.water_marks.WaterMarks.{WaterMarks}
-use Rattle.nntp_said.specs.declared.position.Position.{Position}
-use Rattle.nntp_said.specs.declared.position.Position.TheVariants.{Nowhere, First, Known}
-use Rattle.nntp_said.specs.Asks.{Ask, Estimates, Has, Lacks, StandsAt, StandsNowhere, StepsUp, StepsDown, IsTop, IsBottom}
-use Rattle.nntp_facts.specs.Part.{Said, Says}
-use Rattle.nntp_facts.specs.PartOf.{IsSmall, impossible, listing, nothing_said, part_with}
-use Rattle.nntp_facts.specs.Summary.{AreBounded}
+use Rattle.std.{proofs.Common.{◌≡◌, ℕ, ◌+◌, ◌-◌, ◌^◌, ◌<◌, ◌≤◌, Bool, true, false, cond, List, [], ◌∷◌, refl, rules}, specs.Prelude.{nat_lt}}
+use Rattle.nntp_wire.specs.declared.{marks.Marks.{Marks}, water_marks.WaterMarks.{WaterMarks}}
+use Rattle.nntp_said.specs.{declared.position.Position.{Position, TheVariants.{Nowhere, First, Known}}, Asks.{Ask, Estimates, Has, Lacks, StandsAt}}
+use Rattle.nntp_said.specs.Asks.{StandsNowhere, StepsUp, StepsDown, IsTop, IsBottom}
+use Rattle.nntp_facts.specs.Inner.{Part.{Said, Says}, PartOf.{IsSmall, impossible, listing, nothing_said, part_with}, Summary.{AreBounded}}
 
 -- the part that an ask makes, whose answer shows these numbers
 abbrev of_ask : List ℕ → Ask → Said

@@ -1,30 +1,17 @@
 -- What each kind of answer that fits tells.
 use Rattle.std.proofs.Common.{◌≡◌, ℕ, ◌<◌, ◌^◌, get_or, true, IsTrue, List, [], ◌∷◌, Option, None, Some, is_some, inl, inr, refl, sym, ap, subst}
-use Rattle.std.specs.Prelude.{IfSome, unwrap_or}
-use Rattle.std.proofs.lemmas.Bool.{true≢false}
-use Rattle.nntp_article.specs.Article.Parts.{Id}
-use Rattle.nntp_article.specs.Session.Spool.{Name}
-use Rattle.nntp_article.specs.declared.session.profile.Profile.{Profile}
-use Rattle.nntp_article.specs.Session.Machine.{Visible, fits}
-use Rattle.nntp_wire.specs.Answer.{Asked, Response}
-use Rattle.nntp_wire.specs.Command.{group, last}
-use Rattle.nntp_wire.specs.Listing.{active_groups, listed_numbers}
-use Rattle.nntp_wire.specs.declared.marks.Marks.{Marks}
-use Rattle.nntp_wire.specs.declared.range.Range.{Range}
-use Rattle.nntp_wire.specs.declared.water_marks.WaterMarks.{WaterMarks}
-use Rattle.nntp_said.specs.declared.position.Position.{Position}
-use Rattle.nntp_said.specs.Asks.{Ask, Estimates, ListsIn, Has, Lacks, StandsAt, StandsNowhere, StepsUp, StepsDown, IsTop, IsBottom}
-use Rattle.nntp_said.specs.Facts.{Fact, ThereIs, Asks, IdAt, here, facts_of, group_of}
-use Rattle.nntp_facts.specs.Given.{is_shown_group}
-use Rattle.nntp_facts.specs.Part.{Said, Says, AreListable}
-use Rattle.nntp_facts.specs.PartOf.{IsSmall, nothing_said, part_with}
-use Rattle.nntp_facts.specs.Summary.{AreBounded}
-use Rattle.nntp_facts.specs.Saying.{HasSmall, Saying, TellsHere, IsSelectedShown, IsShownThen, nothing, numbers_listed, numbers_shown, saying_by}
-use Rattle.nntp_facts.proofs.Keeping.KeptGroups.{bounded_more}
-use Rattle.nntp_facts.proofs.Keeping.SaidInARange.{says_range}
-use Rattle.nntp_facts.proofs.Keeping.SaidOfAsks.{says_marks, marks_bounded, says_has, says_lacks, says_stands, says_nowhere, says_up, says_down, says_top, says_bottom}
+use Rattle.std.{proofs.lemmas.Bool.{true≢false}, specs.Prelude.{IfSome, unwrap_or}}
+use Rattle.nntp_article.specs.{Article.Parts.{Id}, Session.{Spool.{Name}, Machine.{Visible, fits}}, declared.session.profile.Profile.{Profile}}
+use Rattle.nntp_wire.specs.{Answer.{Asked, Response}, Command.{group, last}, Listing.{active_groups, listed_numbers}, declared.marks.Marks.{Marks}}
+use Rattle.nntp_wire.specs.declared.{range.Range.{Range}, water_marks.WaterMarks.{WaterMarks}}
+use Rattle.nntp_said.specs.{declared.position.Position.{Position}, Asks.{Ask, Estimates, ListsIn, Has, Lacks, StandsAt, StandsNowhere, StepsUp, StepsDown}}
+use Rattle.nntp_said.specs.{Asks.{IsTop, IsBottom}, Facts.{Fact, ThereIs, Asks, IdAt, here, facts_of, group_of}}
+use Rattle.nntp_facts.specs.{Given.{is_shown_group}, Inner.{Part.{Said, Says, AreListable}, PartOf.{IsSmall, nothing_said, part_with}, Summary.{AreBounded}}}
+use Rattle.nntp_facts.specs.Inner.Saying.{HasSmall, Saying, TellsHere, IsSelectedShown, IsShownThen, nothing, numbers_listed, numbers_shown, saying_by}
+use Rattle.nntp_facts.proofs.Keeping.{KeptGroups.{bounded_more}, SaidInARange.{says_range}, SaidOfAsks.{says_marks, marks_bounded, says_has, says_lacks}}
+use Rattle.nntp_facts.proofs.{Keeping.SaidOfAsks.{says_stands, says_nowhere, says_up, says_down, says_top, says_bottom}, Session.FittingAnswers.{listable}}
+use Rattle.nntp_facts.proofs.Session.FittingAnswers.{may_list, numbered}
 use Rattle.nntp_said.proofs.Rows as rows
-use Rattle.nntp_facts.proofs.Session.FittingAnswers.{listable, may_list, numbered}
 
 -- ---- sayings
 

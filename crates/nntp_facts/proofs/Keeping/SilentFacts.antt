@@ -1,22 +1,12 @@
--- More facts that say nothing of groups, of ids at numbers, or of articles join what was said of them, and leave what is kept of it.
+-- More facts that say nothing of groups, or of ids at numbers, join what was said of them, and leave what is kept of it.
 use Rattle.std.proofs.Common.{◌≡◌, ℕ, Bool, true, false, cond, List, [], ◌++◌, Option, None, Some, MatchOption, refl, sym, ap, subst, ◌∙◌, append-nil}
-use Rattle.std.specs.Prelude.{◌↔◌}
-use Rattle.std.specs.List.{list_any}
-use Rattle.std.specs.FinMap.{FinMap, get, insert, get-insert}
-use Rattle.std.specs.Ordering.{nat_cmp, eq_by_cmp}
-use Rattle.std.specs.Cmp.Lexicographic.{slice_cmp, same_text, nat_list_cmp_total, texts_ties}
-use Rattle.std.specs.Cmp.{eq_by_cmp_equiv}
-use Rattle.std.proofs.lemmas.Bool.{true≢false, false_from_ne_true}
-use Rattle.nntp_article.specs.Article.Parts.{Id}
-use Rattle.nntp_article.specs.Session.Spool.{Name}
-use Rattle.nntp_article.specs.Session.Machine.{is_same}
-use Rattle.nntp_said.specs.Asks.{Ask}
-use Rattle.nntp_said.specs.Facts.{Fact}
-use Rattle.nntp_facts.specs.Given.{asks_of, shows_group, first_given, id_in, head_in, body_in, is_mentioned, mentions, is_sent, gives_article}
-use Rattle.nntp_facts.specs.Together.{AsksStand, number_in, shows_article, denies_article, GiveSame, Together, JoinNumbers, JoinIds, JoinArticles}
-use Rattle.nntp_facts.specs.Kept.{KeptGroup, Told, told, IsKeptGroup, IsUntold, AreKept, AreKeptArticles, IsKeptArticle, KeptArticle}
-use Rattle.nntp_facts.proofs.Together.TwoListsOfFacts.{any_silent, given_silent}
-use Rattle.nntp_facts.proofs.Together.FactsJoin.{asks_append}
+use Rattle.std.{proofs.lemmas.Bool.{true≢false, false_from_ne_true}, specs.{Prelude.{◌↔◌}, FinMap.{FinMap, get, insert, get-insert}, Ordering.{nat_cmp}}}
+use Rattle.std.specs.{Ordering.{eq_by_cmp}, Cmp.{eq_by_cmp_equiv, Lexicographic.{slice_cmp, same_text, nat_list_cmp_total, texts_ties}}}
+use Rattle.nntp_article.specs.{Article.Parts.{Id}, Session.{Spool.{Name}, Machine.{is_same}}}
+use Rattle.nntp_said.specs.{Asks.{Ask}, Facts.{Fact}}
+use Rattle.nntp_facts.specs.{Given.{asks_of, shows_group, first_given, id_in}, Inner.Together.{AsksStand, GiveSame, Together, JoinNumbers, JoinIds}}
+use Rattle.nntp_facts.specs.{Inner.Kept.{KeptGroup, Told, told, IsKeptGroup, IsUntold, AreKept}, Together.{number_in}}
+use Rattle.nntp_facts.proofs.Together.{TwoListsOfFacts.{any_silent, given_silent}, FactsJoin.{asks_append}}
 
 -- ---- ids at numbers
 
@@ -33,38 +23,6 @@ ids_join facts more silent = record {
   ids = λ name n. nothing_same (id_in name n) facts more (silent.ids name n);
   ids_once = λ name id. nothing_same (number_in name id) facts more (silent.places name id);
 }
-
--- ---- articles
-
--- the facts say nothing of articles
-pub record SayNoArticles (more : List Fact) : Type 0 where
-  pub shown : (id : Id) → list_any (shows_article id) more ≡ false
-  pub denied : (id : Id) → list_any (denies_article id) more ≡ false
-  pub mentioned : (id : Id) → is_mentioned more id ≡ false
-  pub sent : (id : Id) → is_sent more id ≡ false
-  pub heads : (id : Id) → first_given (head_in id) more ≡ None
-  pub bodies : (id : Id) → first_given (body_in id) more ≡ None
-
-pub articles_join : (facts more : List Fact) → SayNoArticles more → JoinArticles facts more
-articles_join facts more silent = record {
-  articles = λ id s. absurd (true≢false (sym s ∙ silent.shown id));
-  no_articles = λ id d. absurd (true≢false (sym d ∙ silent.denied id));
-  heads = λ id. nothing_same (head_in id) facts more (silent.heads id);
-  bodies = λ id. nothing_same (body_in id) facts more (silent.bodies id);
-}
-
-pub articles_kept : (facts more : List Fact) (articles : FinMap (slice_cmp nat_cmp) KeptArticle) → SayNoArticles more → AreKeptArticles facts articles → AreKeptArticles (facts ++ more) articles
-articles_kept facts more articles silent kept id = by (get articles id) (kept id)
-  where
-    by : (o : Option KeptArticle) → MatchOption o (is_mentioned facts id ≡ false) (IsKeptArticle facts id) → MatchOption o (is_mentioned (facts ++ more) id ≡ false) (IsKeptArticle (facts ++ more) id)
-    by None h = any_silent (mentions id) facts more (silent.mentioned id) ∙ h
-    by (Some a) h = record {
-      denied = any_silent (denies_article id) facts more (silent.denied id) ∙ h.denied;
-      shown = any_silent (shows_article id) facts more (silent.shown id) ∙ h.shown;
-      sent = any_silent (gives_article id) facts more (silent.sent id) ∙ h.sent;
-      head = given_silent (head_in id) facts more (silent.heads id) ∙ h.head;
-      body = given_silent (body_in id) facts more (silent.bodies id) ∙ h.body;
-    }
 
 -- ---- groups
 

@@ -1,25 +1,13 @@
 -- How many numbers are shown and wanted, one number more at a time.
-use Rattle.std.proofs.Common.{◌≡◌, ◌≢◌, ℕ, zero, suc, ◌+◌, ◌<◌, Bool, true, false, cond, ◌&&◌, ◌||◌, ◌==◌, IsTrue, List, []}
-use Rattle.std.proofs.Common.{◌∷◌, take, length, get_or, Some, is_some, inl, inr, refl, sym, ap, subst, ◌∙◌, arith}
-use Rattle.std.specs.Prelude.{◌↔◌, nat_lt}
-use Rattle.std.specs.List.{list_all}
-use Rattle.std.specs.List.Sorted.{IsStrictlySortedBy}
-use Rattle.std.specs.Ordering.{nat_cmp, eq_by_cmp}
-use Rattle.std.specs.Cmp.{nat_cmp_total, unsigned_tied, both_ways}
-use Rattle.std.specs.FinMap.{get, len, insert, get-insert, len-insert}
-use Rattle.std.proofs.lemmas.Bool.{true≢false, and_parts, or_left, or_right, or_cases, cases_eq, eq-eqb, eqb-true, ne_eqb, ltb-true, false_from_ne_true}
-use Rattle.std.proofs.lemmas.List.{take_more}
-use Rattle.std.proofs.Math.Seq.{take-length}
-use Rattle.std.proofs.lemmas.List.Folds.{list_any-append}
-use Rattle.nntp_article.specs.Session.Spool.{IsNumber}
-use Rattle.nntp_article.specs.Session.Machine.{is_ascending}
-use Rattle.nntp_facts.specs.Given.{wants}
-use Rattle.nntp_facts.specs.declared.demand.Demand.{Demand}
-use Rattle.nntp_facts.specs.Part.{is_one_of}
-use Rattle.nntp_facts.specs.Summary.{has, PassSoMany, and_one, AreCounted, IsTally}
-use Rattle.nntp_facts.specs.declared.shown.HowMany.{HowMany}
-use Rattle.nntp_facts.proofs.Keeping.PassingNumbers.{and_one_found, parted}
-use Rattle.nntp_facts.proofs.Keeping.MoreAsks.{map_of, in_map_of, len_map_of}
+use Rattle.std.proofs.Common.{◌≡◌, ◌≢◌, ℕ, zero, suc, ◌+◌, ◌<◌, Bool, true, false, cond, ◌&&◌, ◌||◌, ◌==◌, IsTrue, List, [], ◌∷◌, take, length, get_or, Some}
+use Rattle.std.proofs.{Common.{is_some, inl, inr, refl, sym, ap, subst, ◌∙◌, arith}, lemmas.Bool.{true≢false, and_parts, or_left, or_right, or_cases, cases_eq}}
+use Rattle.std.proofs.lemmas.{Bool.{eq-eqb, eqb-true, ne_eqb, ltb-true, false_from_ne_true}, List.{take_more, Folds.{list_any-append}}}
+use Rattle.std.{proofs.Math.Seq.{take-length}, specs.{Prelude.{◌↔◌, nat_lt}, List.{list_all, Sorted.{IsStrictlySortedBy}}, Ordering.{nat_cmp, eq_by_cmp}}}
+use Rattle.std.specs.{Cmp.{nat_cmp_total, unsigned_tied, both_ways}, FinMap.{get, len, insert, get-insert, len-insert}}
+use Rattle.nntp_article.specs.Session.{Spool.{IsNumber}, Machine.{is_ascending}}
+use Rattle.nntp_facts.specs.{Given.{wants}, declared.{demand.Demand.{Demand}, shown.HowMany.{HowMany}}, Inner.{Part.{is_one_of}, Summary.{has, PassSoMany}}}
+use Rattle.nntp_facts.{specs.Inner.Summary.{and_one, AreCounted, IsTally}, proofs.Keeping.{PassingNumbers.{and_one_found, parted}, MoreAsks.{map_of}}}
+use Rattle.nntp_facts.proofs.Keeping.MoreAsks.{in_map_of, len_map_of}
 
 -- one more is counted
 pub counted_more : (p : ℕ → Bool) (m c : ℕ) → p m ≡ false → AreCounted p c → AreCounted (λ n. p n || m == n) (c + 1)

@@ -1,37 +1,19 @@
 -- Noting what answers say by themselves.
-use Rattle.std.proofs.Common.{arith, zero, suc, ◌+◌, ◌*◌, ◌^◌, ◌<◌, ◌≤◌, ◌≡◌, ◌⊎◌, ◌↔◌, ℕ, Bool, true, false, IsTrue, Option, None, Some, inl, inr, refl, sym, ap, subst, ◌∙◌}
-use Rattle.std.proofs.Common.{List, [], ◌∷◌, ◌++◌, length, length-append, append-nil, append_assoc}
-use Rattle.std.specs.Prelude.{IfSome, MatchOption, unwrap_or, option_map, slice_get}
-use Rattle.std.specs.List.{AllByRecursion, flat_map}
+use Rattle.std.proofs.Common.{arith, zero, suc, ◌+◌, ◌*◌, ◌^◌, ◌<◌, ◌≤◌, ◌≡◌, ◌⊎◌, ◌↔◌, ℕ, Bool, true, false, IsTrue, Option, None, Some, inl, inr, refl, sym}
+use Rattle.std.proofs.{Common.{ap, subst, ◌∙◌, List, [], ◌∷◌, ◌++◌, length, length-append, append-nil, append_assoc}, Math.Path.{ap₂}, lemmas.Bool.{or_left}}
+use Rattle.std.{proofs.lemmas.Grind.{flat_map-append}, specs.{Prelude.{IfSome, MatchOption, unwrap_or, option_map, slice_get}, List.{AllByRecursion, flat_map}}}
 use Rattle.std.specs.Option.{option_map_or}
-use Rattle.std.proofs.Math.Path.{ap₂}
-use Rattle.std.proofs.lemmas.Bool.{or_left}
-use Rattle.std.proofs.lemmas.Grind.{flat_map-append}
-use Rattle.nntp_wire.specs.declared.marks.Marks.TheVariants.{Lenient}
-use Rattle.nntp_wire.specs.Answer.{Asked, Response}
-use Rattle.nntp_pair.specs.Pairing.{lines_in}
-use Rattle.nntp_article.specs.Session.Spool.{Name}
-use Rattle.nntp_article.specs.Session.Machine.{Visible, start, fits, is_same}
-use Rattle.nntp_article.specs.declared.session.profile.Profile.{Profile}
-use Rattle.nntp_said.specs.declared.position.Position.{Position}
-use Rattle.nntp_said.specs.Asks.{Estimates}
-use Rattle.nntp_said.specs.Facts.{Fact, Holds, ThereIs, here, facts_of, group_of}
-use Rattle.nntp_facts.specs.Given.{is_shown_group, shows_group, size}
-use Rattle.nntp_facts.specs.Part.{Said, Says}
-use Rattle.nntp_facts.specs.Summary.{AreBounded}
-use Rattle.nntp_facts.specs.Together.{Together, AgreeWithin, Join, IsWellFormed}
-use Rattle.nntp_facts.specs.Conflict.{Placed, FitsThere, said, widest, a_group, the_group, told, SomeHas, told_at, told_with}
-use Rattle.nntp_facts.specs.Kept.{Kept, IsKept, AreAdded}
-use Rattle.nntp_facts.specs.Saying.{Saying, OfGroup, Tells, TellsHere, TellsThere, IsShownThen, IsSelectedShown, numbers_listed}
-use Rattle.nntp_facts.specs.Told.{AreTold, AreToldWith, PlacesTold}
-use Rattle.nntp_facts.proofs.Members.{any_back, all_front}
-use Rattle.nntp_facts.proofs.Given.FirstBadAnswer.{size-append}
-use Rattle.nntp_facts.proofs.Ids.SizeOfASession.{answer_size}
-use Rattle.nntp_facts.proofs.Session.GroupOfAnAnswer.{same_selected}
-use Rattle.nntp_facts.proofs.Together.FactsJoin.{together_more, none_agrees, group_agrees, answer_agrees}
-use Rattle.nntp_facts.proofs.Together.FactsOfASpoolStand.{stand, same_itself}
-use Rattle.nntp_facts.proofs.Keeping.NotedExchange.{Adds}
-use Rattle.nntp_facts.proofs.Keeping.SayingRows.{of_group, tells_marks}
+use Rattle.nntp_wire.specs.{declared.marks.Marks.TheVariants.{Lenient}, Answer.{Asked, Response}}
+use Rattle.nntp_pair.specs.Inner.Pairing.{lines_in}
+use Rattle.nntp_article.specs.{Session.{Spool.{Name}, Machine.{Visible, start, fits, is_same}}, declared.session.profile.Profile.{Profile}}
+use Rattle.nntp_said.specs.{declared.position.Position.{Position}, Asks.{Estimates}, Facts.{Fact, Holds, ThereIs, here, facts_of, group_of}}
+use Rattle.nntp_facts.specs.{Given.{is_shown_group, shows_group}, Inner.{Given.{size}, Part.{Said, Says}, Summary.{AreBounded}, Together.{Together}}}
+use Rattle.nntp_facts.specs.Inner.{Together.{AgreeWithin, Join, IsWellFormed}, Conflict.{FitsThere}, Kept.{Kept, IsKept, AreAdded}, Saying.{Saying, OfGroup}}
+use Rattle.nntp_facts.specs.Inner.{Saying.{Tells, TellsHere, TellsThere, IsShownThen, IsSelectedShown, numbers_listed}, Told.{AreTold, AreToldWith, PlacesTold}}
+use Rattle.nntp_facts.{specs.Conflict.{Placed, said, widest, a_group, the_group, told, SomeHas, told_at, told_with}, proofs.Members.{any_back, all_front}}
+use Rattle.nntp_facts.proofs.{Given.FirstBadAnswer.{size-append}, Ids.SizeOfASession.{answer_size}, Session.GroupOfAnAnswer.{same_selected}}
+use Rattle.nntp_facts.proofs.Together.{FactsJoin.{together_more, none_agrees, group_agrees, answer_agrees}, FactsOfASpoolStand.{stand, same_itself}}
+use Rattle.nntp_facts.proofs.Keeping.{NotedExchange.{Adds}, SayingRows.{of_group, tells_marks}}
 
 -- ---- that there is such a group
 

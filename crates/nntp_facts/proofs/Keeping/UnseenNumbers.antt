@@ -1,30 +1,18 @@
 -- The numbers that are given and aren't shown, by what is kept of the group.
-use Rattle.std.proofs.Common.{◌≡◌, ℕ, zero, suc, ◌+◌, ◌^◌, ◌<◌, ◌≤◌, ◌⊎◌, Bool, true, false, not, cond, ◌&&◌, ◌||◌, ◌==◌}
-use Rattle.std.proofs.Common.{IsTrue, List, length, Option, None, Some, inl, inr, refl, sym, ap, subst, ◌∙◌, arith}
-use Rattle.std.specs.Prelude.{MatchOption, IfSome, IsFalse}
-use Rattle.std.specs.List.{list_any}
-use Rattle.std.specs.BTreeMap.{is_at}
-use Rattle.std.specs.Ordering.{nat_cmp}
-use Rattle.std.specs.Cmp.{nat_cmp_total, eq_by_cmp_equiv}
-use Rattle.std.proofs.lemmas.Bool.{cases_lt, true≢false, and_from, and_parts, or_left, or_right, or_cases, eq-eqb, eqb-true, false_from_ne_true}
-use Rattle.std.proofs.lemmas.Map.Views.{tells_apart}
-use Rattle.std.proofs.lemmas.Map.Lookups.{exact_unsigned}
-use Rattle.nntp_intervals.specs.Intervals.{holds, IsLeastFree, IsFullFrom}
+use Rattle.std.proofs.Common.{◌≡◌, ℕ, zero, suc, ◌+◌, ◌^◌, ◌<◌, ◌≤◌, ◌⊎◌, Bool, true, false, not, cond, ◌&&◌, ◌||◌, ◌==◌, IsTrue, List, length, Option, None}
+use Rattle.std.proofs.{Common.{Some, inl, inr, refl, sym, ap, subst, ◌∙◌, arith}, lemmas.Bool.{cases_lt, true≢false, and_from, and_parts, or_left, or_right}}
+use Rattle.std.proofs.lemmas.{Bool.{or_cases, eq-eqb, eqb-true, false_from_ne_true}, Map.{Views.{tells_apart}, Lookups.{exact_unsigned}}}
+use Rattle.std.specs.{Prelude.{MatchOption, IfSome, IsFalse}, List.{list_any}, BTreeMap.{is_at}, Ordering.{nat_cmp}, Cmp.{nat_cmp_total, eq_by_cmp_equiv}}
+use Rattle.nntp_intervals.specs.Inner.Intervals.{holds, IsLeastFree, IsFullFrom}
 use Rattle.nntp_said.specs.Asks.{Ask}
 use Rattle.nntp_facts.specs.Given.{is_shown, is_denied, demand, wants, says_some, IsFirstFree, IsOneMore, IsGivenNumber, is_known}
-use Rattle.nntp_facts.specs.declared.demand.Demand.{Demand}
-use Rattle.nntp_facts.specs.declared.ends.Ends.{Ends}
-use Rattle.nntp_facts.specs.Together.{AsksStand}
-use Rattle.nntp_facts.specs.Part.{ends_of, is_end_of, is_demanding}
-use Rattle.nntp_facts.specs.Summary.{Summary, IsSummary, AreBounded, has, PassSoMany, FirstFreeBelow}
-use Rattle.nntp_facts.specs.Readers.{AreUnseen, IsLeastGiven, IsGreatestGiven, free, if_wanted, all_numbers, one_more_in, known_ends_in, unseen_beside, unseen_in, unseen_high_beside, unseen_high_in}
-use Rattle.nntp_facts.specs.declared.shown.HowMany.{HowMany}
-use Rattle.nntp_facts.specs.declared.shown.HowMany.TheVariants.{Absent, Single, Several}
-use Rattle.nntp_facts.proofs.Keeping.MoreAsks.{some_there, there_is_has}
-use Rattle.nntp_facts.proofs.GivenNumbers.FirstFreeNumber.{free_is, free_none, first_free_once}
-use Rattle.nntp_facts.proofs.Keeping.HullOfMarks.{is_known_by, end_if, some_is, stands_by_hull, between_ends}
+use Rattle.nntp_facts.specs.declared.{demand.Demand.{Demand}, ends.Ends.{Ends}, shown.HowMany.{HowMany, TheVariants.{Absent, Single, Several}}}
+use Rattle.nntp_facts.specs.Inner.{Together.{AsksStand}, Part.{ends_of, is_end_of, is_demanding}, Summary.{Summary, IsSummary, AreBounded, has, PassSoMany}}
+use Rattle.nntp_facts.specs.Inner.{Summary.{FirstFreeBelow}, Readers.{AreUnseen, IsLeastGiven, IsGreatestGiven, free, if_wanted, all_numbers, one_more_in}}
+use Rattle.nntp_facts.{specs.Inner.Readers.{known_ends_in, unseen_beside, unseen_in, unseen_high_beside, unseen_high_in}, proofs.Keeping.MoreAsks.{some_there}}
+use Rattle.nntp_facts.proofs.Keeping.{MoreAsks.{there_is_has}, HullOfMarks.{is_known_by, end_if, some_is, stands_by_hull, between_ends}}
+use Rattle.nntp_facts.proofs.GivenNumbers.{FirstFreeNumber.{free_is, free_none, first_free_once}, MetNumbersStand.{shown_known, one_more_once, wants_less}}
 use Rattle.nntp_facts.proofs.Members.{In, any_in, found_in}
-use Rattle.nntp_facts.proofs.GivenNumbers.MetNumbersStand.{shown_known, one_more_once, wants_less}
 
 -- ---- the first free number
 

@@ -1,39 +1,20 @@
 -- Points of each kind, where what an answer says conflicts with what is kept.
-use Rattle.std.proofs.Common.{arith, ℕ, Bool, true, false, not, cond, IsTrue, List, [], ◌≡◌, ◌∷◌, ◌++◌, ◌&&◌, ◌||◌, ◌<◌, ◌==◌, ◌⊎◌, Option, None, Some, inl, inr, refl, sym, ap, subst, ◌∙◌, append-nil}
-use Rattle.std.specs.Prelude.{IfSome, IsFalse, MatchOption, option_map}
-use Rattle.std.specs.List.{AllByRecursion, list_any, list_all}
-use Rattle.std.specs.Option.{option_map_or, option_or}
-use Rattle.std.specs.Cmp.Lexicographic.{same_text}
-use Rattle.std.proofs.lemmas.Bool.{true≢false, cases_Bool, and_from, and_parts, or_cases, or_left, or_right, eq-eqb, eqb-true, not-true}
-use Rattle.std.proofs.lemmas.List.Folds.{list_any-append}
-use Rattle.nntp_wire.specs.Listing.{ActiveValue}
-use Rattle.nntp_wire.specs.Decided.{matches_name}
-use Rattle.nntp_wire.specs.declared.marks.Marks.TheVariants.{Lenient}
-use Rattle.nntp_article.specs.Article.Parts.{Id, Line}
-use Rattle.nntp_article.specs.Session.Spool.{Name}
-use Rattle.nntp_article.specs.Session.Machine.{is_same}
-use Rattle.nntp_article.specs.declared.session.profile.Profile.{Profile}
-use Rattle.nntp_said.specs.Asks.{Ask, Bounds, Estimates}
-use Rattle.nntp_said.specs.Facts.{Fact, ThereIs, Asks, GroupsAre, group_of}
-use Rattle.nntp_facts.specs.Given.{asks_of, shows_group, is_shown_group, first_given, id_in, head_in, body_in, is_known, is_denied, demand, IsGivenNumber}
-use Rattle.nntp_facts.specs.Together.{is_possible, MeetsDemand, GiveOne, denies_group, number_in, shows_article, denies_article}
-use Rattle.nntp_facts.specs.Part.{Says}
-use Rattle.nntp_facts.specs.Kept.{Kept, id_of, place_of}
-use Rattle.nntp_wire.specs.declared.command.What.{What}
-use Rattle.nntp_article.specs.Session.Machine.{head_fits, names_differ}
-use Rattle.nntp_facts.specs.Articles.{head_sent, body_sent}
-use Rattle.nntp_facts.specs.Saying.{OfGroup, OfArticle, Lacks, Sends, asked_id, MayBeOf, IsAlone}
-use Rattle.nntp_facts.specs.ListedGroups.{is_listed, MayList, NoneIsMissing}
-use Rattle.nntp_facts.specs.Conflict.{widest, the_group, Point, Step, Group, Number, Count, First, IdOf, PlaceOf, Article, HeadOf, BodyOf, rank, ConflictAt, AreTooMany}
-use Rattle.nntp_facts.specs.Points.{Statement, TellsAlone, IsPointOf, IsPointIn, IsBeside, IsAbout, Head, Body, is_impossible, shows_name, denies_name, id_told, place_told, shows_id, denies_id, part_told, part_sent, bounds_of}
-use Rattle.nntp_facts.proofs.Members.{all_at, all_from, found_in}
-use Rattle.nntp_facts.proofs.Conflicts.{at_point}
-use Rattle.nntp_facts.proofs.PointsByRank.{of_rank}
-use Rattle.nntp_facts.proofs.Together.FactsJoin.{asks_append}
-use Rattle.nntp_facts.proofs.Together.FactsOfASpoolStand.{same_itself}
-use Rattle.nntp_facts.proofs.Together.TwoListsOfFacts.{give_one_both, give_same_of_both, none_if}
-use Rattle.nntp_facts.proofs.Keeping.ListedGroups.{no_bounds, bounds_at}
-use Rattle.nntp_facts.proofs.PointsFound.StatementsRead.{shown_told, denied_told, asks_some, asks_listed, asks_none, id_given, place_given, article_shown, article_denied, part_given}
+use Rattle.std.proofs.Common.{arith, ℕ, Bool, true, false, not, cond, IsTrue, List, [], ◌≡◌, ◌∷◌, ◌++◌, ◌&&◌, ◌||◌, ◌<◌, ◌==◌, ◌⊎◌, Option, None, Some, inl}
+use Rattle.std.proofs.{Common.{inr, refl, sym, ap, subst, ◌∙◌, append-nil}, lemmas.Bool.{true≢false, cases_Bool, and_from, and_parts, or_cases, or_left}}
+use Rattle.std.{proofs.lemmas.{Bool.{or_right, eq-eqb, eqb-true, not-true}, List.Folds.{list_any-append}}, specs.Prelude.{IfSome, IsFalse, MatchOption}}
+use Rattle.std.specs.{Prelude.{option_map}, List.{AllByRecursion, list_any, list_all}, Option.{option_map_or, option_or}, Cmp.Lexicographic.{same_text}}
+use Rattle.nntp_wire.specs.{Listing.{ActiveValue}, Decided.{matches_name}, declared.marks.Marks.TheVariants.{Lenient}}
+use Rattle.nntp_article.specs.{Article.Parts.{Id}, Session.{Spool.{Name}, Machine.{is_same, names_differ}}, declared.session.profile.Profile.{Profile}}
+use Rattle.nntp_said.specs.{Asks.{Ask, Bounds, Estimates}, Facts.{Fact, ThereIs, Asks, GroupsAre, group_of}}
+use Rattle.nntp_facts.specs.Given.{asks_of, shows_group, is_shown_group, first_given, id_in, is_known, is_denied, demand, IsGivenNumber}
+use Rattle.nntp_facts.specs.{Together.{is_possible, MeetsDemand, GiveOne, denies_group, number_in}, Inner.{Part.{Says}, Kept.{Kept, id_of, place_of}}}
+use Rattle.nntp_facts.specs.Inner.{Saying.{OfGroup, asked_id, IsAlone}, ListedGroups.{is_listed, MayList, NoneIsMissing}, Points.{Statement, TellsAlone}}
+use Rattle.nntp_facts.specs.Inner.Points.{IsPointOf, IsPointIn, IsBeside, IsAbout, is_impossible, shows_name, denies_name, id_told, place_told, bounds_of}
+use Rattle.nntp_facts.specs.Conflict.{widest, the_group, Point, Step, Group, Number, Count, First, IdOf, PlaceOf, rank, ConflictAt, AreTooMany}
+use Rattle.nntp_facts.proofs.{Members.{all_at, all_from, found_in}, Conflicts.{at_point}, PointsByRank.{of_rank}, Together.FactsJoin.{asks_append}}
+use Rattle.nntp_facts.proofs.Together.{FactsOfASpoolStand.{same_itself}, TwoListsOfFacts.{give_one_both, give_same_of_both, none_if}}
+use Rattle.nntp_facts.proofs.{Keeping.ListedGroups.{no_bounds, bounds_at}, PointsFound.StatementsRead.{shown_told, denied_told, asks_some, asks_listed}}
+use Rattle.nntp_facts.proofs.PointsFound.StatementsRead.{asks_none, id_given, place_given}
 
 -- an ask can't be met
 abbrev pub cannot : Ask → Bool
@@ -231,21 +212,9 @@ module _ (profile : Profile) (facts : List Fact) (k : Kept) (t : Statement) (mor
   once_places : (name : Name) (id : Id) → GiveOne (number_in name id) more
   once_places name id = alone_once profile (number_in name id) (λ name. refl) (λ name ask. refl) t more h.tells (h.tells.agree.ids_once name id)
 
-  -- what is given otherwise
-  given_otherwise : {A : Type 0} (f : Fact → Option A) (x y : A) → first_given f more ≡ Some x → first_given f facts ≡ Some y → (x ≡ y → ⊥) → GiveOne f all → ⊥
-  given_otherwise f x y here there other one =
-      let same = give_same_of_both f facts more one in
-      other (subst (λ o. IfSome o (λ y. x ≡ y)) there (subst (λ o. IfSome o (λ x. IfSome (first_given f facts) (λ y. x ≡ y))) here same))
-
-  pub id_found : (name : Name) (n : ℕ) (x y : Id) → id_told name n t ≡ Some x → first_given (id_in name n) facts ≡ Some y → (x ≡ y → ⊥) → ConflictAt all (IdOf name n)
-  id_found name n x y here = given_otherwise (id_in name n) x y (id_given profile t more h.tells name n ∙ here)
-
   pub id_free : ((name : Name) (n : ℕ) → IfSome (id_told name n t) (λ x. IfSome (first_given (id_in name n) facts) (λ y. x ≡ y))) → IsFree 5
   id_free same = of_rank Free 5 (λ name n c. c (give_one_both (id_in name n) facts more (h.together.ids name n) (once_ids name n)
       (subst (λ o. IfSome o (λ x. IfSome (first_given (id_in name n) facts) (λ y. x ≡ y))) (sym (id_given profile t more h.tells name n)) (same name n))))
-
-  pub place_found : (name : Name) (id : Id) (x y : ℕ) → place_told name id t ≡ Some x → first_given (number_in name id) facts ≡ Some y → (x ≡ y → ⊥) → ConflictAt all (PlaceOf name id)
-  place_found name id x y here = given_otherwise (number_in name id) x y (place_given profile t more h.tells name id ∙ here)
 
   pub place_free : ((name : Name) (id : Id) → IfSome (place_told name id t) (λ x. IfSome (first_given (number_in name id) facts) (λ y. x ≡ y))) → IsFree 6
   place_free same = of_rank Free 6 (λ name id c. c (give_one_both (number_in name id) facts more (h.together.ids_once name id) (once_places name id)
@@ -253,7 +222,8 @@ module _ (profile : Profile) (facts : List Fact) (k : Kept) (t : Statement) (mor
 
   -- what is given where the answer shows no id, or one at a number
   pub no_ids : t.saying.group ≡ None → IsFree 5
-  no_ids e = id_free (λ name n. subst (λ o. IfSome o (λ x. IfSome (first_given (id_in name n) facts) (λ y. x ≡ y))) (sym (ap (λ o. option_map_or (λ g. cond (is_same g.name name) (id_of g.id n) None) o None) e)) tt)
+  no_ids e = id_free (λ name n. subst (λ o. IfSome o (λ x. IfSome (first_given (id_in name n) facts) (λ y. x
+      ≡ y))) (sym (ap (λ o. option_map_or (λ g. cond (is_same g.name name) (id_of g.id n) None) o None) e)) tt)
 
   pub no_id : (g : OfGroup) → t.saying.group ≡ Some g → g.id ≡ None → IsFree 5
   no_id g e is = id_free (λ name n. subst (λ o. IfSome o (λ x. IfSome (first_given (id_in name n) facts) (λ y. x ≡ y)))
@@ -268,9 +238,11 @@ module _ (profile : Profile) (facts : List Fact) (k : Kept) (t : Statement) (mor
       (give_same_of_both (id_in g.name n) facts more one))
 
   pub same_id : (g : OfGroup) (n : ℕ) (id : Id) → t.saying.group ≡ Some g → g.id ≡ Some (n, id) → IfSome (first_given (id_in g.name n) facts) (λ y. id ≡ y) → IsFree 5
-  same_id g n id e is same = id_free (λ name m. subst (λ o. IfSome o (λ x. IfSome (first_given (id_in name m) facts) (λ y. x ≡ y))) (sym (id_here g n id name m e is)) (by name m (is_same g.name name) refl (n == m) refl))
+  same_id g n id e is same = id_free (λ name m. subst (λ o. IfSome o (λ x. IfSome (first_given (id_in name m) facts) (λ y. x
+      ≡ y))) (sym (id_here g n id name m e is)) (by name m (is_same g.name name) refl (n == m) refl))
     where
-      by : (name : Name) (m : ℕ) (a : Bool) → is_same g.name name ≡ a → (b : Bool) → (n == m) ≡ b → IfSome (cond a (cond b (Some id) None) None) (λ x. IfSome (first_given (id_in name m) facts) (λ y. x ≡ y))
+      by : (name : Name) (m : ℕ) (a : Bool) → is_same g.name name ≡ a → (b : Bool) → (n == m) ≡ b
+          → IfSome (cond a (cond b (Some id) None) None) (λ x. IfSome (first_given (id_in name m) facts) (λ y. x ≡ y))
       by name m true s true at = subst (λ name. IfSome (first_given (id_in name m) facts) (λ y. id ≡ y)) (same_text g.name name (sym s))
           (subst (λ m. IfSome (first_given (id_in g.name m) facts) (λ y. id ≡ y)) (eqb-true n m at) same)
       by name m true s false at = tt
@@ -278,165 +250,34 @@ module _ (profile : Profile) (facts : List Fact) (k : Kept) (t : Statement) (mor
 
   -- the same of its number
   pub no_places : t.saying.group ≡ None → IsFree 6
-  no_places e = place_free (λ name id. subst (λ o. IfSome o (λ x. IfSome (first_given (number_in name id) facts) (λ y. x ≡ y))) (sym (ap (λ o. option_map_or (λ g. cond (is_same g.name name) (place_of g.id id) None) o None) e)) tt)
+  no_places e = place_free (λ name id. subst (λ o. IfSome o (λ x. IfSome (first_given (number_in name id) facts) (λ y. x
+      ≡ y))) (sym (ap (λ o. option_map_or (λ g. cond (is_same g.name name) (place_of g.id id) None) o None) e)) tt)
 
   pub no_place : (g : OfGroup) → t.saying.group ≡ Some g → g.id ≡ None → IsFree 6
   no_place g e is = place_free (λ name id. subst (λ o. IfSome o (λ x. IfSome (first_given (number_in name id) facts) (λ y. x ≡ y)))
-      (sym (ap (λ o. option_map_or (λ g. cond (is_same g.name name) (place_of g.id id) None) o None) e ∙ ap (λ o. cond (is_same g.name name) (place_of o id) None) is ∙ none_if (is_same g.name name))) tt)
+      (sym (ap (λ o. option_map_or (λ g. cond (is_same g.name name) (place_of g.id id) None) o None) e ∙ ap (λ o. cond (is_same g.name name) (place_of o id) None) is
+      ∙ none_if (is_same g.name name))) tt)
 
   place_here : (g : OfGroup) (n : ℕ) (id : Id) (name : Name) (other : Id) → t.saying.group ≡ Some g → g.id ≡ Some (n, id)
       → place_told name other t ≡ cond (is_same g.name name) (cond (is_same id other) (Some n) None) None
   place_here g n id name other e is = ap (λ o. option_map_or (λ h. cond (is_same h.name name) (place_of h.id other) None) o None) e ∙ ap (λ o. cond (is_same g.name name) (place_of o other) None) is
 
-  pub other_place : (g : OfGroup) (n : ℕ) (id : Id) → t.saying.group ≡ Some g → g.id ≡ Some (n, id) → (IfSome (first_given (number_in g.name id) facts) (λ y. n ≡ y) → ⊥) → ConflictAt all (PlaceOf g.name id)
+  pub other_place : (g : OfGroup) (n : ℕ) (id : Id) → t.saying.group ≡ Some g → g.id ≡ Some (n, id) → (IfSome (first_given (number_in g.name id) facts) (λ y. n ≡ y) → ⊥)
+      → ConflictAt all (PlaceOf g.name id)
   other_place g n id e is other one = other (subst (λ o. IfSome o (λ x. IfSome (first_given (number_in g.name id) facts) (λ y. x ≡ y)))
       (place_given profile t more h.tells g.name id ∙ place_here g n id g.name id e is ∙ (λ i. cond (same_itself g.name i) (cond (same_itself id i) (Some n) None) None))
       (give_same_of_both (number_in g.name id) facts more one))
 
   pub same_place : (g : OfGroup) (n : ℕ) (id : Id) → t.saying.group ≡ Some g → g.id ≡ Some (n, id) → IfSome (first_given (number_in g.name id) facts) (λ y. n ≡ y) → IsFree 6
-  same_place g n id e is same = place_free (λ name other. subst (λ o. IfSome o (λ x. IfSome (first_given (number_in name other) facts) (λ y. x ≡ y))) (sym (place_here g n id name other e is)) (by name other (is_same g.name name) refl (is_same id other) refl))
+  same_place g n id e is same = place_free (λ name other. subst (λ o. IfSome o (λ x. IfSome (first_given (number_in name other) facts) (λ y. x
+      ≡ y))) (sym (place_here g n id name other e is)) (by name other (is_same g.name name) refl (is_same id other) refl))
     where
-      by : (name : Name) (other : Id) (a : Bool) → is_same g.name name ≡ a → (b : Bool) → is_same id other ≡ b → IfSome (cond a (cond b (Some n) None) None) (λ x. IfSome (first_given (number_in name other) facts) (λ y. x ≡ y))
+      by : (name : Name) (other : Id) (a : Bool) → is_same g.name name ≡ a → (b : Bool) → is_same id other ≡ b
+          → IfSome (cond a (cond b (Some n) None) None) (λ x. IfSome (first_given (number_in name other) facts) (λ y. x ≡ y))
       by name other true s true at = subst (λ name. IfSome (first_given (number_in name other) facts) (λ y. n ≡ y)) (same_text g.name name (sym s))
           (subst (λ other. IfSome (first_given (number_in g.name other) facts) (λ y. n ≡ y)) (same_text id other (sym at)) same)
       by name other true s false at = tt
       by name other false s b at = tt
-
-  -- ---- articles
-
-  article_shown_all : (id : Id) → list_any (shows_article id) all ≡ (list_any (shows_article id) facts || shows_id id t.saying.article)
-  article_shown_all id = list_any-append (shows_article id) facts more ∙ (λ i. list_any (shows_article id) facts || article_shown profile t more h.tells id i)
-
-  article_denied_all : (id : Id) → list_any (denies_article id) all ≡ (list_any (denies_article id) facts || denies_id id t.saying.article)
-  article_denied_all id = list_any-append (denies_article id) facts more ∙ (λ i. list_any (denies_article id) facts || article_denied profile t more h.tells id i)
-
-  pub article_found : (id : Id) → IsTrue (shows_id id t.saying.article) → IsTrue (list_any (denies_article id) facts) → ConflictAt all (Article id)
-  article_found id s d = (
-    article_shown_all id ∙ or_right (list_any (shows_article id) facts) (shows_id id t.saying.article) s,
-    article_denied_all id ∙ or_left (list_any (denies_article id) facts) (denies_id id t.saying.article) d,
-  )
-
-  pub article_lacked : (id : Id) → IsTrue (denies_id id t.saying.article) → IsTrue (list_any (shows_article id) facts) → ConflictAt all (Article id)
-  article_lacked id d s = (
-    article_shown_all id ∙ or_left (list_any (shows_article id) facts) (shows_id id t.saying.article) s,
-    article_denied_all id ∙ or_right (list_any (denies_article id) facts) (denies_id id t.saying.article) d,
-  )
-
-  pub article_free : ((id : Id) → IsTrue (shows_id id t.saying.article) → IsTrue (list_any (denies_article id) facts) → ⊥)
-      → ((id : Id) → IsTrue (denies_id id t.saying.article) → IsTrue (list_any (shows_article id) facts) → ⊥) → IsFree 7
-  article_free shows denies = of_rank Free 7 (λ id c. elim (or_cases (list_any (shows_article id) facts) (shows_id id t.saying.article) (sym (article_shown_all id) ∙ c.0)) [
-    | inl s ↦ elim (or_cases (list_any (denies_article id) facts) (denies_id id t.saying.article) (sym (article_denied_all id) ∙ c.1)) [
-      | inl d ↦ none_before (Article id) (s, d)
-      | inr d ↦ denies id d s
-    ]
-    | inr s ↦ elim (or_cases (list_any (denies_article id) facts) (denies_id id t.saying.article) (sym (article_denied_all id) ∙ c.1)) [
-      | inl d ↦ shows id s d
-      | inr d ↦ apart id t.saying.article s d
-    ]
-  ])
-    where
-      apart : (id : Id) (a : Option (Id × OfArticle)) → IsTrue (shows_id id a) → IsTrue (denies_id id a) → ⊥
-      apart id None s d = true≢false (sym s)
-      apart id (Some (other, Lacks)) s d = true≢false (sym s)
-      apart id o s d = true≢false (sym d)
-
-  -- of an answer that says of an id that it has no article, or has one, or sends a part of it
-  pub lacks : (id : Id) → t.saying.article ≡ Some (id, Lacks) → (o : Option Point) → o ≡ cond (list_any (shows_article id) facts) (Some (Article id)) None → IsPointOf all 7 o
-  lacks id e o is = subst (IsPointOf all 7) (sym is) (by (list_any (shows_article id) facts) refl)
-    where
-      by : (b : Bool) → list_any (shows_article id) facts ≡ b → IsPointOf all 7 (cond b (Some (Article id)) None)
-      by true s = (article_lacked id (ap (denies_id id) e ∙ same_itself id) s, refl)
-      by false s = article_free (λ other shows denied. true≢false (sym shows ∙ ap (shows_id other) e))
-          (λ other denies shown. true≢false (sym shown ∙ subst (λ id. list_any (shows_article id) facts ≡ false) (same_text id other (sym (ap (denies_id other) (sym e) ∙ denies))) s))
-
-  pub has : (id : Id) (a : OfArticle) → t.saying.article ≡ Some (id, a) → ((other : Id) → shows_id other (Some (id, a)) ≡ is_same id other) → ((other : Id) → denies_id other (Some (id, a)) ≡ false)
-      → (o : Option Point) → o ≡ cond (list_any (denies_article id) facts) (Some (Article id)) None → IsPointOf all 7 o
-  has id a e shows denies o is = subst (IsPointOf all 7) (sym is) (by (list_any (denies_article id) facts) refl)
-    where
-      by : (b : Bool) → list_any (denies_article id) facts ≡ b → IsPointOf all 7 (cond b (Some (Article id)) None)
-      by true d = (article_found id (ap (shows_id id) e ∙ shows id ∙ same_itself id) d, refl)
-      by false d = article_free
-          (λ other s denied. true≢false (sym denied ∙ subst (λ id. list_any (denies_article id) facts ≡ false) (same_text id other (sym (sym (shows other) ∙ ap (shows_id other) (sym e) ∙ s))) d))
-          (λ other d shown. true≢false (sym d ∙ ap (denies_id other) e ∙ denies other))
-
-  pub no_article : t.saying.article ≡ None → IsFree 7
-  no_article e = article_free (λ other s d. true≢false (sym s ∙ ap (shows_id other) e)) (λ other d s. true≢false (sym d ∙ ap (denies_id other) e))
-
-  pub head_found : (id : Id) (x y : List Line) → part_told Head id t.saying.article ≡ Some x → first_given (head_in id) facts ≡ Some y → (x ≡ y → ⊥) → ConflictAt all (HeadOf id)
-  head_found id x y here = given_otherwise (head_in id) x y (part_given profile t more h.tells Head id ∙ here)
-
-  pub body_found : (id : Id) (x y : List Line) → part_told Body id t.saying.article ≡ Some x → first_given (body_in id) facts ≡ Some y → (x ≡ y → ⊥) → ConflictAt all (BodyOf id)
-  body_found id x y here = given_otherwise (body_in id) x y (part_given profile t more h.tells Body id ∙ here)
-
-  pub head_free : ((id : Id) → IfSome (part_told Head id t.saying.article) (λ x. IfSome (first_given (head_in id) facts) (λ y. x ≡ y))) → IsFree 8
-  head_free same = of_rank Free 8 (λ id c. c (give_one_both (head_in id) facts more (h.together.heads id)
-      (alone_once profile (head_in id) (λ name. refl) (λ name ask. refl) t more h.tells (h.tells.agree.heads id))
-      (subst (λ o. IfSome o (λ x. IfSome (first_given (head_in id) facts) (λ y. x ≡ y))) (sym (part_given profile t more h.tells Head id)) (same id))))
-
-  pub body_free : ((id : Id) → IfSome (part_told Body id t.saying.article) (λ x. IfSome (first_given (body_in id) facts) (λ y. x ≡ y))) → IsFree 9
-  body_free same = of_rank Free 9 (λ id c. c (give_one_both (body_in id) facts more (h.together.bodies id)
-      (alone_once profile (body_in id) (λ name. refl) (λ name ask. refl) t more h.tells (h.tells.agree.bodies id))
-      (subst (λ o. IfSome o (λ x. IfSome (first_given (body_in id) facts) (λ y. x ≡ y))) (sym (part_given profile t more h.tells Body id)) (same id))))
-
-  -- of an answer that sends a head, or none
-  said_head : (id : Id) (what : What) (lines : Option (List Line)) → t.saying.article ≡ Some (id, Sends what lines) → (sent : Option (List Line)) → (IsTrue (head_fits what id lines) → sent ≡ head_sent what lines)
-      → part_told Head id t.saying.article ≡ sent
-  said_head id what lines e sent is =
-      ap (part_told Head id) e ∙ ap (λ b. cond b (part_sent Head what lines) None) (same_itself id)
-      ∙ sym (is (subst (λ o. IfSome o (MayBeOf t.saying.group)) e h.tells.tells.may.article))
-
-  pub same_head : (id : Id) (what : What) (lines : Option (List Line)) → t.saying.article ≡ Some (id, Sends what lines) → (sent : Option (List Line)) → (IsTrue (head_fits what id lines) → sent ≡ head_sent what lines)
-      → IfSome sent (λ x. IfSome (first_given (head_in id) facts) (λ y. x ≡ y)) → IsFree 8
-  same_head id what lines e sent is same = head_free (λ other. elim (cases_Bool (is_same id other)) [
-    | inl s ↦ subst (λ other. IfSome (part_told Head other t.saying.article) (λ x. IfSome (first_given (head_in other) facts) (λ y. x ≡ y))) (same_text id other (sym s))
-        (subst (λ o. IfSome o (λ x. IfSome (first_given (head_in id) facts) (λ y. x ≡ y))) (sym (said_head id what lines e sent is)) same)
-    | inr s ↦ subst (λ o. IfSome o (λ x. IfSome (first_given (head_in other) facts) (λ y. x ≡ y))) (sym (ap (part_told Head other) e ∙ ap (λ b. cond b (part_sent Head what lines) None) s)) tt
-  ])
-
-  pub other_head : (id : Id) (what : What) (lines : Option (List Line)) → t.saying.article ≡ Some (id, Sends what lines) → (sent : Option (List Line)) → (IsTrue (head_fits what id lines) → sent ≡ head_sent what lines)
-      → (IfSome sent (λ x. IfSome (first_given (head_in id) facts) (λ y. x ≡ y)) → ⊥) → ConflictAt all (HeadOf id)
-  other_head id what lines e sent is other one = other (subst (λ o. IfSome o (λ x. IfSome (first_given (head_in id) facts) (λ y. x ≡ y)))
-      (part_given profile t more h.tells Head id ∙ said_head id what lines e sent is) (give_same_of_both (head_in id) facts more one))
-
-  pub no_head : ((id : Id) → part_told Head id t.saying.article ≡ None) → IsFree 8
-  no_head none = head_free (λ id. subst (λ o. IfSome o (λ x. IfSome (first_given (head_in id) facts) (λ y. x ≡ y))) (sym (none id)) tt)
-
-  -- of an answer that sends a body, or none
-  said_body : (id : Id) (what : What) (lines : Option (List Line)) → t.saying.article ≡ Some (id, Sends what lines) → (sent : Option (List Line)) → (IsTrue (head_fits what id lines) → sent ≡ body_sent what lines)
-      → part_told Body id t.saying.article ≡ sent
-  said_body id what lines e sent is =
-      ap (part_told Body id) e ∙ ap (λ b. cond b (part_sent Body what lines) None) (same_itself id)
-      ∙ sym (is (subst (λ o. IfSome o (MayBeOf t.saying.group)) e h.tells.tells.may.article))
-
-  pub same_body : (id : Id) (what : What) (lines : Option (List Line)) → t.saying.article ≡ Some (id, Sends what lines) → (sent : Option (List Line)) → (IsTrue (head_fits what id lines) → sent ≡ body_sent what lines)
-      → IfSome sent (λ x. IfSome (first_given (body_in id) facts) (λ y. x ≡ y)) → IsFree 9
-  same_body id what lines e sent is same = body_free (λ other. elim (cases_Bool (is_same id other)) [
-    | inl s ↦ subst (λ other. IfSome (part_told Body other t.saying.article) (λ x. IfSome (first_given (body_in other) facts) (λ y. x ≡ y))) (same_text id other (sym s))
-        (subst (λ o. IfSome o (λ x. IfSome (first_given (body_in id) facts) (λ y. x ≡ y))) (sym (said_body id what lines e sent is)) same)
-    | inr s ↦ subst (λ o. IfSome o (λ x. IfSome (first_given (body_in other) facts) (λ y. x ≡ y))) (sym (ap (part_told Body other) e ∙ ap (λ b. cond b (part_sent Body what lines) None) s)) tt
-  ])
-
-  pub other_body : (id : Id) (what : What) (lines : Option (List Line)) → t.saying.article ≡ Some (id, Sends what lines) → (sent : Option (List Line)) → (IsTrue (head_fits what id lines) → sent ≡ body_sent what lines)
-      → (IfSome sent (λ x. IfSome (first_given (body_in id) facts) (λ y. x ≡ y)) → ⊥) → ConflictAt all (BodyOf id)
-  other_body id what lines e sent is other one = other (subst (λ o. IfSome o (λ x. IfSome (first_given (body_in id) facts) (λ y. x ≡ y)))
-      (part_given profile t more h.tells Body id ∙ said_body id what lines e sent is) (give_same_of_both (body_in id) facts more one))
-
-  pub no_body : ((id : Id) → part_told Body id t.saying.article ≡ None) → IsFree 9
-  no_body none = body_free (λ id. subst (λ o. IfSome o (λ x. IfSome (first_given (body_in id) facts) (λ y. x ≡ y))) (sym (none id)) tt)
-
-  pub head_point : (id : Id) (what : What) (lines : Option (List Line)) → t.saying.article ≡ Some (id, Sends what lines) → (sent : Option (List Line)) → (IsTrue (head_fits what id lines) → sent ≡ head_sent what lines)
-      → (o : Option Point) → MatchOption o (IfSome sent (λ x. IfSome (first_given (head_in id) facts) (λ y. x ≡ y)))
-      (λ point. (point ≡ HeadOf id) × (IfSome sent (λ x. IfSome (first_given (head_in id) facts) (λ y. x ≡ y)) → ⊥)) → IsPointOf all 8 o
-  head_point id what lines e sent is None same = same_head id what lines e sent is same
-  head_point id what lines e sent is (Some point) (at, other) =
-      subst (λ point. ConflictAt all point × (rank point ≡ 8)) (sym at) (other_head id what lines e sent is other, refl)
-
-  pub body_point : (id : Id) (what : What) (lines : Option (List Line)) → t.saying.article ≡ Some (id, Sends what lines) → (sent : Option (List Line)) → (IsTrue (head_fits what id lines) → sent ≡ body_sent what lines)
-      → (o : Option Point) → MatchOption o (IfSome sent (λ x. IfSome (first_given (body_in id) facts) (λ y. x ≡ y)))
-      (λ point. (point ≡ BodyOf id) × (IfSome sent (λ x. IfSome (first_given (body_in id) facts) (λ y. x ≡ y)) → ⊥)) → IsPointOf all 9 o
-  body_point id what lines e sent is None same = same_body id what lines e sent is same
-  body_point id what lines e sent is (Some point) (at, other) =
-      subst (λ point. ConflictAt all point × (rank point ≡ 9)) (sym at) (other_body id what lines e sent is other, refl)
 
   -- ---- what is found
 
@@ -481,7 +322,8 @@ module _ (profile : Profile) (facts : List Fact) (k : Kept) (t : Statement) (mor
       shows name = λ i. option_map_or (λ g. is_same g name) (no_group i) false || option_map_or (λ l. is_listed l.1 name) (e i) false
 
       denies : (name : Name) → denies_name name t ≡ (option_map_or (λ w. matches_name w name) l.0 true && not (is_listed l.1 name))
-      denies name = λ i. option_map_or (λ g. is_same g name) (alone.there_is_no i) false || option_map_or (λ l. option_map_or (λ w. matches_name w name) l.0 true && not (is_listed l.1 name)) (e i) false
+      denies name = λ i. option_map_or (λ g. is_same g name) (alone.there_is_no i) false || option_map_or (λ l. option_map_or (λ w. matches_name w name) l.0 true && not (is_listed l.1 name)) (e i)
+          false
 
       go : (o : Option Name) → MatchOption o (AllByRecursion (λ line. IsFalse (list_any (denies_group line.name) facts)) l.1 × NoneIsMissing facts l.0 l.1)
           (λ name. (IsTrue (is_listed l.1 name) × IsTrue (list_any (denies_group name) facts)) ⊎ (IsTrue (is_shown_group facts name) × IsTrue (denies_group name (GroupsAre l.0 l.1))))
@@ -511,7 +353,8 @@ module _ (profile : Profile) (facts : List Fact) (k : Kept) (t : Statement) (mor
       shows name = ap (λ o. option_map_or (λ g. is_same g name) t.group false || option_map_or (λ l. is_listed l.1 name) o false) none ∙ or_no _
 
       denies : (name : Name) → denies_name name t ≡ option_map_or (λ g. is_same g name) t.saying.there_is_no false
-      denies name = ap (λ o. option_map_or (λ g. is_same g name) t.saying.there_is_no false || option_map_or (λ l. option_map_or (λ w. matches_name w name) l.0 true && not (is_listed l.1 name)) o false) none ∙ or_no _
+      denies name = ap (λ o. option_map_or (λ g. is_same g name) t.saying.there_is_no false || option_map_or (λ l. option_map_or (λ w. matches_name w name) l.0 true && not (is_listed l.1 name)) o
+          false) none ∙ or_no _
 
       is_it : (o : Option Name) (name : Name) → o ≡ Some name → IsTrue (option_map_or (λ g. is_same g name) o false)
       is_it o name e = ap (λ o. option_map_or (λ g. is_same g name) o false) e ∙ same_itself name
@@ -521,7 +364,8 @@ module _ (profile : Profile) (facts : List Fact) (k : Kept) (t : Statement) (mor
       named (Some g) name s = ap (λ (g : Name). Some g) (same_text g name (sym s))
 
       go : (o : Option Name)
-          → MatchOption o (IfSome t.group (λ name. IsFalse (list_any (denies_group name) facts)) × IfSome t.saying.there_is_no (λ name. IsFalse (is_shown_group facts name) × (t.group ≡ Some name → ⊥)))
+          → MatchOption o (IfSome t.group (λ name. IsFalse (list_any (denies_group name) facts))
+          × IfSome t.saying.there_is_no (λ name. IsFalse (is_shown_group facts name) × (t.group ≡ Some name → ⊥)))
           (λ name. ((t.group ≡ Some name) × IsTrue (list_any (denies_group name) facts)) ⊎ ((t.saying.there_is_no ≡ Some name) × (IsTrue (is_shown_group facts name) ⊎ (t.group ≡ Some name))))
           → IsPointOf all 1 (option_map Group o)
       go (Some name) (inl (e, denied)) = (group_shown name (shows name ∙ is_it t.group name e) denied, refl)

@@ -1,23 +1,12 @@
 -- Points that are about the numbers of a group.
-use Rattle.std.proofs.Common.{arith, ℕ, ◌≡◌, ◌<◌, ◌^◌, ◌++◌, ◌∷◌, List, inl, inr, true, subst, sym, ◌∙◌}
-use Rattle.std.proofs.lemmas.Bool.{true≢false, cases_Bool, or_left}
-use Rattle.nntp_wire.specs.Limit.{greatest}
-use Rattle.nntp_wire.specs.declared.limit.Limit.{Limit}
-use Rattle.nntp_wire.specs.declared.limit.Limit.TheVariants.{Narrow, Wide}
-use Rattle.nntp_wire.specs.declared.marks.Marks.TheVariants.{Lenient}
-use Rattle.nntp_article.specs.Session.Spool.{Name}
-use Rattle.nntp_article.specs.declared.session.profile.Profile.{Profile}
-use Rattle.nntp_said.specs.Asks.{Ask, Estimates}
-use Rattle.nntp_said.specs.Facts.{Fact}
-use Rattle.nntp_facts.specs.Given.{asks_of, is_denied, denies, demand, IsGivenNumber}
-use Rattle.nntp_facts.specs.Together.{MeetsDemand}
-use Rattle.nntp_facts.specs.Summary.{AreBounded}
-use Rattle.nntp_facts.specs.Conflict.{widest, Point, Number, Count, First, rank, ConflictAt, AreApart, AreTooMany}
-use Rattle.nntp_facts.specs.Points.{IsAbout, NoneBefore}
-use Rattle.nntp_facts.specs.declared.points.NumbersKind.{NumbersKind}
+use Rattle.std.proofs.{Common.{arith, ℕ, ◌≡◌, ◌<◌, ◌^◌, ◌++◌, ◌∷◌, List, inl, inr, true, subst, sym, ◌∙◌}, lemmas.Bool.{true≢false, cases_Bool, or_left}}
+use Rattle.nntp_wire.specs.{Limit.{greatest}, declared.{limit.Limit.{Limit, TheVariants.{Narrow, Wide}}, marks.Marks.TheVariants.{Lenient}}}
+use Rattle.nntp_article.specs.{Session.Spool.{Name}, declared.session.profile.Profile.{Profile}}
+use Rattle.nntp_said.specs.{Asks.{Ask, Estimates}, Facts.{Fact}}
+use Rattle.nntp_facts.specs.{Given.{asks_of, is_denied, denies, demand, IsGivenNumber}, Together.{MeetsDemand}, Inner.Summary.{AreBounded}}
+use Rattle.nntp_facts.specs.{Inner.{Conflict.{AreApart}, Points.{IsAbout, NoneBefore}, StatementView.{rank_of_numbers}}, Conflict.{widest, Point, Number}}
+use Rattle.nntp_facts.{specs.{Conflict.{Count, First, rank, ConflictAt, AreTooMany}, declared.points.NumbersKind.{NumbersKind}}, proofs.Members.{any_back}}
 use Rattle.nntp_facts.specs.declared.points.NumbersKind.TheVariants as kinds
-use Rattle.nntp_facts.specs.StatementView.{rank_of_numbers}
-use Rattle.nntp_facts.proofs.Members.{any_back}
 
 -- their ranks are these
 pub above_one : (kind : NumbersKind) → 1 < rank_of_numbers kind

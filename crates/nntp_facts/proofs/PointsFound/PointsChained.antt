@@ -1,22 +1,15 @@
 -- Kinds of points that are looked for one after the other.
-use Rattle.nntp_facts.specs.declared.points.Kind.TheVariants as kind
-use Rattle.nntp_facts.specs.declared.points.NumbersKind.TheVariants as numbers
 use Rattle.std.proofs.Common.{zero, suc, get_or, ◌≡◌, ℕ, ◌+◌, ◌<◌, ◌≤◌, arith, List, [], ◌∷◌, Option, None, Some, inl, inr, refl, sym, subst}
-use Rattle.std.specs.List.{AllByRecursion}
-use Rattle.std.proofs.lemmas.Bool.{cases_lt}
+use Rattle.std.{proofs.lemmas.Bool.{cases_lt}, specs.{List.{AllByRecursion}, Prelude.{option_map}}}
 use Rattle.nntp_article.specs.declared.session.profile.Profile.{Profile}
 use Rattle.nntp_said.specs.Facts.{Fact}
-use Rattle.nntp_facts.specs.Together.{IsWellFormed, Together}
-use Rattle.nntp_facts.specs.Conflict.{Placed, FitsThere, told, told_with, Point, Step, Group, Number, Count, First, IdOf, PlaceOf, Article, HeadOf, BodyOf, rank, ConflictAt, IsFirstPoint}
-use Rattle.nntp_facts.specs.Points.{Answers, AreHeld, Statement, TellsAlone, IsBeside, IsPointOf, NoneBefore}
-use Rattle.std.specs.Prelude.{option_map}
-use Rattle.nntp_facts.specs.declared.point.Point.{Point as CodePoint}
-use Rattle.nntp_facts.specs.declared.points.Kind.{Kind}
-use Rattle.nntp_facts.specs.PointView.{point_of}
-use Rattle.nntp_facts.specs.StatementView.{rank_of}
-use Rattle.nntp_facts.proofs.Members.{all_at, all_from, all_both}
-use Rattle.nntp_facts.proofs.Conflicts.{with_told, told_fitting, told_placed}
-use Rattle.nntp_facts.proofs.PointsOfConflict.{stand_or_conflict}
+use Rattle.nntp_facts.specs.Inner.{Together.{IsWellFormed, Together}, Conflict.{FitsThere}, Points.{Answers, AreHeld, Statement, TellsAlone, IsBeside}}
+use Rattle.nntp_facts.specs.{Inner.{Points.{IsPointOf, NoneBefore}, PointView.{point_of}, StatementView.{rank_of}}, Conflict.{Placed, told, told_with, Point}}
+use Rattle.nntp_facts.specs.Conflict.{Step, Group, Number, Count, First, IdOf, PlaceOf, Article, HeadOf, BodyOf, rank, ConflictAt, IsFirstPoint}
+use Rattle.nntp_facts.{specs.declared.{point.Point.{Point as CodePoint}, points.Kind.{Kind}}, proofs.Members.{all_at, all_from, all_both}}
+use Rattle.nntp_facts.proofs.{Conflicts.{with_told, told_fitting, told_placed}, PointsOfConflict.{stand_or_conflict}}
+use Rattle.nntp_facts.specs.declared.points.Kind.TheVariants as kind
+use Rattle.nntp_facts.specs.declared.points.NumbersKind.TheVariants as numbers
 
 -- the first point
 pub first_found_of : (facts : List Fact) (k i : ℕ) (point : Point) → k ≡ i → NoneBefore facts i → ConflictAt facts point × (rank point ≡ k) → IsFirstPoint facts point

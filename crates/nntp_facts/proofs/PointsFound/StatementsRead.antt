@@ -1,32 +1,16 @@
 -- What facts say that answers tell by themselves, read off what is looked at.
-use Rattle.std.proofs.Common.{◌≡◌, ℕ, Bool, true, false, ◌||◌, ◌&&◌, not, cond, List, [], ◌∷◌, ◌++◌, Option, None, Some, MatchOption, ◌⊎◌, inl, inr, refl, sym, ap, subst, ◌∙◌, append-nil}
-use Rattle.std.specs.Prelude.{IfSome, option_map}
-use Rattle.std.specs.List.{list_any}
+use Rattle.std.proofs.Common.{◌≡◌, ℕ, Bool, true, false, ◌||◌, ◌&&◌, not, cond, List, [], ◌∷◌, ◌++◌, Option, None, Some, MatchOption, ◌⊎◌, inl, inr, refl, sym}
+use Rattle.std.{proofs.{Common.{ap, subst, ◌∙◌, append-nil}, lemmas.List.Folds.{list_any-append}}, specs.{Prelude.{IfSome, option_map}, List.{list_any}}}
 use Rattle.std.specs.Option.{option_map_or, option_or}
-use Rattle.std.proofs.lemmas.List.Folds.{list_any-append}
-use Rattle.nntp_wire.specs.Decided.{matches_name}
-use Rattle.nntp_wire.specs.Listing.{ActiveValue}
-use Rattle.nntp_wire.specs.declared.command.What.{What}
-use Rattle.nntp_wire.specs.declared.command.What.TheVariants as whats
-use Rattle.nntp_wire.specs.declared.marks.Marks.TheVariants.{Lenient}
-use Rattle.nntp_article.specs.Article.Parts.{Id, Line}
-use Rattle.nntp_article.specs.Session.Spool.{Name}
-use Rattle.nntp_article.specs.Session.Machine.{is_same}
-use Rattle.nntp_article.specs.declared.session.profile.Profile.{Profile}
-use Rattle.nntp_said.specs.Asks.{Ask, Estimates}
-use Rattle.nntp_said.specs.Facts.{Fact, ThereIs, Asks, TextIs, GroupsAre}
-use Rattle.nntp_facts.specs.Given.{asks_of, shows_group, is_shown_group, first_given, id_in, head_in, body_in}
-use Rattle.nntp_facts.specs.Together.{denies_group, number_in, shows_article, denies_article}
-use Rattle.nntp_facts.specs.Saying.{OfGroup, OfArticle, Lacks, Exists, Sends, Saying, asked_id, sent_facts, lack_facts, group_facts, there_facts, missing_facts, groups_facts, facts_in, IsAlone}
-use Rattle.nntp_facts.specs.Kept.{id_of, place_of}
-use Rattle.nntp_facts.specs.KeptSaying.{article_facts}
-use Rattle.nntp_facts.specs.ListedGroups.{MayList, is_listed}
-use Rattle.nntp_facts.specs.Conflict.{widest, the_group}
-use Rattle.nntp_facts.specs.Points.{Part, Head, Body, Statement, TellsAlone, shows_name, denies_name, id_told, place_told, shows_id, denies_id, part_told, part_sent, bounds_of}
-use Rattle.nntp_facts.proofs.Together.TwoListsOfFacts.{or_none, none_if}
-use Rattle.nntp_facts.proofs.Together.FactsJoin.{asks_append}
-use Rattle.nntp_facts.proofs.Keeping.FactsOfParts.{shown_group, denied_group}
-use Rattle.nntp_facts.proofs.Keeping.PartsJoin.{same_articles, group_is, no_group_is}
+use Rattle.nntp_wire.specs.{Decided.{matches_name}, Listing.{ActiveValue}, declared.marks.Marks.TheVariants.{Lenient}}
+use Rattle.nntp_article.specs.{Article.Parts.{Id}, Session.{Spool.{Name}, Machine.{is_same}}, declared.session.profile.Profile.{Profile}}
+use Rattle.nntp_said.specs.{Asks.{Ask, Estimates}, Facts.{Fact, ThereIs, Asks, GroupsAre}}
+use Rattle.nntp_facts.specs.{Given.{asks_of, shows_group, is_shown_group, first_given, id_in}, Together.{denies_group, number_in}, Inner.Together.{said_of}}
+use Rattle.nntp_facts.specs.Inner.Saying.{OfGroup, Saying, asked_id, sent_facts, lack_facts, group_facts, there_facts, missing_facts, groups_facts, facts_in}
+use Rattle.nntp_facts.specs.Inner.{Saying.{IsAlone}, Kept.{id_of, place_of}, KeptSaying.{said_in}, ListedGroups.{MayList, is_listed}, Points.{Statement}}
+use Rattle.nntp_facts.specs.{Inner.Points.{TellsAlone, shows_name, denies_name, id_told, place_told, bounds_of}, Conflict.{widest, the_group}}
+use Rattle.nntp_facts.proofs.{Together.FactsJoin.{asks_append}, Keeping.{FactsOfParts.{shown_group, denied_group}, PartsJoin.{said_of_parts, group_is}}}
+use Rattle.nntp_facts.proofs.Keeping.PartsJoin.{no_group_is}
 
 or_no : (b : Bool) → (b || false) ≡ b
 or_no true = refl
@@ -184,81 +168,13 @@ module _ (profile : Profile) (t : Statement) (facts : List Fact) (h : TellsAlone
 
   -- ---- articles
 
-  past_any : (p : Fact → Bool) → ((name : Name) → p (ThereIs name) ≡ false) → ((name : Name) (ask : Ask) → p (Asks name ask) ≡ false)
-      → list_any p facts ≡ list_any p (facts_in t.saying h.tells.asks)
-  past_any p there ask = ap (list_any p) (sym whole) ∙ by t.group
+  pub article_told : (id : Id) → said_of facts id ≡ said_in t.saying.article id
+  article_told id = ap (λ facts. said_of facts id) (sym whole) ∙ past t.group ∙ by t.saying.groups refl
     where
-      by : (g : Option Name) → list_any p (the_group profile g ++ facts_in t.saying h.tells.asks) ≡ list_any p (facts_in t.saying h.tells.asks)
-      by None = refl
-      by (Some name) = λ i. there name i || (ask name (Estimates Lenient (widest profile)) i || list_any p (facts_in t.saying h.tells.asks))
+      past : (g : Option Name) → said_of (the_group profile g ++ facts_in t.saying h.tells.asks) id ≡ said_of (facts_in t.saying h.tells.asks) id
+      past None = refl
+      past (Some name) = refl
 
-  pub article_shown : (id : Id) → list_any (shows_article id) facts ≡ shows_id id t.saying.article
-  article_shown id = past_any (shows_article id) (λ name. refl) (λ name ask. refl) ∙ by t.saying.groups refl
-    where
-      part : (a : Option (Id × OfArticle)) → list_any (shows_article id) (article_facts [] 0 a) ≡ shows_id id a
-      part None = refl
-      part (Some (other, Lacks)) = refl
-      part (Some (other, Exists)) = or_no (is_same other id)
-      part (Some (other, Sends what lines)) = or_no (is_same other id)
-
-      by : (o : Option (Option (List ℕ) × List ActiveValue)) → t.saying.groups ≡ o → list_any (shows_article id) (facts_in t.saying h.tells.asks) ≡ shows_id id t.saying.article
-      by None none = (same_articles h.before t.saying h.tells.asks none h.tells.may).shown id ∙ part t.saying.article
-      by (Some l) is = ap (list_any (shows_article id)) (listed_facts t.saying h.tells.asks l (alone l is) is) ∙ ap (shows_id id) (sym (alone l is).article)
-
-  pub article_denied : (id : Id) → list_any (denies_article id) facts ≡ denies_id id t.saying.article
-  article_denied id = past_any (denies_article id) (λ name. refl) (λ name ask. refl) ∙ by t.saying.groups refl
-    where
-      part : (a : Option (Id × OfArticle)) → list_any (denies_article id) (article_facts [] 0 a) ≡ denies_id id a
-      part None = refl
-      part (Some (other, Lacks)) = or_no (is_same other id)
-      part (Some (other, Exists)) = refl
-      part (Some (other, Sends what lines)) = refl
-
-      by : (o : Option (Option (List ℕ) × List ActiveValue)) → t.saying.groups ≡ o → list_any (denies_article id) (facts_in t.saying h.tells.asks) ≡ denies_id id t.saying.article
-      by None none = (same_articles h.before t.saying h.tells.asks none h.tells.may).denied id ∙ part t.saying.article
-      by (Some l) is = ap (list_any (denies_article id)) (listed_facts t.saying h.tells.asks l (alone l is) is) ∙ ap (denies_id id) (sym (alone l is).article)
-
-  -- the part that facts give
-  abbrev pub part_in : Part → Id → Fact → Option (List Line)
-  part_in Head id fact = head_in id fact
-  part_in Body id fact = body_in id fact
-
-  pub part_given : (part : Part) (id : Id) → first_given (part_in part id) facts ≡ part_told part id t.saying.article
-  part_given Head id = past_group (head_in id) (λ name. refl) (λ name ask. refl) ∙ by t.saying.groups refl
-    where
-      one : (what : What) (lines : Option (List Line)) (other : Id) → head_in id (TextIs what other lines) ≡ cond (is_same other id) (part_sent Head what lines) None
-      one whats.Article (Some lines) other = refl
-      one whats.Head (Some lines) other = refl
-      one whats.Body lines other = sym (none_if (is_same other id))
-      one whats.Stat lines other = sym (none_if (is_same other id))
-      one whats.Article None other = sym (none_if (is_same other id))
-      one whats.Head None other = sym (none_if (is_same other id))
-
-      said : (a : Option (Id × OfArticle)) → first_given (head_in id) (article_facts [] 0 a) ≡ part_told Head id a
-      said None = refl
-      said (Some (other, Lacks)) = refl
-      said (Some (other, Exists)) = refl
-      said (Some (other, Sends what lines)) = or_none (head_in id (TextIs what other lines)) ∙ one what lines other
-
-      by : (o : Option (Option (List ℕ) × List ActiveValue)) → t.saying.groups ≡ o → first_given (head_in id) (facts_in t.saying h.tells.asks) ≡ part_told Head id t.saying.article
-      by None none = (same_articles h.before t.saying h.tells.asks none h.tells.may).heads id ∙ said t.saying.article
-      by (Some l) is = ap (first_given (head_in id)) (listed_facts t.saying h.tells.asks l (alone l is) is) ∙ ap (part_told Head id) (sym (alone l is).article)
-  part_given Body id = past_group (body_in id) (λ name. refl) (λ name ask. refl) ∙ by t.saying.groups refl
-    where
-      one : (what : What) (lines : Option (List Line)) (other : Id) → body_in id (TextIs what other lines) ≡ cond (is_same other id) (part_sent Body what lines) None
-      one whats.Article (Some lines) other = refl
-      one whats.Body (Some lines) other = refl
-      one whats.Head lines other = sym (none_if (is_same other id))
-      one whats.Stat lines other = sym (none_if (is_same other id))
-      one whats.Article None other = sym (none_if (is_same other id))
-      one whats.Body None other = sym (none_if (is_same other id))
-
-      said : (a : Option (Id × OfArticle)) → first_given (body_in id) (article_facts [] 0 a) ≡ part_told Body id a
-      said None = refl
-      said (Some (other, Lacks)) = refl
-      said (Some (other, Exists)) = refl
-      said (Some (other, Sends what lines)) = or_none (body_in id (TextIs what other lines)) ∙ one what lines other
-
-      by : (o : Option (Option (List ℕ) × List ActiveValue)) → t.saying.groups ≡ o → first_given (body_in id) (facts_in t.saying h.tells.asks) ≡ part_told Body id t.saying.article
-      by None none = (same_articles h.before t.saying h.tells.asks none h.tells.may).bodies id ∙ said t.saying.article
-      by (Some l) is = ap (first_given (body_in id)) (listed_facts t.saying h.tells.asks l (alone l is) is) ∙ ap (part_told Body id) (sym (alone l is).article)
+      by : (o : Option (Option (List ℕ) × List ActiveValue)) → t.saying.groups ≡ o → said_of (facts_in t.saying h.tells.asks) id ≡ said_in t.saying.article id
+      by None none = said_of_parts h.before t.saying h.tells.asks none h.tells.may id
+      by (Some l) is = ap (λ facts. said_of facts id) (listed_facts t.saying h.tells.asks l (alone l is) is) ∙ ap (λ a. said_in a id) (sym (alone l is).article)

@@ -1,25 +1,13 @@
 -- What an answer tells by itself, and the group of which it speaks.
-use Rattle.std.proofs.Common.{◌≡◌, ℕ, true, List, [], Option, None, Some, inl, refl, sym, subst, ◌∙◌}
-use Rattle.std.specs.Prelude.{IsTrue, IfSome, unwrap_or}
-use Rattle.std.specs.List.{AllByRecursion}
-use Rattle.std.proofs.lemmas.Bool.{or_left}
-use Rattle.nntp_wire.specs.Name.{IsGroupName}
-use Rattle.nntp_wire.specs.Answer.{Asked, Response}
-use Rattle.nntp_wire.specs.declared.marks.Marks.{Marks}
-use Rattle.nntp_article.specs.Session.Spool.{Name}
-use Rattle.nntp_article.specs.Session.Machine.{Visible, start, fits, is_same}
-use Rattle.nntp_article.specs.declared.session.profile.Profile.{Profile}
-use Rattle.nntp_said.specs.declared.position.Position.{Position}
-use Rattle.nntp_said.specs.Facts.{Fact, ThereIs, here, facts_of, group_of}
-use Rattle.nntp_facts.specs.Given.{is_shown_group}
-use Rattle.nntp_facts.specs.Together.{IsWellFormed}
-use Rattle.nntp_facts.specs.Saying.{Saying, OfGroup, TellsHere, TellsThere, IsSelectedShown, numbers_listed, sent_facts, there_facts}
-use Rattle.nntp_facts.specs.Conflict.{Placed, FitsThere, said, the_group, told}
-use Rattle.nntp_facts.specs.Points.{TellsAlone}
-use Rattle.nntp_facts.proofs.Members.{In, in_front, in_back, all_at, all_both}
-use Rattle.nntp_facts.proofs.Together.FactsJoin.{answer_agrees}
-use Rattle.nntp_facts.proofs.Together.FactsOfASpoolStand.{same_itself}
-use Rattle.nntp_facts.proofs.Keeping.ToldAnswers.{there_told, group_said, none_said, selected_spoken}
+use Rattle.std.{proofs.{Common.{◌≡◌, ℕ, true, List, [], Option, None, Some, inl, refl, sym, subst, ◌∙◌}, lemmas.Bool.{or_left}}, specs.Prelude.{IsTrue, IfSome}}
+use Rattle.std.specs.{Prelude.{unwrap_or}, List.{AllByRecursion}}
+use Rattle.nntp_wire.specs.{Name.{IsGroupName}, Answer.{Asked, Response}, declared.marks.Marks.{Marks}}
+use Rattle.nntp_article.specs.{Session.{Spool.{Name}, Machine.{Visible, start, fits, is_same}}, declared.session.profile.Profile.{Profile}}
+use Rattle.nntp_said.specs.{declared.position.Position.{Position}, Facts.{Fact, ThereIs, here, facts_of, group_of}}
+use Rattle.nntp_facts.specs.{Given.{is_shown_group}, Inner.{Together.{IsWellFormed}, Saying.{Saying, OfGroup, TellsHere, TellsThere, IsSelectedShown}}}
+use Rattle.nntp_facts.specs.{Inner.{Saying.{numbers_listed, sent_facts, there_facts}, Conflict.{FitsThere}, Points.{TellsAlone}}, Conflict.{Placed, said}}
+use Rattle.nntp_facts.{specs.Conflict.{the_group, told}, proofs.{Members.{In, in_front, in_back, all_at, all_both}, Together.FactsJoin.{answer_agrees}}}
+use Rattle.nntp_facts.proofs.{Together.FactsOfASpoolStand.{same_itself}, Keeping.ToldAnswers.{there_told, group_said, none_said, selected_spoken}}
 
 -- facts that show the selected group
 shown_by : (profile : Profile) (selected : Option Name) → IfSome selected (λ name. is_shown_group (the_group profile selected) name ≡ true)

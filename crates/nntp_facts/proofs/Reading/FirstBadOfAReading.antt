@@ -1,24 +1,12 @@
 -- The first bad answer of a reading is that of the outcome; a reading without one is explained by some spool.
 use Rattle.std.proofs.Common.{◌≡◌, ◌⊎◌, ◌↔◌, ℕ, List, [], ◌∷◌, ◌++◌, length, map, Some, inl, inr, refl, sym, ap, subst, ◌∙◌}
-use Rattle.nntp_article.specs.declared.session.profile.Profile.{Profile}
-use Rattle.nntp_article.specs.Session.Spool.{Spool}
-use Rattle.nntp_article.specs.Session.Explains.{Explains}
-use Rattle.nntp_pair.specs.declared.class.PairClass.{PairClass}
-use Rattle.nntp_pair.specs.declared.class.PairClass.TheVariants.{Malformed as PairMalformed}
-use Rattle.nntp_pair.specs.Pairing.{Paired, Ending, end, bad, IsPairing, streams}
-use Rattle.nntp_pair.proofs.PassedLemmas.{passed-ends}
-use Rattle.nntp_pair.specs.declared.class.Class.{Class}
-use Rattle.nntp_pair.specs.Classes.{class_of}
-use Rattle.nntp_facts.specs.Noted.{exchanged, ArePermitted}
-use Rattle.nntp_facts.specs.Outcome.{No, IsOutcome}
-use Rattle.nntp_facts.specs.Reading.{Judged, Accepted, Refused, Unspelled, accepted_of, class_behind, IsReading}
-use Rattle.nntp_facts.proofs.Given.SessionsByFacts.{permits_alone}
-use Rattle.nntp_facts.proofs.Reading.JudgedAnswers.{accepted_first, all_paired}
-use Rattle.nntp_facts.proofs.Reading.JudgedSession.{none_accepted}
-use Rattle.nntp_facts.proofs.Session.OneMoreAnswer.{pairs_permitted}
-use Rattle.nntp_facts.proofs.Streams.ExplainedOrBad.{explained_not_bad}
-use Rattle.nntp_facts.proofs.Streams.OneOutcome.{outcome_at_octets, outcome_at_response}
-use Rattle.nntp_facts.proofs.Streams.PairedStreams.{explained_end}
+use Rattle.nntp_article.specs.{declared.session.profile.Profile.{Profile}, Session.{Spool.{Spool}, Explains.{Explains}}}
+use Rattle.nntp_pair.specs.{declared.class.{PairClass.{PairClass, TheVariants.{Malformed as PairMalformed}}, Class.{Class}}, Pairing.{Paired, Ending, end, bad}}
+use Rattle.nntp_pair.{specs.{Pairing.{IsPairing, streams}, Classes.{class_of}}, proofs.PassedLemmas.{passed-ends}}
+use Rattle.nntp_facts.specs.{Noted.{exchanged, ArePermitted}, Outcome.{No, IsOutcome}, Reading.{Judged, Accepted, Refused, Unspelled, accepted_of}}
+use Rattle.nntp_facts.{specs.Reading.{class_behind, IsReading}, proofs.{Given.SessionsByFacts.{permits_alone}, Reading.JudgedAnswers.{accepted_first}}}
+use Rattle.nntp_facts.proofs.{Reading.{JudgedAnswers.{all_paired}, JudgedSession.{none_accepted}}, Session.OneMoreAnswer.{pairs_permitted}}
+use Rattle.nntp_facts.proofs.Streams.{ExplainedOrBad.{explained_not_bad}, OneOutcome.{outcome_at_octets, outcome_at_response}, PairedStreams.{explained_end}}
 
 -- ---- the first bad answer
 
@@ -31,13 +19,15 @@ first_bad profile client server pairs (Refused pair) more ending class reading e
     let first = r.rest.1 in
     let same : _ ≡ class = cc in
     subst (λ class. IsOutcome profile client server (No (length pairs) class)) same
-    (outcome_at_response profile client server pairs pair r.between r.rest.0 r.paired first.0 ((permits_alone profile (exchanged pairs)).0 r.stand) (λ h. first.1 ((permits_alone profile (exchanged (pairs ++ pair ∷ []))).1 h)))
+    (outcome_at_response profile client server pairs pair r.between r.rest.0 r.paired first.0 ((permits_alone profile (exchanged pairs)).0 r.stand)
+    (λ h. first.1 ((permits_alone profile (exchanged (pairs ++ pair ∷ []))).1 h)))
 first_bad profile client server pairs (Unspelled index line initial block) more ending class reading e =
     let r = accepted_first (ArePermitted profile) [] (streams client server) reading.left pairs (Unspelled index line initial block ∷ more) (none_accepted profile) reading.judged in
     let first = r.rest.1 in
     let pairing : IsPairing client server pairs (bad PairMalformed) = record { left = r.between; paired = r.paired; ends = passed-ends r.between r.rest.0 line initial block first.1 } in
     let same : class_of PairMalformed ≡ class = cc in
-    subst (λ class. IsOutcome profile client server (No (length pairs) class)) same (outcome_at_octets profile client server pairs PairMalformed pairing ((permits_alone profile (exchanged pairs)).0 r.stand))
+    subst (λ class. IsOutcome profile client server (No (length pairs) class)) same
+    (outcome_at_octets profile client server pairs PairMalformed pairing ((permits_alone profile (exchanged pairs)).0 r.stand))
 
 -- where all are accepted, octets that answer nothing are the first bad answer
 pub bad_at_octets : (profile : Profile) (client server : List ℕ) (pairs : List Paired) (class : PairClass)

@@ -1,19 +1,13 @@
 -- Answers that are judged one after the other, whatever decides which exchanges stand: what they take, leave and add to those that were accepted.
-use Rattle.std.proofs.Common.{◌≡◌, ◌≢◌, ◌+◌, ◌<◌, ◌≤◌, false, ℕ, List, [], ◌∷◌, ◌++◌, length, map, refl, sym, ap, subst, ◌∙◌, arith, append_assoc, append-nil, length-append}
-use Rattle.std.proofs.lemmas.List.{map-append}
-use Rattle.nntp_wire.specs.Answer.{Response}
-use Rattle.nntp_wire.specs.Frame.{frame_octets}
-use Rattle.nntp_article.specs.Session.Machine.{Visible, start}
-use Rattle.nntp_article.proofs.SessionLemmas.ClosingAnswers.{after-closes}
-use Rattle.nntp_pair.specs.declared.class.PairClass.TheVariants.{Malformed as PairMalformed}
-use Rattle.nntp_pair.specs.Pairing.{Paired, Unpaired, IsNext, AreNext, Ending, bad, Ends, IsPairing, asked_at, asked_of, responses_of, streams}
-use Rattle.nntp_pair.proofs.PairLemmas.{lines-few}
-use Rattle.nntp_pair.proofs.NextLemmas.{one-next, next-no-end, next-shorter}
-use Rattle.nntp_pair.proofs.PassedLemmas.{one-passed, passed-ends, passed-no-other, passed-shorter}
-use Rattle.nntp_facts.specs.Classes.{visible_from}
-use Rattle.nntp_facts.specs.Given.{weight}
-use Rattle.nntp_facts.specs.Reading.{Judged, Accepted, Refused, Unspelled, accepted_of, accepted_with, IsJudged, AreJudged, IsReadingBy}
-use Rattle.nntp_facts.proofs.Keeping.NotedExchange.{visible_next, as_many, ends}
+use Rattle.std.proofs.Common.{◌≡◌, ◌≢◌, ◌+◌, ◌<◌, ◌≤◌, false, ℕ, List, [], ◌∷◌, ◌++◌, length, map, refl, sym, ap, subst, ◌∙◌, arith, append_assoc, append-nil}
+use Rattle.std.proofs.{Common.{length-append}, lemmas.List.{map-append}}
+use Rattle.nntp_wire.specs.{Answer.{Response}, Frame.{frame_octets}}
+use Rattle.nntp_article.{specs.Session.Machine.{Visible, start}, proofs.SessionLemmas.ClosingAnswers.{after-closes}}
+use Rattle.nntp_pair.specs.{declared.class.PairClass.TheVariants.{Malformed as PairMalformed}, Pairing.{Paired, Unpaired, IsNext, AreNext, Ending, bad, Ends}}
+use Rattle.nntp_pair.{specs.Pairing.{IsPairing, asked_at, asked_of, responses_of, streams}, proofs.{PairLemmas.{lines-few}, NextLemmas.{one-next, next-no-end}}}
+use Rattle.nntp_pair.proofs.{NextLemmas.{next-shorter}, PassedLemmas.{one-passed, passed-ends, passed-no-other, passed-shorter}}
+use Rattle.nntp_facts.specs.{Classes.{visible_from}, Inner.Given.{weight}, Reading.{Judged, Accepted, Refused, Unspelled, accepted_of, accepted_with, IsJudged}}
+use Rattle.nntp_facts.{specs.Reading.{AreJudged, IsReadingBy}, proofs.Keeping.NotedExchange.{visible_next, as_many, ends}}
 
 -- ---- those that are accepted
 
@@ -135,7 +129,8 @@ module _ (Stand : List Paired → Type 0) where
       by (Unspelled index line initial block) (at, passed) = let less = passed-shorter a m line initial block passed in omega (arith, less)
 
   -- so those of both streams weigh no more than the server's octets
-  pub accepted_light : (client server : List ℕ) (answers : List Judged) (left : Unpaired) → AreJudged Stand [] (streams client server) answers left → weight (responses_of (accepted_of answers)) ≤ length server
+  pub accepted_light : (client server : List ℕ) (answers : List Judged) (left : Unpaired) → AreJudged Stand [] (streams client server) answers left
+      → weight (responses_of (accepted_of answers)) ≤ length server
   accepted_light client server answers left judged =
       let most = accepted_weight [] (streams client server) left answers judged in
       let same = ap (λ (pairs : List Paired). weight (responses_of pairs)) (accepted_behind [] answers) in

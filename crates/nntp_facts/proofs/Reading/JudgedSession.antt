@@ -1,15 +1,11 @@
 -- The answers of two streams as they are judged from the first on.
 use Rattle.std.proofs.Common.{◌≡◌, ℕ, ◌≤◌, false, List, [], ◌∷◌, ◌++◌, length, refl, sym, ap, subst, ◌∙◌, arith}
-use Rattle.nntp_article.specs.declared.session.profile.Profile.{Profile}
-use Rattle.nntp_article.specs.Session.Machine.{Visible}
+use Rattle.nntp_article.specs.{declared.session.profile.Profile.{Profile}, Session.Machine.{Visible}}
 use Rattle.nntp_pair.specs.Pairing.{Paired, Unpaired, IsNext, asked_of, responses_of, streams}
-use Rattle.nntp_facts.specs.Given.{facts_of_session, size}
-use Rattle.nntp_facts.specs.Noted.{FactsKept, exchanged, HasNoted, IsDue, ArePermitted}
-use Rattle.nntp_facts.specs.Reading.{Judged, accepted_of, accepted_with, IsJudged, AreJudged}
-use Rattle.nntp_facts.proofs.Given.FirstBadAnswer.{none_permitted}
-use Rattle.nntp_facts.proofs.Given.SessionsByFacts.{permits_alone}
-use Rattle.nntp_facts.proofs.Ids.SizeOfASession.{session_size}
-use Rattle.nntp_facts.proofs.Reading.JudgedAnswers.{accepted_behind, judged_push, accepted_push, judged_count, accepted_few, accepted_stand, accepted_light, visible_behind, accepted_open}
+use Rattle.nntp_facts.specs.{Given.{facts_of_session}, Inner.{Given.{size}, Noted.{FactsKept, HasNoted, IsDue}}, Noted.{exchanged, ArePermitted}}
+use Rattle.nntp_facts.{specs.Reading.{Judged, accepted_of, accepted_with, IsJudged, AreJudged}, proofs.Given.FirstBadAnswer.{none_permitted}}
+use Rattle.nntp_facts.proofs.{Given.SessionsByFacts.{permits_alone}, Ids.SizeOfASession.{session_size}, Reading.JudgedAnswers.{accepted_behind, judged_push}}
+use Rattle.nntp_facts.proofs.Reading.JudgedAnswers.{accepted_push, judged_count, accepted_few, accepted_stand, accepted_light, visible_behind, accepted_open}
 
 -- no pairs are permitted
 pub none_accepted : (profile : Profile) → ArePermitted profile []
@@ -32,7 +28,8 @@ pub one_more_in_session : (profile : Profile) (client server : List ℕ) (answer
     → AreJudged (ArePermitted profile) [] (streams client server) answers left → IsJudged (ArePermitted profile) (accepted_of answers) left answer after
     → AreJudged (ArePermitted profile) [] (streams client server) (answers ++ answer ∷ []) after
 one_more_in_session profile client server answers answer left after judged is =
-    judged_push (ArePermitted profile) [] (streams client server) left after answers answer judged (subst (λ past. IsJudged (ArePermitted profile) past left answer after) (sym (accepted_behind [] answers)) is)
+    judged_push (ArePermitted profile) [] (streams client server) left after answers answer judged
+    (subst (λ past. IsJudged (ArePermitted profile) past left answer after) (sym (accepted_behind [] answers)) is)
 
 pub accepted_one_more : (answers : List Judged) (answer : Judged) → accepted_of (answers ++ answer ∷ []) ≡ accepted_with (accepted_of answers) answer
 accepted_one_more answers answer =

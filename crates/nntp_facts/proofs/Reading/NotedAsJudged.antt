@@ -1,21 +1,12 @@
 -- What is noted of an exchange behind earlier sessions, and how it is judged.
-use Rattle.std.proofs.Common.{◌≡◌, true, List, [], ◌∷◌, ◌++◌, map, Some, sym, ap, subst, ◌∙◌}
-use Rattle.std.proofs.lemmas.Bool.{true≢false}
-use Rattle.nntp_article.specs.declared.session.profile.Profile.{Profile}
-use Rattle.nntp_article.specs.Session.Machine.{start, fits}
-use Rattle.nntp_pair.specs.Pairing.{Paired, Unpaired, IsNext, asked_at, asked_of, responses_of}
-use Rattle.nntp_facts.specs.Answered.{SomePermitsEach}
-use Rattle.nntp_facts.specs.Classes.{class_by}
-use Rattle.nntp_pair.specs.declared.class.Class.TheVariants.{OutOfPlace, Contradiction}
-use Rattle.nntp_facts.specs.declared.noted.Noted.TheVariants.{Consistent, OutOfPlace as NotedOutOfPlace, Contradiction as NotedContradiction}
-use Rattle.nntp_facts.specs.Noted.{FactsKept, exchanged, ArePermittedBehind, HasNotedBehind, IsNotedBehind}
-use Rattle.nntp_facts.specs.Reading.{Accepted, Refused, IsJudged, class_behind}
-use Rattle.nntp_facts.proofs.Members.{all_back}
-use Rattle.nntp_facts.proofs.Keeping.NotedExchange.{Runs, of_these, with_pair, as_many}
-use Rattle.nntp_facts.proofs.Session.LaterPrompts.{next_behind, visible_longer}
-use Rattle.nntp_facts.proofs.Session.OneMoreAnswer.{as_few}
-use Rattle.nntp_facts.proofs.Streams.OneClass.{run_fits}
-use Rattle.nntp_facts.proofs.Reading.JudgedAnswers.{visible_behind}
+use Rattle.std.proofs.{Common.{◌≡◌, true, List, [], ◌∷◌, ◌++◌, map, Some, sym, ap, subst, ◌∙◌}, lemmas.Bool.{true≢false}}
+use Rattle.nntp_article.specs.{declared.session.profile.Profile.{Profile}, Session.Machine.{start, fits}}
+use Rattle.nntp_pair.specs.{Pairing.{Paired, Unpaired, IsNext, asked_at, asked_of, responses_of}, declared.class.Class.TheVariants.{OutOfPlace, Contradiction}}
+use Rattle.nntp_facts.specs.{Answered.{SomePermitsEach}, Classes.{class_by}, declared.noted.Noted.TheVariants.{Consistent, OutOfPlace as NotedOutOfPlace}}
+use Rattle.nntp_facts.specs.{declared.noted.Noted.TheVariants.{Contradiction as NotedContradiction}, Inner.Noted.{FactsKept, HasNotedBehind, IsNotedBehind}}
+use Rattle.nntp_facts.{specs.{Noted.{exchanged, ArePermittedBehind}, Reading.{Accepted, Refused, IsJudged, class_behind}}, proofs.Members.{all_back}}
+use Rattle.nntp_facts.proofs.{Keeping.NotedExchange.{Runs, of_these, with_pair, as_many}, Session.LaterPrompts.{next_behind, visible_longer}}
+use Rattle.nntp_facts.proofs.{Session.OneMoreAnswer.{as_few}, Streams.OneClass.{run_fits}, Reading.JudgedAnswers.{visible_behind}}
 
 -- a pair that some spool permits behind others fits
 permitted_fits : (profile : Profile) (earlier : List (List Paired)) (past : List Paired) (pair : Paired) → ArePermittedBehind profile earlier (past ++ pair ∷ [])
@@ -45,7 +36,8 @@ unfit_refused profile earlier past pair old new before after stands noted next =
     let unfit = fits_behind profile earlier past pair old stands ∙ noted.0 in
     ((next, λ permitted. true≢false (sym (permitted_fits profile earlier past pair permitted) ∙ unfit)), ap (λ b. Some (class_by b)) unfit)
 
-pub contradiction_refused : (profile : Profile) (earlier : List (List Paired)) (past : List Paired) (pair : Paired) (old new : FactsKept) (before after : Unpaired) → HasNotedBehind profile old earlier past
+pub contradiction_refused : (profile : Profile) (earlier : List (List Paired)) (past : List Paired) (pair : Paired) (old new : FactsKept) (before after : Unpaired)
+    → HasNotedBehind profile old earlier past
     → IsNotedBehind profile earlier past pair old new NotedContradiction → IsNext before pair after
     → IsJudged (ArePermittedBehind profile earlier) past before (Refused pair) after × (class_behind profile past (Refused pair) ≡ Some Contradiction)
 contradiction_refused profile earlier past pair old new before after stands noted next =

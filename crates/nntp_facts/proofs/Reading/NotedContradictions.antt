@@ -1,24 +1,14 @@
 -- What is noted to be a contradiction conflicts with the accepted answers.
-use Rattle.std.proofs.Common.{◌≡◌, ◌≤◌, IsTrue, List, [], ◌∷◌, ◌++◌, length, Some, refl, sym, ap, subst, ◌∙◌, arith}
-use Rattle.std.specs.List.{AllByRecursion}
+use Rattle.std.{proofs.Common.{◌≡◌, ◌≤◌, IsTrue, List, [], ◌∷◌, ◌++◌, length, Some, refl, sym, ap, subst, ◌∙◌, arith}, specs.List.{AllByRecursion}}
 use Rattle.nntp_wire.specs.Answer.{Asked, Response}
-use Rattle.nntp_article.specs.declared.session.profile.Profile.{Profile}
-use Rattle.nntp_article.specs.Session.Machine.{Visible, visible_after, start, fits}
+use Rattle.nntp_article.specs.{declared.session.profile.Profile.{Profile}, Session.Machine.{Visible, visible_after, start, fits}}
 use Rattle.nntp_pair.specs.Pairing.{Paired, asked_at, asked_of, responses_of}
-use Rattle.nntp_said.specs.declared.position.Position.{Position}
-use Rattle.nntp_said.specs.declared.position.Position.TheVariants.{Nowhere}
-use Rattle.nntp_facts.specs.declared.noted.Noted.TheVariants.{Contradiction}
-use Rattle.nntp_said.specs.Asks.{position_after}
-use Rattle.nntp_facts.specs.Classes.{visible_from, position_from, asked_next}
-use Rattle.nntp_facts.specs.Permits.{SomePermits}
-use Rattle.nntp_facts.specs.Noted.{FactsKept, exchanged, HasNoted, IsNoted, IsDue}
-use Rattle.nntp_facts.specs.Conflict.{Placed, placed_from, placed_of, placed_behind, FitsThere, told_with, SomeHas, below}
-use Rattle.nntp_facts.proofs.Conflicts.{session_fits, contradicts}
-use Rattle.nntp_facts.proofs.Given.GivenPermits.{said}
-use Rattle.nntp_facts.proofs.Given.SessionsByFacts.{permits_alone}
-use Rattle.nntp_facts.proofs.Keeping.NotedExchange.{as_many, ends}
-use Rattle.nntp_facts.proofs.Session.LaterPrompts.{next_behind, visible_longer, position_longer, permitted_longer}
-use Rattle.nntp_facts.proofs.Session.OneMoreAnswer.{as_few, fitting_grows}
+use Rattle.nntp_said.specs.{declared.position.Position.{Position, TheVariants.{Nowhere}}, Asks.{position_after}}
+use Rattle.nntp_facts.specs.{declared.noted.Noted.TheVariants.{Contradiction}, Classes.{visible_from, position_from, asked_next}, Inner.Permits.{SomePermits}}
+use Rattle.nntp_facts.specs.{Inner.{Noted.{FactsKept, HasNoted, IsNoted, IsDue}, Conflict.{FitsThere}}, Noted.{exchanged}, Conflict.{Placed, placed_from}}
+use Rattle.nntp_facts.{specs.Conflict.{placed_of, placed_behind, told_with, SomeHas, below}, proofs.Conflicts.{session_fits, contradicts}}
+use Rattle.nntp_facts.proofs.{Given.{GivenPermits.{said}, SessionsByFacts.{permits_alone}}, Keeping.NotedExchange.{as_many, ends}}
+use Rattle.nntp_facts.proofs.Session.{LaterPrompts.{next_behind, visible_longer, position_longer, permitted_longer}, OneMoreAnswer.{as_few, fitting_grows}}
 
 -- ---- one answer more, and more prompts
 
@@ -99,7 +89,8 @@ noted_conflicts profile past pair old new stands due noted =
       ap (λ v. v.closed) (seen ∙ sym stands.visible) ∙ due.is_open,
       subst (λ v. IsTrue (fits profile v asked pair.response)) (sym seen) fit,
     ) in
-    let none = contradicts profile qs answers asked pair.response comes all (λ h. noted.1 ((permits_alone profile (exchanged (past ++ pair ∷ []))).1 (subst (λ (q : List Asked × List Response). SomePermits profile q.0 q.1) (sym (ends past pair)) h))) in (
+    let none = contradicts profile qs answers asked pair.response comes all (λ h. noted.1 ((permits_alone profile (exchanged (past ++ pair ∷ []))).1 (subst (λ (q : List Asked
+    × List Response). SomePermits profile q.0 q.1) (sym (ends past pair)) h))) in (
       (v, refl, fit),
       subst (Conflicts profile v (position_from Nowhere ps answers) asked pair.response) (placed_longer start.visible Nowhere ps (asked ∷ []) answers few)
           (subst (λ at. Conflicts profile v at asked pair.response (placed_from start.visible Nowhere qs answers)) (position_longer Nowhere ps (asked ∷ []) answers few)

@@ -1,18 +1,13 @@
 -- Two streams have one reading, whatever decides which exchanges stand.
 use Rattle.std.proofs.Common.{◌≡◌, ◌≢◌, ◌⊎◌, ℕ, zero, suc, ◌+◌, ◌<◌, ◌≤◌, ◌^◌, List, [], ◌∷◌, ◌++◌, length, inl, inr, refl, sym, subst, ◌∙◌, arith}
 use Rattle.nntp_article.specs.declared.session.profile.Profile.{Profile}
-use Rattle.nntp_pair.specs.declared.class.PairClass.TheVariants.{Surplus as PairSurplus, Cut as PairCut, Malformed as PairMalformed}
-use Rattle.nntp_pair.specs.Pairing.{Paired, Unpaired, IsNext, Ending, end, bad, Ends, asked_of, responses_of, streams}
-use Rattle.nntp_pair.proofs.NextLemmas.{one-end}
-use Rattle.nntp_pair.proofs.NextDecided.{next-or-end}
-use Rattle.nntp_pair.proofs.PassedLemmas.{passed-exactly}
-use Rattle.nntp_facts.specs.Given.{weight}
-use Rattle.nntp_facts.specs.Noted.{exchanged, ArePermitted}
-use Rattle.nntp_facts.specs.Reading.{Judged, Accepted, Refused, Unspelled, accepted_with, IsJudged, AreJudged, IsReadingBy, IsReading}
-use Rattle.nntp_facts.proofs.Given.GivenSpoolExists.{some_or_none}
-use Rattle.nntp_facts.proofs.Given.SessionsByFacts.{permits_alone}
-use Rattle.nntp_facts.proofs.Ids.SizeOfASession.{session_size}
-use Rattle.nntp_facts.proofs.Reading.JudgedAnswers.{one_judged, judged_no_end, judged_shorter, weight_next, accepted_weight}
+use Rattle.nntp_pair.specs.{declared.class.PairClass.TheVariants.{Surplus as PairSurplus, Cut as PairCut, Malformed as PairMalformed}, Pairing.{Paired}}
+use Rattle.nntp_pair.{specs.Pairing.{Unpaired, IsNext, Ending, end, bad, Ends, asked_of, responses_of, streams}, proofs.NextLemmas.{one-end}}
+use Rattle.nntp_pair.proofs.{NextDecided.{next-or-end}, PassedLemmas.{passed-exactly}}
+use Rattle.nntp_facts.specs.{Inner.Given.{weight}, Noted.{exchanged, ArePermitted}, Reading.{Judged, Accepted, Refused, Unspelled, accepted_with, IsJudged}}
+use Rattle.nntp_facts.{specs.Reading.{AreJudged, IsReadingBy, IsReading}, proofs.Given.{GivenSpoolExists.{some_or_none}, SessionsByFacts.{permits_alone}}}
+use Rattle.nntp_facts.proofs.{Ids.SizeOfASession.{session_size}, Reading.JudgedAnswers.{one_judged, judged_no_end, judged_shorter, weight_next}}
+use Rattle.nntp_facts.proofs.Reading.JudgedAnswers.{accepted_weight}
 
 module _ (Stand : List Paired → Type 0) where
   -- ---- one at most

@@ -1,18 +1,10 @@
 -- What is known of an answer that fits.
-use Rattle.std.proofs.Common.{◌≡◌, ℕ, true, ◌&&◌, ◌==◌, IsTrue, List, Option, sym, subst}
-use Rattle.std.specs.Prelude.{nat_le, ◌≤◌}
-use Rattle.std.specs.List.{list_all}
-use Rattle.std.specs.Option.{option_map_or}
-use Rattle.std.proofs.lemmas.Bool.{and_parts, eqb-true, leb-true}
-use Rattle.nntp_wire.specs.Decided.{matches_name}
-use Rattle.nntp_wire.specs.Listing.{ActiveValue}
-use Rattle.nntp_wire.specs.declared.range.Range.{Range}
-use Rattle.nntp_article.specs.declared.session.profile.Profile.{Profile}
-use Rattle.nntp_article.specs.Session.Machine.{is_article_number, is_in_range, active_fits, names_differ}
-use Rattle.nntp_facts.specs.Part.{AreListable}
-use Rattle.nntp_facts.specs.ListedGroups.{MayList}
+use Rattle.std.proofs.{Common.{◌≡◌, ℕ, true, ◌&&◌, ◌==◌, IsTrue, List, Option, sym, subst}, lemmas.Bool.{and_parts, eqb-true, leb-true}}
+use Rattle.std.specs.{Prelude.{nat_le, ◌≤◌}, List.{list_all}, Option.{option_map_or}}
+use Rattle.nntp_wire.specs.{Decided.{matches_name}, Listing.{ActiveValue}, declared.range.Range.{Range}}
+use Rattle.nntp_article.specs.{declared.session.profile.Profile.{Profile}, Session.Machine.{is_article_number, is_in_range, active_fits, names_differ}}
+use Rattle.nntp_facts.{specs.Inner.{Part.{AreListable}, ListedGroups.{MayList}}, proofs.Members.{all_from, each_of, found_in}}
 use Rattle.nntp_said.proofs.Rows.{AreListed}
-use Rattle.nntp_facts.proofs.Members.{all_from, each_of, found_in}
 
 -- an article number is no 0
 pub numbered : (profile : Profile) (n : ℕ) → is_article_number profile.limit n ≡ true → 1 ≤ n
@@ -31,6 +23,7 @@ listable profile r ns is = record {
 -- groups that match, and of which none is listed twice
 pub may_list : (profile : Profile) (p : Option (List ℕ)) (lines : List ActiveValue) → IsTrue (list_all (active_fits profile p) lines) → IsTrue (names_differ lines) → MayList p lines
 may_list profile p lines each differ = record {
-  matching = all_from (λ line. IsTrue (option_map_or (λ w. matches_name w line.name) p true)) lines (λ line i. (and_parts _ (option_map_or (λ w. matches_name w line.name) p true) (each_of (active_fits profile p) lines line each i)).1);
+  matching = all_from (λ line. IsTrue (option_map_or (λ w. matches_name w line.name) p true)) lines
+      (λ line i. (and_parts _ (option_map_or (λ w. matches_name w line.name) p true) (each_of (active_fits profile p) lines line each i)).1);
   differ = differ;
 }

@@ -1,21 +1,13 @@
 -- What the visible condition says of the facts of an answer.
-use Rattle.std.proofs.Common.{◌≡◌, ◌==◌, ◌&&◌, ◌+◌, IsTrue, List, [], ◌∷◌, inl, inr, arith, ◌≤◌}
-use Rattle.std.specs.Prelude.{⊤, nat_le, ◌-◌}
-use Rattle.std.specs.List.{AllByRecursion}
-use Rattle.std.proofs.lemmas.Bool.{and_parts, or_cases, eqb-true, leb-true}
-use Rattle.nntp_article.specs.Session.Spool.{Name}
-use Rattle.nntp_article.specs.declared.session.profile.Profile.{Profile}
-use Rattle.nntp_article.specs.Session.Machine.{Visible, visible_after, start, fits, marks_fit, are_zeros, is_article_number, is_in_range, head_fits, active_fits}
-use Rattle.nntp_wire.specs.Listing.{listed_numbers, active_groups}
-use Rattle.nntp_said.specs.Asks.{position_after, Estimates, ListsIn, Has, StandsAt, StepsUp, StepsDown}
-use Rattle.nntp_said.specs.declared.position.Position.{Position}
-use Rattle.nntp_said.specs.declared.position.Position.TheVariants.{Nowhere}
-use Rattle.nntp_said.specs.Facts.{Fact, Asks, IdAt, TextIs, GroupsAre, facts_of, facts_from, FitsAll}
-use Rattle.nntp_facts.specs.Given.{facts_of_session}
-use Rattle.nntp_facts.proofs.Members.{all_both, all_from, each_of}
-use Rattle.nntp_wire.specs.Answer.{Asked, Response}
-use Rattle.nntp_wire.specs.declared.water_marks.WaterMarks.{WaterMarks}
-use Rattle.nntp_said.proofs.Rows.{Row, row, marks, listing, up, down, text, text_at, text_here, active}
+use Rattle.std.proofs.{Common.{◌≡◌, ◌==◌, ◌&&◌, ◌+◌, IsTrue, List, [], ◌∷◌, inl, inr, arith, ◌≤◌}, lemmas.Bool.{and_parts, or_cases, eqb-true, leb-true}}
+use Rattle.std.specs.{Prelude.{⊤, nat_le, ◌-◌}, List.{AllByRecursion}}
+use Rattle.nntp_article.specs.Session.{Spool.{Name}, Machine.{Visible, visible_after, start, fits, marks_fit, are_zeros, is_article_number, is_in_range}}
+use Rattle.nntp_article.specs.{Session.Machine.{head_fits, active_fits}, declared.session.profile.Profile.{Profile}}
+use Rattle.nntp_wire.specs.{Listing.{listed_numbers, active_groups}, Answer.{Asked, Response}, declared.water_marks.WaterMarks.{WaterMarks}}
+use Rattle.nntp_said.specs.{Asks.{position_after, Estimates, ListsIn, Has, StandsAt, StepsUp, StepsDown}, declared.position.Position.{Position}}
+use Rattle.nntp_said.specs.{declared.position.Position.TheVariants.{Nowhere}, Facts.{Fact, Asks, IdAt, TextIs, GroupsAre, facts_of, facts_from}}
+use Rattle.nntp_said.{specs.Inner.Facts.{FitsAll}, proofs.Rows.{Row, row, marks, listing, up, down, text, text_at, text_here, active}}
+use Rattle.nntp_facts.{specs.Given.{facts_of_session}, proofs.Members.{all_both, all_from, each_of}}
 
 -- marks and numbers are within the limit, a low mark of 0 estimates no number, a text has the parts that were asked for, and listed groups match
 abbrev pub IsFitting : Profile → Fact → Type 0

@@ -1,15 +1,8 @@
 -- All that one answer says of numbers, it says of one group.
-use Rattle.std.proofs.Common.{◌≡◌, List, Option, Some, ap}
-use Rattle.std.specs.Prelude.{⊤}
-use Rattle.std.specs.List.{AllByRecursion}
-use Rattle.nntp_wire.specs.declared.marks.Marks.{Marks}
-use Rattle.nntp_wire.specs.Answer.{Asked, Response}
-use Rattle.nntp_article.specs.Session.Spool.{Name}
-use Rattle.nntp_article.specs.Session.Machine.{Visible}
-use Rattle.nntp_said.specs.declared.position.Position.{Position}
-use Rattle.nntp_said.specs.Facts.{Fact, ThereIs, Asks, IdAt, facts_of, group_of}
-use Rattle.nntp_article.specs.declared.session.profile.Profile.{Profile}
-use Rattle.nntp_said.proofs.Rows.{Row, row, nothing}
+use Rattle.std.{proofs.Common.{◌≡◌, List, Option, Some, ap}, specs.{Prelude.{⊤}, List.{AllByRecursion}}}
+use Rattle.nntp_wire.specs.{declared.marks.Marks.{Marks}, Answer.{Asked, Response}}
+use Rattle.nntp_article.specs.{Session.{Spool.{Name}, Machine.{Visible}}, declared.session.profile.Profile.{Profile}}
+use Rattle.nntp_said.{specs.{declared.position.Position.{Position}, Facts.{Fact, ThereIs, Asks, IdAt, facts_of, group_of}}, proofs.Rows.{Row, row, nothing}}
 
 -- the fact speaks of the numbers of no other group
 abbrev pub IsOf : Option Name → Fact → Type 0

@@ -1,20 +1,10 @@
 -- Prompts behind those that are answered: they change nothing.
-use Rattle.nntp_wire.specs.declared.marks.Marks.{Marks}
-use Rattle.std.proofs.Common.{◌≡◌, ◌↔◌, ℕ, ◌+◌, ◌≤◌, List, [], ◌∷◌, ◌++◌, length, map, Some, refl, ap, ◌∙◌, arith}
-use Rattle.std.proofs.lemmas.List.{map-append}
-use Rattle.nntp_wire.specs.Command.{request_of}
-use Rattle.nntp_wire.specs.Lines.{lines_of_stream}
-use Rattle.nntp_wire.specs.Answer.{Asked, Response, greeting, to}
-use Rattle.nntp_wire.specs.Session.{prompts_of, Spelled}
-use Rattle.nntp_wire.proofs.StreamLemmas.{lines-joined}
-use Rattle.nntp_article.specs.declared.session.profile.Profile.{Profile}
-use Rattle.nntp_article.specs.Session.Spool.{Spool}
-use Rattle.nntp_article.specs.Session.Machine.{Visible, State, Run, start, visible_after}
-use Rattle.nntp_said.specs.Asks.{position_after}
-use Rattle.nntp_said.specs.declared.position.Position.{Position}
-use Rattle.nntp_said.specs.Facts.{facts_of, facts_from}
-use Rattle.nntp_facts.specs.Classes.{visible_from, position_from, asked_next}
-use Rattle.nntp_facts.specs.Permits.{SomePermits}
+use Rattle.nntp_wire.specs.{declared.marks.Marks.{Marks}, Command.{request_of}, Lines.{lines_of_stream}, Answer.{Asked, Response, greeting, to}}
+use Rattle.nntp_wire.{specs.Session.{prompts_of, Spelled}, proofs.StreamLemmas.{lines-joined}}
+use Rattle.std.proofs.{Common.{◌≡◌, ◌↔◌, ℕ, ◌+◌, ◌≤◌, List, [], ◌∷◌, ◌++◌, length, map, Some, refl, ap, ◌∙◌, arith}, lemmas.List.{map-append}}
+use Rattle.nntp_article.specs.{declared.session.profile.Profile.{Profile}, Session.{Spool.{Spool}, Machine.{Visible, State, Run, start, visible_after}}}
+use Rattle.nntp_said.specs.{Asks.{position_after}, declared.position.Position.{Position}, Facts.{facts_of, facts_from}}
+use Rattle.nntp_facts.specs.{Classes.{visible_from, position_from, asked_next}, Inner.Permits.{SomePermits}}
 
 -- octets behind the client's leave its prompts
 pub prompts_joined : (client more : List ℕ) → (later : List Asked) × (prompts_of (client ++ more) ≡ prompts_of client ++ later)

@@ -1,21 +1,12 @@
 -- What a session says of numbers, it says of groups that it shows.
-use Rattle.nntp_wire.specs.declared.marks.Marks.{Marks}
-use Rattle.std.proofs.Common.{◌≡◌, IsTrue, List, [], ◌∷◌, Option, None, Some, is_some, refl, subst}
-use Rattle.std.specs.Prelude.{unwrap_or, ⊤}
-use Rattle.std.specs.List.{AllByRecursion}
-use Rattle.nntp_article.specs.Session.Spool.{Name}
-use Rattle.nntp_article.specs.declared.session.profile.Profile.{Profile}
-use Rattle.nntp_article.specs.Session.Machine.{Visible, visible_after, start, fits}
-use Rattle.nntp_said.specs.Asks.{position_after, Estimates}
-use Rattle.nntp_said.specs.declared.position.Position.{Position}
-use Rattle.nntp_said.specs.declared.position.Position.TheVariants.{Nowhere}
-use Rattle.nntp_said.specs.Facts.{Fact, ThereIs, Asks, IdAt, here, facts_of, facts_from, FitsAll}
-use Rattle.nntp_facts.specs.Given.{facts_of_session}
-use Rattle.nntp_facts.proofs.Members.{In, all_both, all_front, all_back, all_from}
-use Rattle.nntp_wire.specs.Answer.{Asked, Response, to, group_is, numbers_are}
-use Rattle.nntp_wire.specs.declared.water_marks.WaterMarks.{WaterMarks}
+use Rattle.nntp_wire.specs.{declared.{marks.Marks.{Marks}, water_marks.WaterMarks.{WaterMarks}}, Answer.{Asked, Response, to, group_is, numbers_are}}
 use Rattle.nntp_wire.specs.Command.{group, list_group}
-use Rattle.nntp_said.proofs.Rows.{Row, row, nowhere, top, bottom, lacks, marks, listing, up, down, text_at, text_here}
+use Rattle.std.{proofs.Common.{◌≡◌, IsTrue, List, [], ◌∷◌, Option, None, Some, is_some, refl, subst}, specs.{Prelude.{unwrap_or, ⊤}, List.{AllByRecursion}}}
+use Rattle.nntp_article.specs.{Session.{Spool.{Name}, Machine.{Visible, visible_after, start, fits}}, declared.session.profile.Profile.{Profile}}
+use Rattle.nntp_said.specs.{Asks.{position_after, Estimates}, declared.position.Position.{Position, TheVariants.{Nowhere}}, Facts.{Fact, ThereIs, Asks, IdAt}}
+use Rattle.nntp_said.{specs.{Facts.{here, facts_of, facts_from}, Inner.Facts.{FitsAll}}, proofs.Rows.{Row, row, nowhere, top, bottom, lacks, marks, listing}}
+use Rattle.nntp_said.proofs.Rows.{up, down, text_at, text_here}
+use Rattle.nntp_facts.{specs.Given.{facts_of_session}, proofs.Members.{In, all_both, all_front, all_back, all_from}}
 
 -- a 211 said that there is such a group, with its marks, which are read so
 pub record IsSelectable (how : Marks) (all : List Fact) (name : Name) : Type 0 where

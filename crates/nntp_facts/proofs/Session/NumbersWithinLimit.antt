@@ -1,25 +1,15 @@
 -- The numbers of a group are within the limit.
-use Rattle.std.proofs.lemmas.Bool.Decides.{nat_tests}
-use Rattle.nntp_facts.specs.Part.{estimate_in, is_within}
-use Rattle.nntp_wire.specs.declared.marks.Marks.TheVariants.{Strict}
-use Rattle.std.proofs.Common.{◌≡◌, ℕ, ◌≤◌, ◌<◌, Bool, true, false, cond, ◌&&◌, ◌||◌, ◌==◌, ◌+◌, IsTrue, List, [], ◌∷◌, Option, inl, inr, refl, sym, subst, ◌∙◌, arith}
-use Rattle.std.specs.Prelude.{IsFalse, nat_le, nat_lt}
-use Rattle.std.specs.List.{AllByRecursion, list_any}
-use Rattle.std.specs.Cmp.Lexicographic.{same_text}
 use Rattle.std.proofs.lemmas.Bool.{true≢false, and_parts, or_cases, or_right, eqb-true, leb-true, lt-ltb, cases_lt, cases_eq, false_from_ne_true}
-use Rattle.nntp_article.specs.Session.Spool.{Name}
-use Rattle.nntp_article.specs.declared.session.profile.Profile.{Profile}
-use Rattle.nntp_article.specs.Session.Machine.{is_same, is_article_number, active_fits}
-use Rattle.nntp_said.specs.Asks.{Ask, Estimates, Bounds, ListsIn, Has, StandsAt, StepsUp, StepsDown}
-use Rattle.nntp_said.specs.declared.position.Position.TheVariants.{First}
+use Rattle.std.proofs.{lemmas.Bool.Decides.{nat_tests}, Common.{◌≡◌, ℕ, ◌≤◌, ◌<◌, Bool, true, false, cond, ◌&&◌, ◌||◌, ◌==◌, ◌+◌, IsTrue, List, [], ◌∷◌}}
+use Rattle.std.{proofs.Common.{Option, inl, inr, refl, sym, subst, ◌∙◌, arith}, specs.{Prelude.{IsFalse, nat_le, nat_lt}, List.{AllByRecursion, list_any}}}
+use Rattle.std.specs.Cmp.Lexicographic.{same_text}
+use Rattle.nntp_facts.specs.{Inner.Part.{estimate_in, is_within}, Given.{is_shown_group, asks_in, asks_of, shows, denies, is_shown, is_denied, shows_group}}
+use Rattle.nntp_facts.{specs.Given.{is_end}, proofs.{Members.{In, all_at, any_in, found_in, to_flat, from_flat}, Together.FactsOfASpoolStand.{same_itself}}}
+use Rattle.nntp_facts.proofs.Session.{NumbersOfShownGroups.{IsSelectable, Placed}, FittingFacts.{IsFitting}}
+use Rattle.nntp_wire.specs.{declared.marks.Marks.{Marks, TheVariants.{Strict}}, Listing.{ActiveValue}}
+use Rattle.nntp_article.specs.{Session.{Spool.{Name}, Machine.{is_same, is_article_number, active_fits}}, declared.session.profile.Profile.{Profile}}
+use Rattle.nntp_said.specs.{Asks.{Ask, Estimates, Bounds, ListsIn, Has, StandsAt, StepsUp, StepsDown}, declared.position.Position.TheVariants.{First}}
 use Rattle.nntp_said.specs.Facts.{Fact, ThereIs, Asks, IdAt, GroupsAre}
-use Rattle.nntp_facts.specs.Given.{is_shown_group, asks_in, asks_of, shows, denies, is_shown, is_denied, shows_group, is_end}
-use Rattle.nntp_facts.proofs.Members.{In, all_at, any_in, found_in, to_flat, from_flat}
-use Rattle.nntp_facts.proofs.Together.FactsOfASpoolStand.{same_itself}
-use Rattle.nntp_facts.proofs.Session.NumbersOfShownGroups.{IsSelectable, Placed}
-use Rattle.nntp_facts.proofs.Session.FittingFacts.{IsFitting}
-use Rattle.nntp_wire.specs.Listing.{ActiveValue}
-use Rattle.nntp_wire.specs.declared.marks.Marks.{Marks}
 
 module _ (profile : Profile) (facts : List Fact) (how : Marks) (fitting : AllByRecursion (IsFitting profile) facts) (placed : AllByRecursion (Placed how facts) facts) where
   fits : (fact : Fact) → In fact facts → IsFitting profile fact

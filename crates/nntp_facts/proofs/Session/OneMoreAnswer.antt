@@ -1,24 +1,14 @@
 -- Answers one by one: what one more says, and what pairs say.
-use Rattle.nntp_wire.specs.declared.marks.Marks.{Marks}
-use Rattle.std.proofs.Common.{◌≡◌, ℕ, ◌≤◌, ◌↔◌, false, IsTrue, List, [], ◌∷◌, ◌++◌, map, length, Some, sym, ap, subst, ◌∙◌, arith, append_assoc, append-nil, length-append}
-use Rattle.nntp_article.specs.Session.Spool.{Spool}
-use Rattle.nntp_article.specs.declared.session.profile.Profile.{Profile}
-use Rattle.nntp_article.specs.Session.Machine.{Visible, Run, start, fits, visible_after}
-use Rattle.nntp_said.specs.Asks.{position_after}
-use Rattle.nntp_said.specs.declared.position.Position.{Position}
-use Rattle.nntp_said.specs.declared.position.Position.TheVariants.{Nowhere}
-use Rattle.nntp_said.specs.Facts.{facts_of, facts_from, FitsAll}
-use Rattle.nntp_facts.specs.Given.{facts_of_session, size}
-use Rattle.nntp_facts.specs.Classes.{visible_from, position_from, asked_next}
-use Rattle.nntp_facts.specs.Permits.{SomePermits}
-use Rattle.nntp_facts.proofs.Ids.SizeOfASession.{session_size}
-use Rattle.nntp_facts.proofs.Streams.ExplainedOrBad.{light}
-use Rattle.nntp_wire.specs.Answer.{Asked, Response}
-use Rattle.nntp_wire.specs.Session.{prompts_of, Spelled}
-use Rattle.std.proofs.lemmas.List.{length-map}
-use Rattle.nntp_facts.proofs.Session.LaterPrompts.{run_shorter, run_longer, facts_longer}
-use Rattle.nntp_pair.specs.Pairing.{Paired, Unpaired, AreNext, responses_of, asked_of, asked_at, streams}
-use Rattle.nntp_pair.proofs.SpelledLemmas.{places-prompts, pairs-spelled}
+use Rattle.nntp_wire.specs.{declared.marks.Marks.{Marks}, Answer.{Asked, Response}, Session.{prompts_of, Spelled}}
+use Rattle.std.proofs.Common.{◌≡◌, ℕ, ◌≤◌, ◌↔◌, false, IsTrue, List, [], ◌∷◌, ◌++◌, map, length, Some, sym, ap, subst, ◌∙◌, arith, append_assoc, append-nil}
+use Rattle.std.proofs.{Common.{length-append}, lemmas.List.{length-map}}
+use Rattle.nntp_article.specs.{Session.{Spool.{Spool}, Machine.{Visible, Run, start, fits, visible_after}}, declared.session.profile.Profile.{Profile}}
+use Rattle.nntp_said.specs.{Asks.{position_after}, declared.position.Position.{Position, TheVariants.{Nowhere}}, Facts.{facts_of, facts_from}}
+use Rattle.nntp_said.specs.Inner.Facts.{FitsAll}
+use Rattle.nntp_facts.specs.{Given.{facts_of_session}, Inner.{Given.{size}, Permits.{SomePermits}}, Classes.{visible_from, position_from, asked_next}}
+use Rattle.nntp_facts.proofs.{Ids.SizeOfASession.{session_size}, Streams.ExplainedOrBad.{light}, Session.LaterPrompts.{run_shorter, run_longer, facts_longer}}
+use Rattle.nntp_pair.{specs.Pairing.{Paired, Unpaired, AreNext, responses_of, asked_of, asked_at, streams}, proofs.SpelledLemmas.{places-prompts}}
+use Rattle.nntp_pair.proofs.SpelledLemmas.{pairs-spelled}
 
 -- ---- one answer more
 

@@ -1,21 +1,11 @@
 -- The group that is selected behind a session is one that the session shows.
-use Rattle.std.proofs.Common.{◌≡◌, true, List, [], ◌∷◌, Option, None, Some, refl}
-use Rattle.std.specs.Prelude.{IfSome}
-use Rattle.std.specs.List.{AllByRecursion}
-use Rattle.nntp_wire.specs.Answer.{Asked, Response}
-use Rattle.nntp_wire.specs.declared.marks.Marks.{Marks}
-use Rattle.nntp_article.specs.Session.Spool.{Name}
-use Rattle.nntp_article.specs.declared.session.profile.Profile.{Profile}
-use Rattle.nntp_article.specs.Session.Machine.{Visible, start, visible_after}
-use Rattle.nntp_said.specs.Asks.{position_after}
-use Rattle.nntp_said.specs.declared.position.Position.{Position}
-use Rattle.nntp_said.specs.declared.position.Position.TheVariants.{Nowhere}
-use Rattle.nntp_said.specs.Facts.{Fact, ThereIs, facts_of, facts_from, FitsAll}
-use Rattle.nntp_facts.specs.Given.{facts_of_session, shows_group, is_shown_group}
-use Rattle.nntp_facts.specs.Classes.{visible_from}
-use Rattle.nntp_facts.specs.Saying.{IsSelectedShown}
-use Rattle.nntp_facts.proofs.Members.{all_front, all_back, all_from, any_in}
-use Rattle.nntp_facts.proofs.Session.NumbersOfShownGroups.{Among, HasNoted, still_stands}
+use Rattle.std.{proofs.Common.{◌≡◌, true, List, [], ◌∷◌, Option, None, Some, refl}, specs.{Prelude.{IfSome}, List.{AllByRecursion}}}
+use Rattle.nntp_wire.specs.{Answer.{Asked, Response}, declared.marks.Marks.{Marks}}
+use Rattle.nntp_article.specs.{Session.{Spool.{Name}, Machine.{Visible, start, visible_after}}, declared.session.profile.Profile.{Profile}}
+use Rattle.nntp_said.specs.{Asks.{position_after}, declared.position.Position.{Position, TheVariants.{Nowhere}}, Facts.{Fact, ThereIs, facts_of, facts_from}}
+use Rattle.nntp_said.specs.Inner.Facts.{FitsAll}
+use Rattle.nntp_facts.specs.{Given.{facts_of_session, shows_group, is_shown_group}, Classes.{visible_from}, Inner.Saying.{IsSelectedShown}}
+use Rattle.nntp_facts.proofs.{Members.{all_front, all_back, all_from, any_in}, Session.NumbersOfShownGroups.{Among, HasNoted, still_stands}}
 use Rattle.nntp_facts.proofs.Together.FactsOfASpoolStand.{same_itself}
 
 -- answers that fit leave a group selected that a 211 selected

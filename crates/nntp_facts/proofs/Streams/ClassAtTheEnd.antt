@@ -1,21 +1,13 @@
 -- Where the pairing of two streams ends at octets, they have the class of that end.
 use Rattle.std.proofs.Common.{◌≡◌, ◌↔◌, ℕ, Bool, true, false, List, [], ◌∷◌, length, map, Option, None, Some, ⊎_elim, refl, sym, ap, subst, ◌∙◌}
 use Rattle.std.proofs.lemmas.List.{length-map}
-use Rattle.nntp_wire.specs.Answer.{Asked}
-use Rattle.nntp_wire.specs.Session.{prompts_of}
-use Rattle.nntp_pair.specs.Pairing.{Paired, Unpaired, AreNext, IsBad, IsLasting, responses_of, asked_at, streams}
-use Rattle.nntp_pair.proofs.SpelledLemmas.{places-prompts, pairs-spelled}
-use Rattle.nntp_pair.specs.declared.class.PairClass.{PairClass}
-use Rattle.nntp_pair.specs.declared.class.PairClass.TheVariants.{Surplus as surplus, Cut as cut, Malformed as malformed}
-use Rattle.nntp_article.specs.Session.Spool.{Spool, IsSpool}
-use Rattle.nntp_article.specs.declared.session.profile.Profile.{Profile}
-use Rattle.nntp_article.specs.Session.Machine.{Visible, start, visible_after, Run}
-use Rattle.nntp_article.specs.Session.Explains.{ExplainsUpTo}
-use Rattle.nntp_article.proofs.SessionLemmas.ClosingAnswers.{after-closes}
-use Rattle.nntp_pair.specs.declared.class.Class.{Class}
-use Rattle.nntp_facts.specs.Classes.{visible_from, asked_next, AnswersFirst, IsClass, HasClass, IsSettled}
-use Rattle.nntp_pair.specs.Classes.{class_of}
-use Rattle.nntp_facts.proofs.Streams.OneClass.{closed_before}
+use Rattle.nntp_wire.specs.{Answer.{Asked}, Session.{prompts_of}}
+use Rattle.nntp_pair.specs.{Pairing.{Paired, Unpaired, AreNext, IsBad, responses_of, asked_at, streams}, Inner.Pairing.{IsLasting}}
+use Rattle.nntp_pair.specs.declared.class.{PairClass.{PairClass, TheVariants.{Surplus as surplus, Cut as cut, Malformed as malformed}}, Class.{Class}}
+use Rattle.nntp_pair.{specs.Classes.{class_of}, proofs.SpelledLemmas.{places-prompts, pairs-spelled}}
+use Rattle.nntp_article.specs.Session.{Spool.{Spool, IsSpool}, Machine.{Visible, start, visible_after, Run}, Explains.{ExplainsUpTo}}
+use Rattle.nntp_article.{specs.declared.session.profile.Profile.{Profile}, proofs.SessionLemmas.ClosingAnswers.{after-closes}}
+use Rattle.nntp_facts.{specs.Classes.{visible_from, asked_next, AnswersFirst, IsClass, HasClass, IsSettled}, proofs.Streams.OneClass.{closed_before}}
 
 -- what is asked at the first of the places
 abbrev pub first_asked : List (Option (List ℕ)) → Option Asked

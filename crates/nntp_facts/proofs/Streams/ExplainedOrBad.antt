@@ -1,20 +1,12 @@
 -- Of the spools with some property one explains two streams, or exactly one answer is bad.
-use Rattle.std.specs.Prelude.{⊤}
-use Rattle.std.proofs.Common.{◌≡◌, ◌≢◌, ℕ, zero, suc, ◌+◌, ◌<◌, ◌≤◌, ◌^◌, ◌⊎◌, List, [], ◌∷◌, ◌++◌, length, take, inl, inr, refl, sym, ap, subst, ◌∙◌, arith, length-append, append_assoc}
-use Rattle.std.proofs.Math.Seq.{take-length}
-use Rattle.std.proofs.lemmas.Bool.{cases_lt, cases_order}
+use Rattle.std.{specs.Prelude.{⊤}, proofs.Common.{◌≡◌, ◌≢◌, ℕ, zero, suc, ◌+◌, ◌<◌, ◌≤◌, ◌^◌, ◌⊎◌, List, [], ◌∷◌, ◌++◌, length, take, inl, inr, refl, sym, ap}}
+use Rattle.std.proofs.{Common.{subst, ◌∙◌, arith, length-append, append_assoc}, Math.Seq.{take-length}, lemmas.Bool.{cases_lt, cases_order}}
 use Rattle.std.proofs.lemmas.List.{append_cancel_left, length-take, nil_from_length}
-use Rattle.nntp_article.specs.Session.Spool.{Spool, IsSpool}
+use Rattle.nntp_article.specs.Session.{Spool.{Spool, IsSpool}, Machine.{Run, start}, Explains.{ExplainsUpTo, Explains, ExplainsFirst, BadAmong, Bad}}
 use Rattle.nntp_article.specs.declared.session.profile.Profile.{Profile}
-use Rattle.nntp_article.specs.Session.Machine.{Run, start}
-use Rattle.nntp_wire.specs.Session.{Spelled, prompts_of}
-use Rattle.nntp_article.specs.Session.Explains.{ExplainsUpTo, Explains, ExplainsFirst, BadAmong, Bad}
-use Rattle.nntp_facts.specs.Given.{weight}
-use Rattle.nntp_facts.proofs.Ids.SizeOfASession.{session_size}
-use Rattle.nntp_facts.proofs.Given.FirstBadAnswer.{run_fewer, none_permitted, holds_or_ends}
+use Rattle.nntp_wire.{specs.{Session.{Spelled, prompts_of}, Answer.{Asked, Response, Spells}}, proofs.SpellsDecided.{one-spelling, some-spelling}}
+use Rattle.nntp_facts.{specs.Inner.Given.{weight}, proofs.{Ids.SizeOfASession.{session_size}, Given.FirstBadAnswer.{run_fewer, none_permitted, holds_or_ends}}}
 use Rattle.nntp_facts.proofs.Given.GivenSpoolExists.{some_or_none}
-use Rattle.nntp_wire.specs.Answer.{Asked, Response, Spells}
-use Rattle.nntp_wire.proofs.SpellsDecided.{one-spelling, some-spelling}
 use Rattle.nntp_pair.proofs.PairLemmas.{lines-few}
 
 -- ---- octets read as far as they spell answers
@@ -164,7 +156,8 @@ module _ (P : Spool → Type 0) (profile : Profile) (client server : List ℕ) w
   r = read (prompts_of client) server
 
   -- the first n of them; where there are more, octets are left
-  first_read : (n : ℕ) → n ≤ length r.answers → (front : List ℕ) × (rest : List ℕ) × Spelled (prompts_of client) (take n r.answers) front × (server ≡ front ++ rest) × (n < length r.answers → rest ≢ [])
+  first_read : (n : ℕ) → n ≤ length r.answers → (front : List ℕ) × (rest : List ℕ) × Spelled (prompts_of client) (take n r.answers) front × (server ≡ front ++ rest)
+      × (n < length r.answers → rest ≢ [])
   first_read n le =
       let f = first_spelled (prompts_of client) r.answers r.spelled n r.is le in (
         f.0,

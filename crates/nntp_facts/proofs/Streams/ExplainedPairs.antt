@@ -1,12 +1,9 @@
 -- An explanation of two streams, and their pairing.
 use Rattle.std.proofs.Common.{◌≡◌, ℕ, List, []}
-use Rattle.nntp_wire.specs.Session.{prompts_of, AreSpelled, StaysOpen}
-use Rattle.nntp_pair.specs.Pairing.{Paired, Ending, end, IsPairing, HasPairs, responses_of, streams}
-use Rattle.nntp_pair.proofs.SpelledLemmas.{spelled-pairs, spelled-whole}
-use Rattle.nntp_article.specs.Session.Spool.{Spool}
-use Rattle.nntp_article.specs.declared.session.profile.Profile.{Profile}
-use Rattle.nntp_article.specs.Session.Machine.{start}
-use Rattle.nntp_article.specs.Session.Explains.{ExplainsUpTo, Explains}
+use Rattle.nntp_wire.specs.{Session.{prompts_of}, Inner.Session.{AreSpelled, StaysOpen}}
+use Rattle.nntp_pair.{specs.{Pairing.{Paired, Ending, end, IsPairing, responses_of, streams}, Inner.Pairing.{HasPairs}}, proofs.SpelledLemmas.{spelled-pairs}}
+use Rattle.nntp_pair.proofs.SpelledLemmas.{spelled-whole}
+use Rattle.nntp_article.specs.{Session.{Spool.{Spool}, Machine.{start}, Explains.{ExplainsUpTo, Explains}}, declared.session.profile.Profile.{Profile}}
 use Rattle.nntp_article.proofs.SessionLemmas.ClosingAnswers.{run-stays-open}
 
 answers_spelled : (profile : Profile) (S : Spool) (client server : List ℕ) (n : ℕ) (rest : List ℕ) (explained : ExplainsUpTo profile S client server n rest)

@@ -1,23 +1,15 @@
 -- The class of a bad answer: there is one, and octets that follow leave it where it is settled.
-use Rattle.std.proofs.Common.{◌≡◌, ℕ, ◌+◌, Bool, true, false, IsTrue, List, [], ◌∷◌, ◌++◌, length, Option, None, Some, inl, inr, refl, sym, ap, subst, ◌∙◌, arith, append_assoc, length-append, ◌⊎◌}
-use Rattle.std.proofs.lemmas.List.{append_cancel_left, append-nil}
-use Rattle.std.proofs.lemmas.Bool.{cases_Bool, true≢false}
-use Rattle.nntp_wire.specs.Answer.{Asked, Response, Spells}
-use Rattle.nntp_wire.specs.Frame.{HasFrame, frame_octets}
-use Rattle.nntp_wire.specs.Session.{prompts_of, Spelled}
-use Rattle.nntp_wire.proofs.SpellLemmas.{spelling-frame, one-frame}
-use Rattle.nntp_wire.proofs.SpellsDecided.{one-spelling, dec_spelling}
-use Rattle.nntp_wire.proofs.FramesDecided.{dec_frame, frame-longer}
-use Rattle.nntp_article.specs.Session.Spool.{Spool}
+use Rattle.std.proofs.Common.{◌≡◌, ℕ, ◌+◌, Bool, true, false, IsTrue, List, [], ◌∷◌, ◌++◌, length, Option, None, Some, inl, inr, refl, sym, ap, subst, ◌∙◌}
+use Rattle.std.proofs.{Common.{arith, append_assoc, length-append, ◌⊎◌}, lemmas.{List.{append_cancel_left, append-nil}, Bool.{cases_Bool, true≢false}}}
+use Rattle.nntp_wire.specs.{Answer.{Asked, Response, Spells}, Frame.{HasFrame, frame_octets}, Session.{prompts_of, Spelled}}
+use Rattle.nntp_wire.proofs.{SpellLemmas.{spelling-frame, one-frame}, SpellsDecided.{one-spelling, dec_spelling}, FramesDecided.{dec_frame, frame-longer}}
+use Rattle.nntp_article.specs.Session.{Spool.{Spool}, Machine.{Visible, State, Run, start, fits}, Explains.{ExplainsFirst, BadAmong}}
 use Rattle.nntp_article.specs.declared.session.profile.Profile.{Profile}
-use Rattle.nntp_article.specs.Session.Machine.{Visible, State, Run, start, fits}
-use Rattle.nntp_article.specs.Session.Explains.{ExplainsFirst, BadAmong}
-use Rattle.nntp_pair.specs.Pairing.{IsCut, IsMalformed}
+use Rattle.nntp_pair.specs.{Pairing.{IsCut, IsMalformed}, declared.class.Class.{Class, TheVariants.{Surplus, Cut, Malformed, OutOfPlace, Contradiction}}}
 use Rattle.nntp_pair.proofs.PairingLemmas.{some-stay}
-use Rattle.nntp_facts.proofs.Session.LaterPrompts.{prompts_joined, spelled_longer, run_longer, run_shorter, spelled_count, visible_longer, asked_longer, asked_count}
-use Rattle.nntp_pair.specs.declared.class.Class.{Class}
-use Rattle.nntp_pair.specs.declared.class.Class.TheVariants.{Surplus, Cut, Malformed, OutOfPlace, Contradiction}
-use Rattle.nntp_facts.specs.Classes.{visible_from, asked_next, AnswersFirst, BeginsWithAnswer, IsOpenClass, IsClass, left_visible, HasClass, IsClosedBefore, IsSettled}
+use Rattle.nntp_facts.proofs.Session.LaterPrompts.{prompts_joined, spelled_longer, run_longer, run_shorter, spelled_count, visible_longer, asked_longer}
+use Rattle.nntp_facts.{proofs.Session.LaterPrompts.{asked_count}, specs.Classes.{visible_from, asked_next, AnswersFirst, BeginsWithAnswer, IsOpenClass}}
+use Rattle.nntp_facts.specs.Classes.{IsClass, left_visible, HasClass, IsClosedBefore, IsSettled}
 
 -- ---- one answer more
 

@@ -1,31 +1,19 @@
 -- Two streams have one outcome; the ways in which a pairing leads to it.
-use Rattle.std.specs.Prelude.{⊤}
-use Rattle.std.proofs.Common.{◌≡◌, ℕ, ◌<◌, ◌^◌, ◌↔◌, false, IsTrue, List, [], ◌∷◌, ◌++◌, length, inl, inr, refl, sym, ap, subst, ◌∙◌, arith, length-append}
-use Rattle.std.proofs.lemmas.Bool.{true≢false}
-use Rattle.std.proofs.lemmas.List.{map-append}
+use Rattle.std.{specs.Prelude.{⊤}, proofs.Common.{◌≡◌, ℕ, ◌<◌, ◌^◌, ◌↔◌, false, IsTrue, List, [], ◌∷◌, ◌++◌, length, inl, inr, refl, sym, ap, subst, ◌∙◌}}
+use Rattle.std.proofs.{Common.{arith, length-append}, lemmas.{Bool.{true≢false}, List.{map-append}}}
 use Rattle.nntp_wire.specs.Session.{prompts_of}
 use Rattle.nntp_pair.specs.Pairing.{Paired, Unpaired, IsNext, AreNext, end, bad, IsPairing, responses_of, asked_of, asked_at, streams}
-use Rattle.nntp_pair.specs.declared.class.PairClass.{PairClass}
-use Rattle.nntp_pair.proofs.PairingLemmas.{one-run, AreNext-push}
-use Rattle.nntp_article.specs.declared.session.profile.Profile.{Profile}
-use Rattle.nntp_article.specs.Session.Spool.{Spool, IsSpool}
-use Rattle.nntp_article.specs.Session.Machine.{Run, start, fits, Visible}
+use Rattle.nntp_pair.{specs.{declared.class.{PairClass.{PairClass}, Class.TheVariants.{OutOfPlace}}, Classes.{class_of}}, proofs.PairingLemmas.{one-run}}
+use Rattle.nntp_pair.proofs.PairingLemmas.{AreNext-push}
+use Rattle.nntp_article.specs.{declared.session.profile.Profile.{Profile}, Session.{Spool.{Spool, IsSpool}, Machine.{Run, start, fits, Visible}}}
 use Rattle.nntp_article.specs.Session.Explains.{Explains, BadAmong}
-use Rattle.nntp_facts.specs.Given.{IsGiven, facts_of_session, size}
-use Rattle.nntp_facts.specs.Permits.{SomePermits}
-use Rattle.nntp_pair.specs.declared.class.Class.TheVariants.{OutOfPlace}
-use Rattle.nntp_facts.specs.Classes.{HasClass, class_by, visible_from}
-use Rattle.nntp_pair.specs.Classes.{class_of}
-use Rattle.nntp_facts.specs.Outcome.{Outcome, Yes, No, is_yes, IsOutcome, IsLeastExplanation}
-use Rattle.nntp_facts.proofs.Streams.OneClass.{before_bad, class_there, one_class}
-use Rattle.nntp_facts.proofs.Streams.ExplainedPairs.{by_pairs, by_all_pairs}
-use Rattle.nntp_facts.proofs.Given.GivenSpoolExists.{made_for, given_exists}
-use Rattle.nntp_facts.proofs.Given.OneGivenSpool.{given_once}
-use Rattle.nntp_facts.proofs.Given.GivenPermits.{stands, given_permits, given_is_least}
-use Rattle.nntp_facts.proofs.Session.OneMoreAnswer.{size_by_octets, facts_by_pairs, pairs_run, pairs_permitted, prompts_of_pairs, as_few}
-use Rattle.nntp_facts.proofs.Session.LaterPrompts.{visible_longer}
-use Rattle.nntp_facts.proofs.Streams.ExplainedOrBad.{explained_or_bad, explained_not_bad, bad_once}
-use Rattle.nntp_facts.proofs.Streams.PairedStreams.{explained_end, bad_end, bad_answer, answer_has_class, unfitting}
+use Rattle.nntp_facts.specs.{Given.{IsGiven, facts_of_session}, Inner.{Given.{size}, Permits.{SomePermits}, Outcome.{is_yes}}, Classes.{HasClass, class_by}}
+use Rattle.nntp_facts.{specs.{Classes.{visible_from}, Outcome.{Outcome, Yes, No, IsOutcome, IsLeastExplanation}}, proofs.Streams.OneClass.{before_bad}}
+use Rattle.nntp_facts.proofs.Streams.{OneClass.{class_there, one_class}, ExplainedPairs.{by_pairs, by_all_pairs}, ExplainedOrBad.{explained_or_bad}}
+use Rattle.nntp_facts.proofs.Streams.{ExplainedOrBad.{explained_not_bad, bad_once}, PairedStreams.{explained_end, bad_end, bad_answer, answer_has_class}}
+use Rattle.nntp_facts.proofs.{Streams.PairedStreams.{unfitting}, Given.{GivenSpoolExists.{made_for, given_exists}, OneGivenSpool.{given_once}}}
+use Rattle.nntp_facts.proofs.{Given.GivenPermits.{stands, given_permits, given_is_least}, Session.OneMoreAnswer.{size_by_octets, facts_by_pairs, pairs_run}}
+use Rattle.nntp_facts.proofs.Session.{OneMoreAnswer.{pairs_permitted, prompts_of_pairs, as_few}, LaterPrompts.{visible_longer}}
 
 -- ---- one outcome
 

@@ -1,24 +1,14 @@
 -- What the pairing of two streams, and whether some spool permits its responses, say of the streams.
 use Rattle.std.proofs.Common.{◌≡◌, ◌≢◌, ℕ, ◌+◌, Bool, true, false, List, [], ◌∷◌, ◌++◌, length, Option, Some, refl, sym, ap, subst, ◌∙◌, arith, length-append}
 use Rattle.std.proofs.lemmas.Bool.{true≢false}
-use Rattle.nntp_wire.specs.Octets.{crlf}
-use Rattle.nntp_wire.specs.Answer.{Asked, Spells}
-use Rattle.nntp_wire.specs.Frame.{framed, frame_octets}
-use Rattle.nntp_wire.specs.Session.{prompts_of}
-use Rattle.nntp_wire.proofs.SpellsDecided.{one-spelling}
+use Rattle.nntp_wire.{specs.{Octets.{crlf}, Answer.{Asked, Spells}, Frame.{framed, frame_octets}, Session.{prompts_of}}, proofs.SpellsDecided.{one-spelling}}
 use Rattle.nntp_pair.specs.Pairing.{Paired, Unpaired, IsNext, AreNext, end, bad, IsPairing, responses_of, asked_at, streams}
-use Rattle.nntp_pair.specs.declared.class.PairClass.{PairClass}
-use Rattle.nntp_pair.specs.declared.class.PairClass.TheVariants.{Surplus as surplus, Cut as cut, Malformed as malformed}
-use Rattle.nntp_article.specs.Session.Spool.{Spool, IsSpool}
+use Rattle.nntp_pair.specs.declared.class.{PairClass.{PairClass, TheVariants.{Surplus as surplus, Cut as cut, Malformed as malformed}}, Class.{Class}}
+use Rattle.nntp_pair.{specs.Classes.{class_of}, proofs.SpelledLemmas.{places-prompts, pairs-spelled}}
+use Rattle.nntp_article.specs.Session.{Spool.{Spool, IsSpool}, Machine.{Run, start, fits}, Explains.{ExplainsUpTo, Explains, ExplainsFirst, BadAmong}}
 use Rattle.nntp_article.specs.declared.session.profile.Profile.{Profile}
-use Rattle.nntp_article.specs.Session.Machine.{Run, start, fits}
-use Rattle.nntp_article.specs.Session.Explains.{ExplainsUpTo, Explains, ExplainsFirst, BadAmong}
-use Rattle.nntp_facts.specs.Permits.{SomePermits}
-use Rattle.nntp_pair.specs.declared.class.Class.{Class}
-use Rattle.nntp_facts.specs.Classes.{visible_from, asked_next, BeginsWithAnswer, IsOpenClass, IsClass, HasClass, left_visible, class_by}
-use Rattle.nntp_pair.specs.Classes.{class_of}
-use Rattle.nntp_facts.proofs.Streams.OneClass.{OneMore, one_more, run_open, run_fits, not_cut, not_malformed}
-use Rattle.nntp_pair.proofs.SpelledLemmas.{places-prompts, pairs-spelled}
+use Rattle.nntp_facts.specs.{Inner.Permits.{SomePermits}, Classes.{visible_from, asked_next, BeginsWithAnswer, IsOpenClass, IsClass, HasClass, left_visible}}
+use Rattle.nntp_facts.{specs.Classes.{class_by}, proofs.Streams.OneClass.{OneMore, one_more, run_open, run_fits, not_cut, not_malformed}}
 use Rattle.nntp_facts.proofs.Streams.ClassAtTheEnd.{first_asked, paired_up, count, has_class, end_has_class, explained_pairs}
 
 -- where the pairing comes to its end, who permits its responses explains both streams

@@ -1,27 +1,14 @@
 -- More facts behind those that stand together.
-use Rattle.nntp_wire.specs.declared.marks.Marks.{Marks}
-use Rattle.std.proofs.Common.{◌≡◌, ◌↔◌, true, not, IsTrue, List, [], ◌∷◌, ◌++◌, Option, None, Some, refl, sym, subst, ◌∙◌}
-use Rattle.std.specs.Prelude.{IfSome, IsFalse}
-use Rattle.std.specs.List.{list_any}
-use Rattle.std.specs.Option.{option_map_or, option_or}
-use Rattle.std.proofs.lemmas.Bool.{true≢false, and_parts, false_from_ne_true, not-true}
-use Rattle.std.proofs.lemmas.Grind.{flat_map-append}
-use Rattle.nntp_article.specs.Article.Parts.{Id}
-use Rattle.nntp_article.specs.Session.Spool.{Name}
-use Rattle.nntp_article.specs.Session.Machine.{Visible, is_same}
-use Rattle.nntp_said.specs.Asks.{Ask}
-use Rattle.nntp_said.specs.declared.position.Position.{Position}
-use Rattle.nntp_said.specs.Facts.{Fact, ThereIs, Asks, GroupsAre, facts_of}
-use Rattle.nntp_facts.specs.Given.{asks_in, asks_of, is_shown_group, shows_group, id_in, head_in, body_in}
-use Rattle.nntp_facts.specs.Together.{IsWellFormed, AsksStand, denies_group, number_in, shows_article, denies_article, Together, AgreeWithin, Join}
-use Rattle.nntp_facts.proofs.Members.{all_both, all_back}
-use Rattle.nntp_facts.proofs.Together.TwoListsOfFacts.{apart_both, apart_shown, apart_denied, give_one_both, give_same_of_both}
-use Rattle.nntp_wire.specs.Decided.{matches_name}
-use Rattle.nntp_wire.specs.Listing.{active_groups}
-use Rattle.nntp_wire.specs.Answer.{Asked, Response}
-use Rattle.nntp_article.specs.declared.session.profile.Profile.{Profile}
-use Rattle.nntp_said.proofs.Rows.{Row, row, nothing, no_group, no_article, active}
-use Rattle.std.proofs.Math.Bool.{or-false}
+use Rattle.nntp_wire.specs.{declared.marks.Marks.{Marks}, Decided.{matches_name}, Listing.{active_groups}, Answer.{Asked, Response}}
+use Rattle.std.proofs.{Common.{◌≡◌, ◌↔◌, true, not, IsTrue, List, [], ◌∷◌, ◌++◌, Option, None, Some, refl, sym, subst, ◌∙◌}, lemmas.Bool.{true≢false}}
+use Rattle.std.{proofs.{lemmas.{Bool.{and_parts, false_from_ne_true, not-true}, Grind.{flat_map-append}}, Math.Bool.{or-false}}, specs.Prelude.{IfSome}}
+use Rattle.std.specs.{Prelude.{IsFalse}, List.{list_any}, Option.{option_map_or, option_or}}
+use Rattle.nntp_article.specs.{Article.Parts.{Id}, Session.{Spool.{Name}, Machine.{Visible, is_same}}, declared.session.profile.Profile.{Profile}}
+use Rattle.nntp_said.{specs.{Asks.{Ask}, declared.position.Position.{Position}, Facts.{Fact, ThereIs, Asks, GroupsAre, facts_of}}, proofs.Rows.{Row, row}}
+use Rattle.nntp_said.proofs.Rows.{nothing, no_group, no_article, active}
+use Rattle.nntp_facts.specs.{Given.{asks_in, asks_of, is_shown_group, shows_group, id_in, head_in, body_in}, Inner.Together.{IsWellFormed, AsksStand, Together}}
+use Rattle.nntp_facts.{specs.{Inner.Together.{AgreeWithin, Join}, Together.{denies_group, number_in, shows_article, denies_article}}, proofs.Members.{all_both}}
+use Rattle.nntp_facts.proofs.{Members.{all_back}, Together.TwoListsOfFacts.{apart_both, apart_shown, apart_denied, give_one_both, give_same_of_both}}
 
 -- what both ask of a group
 pub asks_append : (name : Name) (facts more : List Fact) → asks_of name (facts ++ more) ≡ asks_of name facts ++ asks_of name more
@@ -43,11 +30,11 @@ together_more facts more t w = (
       ids = λ name n. give_same_of_both (id_in name n) facts more (h.ids name n);
       ids_once = λ name id. give_same_of_both (number_in name id) facts more (h.ids_once name id);
     };
-    articles = record {
-      articles = λ id. apart_shown (shows_article id) (denies_article id) facts more (h.articles id);
-      no_articles = λ id. apart_denied (shows_article id) (denies_article id) facts more (h.articles id);
-      heads = λ id. give_same_of_both (head_in id) facts more (h.heads id);
-      bodies = λ id. give_same_of_both (body_in id) facts more (h.bodies id);
+    articles = λ id. record {
+      shown = apart_shown (shows_article id) (denies_article id) facts more (h.articles id);
+      denied = apart_denied (shows_article id) (denies_article id) facts more (h.articles id);
+      head = give_same_of_both (head_in id) facts more (h.heads id);
+      body = give_same_of_both (body_in id) facts more (h.bodies id);
     };
   },
   λ j. record {
@@ -56,9 +43,9 @@ together_more facts more t w = (
     numbers = λ name. subst AsksStand (sym (asks_append name facts more)) (j.numbers name);
     ids = λ name n. give_one_both (id_in name n) facts more (t.ids name n) (w.ids name n) (j.ids.ids name n);
     ids_once = λ name id. give_one_both (number_in name id) facts more (t.ids_once name id) (w.ids_once name id) (j.ids.ids_once name id);
-    articles = λ id. apart_both (shows_article id) (denies_article id) facts more (t.articles id) (w.articles id) (j.articles.articles id) (j.articles.no_articles id);
-    heads = λ id. give_one_both (head_in id) facts more (t.heads id) (w.heads id) (j.articles.heads id);
-    bodies = λ id. give_one_both (body_in id) facts more (t.bodies id) (w.bodies id) (j.articles.bodies id);
+    articles = λ id. apart_both (shows_article id) (denies_article id) facts more (t.articles id) (w.articles id) (j.articles id).shown (j.articles id).denied;
+    heads = λ id. give_one_both (head_in id) facts more (t.heads id) (w.heads id) (j.articles id).head;
+    bodies = λ id. give_one_both (body_in id) facts more (t.bodies id) (w.bodies id) (j.articles id).body;
   },
 )
 

@@ -1,29 +1,17 @@
 -- What holds of a spool stands together.
-use Rattle.std.proofs.Common.{◌≡◌, ℕ, ◌↔◌, Bool, true, false, cond, ◌&&◌, ◌==◌, IsTrue, List, [], ◌∷◌, ◌++◌, map, Option, None, Some, is_some, IsSome, option_map, refl, sym, ap, subst, ◌∙◌}
-use Rattle.std.specs.Prelude.{IfSome, not}
-use Rattle.std.specs.List.{AllByRecursion, list_any}
-use Rattle.std.specs.Option.{option_map_or}
-use Rattle.std.specs.Cmp.Lexicographic.{same_text, nat_list_eq_equiv}
-use Rattle.std.specs.FinMap.{get}
-use Rattle.std.proofs.lemmas.Bool.{true≢false, and_parts, eqb-true, false_from_ne_true, not-true}
-use Rattle.std.proofs.lemmas.List.Elements.{recursion_from_All}
-use Rattle.nntp_article.specs.Article.Parts.{Line, Id, head_part, body_part}
-use Rattle.nntp_article.specs.Session.Spool.{Spool, Text, IsGroup, numbers, IsSpool, HasText, text_of, is_line, Name}
-use Rattle.nntp_article.specs.Session.Machine.{is_same}
-use Rattle.nntp_article.proofs.ArticleLemmas.HeadHasNoEmptyLine.{parts}
+use Rattle.std.proofs.Common.{◌≡◌, ℕ, ◌↔◌, Bool, true, false, cond, ◌&&◌, ◌==◌, IsTrue, List, [], ◌∷◌, ◌++◌, map, Option, None, Some, is_some, IsSome}
+use Rattle.std.proofs.{Common.{option_map, refl, sym, ap, subst, ◌∙◌}, lemmas.Bool.{true≢false, and_parts, eqb-true, false_from_ne_true, not-true}}
+use Rattle.std.{proofs.lemmas.List.Elements.{recursion_from_All}, specs.{Prelude.{IfSome, not}, List.{AllByRecursion, list_any}, Option.{option_map_or}}}
+use Rattle.std.specs.{Cmp.Lexicographic.{same_text, nat_list_eq_equiv}, FinMap.{get}}
+use Rattle.nntp_article.specs.{Article.Parts.{Line, Id, head_part, body_part}, Session.Spool.{Spool, Text, IsGroup, numbers, IsSpool, HasText, text_of}}
+use Rattle.nntp_article.{specs.Session.{Spool.{is_line, Name}, Machine.{is_same}}, proofs.ArticleLemmas.HeadHasNoEmptyLine.{parts}}
 use Rattle.nntp_said.specs.Facts.{Fact, Holds, ThereIs, ThereIsNo, IdAt, TextIs, NoArticle, GroupsAre}
-use Rattle.nntp_facts.specs.Given.{asks_of, shows_group, is_shown_group, first_given, id_in, id_shown, head_in, body_in}
-use Rattle.nntp_facts.specs.Together.{IsWellFormed, denies_group, number_in, shows_article, denies_article, GiveOne, Together}
-use Rattle.nntp_facts.proofs.Members.{In, all_at, all_front, all_back, all_both, all_from, any_in, found_in, in_map, from_map, contains_in, in_contains, first_found, first_there}
-use Rattle.nntp_facts.proofs.GivenNumbers.MetNumbersStand.{asks_stand}
-use Rattle.nntp_facts.proofs.GivenNumbers.AskedOfAGroup.{met_by_facts}
-use Rattle.nntp_wire.specs.Listing.{ActiveValue}
-use Rattle.nntp_wire.specs.Wildmat.{MatchesName}
-use Rattle.nntp_wire.specs.Decided.{matches_name}
-use Rattle.nntp_wire.proofs.DecidedLemmas.{matches_name-iff}
-use Rattle.nntp_wire.specs.Name.{IsGroupName}
-use Rattle.nntp_wire.specs.declared.command.What.{What}
-use Rattle.nntp_wire.specs.declared.command.What.TheVariants.{Article, Head, Body, Stat}
+use Rattle.nntp_facts.specs.{Given.{asks_of, shows_group, is_shown_group, first_given, id_in, id_shown, head_in, body_in}, Inner.Together.{IsWellFormed}}
+use Rattle.nntp_facts.{specs.{Inner.Together.{Together}, Together.{denies_group, number_in, shows_article, denies_article, GiveOne}}, proofs.Members.{In}}
+use Rattle.nntp_facts.proofs.Members.{all_at, all_front, all_back, all_both, all_from, any_in, found_in, in_map, from_map, contains_in, in_contains}
+use Rattle.nntp_facts.proofs.{Members.{first_found, first_there}, GivenNumbers.{MetNumbersStand.{asks_stand}, AskedOfAGroup.{met_by_facts}}}
+use Rattle.nntp_wire.specs.{Listing.{ActiveValue}, Wildmat.{MatchesName}, Decided.{matches_name}, Name.{IsGroupName}, declared.command.What.{What}}
+use Rattle.nntp_wire.{specs.declared.command.What.TheVariants.{Article, Head, Body, Stat}, proofs.DecidedLemmas.{matches_name-iff}}
 
 -- a text is the same as itself
 pub same_itself : (xs : List ℕ) → is_same xs xs ≡ true

@@ -1,14 +1,9 @@
 -- What two lists of facts show, deny and give.
 use Rattle.std.proofs.Common.{◌≡◌, Bool, true, false, ◌||◌, ◌&&◌, cond, IsTrue, List, [], ◌∷◌, ◌++◌, Option, None, Some, inl, inr, refl, sym, ap, ◌∙◌}
-use Rattle.std.specs.Prelude.{IsFalse, IfSome}
-use Rattle.std.specs.List.{AllByRecursion, list_any}
-use Rattle.std.specs.Option.{option_or}
-use Rattle.std.proofs.lemmas.Bool.{true≢false, or_left, or_right, or_cases, false_from_ne_true}
-use Rattle.std.proofs.lemmas.List.Folds.{list_any-append}
+use Rattle.std.{proofs.lemmas.{Bool.{true≢false, or_left, or_right, or_cases, false_from_ne_true}, List.Folds.{list_any-append}}, specs.Prelude.{IsFalse}}
+use Rattle.std.specs.{Prelude.{IfSome}, List.{AllByRecursion, list_any}, Option.{option_or}}
 use Rattle.nntp_said.specs.Facts.{Fact}
-use Rattle.nntp_facts.specs.Given.{first_given}
-use Rattle.nntp_facts.specs.Together.{GiveOne, GiveSame}
-use Rattle.nntp_facts.proofs.Members.{all_both, all_back, all_from, all_at}
+use Rattle.nntp_facts.{specs.{Given.{first_given}, Together.{GiveOne}, Inner.Together.{GiveSame}}, proofs.Members.{all_both, all_back, all_from, all_at}}
 
 -- ---- tests
 

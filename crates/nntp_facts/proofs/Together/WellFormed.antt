@@ -1,26 +1,14 @@
 -- What octets spell is well formed.
-use Rattle.nntp_wire.specs.declared.marks.Marks.{Marks}
-use Rattle.std.proofs.Common.{◌≡◌, ℕ, true, IsTrue, List, [], ◌∷◌, ◌++◌, ◌⊎◌, inl, inr, Option, None, Some, sym, ap, subst, ◌∙◌}
-use Rattle.std.specs.Prelude.{IfSome, ⊤}
-use Rattle.std.specs.List.{AllByRecursion}
-use Rattle.std.proofs.lemmas.Bool.{and_from}
-use Rattle.nntp_wire.specs.Octets.{crlf, is_clean, are_octets}
-use Rattle.nntp_wire.specs.Name.{IsGroupName, IsMessageId}
-use Rattle.nntp_wire.specs.Block.{stuffed, sent, dot_line, AreClean}
-use Rattle.nntp_wire.specs.Listing.{active_groups}
-use Rattle.nntp_wire.specs.Answer.{Asked, Response, group_is, numbers_are, sends, active_are, plain, Spells, SaysByLines}
-use Rattle.nntp_wire.specs.Answer.{SaysGroup, SaysNumbers, SaysArticle, SaysActive, SaysCapabilities, SaysCode, block_octets}
-use Rattle.nntp_wire.specs.Answer.{IsCleanBlock, kind_of}
-use Rattle.nntp_wire.proofs.AnswerLemmas.{says-ways}
-use Rattle.nntp_wire.proofs.OctetLemmas.{octets-parts, unstuffed-octets}
-use Rattle.nntp_article.specs.Session.Spool.{is_line}
-use Rattle.nntp_article.specs.Session.Machine.{Visible}
+use Rattle.nntp_wire.specs.{declared.marks.Marks.{Marks}, Octets.{crlf, is_clean}, Inner.Octets.{are_octets}, Name.{IsGroupName, IsMessageId}, Block.{stuffed}}
+use Rattle.nntp_wire.specs.{Block.{sent, dot_line, AreClean}, Listing.{active_groups}, Answer.{Asked, Response, group_is, numbers_are, sends, active_are}}
+use Rattle.nntp_wire.specs.Answer.{plain, Spells, SaysByLines, SaysGroup, SaysNumbers, SaysArticle, SaysActive, SaysCapabilities, SaysCode, block_octets}
+use Rattle.nntp_wire.{specs.Answer.{IsCleanBlock, kind_of}, proofs.{AnswerLemmas.{says-ways}, OctetLemmas.{octets-parts, unstuffed-octets}}}
 use Rattle.nntp_wire.proofs.ListingLemmas.{active_groups-named}
-use Rattle.nntp_said.specs.declared.position.Position.{Position}
-use Rattle.nntp_said.specs.Facts.{Fact, facts_of}
-use Rattle.nntp_facts.specs.Together.{IsWellFormed}
-use Rattle.nntp_article.specs.declared.session.profile.Profile.{Profile}
-use Rattle.nntp_said.proofs.Rows.{Row, row, nothing}
+use Rattle.std.proofs.{Common.{◌≡◌, ℕ, true, IsTrue, List, [], ◌∷◌, ◌++◌, ◌⊎◌, inl, inr, Option, None, Some, sym, ap, subst, ◌∙◌}, lemmas.Bool.{and_from}}
+use Rattle.std.specs.{Prelude.{IfSome, ⊤}, List.{AllByRecursion}}
+use Rattle.nntp_article.specs.{Session.{Spool.{is_line}, Machine.{Visible}}, declared.session.profile.Profile.{Profile}}
+use Rattle.nntp_said.{specs.{declared.position.Position.{Position}, Facts.{Fact, facts_of}}, proofs.Rows.{Row, row, nothing}}
+use Rattle.nntp_facts.specs.Inner.Together.{IsWellFormed}
 
 -- the lines of octets that send them are lines
 sent_lines : (lines : List (List ℕ)) → AreClean lines → are_octets (sent lines) ≡ true → AllByRecursion (λ line. IsTrue (is_line line)) lines

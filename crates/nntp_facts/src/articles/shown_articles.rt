@@ -2,8 +2,8 @@
 ghost use Rattle.std.specs.Prelude.{◌≡◌, option_map};
 ghost use Rattle.std.specs.Iterator.{YieldsFirst, item_count};
 ghost use Rattle.std.specs.Rc.{rc_str_bytes};
-ghost use Rattle.nntp_facts.specs.Readers.{articles_shown_in};
-ghost use Rattle.nntp_facts.specs.ArticleView.{entries_value};
+ghost use Rattle.nntp_facts.specs.Inner.Readers.{articles_shown_in};
+ghost use Rattle.nntp_facts.specs.Inner.ArticleView.{entries_value};
 
 use crate::articles::known::KnownArticle;
 use nntp_wire::OwnedBlock;
@@ -21,9 +21,9 @@ pub struct ShownArticle<'a, A: Allocator = Global> {
 
 impl<'a, A: Allocator> Model for ShownArticle<'a, A> {
     ghost use Rattle.std.specs.Rc.{rc_str_bytes};
-    ghost use Rattle.nntp_facts.specs.Readers.{ShownArticle as ArticleValue, shown_article};
-    ghost use Rattle.nntp_facts.specs.ReadersView.{coded_shown_article};
-    ghost use Rattle.nntp_facts.specs.ArticleView.{known_article};
+    ghost use Rattle.nntp_facts.specs.Inner.Readers.{ShownArticle as ArticleValue, shown_article};
+    ghost use Rattle.nntp_facts.specs.Inner.ReadersView.{coded_shown_article};
+    ghost use Rattle.nntp_facts.specs.Inner.ArticleView.{known_article};
 
     ghost Value = { ArticleValue };
 
@@ -72,9 +72,9 @@ pub struct ShownArticles<'a, A: Allocator = Global> {
 impl<'a, A: Allocator> Model for ShownArticles<'a, A> {
     ghost use Rattle.std.specs.Prelude.{List};
     ghost use Rattle.std.specs.Coded.{coded_list};
-    ghost use Rattle.nntp_facts.specs.Readers.{ShownArticle as ArticleValue, articles_shown_in};
-    ghost use Rattle.nntp_facts.specs.ReadersView.{coded_shown_article};
-    ghost use Rattle.nntp_facts.specs.ArticleView.{entries_value};
+    ghost use Rattle.nntp_facts.specs.Inner.Readers.{ShownArticle as ArticleValue, articles_shown_in};
+    ghost use Rattle.nntp_facts.specs.Inner.ReadersView.{coded_shown_article};
+    ghost use Rattle.nntp_facts.specs.Inner.ArticleView.{entries_value};
 
     ghost Value = { List ArticleValue };
 

@@ -1,5 +1,5 @@
 //! The groups that LIST ACTIVE lists, beside those that are kept (RFC 3977, section 7.6.3).
-ghost use Rattle.std.specs.Prelude.{◌≡◌, ℕ, ◌↔◌, ◌++◌, ◌∷◌, ◌&&◌, not, [], false, true, List, Option, IsTrue, IfOk, OnOk, MatchOption};
+ghost use Rattle.std.specs.Prelude.{◌≡◌, ℕ, ◌++◌, ◌∷◌, ◌&&◌, not, [], false, true, List, length, Option, IsTrue, IfOk, OnOk, MatchOption};
 ghost use Rattle.std.specs.Option.{option_map_or};
 ghost use Rattle.nntp_wire.specs.Decided.{matches_name};
 ghost use Rattle.std.specs.List.{list_any};
@@ -8,11 +8,12 @@ ghost use Rattle.nntp_wire.specs.Listing.{active_groups};
 ghost use Rattle.nntp_article.specs.Session.Spool.{Name};
 ghost use Rattle.nntp_article.specs.Session.Machine.{is_same};
 ghost use Rattle.nntp_said.specs.Facts.{Fact, GroupsAre};
-ghost use Rattle.nntp_facts.specs.Together.{Together, denies_group};
+ghost use Rattle.nntp_facts.specs.Inner.Together.{Together};
+ghost use Rattle.nntp_facts.specs.Together.{denies_group};
 ghost use Rattle.nntp_wire.specs.Name.{IsGroupName};
 ghost use Rattle.nntp_facts.specs.Given.{is_shown_group};
-ghost use Rattle.nntp_facts.specs.Kept.{AreKeptGroups};
-ghost use Rattle.nntp_facts.specs.ListedGroups.{is_listed, is_missing, NoneIsMissing};
+ghost use Rattle.nntp_facts.specs.Inner.Kept.{AreKeptGroups, asked_count};
+ghost use Rattle.nntp_facts.specs.Inner.ListedGroups.{is_listed, NoneIsMissing};
 
 use crate::group::Group;
 use crate::groups::Groups;
@@ -21,40 +22,42 @@ use nntp_wire::{Block, GroupName, Wildmat, is_asked, matches_if_given};
 use std::alloc::{AllocError, Allocator};
 use std::collections::{BTreeMap, BTreeSet};
 
-impl<A: Allocator + Copy> Groups<A> {
-    /// Tells whether each group that is shown and matches is listed, in the steps of the lines and
-    /// the shown groups times the logarithm of the lines.
-    pub(crate) fn are_listed(
-        &self,
-        wildmat: &Option<Wildmat<'_>>,
-        block: &Block<'_>,
-    ) -> Result<bool, AllocError>
-        ensures { IfOk result (λ are. (facts : List Fact) → AreKeptGroups facts self.now → Together facts → IsTrue are ↔ NoneIsMissing facts wildmat.now (active_groups block.now)) }
+impl<A: Allocator> Groups<A> {
+    /// Returns how many of the groups match.
+    pub(crate) fn count_asked(&self, wildmat: &Option<Wildmat<'_>>) -> usize
+        ensures { result ≡ asked_count self.now wildmat.now }
     {
-        let listed = names_of(self.alloc, block)?;
-        Ok(!some_is_missing(&self.groups, &listed, wildmat))
-    }
-
-    /// Adds that the listed groups are there, with their numbers between the marks. After an error the
-    /// value says nothing of use.
-    pub(crate) fn bound_all(&mut self, block: &Block<'_>) -> Result<(), AllocError>
-        ensures { OnOk result ((facts : List Fact) (wildmat : Option (List ℕ)) → AreKeptGroups facts self.old → AreKeptGroups (facts ++ GroupsAre wildmat (active_groups block.now) ∷ []) self.new) }
-    {
-        for group in block.groups() {
-            self.add(&GroupPart::of_bounds(&group), None)?;
-        }
-        Ok(())
+        self.groups
+            .iter()
+            .filter(|(name, _)| is_asked(wildmat, name.as_slice()))
+            .count()
     }
 }
 
 impl<A: Allocator + Copy> Groups<A> {
+    /// Adds that the listed groups are there, with their numbers between the marks, and returns how
+    /// many are listed. After an error the value says nothing of use.
+    pub(crate) fn bound_all(&mut self, block: &Block<'_>) -> Result<usize, AllocError>
+        ensures count { IfOk result (λ count. count ≡ length (active_groups block.now)) }
+        ensures groups { OnOk result ((facts : List Fact) (wildmat : Option (List ℕ)) → AreKeptGroups facts self.old
+            → AreKeptGroups (facts ++ GroupsAre wildmat (active_groups block.now) ∷ []) self.new) }
+    {
+        let mut count = 0;
+        for group in block.groups() {
+            self.add(&GroupPart::of_bounds(&group), None)?;
+            count += 1;
+        }
+        Ok(count)
+    }
+
     /// Returns the first group that is shown and matches, and isn't listed.
     pub(crate) fn unlisted<'s>(
         &'s self,
         wildmat: &Option<Wildmat<'_>>,
         block: &Block<'_>,
     ) -> Result<Option<GroupName<'s>>, AllocError>
-        ensures { IfOk result (λ name. (facts : List Fact) → AreKeptGroups facts self.now → Together facts → MatchOption name (NoneIsMissing facts wildmat.now (active_groups block.now))
+        ensures { IfOk result (λ name. (facts : List Fact) → AreKeptGroups facts self.now → Together facts
+            → MatchOption name (NoneIsMissing facts wildmat.now (active_groups block.now))
             (λ name. IsTrue (is_shown_group facts name) × IsTrue (denies_group name (GroupsAre wildmat.now (active_groups block.now))))) }
     {
         let listed = names_of(self.alloc, block)?;
@@ -88,8 +91,10 @@ fn group_unlisted<'s, A: Allocator>(
     wildmat: &Option<Wildmat<'_>>,
     name: &'s [u8],
 ) -> Option<GroupName<'s>>
-    ensures { MatchOption result (IsGroupName name.now → (option_map_or (λ w. matches_name w name.now) wildmat.now true && not (list_any (λ k. is_same k.now name.now) listed.now.keys)) ≡ false)
-        (λ group. (name.now ≡ group) × IsTrue (option_map_or (λ w. matches_name w group) wildmat.now true && not (list_any (λ k. is_same k.now group) listed.now.keys))) }
+    ensures { MatchOption result (IsGroupName name.now
+        → (option_map_or (λ w. matches_name w name.now) wildmat.now true && not (list_any (λ k. is_same k.now name.now) listed.now.keys)) ≡ false)
+        (λ group. (name.now ≡ group) × IsTrue (option_map_or (λ w. matches_name w group) wildmat.now true && not
+        (list_any (λ k. is_same k.now group) listed.now.keys))) }
 {
     let group = GroupName::parse(name)?;
     if is_unlisted(listed, wildmat, &group) {
@@ -111,34 +116,6 @@ fn names_of<'a, A: Allocator + Copy>(
         names.insert(group.name.as_slice())?;
     }
     Ok(names)
-}
-
-/// Tells whether one of the groups matches, and isn't listed.
-fn some_is_missing<A: Allocator>(
-    groups: &BTreeMap<Vec<u8, A>, Group<A>, A>,
-    listed: &BTreeSet<&[u8], A>,
-    wildmat: &Option<Wildmat<'_>>,
-) -> bool
-    ensures { result ≡ list_any (λ name. is_missing wildmat.now (list_any (λ k. is_same k.now name.items) listed.now.keys) name.items) (keys groups.now) }
-{
-    let mut names = groups.keys();
-    while let Some(name) = names.next() {
-        if is_missing(listed, wildmat, name.as_slice()) {
-            return true;
-        }
-    }
-    false
-}
-
-/// Tells whether the name is that of a group that matches, and isn't listed.
-fn is_missing<A: Allocator>(
-    listed: &BTreeSet<&[u8], A>,
-    wildmat: &Option<Wildmat<'_>>,
-    name: &[u8],
-) -> bool
-    ensures { result ≡ is_missing wildmat.now (list_any (λ k. is_same k.now name.now) listed.now.keys) name.now }
-{
-    is_asked(wildmat, name) && !is_one_of(listed, name)
 }
 
 /// Tells whether the group matches, and isn't listed.

@@ -1,12 +1,13 @@
 //! What an answer to LIST ACTIVE says beside all that was said before (RFC 3977, section 7.6.3).
-ghost use Rattle.std.specs.Prelude.{◌≡◌, ◌↔◌, ◌++◌, ◌∷◌, [], List, length, IsTrue, IfOk, OnOk};
+ghost use Rattle.std.specs.Prelude.{◌≡◌, ◌↔◌, ◌++◌, ◌∷◌, [], List, length, MatchOption, IsTrue, IfOk, OnOk};
 ghost use Rattle.std.specs.List.{AllByRecursion};
 ghost use Rattle.nntp_wire.specs.Listing.{active_groups};
-ghost use Rattle.nntp_wire.specs.View.{active_value};
+ghost use Rattle.nntp_wire.specs.Inner.View.{active_value};
 ghost use Rattle.nntp_said.specs.Facts.{Fact, GroupsAre};
-ghost use Rattle.nntp_facts.specs.Together.{IsWellFormed, Together, Join};
-ghost use Rattle.nntp_facts.specs.Kept.{IsKept, AreAdded};
-ghost use Rattle.nntp_facts.specs.ListedGroups.{MayList, LineJoins, NoneIsMissing};
+ghost use Rattle.nntp_facts.specs.Inner.Together.{IsWellFormed, Together, Join};
+ghost use Rattle.nntp_facts.specs.Given.{is_shown_group};
+ghost use Rattle.nntp_facts.specs.Inner.Kept.{IsKept, AreAdded, asked_count};
+ghost use Rattle.nntp_facts.specs.Inner.ListedGroups.{MayList, LineJoins, shown_lines};
 
 use crate::kept::Kept;
 use crate::saying::GroupPart;
@@ -21,10 +22,11 @@ impl<A: Allocator + Copy> Kept<A> {
         wildmat: &Option<Wildmat<'_>>,
         block: &Block<'_>,
     ) -> Result<bool, AllocError>
-        ensures { IfOk result (λ does. (facts : List Fact) → IsKept facts self.old → Together facts → AllByRecursion IsWellFormed (GroupsAre wildmat.now (active_groups block.now) ∷ [])
+        ensures { IfOk result (λ does. (facts : List Fact) → IsKept facts self.old → Together facts
+            → AllByRecursion IsWellFormed (GroupsAre wildmat.now (active_groups block.now) ∷ [])
             → MayList wildmat.now (active_groups block.now) → AreAdded facts (GroupsAre wildmat.now (active_groups block.now) ∷ []) self.old self.new does) }
     {
-        if !self.may_list_groups(wildmat, block)? {
+        if !self.may_list_groups(wildmat, block) {
             return Ok(false);
         }
         self.list_groups(wildmat, block)?;
@@ -32,36 +34,27 @@ impl<A: Allocator + Copy> Kept<A> {
     }
 
     /// Tells whether the groups that an answer lists as all that match stand together with all that
-    /// was said before.
-    fn may_list_groups(
-        &self,
-        wildmat: &Option<Wildmat<'_>>,
-        block: &Block<'_>,
-    ) -> Result<bool, AllocError>
-        ensures { IfOk result (λ may. (facts : List Fact) → IsKept facts self.now → Together facts → AllByRecursion IsWellFormed (GroupsAre wildmat.now (active_groups block.now) ∷ [])
-            → MayList wildmat.now (active_groups block.now) → IsTrue may ↔ Join facts (GroupsAre wildmat.now (active_groups block.now) ∷ [])) }
+    /// was said before. Each of them matches, and none is listed twice, so none that is shown is
+    /// missing where as many of them are shown as match.
+    fn may_list_groups(&self, wildmat: &Option<Wildmat<'_>>, block: &Block<'_>) -> bool
+        ensures { (facts : List Fact) → IsKept facts self.now → Together facts
+            → AllByRecursion IsWellFormed (GroupsAre wildmat.now (active_groups block.now) ∷ []) → MayList wildmat.now (active_groups block.now)
+            → IsTrue result ↔ Join facts (GroupsAre wildmat.now (active_groups block.now) ∷ []) }
     {
-        if !self.may_bound_all(block) {
-            return Ok(false);
+        match self.count_joining(block) {
+            Some(shown) => shown == self.count_asked(wildmat),
+            None => false,
         }
-        self.none_is_missing(wildmat, block)
     }
 
-    /// Tells whether each group that is shown and matches is listed, where each listed group may be
-    /// there. Groups that are listed again for a wildmat are among those that were listed for it
-    /// before, and so all of these if they are as many.
-    fn none_is_missing(
-        &self,
-        wildmat: &Option<Wildmat<'_>>,
-        block: &Block<'_>,
-    ) -> Result<bool, AllocError>
-        ensures { IfOk result (λ none. (facts : List Fact) → IsKept facts self.now → Together facts
-            → MayList wildmat.now (active_groups block.now) → AllByRecursion (LineJoins facts) (active_groups block.now)
-            → IsTrue none ↔ NoneIsMissing facts wildmat.now (active_groups block.now)) }
+    /// Returns how many groups are shown and match: as many as were listed for the wildmat, if that
+    /// was answered.
+    fn count_asked(&self, wildmat: &Option<Wildmat<'_>>) -> usize
+        ensures { (facts : List Fact) → IsKept facts self.now → Together facts → result ≡ asked_count self.now.groups wildmat.now }
     {
         match self.names.listed(wildmat) {
-            Some(count) => Ok(count_of(block) == count),
-            None => self.groups.are_listed(wildmat, block),
+            Some(count) => count,
+            None => self.groups.count_asked(wildmat),
         }
     }
 
@@ -72,39 +65,42 @@ impl<A: Allocator + Copy> Kept<A> {
         wildmat: &Option<Wildmat<'_>>,
         block: &Block<'_>,
     ) -> Result<(), AllocError>
-        ensures { OnOk result ((facts : List Fact) → IsKept facts self.old → MayList wildmat.now (active_groups block.now) → Join facts (GroupsAre wildmat.now (active_groups block.now) ∷ [])
+        ensures { OnOk result ((facts : List Fact) → IsKept facts self.old → MayList wildmat.now (active_groups block.now)
+            → Join facts (GroupsAre wildmat.now (active_groups block.now) ∷ [])
             → IsKept (facts ++ GroupsAre wildmat.now (active_groups block.now) ∷ []) self.new) }
     {
-        self.groups.bound_all(block)?;
-        self.names.list(self.alloc, wildmat, count_of(block))?;
+        let count = self.groups.bound_all(block)?;
+        self.names.list(self.alloc, wildmat, count)?;
         Ok(())
     }
 }
 
 impl<A: Allocator + Copy> Kept<A> {
-    /// Tells whether each listed group may be there, with its numbers between the marks.
-    fn may_bound_all(&self, block: &Block<'_>) -> bool
-        ensures { (facts : List Fact) → IsKept facts self.now → Together facts → IsTrue result ↔ AllByRecursion (LineJoins facts) (active_groups block.now) }
+    /// Returns how many of the listed groups are shown already, if each may be there, with its numbers
+    /// between the marks.
+    fn count_joining(&self, block: &Block<'_>) -> Option<usize>
+        ensures { (facts : List Fact) → IsKept facts self.now → Together facts → MatchOption result
+            (AllByRecursion (LineJoins facts) (active_groups block.now) → ⊥)
+            (λ shown. AllByRecursion (LineJoins facts) (active_groups block.now) × (shown ≡ length (shown_lines facts (active_groups block.now)))) }
     {
+        let mut shown = 0;
         for line in block.groups() {
-            if !self.may_bound(&line) {
-                return false;
+            let is_shown = self.groups.is_shown(line.name.as_slice());
+            if !self.may_bound(&line, is_shown) {
+                return None;
             }
+            shown += usize::from(is_shown);
         }
-        true
+        Some(shown)
     }
 
-    /// Tells whether a listed group may be there, with its numbers between the marks.
-    fn may_bound(&self, line: &ActiveLine<'_>) -> bool
-        ensures { (facts : List Fact) → IsKept facts self.now → Together facts → IsTrue result ↔ LineJoins facts (active_value line.now) }
+    /// Tells whether a listed group, which is shown already or isn't, may be there, with its numbers
+    /// between the marks.
+    fn may_bound(&self, line: &ActiveLine<'_>, is_shown: bool) -> bool
+        ensures { (facts : List Fact) → IsKept facts self.now → Together facts → is_shown ≡ is_shown_group facts (active_value line.now).name
+            → IsTrue result ↔ LineJoins facts (active_value line.now) }
     {
-        self.may_be(&line.name) && self.groups.joins(&GroupPart::of_bounds(line)).at_all()
+        (is_shown || !self.names.denies(&line.name))
+            && self.groups.joins(&GroupPart::of_bounds(line)).at_all()
     }
-}
-
-/// Returns how many groups the lines list.
-fn count_of(block: &Block<'_>) -> usize
-    ensures { result ≡ length (active_groups block.now) }
-{
-    block.groups().count()
 }

@@ -3,9 +3,9 @@ ghost use Rattle.std.specs.Prelude.{◌≡◌, ◌++◌, List, IfOk, option_map}
 ghost use Rattle.nntp_wire.specs.Limit.{greatest};
 ghost use Rattle.nntp_article.specs.declared.session.profile.Profile.{Profile};
 ghost use Rattle.nntp_said.specs.Facts.{Fact};
-ghost use Rattle.nntp_facts.specs.Points.{IsBeside, IsPointOf, NoneBefore};
-ghost use Rattle.nntp_facts.specs.PointView.{point_of};
-ghost use Rattle.nntp_facts.specs.StatementView.{statement_of, rank_of};
+ghost use Rattle.nntp_facts.specs.Inner.Points.{IsBeside, IsPointOf, NoneBefore};
+ghost use Rattle.nntp_facts.specs.Inner.PointView.{point_of};
+ghost use Rattle.nntp_facts.specs.Inner.StatementView.{statement_of, rank_of};
 
 mod articles;
 mod groups;
@@ -26,7 +26,8 @@ impl<A: Allocator + Copy> Kept<A> {
         kind: Kind,
         told: &Statement<'s>,
     ) -> Result<Option<Point<'s>>, AllocError>
-        ensures { IfOk result (λ point. (profile : Profile) (facts more : List Fact) → profile.limit ≡ greatest limit → IsBeside profile facts self.now (statement_of told.now) more
+        ensures { IfOk result (λ point. (profile : Profile) (facts more : List Fact) → profile.limit ≡ greatest limit
+            → IsBeside profile facts self.now (statement_of told.now) more
             → NoneBefore (facts ++ more) (rank_of kind) → IsPointOf (facts ++ more) (rank_of kind) (option_map point_of point)) }
     {
         match kind {

@@ -5,12 +5,13 @@ ghost use Rattle.nntp_wire.specs.Limit.{greatest};
 ghost use Rattle.nntp_article.specs.declared.session.profile.Profile.{Profile};
 ghost use Rattle.nntp_article.specs.Session.Limit.{profile_of};
 ghost use Rattle.nntp_said.specs.Facts.{Fact, group_of};
-ghost use Rattle.nntp_facts.specs.Together.{Together};
-ghost use Rattle.nntp_facts.specs.Conflict.{Placed as PlacedValue, a_group, the_group, told, FitsThere};
-ghost use Rattle.nntp_facts.specs.Kept.{IsKept, AreAdded};
-ghost use Rattle.nntp_facts.specs.Saying.{TellsThere};
-ghost use Rattle.nntp_facts.specs.SayingView.{saying_of};
-ghost use Rattle.nntp_facts.specs.Told.{AreTold, AreToldWith, PlacesTold};
+ghost use Rattle.nntp_facts.specs.Inner.Together.{Together};
+ghost use Rattle.nntp_facts.specs.Conflict.{Placed as PlacedValue, a_group, the_group, told};
+ghost use Rattle.nntp_facts.specs.Inner.Conflict.{FitsThere};
+ghost use Rattle.nntp_facts.specs.Inner.Kept.{IsKept, AreAdded};
+ghost use Rattle.nntp_facts.specs.Inner.Saying.{TellsThere};
+ghost use Rattle.nntp_facts.specs.Inner.SayingView.{saying_of};
+ghost use Rattle.nntp_facts.specs.Inner.Told.{AreTold, AreToldWith, PlacesTold};
 
 use crate::kept::Kept;
 use crate::numbers_part::NumbersPart;
@@ -56,7 +57,8 @@ impl<A: Allocator + Copy> Kept<A> {
         selected: Option<&GroupName<'_>>,
     ) -> Result<bool, AllocError>
         ensures { IfOk result (λ does. (profile : Profile) (facts more : List Fact) → profile.limit ≡ greatest limit → IsKept facts self.old → Together facts
-            → TellsThere (option_map (λ name. name.now) selected.entry) (saying_of saying.now) more → AreAdded facts (the_group profile (group_of more)) self.old self.new does) }
+            → TellsThere (option_map (λ name. name.now) selected.entry) (saying_of saying.now) more
+            → AreAdded facts (the_group profile (group_of more)) self.old self.new does) }
     {
         match saying.group_of(selected) {
             Some(name) => self.note_group(limit, name),
@@ -84,7 +86,8 @@ impl<A: Allocator + Copy> Kept<A> {
         place: usize,
     ) -> Result<bool, AllocError>
         ensures { IfOk result (λ does. (bad : PlacedValue) (places : List ℕ) → AllByRecursion (FitsThere (profile_of limit marks)) answers.now
-            → AreToldWith (profile_of limit marks) bad answers.now places self.old → PlacesTold (profile_of limit marks) bad answers.now (places ++ place ∷ []) self.new does) }
+            → AreToldWith (profile_of limit marks) bad answers.now places self.old
+            → PlacesTold (profile_of limit marks) bad answers.now (places ++ place ∷ []) self.new does) }
     {
         match answers.get(place) {
             Some(answer) => self.tell(limit, marks, answer),

@@ -6,13 +6,16 @@ ghost use Rattle.nntp_article.specs.declared.session.profile.Profile.{Profile};
 ghost use Rattle.nntp_article.specs.Session.Explains.{Explains};
 ghost use Rattle.nntp_pair.specs.declared.class.PairClass.{PairClass};
 ghost use Rattle.nntp_pair.specs.Pairing.{Paired, Unpaired, IsNext, Ending, end, bad, asked_of, responses_of, streams};
-ghost use Rattle.nntp_facts.specs.Given.{facts_of_session, size};
+ghost use Rattle.nntp_facts.specs.Given.{facts_of_session};
+ghost use Rattle.nntp_facts.specs.Inner.Given.{size};
 ghost use Rattle.nntp_pair.specs.declared.class.Class.{Class};
 ghost use Rattle.nntp_pair.specs.declared.class.Class.TheVariants.{OutOfPlace, Contradiction};
 ghost use Rattle.nntp_facts.specs.declared.noted.Noted.TheVariants.{Consistent, OutOfPlace as NotedOutOfPlace, Contradiction as NotedContradiction};
 ghost use Rattle.nntp_pair.specs.Classes.{class_of};
-ghost use Rattle.nntp_facts.specs.Conflict.{placed_of, placed_behind, FitsThere, SomeHas, told_with, below};
-ghost use Rattle.nntp_facts.specs.Noted.{FactsKept, HasNoted, IsNoted, IsDue, ArePermitted};
+ghost use Rattle.nntp_facts.specs.Conflict.{placed_of, placed_behind, SomeHas, told_with, below};
+ghost use Rattle.nntp_facts.specs.Inner.Conflict.{FitsThere};
+ghost use Rattle.nntp_facts.specs.Inner.Noted.{FactsKept, HasNoted, IsNoted, IsDue};
+ghost use Rattle.nntp_facts.specs.Noted.{ArePermitted};
 ghost use Rattle.nntp_facts.specs.Outcome.{No, IsOutcome};
 ghost use Rattle.nntp_facts.specs.Reading.{Judged, Accepted, Refused, accepted_of, accepted_with, IsJudged, AreJudged, class_behind, IsReading};
 
@@ -62,7 +65,8 @@ pub fn next_answer_is_judged()
     ensures index { (profile : Profile) (client server : List ℕ) (answers : List Judged) (left : Unpaired)
         → AreJudged (ArePermitted profile) [] (streams client server) answers left → left.index ≡ length answers }
     ensures due { (profile : Profile) (client server : List ℕ) (answers : List Judged) (left after : Unpaired) (pair : Paired) (facts : FactsKept)
-        → AreJudged (ArePermitted profile) [] (streams client server) answers left → HasNoted profile facts (accepted_of answers) → IsNext left pair after → IsDue facts pair }
+        → AreJudged (ArePermitted profile) [] (streams client server) answers left → HasNoted profile facts (accepted_of answers) → IsNext left pair after
+        → IsDue facts pair }
 {}
 
 /// What is noted of the next exchange says how it is judged, and of which class it is where it is
@@ -82,7 +86,8 @@ pub fn noted_exchange_is_judged()
 /// spool has with them. So [`Core::find`](crate::Core::find) may be called.
 pub fn noted_contradiction_conflicts()
     ensures next { (past : List Paired) (pair : Paired) → placed_of (past ++ pair ∷ []) ≡ placed_of past ++ placed_behind past pair ∷ [] }
-    ensures accepted { (profile : Profile) (facts : FactsKept) (past : List Paired) → HasNoted profile facts past → AllByRecursion (FitsThere profile) (placed_of past) }
+    ensures accepted { (profile : Profile) (facts : FactsKept) (past : List Paired) → HasNoted profile facts past
+        → AllByRecursion (FitsThere profile) (placed_of past) }
     ensures contradiction { (profile : Profile) (past : List Paired) (pair : Paired) (old new : FactsKept)
         → HasNoted profile old past → IsDue old pair → IsNoted profile past pair old new NotedContradiction
         → FitsThere profile (placed_behind past pair)

@@ -4,12 +4,14 @@ ghost use Rattle.std.specs.List.{AllByRecursion};
 ghost use Rattle.nntp_article.specs.Session.Spool.{Spool, IsSpool};
 ghost use Rattle.nntp_article.specs.declared.session.profile.Profile.{Profile};
 ghost use Rattle.nntp_said.specs.Facts.{Holds, facts_of};
-ghost use Rattle.nntp_facts.specs.Given.{IsGiven, HasAtLeast, facts_of_session, size};
-ghost use Rattle.nntp_facts.specs.Together.{Together, Join};
+ghost use Rattle.nntp_facts.specs.Given.{IsGiven, HasAtLeast, facts_of_session};
+ghost use Rattle.nntp_facts.specs.Inner.Given.{size};
+ghost use Rattle.nntp_facts.specs.Inner.Together.{Together, Join};
 ghost use Rattle.nntp_pair.specs.declared.class.Class.TheVariants.{OutOfPlace, Contradiction as Contradicts};
-ghost use Rattle.nntp_facts.specs.Noted.{FactsKept, exchanged, said_behind, ArePermitted, ArePermittedBehind, AreFew, HasNotedBehind, IsNotedBehind, begun, advanced, said_then, MayBeNoted};
-ghost use Rattle.nntp_facts.specs.Kept.{Kept, IsKept};
-ghost use Rattle.nntp_facts.specs.Saying.{IsSelectedShown};
+ghost use Rattle.nntp_facts.specs.Inner.Noted.{FactsKept, said_behind, AreFew, HasNotedBehind, IsNotedBehind, begun, advanced, said_then, MayBeNoted};
+ghost use Rattle.nntp_facts.specs.Noted.{exchanged, ArePermitted, ArePermittedBehind};
+ghost use Rattle.nntp_facts.specs.Inner.Kept.{Kept, IsKept};
+ghost use Rattle.nntp_facts.specs.Inner.Saying.{IsSelectedShown};
 ghost use Rattle.nntp_facts.specs.declared.noted.Noted.TheVariants.{Consistent, OutOfPlace as NotedOutOfPlace, Contradiction};
 ghost use Rattle.nntp_facts.specs.Classes.{visible_from, position_from, asked_next};
 ghost use Rattle.nntp_said.specs.declared.position.Position.TheVariants.{Nowhere};
@@ -17,9 +19,10 @@ ghost use Rattle.nntp_pair.specs.Pairing.{Paired, Unpaired, IsNext, asked_of, re
 ghost use Rattle.nntp_wire.specs.Answer.{Asked, Response};
 ghost use Rattle.nntp_wire.specs.declared.marks.Marks.{Marks};
 ghost use Rattle.nntp_article.specs.Session.Machine.{start, fits};
-ghost use Rattle.nntp_facts.specs.Answered.{Answered, PermitsEach, SomePermitsEach, FitEach, facts_of_all};
+ghost use Rattle.nntp_facts.specs.Answered.{Answered, PermitsEach, SomePermitsEach, facts_of_all};
+ghost use Rattle.nntp_facts.specs.Inner.Answered.{FitEach};
 ghost use Rattle.nntp_facts.specs.Reading.{Accepted, Refused, IsJudged, class_behind};
-ghost use Rattle.nntp_facts.specs.Permits.{SomePermits};
+ghost use Rattle.nntp_facts.specs.Inner.Permits.{SomePermits};
 
 /// A spool permits each of several sessions exactly if each fits and all that their answers say
 /// holds of it.
@@ -37,8 +40,10 @@ pub fn sessions_are_permitted_where_all_stands_together()
         → SomePermitsEach profile sessions ⊎ (SomePermitsEach profile sessions → ⊥) }
     ensures given_exists { (profile : Profile) (sessions : List Answered) → FitEach profile sessions → size (facts_of_all profile.marks sessions) < 2 ^ 210
         → (G : Spool) × IsGiven (facts_of_all profile.marks sessions) G }
-    ensures given_permits { (profile : Profile) (G : Spool) (sessions : List Answered) → FitEach profile sessions → Together (facts_of_all profile.marks sessions)
-        → size (facts_of_all profile.marks sessions) < 2 ^ 210 → IsGiven (facts_of_all profile.marks sessions) G → IsSpool profile.limit G × PermitsEach profile G sessions }
+    ensures given_permits { (profile : Profile) (G : Spool) (sessions : List Answered) → FitEach profile sessions
+        → Together (facts_of_all profile.marks sessions)
+        → size (facts_of_all profile.marks sessions) < 2 ^ 210 → IsGiven (facts_of_all profile.marks sessions) G → IsSpool profile.limit G
+        × PermitsEach profile G sessions }
     ensures given_is_least { (profile : Profile) (S G : Spool) (sessions : List Answered) → IsSpool profile.limit S → PermitsEach profile S sessions
         → IsGiven (facts_of_all profile.marks sessions) G → HasAtLeast (facts_of_all profile.marks sessions) G S }
 {}
@@ -74,23 +79,28 @@ pub fn exchange_is_noted_behind_others()
     ensures stands { (profile : Profile) (facts : FactsKept) (earlier : List (List Paired)) (past : List Paired) → HasNotedBehind profile facts earlier past
         → Together (said_behind profile.marks earlier past) × IsSelectedShown facts.visible (said_behind profile.marks earlier past) }
     ensures consistent { (profile : Profile) (facts : FactsKept) (earlier : List (List Paired)) (past : List Paired) (pair : Paired) (kept : Kept)
-        → HasNotedBehind profile facts earlier past → MayBeNoted profile facts pair → Join (said_behind profile.marks earlier past) (said_then profile facts pair)
+        → HasNotedBehind profile facts earlier past → MayBeNoted profile facts pair
+        → Join (said_behind profile.marks earlier past) (said_then profile facts pair)
         → IsKept (said_behind profile.marks earlier past ++ said_then profile facts pair) kept
         → IsNotedBehind profile earlier past pair facts (advanced facts pair kept) Consistent }
     ensures contradiction { (profile : Profile) (facts : FactsKept) (earlier : List (List Paired)) (past : List Paired) (pair : Paired)
         → HasNotedBehind profile facts earlier past → MayBeNoted profile facts pair
-        → (Join (said_behind profile.marks earlier past) (said_then profile facts pair) → ⊥) → IsNotedBehind profile earlier past pair facts facts Contradiction }
+        → (Join (said_behind profile.marks earlier past) (said_then profile facts pair) → ⊥)
+        → IsNotedBehind profile earlier past pair facts facts Contradiction }
 {}
 
 /// What is noted of the next exchange behind other sessions says how it is judged in the reading that
 /// goes on, and of which class it is where it is bad.
 pub fn noted_exchange_is_judged_behind_others()
     ensures consistent { (profile : Profile) (earlier : List (List Paired)) (past : List Paired) (pair : Paired) (old new : FactsKept) (before after : Unpaired)
-        → IsNotedBehind profile earlier past pair old new Consistent → IsNext before pair after → IsJudged (ArePermittedBehind profile earlier) past before (Accepted pair) after }
-    ensures contradiction { (profile : Profile) (earlier : List (List Paired)) (past : List Paired) (pair : Paired) (old new : FactsKept) (before after : Unpaired)
+        → IsNotedBehind profile earlier past pair old new Consistent → IsNext before pair after
+        → IsJudged (ArePermittedBehind profile earlier) past before (Accepted pair) after }
+    ensures contradiction { (profile : Profile) (earlier : List (List Paired)) (past : List Paired) (pair : Paired) (old new : FactsKept)
+        (before after : Unpaired)
         → HasNotedBehind profile old earlier past → IsNotedBehind profile earlier past pair old new Contradiction → IsNext before pair after
         → IsJudged (ArePermittedBehind profile earlier) past before (Refused pair) after × (class_behind profile past (Refused pair) ≡ Some Contradicts) }
-    ensures out_of_place { (profile : Profile) (earlier : List (List Paired)) (past : List Paired) (pair : Paired) (old new : FactsKept) (before after : Unpaired)
+    ensures out_of_place { (profile : Profile) (earlier : List (List Paired)) (past : List Paired) (pair : Paired) (old new : FactsKept)
+        (before after : Unpaired)
         → HasNotedBehind profile old earlier past → IsNotedBehind profile earlier past pair old new NotedOutOfPlace → IsNext before pair after
         → IsJudged (ArePermittedBehind profile earlier) past before (Refused pair) after × (class_behind profile past (Refused pair) ≡ Some OutOfPlace) }
 {}

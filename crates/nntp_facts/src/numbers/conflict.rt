@@ -2,11 +2,12 @@
 ghost use Rattle.std.specs.Prelude.{◌≡◌, ℕ, ◌^◌, ◌<◌, ◌-◌, ◌↔◌, ◌&&◌, List, Option, IsTrue, MatchOption};
 ghost use Rattle.nntp_said.specs.Asks.{Ask};
 ghost use Rattle.nntp_facts.specs.Given.{is_known, is_denied, demand, wants, IsOneMore, IsGivenNumber};
-ghost use Rattle.nntp_facts.specs.Part.{is_end_of};
+ghost use Rattle.nntp_facts.specs.Inner.Part.{is_end_of};
 ghost use Rattle.nntp_facts.specs.Together.{MeetsDemand};
-ghost use Rattle.nntp_facts.specs.Readers.{known_ends_in};
-ghost use Rattle.nntp_facts.specs.Summary.{IsSummary, AreBounded, has, PassSoMany, IsTally, is_met, DeniedAmong};
-ghost use Rattle.nntp_facts.specs.Conflict.{AreApart, AreTooMany};
+ghost use Rattle.nntp_facts.specs.Inner.Readers.{known_ends_in};
+ghost use Rattle.nntp_facts.specs.Inner.Summary.{IsSummary, AreBounded, has, PassSoMany, IsTally, is_met, DeniedAmong};
+ghost use Rattle.nntp_facts.specs.Inner.Conflict.{AreApart};
+ghost use Rattle.nntp_facts.specs.Conflict.{AreTooMany};
 
 use crate::demand::Demand;
 use crate::numbers::{Numbers, is_within};

@@ -1,10 +1,11 @@
 //! What an answer says by itself.
 ghost use Rattle.std.specs.Prelude.{◌≡◌};
 ghost use Rattle.nntp_article.specs.declared.session.profile.Profile.{Profile};
-ghost use Rattle.nntp_facts.specs.Saying.{numbers_listed};
-ghost use Rattle.nntp_facts.specs.Conflict.{FitsThere, told};
-ghost use Rattle.nntp_facts.specs.Points.{TellsAlone};
-ghost use Rattle.nntp_facts.specs.StatementView.{statement_of};
+ghost use Rattle.nntp_facts.specs.Inner.Saying.{numbers_listed};
+ghost use Rattle.nntp_facts.specs.Inner.Conflict.{FitsThere};
+ghost use Rattle.nntp_facts.specs.Conflict.{told};
+ghost use Rattle.nntp_facts.specs.Inner.Points.{TellsAlone};
+ghost use Rattle.nntp_facts.specs.Inner.StatementView.{statement_of};
 
 use crate::placed::Placed;
 use crate::saying::Saying;

@@ -1,5 +1,4 @@
-use Rattle.std.proofs.Common.{◌-◌}
-use Rattle.std.specs.Prelude.{⊤}
+use Rattle.std.{proofs.Common.{◌-◌}, specs.Prelude.{⊤}}
 use Rattle.nntp_little_memory.proofs.give_more.Given as goal
 
 abbrev pub invariant-loop-size : goal.invariant-loop-size

@@ -35,7 +35,9 @@ const TOLD: &[Told] = &[
                 b"200 hi\r\n411 no such group\r\n",
             ),
         ],
-        report: "session 2 second\nbad answer 1 Contradiction\ncommand GROUP misc.test\nanswer 411 no such group\nin no group\nabout group misc.test\nsays no group misc.test\nbecause answer 1 of session 1\ncommand GROUP misc.test\nanswer 211 1 5 5 misc.test\nin no group\nsays group misc.test\nend sessions=2 answers=4 bad=1 unanswered=0\n",
+        report: "session 2 second\nbad answer 1 Contradiction\ncommand GROUP misc.test\nanswer 411 no such group\nin no group\nabout group misc.test\n\
+            says no group misc.test\nbecause answer 1 of session 1\ncommand GROUP misc.test\nanswer 211 1 5 5 misc.test\nin no group\nsays group misc.test\n\
+            end sessions=2 answers=4 bad=1 unanswered=0\n",
     },
     // A low mark may be below that of another session, and not below one of its own; a name with LF; a line without an
     // answer in the first.
@@ -48,7 +50,8 @@ const TOLD: &[Told] = &[
                 b"200 hi\r\n211 2 4 6 g\r\n211 2 3 6 g\r\n",
             ),
         ],
-        report: "session 2 b\\x0a\nbad answer 2 OutOfPlace\ncommand GROUP g\nanswer 211 2 3 6 g\nin g since 1 at first\nwhy low 4\nbecause answer 1\ncommand GROUP g\nanswer 211 2 4 6 g\nin no group\nend sessions=2 answers=5 bad=1 unanswered=1\n",
+        report: "session 2 b\\x0a\nbad answer 2 OutOfPlace\ncommand GROUP g\nanswer 211 2 3 6 g\nin g since 1 at first\nwhy low 4\nbecause answer 1\n\
+            command GROUP g\nanswer 211 2 4 6 g\nin no group\nend sessions=2 answers=5 bad=1 unanswered=1\n",
     },
     // A session without a name whose greeting is bad, and a good one behind it.
     Told {
@@ -56,7 +59,8 @@ const TOLD: &[Told] = &[
             (b"", b"", b"500 no\r\n"),
             (b"x", b"QUIT\r\n", b"200 hi\r\n205 bye\r\n"),
         ],
-        report: "session 1\nbad answer 0 OutOfPlace\nno command\nanswer 500 no\nin no group\nwhy code 500 allowed 200 201 400 502\nend sessions=2 answers=3 bad=1 unanswered=0\n",
+        report: "session 1\nbad answer 0 OutOfPlace\nno command\nanswer 500 no\nin no group\nwhy code 500 allowed 200 201 400 502\n\
+            end sessions=2 answers=3 bad=1 unanswered=0\n",
     },
 ];
 

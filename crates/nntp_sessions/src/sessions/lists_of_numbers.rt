@@ -131,7 +131,8 @@ pub(crate) const SESSIONS: [Session; 15] = [
         choice: NARROW_LENIENT,
         verdict: "consistent answers=3 groups=1 numbers=2 articles=2\n",
         given: (
-            "spool 1\ngroup g 2\n2 <a@b>\n4 <w0@invented.invalid>\narticle <a@b> 1 0\n|Message-ID: <a@b>\narticle <w0@invented.invalid> 1 0\n|Message-ID: <w0@invented.invalid>\nend\n",
+            "spool 1\ngroup g 2\n2 <a@b>\n4 <w0@invented.invalid>\narticle <a@b> 1 0\n|Message-ID: <a@b>\narticle <w0@invented.invalid> 1 0\n\
+            |Message-ID: <w0@invented.invalid>\nend\n",
             Verified::Permits { answers: 3 },
         ),
         others: &[],
@@ -143,7 +144,8 @@ pub(crate) const SESSIONS: [Session; 15] = [
         choice: NARROW_LENIENT,
         verdict: "consistent answers=3 groups=2 numbers=2 articles=2\n",
         given: (
-            "spool 1\ngroup a 1\n7 <w0@invented.invalid>\ngroup b 1\n3 <w1@invented.invalid>\narticle <w0@invented.invalid> 1 0\n|Message-ID: <w0@invented.invalid>\narticle <w1@invented.invalid> 1 0\n|Message-ID: <w1@invented.invalid>\nend\n",
+            "spool 1\ngroup a 1\n7 <w0@invented.invalid>\ngroup b 1\n3 <w1@invented.invalid>\narticle <w0@invented.invalid> 1 0\n\
+            |Message-ID: <w0@invented.invalid>\narticle <w1@invented.invalid> 1 0\n|Message-ID: <w1@invented.invalid>\nend\n",
             Verified::Permits { answers: 3 },
         ),
         others: &[],

@@ -123,7 +123,8 @@ pub(crate) const SESSIONS: [Session; 25] = [
         choice: NARROW_LENIENT,
         verdict: "consistent answers=4 groups=1 numbers=2 articles=2\n",
         given: (
-            "spool 1\ngroup g 2\n1 <w0@invented.invalid>\n3 <a@b>\narticle <a@b> 1 0\n|Message-ID: <a@b>\narticle <w0@invented.invalid> 1 0\n|Message-ID: <w0@invented.invalid>\nend\n",
+            "spool 1\ngroup g 2\n1 <w0@invented.invalid>\n3 <a@b>\narticle <a@b> 1 0\n|Message-ID: <a@b>\narticle <w0@invented.invalid> 1 0\n\
+            |Message-ID: <w0@invented.invalid>\nend\n",
             Verified::Permits { answers: 4 },
         ),
         others: &[],
@@ -183,7 +184,8 @@ pub(crate) const SESSIONS: [Session; 25] = [
         choice: NARROW_LENIENT,
         verdict: "consistent answers=7 groups=1 numbers=2 articles=2\n",
         given: (
-            "spool 1\ngroup g 2\n5 <w0@invented.invalid>\n6 <b@x>\narticle <b@x> 1 0\n|Message-ID: <b@x>\narticle <w0@invented.invalid> 1 0\n|Message-ID: <w0@invented.invalid>\nend\n",
+            "spool 1\ngroup g 2\n5 <w0@invented.invalid>\n6 <b@x>\narticle <b@x> 1 0\n|Message-ID: <b@x>\narticle <w0@invented.invalid> 1 0\n\
+            |Message-ID: <w0@invented.invalid>\nend\n",
             Verified::Permits { answers: 7 },
         ),
         others: &[],

@@ -9,11 +9,13 @@ use nntp_spool::Verified;
 
 /// The numbers 1 and 5, each with an invented id, and 4 between them.
 const BOTH_MARKS: &str =
-    "spool 1\ngroup g 3\n1 <w0@invented.invalid>\n4 <b@x>\n5 <w1@invented.invalid>\narticle <b@x> 1 0\n|Message-ID: <b@x>\narticle <w0@invented.invalid> 1 0\n|Message-ID: <w0@invented.invalid>\narticle <w1@invented.invalid> 1 0\n|Message-ID: <w1@invented.invalid>\nend\n";
+    "spool 1\ngroup g 3\n1 <w0@invented.invalid>\n4 <b@x>\n5 <w1@invented.invalid>\narticle <b@x> 1 0\n|Message-ID: <b@x>\narticle <w0@invented.invalid> 1 0\n\
+    |Message-ID: <w0@invented.invalid>\narticle <w1@invented.invalid> 1 0\n|Message-ID: <w1@invented.invalid>\nend\n";
 
 /// The same numbers, and the first of the invented ids isn't used.
 const BOTH_MARKS_WITHOUT_W0: &str =
-    "spool 1\ngroup g 3\n1 <w1@invented.invalid>\n4 <b@x>\n5 <w2@invented.invalid>\narticle <b@x> 1 0\n|Message-ID: <b@x>\narticle <w1@invented.invalid> 1 0\n|Message-ID: <w1@invented.invalid>\narticle <w2@invented.invalid> 1 0\n|Message-ID: <w2@invented.invalid>\nend\n";
+    "spool 1\ngroup g 3\n1 <w1@invented.invalid>\n4 <b@x>\n5 <w2@invented.invalid>\narticle <b@x> 1 0\n|Message-ID: <b@x>\narticle <w1@invented.invalid> 1 0\n\
+    |Message-ID: <w1@invented.invalid>\narticle <w2@invented.invalid> 1 0\n|Message-ID: <w2@invented.invalid>\nend\n";
 
 /// An invented id at 5.
 const FIVE_INVENTED: &str =

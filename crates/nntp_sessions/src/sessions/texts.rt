@@ -12,27 +12,33 @@ pub(crate) const ONE_INVENTED: &str =
 
 /// An invented id at 1, and one that was shown at 4.
 pub(crate) const TWO_NUMBERS: &str =
-    "spool 1\ngroup g 2\n1 <w0@invented.invalid>\n4 <b@x>\narticle <b@x> 1 0\n|Message-ID: <b@x>\narticle <w0@invented.invalid> 1 0\n|Message-ID: <w0@invented.invalid>\nend\n";
+    "spool 1\ngroup g 2\n1 <w0@invented.invalid>\n4 <b@x>\narticle <b@x> 1 0\n|Message-ID: <b@x>\narticle <w0@invented.invalid> 1 0\n\
+    |Message-ID: <w0@invented.invalid>\nend\n";
 
 /// The first of both numbers is 2.
 pub(crate) const FROM_TWO_ON: &str =
-    "spool 1\ngroup g 2\n2 <w0@invented.invalid>\n4 <b@x>\narticle <b@x> 1 0\n|Message-ID: <b@x>\narticle <w0@invented.invalid> 1 0\n|Message-ID: <w0@invented.invalid>\nend\n";
+    "spool 1\ngroup g 2\n2 <w0@invented.invalid>\n4 <b@x>\narticle <b@x> 1 0\n|Message-ID: <b@x>\narticle <w0@invented.invalid> 1 0\n\
+    |Message-ID: <w0@invented.invalid>\nend\n";
 
 /// The first of both numbers is 3.
 pub(crate) const FROM_THREE_ON: &str =
-    "spool 1\ngroup g 2\n3 <w0@invented.invalid>\n4 <b@x>\narticle <b@x> 1 0\n|Message-ID: <b@x>\narticle <w0@invented.invalid> 1 0\n|Message-ID: <w0@invented.invalid>\nend\n";
+    "spool 1\ngroup g 2\n3 <w0@invented.invalid>\n4 <b@x>\narticle <b@x> 1 0\n|Message-ID: <b@x>\narticle <w0@invented.invalid> 1 0\n\
+    |Message-ID: <w0@invented.invalid>\nend\n";
 
 /// Another id at 4.
 pub(crate) const OTHER_ID: &str =
-    "spool 1\ngroup g 2\n1 <w0@invented.invalid>\n4 <c@x>\narticle <c@x> 1 0\n|Message-ID: <c@x>\narticle <w0@invented.invalid> 1 0\n|Message-ID: <w0@invented.invalid>\nend\n";
+    "spool 1\ngroup g 2\n1 <w0@invented.invalid>\n4 <c@x>\narticle <c@x> 1 0\n|Message-ID: <c@x>\narticle <w0@invented.invalid> 1 0\n\
+    |Message-ID: <w0@invented.invalid>\nend\n";
 
 /// The second id that may be invented.
 pub(crate) const SECOND_INVENTED: &str =
-    "spool 1\ngroup g 2\n1 <w1@invented.invalid>\n4 <b@x>\narticle <b@x> 1 0\n|Message-ID: <b@x>\narticle <w1@invented.invalid> 1 0\n|Message-ID: <w1@invented.invalid>\nend\n";
+    "spool 1\ngroup g 2\n1 <w1@invented.invalid>\n4 <b@x>\narticle <b@x> 1 0\n|Message-ID: <b@x>\narticle <w1@invented.invalid> 1 0\n\
+    |Message-ID: <w1@invented.invalid>\nend\n";
 
 /// The numbers 2 and 4, each with an invented id.
 pub(crate) const BOTH_INVENTED: &str =
-    "spool 1\ngroup g 2\n2 <w0@invented.invalid>\n4 <w1@invented.invalid>\narticle <w0@invented.invalid> 1 0\n|Message-ID: <w0@invented.invalid>\narticle <w1@invented.invalid> 1 0\n|Message-ID: <w1@invented.invalid>\nend\n";
+    "spool 1\ngroup g 2\n2 <w0@invented.invalid>\n4 <w1@invented.invalid>\narticle <w0@invented.invalid> 1 0\n|Message-ID: <w0@invented.invalid>\n\
+    article <w1@invented.invalid> 1 0\n|Message-ID: <w1@invented.invalid>\nend\n";
 
 /// The numbers 2 and 4, each with an id that was shown.
 pub(crate) const TWO_AND_FOUR: &str =

@@ -16,11 +16,13 @@ const ABOVE_31_BITS: &str =
 
 /// The same number with an invented id.
 const ABOVE_31_BITS_INVENTED: &str =
-    "spool 2\nlimit 9999999999999999\ngroup g 1\n2147483648 <w0@invented.invalid>\narticle <w0@invented.invalid> 1 0\n|Message-ID: <w0@invented.invalid>\nend\n";
+    "spool 2\nlimit 9999999999999999\ngroup g 1\n2147483648 <w0@invented.invalid>\narticle <w0@invented.invalid> 1 0\n|Message-ID: <w0@invented.invalid>\n\
+    end\n";
 
 /// The greatest number of 31 bits, and the next one.
 const ABOUT_31_BITS: &str =
-    "spool 2\nlimit 9999999999999999\ngroup g 2\n2147483647 <a@b>\n2147483648 <w0@invented.invalid>\narticle <a@b> 1 0\n|Message-ID: <a@b>\narticle <w0@invented.invalid> 1 0\n|Message-ID: <w0@invented.invalid>\nend\n";
+    "spool 2\nlimit 9999999999999999\ngroup g 2\n2147483647 <a@b>\n2147483648 <w0@invented.invalid>\narticle <a@b> 1 0\n|Message-ID: <a@b>\n\
+    article <w0@invented.invalid> 1 0\n|Message-ID: <w0@invented.invalid>\nend\n";
 
 /// The greatest number of 16 digits.
 const GREATEST_WIDE: &str =
@@ -28,15 +30,19 @@ const GREATEST_WIDE: &str =
 
 /// The same number and the one before it.
 const GREATEST_TWO: &str =
-    "spool 2\nlimit 9999999999999999\ngroup g 2\n9999999999999998 <a@b>\n9999999999999999 <m@x>\narticle <a@b> 1 0\n|Message-ID: <a@b>\narticle <m@x> 1 0\n|Message-ID: <m@x>\nend\n";
+    "spool 2\nlimit 9999999999999999\ngroup g 2\n9999999999999998 <a@b>\n9999999999999999 <m@x>\narticle <a@b> 1 0\n|Message-ID: <a@b>\narticle <m@x> 1 0\n\
+    |Message-ID: <m@x>\nend\n";
 
 /// The same number and one of 32 bits.
 const TWO_WIDE: &str =
-    "spool 2\nlimit 9999999999999999\ngroup g 2\n2147483648 <w0@invented.invalid>\n9999999999999999 <w1@invented.invalid>\narticle <w0@invented.invalid> 1 0\n|Message-ID: <w0@invented.invalid>\narticle <w1@invented.invalid> 1 0\n|Message-ID: <w1@invented.invalid>\nend\n";
+    "spool 2\nlimit 9999999999999999\ngroup g 2\n2147483648 <w0@invented.invalid>\n9999999999999999 <w1@invented.invalid>\narticle <w0@invented.invalid> 1 0\n\
+    |Message-ID: <w0@invented.invalid>\narticle <w1@invented.invalid> 1 0\n|Message-ID: <w1@invented.invalid>\nend\n";
 
 /// The least and the greatest number, each with an invented id, and 4 between them.
 const BOTH_MARKS_WIDE: &str =
-    "spool 2\nlimit 9999999999999999\ngroup g 3\n1 <w0@invented.invalid>\n4 <b@x>\n9999999999999999 <w1@invented.invalid>\narticle <b@x> 1 0\n|Message-ID: <b@x>\narticle <w0@invented.invalid> 1 0\n|Message-ID: <w0@invented.invalid>\narticle <w1@invented.invalid> 1 0\n|Message-ID: <w1@invented.invalid>\nend\n";
+    "spool 2\nlimit 9999999999999999\ngroup g 3\n1 <w0@invented.invalid>\n4 <b@x>\n9999999999999999 <w1@invented.invalid>\narticle <b@x> 1 0\n\
+    |Message-ID: <b@x>\narticle <w0@invented.invalid> 1 0\n|Message-ID: <w0@invented.invalid>\narticle <w1@invented.invalid> 1 0\n\
+    |Message-ID: <w1@invented.invalid>\nend\n";
 
 pub(crate) const SESSIONS: [Session; 15] = [
     Session {
@@ -93,7 +99,8 @@ pub(crate) const SESSIONS: [Session; 15] = [
     Session {
         name: "steps about the greatest number of 16 digits",
         client: "GROUP g\r\nSTAT 9999999999999998\r\nNEXT\r\nLAST\r\nSTAT 9999999999999997\r\n",
-        server: "200 hi\r\n211 2 9999999999999997 9999999999999999 g\r\n223 9999999999999998 <a@b>\r\n223 9999999999999999 <m@x>\r\n223 9999999999999998 <a@b>\r\n423 no\r\n",
+        server: "200 hi\r\n211 2 9999999999999997 9999999999999999 g\r\n223 9999999999999998 <a@b>\r\n223 9999999999999999 <m@x>\r\n\
+            223 9999999999999998 <a@b>\r\n423 no\r\n",
         choice: WIDE_LENIENT,
         verdict: "consistent answers=6 groups=1 numbers=2 articles=2\n",
         given: (GREATEST_TWO, Verified::Permits { answers: 6 }),

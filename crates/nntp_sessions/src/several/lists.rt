@@ -95,7 +95,8 @@ pub(crate) const LISTS: [SessionList; 16] = [
             ("STAT <w0@invented.invalid>\r\n", "200 hi\r\n430 no\r\n"),
         ],
         verdict: "consistent answers=3,3,2\n",
-        given: "spool 1\ngroup g 2\n2 <w1@invented.invalid>\n4 <b@x>\narticle <b@x> 1 0\n|Message-ID: <b@x>\narticle <w1@invented.invalid> 1 0\n|Message-ID: <w1@invented.invalid>\nend\n",
+        given: "spool 1\ngroup g 2\n2 <w1@invented.invalid>\n4 <b@x>\narticle <b@x> 1 0\n|Message-ID: <b@x>\narticle <w1@invented.invalid> 1 0\n\
+            |Message-ID: <w1@invented.invalid>\nend\n",
         verified: "permits answers=3,3,2\n",
     },
     SessionList {

@@ -128,7 +128,8 @@ pub(crate) const PAIRS: [SessionPair; 11] = [
             client: "LISTGROUP g 1-3\r\n",
             server: "200 hi\r\n211 3 1 5 g\r\n2\r\n3\r\n.\r\n",
             given: (
-                "spool 1\ngroup g 2\n2 <w0@invented.invalid>\n3 <w1@invented.invalid>\narticle <w0@invented.invalid> 1 0\n|Message-ID: <w0@invented.invalid>\narticle <w1@invented.invalid> 1 0\n|Message-ID: <w1@invented.invalid>\nend\n",
+                "spool 1\ngroup g 2\n2 <w0@invented.invalid>\n3 <w1@invented.invalid>\narticle <w0@invented.invalid> 1 0\n|Message-ID: <w0@invented.invalid>\n\
+                article <w1@invented.invalid> 1 0\n|Message-ID: <w1@invented.invalid>\nend\n",
                 2,
             ),
             behind: (1, "LISTGROUP g 1-3", "211 3 1 5 g"),

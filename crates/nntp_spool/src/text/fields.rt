@@ -1,9 +1,10 @@
 //! The lines of a text and their fields.
 ghost use Rattle.std.specs.Prelude.{◌≡◌, ◌≤◌, ◌^◌, ◌∷◌, [], Some, None, true, option_map, option_copied, MatchOption, if◌then◌else◌};
-ghost use Rattle.nntp_spool.specs.Reading.{Gives, line_at};
+ghost use Rattle.nntp_spool.specs.Inner.Reading.{Gives};
+ghost use Rattle.nntp_spool.specs.Reading.{line_at};
 ghost use Rattle.nntp_spool.specs.Fields.{fields_of, are_digits, is_decimal, is_count, value_of, opening_of, number_and_id, unbarred};
 ghost use Rattle.nntp_article.specs.Session.Machine.{is_article_number};
-ghost use Rattle.nntp_spool.specs.ReadingView.{place_shown, opening_shown, number_line_shown, words_from};
+ghost use Rattle.nntp_spool.specs.Inner.ReadingView.{place_shown, opening_shown, number_line_shown, words_from};
 
 use crate::text::place::{NumberLine, Opening, Place};
 use crate::text::read_fault::{Kind, ReadError, ReadFault};

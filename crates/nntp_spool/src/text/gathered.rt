@@ -4,7 +4,7 @@ ghost use Rattle.std.specs.Rc.{rc_str_bytes};
 ghost use Rattle.std.specs.String.{string_bytes};
 ghost use Rattle.nntp_spool.specs.Ascending.{is_last};
 ghost use Rattle.nntp_spool.specs.Content.{with_group, with_article, no_spool};
-ghost use Rattle.nntp_spool.specs.ArticleLines.{text_stored, HasLineCount};
+ghost use Rattle.nntp_spool.specs.Inner.ArticleLines.{text_stored, HasLineCount};
 
 use crate::value::article::StoredArticle;
 use crate::value::articles::Articles;
@@ -28,13 +28,13 @@ pub(crate) struct Gathered<A: Allocator, T: Allocator> {
 
 impl<A: Allocator, T: Allocator> Model for Gathered<A, T> {
     ghost use Rattle.nntp_article.specs.Session.Spool.{Spool as SpoolValue};
-    ghost use Rattle.nntp_spool.specs.Codes.{coded_spool};
+    ghost use Rattle.nntp_spool.specs.Inner.Codes.{coded_spool};
 
     ghost Value = { SpoolValue };
 
     ghost coded = { coded_spool };
 
-    ghost use Rattle.nntp_spool.specs.ContentView.{spool_stored, IsInOrder};
+    ghost use Rattle.nntp_spool.specs.Inner.ContentView.{spool_stored, IsInOrder};
 
     ghost view = { λ a. spool_stored a.groups.items a.articles };
 

@@ -1,12 +1,13 @@
 //! The parts of a spool's text, read line by line.
 ghost use Rattle.std.specs.Prelude.{◌≡◌, false, IfOk, IfErr};
-ghost use Rattle.nntp_spool.specs.Reading.{Gives, barred_line_at, barred_lines_at, number_in, number_at, numbers_at, group_at};
+ghost use Rattle.nntp_spool.specs.Inner.Reading.{Gives};
+ghost use Rattle.nntp_spool.specs.Reading.{barred_line_at, barred_lines_at, number_in, number_at, numbers_at, group_at};
 ghost use Rattle.nntp_spool.specs.Reading.{article_at, item_at, items_at, end_at, content_at, wide_at, limit_at, spool_at};
-ghost use Rattle.nntp_spool.specs.ReadingView.{place_shown, turn_shown};
+ghost use Rattle.nntp_spool.specs.Inner.ReadingView.{place_shown, turn_shown};
 ghost use Rattle.nntp_spool.specs.Content.{no_spool};
 ghost use Rattle.nntp_spool.specs.Limited.{LimitedSpool, IsWithinLimit};
 ghost use Rattle.nntp_spool.specs.Text.{spool_text};
-ghost use Rattle.nntp_spool.specs.Faults.{IsFault};
+ghost use Rattle.nntp_spool.specs.Inner.Faults.{IsFault};
 
 use crate::text::fields::{article_number, fault, next_line, number_and_id, opening_of, unbarred};
 use crate::text::gathered::Gathered;

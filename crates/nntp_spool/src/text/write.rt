@@ -2,12 +2,14 @@
 ghost use Rattle.std.specs.Prelude.{◌≡◌, ◌∷◌, [], ◌||◌, is_err, map as list_map};
 ghost use Rattle.std.specs.List.{flat_map};
 ghost use Rattle.std.specs.FinMap as map;
-ghost use Rattle.nntp_spool.specs.Text.{with_line_ends, number_line, group_line, article_line, barred, group_lines, article_lines, limit_lines, content_lines, spool_text};
-ghost use Rattle.nntp_spool.specs.ArticleLines.{text_stored};
-ghost use Rattle.nntp_spool.specs.ArticlesView.{articles_shown, Ascend};
-ghost use Rattle.nntp_spool.specs.Watched.{inner_of, has_failed_of};
-ghost use Rattle.nntp_spool.specs.Writing.{Writes};
-ghost use Rattle.nntp_spool.specs.Buffering.{writer_failed, IsSameWriter, Buffers};
+ghost use Rattle.nntp_spool.specs.Text.{with_line_ends, number_line, group_line, article_line, barred, group_lines, article_lines, limit_lines, content_lines};
+ghost use Rattle.nntp_spool.specs.Text.{spool_text};
+ghost use Rattle.nntp_spool.specs.Inner.ArticleLines.{text_stored};
+ghost use Rattle.nntp_spool.specs.Inner.ArticlesView.{articles_shown, Ascend};
+ghost use Rattle.nntp_spool.specs.Watched.{inner_of};
+ghost use Rattle.nntp_spool.specs.Inner.Watched.{has_failed_of};
+ghost use Rattle.nntp_spool.specs.Inner.Writing.{Writes};
+ghost use Rattle.nntp_spool.specs.Inner.Buffering.{writer_failed, IsSameWriter, Buffers};
 
 use crate::buffered_output::BufferedOutput;
 use crate::output::WriteFault;
@@ -173,7 +175,8 @@ fn put_articles_of_map<W: Write, A: Allocator>(
     output: &mut BufferedOutput<'_, W>,
     articles: &BTreeMap<RcStr<A>, StoredArticle<A>, A>,
 ) -> Result<(), WriteFault>
-    ensures text { Buffers W.contents result output.old output.new (with_line_ends (flat_map article_lines (map.entries (articles_shown articles.now.entries)))) }
+    ensures text { Buffers W.contents result output.old output.new
+        (with_line_ends (flat_map article_lines (map.entries (articles_shown articles.now.entries)))) }
     ensures failed { writer_failed output.new ≡ (writer_failed output.old || is_err result) }
     ensures same_writer { IsSameWriter output.old output.new }
 {

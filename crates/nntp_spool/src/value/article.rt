@@ -2,8 +2,8 @@
 ghost use Rattle.std.specs.Prelude.{◌≡◌, ◌<◌, ◌^◌, IfOk, IsTrue, length};
 ghost use Rattle.std.specs.List.{list_all};
 ghost use Rattle.nntp_article.specs.Session.Spool.{is_line};
-ghost use Rattle.nntp_spool.specs.ArticleLines.{text_of_article, text_stored, AreLines, HasLineCount};
-ghost use Rattle.nntp_wire.specs.Held.{held};
+ghost use Rattle.nntp_spool.specs.Inner.ArticleLines.{text_of_article, text_stored, AreLines, HasLineCount};
+ghost use Rattle.nntp_wire.specs.Inner.Held.{held};
 
 use nntp_wire::{Block, OwnedBlock};
 use std::alloc::{AllocError, Allocator, Global};

@@ -4,8 +4,8 @@ ghost use Rattle.std.specs.Cmp.Lexicographic.{slice_cmp};
 ghost use Rattle.std.specs.FinMap as map;
 ghost use Rattle.std.specs.Ordering.{nat_cmp, is_lt};
 ghost use Rattle.std.specs.Rc.{rc_str_bytes};
-ghost use Rattle.nntp_spool.specs.ArticleLines.{text_stored};
-ghost use Rattle.nntp_spool.specs.ArticlesView.{articles_shown, entries_held, AreInOrder, Ascend};
+ghost use Rattle.nntp_spool.specs.Inner.ArticleLines.{text_stored};
+ghost use Rattle.nntp_spool.specs.Inner.ArticlesView.{articles_shown, entries_held, AreInOrder, Ascend};
 ghost use Rattle.nntp_spool.specs.Ascending.{is_last};
 
 use crate::value::article::StoredArticle;
@@ -38,8 +38,8 @@ impl<A: Allocator> Model for Articles<A> {
     ghost use Rattle.std.specs.FinMap as map;
     ghost use Rattle.std.specs.Ordering.{nat_cmp};
     ghost use Rattle.nntp_article.specs.Session.Spool.{Text};
-    ghost use Rattle.nntp_spool.specs.ArticlesView.{articles_shown, entries_held, AreInOrder};
-    ghost use Rattle.nntp_spool.specs.Codes.{coded_text};
+    ghost use Rattle.nntp_spool.specs.Inner.ArticlesView.{articles_shown, entries_held, AreInOrder};
+    ghost use Rattle.nntp_spool.specs.Inner.Codes.{coded_text};
 
     ghost Value = { map.FinMap (slice_cmp nat_cmp) Text };
 

@@ -4,10 +4,10 @@ ghost use Rattle.std.specs.FinMap as map;
 ghost use Rattle.std.specs.Rc.{rc_str_bytes};
 ghost use Rattle.nntp_article.specs.Session.Spool.{numbers as numbers_of};
 ghost use Rattle.nntp_wire.specs.Limit.{greatest};
-ghost use Rattle.nntp_spool.specs.Building.{Builds, Admits, AdmitsBoth, group_fault, number_fault, place_fault, article_fault, parts_fault, finished};
+ghost use Rattle.nntp_spool.specs.Inner.Building.{Builds, Admits, AdmitsBoth, group_fault, number_fault, place_fault, article_fault, parts_fault, finished};
 ghost use Rattle.nntp_spool.specs.Content.{with_group, with_article, no_spool};
-ghost use Rattle.nntp_spool.specs.ArticleLines.{text_of_article, text_stored, HasLineCount};
-ghost use Rattle.nntp_spool.specs.Text.{IsWritten};
+ghost use Rattle.nntp_spool.specs.Inner.ArticleLines.{text_of_article, text_stored, HasLineCount};
+ghost use Rattle.nntp_spool.specs.Inner.Text.{IsWritten};
 
 use crate::value::Spool;
 use crate::value::article::{Article, StoredArticle};
@@ -37,8 +37,8 @@ pub struct SpoolBuilder<A: Allocator = Global> {
 }
 
 impl<A: Allocator> Model for SpoolBuilder<A> {
-    ghost use Rattle.nntp_spool.specs.Building.{Building, coded_building};
-    ghost use Rattle.nntp_spool.specs.Content.{IsContent};
+    ghost use Rattle.nntp_spool.specs.Inner.Building.{Building, coded_building};
+    ghost use Rattle.nntp_spool.specs.Inner.Content.{IsContent};
     ghost use Rattle.nntp_wire.specs.Limit.{greatest};
 
     ghost Value = { Building };
@@ -278,7 +278,8 @@ impl<A: Allocator + Copy> SpoolBuilder<A> {
     /// The first of these that holds is returned. The builder stays as it was after every error but
     /// `Memory`, and the article is dropped after each.
     pub fn article(&mut self, id: &[u8], article: Article<A>) -> Result<(), SpoolFault>
-        ensures { Builds (article_fault self.old.spool id.now (text_of_article article)) (with_article self.old.spool id.now (text_of_article article)) result self.old self.new }
+        ensures { Builds (article_fault self.old.spool id.now (text_of_article article)) (with_article self.old.spool id.now (text_of_article article)) result
+            self.old self.new }
     {
         // It is lent, and so dropped at one exit alone: the check goes through the drops of each.
         self.copy_article(id, &article)
@@ -286,7 +287,8 @@ impl<A: Allocator + Copy> SpoolBuilder<A> {
 
     /// Adds the article that a message-id names, and copies its lines.
     fn copy_article(&mut self, id: &[u8], article: &Article<A>) -> Result<(), SpoolFault>
-        ensures { Builds (article_fault self.old.spool id.now (text_of_article article.now)) (with_article self.old.spool id.now (text_of_article article.now)) result self.old self.new }
+        ensures { Builds (article_fault self.old.spool id.now (text_of_article article.now)) (with_article self.old.spool id.now (text_of_article article.now))
+            result self.old self.new }
     {
         if self.failed {
             return Err(SpoolFault::Failed);

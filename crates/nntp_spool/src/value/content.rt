@@ -6,10 +6,11 @@ ghost use Rattle.std.specs.String.{string_bytes};
 ghost use Rattle.nntp_article.specs.Session.Spool.{IsGroup, numbers as numbers_of};
 ghost use Rattle.nntp_spool.specs.Counts.{numbers_in};
 ghost use Rattle.nntp_spool.specs.Ascending.{is_last};
-ghost use Rattle.nntp_spool.specs.Content.{with_group, with_number_in, with_article, without_articles, all_known, ids_have_articles, no_spool};
+ghost use Rattle.nntp_spool.specs.Content.{with_group, with_article, all_known, ids_have_articles, no_spool};
+ghost use Rattle.nntp_spool.specs.Inner.Content.{with_number_in, without_articles};
 ghost use Rattle.nntp_spool.specs.Numbers.{has_id};
-ghost use Rattle.nntp_spool.specs.ArticleLines.{text_stored, HasLineCount};
-ghost use Rattle.nntp_spool.specs.Text.{HasLineCounts};
+ghost use Rattle.nntp_spool.specs.Inner.ArticleLines.{text_stored, HasLineCount};
+ghost use Rattle.nntp_spool.specs.Inner.Text.{HasLineCounts};
 
 use crate::value::article::StoredArticle;
 use crate::value::articles::Articles;
@@ -44,7 +45,7 @@ impl<A: Allocator> Drop for Content<A> {
 
 impl<A: Allocator> Model for Content<A> {
     ghost use Rattle.nntp_article.specs.Session.Spool.{Spool as SpoolValue};
-    ghost use Rattle.nntp_spool.specs.Codes.{coded_spool};
+    ghost use Rattle.nntp_spool.specs.Inner.Codes.{coded_spool};
 
     ghost Value = { SpoolValue };
 
@@ -52,8 +53,8 @@ impl<A: Allocator> Model for Content<A> {
 
     ghost use Rattle.std.specs.Prelude.{◌≡◌};
     ghost use Rattle.std.specs.FinMap.{empty};
-    ghost use Rattle.nntp_spool.specs.ContentView.{spool_stored};
-    ghost use Rattle.nntp_spool.specs.Text.{HasLineCounts};
+    ghost use Rattle.nntp_spool.specs.Inner.ContentView.{spool_stored};
+    ghost use Rattle.nntp_spool.specs.Inner.Text.{HasLineCounts};
 
     ghost view = { λ a. spool_stored a.groups.entries a.articles };
 

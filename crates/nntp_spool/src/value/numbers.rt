@@ -2,9 +2,11 @@
 ghost use Rattle.std.specs.Prelude.{◌≡◌, ℕ, None, Some, true, false, not, is_some, OnOk, OnErr, IfOk, IfErr, option_copied, MatchOption, ◌≤◌};
 ghost use Rattle.std.specs.FinMap as map;
 ghost use Rattle.std.specs.Rc.{rc_str_bytes};
-ghost use Rattle.nntp_article.specs.Session.Spool.{IsFirst, IsNextAbove, IsNextBelow, NoneAbove, NoneBelow, IsNumber};
+ghost use Rattle.nntp_article.specs.Inner.Spool.{IsFirst};
+ghost use Rattle.nntp_article.specs.Session.Spool.{IsNextAbove, IsNextBelow, NoneAbove, NoneBelow, IsNumber};
 ghost use Rattle.nntp_spool.specs.Ascending.{is_last};
-ghost use Rattle.nntp_spool.specs.Numbers.{has_id, with_number};
+ghost use Rattle.nntp_spool.specs.Numbers.{has_id};
+ghost use Rattle.nntp_spool.specs.Inner.Numbers.{with_number};
 
 use std::alloc::{AllocError, Allocator, Global};
 use std::collections::{BTreeMap, BTreeSet};
@@ -34,7 +36,7 @@ impl<A: Allocator> Model for Numbers<A> {
 
     ghost view = { λ a. map.from_entries (list_map (λ e. (e.0, rc_str_bytes e.1)) a.ids.entries) };
 
-    ghost use Rattle.nntp_spool.specs.Numbers.{AreIdsOf};
+    ghost use Rattle.nntp_spool.specs.Inner.Numbers.{AreIdsOf};
 
     ghost invariant = { λ a. AreIdsOf a.known.keys (map.from_entries (list_map (λ e. (e.0, rc_str_bytes e.1)) a.ids.entries)) };
 }

@@ -6,7 +6,7 @@ ghost use Rattle.nntp_wire.specs.declared.limit.Limit.TheVariants.{Wide};
 ghost use Rattle.nntp_article.specs.Session.Spool.{IsSpool};
 ghost use Rattle.nntp_spool.specs.Counts.{numbers_in};
 ghost use Rattle.nntp_spool.specs.Limited.{IsWithinLimit};
-ghost use Rattle.nntp_spool.specs.Text.{IsWritten};
+ghost use Rattle.nntp_spool.specs.Inner.Text.{IsWritten};
 
 use crate::value::content::Content;
 use nntp_wire::Limit;
@@ -36,7 +36,8 @@ pub struct Spool<A: Allocator = Global> {
 impl<A: Allocator> Model for Spool<A> {
     ghost use Rattle.nntp_wire.specs.Limit.{greatest};
     ghost use Rattle.nntp_article.specs.Session.Spool.{IsSpool};
-    ghost use Rattle.nntp_spool.specs.Limited.{LimitedSpool, coded_limited};
+    ghost use Rattle.nntp_spool.specs.Limited.{LimitedSpool};
+    ghost use Rattle.nntp_spool.specs.Inner.Limited.{coded_limited};
 
     ghost Value = { LimitedSpool };
 

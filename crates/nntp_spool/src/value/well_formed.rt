@@ -4,7 +4,7 @@ ghost use Rattle.std.specs.List.{list_all};
 ghost use Rattle.nntp_wire.specs.Decided.{is_group_name, is_message_id};
 ghost use Rattle.nntp_article.specs.Session.Spool.{is_line};
 ghost use Rattle.nntp_spool.specs.Content.{is_head_of};
-ghost use Rattle.nntp_wire.specs.Held.{held};
+ghost use Rattle.nntp_wire.specs.Inner.Held.{held};
 
 use memchr::memchr3;
 use nntp_article::{Head, lines_say};

@@ -1,7 +1,7 @@
 //! How many groups of a spool match the wildmats of LIST ACTIVE, each counted once (RFC 3977, section 7.6.3).
-ghost use Rattle.std.specs.Prelude.{◌≡◌, IfOk, OnOk};
+ghost use Rattle.std.specs.Prelude.{◌≡◌, Some, IfOk, OnOk};
 ghost use Rattle.nntp_article.specs.Session.Spool.{Spool as SpoolValue};
-ghost use Rattle.nntp_spool.specs.AskedCounts.{AreCounted, asked_count, remembered, with_count};
+ghost use Rattle.nntp_spool.specs.Inner.AskedCounts.{AreCounted, asked_count, remembered, with_count};
 
 use crate::value::content::Content;
 use nntp_wire::Wildmat;
@@ -22,8 +22,8 @@ pub(crate) struct AskedCounts<A: Allocator> {
 impl<A: Allocator> Model for AskedCounts<A> {
     ghost use Rattle.std.specs.Prelude.{map};
     ghost use Rattle.std.specs.FinMap.{from_entries};
-    ghost use Rattle.nntp_spool.specs.AskedCounts.{AskedCounts as Counts};
-    ghost use Rattle.nntp_spool.specs.Codes.{coded_counts};
+    ghost use Rattle.nntp_spool.specs.Inner.AskedCounts.{AskedCounts as Counts};
+    ghost use Rattle.nntp_spool.specs.Inner.Codes.{coded_counts};
 
     ghost Value = { Counts };
 
@@ -54,6 +54,7 @@ impl<A: Allocator + Copy> AskedCounts<A> {
         requires { AreCounted spool.now self.old }
         ensures count { IfOk result (λ count. count ≡ asked_count spool.now wildmat.now) }
         ensures counted { IfOk result (λ _. AreCounted spool.now self.new) }
+        ensures kept { IfOk result (λ count. remembered self.new wildmat.now ≡ Some count) }
     {
         if let Some(count) = self.remembered(wildmat) {
             return Ok(count);

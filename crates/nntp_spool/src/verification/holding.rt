@@ -1,14 +1,14 @@
 //! Whether what an answer says holds of a spool, a fact at a time.
-ghost use Rattle.std.specs.Prelude.{◌≡◌, ◌↔◌, true, IsTrue, IfOk, None};
+ghost use Rattle.std.specs.Prelude.{◌≡◌, ◌↔◌, true, IsTrue, IfOk, None, drop};
 ghost use Rattle.std.specs.List.{AllByRecursion};
 ghost use Rattle.nntp_wire.specs.Name.{IsGroupName};
 ghost use Rattle.nntp_wire.specs.declared.command.What.TheVariants.{Stat};
 ghost use Rattle.nntp_article.specs.Session.Spool.{Name, Spool as SpoolValue, IsGroup, HasText};
 ghost use Rattle.nntp_said.specs.Facts.{Holds};
-ghost use Rattle.nntp_said.specs.FactView.{fact_of};
-ghost use Rattle.nntp_spool.specs.AskedCounts.{AreCounted};
-ghost use Rattle.nntp_spool.specs.Content.{IdsHaveArticles};
-ghost use Rattle.nntp_spool.specs.Sessions.{AreInOrder, is_in_order};
+ghost use Rattle.nntp_said.specs.Inner.FactView.{fact_of};
+ghost use Rattle.nntp_spool.specs.Inner.AskedCounts.{AreCounted};
+ghost use Rattle.nntp_spool.specs.Inner.Content.{IdsHaveArticles};
+ghost use Rattle.nntp_spool.specs.Inner.Sessions.{AreInOrder, is_in_order};
 
 use crate::value::content::Content;
 use crate::verification::asked_counts::AskedCounts;
@@ -33,21 +33,22 @@ pub(crate) fn hold<A: Allocator + Copy, S: Allocator>(
     ensures counted { IfOk result (λ _. AreCounted group.old counts.new) }
     ensures hold { IfOk result (λ hold. IsTrue hold ↔ AllByRecursion (Holds group.old) facts.old) }
 {
-    while let Some(fact) = facts.next() {
-        if !is_implied(&fact, facts) && !holds(group, counts, &fact)? {
+    while let Some(fact) = facts.first() {
+        if !is_implied(facts) && !holds(group, counts, fact)? {
             return Ok(false);
         }
+        facts.pass_first();
     }
     Ok(true)
 }
 
-/// Tells whether the fact holds because one of those behind it does: an id has an article, of which
-/// nothing is sent, where it has a number. So it isn't looked for.
-fn is_implied(fact: &Fact<'_>, behind: &SaidFacts<'_>) -> bool
-    ensures { IsTrue result → (S : SpoolValue) → IdsHaveArticles S → AllByRecursion (Holds S) behind.now → Holds S (fact_of fact.now) }
+/// Tells whether the first fact holds because one of those behind it does: an id has an article, of
+/// which nothing is sent, where it has a number. So it isn't looked for.
+fn is_implied(facts: &SaidFacts<'_>) -> bool
+    ensures { IsTrue result → (S : SpoolValue) → IdsHaveArticles S → AllByRecursion (Holds S) (drop 1 facts.now) → AllByRecursion (Holds S) facts.now }
 {
-    match fact {
-        Fact::TextIs { what, id, block } => sends_nothing(*what, *block) && behind.place(*id),
+    match facts.first() {
+        Some(Fact::TextIs { what, id, block }) => sends_nothing(*what, *block) && facts.place(*id),
         _ => false,
     }
 }

@@ -4,11 +4,11 @@ ghost use Rattle.std.specs.Prelude.{◌≡◌, ℕ, ◌≤◌, ◌↔◌, true, 
 ghost use Rattle.std.specs.List.{AllByRecursion};
 ghost use Rattle.nntp_wire.specs.Name.{IsGroupName};
 ghost use Rattle.nntp_wire.specs.Listing.{active_groups};
-ghost use Rattle.nntp_wire.specs.View.{active_value};
+ghost use Rattle.nntp_wire.specs.Inner.View.{active_value};
 ghost use Rattle.nntp_article.specs.Session.Spool.{Name, IsGroup, IsNumber, numbers as numbers_of};
 ghost use Rattle.nntp_article.specs.Session.Machine.{names_differ, ActivesAgree};
-ghost use Rattle.nntp_spool.specs.AskedCounts.{AreCounted, asked_count};
-ghost use Rattle.nntp_spool.specs.ListedGroups.{LineAgrees};
+ghost use Rattle.nntp_spool.specs.Inner.AskedCounts.{AreCounted, asked_count};
+ghost use Rattle.nntp_spool.specs.Inner.ListedGroups.{LineAgrees};
 
 use crate::value::content::Content;
 use crate::verification::asked_counts::AskedCounts;

@@ -5,9 +5,9 @@ ghost use Rattle.nntp_article.specs.Session.Spool.{IsNumber, least, IsNextAbove,
 ghost use Rattle.nntp_article.specs.Session.Machine.{AreEnds, Bound, is_ascending};
 ghost use Rattle.nntp_wire.specs.Listing.{listed_numbers};
 ghost use Rattle.nntp_said.specs.Asks.{Meets, current_in};
-ghost use Rattle.nntp_said.specs.FactView.{ask_of};
-ghost use Rattle.nntp_spool.specs.ListedNumbers.{IsNextFrom, IsAbove, ListsFrom};
-ghost use Rattle.nntp_spool.specs.Sessions.{are_ascending};
+ghost use Rattle.nntp_said.specs.Inner.FactView.{ask_of};
+ghost use Rattle.nntp_spool.specs.Inner.ListedNumbers.{IsNextFrom, IsAbove, ListsFrom};
+ghost use Rattle.nntp_spool.specs.Inner.Sessions.{are_ascending};
 
 use crate::value::numbers::Numbers;
 use nntp_article::session::laws::first_is_least;

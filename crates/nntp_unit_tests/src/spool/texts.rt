@@ -181,7 +181,8 @@ const READ: &[Content] = &[
     (
         Limit::Narrow,
         (1, 2, 2),
-        "spool 1\ngroup g 2\n1 <w0@invented.invalid>\n4 <b@x>\narticle <b@x> 1 0\n|Message-ID: <b@x>\narticle <w0@invented.invalid> 1 0\n|Message-ID: <w0@invented.invalid>\nend\n",
+        "spool 1\ngroup g 2\n1 <w0@invented.invalid>\n4 <b@x>\narticle <b@x> 1 0\n|Message-ID: <b@x>\narticle <w0@invented.invalid> 1 0\n\
+        |Message-ID: <w0@invented.invalid>\nend\n",
     ),
     // An article in no group, whose body has lines that begin with dots.
     (
@@ -199,7 +200,8 @@ const READ: &[Content] = &[
     (
         Limit::Wide,
         (1, 2, 2),
-        "spool 2\nlimit 9999999999999999\ngroup g 2\n2147483648 <a@b>\n9999999999999999 <c@d>\narticle <a@b> 1 0\n|Message-ID: <a@b>\narticle <c@d> 1 1\n|A: b\n|x\nend\n",
+        "spool 2\nlimit 9999999999999999\ngroup g 2\n2147483648 <a@b>\n9999999999999999 <c@d>\narticle <a@b> 1 0\n|Message-ID: <a@b>\narticle <c@d> 1 1\n\
+        |A: b\n|x\nend\n",
     ),
     (
         Limit::Wide,

@@ -1,18 +1,20 @@
 //! Laws of verdicts on several sessions of one spool.
 ghost use Rattle.std.specs.Prelude.{◌≡◌, ◌↔◌, ◌<◌, ◌^◌, ℕ, List, [], ◌∷◌, ◌++◌, length, map, Option, Ok, IsTrue};
 ghost use Rattle.nntp_article.specs.Session.Spool.{Spool};
-ghost use Rattle.nntp_facts.specs.Given.{IsGiven, size};
+ghost use Rattle.nntp_facts.specs.Given.{IsGiven};
+ghost use Rattle.nntp_facts.specs.Inner.Given.{size};
 ghost use Rattle.nntp_pair.specs.declared.class.Class.{Class};
 ghost use Rattle.nntp_verdict.specs.Judging.{IsVerdict, IsVerdictOfAll, StopsAt};
 ghost use Rattle.nntp_spool.specs.Limited.{LimitedSpool};
 ghost use Rattle.nntp_spool.specs.Reading.{spool_at};
 ghost use Rattle.nntp_spool.specs.Text.{spool_text};
-ghost use Rattle.nntp_verdict.specs.Verdict.{Judgement, JudgementOfAll, consistent_of_all, bad_of_all, is_consistent_of_all, verdict_of_one};
+ghost use Rattle.nntp_verdict.specs.Verdict.{Judgement, JudgementOfAll, consistent_of_all, bad_of_all, is_consistent_of_all};
+ghost use Rattle.nntp_verdict.specs.Inner.Verdict.{verdict_of_one};
 ghost use Rattle.nntp_wire.specs.declared.limit.Limit.{Limit};
 ghost use Rattle.nntp_article.specs.Session.Limit.{profile_of};
 ghost use Rattle.nntp_facts.specs.Noted.{exchanged};
 ghost use Rattle.nntp_pair.specs.Pairing.{Paired};
-ghost use Rattle.nntp_several.specs.Paired.{ArePaired};
+ghost use Rattle.nntp_several.specs.Inner.Paired.{ArePaired};
 ghost use Rattle.nntp_wire.specs.declared.marks.Marks.{Marks};
 ghost use Rattle.nntp_facts.specs.Answered.{SomePermitsEach, facts_of_all};
 ghost use Rattle.nntp_several.specs.Sessions.{Recorded, ExplainsAll};
@@ -38,7 +40,9 @@ pub fn verdict_follows_the_outcome()
         → size (facts_of_all (profile_of limit marks).marks (map exchanged exchanges)) < 2 ^ 210
         → IsGiven (facts_of_all (profile_of limit marks).marks (map exchanged exchanges)) L.spool
         → IsVerdictOfAll limit marks sessions (consistent_of_all L (map length exchanges)) }
-    ensures no { (limit : Limit) (marks : Marks) (before : List Recorded) (s : Recorded) (more : List Recorded) (answer : ℕ) (class : Class) (command : Option (List ℕ)) (reply : List ℕ)
-        → IsOutcomeOfAll (profile_of limit marks) (before ++ s ∷ more) (NoOfAll (length before) answer class) → StopsAt s.client s.server answer class command reply
+    ensures no { (limit : Limit) (marks : Marks) (before : List Recorded) (s : Recorded) (more : List Recorded) (answer : ℕ) (class : Class)
+        (command : Option (List ℕ)) (reply : List ℕ)
+        → IsOutcomeOfAll (profile_of limit marks) (before ++ s ∷ more) (NoOfAll (length before) answer class)
+        → StopsAt s.client s.server answer class command reply
         → IsVerdictOfAll limit marks (before ++ s ∷ more) (bad_of_all (length before) answer class command reply) }
 {}

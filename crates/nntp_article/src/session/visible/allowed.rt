@@ -1,9 +1,9 @@
 //! The codes that fit a prompt (RFC 3977, sections 3.2, 5, 6 and 7.6).
 ghost use Rattle.std.specs.Prelude.{◌≡◌, ◌∷◌, [], is_some};
 ghost use Rattle.nntp_wire.specs.Answer.{success_code};
-ghost use Rattle.nntp_wire.specs.View.{asked, request, target};
+ghost use Rattle.nntp_wire.specs.Inner.View.{asked, request, target};
 ghost use Rattle.nntp_article.specs.Session.Misfit.{codes_if_selected, retrieve_codes, command_codes, allowed_codes, code_misfit};
-ghost use Rattle.nntp_article.specs.Session.MisfitView.{why};
+ghost use Rattle.nntp_article.specs.Inner.MisfitView.{why};
 
 use crate::session::misfit::Misfit;
 use crate::session::visible::Visible;

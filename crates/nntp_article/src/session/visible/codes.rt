@@ -1,7 +1,7 @@
 //! Answers of a code alone.
 ghost use Rattle.std.specs.Prelude.{◌≡◌};
 ghost use Rattle.nntp_wire.specs.Answer.{plain};
-ghost use Rattle.nntp_wire.specs.View.{asked, request};
+ghost use Rattle.nntp_wire.specs.Inner.View.{asked, request};
 ghost use Rattle.nntp_article.specs.Session.Machine.{code_fits, fits, is_generic};
 
 use crate::session::profile::Profile;

@@ -1,10 +1,10 @@
 //! The groups of LIST ACTIVE (RFC 3977, section 7.6.3).
-ghost use Rattle.std.specs.Prelude.{◌≡◌, IfOk, map, []};
+ghost use Rattle.std.specs.Prelude.{◌≡◌, IfOk, map, [], ◌∷◌};
 ghost use Rattle.nntp_wire.specs.Listing.{active_groups};
 ghost use Rattle.nntp_wire.specs.Reason.{first};
-ghost use Rattle.nntp_wire.specs.View.{active_value};
+ghost use Rattle.nntp_wire.specs.Inner.View.{active_value};
 ghost use Rattle.nntp_article.specs.Session.Misfit.{active_marks_misfit, active_misfit, twice_misfit};
-ghost use Rattle.nntp_article.specs.Session.MisfitView.{why_if};
+ghost use Rattle.nntp_article.specs.Inner.MisfitView.{why_if};
 
 use crate::session::misfit::Misfit;
 use crate::session::profile::Profile;
@@ -45,35 +45,27 @@ fn active_misfit<'a>(
     None
 }
 
-/// Why one of the listed groups doesn't fit the command, if there is one: of the first such group.
-pub(crate) fn groups_misfit<'a>(
+/// Why the listed groups don't fit the command, if they don't: the first that doesn't by itself, or
+/// else the first that an earlier line lists too.
+pub(crate) fn groups_misfit<'a, A: Allocator + Copy>(
+    alloc: A,
     profile: Profile,
     wildmat: &Option<Wildmat<'_>>,
     block: &Block<'a>,
-) -> Option<Misfit<'a>>
-    ensures { why_if result ≡ first (map (active_misfit profile wildmat.now) (active_groups block.now)) }
-{
-    for group in block.groups() {
-        if let Some(why) = active_misfit(profile, wildmat, &group) {
-            return Some(why);
-        }
-    }
-    None
-}
-
-/// The first group that an earlier line lists too, if there is one.
-pub(crate) fn twice_misfit<'a, A: Allocator + Copy>(
-    alloc: A,
-    block: &Block<'a>,
 ) -> Result<Option<Misfit<'a>>, AllocError>
-    ensures { IfOk result (λ reason. why_if reason ≡ twice_misfit [] (active_groups block.now)) }
+    ensures { IfOk result (λ reason. why_if reason
+        ≡ first (first (map (active_misfit profile wildmat.now) (active_groups block.now)) ∷ twice_misfit [] (active_groups block.now) ∷ [])) }
 {
     let mut names = BTreeSet::new(alloc);
+    let mut twice = None;
     for group in block.groups() {
+        if let Some(why) = active_misfit(profile, wildmat, &group) {
+            return Ok(Some(why));
+        }
         let name = group.name.as_slice();
         if !names.insert(name)? {
-            return Ok(Some(Misfit::ListedTwice(name)));
+            twice = twice.or(Some(Misfit::ListedTwice(name)));
         }
     }
-    Ok(None)
+    Ok(twice)
 }

@@ -3,7 +3,7 @@ ghost use Rattle.std.specs.Prelude.{◌≡◌};
 ghost use Rattle.nntp_article.specs.Article.Parts.{said_id};
 ghost use Rattle.nntp_article.specs.Session.Machine.{is_same};
 ghost use Rattle.nntp_article.specs.Session.Misfit.{said_misfit, head_misfit};
-ghost use Rattle.nntp_article.specs.Session.MisfitView.{why_if};
+ghost use Rattle.nntp_article.specs.Inner.MisfitView.{why_if};
 
 use crate::article::{Head, Parts};
 use crate::session::misfit::Misfit;

@@ -2,7 +2,7 @@
 ghost use Rattle.std.specs.Prelude.{◌≡◌};
 ghost use Rattle.nntp_article.specs.Session.Machine.{are_zeros};
 ghost use Rattle.nntp_article.specs.Session.Misfit.{marks_misfit};
-ghost use Rattle.nntp_article.specs.Session.MisfitView.{why_if};
+ghost use Rattle.nntp_article.specs.Inner.MisfitView.{why_if};
 
 use crate::session::misfit::Misfit;
 use crate::session::profile::Profile;

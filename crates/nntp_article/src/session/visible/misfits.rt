@@ -1,19 +1,19 @@
 //! Whether an answer fits what a session shows, and why not, a row of the machine's table at a time.
 ghost use Rattle.std.specs.Prelude.{◌≡◌, IfOk, option_copied, false};
 ghost use Rattle.std.specs.Option.{option_map_or, option_or};
-ghost use Rattle.nntp_wire.specs.View.{asked};
-ghost use Rattle.nntp_wire.specs.AnswerView.{response};
+ghost use Rattle.nntp_wire.specs.Inner.View.{asked};
+ghost use Rattle.nntp_wire.specs.Inner.AnswerView.{response};
 ghost use Rattle.nntp_wire.specs.Answer.{plain, sends, group_is, numbers_are, active_are};
 ghost use Rattle.nntp_article.specs.Session.Machine.{fits, is_same};
 ghost use Rattle.nntp_article.specs.Session.Misfit.{name_misfit, misfit};
-ghost use Rattle.nntp_article.specs.Session.MisfitView.{why, why_if};
+ghost use Rattle.nntp_article.specs.Inner.MisfitView.{why, why_if};
 
 use crate::session::misfit::Misfit;
 use crate::session::profile::Profile;
 use crate::session::visible::Visible;
-use crate::session::visible::groups::{groups_misfit, twice_misfit};
+use crate::session::visible::groups::groups_misfit;
 use crate::session::visible::heads::{head_misfit, is_same};
-use crate::session::visible::numbers::{order_misfit, range_misfit};
+use crate::session::visible::numbers::numbers_misfit;
 use nntp_wire::{Answer, Block, Command, Prompt, WaterMarks, success_code};
 use std::alloc::{AllocError, Allocator};
 
@@ -120,10 +120,7 @@ impl<A: Allocator + Copy> Visible<A> {
                 if let Some(why) = self.marks_misfit(profile, name, marks) {
                     return Some(why);
                 }
-                if let Some(why) = order_misfit(block) {
-                    return Some(why);
-                }
-                range_misfit(profile.limit, *range, block)
+                numbers_misfit(profile.limit, *range, block)
             }
             _ => Some(wrong_code),
         }
@@ -205,10 +202,7 @@ impl<A: Allocator + Copy> Visible<A> {
     {
         match prompt {
             Prompt::To(Command::ListActive(wildmat)) => {
-                if let Some(why) = groups_misfit(profile, wildmat, block) {
-                    return Ok(Some(why));
-                }
-                twice_misfit(self.alloc, block)
+                groups_misfit(self.alloc, profile, wildmat, block)
             }
             _ => Ok(Some(self.code_misfit(prompt, 215))),
         }

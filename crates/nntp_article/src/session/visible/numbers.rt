@@ -1,11 +1,11 @@
 //! Article numbers of answers (RFC 3977, section 6.1).
-ghost use Rattle.std.specs.Prelude.{◌≡◌, is_some, map, None};
-ghost use Rattle.nntp_wire.specs.View.{target};
+ghost use Rattle.std.specs.Prelude.{◌≡◌, ◌∷◌, [], is_some, map, None};
+ghost use Rattle.nntp_wire.specs.Inner.View.{target};
 ghost use Rattle.nntp_wire.specs.Listing.{listed_numbers};
 ghost use Rattle.nntp_wire.specs.Reason.{first};
 ghost use Rattle.nntp_article.specs.Session.Machine.{is_article_number, is_in_range};
 ghost use Rattle.nntp_article.specs.Session.Misfit.{step_misfit, order_misfit, listed_misfit, selected_misfit, id_misfit, target_misfit};
-ghost use Rattle.nntp_article.specs.Session.MisfitView.{why, why_if};
+ghost use Rattle.nntp_article.specs.Inner.MisfitView.{why, why_if};
 
 use crate::session::misfit::Misfit;
 use crate::session::profile::Profile;
@@ -42,20 +42,6 @@ fn step_misfit(before: Option<u64>, number: u64) -> Option<Misfit<'static>>
     Some(Misfit::NotAbove { before, number })
 }
 
-/// Why the listed numbers don't ascend, if they don't.
-pub(crate) fn order_misfit(block: &Block<'_>) -> Option<Misfit<'static>>
-    ensures { why_if result ≡ order_misfit None (listed_numbers block.now) }
-{
-    let mut before = None;
-    for number in block.numbers() {
-        if let Some(why) = step_misfit(before, number) {
-            return Some(why);
-        }
-        before = Some(number);
-    }
-    None
-}
-
 /// Why a number can't be listed, if it can't.
 fn listed_misfit(limit: u64, range: Range, number: u64) -> Option<Misfit<'static>>
     ensures { why_if result ≡ listed_misfit limit range number }
@@ -69,16 +55,22 @@ fn listed_misfit(limit: u64, range: Range, number: u64) -> Option<Misfit<'static
     None
 }
 
-/// Why one of the listed numbers can't be listed, if there is one: of the first such number.
-pub(crate) fn range_misfit(limit: u64, range: Range, block: &Block<'_>) -> Option<Misfit<'static>>
-    ensures { why_if result ≡ first (map (listed_misfit limit range) (listed_numbers block.now)) }
+/// Why the listed numbers don't fit the range that was asked for, if they don't: the first that isn't
+/// greater than the one before it, or else the first that can't be listed.
+pub(crate) fn numbers_misfit(limit: u64, range: Range, block: &Block<'_>) -> Option<Misfit<'static>>
+    ensures { why_if result
+        ≡ first (order_misfit None (listed_numbers block.now) ∷ first (map (listed_misfit limit range) (listed_numbers block.now)) ∷ []) }
 {
+    let mut before = None;
+    let mut beyond = None;
     for number in block.numbers() {
-        if let Some(why) = listed_misfit(limit, range, number) {
+        if let Some(why) = step_misfit(before, number) {
             return Some(why);
         }
+        before = Some(number);
+        beyond = beyond.or(listed_misfit(limit, range, number));
     }
-    None
+    beyond
 }
 
 impl<A: Allocator> Visible<A> {

@@ -1,8 +1,5 @@
-use Rattle.std.proofs.Common.{sym, subst}
-use Rattle.std.specs.Option.{MatchOption}
-use Rattle.nntp_check.specs.CaptureReading.{IsAt, CantGoOn, GoesOn}
-use Rattle.nntp_check.specs.declared.capture_reader.Place.{Place}
-use Rattle.nntp_check.proofs.ReadingLemmas.{value-small}
+use Rattle.std.{proofs.Common.{sym, subst}, specs.Option.{MatchOption}}
+use Rattle.nntp_check.{specs.{Inner.CaptureReading.{IsAt, CantGoOn, GoesOn}, declared.capture_reader.Place.{Place}}, proofs.ReadingLemmas.{value-small}}
 use Rattle.nntp_check.proofs.capture_reader.behind.Goals as goal
 
 pub behind_digits-requires : goal.behind_digits-requires

@@ -1,8 +1,7 @@
-use Rattle.std.proofs.Common.{◌≡◌, ◌≤◌, ◌∙◌, ap, sym, true, arith, refl, []}
-use Rattle.std.specs.Char.{is_ascii_digit}
-use Rattle.std.proofs.lemmas.Bool.{true≢false}
+use Rattle.std.{proofs.{Common.{◌≡◌, ◌≤◌, ◌∙◌, ap, sym, true, arith, refl, []}, lemmas.Bool.{true≢false}}, specs.Char.{is_ascii_digit}}
 use Rattle.nntp_check.proofs.ReadingLemmas.{digit-more, line-ends, no-digit}
-use Rattle.nntp_check.proofs.capture_reader.behind_digits.Goals.{then-not-is_ascii_digit-via-then-not-is_ascii_digit, then-not-is_ascii_digit-via-else-not-is_ascii_digit+then-many-ge-MOST_DIGITS}
+use Rattle.nntp_check.proofs.capture_reader.behind_digits.Goals.{then-not-is_ascii_digit-via-then-not-is_ascii_digit}
+use Rattle.nntp_check.proofs.capture_reader.behind_digits.Goals.{then-not-is_ascii_digit-via-else-not-is_ascii_digit+then-many-ge-MOST_DIGITS}
 use Rattle.nntp_check.proofs.capture_reader.behind_digits.Goals as goal
 
 pub returns-then-many-eq0 : goal.returns-then-many-eq0

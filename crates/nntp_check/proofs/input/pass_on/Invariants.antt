@@ -1,5 +1,5 @@
 use Rattle.std.proofs.Common.{length}
-use Rattle.nntp_check.specs.Sinks.{PassesOn}
+use Rattle.nntp_check.specs.Inner.Sinks.{PassesOn}
 use Rattle.nntp_check.proofs.input.pass_on.Given as goal
 
 abbrev pub invariant-loop-rest : goal.invariant-loop-rest

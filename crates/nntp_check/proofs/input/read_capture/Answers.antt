@@ -1,10 +1,6 @@
 use Rattle.std.proofs.Common.{◌≡◌, ℕ, [], ◌++◌, take, drop, refl, sym, subst, arith, length-append, length-take, length-drop}
-use Rattle.std.proofs.lemmas.Result.{err_from_is_err_and}
-use Rattle.nntp_check.specs.declared.run_fault.RunFault.TheVariants.{Read}
-use Rattle.nntp_check.specs.Capture.{nothing}
-use Rattle.std.specs.Io.KnownBytes.{Consumes}
-use Rattle.std.proofs.KnownBytes.{Consumes-nil, Consumes-trans}
-use Rattle.nntp_check.proofs.BegunLemmas.{begins-capture}
+use Rattle.std.{proofs.{lemmas.Result.{err_from_is_err_and}, KnownBytes.{Consumes-nil, Consumes-trans}}, specs.Io.KnownBytes.{Consumes}}
+use Rattle.nntp_check.{specs.{declared.run_fault.RunFault.TheVariants.{Read}, Capture.{nothing}}, proofs.BegunLemmas.{begins-capture}}
 use Rattle.nntp_check.proofs.InputLemmas.{all-passed, ends-bad, stops-bad, stops-unread, reads-more, read-fails, take-split, still-fresh, stays-same}
 use Rattle.nntp_check.proofs.input.read_capture.Goals as goal
 

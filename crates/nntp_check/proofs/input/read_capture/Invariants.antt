@@ -1,7 +1,5 @@
-use Rattle.std.proofs.Common.{◌≡◌, ◌≤◌, ◌-◌, ℕ, List, length}
-use Rattle.std.specs.Io.KnownBytes.{Consumes}
-use Rattle.nntp_check.specs.Capture.{nothing}
-use Rattle.nntp_check.specs.Sinks.{BothStand}
+use Rattle.std.{proofs.Common.{◌≡◌, ◌≤◌, ◌-◌, ℕ, List, length}, specs.Io.KnownBytes.{Consumes}}
+use Rattle.nntp_check.specs.{Capture.{nothing}, Inner.Sinks.{BothStand}}
 use Rattle.nntp_check.proofs.input.read_capture.Given as goal
 
 abbrev pub invariant-loop-count : goal.invariant-loop-count

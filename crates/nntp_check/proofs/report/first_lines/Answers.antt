@@ -1,13 +1,8 @@
-use Rattle.std.proofs.Common.{◌≡◌, ◌∙◌, ◌+◌, ◌++◌, ap, sym, subst, ℕ, List, Option, length}
-use Rattle.std.proofs.lemmas.List.{append-nil}
-use Rattle.std.specs.Option.{option_copied}
-use Rattle.nntp_wire.specs.Held.{held as names_in}
-use Rattle.nntp_printing.specs.BadAnswer.{bad_lines}
-use Rattle.nntp_printing.specs.Title.{title_line}
-use Rattle.nntp_verdict.specs.Verdict.{sessions_verdict_shown}
-use Rattle.nntp_verdict.specs.declared.sessions_verdict.SessionsVerdict.{SessionsVerdict}
-use Rattle.nntp_check.specs.Report.{IsWithin, if_several, title_of}
-use Rattle.nntp_check.proofs.RunLemmas.{named-there}
+use Rattle.std.{proofs.{Common.{◌≡◌, ◌∙◌, ◌+◌, ◌++◌, ap, sym, subst, ℕ, List, Option, length}, lemmas.List.{append-nil}}, specs.Option.{option_copied}}
+use Rattle.nntp_wire.specs.Inner.Held.{held as names_in}
+use Rattle.nntp_printing.specs.{BadAnswer.{bad_lines}, Title.{title_line}}
+use Rattle.nntp_verdict.specs.{Verdict.{sessions_verdict_shown}, declared.sessions_verdict.SessionsVerdict.{SessionsVerdict}}
+use Rattle.nntp_check.{specs.{Inner.Report.{IsWithin}, Report.{if_several, title_of}}, proofs.RunLemmas.{named-there}}
 use Rattle.nntp_check.proofs.report.first_lines.Goals as goal
 
 pub returns-in_ok-put_bad_answer-in-Bad : goal.returns-in_ok-put_bad_answer-in-Bad

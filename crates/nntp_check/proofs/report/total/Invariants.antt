@@ -1,5 +1,4 @@
-use Rattle.std.proofs.Common.{◌≡◌, ◌+◌, ◌*◌, ◌≤◌, ◌^◌, drop, sum}
-use Rattle.std.specs.Prelude.{fold}
+use Rattle.std.{proofs.Common.{◌≡◌, ◌+◌, ◌*◌, ◌≤◌, ◌^◌, drop, sum}, specs.Prelude.{fold}}
 use Rattle.nntp_check.proofs.report.total.Given as goal
 
 abbrev pub invariant-loop-number : goal.invariant-loop-number

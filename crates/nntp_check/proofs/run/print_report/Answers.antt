@@ -1,9 +1,7 @@
-use Rattle.std.proofs.Common.{[]}
-use Rattle.std.proofs.lemmas.Result.{err_from_is_err_and}
+use Rattle.std.proofs.{Common.{[]}, lemmas.Result.{err_from_is_err_and}}
 use Rattle.nntp_verdict.specs.Verdict.{sessions_verdict_shown}
 use Rattle.nntp_spool.proofs.Written.{Wrote-first, Wrote-last}
-use Rattle.nntp_check.specs.Report.{text_behind}
-use Rattle.nntp_check.proofs.RunLemmas.{Writes-kept}
+use Rattle.nntp_check.{specs.Inner.Report.{text_behind}, proofs.RunLemmas.{Writes-kept}}
 use Rattle.nntp_check.proofs.run.print_report.Goals as goal
 
 pub returns-in_err-put-clause-text : goal.returns-in_err-put-clause-text

@@ -1,8 +1,7 @@
-use Rattle.std.proofs.Common.{ap, refl, inr, subst, List, ℕ, [], ◌++◌, ◌∙◌}
-use Rattle.std.proofs.lemmas.Result.{err_from_is_err_and}
+use Rattle.std.proofs.{Common.{ap, refl, inr, subst, List, ℕ, [], ◌++◌, ◌∙◌}, lemmas.Result.{err_from_is_err_and}}
 use Rattle.nntp_spool.specs.Writing.{Wrote}
-use Rattle.nntp_wire.specs.Held.{held as names_in}
-use Rattle.nntp_check.specs.Report.{report_of, text_behind}
+use Rattle.nntp_wire.specs.Inner.Held.{held as names_in}
+use Rattle.nntp_check.specs.{Report.{report_of}, Inner.Report.{text_behind}}
 use Rattle.nntp_verdict.specs.Verdict.{sessions_verdict_shown}
 use Rattle.nntp_check.proofs.run.report_verdict.Goals as goal
 

@@ -1,12 +1,7 @@
-use Rattle.std.proofs.Common.{◌∙◌, ap, refl, subst, sym, length}
-use Rattle.std.proofs.lemmas.Result.{IfOk-weaker, IfErr-weaker, err_from_is_err_and}
-use Rattle.std.proofs.lemmas.List.{length-map}
-use Rattle.nntp_check.specs.Capture.{sessions_of}
-use Rattle.nntp_check.specs.Collecting.{judged_report}
-use Rattle.nntp_check.specs.Report.{IsWithin, report_of}
-use Rattle.nntp_check.specs.Run.{read_by, written_by, CheckReports}
+use Rattle.std.proofs.{Common.{◌∙◌, ap, refl, subst, sym, length}, lemmas.{Result.{IfOk-weaker, IfErr-weaker, err_from_is_err_and}, List.{length-map}}}
+use Rattle.nntp_check.specs.{Capture.{sessions_of}, Inner.{Collecting.{judged_report}, Report.{IsWithin}}, Report.{report_of}, Run.{read_by, written_by}}
+use Rattle.nntp_check.{specs.Run.{CheckReports}, proofs.RunLemmas.{wrote-all, unwritten-whole, unfinished-front, verdict-within, whole-front}}
 use Rattle.nntp_verdict.specs.Verdict.{sessions_verdict_shown, is_consistent_of_all}
-use Rattle.nntp_check.proofs.RunLemmas.{wrote-all, unwritten-whole, unfinished-front, verdict-within, whole-front}
 use Rattle.nntp_check.proofs.run.run_check.Goals as goal
 
 pub read_capture-requires : goal.read_capture-requires
@@ -22,7 +17,8 @@ report_verdict-requires g c =
     let read = c.in_ok-is_several.ensures.ok (c.args.limit, c.args.marks) c.new-checker.ensures in
     let told = c.in_ok-judged.ensures.ok c.args.limit c.args.marks read.0 read.2 in
     let judgement = sessions_verdict_shown c.in_ok-judged.judged.verdict in
-    subst (λ n. IsWithin n judgement) (sym (ap length told.1) ∙ length-map c.in_ok-judged.judged.names.items (λ n. n.items)) (verdict-within c.args.limit c.args.marks (sessions_of read.0) judgement told.0)
+    subst (λ n. IsWithin n judgement) (sym (ap length told.1)
+    ∙ length-map c.in_ok-judged.judged.names.items (λ n. n.items)) (verdict-within c.args.limit c.args.marks (sessions_of read.0) judgement told.0)
 
 pub returns-clause-ok : goal.returns-clause-ok
 returns-clause-ok g c =

@@ -1,8 +1,5 @@
-use Rattle.std.proofs.Common.{subst}
-use Rattle.std.proofs.lemmas.Result.{err_from_is_err_and}
-use Rattle.nntp_check.specs.Capture.{Captured, Held}
-use Rattle.nntp_check.specs.Run.{read_by, ExplainReports, ExplainsHeld}
-use Rattle.nntp_check.proofs.RunLemmas.{wrote-all, cut-short, whole-front}
+use Rattle.std.proofs.{Common.{subst}, lemmas.Result.{err_from_is_err_and}}
+use Rattle.nntp_check.{specs.{Capture.{Captured, Held}, Run.{read_by, ExplainReports, ExplainsHeld}}, proofs.RunLemmas.{wrote-all, cut-short, whole-front}}
 use Rattle.nntp_check.proofs.run.run_explain.Goals as goal
 
 pub returns-in_err-print-clause-err : goal.returns-in_err-print-clause-err

@@ -1,9 +1,6 @@
-use Rattle.std.proofs.Common.{refl}
-use Rattle.std.proofs.lemmas.Result.{err_from_is_err_and}
-use Rattle.nntp_check.specs.Capture.{Captured}
-use Rattle.nntp_check.specs.Run.{read_by, ShowReports}
-use Rattle.nntp_check.proofs.HoldingLemmas.{capture-alone}
-use Rattle.nntp_check.proofs.RunLemmas.{wrote-all, cut-short, whole-front}
+use Rattle.std.proofs.{Common.{refl}, lemmas.Result.{err_from_is_err_and}}
+use Rattle.nntp_check.{specs.{Capture.{Captured}, Run.{read_by, ShowReports}}, proofs.{HoldingLemmas.{capture-alone}, RunLemmas.{wrote-all, cut-short}}}
+use Rattle.nntp_check.proofs.RunLemmas.{whole-front}
 use Rattle.nntp_check.proofs.run.run_show.Goals as goal
 
 pub finish-requires : goal.finish-requires

@@ -1,8 +1,5 @@
-use Rattle.std.proofs.Common.{sym, subst}
-use Rattle.std.proofs.lemmas.Result.{err_from_is_err_and}
-use Rattle.nntp_check.specs.Capture.{Held}
-use Rattle.nntp_check.specs.Run.{ReadsCapture, read_by, written_by, VerifyReports}
-use Rattle.nntp_check.proofs.RunLemmas.{wrote-all, cut-short}
+use Rattle.std.proofs.{Common.{sym, subst}, lemmas.Result.{err_from_is_err_and}}
+use Rattle.nntp_check.{specs.{Capture.{Held}, Run.{ReadsCapture, read_by, written_by, VerifyReports}}, proofs.RunLemmas.{wrote-all, cut-short}}
 use Rattle.nntp_check.proofs.run.run_verify.Goals as goal
 
 pub returns-in_err-told-clause-err : goal.returns-in_err-told-clause-err

@@ -1,7 +1,6 @@
 use Rattle.std.proofs.Common.{◌≡◌, ◌∙◌, ◌+◌, ◌<◌, ◌++◌, ap, sym, append_assoc, add-one, drop-cons, ℕ, List, ◌∷◌, length, get_or, drop, map}
 use Rattle.std.specs.List.{flat_map}
-use Rattle.nntp_article.specs.Article.Control.{ControlValue}
-use Rattle.nntp_article.specs.Article.View.{control_value}
+use Rattle.nntp_article.specs.{Article.Control.{ControlValue}, Inner.View.{control_value}}
 use Rattle.nntp_check.specs.Show.{control_line}
 use Rattle.nntp_check.proofs.show.put_controls.Goals as goal
 

@@ -1,6 +1,5 @@
-use Rattle.std.proofs.Common.{◌≡◌, ◌++◌, drop, map}
-use Rattle.std.specs.List.{flat_map}
-use Rattle.nntp_article.specs.Article.View.{control_value}
+use Rattle.std.{proofs.Common.{◌≡◌, ◌++◌, drop, map}, specs.List.{flat_map}}
+use Rattle.nntp_article.specs.Inner.View.{control_value}
 use Rattle.nntp_check.specs.Show.{control_line}
 use Rattle.nntp_check.proofs.show.put_controls.Given as goal
 

@@ -1,12 +1,6 @@
-use Rattle.std.proofs.Common.{◌≡◌, ◌∙◌, ◌++◌, ap, sym, append_assoc, ℕ, List, [], map}
-use Rattle.std.specs.Bool.{IsTrue}
-use Rattle.std.specs.List.{flat_map}
-use Rattle.std.proofs.lemmas.Bool.{cond-true}
-use Rattle.std.proofs.lemmas.Result.{on_ok_weaker}
-use Rattle.nntp_article.specs.Article.Control.{ControlValue, controls_of}
-use Rattle.nntp_article.specs.Article.Parts.{is_head}
-use Rattle.nntp_article.specs.Article.Required.{missing_of}
-use Rattle.nntp_article.specs.Article.View.{control_value}
+use Rattle.std.proofs.{Common.{◌≡◌, ◌∙◌, ◌++◌, ap, sym, append_assoc, ℕ, List, [], map}, lemmas.{Bool.{cond-true}, Result.{on_ok_weaker}}}
+use Rattle.std.specs.{Bool.{IsTrue}, List.{flat_map}}
+use Rattle.nntp_article.specs.{Article.{Control.{ControlValue, controls_of}, Parts.{is_head}, Required.{missing_of}}, Inner.View.{control_value}}
 use Rattle.nntp_article.specs.declared.article.missing_headers.Missing.{Missing}
 use Rattle.nntp_check.specs.Show.{control_line, missing_line, told_by_head, under_head}
 use Rattle.nntp_check.proofs.show.put_head.Goals as goal

@@ -1,6 +1,5 @@
 use Rattle.std.proofs.Common.{◌∙◌, ap}
-use Rattle.nntp_article.specs.Session.Limit.{profile_of}
-use Rattle.nntp_article.specs.Session.Machine.{visible_after}
+use Rattle.nntp_article.specs.Session.{Limit.{profile_of}, Machine.{visible_after}}
 use Rattle.nntp_pair.specs.Pairing.{asked_at}
 use Rattle.nntp_example.proofs.AcceptedAnswers.{next_due, one_more, one_bad}
 use Rattle.nntp_example.proofs.conflict.first_contradiction.Goals as goal

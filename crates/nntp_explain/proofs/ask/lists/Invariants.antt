@@ -1,5 +1,4 @@
-use Rattle.std.proofs.Common.{◌≡◌, ◌==◌}
-use Rattle.std.specs.List.{list_any}
+use Rattle.std.{proofs.Common.{◌≡◌, ◌==◌}, specs.List.{list_any}}
 use Rattle.nntp_wire.specs.Listing.{listed_numbers}
 use Rattle.nntp_explain.proofs.ask.lists.Given as goal
 

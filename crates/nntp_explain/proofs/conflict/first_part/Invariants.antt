@@ -1,5 +1,5 @@
 use Rattle.std.proofs.Common.{◌≡◌, drop}
-use Rattle.nntp_facts.specs.PointView.{point_of}
+use Rattle.nntp_facts.specs.Inner.PointView.{point_of}
 use Rattle.nntp_explain.specs.Says.{first_part}
 use Rattle.nntp_explain.proofs.conflict.first_part.Given as goal
 

@@ -1,9 +1,6 @@
-use Rattle.std.proofs.Common.{◌∙◌, ◌++◌, ap, map}
-use Rattle.std.specs.List.{flat_map}
-use Rattle.nntp_facts.specs.PointView.{point_of}
-use Rattle.nntp_explain.specs.ExplainingView.{cited_of}
-use Rattle.nntp_explain.specs.Reasons.{about_line, rest_line}
-use Rattle.nntp_explain.specs.Says.{said_lines, reason_lines, told_line}
+use Rattle.std.{proofs.Common.{◌∙◌, ◌++◌, ap, map}, specs.List.{flat_map}}
+use Rattle.nntp_facts.specs.Inner.PointView.{point_of}
+use Rattle.nntp_explain.specs.{Inner.ExplainingView.{cited_of}, Reasons.{about_line, rest_line}, Says.{said_lines, reason_lines, told_line}}
 use Rattle.nntp_explain.proofs.SaysLemmas.{on_ok, conflict_told}
 use Rattle.nntp_explain.proofs.conflict.put_conflict.Goals as goal
 

@@ -1,8 +1,6 @@
-use Rattle.std.proofs.Common.{◌≡◌, ◌++◌, drop, map}
-use Rattle.std.specs.List.{flat_map}
-use Rattle.nntp_facts.specs.PointView.{point_of}
-use Rattle.nntp_explain.specs.ExplainingView.{cited_of}
-use Rattle.nntp_explain.specs.Says.{reason_lines}
+use Rattle.std.{proofs.Common.{◌≡◌, ◌++◌, drop, map}, specs.List.{flat_map}}
+use Rattle.nntp_facts.specs.Inner.PointView.{point_of}
+use Rattle.nntp_explain.specs.{Inner.ExplainingView.{cited_of}, Says.{reason_lines}}
 use Rattle.nntp_explain.proofs.conflict.put_reasons.Given as goal
 
 -- with the reasons at the places that are left, the text is that of all of them

@@ -1,6 +1,5 @@
-use Rattle.nntp_article.specs.Session.Misfit.{marked_by}
-use Rattle.nntp_explain.specs.Explaining.{visible_left}
-use Rattle.nntp_explain.proofs.LowMarks.{giver_of_marks}
+use Rattle.nntp_article.specs.Inner.Misfit.{marked_by}
+use Rattle.nntp_explain.{specs.Explaining.{visible_left}, proofs.LowMarks.{giver_of_marks}}
 use Rattle.nntp_explain.proofs.laws.low_marks_have_givers.Goals as goal
 
 pub returns : goal.returns

@@ -1,8 +1,6 @@
-use Rattle.std.proofs.Common.{◌++◌, ◌∙◌, ap, sym}
-use Rattle.std.specs.Prelude.{codes}
-use Rattle.nntp_facts.specs.PointView.{point_of}
-use Rattle.nntp_explain.specs.Reasons.{about_line, octets_line}
-use Rattle.nntp_explain.proofs.SaysLemmas.{on_ok, line_told}
+use Rattle.std.{proofs.Common.{◌++◌, ◌∙◌, ap, sym}, specs.Prelude.{codes}}
+use Rattle.nntp_facts.specs.Inner.PointView.{point_of}
+use Rattle.nntp_explain.{specs.Reasons.{about_line, octets_line}, proofs.SaysLemmas.{on_ok, line_told}}
 use Rattle.nntp_explain.proofs.reasons.put_about.Goals as goal
 
 pub returns-in-Group : goal.returns-in-Group

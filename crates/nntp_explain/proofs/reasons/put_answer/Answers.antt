@@ -1,7 +1,5 @@
-use Rattle.std.proofs.Common.{◌≡◌, ◌≢◌, ◌∙◌, ◌++◌, ◌==◌, if◌then◌else◌, ap, sym, append_assoc, arith, false, ℕ, List, []}
-use Rattle.std.specs.Prelude.{codes, decimal}
-use Rattle.nntp_explain.specs.Reasons.{session_text}
-use Rattle.nntp_explain.proofs.SaysLemmas.{on_ok}
+use Rattle.std.{proofs.Common.{◌≡◌, ◌≢◌, ◌∙◌, ◌++◌, ◌==◌, if◌then◌else◌, ap, sym, append_assoc, arith, false, ℕ, List, []}, specs.Prelude.{codes, decimal}}
+use Rattle.nntp_explain.{specs.Reasons.{session_text}, proofs.SaysLemmas.{on_ok}}
 use Rattle.nntp_explain.proofs.reasons.put_answer.Goals as goal
 
 -- the session is another one

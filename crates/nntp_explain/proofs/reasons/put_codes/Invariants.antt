@@ -1,6 +1,4 @@
-use Rattle.std.proofs.Common.{◌≡◌, ◌++◌, drop}
-use Rattle.std.specs.Prelude.{codes, decimal}
-use Rattle.std.specs.List.{flat_map}
+use Rattle.std.{proofs.Common.{◌≡◌, ◌++◌, drop}, specs.{Prelude.{codes, decimal}, List.{flat_map}}}
 use Rattle.nntp_explain.proofs.reasons.put_codes.Given as goal
 
 abbrev pub invariant-loop-code : goal.invariant-loop-code

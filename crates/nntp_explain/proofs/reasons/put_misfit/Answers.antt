@@ -1,6 +1,5 @@
-use Rattle.std.proofs.Common.{◌∙◌, ◌++◌, ap, sym}
-use Rattle.std.proofs.lemmas.Result.{on_ok_weaker}
-use Rattle.nntp_article.specs.Session.MisfitView.{why}
+use Rattle.std.proofs.{Common.{◌∙◌, ◌++◌, ap, sym}, lemmas.Result.{on_ok_weaker}}
+use Rattle.nntp_article.specs.Inner.MisfitView.{why}
 use Rattle.nntp_explain.specs.Reasons.{misfit_line}
 use Rattle.nntp_explain.proofs.reasons.put_misfit.Goals as goal
 

@@ -1,8 +1,6 @@
-use Rattle.std.proofs.Common.{◌++◌, refl}
-use Rattle.std.specs.Prelude.{codes}
-use Rattle.nntp_explain.specs.Reasons.{octets_line}
+use Rattle.std.{proofs.Common.{◌++◌, refl}, specs.Prelude.{codes}}
+use Rattle.nntp_explain.{specs.Reasons.{octets_line}, proofs.SaysLemmas.{on_ok, line_told, two_told}}
 use Rattle.nntp_printing.specs.Printing.{escaped}
-use Rattle.nntp_explain.proofs.SaysLemmas.{on_ok, line_told, two_told}
 use Rattle.nntp_explain.proofs.reasons.put_named_id.Goals as goal
 
 pub returns : goal.returns

@@ -1,7 +1,4 @@
-use Rattle.std.proofs.Common.{◌≡◌, ◌++◌, append_assoc, ℕ, List}
-use Rattle.std.specs.Fmt.{decimal}
-use Rattle.std.specs.Prelude.{codes}
-use Rattle.std.proofs.lemmas.Result.{on_ok_weaker}
+use Rattle.std.{proofs.{Common.{◌≡◌, ◌++◌, append_assoc, ℕ, List}, lemmas.Result.{on_ok_weaker}}, specs.{Fmt.{decimal}, Prelude.{codes}}}
 use Rattle.nntp_explain.proofs.reasons.put_not_above.Goals as goal
 
 -- texts one behind the other

@@ -1,6 +1,5 @@
 use Rattle.std.proofs.Common.{map}
-use Rattle.nntp_explain.specs.ExplainingView.{cited_of}
-use Rattle.nntp_explain.proofs.AnswerLemmas.{rest_told}
+use Rattle.nntp_explain.{specs.Inner.ExplainingView.{cited_of}, proofs.AnswerLemmas.{rest_told}}
 use Rattle.nntp_explain.proofs.reasons.put_rest.Goals as goal
 
 pub returns : goal.returns

@@ -1,6 +1,4 @@
-use Rattle.std.proofs.Common.{◌≡◌, ◌++◌, append_assoc, ℕ, List}
-use Rattle.std.specs.Fmt.{decimal}
-use Rattle.std.specs.Prelude.{codes}
+use Rattle.std.{proofs.Common.{◌≡◌, ◌++◌, append_assoc, ℕ, List}, specs.{Fmt.{decimal}, Prelude.{codes}}}
 use Rattle.nntp_explain.specs.Reasons.{allowed_text}
 use Rattle.nntp_explain.proofs.reasons.put_wrong_code.Goals as goal
 

@@ -1,5 +1,5 @@
 use Rattle.std.proofs.Common.{None}
-use Rattle.nntp_wire.specs.View.{active_value}
+use Rattle.nntp_wire.specs.Inner.View.{active_value}
 use Rattle.nntp_explain.proofs.SaysLemmas.{bounds_told, bounds_end}
 use Rattle.nntp_explain.proofs.said_numbers.put_bounds.Goals as goal
 

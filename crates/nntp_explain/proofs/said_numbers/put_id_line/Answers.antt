@@ -1,8 +1,6 @@
-use Rattle.std.proofs.Common.{◌++◌, ◌∷◌, []}
-use Rattle.std.specs.Prelude.{codes, decimal}
+use Rattle.std.{proofs.Common.{◌++◌, ◌∷◌, []}, specs.Prelude.{codes, decimal}}
 use Rattle.nntp_printing.specs.Printing.{escaped}
-use Rattle.nntp_explain.specs.Says.{subject}
-use Rattle.nntp_explain.proofs.SaysLemmas.{on_ok, two_more, three_more}
+use Rattle.nntp_explain.{specs.Says.{subject}, proofs.SaysLemmas.{on_ok, two_more, three_more}}
 use Rattle.nntp_explain.proofs.said_numbers.put_id_line.Goals as goal
 
 pub returns : goal.returns

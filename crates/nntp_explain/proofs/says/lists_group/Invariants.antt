@@ -1,5 +1,4 @@
-use Rattle.std.proofs.Common.{◌≡◌}
-use Rattle.std.specs.List.{list_any}
+use Rattle.std.{proofs.Common.{◌≡◌}, specs.List.{list_any}}
 use Rattle.nntp_wire.specs.Listing.{active_groups}
 use Rattle.nntp_article.specs.Session.Machine.{is_same}
 use Rattle.nntp_explain.proofs.says.lists_group.Given as goal

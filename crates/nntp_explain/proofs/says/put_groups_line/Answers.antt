@@ -1,7 +1,6 @@
 use Rattle.std.specs.Prelude.{codes, length}
 use Rattle.nntp_wire.specs.Listing.{active_groups}
-use Rattle.nntp_explain.specs.Says.{with_or_without}
-use Rattle.nntp_explain.proofs.SaysLemmas.{on_ok, counted}
+use Rattle.nntp_explain.{specs.Says.{with_or_without}, proofs.SaysLemmas.{on_ok, counted}}
 use Rattle.nntp_explain.proofs.says.put_groups_line.Goals as goal
 
 pub returns : goal.returns

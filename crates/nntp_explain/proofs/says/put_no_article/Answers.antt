@@ -1,7 +1,6 @@
-use Rattle.std.proofs.Common.{◌∙◌, ap, sym}
-use Rattle.std.specs.Prelude.{codes}
+use Rattle.std.{proofs.Common.{◌∙◌, ap, sym}, specs.Prelude.{codes}}
 use Rattle.nntp_said.specs.Facts.{NoArticle}
-use Rattle.nntp_facts.specs.PointView.{point_of}
+use Rattle.nntp_facts.specs.Inner.PointView.{point_of}
 use Rattle.nntp_explain.proofs.SaysLemmas.{on_ok, line_told, told_article}
 use Rattle.nntp_explain.proofs.says.put_no_article.Goals as goal
 

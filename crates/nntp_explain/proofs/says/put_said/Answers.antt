@@ -1,7 +1,6 @@
-use Rattle.nntp_said.specs.FactView.{fact_of}
-use Rattle.nntp_facts.specs.PointView.{point_of}
-use Rattle.nntp_explain.specs.Says.{says}
-use Rattle.nntp_explain.proofs.SaysLemmas.{all_told, one_told}
+use Rattle.nntp_said.specs.Inner.FactView.{fact_of}
+use Rattle.nntp_facts.specs.Inner.PointView.{point_of}
+use Rattle.nntp_explain.{specs.Says.{says}, proofs.SaysLemmas.{all_told, one_told}}
 use Rattle.nntp_explain.proofs.says.put_said.Goals as goal
 
 pub loop-fact-preserved : goal.loop-fact-preserved

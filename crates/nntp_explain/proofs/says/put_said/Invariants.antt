@@ -1,6 +1,5 @@
-use Rattle.std.proofs.Common.{◌≡◌, ◌++◌}
-use Rattle.std.specs.List.{flat_map}
-use Rattle.nntp_facts.specs.PointView.{point_of}
+use Rattle.std.{proofs.Common.{◌≡◌, ◌++◌}, specs.List.{flat_map}}
+use Rattle.nntp_facts.specs.Inner.PointView.{point_of}
 use Rattle.nntp_explain.specs.Says.{said_lines, says}
 use Rattle.nntp_explain.proofs.says.put_said.Given as goal
 

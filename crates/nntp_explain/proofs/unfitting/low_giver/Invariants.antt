@@ -1,5 +1,4 @@
-use Rattle.std.proofs.Common.{◌≡◌, ◌+◌, drop}
-use Rattle.std.specs.Prelude.{option_map}
+use Rattle.std.{proofs.Common.{◌≡◌, ◌+◌, drop}, specs.Prelude.{option_map}}
 use Rattle.nntp_explain.specs.Reasons.{low_giver}
 use Rattle.nntp_explain.proofs.unfitting.low_giver.Given as goal
 

@@ -1,5 +1,5 @@
 use Rattle.std.proofs.Common.{◌≡◌, ℕ, ◌||◌}
-use Rattle.nntp_intervals.specs.Intervals.{holds}
+use Rattle.nntp_intervals.specs.Inner.Intervals.{holds}
 use Rattle.nntp_facts.proofs.gaps.deny_gaps.Given as goal
 
 abbrev pub invariant-loop-first : goal.invariant-loop-first

@@ -1,7 +1,6 @@
-use Rattle.std.proofs.Common.{◌≡◌, ℕ, true, false}
-use Rattle.std.specs.Prelude.{◌↔◌}
-use Rattle.nntp_intervals.specs.Intervals.{holds}
-use Rattle.nntp_facts.specs.Summary.{has}
+use Rattle.std.{proofs.Common.{◌≡◌, ℕ, true, false}, specs.Prelude.{◌↔◌}}
+use Rattle.nntp_intervals.specs.Inner.Intervals.{holds}
+use Rattle.nntp_facts.specs.Inner.Summary.{has}
 use Rattle.nntp_facts.proofs.gaps.none_in_gaps.Given as goal
 
 abbrev pub invariant-loop-first : goal.invariant-loop-first

@@ -1,6 +1,6 @@
 use Rattle.std.proofs.Common.{arith}
-use Rattle.nntp_facts.proofs.Session.OneMoreAnswer.{prompts_of_pairs, pairs_permitted}
-use Rattle.nntp_facts.proofs.Session.LaterPrompts.{permitted_longer, facts_longer, visible_longer, next_behind}
+use Rattle.nntp_facts.proofs.Session.{OneMoreAnswer.{prompts_of_pairs, pairs_permitted}, LaterPrompts.{permitted_longer, facts_longer, visible_longer}}
+use Rattle.nntp_facts.proofs.Session.LaterPrompts.{next_behind}
 use Rattle.nntp_facts.proofs.laws.answered_prompts_matter.Goals as goal
 
 pub returns : goal.returns

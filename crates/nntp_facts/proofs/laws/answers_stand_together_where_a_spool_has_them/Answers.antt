@@ -1,6 +1,5 @@
 use Rattle.std.specs.List.{flat_map}
-use Rattle.nntp_facts.specs.Conflict.{told, told_with}
-use Rattle.nntp_facts.proofs.Conflicts.{told_together, all_told, with_told, session_fits, session_told}
+use Rattle.nntp_facts.{specs.Conflict.{told, told_with}, proofs.Conflicts.{told_together, all_told, with_told, session_fits, session_told}}
 use Rattle.nntp_facts.proofs.laws.answers_stand_together_where_a_spool_has_them.Goals as goal
 
 pub returns : goal.returns

@@ -1,8 +1,6 @@
-use Rattle.nntp_facts.specs.Conflict.{below}
-use Rattle.std.proofs.Common.{◌++◌}
-use Rattle.nntp_facts.proofs.Members.{contains_in, in_contains}
-use Rattle.nntp_facts.proofs.Conflicts.{core_start, core_step, core_done, found_in_each}
+use Rattle.nntp_facts.{specs.Conflict.{below}, proofs.{Members.{contains_in, in_contains}, Conflicts.{core_start, core_step, core_done, found_in_each}}}
 use Rattle.nntp_facts.proofs.Keeping.CoresFound.{one_below}
+use Rattle.std.proofs.Common.{◌++◌}
 use Rattle.nntp_facts.proofs.laws.core_is_found.Goals as goal
 
 pub returns : goal.returns

@@ -1,5 +1,4 @@
-use Rattle.nntp_facts.proofs.Members.{contains_in, in_contains}
-use Rattle.nntp_facts.proofs.Conflicts.{fewer}
+use Rattle.nntp_facts.proofs.{Members.{contains_in, in_contains}, Conflicts.{fewer}}
 use Rattle.nntp_facts.proofs.laws.fewer_facts_hold.Goals as goal
 
 pub returns : goal.returns

@@ -1,8 +1,5 @@
 use Rattle.nntp_article.specs.Session.Spool.{numbers}
-use Rattle.nntp_facts.specs.Given.{asks_of}
-use Rattle.nntp_facts.proofs.GivenNumbers.MetNumbersStand.{asks_stand}
-use Rattle.nntp_facts.proofs.GivenNumbers.GivenNumbersMeet.{given_meet}
-use Rattle.nntp_facts.proofs.GivenNumbers.AskedOfAGroup.{met_by_facts}
+use Rattle.nntp_facts.{specs.Given.{asks_of}, proofs.GivenNumbers.{MetNumbersStand.{asks_stand}, GivenNumbersMeet.{given_meet}, AskedOfAGroup.{met_by_facts}}}
 use Rattle.nntp_facts.proofs.laws.given_numbers_meet_what_is_asked.Goals as goal
 
 pub returns : goal.returns

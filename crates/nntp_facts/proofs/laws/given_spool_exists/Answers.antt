@@ -1,5 +1,4 @@
-use Rattle.nntp_facts.proofs.Given.GivenSpoolExists.{made_for, given_exists}
-use Rattle.nntp_facts.proofs.Given.GivenPermits.{stands}
+use Rattle.nntp_facts.proofs.Given.{GivenSpoolExists.{made_for, given_exists}, GivenPermits.{stands}}
 use Rattle.nntp_facts.proofs.laws.given_spool_exists.Goals as goal
 
 pub returns : goal.returns

@@ -1,5 +1,4 @@
-use Rattle.nntp_facts.proofs.GivenNumbers.JoinedDemands.{demand_append}
-use Rattle.nntp_facts.proofs.Together.FactsJoin.{together_more, answer_agrees}
+use Rattle.nntp_facts.proofs.{GivenNumbers.JoinedDemands.{demand_append}, Together.FactsJoin.{together_more, answer_agrees}}
 use Rattle.nntp_facts.proofs.Keeping.NotedSessions.{permitted_more}
 use Rattle.nntp_facts.proofs.laws.next_answer_is_permitted_where_it_joins.Goals as goal
 

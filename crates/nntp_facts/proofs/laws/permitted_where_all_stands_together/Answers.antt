@@ -1,6 +1,5 @@
-use Rattle.nntp_facts.proofs.Given.GivenPermits.{stands, given_permits}
+use Rattle.nntp_facts.proofs.Given.{GivenPermits.{stands, given_permits}, GivenSpoolExists.{made_for, given_exists, permitted_together}}
 use Rattle.nntp_facts.proofs.Together.FactsOfASpoolStand.{stand}
-use Rattle.nntp_facts.proofs.Given.GivenSpoolExists.{made_for, given_exists, permitted_together}
 use Rattle.nntp_facts.proofs.laws.permitted_where_all_stands_together.Goals as goal
 
 pub returns : goal.returns

@@ -1,8 +1,5 @@
-use Rattle.std.proofs.Common.{subst}
-use Rattle.std.specs.List.{AllByRecursion}
-use Rattle.nntp_facts.specs.Given.{facts_of_session}
-use Rattle.nntp_facts.proofs.Session.NumbersOfShownGroups.{Placed, session_placed}
-use Rattle.nntp_facts.proofs.GivenNumbers.StrictMarks.{none_more}
+use Rattle.std.{proofs.Common.{subst}, specs.List.{AllByRecursion}}
+use Rattle.nntp_facts.{specs.Given.{facts_of_session}, proofs.{Session.NumbersOfShownGroups.{Placed, session_placed}, GivenNumbers.StrictMarks.{none_more}}}
 use Rattle.nntp_facts.proofs.laws.strict_marks_are_all_that_is_added.Goals as goal
 
 pub returns : goal.returns

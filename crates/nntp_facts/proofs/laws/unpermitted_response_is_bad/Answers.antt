@@ -1,5 +1,4 @@
-use Rattle.std.specs.Prelude.{⊤}
-use Rattle.std.proofs.Common.{refl}
+use Rattle.std.{specs.Prelude.{⊤}, proofs.Common.{refl}}
 use Rattle.nntp_facts.proofs.Streams.PairedStreams.{bad_answer, answer_has_class, unfitting}
 use Rattle.nntp_facts.proofs.laws.unpermitted_response_is_bad.Goals as goal
 

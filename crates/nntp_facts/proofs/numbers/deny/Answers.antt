@@ -1,10 +1,6 @@
-use Rattle.std.proofs.Common.{◌||◌, ap, ◌∙◌}
-use Rattle.std.specs.Prelude.{nat_lt}
-use Rattle.nntp_intervals.specs.Intervals.{holds}
-use Rattle.nntp_facts.specs.PartView.{said}
-use Rattle.nntp_facts.proofs.OkResults.{on_ok}
-use Rattle.nntp_facts.proofs.Keeping.GapsOfAPart.{denies_by_gaps}
-use Rattle.nntp_facts.proofs.Keeping.Tallies.{or_assoc}
+use Rattle.std.{proofs.Common.{◌||◌, ap, ◌∙◌}, specs.Prelude.{nat_lt}}
+use Rattle.nntp_intervals.specs.Inner.Intervals.{holds}
+use Rattle.nntp_facts.{specs.Inner.PartView.{said}, proofs.{OkResults.{on_ok}, Keeping.{GapsOfAPart.{denies_by_gaps}, Tallies.{or_assoc}}}}
 use Rattle.nntp_facts.proofs.numbers.deny.Goals as goal
 
 pub returns : goal.returns

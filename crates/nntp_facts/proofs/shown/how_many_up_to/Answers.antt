@@ -1,6 +1,4 @@
-use Rattle.std.specs.Prelude.{not}
-use Rattle.std.specs.Ordering.{nat_cmp}
-use Rattle.std.specs.BTreeMap.Range.{is_past_end}
+use Rattle.std.specs.{Prelude.{not}, Ordering.{nat_cmp}, BTreeMap.Range.{is_past_end}}
 use Rattle.nntp_facts.proofs.Keeping.PassingNumbers.{found_one, found_two}
 use Rattle.nntp_facts.proofs.shown.how_many_up_to.Goals as goal
 

@@ -1,5 +1,4 @@
-use Rattle.nntp_facts.specs.Summary.{has}
-use Rattle.nntp_facts.proofs.Keeping.Tallies.{shown_next}
+use Rattle.nntp_facts.{specs.Inner.Summary.{has}, proofs.Keeping.Tallies.{shown_next}}
 use Rattle.nntp_facts.proofs.shown.show.Goals as goal
 
 pub loop-n-preserved : goal.loop-n-preserved

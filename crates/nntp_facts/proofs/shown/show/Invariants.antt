@@ -1,8 +1,5 @@
-use Rattle.std.proofs.Common.{◌≡◌, ℕ, ◌||◌, take}
-use Rattle.std.specs.List.Sorted.{IsStrictlySortedBy}
-use Rattle.std.specs.Ordering.{nat_cmp}
-use Rattle.nntp_facts.specs.Part.{is_one_of}
-use Rattle.nntp_facts.specs.Summary.{has}
+use Rattle.std.{proofs.Common.{◌≡◌, ℕ, ◌||◌, take}, specs.{List.Sorted.{IsStrictlySortedBy}, Ordering.{nat_cmp}}}
+use Rattle.nntp_facts.specs.Inner.{Part.{is_one_of}, Summary.{has}}
 use Rattle.nntp_facts.proofs.shown.show.Given as goal
 
 abbrev pub invariant-loop-n : goal.invariant-loop-n

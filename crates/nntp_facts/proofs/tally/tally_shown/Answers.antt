@@ -1,7 +1,5 @@
 use Rattle.std.proofs.Common.{false, ◌||◌, ◌∙◌, sym, subst, arith, take}
-use Rattle.nntp_facts.specs.Part.{is_one_of}
-use Rattle.nntp_facts.specs.Summary.{has, IsTally}
-use Rattle.nntp_facts.proofs.Keeping.Tallies.{tally_start, tally_step, tally_end, there_if}
+use Rattle.nntp_facts.{specs.Inner.{Part.{is_one_of}, Summary.{has, IsTally}}, proofs.Keeping.Tallies.{tally_start, tally_step, tally_end, there_if}}
 use Rattle.nntp_facts.proofs.tally.tally_shown.Goals as goal
 
 pub loop-n-init : goal.loop-n-init

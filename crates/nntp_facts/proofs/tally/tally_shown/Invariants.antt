@@ -1,8 +1,6 @@
-use Rattle.std.proofs.Common.{◌+◌, ◌^◌, ◌||◌, ◌<◌, take}
-use Rattle.std.specs.Prelude.{IsTrue}
+use Rattle.std.{proofs.Common.{◌+◌, ◌^◌, ◌||◌, ◌<◌, take}, specs.Prelude.{IsTrue}}
 use Rattle.nntp_article.specs.Session.Machine.{is_ascending}
-use Rattle.nntp_facts.specs.Part.{is_one_of}
-use Rattle.nntp_facts.specs.Summary.{has, IsTally}
+use Rattle.nntp_facts.specs.Inner.{Part.{is_one_of}, Summary.{has, IsTally}}
 use Rattle.nntp_facts.proofs.tally.tally_shown.Given as goal
 
 abbrev pub invariant-loop-n : goal.invariant-loop-n

@@ -2,15 +2,16 @@
 ghost use Rattle.std.specs.Prelude.{◌≡◌, ◌++◌, if◌then◌else◌, false, List, None, Some, MatchOption, option_map};
 ghost use Rattle.std.specs.Option.{option_map_or};
 ghost use Rattle.std.specs.FinMap.{get};
-ghost use Rattle.nntp_facts.specs.Articles.{AreSame, is_there};
+ghost use Rattle.nntp_facts.specs.Inner.Articles.{is_there};
 ghost use Rattle.nntp_facts.specs.Conflict.{Article, HeadOf, BodyOf};
 ghost use Rattle.nntp_facts.specs.Given.{first_given, head_in, body_in};
-ghost use Rattle.nntp_facts.specs.Kept.{IsKept};
+ghost use Rattle.nntp_facts.specs.Inner.Together.{AreSame};
+ghost use Rattle.nntp_facts.specs.Inner.Kept.{IsKept};
 ghost use Rattle.nntp_article.specs.declared.session.profile.Profile.{Profile};
 ghost use Rattle.nntp_said.specs.Facts.{Fact};
-ghost use Rattle.nntp_facts.specs.Points.{IsBeside, IsPointOf};
-ghost use Rattle.nntp_facts.specs.PointView.{point_of};
-ghost use Rattle.nntp_facts.specs.StatementView.{statement_of};
+ghost use Rattle.nntp_facts.specs.Inner.Points.{IsBeside, IsPointOf};
+ghost use Rattle.nntp_facts.specs.Inner.PointView.{point_of};
+ghost use Rattle.nntp_facts.specs.Inner.StatementView.{statement_of};
 
 use crate::articles::Sent;
 use crate::kept::Kept;
@@ -58,7 +59,8 @@ impl<A: Allocator> Kept<A> {
 
     /// Returns the id, if another head of its article is kept than the one that is sent.
     fn other_head_sent<'s>(&self, id: &'s str, sent: &Sent<'_>) -> Option<Point<'s>>
-        ensures { (facts : List Fact) → IsKept facts self.now → MatchOption (option_map point_of result) (AreSame sent.now.head (first_given (head_in id.now) facts))
+        ensures { (facts : List Fact) → IsKept facts self.now
+            → MatchOption (option_map point_of result) (AreSame sent.now.head (first_given (head_in id.now) facts))
             (λ point. (point ≡ HeadOf id.now) × (AreSame sent.now.head (first_given (head_in id.now) facts) → ⊥)) }
     {
         if self.articles.may_have_head(id, sent) {
@@ -85,7 +87,8 @@ impl<A: Allocator> Kept<A> {
 
     /// Returns the id, if another body of its article is kept than the one that is sent.
     fn other_body_sent<'s>(&self, id: &'s str, sent: &Sent<'_>) -> Option<Point<'s>>
-        ensures { (facts : List Fact) → IsKept facts self.now → MatchOption (option_map point_of result) (AreSame sent.now.body (first_given (body_in id.now) facts))
+        ensures { (facts : List Fact) → IsKept facts self.now
+            → MatchOption (option_map point_of result) (AreSame sent.now.body (first_given (body_in id.now) facts))
             (λ point. (point ≡ BodyOf id.now) × (AreSame sent.now.body (first_given (body_in id.now) facts) → ⊥)) }
     {
         if self.articles.may_have_body(id, sent) {

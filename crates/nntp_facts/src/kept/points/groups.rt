@@ -1,18 +1,19 @@
 //! Groups that are shown and denied.
 ghost use Rattle.std.specs.Prelude.{◌≡◌, ◌++◌, ◌⊎◌, Some, None, List, IfOk, IfSome, option_map, MatchOption, IsTrue, IsFalse};
 ghost use Rattle.std.specs.List.{AllByRecursion, list_any};
-ghost use Rattle.nntp_facts.specs.Together.{Together, denies_group};
-ghost use Rattle.nntp_facts.specs.Kept.{IsKept};
-ghost use Rattle.nntp_facts.specs.ListedGroups.{is_listed};
+ghost use Rattle.nntp_facts.specs.Inner.Together.{Together};
+ghost use Rattle.nntp_facts.specs.Together.{denies_group};
+ghost use Rattle.nntp_facts.specs.Inner.Kept.{IsKept};
+ghost use Rattle.nntp_facts.specs.Inner.ListedGroups.{is_listed};
 ghost use Rattle.nntp_facts.specs.Conflict.{Group};
 ghost use Rattle.nntp_wire.specs.Listing.{active_groups};
 ghost use Rattle.nntp_facts.specs.Given.{is_shown_group};
 ghost use Rattle.nntp_article.specs.declared.session.profile.Profile.{Profile};
 ghost use Rattle.nntp_said.specs.Facts.{Fact};
-ghost use Rattle.nntp_facts.specs.Points.{IsBeside, IsPointOf, Statement as StatementValue};
-ghost use Rattle.nntp_facts.specs.PointView.{point_of};
-ghost use Rattle.nntp_facts.specs.StatementView.{statement_of};
-ghost use Rattle.nntp_facts.specs.SayingView.{active_said};
+ghost use Rattle.nntp_facts.specs.Inner.Points.{IsBeside, IsPointOf, Statement as StatementValue};
+ghost use Rattle.nntp_facts.specs.Inner.PointView.{point_of};
+ghost use Rattle.nntp_facts.specs.Inner.StatementView.{statement_of};
+ghost use Rattle.nntp_facts.specs.Inner.SayingView.{active_said};
 
 use crate::kept::Kept;
 use crate::point::Point;
@@ -40,7 +41,8 @@ impl<A: Allocator + Copy> Kept<A> {
 impl<A: Allocator> Kept<A> {
     /// Returns the group of which the answer speaks, if it is denied; or else the one that it denies, if it is shown.
     fn denied_by_name<'s>(&self, told: &Statement<'s>) -> Option<GroupName<'s>>
-        ensures { (profile : Profile) (facts more : List Fact) → IsBeside profile facts self.now (statement_of told.now) more → (statement_of told.now).saying.groups ≡ None
+        ensures { (profile : Profile) (facts more : List Fact) → IsBeside profile facts self.now (statement_of told.now) more
+            → (statement_of told.now).saying.groups ≡ None
             → IsPointOf (facts ++ more) 1 (option_map Group result) }
     {
         match self.denied_of(told.group) {
@@ -74,8 +76,10 @@ impl<A: Allocator> Kept<A> {
         missing: Option<&'s [u8]>,
     ) -> Option<GroupName<'s>>
         ensures { (facts : List Fact) → IsKept facts self.now → Together facts
-            → MatchOption result (IfSome (option_map (λ name. name.now) missing.entry) (λ name. IsFalse (is_shown_group facts name) × (option_map (λ name. name.now) group.entry ≡ Some name → ⊥)))
-            (λ name. (option_map (λ name. name.now) missing.entry ≡ Some name) × (IsTrue (is_shown_group facts name) ⊎ (option_map (λ name. name.now) group.entry ≡ Some name))) }
+            → MatchOption result (IfSome (option_map (λ name. name.now) missing.entry) (λ name. IsFalse (is_shown_group facts name)
+            × (option_map (λ name. name.now) group.entry ≡ Some name → ⊥)))
+            (λ name. (option_map (λ name. name.now) missing.entry ≡ Some name)
+            × (IsTrue (is_shown_group facts name) ⊎ (option_map (λ name. name.now) group.entry ≡ Some name))) }
     {
         match missing {
             Some(missing) => match named(group, missing) {
@@ -134,7 +138,8 @@ impl<A: Allocator> Kept<A> {
 
 /// Returns the group, if this is its name.
 fn named<'s>(group: Option<&GroupName<'s>>, name: &[u8]) -> Option<GroupName<'s>>
-    ensures { MatchOption result (option_map (λ name. name.now) group.entry ≡ Some name.now → ⊥) (λ found. (name.now ≡ found) × (option_map (λ name. name.now) group.entry ≡ Some found)) }
+    ensures { MatchOption result (option_map (λ name. name.now) group.entry ≡ Some name.now → ⊥) (λ found. (name.now ≡ found)
+        × (option_map (λ name. name.now) group.entry ≡ Some found)) }
 {
     match group {
         Some(group) => {

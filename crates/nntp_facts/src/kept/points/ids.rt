@@ -2,9 +2,9 @@
 ghost use Rattle.std.specs.Prelude.{◌≡◌, ◌↔◌, ◌++◌, List, IsTrue, IfSome, option_map, option_copied};
 ghost use Rattle.nntp_article.specs.declared.session.profile.Profile.{Profile};
 ghost use Rattle.nntp_said.specs.Facts.{Fact};
-ghost use Rattle.nntp_facts.specs.Points.{IsBeside, IsPointOf};
-ghost use Rattle.nntp_facts.specs.PointView.{point_of};
-ghost use Rattle.nntp_facts.specs.StatementView.{statement_of};
+ghost use Rattle.nntp_facts.specs.Inner.Points.{IsBeside, IsPointOf};
+ghost use Rattle.nntp_facts.specs.Inner.PointView.{point_of};
+ghost use Rattle.nntp_facts.specs.Inner.StatementView.{statement_of};
 
 use crate::kept::Kept;
 use crate::point::Point;

@@ -4,19 +4,19 @@ ghost use Rattle.std.specs.List.{AllByRecursion};
 ghost use Rattle.nntp_wire.specs.Listing.{active_groups};
 ghost use Rattle.nntp_wire.specs.declared.marks.Marks.TheVariants.{Lenient};
 ghost use Rattle.nntp_said.specs.Asks.{Ask, Estimates, Bounds};
-ghost use Rattle.nntp_facts.specs.Kept.{Kept as KeptValue, IsKept};
+ghost use Rattle.nntp_facts.specs.Inner.Kept.{Kept as KeptValue, IsKept};
 ghost use Rattle.nntp_facts.specs.Conflict.{widest, Point as PointValue, rank, ConflictAt};
-ghost use Rattle.nntp_facts.specs.Part.{Says};
-ghost use Rattle.nntp_facts.specs.PartView.{said};
+ghost use Rattle.nntp_facts.specs.Inner.Part.{Says};
+ghost use Rattle.nntp_facts.specs.Inner.PartView.{said};
 ghost use Rattle.nntp_wire.specs.Limit.{greatest};
 ghost use Rattle.nntp_article.specs.declared.session.profile.Profile.{Profile};
 ghost use Rattle.nntp_said.specs.Facts.{Fact};
 ghost use Rattle.nntp_facts.specs.Given.{asks_of};
-ghost use Rattle.nntp_facts.specs.Summary.{IsSummary, AreBounded};
-ghost use Rattle.nntp_facts.specs.Points.{Statement as StatementValue, IsAbout, IsBeside, IsPointOf, IsPointIn, NoneBefore};
-ghost use Rattle.nntp_facts.specs.PointView.{point_of};
-ghost use Rattle.nntp_facts.specs.SayingView.{active_said};
-ghost use Rattle.nntp_facts.specs.StatementView.{statement_of, rank_of_numbers};
+ghost use Rattle.nntp_facts.specs.Inner.Summary.{IsSummary, AreBounded};
+ghost use Rattle.nntp_facts.specs.Inner.Points.{Statement as StatementValue, IsAbout, IsBeside, IsPointOf, IsPointIn, NoneBefore};
+ghost use Rattle.nntp_facts.specs.Inner.PointView.{point_of};
+ghost use Rattle.nntp_facts.specs.Inner.SayingView.{active_said};
+ghost use Rattle.nntp_facts.specs.Inner.StatementView.{statement_of, rank_of_numbers};
 
 use crate::kept::Kept;
 use crate::numbers::Numbers;
@@ -29,7 +29,8 @@ use std::alloc::{AllocError, Allocator};
 
 /// Returns the group of whose numbers the answer says what can't be.
 pub(crate) fn impossible<'s>(told: &Statement<'s>) -> Option<Point<'s>>
-    ensures { (profile : Profile) (facts more : List Fact) (k : KeptValue) → IsBeside profile facts k (statement_of told.now) more → IsPointOf (facts ++ more) 0 (option_map point_of result) }
+    ensures { (profile : Profile) (facts more : List Fact) (k : KeptValue) → IsBeside profile facts k (statement_of told.now) more
+        → IsPointOf (facts ++ more) 0 (option_map point_of result) }
 {
     let Some(group) = &told.saying.group else {
         return None;
@@ -48,7 +49,8 @@ impl<A: Allocator + Copy> Kept<A> {
         kind: NumbersKind,
         told: &Statement<'s>,
     ) -> Result<Option<Point<'s>>, AllocError>
-        ensures { IfOk result (λ point. (profile : Profile) (facts more : List Fact) → profile.limit ≡ greatest limit → IsBeside profile facts self.now (statement_of told.now) more
+        ensures { IfOk result (λ point. (profile : Profile) (facts more : List Fact) → profile.limit ≡ greatest limit
+            → IsBeside profile facts self.now (statement_of told.now) more
             → NoneBefore (facts ++ more) (rank_of_numbers kind) → IsPointOf (facts ++ more) (rank_of_numbers kind) (option_map point_of point)) }
     {
         match &told.saying.group {
@@ -80,7 +82,8 @@ impl<A: Allocator + Copy> Kept<A> {
         kind: NumbersKind,
         group: &GroupPart<'s>,
     ) -> Result<Option<Point<'s>>, AllocError>
-        ensures { IfOk result (λ point. (profile : Profile) (facts all : List Fact) (asks : List Ask) → profile.limit ≡ greatest limit → IsKept facts self.now → Says (said group.now.numbers) asks
+        ensures { IfOk result (λ point. (profile : Profile) (facts all : List Fact) (asks : List Ask) → profile.limit ≡ greatest limit → IsKept facts self.now
+            → Says (said group.now.numbers) asks
             → asks_of group.now.name.now all ≡ asks_of group.now.name.now facts ++ Estimates Lenient (widest profile) ∷ asks
             → NoneBefore all (rank_of_numbers kind) → IsPointIn all group.now.name.now (rank_of_numbers kind) (option_map point_of point)) }
     {
@@ -99,7 +102,8 @@ impl<A: Allocator + Copy> Kept<A> {
         ensures { IfOk result (λ point. (facts all : List Fact) → IsKept facts self.now
             → AllByRecursion (λ line. asks_of line.name all ≡ asks_of line.name facts ++ Bounds line.low line.high ∷ []) (active_groups block.now)
             → NoneBefore all (rank_of_numbers kind) → MatchOption (option_map point_of point)
-            (AllByRecursion (λ line. (other : PointValue) → rank other ≡ rank_of_numbers kind → IsAbout line.name other → ¬ (ConflictAt all other)) (active_groups block.now))
+            (AllByRecursion (λ line. (other : PointValue) → rank other ≡ rank_of_numbers kind → IsAbout line.name other
+            → ¬ (ConflictAt all other)) (active_groups block.now))
             (λ point. ConflictAt all point × (rank point ≡ rank_of_numbers kind))) }
     {
         for line in block.groups() {
@@ -144,7 +148,8 @@ fn point_in<'s, A: Allocator>(
 
 /// Returns a known number of the group that is denied.
 fn denied<'s, A: Allocator>(name: &'s [u8], numbers: &Numbers<A>) -> Option<Point<'s>>
-    ensures { (all : List Fact) → IsSummary numbers.now (asks_of name.now all) → AreBounded (asks_of name.now all) → IsPointIn all name.now 2 (option_map point_of result) }
+    ensures { (all : List Fact) → IsSummary numbers.now (asks_of name.now all) → AreBounded (asks_of name.now all)
+        → IsPointIn all name.now 2 (option_map point_of result) }
 {
     match numbers.denied_known() {
         Some(number) => Some(Point::Number { name, number }),

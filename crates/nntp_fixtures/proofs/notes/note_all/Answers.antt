@@ -1,8 +1,7 @@
 use Rattle.std.proofs.Common.{refl, sym, [], ap}
 use Rattle.nntp_article.specs.Session.Limit.{profile_of}
 use Rattle.nntp_witness.proofs.Aims.{noted_as_kept}
-use Rattle.nntp_verdict.specs.Judging.{class_noted}
-use Rattle.nntp_verdict.proofs.JudgeLemmas.{is-due, one-more}
+use Rattle.nntp_verdict.{specs.Inner.Judging.{class_noted}, proofs.JudgeLemmas.{is-due, one-more}}
 use Rattle.nntp_fixtures.proofs.notes.note_all.Goals as goal
 
 pub loop-exchange-init : goal.loop-exchange-init

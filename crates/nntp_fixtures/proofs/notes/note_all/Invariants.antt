@@ -1,6 +1,6 @@
 use Rattle.std.proofs.Common.{[], length}
 use Rattle.nntp_article.specs.Session.Limit.{profile_of}
-use Rattle.nntp_verdict.specs.Judging.{Passed}
+use Rattle.nntp_verdict.specs.Inner.Judging.{Passed}
 use Rattle.nntp_fixtures.proofs.notes.note_all.Given as goal
 
 abbrev pub invariant-loop-exchange : goal.invariant-loop-exchange

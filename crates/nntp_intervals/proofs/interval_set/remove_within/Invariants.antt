@@ -1,7 +1,5 @@
-use Rattle.std.proofs.Common.{◌≡◌, ℕ, None, length, cond}
-use Rattle.std.specs.Ordering.{nat_cmp}
-use Rattle.std.specs.BTreeMap.{get, IsOrdered}
-use Rattle.nntp_intervals.specs.Neighbours.{is_within}
+use Rattle.std.{proofs.Common.{◌≡◌, ℕ, None, length, cond}, specs.{Ordering.{nat_cmp}, BTreeMap.{get, IsOrdered}}}
+use Rattle.nntp_intervals.specs.Inner.Neighbours.{is_within}
 use Rattle.nntp_intervals.proofs.interval_set.remove_within.Given as goal
 
 abbrev pub invariant-loop-first : goal.invariant-loop-first

@@ -1,5 +1,4 @@
-use Rattle.std.proofs.Common.{ℕ, ◌∙◌, ap, take}
-use Rattle.std.proofs.lemmas.List.{take_min}
+use Rattle.std.proofs.{Common.{ℕ, ◌∙◌, ap, take}, lemmas.List.{take_min}}
 use Rattle.nntp_printing.proofs.bad_answer.shown.Goals as goal
 
 pub returns : goal.returns

@@ -1,18 +1,17 @@
 -- A request is refused, or what the allocator inside answers is handed on.
-use Rattle.std.proofs.Common.{List, [], ◌∷◌, ◌≡◌, w64, refl, ap, false}
-use Rattle.std.proofs.raw_atomic.Walks.{proved}
-use Rattle.std.proofs.alloc.Shapes.{after}
+use Rattle.std.proofs.{Common.{List, [], ◌∷◌, ◌≡◌, w64, refl, ap, false}, raw_atomic.Walks.{proved}, alloc.{Shapes.{after}, Calls.{Al, token, seen, Answer}}}
+use Rattle.std.{proofs.alloc.Calls.{answer_val, Answer-typed, Answer-err, Takes, at_takes, Takes-goes}, specs.{Allocator.{block_if_ok}, Prelude.{Err}}}
 use mathlib.Core.Bool.{Bool}
 use mir.Syntax.{named}
 use mir.Val.{Val}
 use base.Logic.{emp, id⊢}
 use base.Fml.{flft, ftrue, fsep}
-use base.Share
 use contract.BorrowLft.{◌⊑◌, ⊑_trans}
 use contract.Monad.{fact, fact_i}
 use contract.Running.{tables}
 use prog.Memory.{size, align, capped}
-use types.Kit.{‵, raw, prop, some, later, at_ret, Sq, ◌⊛◌, ◌$◌, ◌∵◌, !, qed, done, move, keep, drop, use0, use1, use2, split, split3, join, fsplit, fjoin, feq_i, feq_l, pick, await, suffices}
+use types.Kit.{‵, raw, prop, some, later, at_ret, Sq, ◌⊛◌, ◌$◌, ◌∵◌, !, qed, done, move, keep, drop, use0, use1, use2, split, split3, join, fsplit, fjoin}
+use types.Kit.{feq_i, feq_l, pick, await, suffices}
 use types.Part.{agg}
 use types.Run.{enter, addr, lit, stop, fld, no_more, and_then, first, branches, skips, exec, returns, returns_within}
 use types.ByLocal.{alloc_all, pass_all, free_all, look_at, get, through, sets, lands_as, env}
@@ -25,17 +24,11 @@ use denote.RattleType.{owns}
 use denote.Ref.{shr_vals, shr_Tells}
 use denote.Signature.{plain, types_at}
 use denote.Steps.{only, heard, nothing, peeks}
-use denote.Triple.Call.{calls_at}
-use denote.Triple.Clauses.{lasts}
-use denote.Triple.Spec.{triple_of}
-use denote.Triple.Table.{framed}
-use denote.Triple.Walked.{Stays, stay_dropped, walk_of, ends_at, Goes-dropped}
-use Rattle.std.proofs.alloc.Calls.{Al, token, seen, Answer, answer_val, Answer-typed, Answer-err, Takes, at_takes, Takes-goes}
-use Rattle.std.specs.Allocator.{block_if_ok}
-use Rattle.std.specs.Prelude.{Err}
+use denote.Triple.{Call.{calls_at}, Clauses.{lasts}, Spec.{triple_of}, Table.{framed}, Walked.{Stays, stay_dropped, walk_of, ends_at, Goes-dropped}}
 use Rattle.nntp_refusing.proofs.Inner.{row, row_laws, inner_at, answer_laws, args, code_at, by_self, lends_inner}
-use Rattle.nntp_refusing.specs.contracts.RefusingAllocator.allocate as f
 use Rattle.nntp_refusing.proofs.RefusingAllocator.allocate.Statement.{statement}
+use base.Share
+use Rattle.nntp_refusing.specs.contracts.RefusingAllocator.allocate as f
 use Rattle.nntp_refusing.proofs.RefusingAllocator.allocate.Code as code
 use Rattle.nntp_refusing.specs.contracts.Refusing.refuses as r
 use Rattle.nntp_refusing.proofs.Refusing.refuses.Met as refuses

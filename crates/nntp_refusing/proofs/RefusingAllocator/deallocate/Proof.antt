@@ -1,6 +1,6 @@
 -- The block goes back to the allocator inside.
-use Rattle.std.proofs.Common.{List, [], ◌∷◌, ◌≡◌, w64, refl}
-use Rattle.std.proofs.raw_atomic.Walks.{proved}
+use Rattle.std.proofs.{Common.{List, [], ◌∷◌, ◌≡◌, w64, refl}, raw_atomic.Walks.{proved}, alloc.Calls.{Al, token, seen, Gives, at_gives, Gives-goes}}
+use Rattle.std.{proofs.alloc.Calls.{Gives-Gives}, specs.Allocator.{owned_block}}
 use mir.Syntax.{named}
 use mir.Val.{Val, vunit}
 use base.Logic.{fst∗, never}
@@ -11,7 +11,8 @@ use contract.Running.{tables}
 use prog.Memory.{size, align, capped}
 use prog.Wp.{WpFn}
 use types.Logic.{sem}
-use types.Kit.{fjoin, ‵, raw, prop, later, given, ◌⊛◌, ◌$◌, ◌∵◌, !, qed, done, move, keep, use1, split, split3, join, fsplit, feq_i, learn, await, regoal, suffices, group}
+use types.Kit.{fjoin, ‵, raw, prop, later, given, ◌⊛◌, ◌$◌, ◌∵◌, !, qed, done, move, keep, use1, split, split3, join, fsplit, feq_i, learn, await, regoal}
+use types.Kit.{suffices, group}
 use types.Run.{enter, of_opd, addr, stop, fld, unit_lit, no_more, and_then, returns}
 use types.ByLocal.{alloc_all, pass_all, free_all, look_at, get, through, sets, lands_as}
 use denote.Builtin.{usize, RawPtr}
@@ -22,14 +23,9 @@ use denote.RawPtr.{Ptr, block_ptr, null_ptr, in_a_block, rawptr_vals, rawptr_Tel
 use denote.Ref.{shr_vals, shr_Tells}
 use denote.Signature.{plain, types_at}
 use denote.Steps.{heard, nothing}
-use denote.Triple.Call.{calls_at}
-use denote.Triple.Table.{framed}
-use denote.Triple.Walked.{Stays, stay_dropped, walk_of, ends_at, Goes-dropped}
-use Rattle.std.proofs.alloc.Calls.{Al, token, seen, Gives, at_gives, Gives-goes, Gives-Gives}
-use Rattle.std.specs.Allocator.{owned_block}
-use Rattle.nntp_refusing.proofs.Inner.{row, inner_at, args, code_at, by_self, lends_inner}
+use denote.Triple.{Call.{calls_at}, Table.{framed}, Walked.{Stays, stay_dropped, walk_of, ends_at, Goes-dropped}}
+use Rattle.nntp_refusing.proofs.{Inner.{row, inner_at, args, code_at, by_self, lends_inner}, RefusingAllocator.deallocate.Statement.{statement}}
 use Rattle.nntp_refusing.specs.contracts.RefusingAllocator.deallocate as f
-use Rattle.nntp_refusing.proofs.RefusingAllocator.deallocate.Statement.{statement}
 use Rattle.nntp_refusing.proofs.RefusingAllocator.deallocate.Code as code
 
 module _ (Z : Al) where

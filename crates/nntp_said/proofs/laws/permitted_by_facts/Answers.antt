@@ -1,6 +1,5 @@
 use Rattle.nntp_article.specs.Session.Machine.{start}
-use Rattle.nntp_said.specs.declared.position.Position.TheVariants.{Nowhere}
-use Rattle.nntp_said.proofs.FactsHold.{permits_by_facts}
+use Rattle.nntp_said.{specs.declared.position.Position.TheVariants.{Nowhere}, proofs.FactsHold.{permits_by_facts}}
 use Rattle.nntp_said.proofs.laws.permitted_by_facts.Goals as goal
 
 pub returns : goal.returns

@@ -1,5 +1,4 @@
-use Rattle.nntp_several.proofs.BadForGood.{settled_of_all}
-use Rattle.nntp_several.proofs.SessionsRead.{outcome_at}
+use Rattle.nntp_several.proofs.{BadForGood.{settled_of_all}, SessionsRead.{outcome_at}}
 use Rattle.nntp_several.proofs.laws.bad_answer_stays_whatever_follows.Goals as goal
 
 pub returns : goal.returns

@@ -1,5 +1,4 @@
-use Rattle.nntp_several.proofs.OneOutcomeOfAll.{one_explained, one_bad_answer, one_session_outcome, one_session_only}
-use Rattle.nntp_several.proofs.SessionsRead.{one_session_reading}
+use Rattle.nntp_several.proofs.{OneOutcomeOfAll.{one_explained, one_bad_answer, one_session_outcome, one_session_only}, SessionsRead.{one_session_reading}}
 use Rattle.nntp_several.proofs.laws.one_session_is_two_streams.Goals as goal
 
 pub returns : goal.returns

@@ -1,4 +1,5 @@
-use Rattle.nntp_several.proofs.PassingSessions.{passing_begins, exchange_passes, session_passes, passing_ends, passing_stops, passing_contradicted, passing_unfitting}
+use Rattle.nntp_several.proofs.PassingSessions.{passing_begins, exchange_passes, session_passes, passing_ends, passing_stops, passing_contradicted}
+use Rattle.nntp_several.proofs.PassingSessions.{passing_unfitting}
 use Rattle.nntp_several.proofs.laws.sessions_are_judged_in_turn.Goals as goal
 
 pub returns : goal.returns

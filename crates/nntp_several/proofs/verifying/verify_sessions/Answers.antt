@@ -1,11 +1,8 @@
 use Rattle.std.proofs.Common.{[], sym, subst, ◌∙◌}
-use Rattle.nntp_article.specs.Session.Explains.{Explains}
-use Rattle.nntp_article.specs.Session.Limit.{profile_of}
-use Rattle.nntp_spool.specs.Sessions.{RefusesAt}
-use Rattle.nntp_spool.specs.Verifying.{IsVerified}
-use Rattle.nntp_several.specs.Sessions.{Recorded}
-use Rattle.nntp_several.specs.Verifying.{PermitsAll, IsVerifiedOfAll}
-use Rattle.nntp_several.proofs.SessionsVerified.{permits_next, refuses_next, permits_last}
+use Rattle.nntp_article.specs.Session.{Explains.{Explains}, Limit.{profile_of}}
+use Rattle.nntp_spool.specs.{Sessions.{RefusesAt}, Verifying.{IsVerified}}
+use Rattle.nntp_several.{specs.{Sessions.{Recorded}, Verifying.{PermitsAll, IsVerifiedOfAll}}, proofs.SessionsVerified.{permits_next, refuses_next}}
+use Rattle.nntp_several.proofs.SessionsVerified.{permits_last}
 use Rattle.nntp_several.proofs.verifying.verify_sessions.Goals as goal
 
 pub loop-session-init : goal.loop-session-init

@@ -1,7 +1,5 @@
-use Rattle.std.proofs.Common.{subst, sym, arith}
-use Rattle.std.proofs.lemmas.Grind.{common_steps}
-use Rattle.nntp_spool.specs.Writing.{Wrote}
-use Rattle.nntp_spool.proofs.Written.{Wrote-take}
+use Rattle.std.proofs.{Common.{subst, sym, arith}, lemmas.Grind.{common_steps}}
+use Rattle.nntp_spool.{specs.Writing.{Wrote}, proofs.Written.{Wrote-take}}
 use Rattle.nntp_spool.proofs.output.put.Goals as goal
 
 pub loop-rest-preserved : goal.loop-rest-preserved

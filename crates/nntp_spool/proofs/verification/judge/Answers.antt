@@ -1,13 +1,10 @@
-use Rattle.std.proofs.Common.{◌≡◌, sym, subst, ◌∙◌}
-use Rattle.std.proofs.lemmas.Bool.{true≢false}
-use Rattle.nntp_wire.specs.View.{asked}
-use Rattle.nntp_wire.specs.AnswerView.{response}
+use Rattle.std.proofs.{Common.{◌≡◌, sym, subst, ◌∙◌}, lemmas.Bool.{true≢false}}
+use Rattle.nntp_wire.specs.Inner.{View.{asked}, AnswerView.{response}}
 use Rattle.nntp_pair.specs.Pairing.{asked_at}
-use Rattle.nntp_article.specs.Session.Machine.{MayAnswer, visible_after}
-use Rattle.nntp_article.specs.Session.Spool.{Spool}
-use Rattle.nntp_said.specs.Asks.{position_after, state_at}
-use Rattle.nntp_spool.specs.AskedCounts.{AreCounted}
-use Rattle.nntp_spool.proofs.VerifiedPairs.{one_more_answer, none_permitted, not_permitted, answers_nothing, all_permitted}
+use Rattle.nntp_article.specs.Session.{Machine.{MayAnswer, visible_after}, Spool.{Spool}}
+use Rattle.nntp_said.specs.{Asks.{position_after}, Inner.Asks.{state_at}}
+use Rattle.nntp_spool.{specs.Inner.AskedCounts.{AreCounted}, proofs.VerifiedPairs.{one_more_answer, none_permitted, not_permitted, answers_nothing}}
+use Rattle.nntp_spool.proofs.VerifiedPairs.{all_permitted}
 use Rattle.nntp_spool.proofs.verification.judge.Goals as goal
 
 pub loop-exchange-init : goal.loop-exchange-init
@@ -47,9 +44,11 @@ loop-exchange-preserved g c =
 pub returns-in-Bad : goal.returns-in-Bad
 returns-in-Bad g c =
     let l = c.loop-exchange in
-    answers_nothing c.args.profile c.args.content.now c.requires.spool c.args.client.now c.args.server.now l.pairs (state_at c.args.content.now l.visible l.position) l.answers l.invariant.0 c.in-Bad.class c.in-Bad.ensures.step.1
+    answers_nothing c.args.profile c.args.content.now c.requires.spool c.args.client.now c.args.server.now l.pairs (state_at c.args.content.now l.visible l.position) l.answers l.invariant.0
+    c.in-Bad.class c.in-Bad.ensures.step.1
 
 pub returns-in-End : goal.returns-in-End
 returns-in-End g c =
     let l = c.loop-exchange in
-    all_permitted c.args.profile c.args.content.now c.requires.spool c.args.client.now c.args.server.now l.pairs (state_at c.args.content.now l.visible l.position) l.answers l.invariant.0 c.in-End.ensures.step.0.0
+    all_permitted c.args.profile c.args.content.now c.requires.spool c.args.client.now c.args.server.now l.pairs (state_at c.args.content.now l.visible l.position) l.answers l.invariant.0
+    c.in-End.ensures.step.0.0

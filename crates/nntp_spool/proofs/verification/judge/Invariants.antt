@@ -1,7 +1,6 @@
 use Rattle.std.proofs.Common.{◌≡◌, length}
-use Rattle.nntp_said.specs.Asks.{state_at}
-use Rattle.nntp_spool.specs.AskedCounts.{AreCounted}
-use Rattle.nntp_spool.proofs.VerifiedPairs.{Permitted}
+use Rattle.nntp_said.specs.Inner.Asks.{state_at}
+use Rattle.nntp_spool.{specs.Inner.AskedCounts.{AreCounted}, proofs.VerifiedPairs.{Permitted}}
 use Rattle.nntp_spool.proofs.verification.judge.Given as goal
 
 abbrev pub invariant-loop-exchange : goal.invariant-loop-exchange

@@ -1,9 +1,7 @@
 use Rattle.std.proofs.Common.{IsTrue, sym, subst, ◌∙◌}
-use Rattle.nntp_wire.specs.View.{asked}
-use Rattle.nntp_wire.specs.AnswerView.{response}
+use Rattle.nntp_wire.specs.Inner.{View.{asked}, AnswerView.{response}}
 use Rattle.nntp_article.specs.Session.Machine.{fits}
-use Rattle.nntp_spool.specs.Sessions.{AreInOrder}
-use Rattle.nntp_spool.proofs.AnswersInFacts.{facts_in_order, permitted_where_held}
+use Rattle.nntp_spool.{specs.Inner.Sessions.{AreInOrder}, proofs.AnswersInFacts.{facts_in_order, permitted_where_held}}
 use Rattle.nntp_spool.proofs.verification.may_answer.Goals as goal
 
 pub hold-requires-clause-order : goal.hold-requires-clause-order

@@ -1,7 +1,6 @@
-use Rattle.std.proofs.Common.{inl, inr, sym, subst, ◌∙◌}
-use Rattle.std.proofs.lemmas.Bool.{false≢true}
+use Rattle.std.proofs.{Common.{inl, inr, sym, subst, ◌∙◌}, lemmas.Bool.{false≢true}}
 use Rattle.nntp_article.specs.Session.Limit.{profile_of}
-use Rattle.nntp_pair.specs.Feeding.{IsEnding, left_of}
+use Rattle.nntp_pair.specs.Inner.Feeding.{IsEnding, left_of}
 use Rattle.nntp_printing.specs.BadAnswer.{IsFirstLine}
 use Rattle.nntp_verdict.proofs.CheckerLemmas.{passed-now}
 use Rattle.nntp_verdict.proofs.checker.end_session.Goals as goal

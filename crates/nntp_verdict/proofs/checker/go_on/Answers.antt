@@ -1,13 +1,11 @@
 use Rattle.std.proofs.Common.{◌∙◌, subst}
 use Rattle.nntp_article.specs.Session.Limit.{profile_of}
-use Rattle.nntp_pair.specs.Feeding.{EndsForGood, left_of, with_octets}
+use Rattle.nntp_pair.specs.Inner.Feeding.{EndsForGood, left_of, with_octets}
 use Rattle.nntp_several.specs.Told.{with_more}
-use Rattle.nntp_verdict.specs.Verdict.{sessions_verdict_shown}
-use Rattle.nntp_verdict.proofs.JudgeLemmas.{passes, refuses}
-use Rattle.nntp_verdict.proofs.CheckerLemmas.{passed-now, passed-longer, next-due, keeps-one-more, decides, whole-for-good, no-next}
-use Rattle.nntp_verdict.proofs.FedLemmas.{next-longer, malformed-longer}
-use Rattle.nntp_verdict.proofs.checker.go_on.Goals as goal
+use Rattle.nntp_verdict.{specs.Verdict.{sessions_verdict_shown}, proofs.{JudgeLemmas.{passes, refuses}, CheckerLemmas.{passed-now, passed-longer, next-due}}}
+use Rattle.nntp_verdict.proofs.{CheckerLemmas.{keeps-one-more, decides, whole-for-good, no-next}, FedLemmas.{next-longer, malformed-longer}}
 use Rattle.nntp_verdict.proofs.checker.go_on.Goals.{in_default-via-in-Bad+in_default, in_default-via-in_default}
+use Rattle.nntp_verdict.proofs.checker.go_on.Goals as goal
 
 pub note-requires : goal.note-requires
 note-requires g c =

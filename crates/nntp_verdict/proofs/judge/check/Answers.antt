@@ -1,7 +1,5 @@
 use Rattle.std.proofs.Common.{sym, subst}
-use Rattle.nntp_verdict.specs.Judging.{IsVerdict}
-use Rattle.nntp_verdict.specs.Verdict.{sessions_verdict_shown}
-use Rattle.nntp_verdict.proofs.JudgeLemmas.{alone}
+use Rattle.nntp_verdict.{specs.{Judging.{IsVerdict}, Verdict.{sessions_verdict_shown}}, proofs.JudgeLemmas.{alone}}
 use Rattle.nntp_verdict.proofs.judge.check.Goals as goal
 
 pub returns : goal.returns

@@ -1,6 +1,5 @@
-use Rattle.std.proofs.Common.{◌≡◌}
-use Rattle.std.specs.Prelude.{◌&&◌}
-use Rattle.nntp_wire.specs.Block.{are_fit}
+use Rattle.std.{proofs.Common.{◌≡◌}, specs.Prelude.{◌&&◌}}
+use Rattle.nntp_wire.specs.Inner.Block.{are_fit}
 use Rattle.nntp_wire.proofs.block.all_fit.Given as goal
 
 -- all fit exactly if the windows so far did and those that are left do

@@ -1,7 +1,5 @@
-use Rattle.std.proofs.Common.{◌<◌, length, arith, ◌∙◌, ap}
-use Rattle.std.specs.List.{list_all}
-use Rattle.nntp_wire.specs.Name.{is_name_char}
-use Rattle.nntp_wire.proofs.NameLemmas.{name-by_octets}
+use Rattle.std.{proofs.Common.{◌<◌, length, arith, ◌∙◌, ap}, specs.List.{list_all}}
+use Rattle.nntp_wire.{specs.Name.{is_name_char}, proofs.NameLemmas.{name-by_octets}}
 use Rattle.nntp_wire.proofs.group_name.is_name_text.Goals as goal
 
 pub returns-then-not-is_empty : goal.returns-then-not-is_empty

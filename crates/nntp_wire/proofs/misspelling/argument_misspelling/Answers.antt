@@ -1,7 +1,6 @@
 use Rattle.std.proofs.Common.{sym, refl, ◌∙◌, slice_index_or, arith}
-use Rattle.nntp_wire.specs.Misspelling.{arguments_of}
-use Rattle.nntp_wire.specs.declared.misspelling.Due.TheVariants.{Number}
-use Rattle.nntp_wire.proofs.MisspellingLemmas.{argument-first, argument-none, argument-missing, argument-wrong, argument-right}
+use Rattle.nntp_wire.{specs.{Misspelling.{arguments_of}, declared.misspelling.Due.TheVariants.{Number}}, proofs.MisspellingLemmas.{argument-first}}
+use Rattle.nntp_wire.proofs.MisspellingLemmas.{argument-none, argument-missing, argument-wrong, argument-right}
 use Rattle.nntp_wire.proofs.misspelling.argument_misspelling.Goals as goal
 
 pub returns-in_default : goal.returns-in_default

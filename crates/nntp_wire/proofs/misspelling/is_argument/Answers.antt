@@ -1,7 +1,5 @@
 use Rattle.std.proofs.Common.{sym, ap, ◌∙◌}
-use Rattle.nntp_wire.specs.Name.{IsMessageId, IsGroupName}
-use Rattle.nntp_wire.specs.Decided.{is_message_id, is_group_name}
-use Rattle.nntp_wire.specs.Misspelling.{is_argument}
+use Rattle.nntp_wire.specs.{Name.{IsMessageId, IsGroupName}, Decided.{is_message_id, is_group_name}, Misspelling.{is_argument}}
 use Rattle.nntp_wire.proofs.ValuesByTests.{some-test}
 use Rattle.nntp_wire.proofs.misspelling.is_argument.Goals as goal
 

@@ -1,8 +1,5 @@
 use Rattle.std.proofs.Common.{◌++◌, ◌+◌, length, length-append, sym, ap, ◌∙◌, arith}
-use Rattle.nntp_wire.specs.Octets.{crlf}
-use Rattle.nntp_wire.specs.Lines.{lines_of_stream}
-use Rattle.nntp_wire.specs.Misspelling.{line_misspelling}
-use Rattle.nntp_wire.proofs.MisspellingLemmas.{line-right}
+use Rattle.nntp_wire.{specs.{Octets.{crlf}, Lines.{lines_of_stream}, Misspelling.{line_misspelling}}, proofs.MisspellingLemmas.{line-right}}
 use Rattle.nntp_wire.proofs.misspelling.line_misspelling.Goals as goal
 
 pub loop-line-preserved : goal.loop-line-preserved

@@ -1,6 +1,5 @@
 use Rattle.std.proofs.Common.{◌≡◌, ◌+◌, ◌≤◌, length}
-use Rattle.nntp_wire.specs.Lines.{lines_of_stream}
-use Rattle.nntp_wire.specs.Misspelling.{line_misspelling}
+use Rattle.nntp_wire.specs.{Lines.{lines_of_stream}, Misspelling.{line_misspelling}}
 use Rattle.nntp_wire.proofs.misspelling.line_misspelling.Given as goal
 
 -- the first wrong one of all lines is that of those that are left

@@ -1,7 +1,5 @@
 use Rattle.std.proofs.Common.{sym, ap, ◌∙◌}
-use Rattle.nntp_wire.specs.Octets.{are_octets}
-use Rattle.nntp_wire.specs.Block.{received}
-use Rattle.nntp_wire.proofs.OctetLemmas.{octets-fit, sent-octets}
+use Rattle.nntp_wire.{specs.Inner.{Octets.{are_octets}, Block.{received}}, proofs.OctetLemmas.{octets-fit, sent-octets}}
 use Rattle.nntp_wire.proofs.owned_block.block_of.Goals as goal
 
 pub returns-clause-octets : goal.returns-clause-octets

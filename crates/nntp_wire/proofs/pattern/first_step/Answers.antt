@@ -1,9 +1,7 @@
-use Rattle.std.proofs.Common.{◌≡◌, sym, ◌∙◌, inl, inr, ◌⊎◌, map}
-use Rattle.std.proofs.lemmas.Bool.{false≢true}
-use Rattle.nntp_wire.specs.Wildmat.{item_of}
-use Rattle.nntp_wire.proofs.PatternLemmas.{empty-iff, utf8-cons, utf8-nil, one-nil, one-other}
-use Rattle.nntp_wire.proofs.pattern.first_step.Goals as goal
+use Rattle.std.proofs.{Common.{◌≡◌, sym, ◌∙◌, inl, inr, ◌⊎◌, map}, lemmas.Bool.{false≢true}}
+use Rattle.nntp_wire.{specs.Wildmat.{item_of}, proofs.PatternLemmas.{empty-iff, utf8-cons, utf8-nil, one-nil, one-other}}
 use Rattle.nntp_wire.proofs.pattern.first_step.Goals.{else-item-ne63-via-then-item-ne63+else-item-c, else-item-ne63-via-else-item-ne63}
+use Rattle.nntp_wire.proofs.pattern.first_step.Goals as goal
 
 pub returns-then-is_empty-clause-takes : goal.returns-then-is_empty-clause-takes
 returns-then-is_empty-clause-takes c = λ ps ts p q.

@@ -1,6 +1,5 @@
 use Rattle.std.proofs.Common.{map, arith}
-use Rattle.nntp_wire.specs.Wildmat.{Matches, item_of}
-use Rattle.nntp_wire.proofs.PatternLemmas.{search-start, search-star, search-one, search-fails}
+use Rattle.nntp_wire.{specs.Wildmat.{Matches, item_of}, proofs.PatternLemmas.{search-start, search-star, search-one, search-fails}}
 use Rattle.nntp_wire.proofs.pattern.matches_items.Goals as goal
 
 pub loop-rest-init : goal.loop-rest-init

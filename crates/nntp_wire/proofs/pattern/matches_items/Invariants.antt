@@ -1,7 +1,5 @@
 use Rattle.std.proofs.Common.{ℕ, List, ◌+◌, ◌*◌, ◌≤◌, length, map}
-use Rattle.nntp_wire.specs.Name.{IsUtf8Of}
-use Rattle.nntp_wire.specs.Wildmat.{Matches, item_of}
-use Rattle.nntp_wire.proofs.PatternLemmas.{Search}
+use Rattle.nntp_wire.{specs.{Name.{IsUtf8Of}, Wildmat.{Matches, item_of}}, proofs.PatternLemmas.{Search}}
 use Rattle.nntp_wire.proofs.pattern.matches_items.Given as goal
 
 -- the pattern matches the text exactly if what is left of the search does

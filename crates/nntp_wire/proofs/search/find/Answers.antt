@@ -1,8 +1,6 @@
-use Rattle.std.proofs.Common.{◌≡◌, ◌∙◌, sym, subst}
-use Rattle.std.proofs.lemmas.Slice.Eq.{bytes_eq-Decides}
+use Rattle.std.proofs.{Common.{◌≡◌, ◌∙◌, sym, subst}, lemmas.Slice.Eq.{bytes_eq-Decides}}
 use Rattle.memchr.specs.Find.{FindsNeedle}
-use Rattle.nntp_wire.specs.Octets.{crlf}
-use Rattle.nntp_wire.specs.Block.{end_of_block}
+use Rattle.nntp_wire.specs.{Octets.{crlf}, Inner.Block.{end_of_block}}
 use Rattle.nntp_wire.proofs.search.find.Goals as goal
 
 pub returns-then-eq : goal.returns-then-eq

@@ -1,9 +1,6 @@
-use Rattle.std.proofs.Common.{rules, refl, sym, ◌∙◌}
-use Rattle.std.proofs.lemmas.Iterator.Search.{all_from_yields_List}
-use Rattle.std.proofs.lemmas.Iterator.Consumers.{YieldsList-from_first}
+use Rattle.std.proofs.{Common.{rules, refl, sym, ◌∙◌}, lemmas.Iterator.{Search.{all_from_yields_List}, Consumers.{YieldsList-from_first}}}
 use borrow.Author.Tests.{tests}
-use Rattle.nntp_wire.specs.Listing.{is_version}
-use Rattle.nntp_wire.proofs.ListingLemmas.{are_versions-cons}
+use Rattle.nntp_wire.{specs.Listing.{is_version}, proofs.ListingLemmas.{are_versions-cons}}
 use Rattle.nntp_wire.proofs.versions.are_versions.Goals as goal
 
 pub returns-then-is_version : goal.returns-then-is_version

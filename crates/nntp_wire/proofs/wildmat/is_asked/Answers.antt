@@ -1,10 +1,8 @@
-use Rattle.std.proofs.Common.{◌≡◌, Bool, true, false, ◌&&◌, Option, None, Some, refl, sym, ◌∙◌}
-use Rattle.std.specs.Option.{SomeIff, is_some, option_map_or}
-use Rattle.std.proofs.lemmas.Bool.{true≢false}
-use Rattle.nntp_wire.specs.Name.{IsGroupName}
-use Rattle.nntp_wire.specs.Decided.{is_group_name, matches_name}
-use Rattle.nntp_wire.proofs.wildmat.is_asked.Goals as goal
+use Rattle.std.{proofs.{Common.{◌≡◌, Bool, true, false, ◌&&◌, Option, None, Some, refl, sym, ◌∙◌}, lemmas.Bool.{true≢false}}, specs.Option.{SomeIff, is_some}}
+use Rattle.std.specs.Option.{option_map_or}
+use Rattle.nntp_wire.specs.{Name.{IsGroupName}, Decided.{is_group_name, matches_name}}
 use Rattle.nntp_wire.proofs.wildmat.is_asked.Goals.{in_default-via-in-Some+else-not-matches_octets, in_default-via-in_default}
+use Rattle.nntp_wire.proofs.wildmat.is_asked.Goals as goal
 
 not-both : (a b : Bool) → (a ≡ true → b ≡ true → ⊥) → false ≡ (a && b)
 not-both true true not = absurd (not refl refl)

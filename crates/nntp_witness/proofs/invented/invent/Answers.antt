@@ -1,7 +1,6 @@
 use Rattle.std.proofs.Common.{◌≡◌, arith, ◌∙◌}
 use Rattle.nntp_facts.specs.Given.{is_mentioned}
-use Rattle.nntp_witness.proofs.Aims.{so_of_said}
-use Rattle.nntp_witness.proofs.InventedIds.{first_unmentioned, one_more_taken}
+use Rattle.nntp_witness.proofs.{Aims.{so_of_said}, InventedIds.{first_unmentioned, one_more_taken}}
 use Rattle.nntp_witness.proofs.invented.invent.Goals as goal
 
 pub returns-then-not-mentions-clause-first : goal.returns-then-not-mentions-clause-first

@@ -1,7 +1,7 @@
 use Rattle.std.proofs.Common.{ℕ, ◌≤◌, ◌<◌, IsTrue, List}
 use Rattle.nntp_said.specs.Facts.{Fact}
 use Rattle.nntp_facts.specs.Given.{invented, is_mentioned}
-use Rattle.nntp_witness.specs.Witness.{HaveNoted}
+use Rattle.nntp_witness.specs.Inner.Witness.{HaveNoted}
 use Rattle.nntp_witness.proofs.invented.invent.Given as goal
 
 -- the ids that were invented before are mentioned

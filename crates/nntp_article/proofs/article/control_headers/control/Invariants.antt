@@ -1,6 +1,5 @@
 use Rattle.std.proofs.Common.{◌≡◌, ◌++◌, map}
-use Rattle.nntp_article.specs.Article.Control.{controls_of, controls_among}
-use Rattle.nntp_article.specs.Article.View.{control_value}
+use Rattle.nntp_article.specs.{Article.Control.{controls_of, controls_among}, Inner.View.{control_value}}
 use Rattle.nntp_article.proofs.article.control_headers.control.Given as goal
 
 -- what was read, and what the headers that are left say

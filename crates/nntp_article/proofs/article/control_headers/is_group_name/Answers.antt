@@ -1,7 +1,4 @@
-use Rattle.nntp_wire.specs.Name.{IsGroupName}
-use Rattle.nntp_wire.specs.Decided.{is_group_name}
-use Rattle.nntp_wire.proofs.DecidedLemmas.{group_name-iff}
-use Rattle.nntp_wire.proofs.ValuesByTests.{some-test}
+use Rattle.nntp_wire.{specs.{Name.{IsGroupName}, Decided.{is_group_name}}, proofs.{DecidedLemmas.{group_name-iff}, ValuesByTests.{some-test}}}
 use Rattle.nntp_article.proofs.article.control_headers.is_group_name.Goals as goal
 
 pub returns : goal.returns

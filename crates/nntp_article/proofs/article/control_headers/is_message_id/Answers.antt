@@ -1,7 +1,4 @@
-use Rattle.nntp_wire.specs.Name.{IsMessageId}
-use Rattle.nntp_wire.specs.Decided.{is_message_id}
-use Rattle.nntp_wire.proofs.DecidedLemmas.{message_id-iff}
-use Rattle.nntp_wire.proofs.ValuesByTests.{some-test}
+use Rattle.nntp_wire.{specs.{Name.{IsMessageId}, Decided.{is_message_id}}, proofs.{DecidedLemmas.{message_id-iff}, ValuesByTests.{some-test}}}
 use Rattle.nntp_article.proofs.article.control_headers.is_message_id.Goals as goal
 
 pub returns : goal.returns

@@ -1,5 +1,4 @@
-use Rattle.std.proofs.Common.{arith}
-use Rattle.std.proofs.lemmas.Bool.Decides.{nat_tests}
+use Rattle.std.proofs.{Common.{arith}, lemmas.Bool.Decides.{nat_tests}}
 use Rattle.nntp_wire.proofs.WordLemmas.{clean_by_search}
 use Rattle.nntp_article.proofs.article.head_line.is_clean.Goals as goal
 

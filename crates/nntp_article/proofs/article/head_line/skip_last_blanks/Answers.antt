@@ -1,6 +1,5 @@
 use Rattle.std.proofs.Common.{sym, ◌∙◌, ap}
-use Rattle.nntp_article.specs.Article.Parts.{skip_last_blanks}
-use Rattle.nntp_article.proofs.ArticleLemmas.LineLemmas.{skip_last-blank, skip_last-plain}
+use Rattle.nntp_article.{specs.Article.Parts.{skip_last_blanks}, proofs.ArticleLemmas.LineLemmas.{skip_last-blank, skip_last-plain}}
 use Rattle.nntp_article.proofs.article.head_line.skip_last_blanks.Goals as goal
 
 pub returns-then-not-is_blank : goal.returns-then-not-is_blank

@@ -1,6 +1,5 @@
 use Rattle.std.proofs.Common.{sym, ◌∙◌, ap}
-use Rattle.nntp_article.specs.Article.Parts.{skip_last_blanks}
-use Rattle.nntp_article.proofs.ArticleLemmas.ContentLemmas.{leads-start, leads-more, leads-end}
+use Rattle.nntp_article.{specs.Article.Parts.{skip_last_blanks}, proofs.ArticleLemmas.ContentLemmas.{leads-start, leads-more, leads-end}}
 use Rattle.nntp_article.proofs.article.header.content.Goals as goal
 
 pub loop-line-init : goal.loop-line-init

@@ -1,5 +1,4 @@
-use Rattle.std.proofs.Common.{◌≡◌, ◌+◌, ◌<◌, ◌^◌, ℕ, length}
-use Rattle.std.specs.List.{prefix_len}
+use Rattle.std.{proofs.Common.{◌≡◌, ◌+◌, ◌<◌, ◌^◌, ℕ, length}, specs.List.{prefix_len}}
 use Rattle.nntp_article.specs.Article.Parts.{is_continuation}
 use Rattle.nntp_article.proofs.article.header.continuation_len.Given as goal
 

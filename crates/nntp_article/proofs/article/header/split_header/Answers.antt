@@ -1,7 +1,5 @@
-use Rattle.std.proofs.Common.{arith, ap, length, sym, ◌∙◌}
-use Rattle.std.proofs.lemmas.List.Sums.{prefix_len-le-length}
-use Rattle.nntp_article.specs.Article.Parts.{is_continuation}
-use Rattle.nntp_article.proofs.ArticleLemmas.HeadLemmas.{split-headers, split-is_header}
+use Rattle.std.proofs.{Common.{arith, ap, length, sym, ◌∙◌}, lemmas.List.Sums.{prefix_len-le-length}}
+use Rattle.nntp_article.{specs.Article.Parts.{is_continuation}, proofs.ArticleLemmas.HeadLemmas.{split-headers, split-is_header}}
 use Rattle.nntp_article.proofs.article.header.split_header.Goals as goal
 
 pub overflow_add-continuation_len : goal.overflow_add-continuation_len

@@ -1,6 +1,5 @@
 use Rattle.std.proofs.Common.{◌≡◌}
-use Rattle.nntp_article.specs.Article.Required.{missing_of}
-use Rattle.nntp_article.proofs.ArticleLemmas.MissingLemmas.{still}
+use Rattle.nntp_article.{specs.Article.Required.{missing_of}, proofs.ArticleLemmas.MissingLemmas.{still}}
 use Rattle.nntp_article.proofs.article.required_headers.missing.Given as goal
 
 -- the headers that are left decide what is still missing

@@ -1,7 +1,5 @@
-use Rattle.std.proofs.Common.{◌≡◌, length}
-use Rattle.std.specs.List.{list_all}
-use Rattle.nntp_wire.specs.Octets.{is_clean}
-use Rattle.nntp_wire.specs.Held.{held}
+use Rattle.std.{proofs.Common.{◌≡◌, length}, specs.List.{list_all}}
+use Rattle.nntp_wire.specs.{Octets.{is_clean}, Inner.Held.{held}}
 use Rattle.nntp_article.proofs.article.said_id.are_clean.Given as goal
 
 -- the lines that are left decide

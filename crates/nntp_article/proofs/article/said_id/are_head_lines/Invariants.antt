@@ -1,7 +1,6 @@
-use Rattle.std.proofs.Common.{◌≡◌, length}
-use Rattle.std.specs.List.{list_all}
-use Rattle.nntp_article.specs.Article.Parts.{is_head_line}
-use Rattle.nntp_wire.specs.Held.{held}
+use Rattle.std.{proofs.Common.{◌≡◌, length}, specs.List.{list_all}}
+use Rattle.nntp_article.specs.Inner.Parts.{is_head_line}
+use Rattle.nntp_wire.specs.Inner.Held.{held}
 use Rattle.nntp_article.proofs.article.said_id.are_head_lines.Given as goal
 
 -- the lines that are left decide

@@ -1,8 +1,6 @@
 use Rattle.std.proofs.Common.{◌≡◌, List, [], ◌∷◌, length, Option, refl, sym, ap, ◌∙◌, arith}
-use Rattle.nntp_wire.specs.Held.{held}
-use Rattle.nntp_article.specs.Article.Parts.{Line, Id}
-use Rattle.nntp_article.specs.Article.SaidId.{id_by}
-use Rattle.nntp_article.specs.declared.article.said_id.SaidId.{SaidId}
+use Rattle.nntp_wire.specs.Inner.Held.{held}
+use Rattle.nntp_article.specs.{Article.Parts.{Line, Id}, Inner.SaidId.{id_by}, declared.article.said_id.SaidId.{SaidId}}
 use Rattle.nntp_article.proofs.article.said_id.id_of.Goals as goal
 
 -- where a line is noted, those behind it say with it what they said before

@@ -1,7 +1,6 @@
 use Rattle.std.proofs.Common.{◌≡◌, length}
-use Rattle.nntp_article.specs.Article.Parts.{said_id}
-use Rattle.nntp_article.specs.Article.SaidId.{id_by}
-use Rattle.nntp_wire.specs.Held.{held}
+use Rattle.nntp_article.specs.{Article.Parts.{said_id}, Inner.SaidId.{id_by}}
+use Rattle.nntp_wire.specs.Inner.Held.{held}
 use Rattle.nntp_article.proofs.article.said_id.id_of.Given as goal
 
 -- the lines that are left decide with what is known so far

@@ -1,8 +1,6 @@
-use Rattle.std.proofs.Common.{refl, sym, ◌∙◌, ap}
-use Rattle.std.specs.Prelude.{◌&&◌}
-use Rattle.nntp_article.specs.Article.Parts.{begins_header}
-use Rattle.nntp_wire.specs.Held.{held}
-use Rattle.nntp_article.proofs.ArticleLemmas.HeadLemmas.{is_head-parts}
+use Rattle.std.{proofs.Common.{refl, sym, ◌∙◌, ap}, specs.Prelude.{◌&&◌}}
+use Rattle.nntp_article.{specs.Article.Parts.{begins_header}, proofs.ArticleLemmas.HeadLemmas.{is_head-parts}}
+use Rattle.nntp_wire.specs.Inner.Held.{held}
 use Rattle.nntp_article.proofs.article.said_id.is_head.Goals as goal
 
 pub returns-then-begins_header : goal.returns-then-begins_header

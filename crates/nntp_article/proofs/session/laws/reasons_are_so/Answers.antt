@@ -1,5 +1,5 @@
-use Rattle.nntp_article.specs.Session.Misfit.{wrong_code, wrong_name, wrong_number, wrong_id, below_low, wrong_marks, beyond_limit, not_above, beyond_range, unmatched, listed_twice, no_head, other_id}
-use Rattle.nntp_article.proofs.SessionLemmas.ReasonsAreSo.{so}
+use Rattle.nntp_article.specs.Session.Misfit.{wrong_code, wrong_name, wrong_number, wrong_id, below_low, wrong_marks, beyond_limit, not_above, beyond_range}
+use Rattle.nntp_article.{specs.Session.Misfit.{unmatched, listed_twice, no_head, other_id}, proofs.SessionLemmas.ReasonsAreSo.{so}}
 use Rattle.nntp_article.proofs.session.laws.reasons_are_so.Goals as goal
 
 pub returns-clause-code : goal.returns-clause-code

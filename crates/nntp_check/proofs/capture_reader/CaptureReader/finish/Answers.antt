@@ -1,7 +1,5 @@
 use Rattle.std.proofs.Common.{subst}
-use Rattle.nntp_check.specs.CaptureReading.{HasCome, captured}
-use Rattle.nntp_check.specs.declared.capture_reader.Place.{Place}
-use Rattle.nntp_check.proofs.ReadingLemmas.{ends-cut, ends-whole}
+use Rattle.nntp_check.{specs.{Inner.CaptureReading.{HasCome, captured}, declared.capture_reader.Place.{Place}}, proofs.ReadingLemmas.{ends-cut, ends-whole}}
 use Rattle.nntp_check.proofs.capture_reader.CaptureReader.finish.Goals as goal
 
 pub returns-in_default-clause-bad : goal.returns-in_default-clause-bad

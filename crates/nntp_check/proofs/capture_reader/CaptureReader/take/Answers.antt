@@ -1,6 +1,5 @@
 use Rattle.std.proofs.Common.{sym, subst}
-use Rattle.nntp_check.specs.CaptureReading.{Reads}
-use Rattle.nntp_check.specs.declared.capture_reader.Passage.{Passage}
+use Rattle.nntp_check.specs.{Inner.CaptureReading.{Reads}, declared.capture_reader.Passage.{Passage}}
 use Rattle.nntp_check.proofs.capture_reader.CaptureReader.take.Goals as goal
 
 pub returns-in-Octets-clause-read : goal.returns-in-Octets-clause-read

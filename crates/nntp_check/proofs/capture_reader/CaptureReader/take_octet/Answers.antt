@@ -1,7 +1,6 @@
 use Rattle.std.proofs.Common.{ℕ, List, ◌∷◌, ◌++◌, ◌∙◌, [], ap, arith, get_or, length-append, sym, subst}
-use Rattle.nntp_check.specs.Capture.{Captured, Held}
-use Rattle.nntp_check.specs.CaptureReading.{HasCome, HasRead, captured, reached}
-use Rattle.nntp_check.proofs.ReadingLemmas.{goes-on, cant-go-on, first-octet, read-on}
+use Rattle.nntp_check.{specs.{Capture.{Captured, Held}, Inner.CaptureReading.{HasCome, HasRead, captured, reached}}, proofs.ReadingLemmas.{goes-on, cant-go-on}}
+use Rattle.nntp_check.proofs.ReadingLemmas.{first-octet, read-on}
 use Rattle.nntp_check.proofs.capture_reader.CaptureReader.take_octet.Goals as goal
 
 pub returns-in_default-clause-bad : goal.returns-in_default-clause-bad

@@ -1,10 +1,6 @@
 use Rattle.std.proofs.Common.{◌≡◌, ◌+◌, ◌-◌, ◌<◌, ◌∙◌, ◌++◌, ℕ, ap, sym, subst, arith, length, length-append}
-use Rattle.nntp_check.specs.Capture.{continued}
-use Rattle.nntp_check.specs.CaptureReading.{HasCome, captured}
-use Rattle.nntp_check.specs.declared.capture_reader.CaptureReader.{CaptureReader}
-use Rattle.nntp_check.specs.declared.capture_reader.Place.{Place}
-use Rattle.nntp_check.specs.declared.capture_reader.Place.TheVariants.{Octets}
-use Rattle.nntp_check.proofs.ReadingLemmas.{octets-come, read-on}
+use Rattle.nntp_check.specs.{Capture.{continued}, Inner.CaptureReading.{HasCome, captured}, declared.capture_reader.CaptureReader.{CaptureReader}}
+use Rattle.nntp_check.{specs.declared.capture_reader.Place.{Place, TheVariants.{Octets}}, proofs.ReadingLemmas.{octets-come, read-on}}
 use Rattle.nntp_check.proofs.capture_reader.CaptureReader.take_octets.Goals as goal
 
 pub go_to-requires : goal.go_to-requires

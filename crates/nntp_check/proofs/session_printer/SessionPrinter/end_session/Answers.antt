@@ -1,8 +1,6 @@
 use Rattle.std.proofs.Common.{rules, ◌≡◌, ◌+◌, ◌<◌, ◌^◌, ◌&&◌, ◌++◌, ◌∙◌, ap, sym, subst, arith, ℕ, Bool, List, length}
 use Rattle.nntp_printing.specs.Title.{title_line}
-use Rattle.nntp_check.specs.Capture.{sessions_of}
-use Rattle.nntp_check.specs.Showing.{AreReported}
-use Rattle.nntp_check.specs.declared.session_printer.SessionPrinter.{SessionPrinter}
+use Rattle.nntp_check.specs.{Capture.{sessions_of}, Inner.Showing.{AreReported}, declared.session_printer.SessionPrinter.{SessionPrinter}}
 use Rattle.nntp_check.proofs.ShowLemmas.{many-fits, session-ended}
 use Rattle.nntp_check.proofs.session_printer.SessionPrinter.end_session.Goals as goal
 

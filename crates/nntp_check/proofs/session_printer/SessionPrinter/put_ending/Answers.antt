@@ -1,7 +1,6 @@
 use Rattle.std.proofs.Common.{◌∙◌, ◌++◌, ap}
 use Rattle.nntp_pair.specs.Pairing.{end}
-use Rattle.nntp_check.specs.Show.{end_line}
-use Rattle.nntp_check.proofs.ShowLemmas.{at-ending, at-octets}
+use Rattle.nntp_check.{specs.Show.{end_line}, proofs.ShowLemmas.{at-ending, at-octets}}
 use Rattle.nntp_check.proofs.session_printer.SessionPrinter.put_ending.Goals as goal
 
 pub returns-in_ok-put_end-in-End-clause-shown : goal.returns-in_ok-put_end-in-End-clause-shown

@@ -12,7 +12,8 @@ loop-exchange-preserved g c held start =
       name_is = shows.name_is;
       last = one-more fed c.advance.new.self c.loop-exchange.self.text.items c.put_exchange.new.text.items c.in-Whole.exchange
           c.in-Whole.ensures.1 session shows.last c.in-Whole.ensures.2
-          (λ pairs fed_is. c.advance.ensures.fed session.client session.server pairs c.in-Whole.exchange c.in-Whole.ensures.1 fed_is c.in-Whole.ensures.2) c.advance.ensures.has_failed c.in_ok-put_exchange.ensures;
+          (λ pairs fed_is. c.advance.ensures.fed session.client session.server pairs c.in-Whole.exchange c.in-Whole.ensures.1 fed_is c.in-Whole.ensures.2) c.advance.ensures.has_failed
+          c.in_ok-put_exchange.ensures;
     }
 
 pub returns : goal.returns

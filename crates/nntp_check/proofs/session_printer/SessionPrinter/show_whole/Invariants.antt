@@ -1,6 +1,5 @@
 use Rattle.std.proofs.Common.{length}
-use Rattle.nntp_check.specs.Capture.{Held}
-use Rattle.nntp_check.specs.Showing.{Shows}
+use Rattle.nntp_check.specs.{Capture.{Held}, Inner.Showing.{Shows}}
 use Rattle.nntp_check.proofs.session_printer.SessionPrinter.show_whole.Given as goal
 
 abbrev pub invariant-loop-exchange : goal.invariant-loop-exchange

@@ -1,9 +1,7 @@
 use Rattle.std.proofs.Common.{◌≡◌, [], ap, refl, subst, sym, map}
-use Rattle.nntp_article.specs.Session.Limit.{profile_of}
-use Rattle.nntp_article.specs.declared.session.profile.Profile.{Profile}
-use Rattle.nntp_facts.specs.Noted.{HasNoted}
-use Rattle.nntp_explain.specs.ExplainingView.{cited_of}
-use Rattle.nntp_explain.proofs.EndLemmas.{kept_first}
+use Rattle.nntp_article.specs.{Session.Limit.{profile_of}, declared.session.profile.Profile.{Profile}}
+use Rattle.nntp_facts.specs.Inner.Noted.{HasNoted}
+use Rattle.nntp_explain.{specs.Inner.ExplainingView.{cited_of}, proofs.EndLemmas.{kept_first}}
 use Rattle.nntp_explain.proofs.explainer.Explainer.new.Goals as goal
 
 pub returns-clause-none : goal.returns-clause-none

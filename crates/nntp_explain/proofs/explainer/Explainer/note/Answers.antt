@@ -1,9 +1,7 @@
-use Rattle.std.proofs.Common.{◌≤◌, map, length, arith}
-use Rattle.std.proofs.lemmas.List.{length-map}
-use Rattle.std.specs.Option.{option_map}
-use Rattle.nntp_facts.specs.Noted.{profile_kept}
-use Rattle.nntp_explain.specs.ExplainingView.{cited_of, kept_of}
-use Rattle.nntp_explain.proofs.ExplainLemmas.{told_due, others_placed, others_cited, on_ok, on_all, noted_consistent, noted_out_of_place, noted_contradiction, noted_contradiction_reasons, noted_contradiction_due}
+use Rattle.std.{proofs.{Common.{◌≤◌, map, length, arith}, lemmas.List.{length-map}}, specs.Option.{option_map}}
+use Rattle.nntp_facts.specs.Inner.Noted.{profile_kept}
+use Rattle.nntp_explain.{specs.Inner.ExplainingView.{cited_of, kept_of}, proofs.ExplainLemmas.{told_due, others_placed, others_cited, on_ok, on_all}}
+use Rattle.nntp_explain.proofs.ExplainLemmas.{noted_consistent, noted_out_of_place, noted_contradiction, noted_contradiction_reasons, noted_contradiction_due}
 use Rattle.nntp_explain.proofs.explainer.Explainer.note.Goals as goal
 
 pub note-requires : goal.note-requires

@@ -1,8 +1,6 @@
-use Rattle.std.proofs.Common.{◌≡◌, ◌<◌, ◌^◌, ap, length-append, arith, rules, length}
-use Rattle.std.specs.Option.{option_copied}
+use Rattle.std.{proofs.Common.{◌≡◌, ◌<◌, ◌^◌, ap, length-append, arith, rules, length}, specs.Option.{option_copied}}
 use Rattle.nntp_printing.specs.BadAnswer.{bad_lines}
-use Rattle.nntp_explain.specs.ExplainingView.{Kept, kept_of, title_of}
-use Rattle.nntp_explain.proofs.AnswerLemmas.{bad_long}
+use Rattle.nntp_explain.{specs.Inner.ExplainingView.{Kept, kept_of, title_of}, proofs.AnswerLemmas.{bad_long}}
 use Rattle.nntp_explain.proofs.explainer.Explainer.put_bad.Goals as goal
 
 -- there are no more bad answers than octets of the text

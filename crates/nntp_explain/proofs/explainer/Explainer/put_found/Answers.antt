@@ -1,24 +1,19 @@
-use Rattle.std.proofs.Common.{◌≡◌, ◌∷◌, ap, sym, subst, List, length, map}
-use Rattle.std.specs.List.{AllByRecursion}
-use Rattle.nntp_article.specs.Session.Limit.{profile_of}
-use Rattle.nntp_article.specs.declared.session.profile.Profile.{Profile}
-use Rattle.nntp_facts.specs.Conflict.{Placed, FitsThere, SomeHas, IsFound, HasLast, told_with, below, places_of}
-use Rattle.nntp_facts.specs.Noted.{profile_kept}
-use Rattle.nntp_facts.specs.Points.{AreHeld}
-use Rattle.nntp_facts.specs.StatementView.{held_of}
-use Rattle.nntp_explain.specs.ExplainingView.{cited_of}
-use Rattle.nntp_explain.proofs.ConflictLemmas.{some_found}
-use Rattle.nntp_explain.proofs.SaysLemmas.{on_ok}
+use Rattle.std.{proofs.Common.{◌≡◌, ◌∷◌, ap, sym, subst, List, length, map}, specs.List.{AllByRecursion}}
+use Rattle.nntp_article.specs.{Session.Limit.{profile_of}, declared.session.profile.Profile.{Profile}}
+use Rattle.nntp_facts.specs.{Conflict.{Placed, SomeHas, IsFound, told_with, below, places_of}, Inner.{Conflict.{FitsThere, HasLast}, Noted.{profile_kept}}}
+use Rattle.nntp_facts.specs.Inner.{Points.{AreHeld}, StatementView.{held_of}}
+use Rattle.nntp_explain.{specs.Inner.ExplainingView.{cited_of}, proofs.{ConflictLemmas.{some_found}, SaysLemmas.{on_ok}}}
+use Rattle.nntp_explain.proofs.explainer.Explainer.put_found.Goals.{After-deref}
 use Rattle.nntp_explain.proofs.explainer.Explainer.put_found.Given as given
 use Rattle.nntp_explain.proofs.explainer.Explainer.put_found.Goals as goal
-use Rattle.nntp_explain.proofs.explainer.Explainer.put_found.Goals.{After-deref}
 
 -- a profile, and the accepted answers
 abbrev Front : Type 0
 Front = Profile × List Placed
 
 -- the search is given those that are kept
-given_kept : (g : given.Over) (c : After-deref g) → ◌≡◌ {A = Front} (profile_of c.limit-limit.result c.marks-marks.result, c.deref.result.now) (profile_kept c.args.self.now.facts, c.args.self.now.placed.items)
+given_kept : (g : given.Over) (c : After-deref g)
+    → ◌≡◌ {A = Front} (profile_of c.limit-limit.result c.marks-marks.result, c.deref.result.now) (profile_kept c.args.self.now.facts, c.args.self.now.placed.items)
 given_kept g c = λ i. (profile_of (c.limit-limit.ensures i) (c.marks-marks.ensures i), c.deref.ensures.value i)
 
 pub find-requires-clause-fit : goal.find-requires-clause-fit

@@ -1,13 +1,10 @@
-use Rattle.std.proofs.Common.{◌∙◌, sym, ap, subst}
-use Rattle.std.specs.Prelude.{count_by, is_some, drop}
-use Rattle.std.specs.Option.{option_copied}
+use Rattle.std.{proofs.Common.{◌∙◌, sym, ap, subst}, specs.{Prelude.{count_by, is_some, drop}, Option.{option_copied}}}
 use Rattle.nntp_article.specs.declared.session.profile.Profile.{Profile}
-use Rattle.nntp_wire.specs.View.{asked}
+use Rattle.nntp_wire.specs.Inner.View.{asked}
 use Rattle.nntp_pair.specs.Pairing.{Unpaired, line_ahead, streams}
 use Rattle.nntp_several.specs.Sessions.{Recorded}
-use Rattle.nntp_explain.specs.ExplainingView.{kept_of, AreTold, HasTold}
-use Rattle.nntp_explain.proofs.ExplainLemmas.{told_unspelled}
-use Rattle.nntp_explain.proofs.EndLemmas.{read_at_end, read_at_octets}
+use Rattle.nntp_explain.{specs.Inner.ExplainingView.{kept_of, AreTold, HasTold}, proofs.{ExplainLemmas.{told_unspelled}, EndLemmas.{read_at_end}}}
+use Rattle.nntp_explain.proofs.EndLemmas.{read_at_octets}
 use Rattle.nntp_explain.proofs.explainer.Explainer.read.Goals as goal
 
 pub loop-exchange-init : goal.loop-exchange-init
@@ -34,7 +31,8 @@ note-requires g c =
 
 pub loop-exchange-preserved-in-Continue-1 : goal.loop-exchange-preserved-in-Continue-1
 loop-exchange-preserved-in-Continue-1 g c = λ profile b h.
-    c.in_ok-note-in-Exchange.ensures profile b c.args.session.now.client c.args.session.now.server c.loop-exchange.pairs c.next.new.self (c.loop-exchange.invariant profile b h) c.in-Exchange.ensures.step
+    c.in_ok-note-in-Exchange.ensures profile b c.args.session.now.client c.args.session.now.server c.loop-exchange.pairs c.next.new.self (c.loop-exchange.invariant profile b h)
+    c.in-Exchange.ensures.step
 
 pub refuse_malformed-requires : goal.refuse_malformed-requires
 refuse_malformed-requires g c = (c.loop-exchange.invariant c.requires.0 c.requires.1 c.requires.2).few
@@ -59,7 +57,8 @@ pub returns-in_default : goal.returns-in_default
 returns-in_default g c = λ profile b h.
     let step = c.in-Bad.ensures.step in
     let put = c.in_ok-refuse_octets-in_default.ensures in
-    read_at_octets profile b c.args.session.now.client c.args.session.now.server (kept_of c.loop-exchange.self) (kept_of c.refuse_octets.new.self) c.loop-exchange.self.text.items c.refuse_octets.new.self.text.items
+    read_at_octets profile b c.args.session.now.client c.args.session.now.server (kept_of c.loop-exchange.self) (kept_of c.refuse_octets.new.self) c.loop-exchange.self.text.items
+    c.refuse_octets.new.self.text.items
     c.loop-exchange.pairs c.index-index.result c.in-Bad.class (option_copied c.ahead.result.line) c.ahead.result.rest.now c.count_lines_behind-unanswered.result
     (c.loop-exchange.invariant profile b h) step.1 c.in_default.not-Malformed
     (c.index-index.ensures.value ∙ ap (λ (u : Unpaired). u.index) step.2)

@@ -1,7 +1,6 @@
 use Rattle.std.proofs.Common.{◌<◌, ◌^◌, [], length, arith, rules}
-use Rattle.nntp_facts.specs.Noted.{profile_kept}
-use Rattle.nntp_explain.specs.ExplainingView.{kept_of, accepted_behind}
-use Rattle.nntp_explain.proofs.EndLemmas.{none_read, number_small, next_read, last_read}
+use Rattle.nntp_facts.specs.Inner.Noted.{profile_kept}
+use Rattle.nntp_explain.{specs.Inner.ExplainingView.{kept_of, accepted_behind}, proofs.EndLemmas.{none_read, number_small, next_read, last_read}}
 use Rattle.nntp_explain.proofs.explainer.Explainer.read_all.Goals as goal
 
 pub loop-named-init : goal.loop-named-init

@@ -1,6 +1,6 @@
 use Rattle.std.proofs.Common.{◌*◌, ◌≤◌, ◌^◌, take}
-use Rattle.nntp_facts.specs.Noted.{profile_kept}
-use Rattle.nntp_explain.specs.ExplainingView.{kept_of, HaveRead}
+use Rattle.nntp_facts.specs.Inner.Noted.{profile_kept}
+use Rattle.nntp_explain.specs.Inner.ExplainingView.{kept_of, HaveRead}
 use Rattle.nntp_explain.proofs.explainer.Explainer.read_all.Given as goal
 
 -- the sessions so far were read, and each has fewer than 2^64 lines

@@ -1,8 +1,6 @@
 use Rattle.std.proofs.Common.{subst, Some}
 use Rattle.nntp_several.specs.Sessions.{Named}
-use Rattle.nntp_explain.specs.ExplainingView.{kept_of, IsRead}
-use Rattle.nntp_explain.proofs.ExplainLemmas.{if_ok}
-use Rattle.nntp_explain.proofs.EndLemmas.{begun_told}
+use Rattle.nntp_explain.{specs.Inner.ExplainingView.{kept_of, IsRead}, proofs.{ExplainLemmas.{if_ok}, EndLemmas.{begun_told}}}
 use Rattle.nntp_explain.proofs.explainer.Explainer.read_named.Goals as goal
 
 pub read-requires : goal.read-requires

@@ -1,11 +1,8 @@
-use Rattle.std.proofs.Common.{◌≡◌, ◌∙◌, ◌++◌, sym, ap, refl, true, false, [], append-nil}
-use Rattle.std.specs.Option.{option_map, option_copied}
-use Rattle.nntp_wire.specs.View.{asked}
+use Rattle.std.{proofs.Common.{◌≡◌, ◌∙◌, ◌++◌, sym, ap, refl, true, false, [], append-nil}, specs.Option.{option_map, option_copied}}
+use Rattle.nntp_wire.specs.Inner.View.{asked}
 use Rattle.nntp_pair.specs.declared.class.Class.TheVariants.{Malformed}
-use Rattle.nntp_explain.specs.Explaining.{front_lines, place_lines}
-use Rattle.nntp_explain.specs.ExplainingView.{kept_of, standing_of, title_of}
+use Rattle.nntp_explain.specs.{Explaining.{front_lines, place_lines}, Inner.ExplainingView.{kept_of, standing_of, title_of, unspelled_lines}}
 use Rattle.nntp_explain.proofs.AnswerLemmas.{told_reason}
-use Rattle.nntp_explain.proofs.ExplainLemmas.{unspelled_lines}
 use Rattle.nntp_explain.proofs.explainer.Explainer.refuse_malformed.Goals as goal
 
 pub returns-in_ok-put_unspelled-clause-text : goal.returns-in_ok-put_unspelled-clause-text

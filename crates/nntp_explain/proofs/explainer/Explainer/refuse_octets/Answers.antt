@@ -1,11 +1,7 @@
-use Rattle.std.proofs.Common.{◌∙◌, ◌++◌, sym, subst, ap, true, false, refl, ℕ, [], Option, append-nil}
-use Rattle.std.specs.Option.{option_map, option_copied}
-use Rattle.nntp_pair.specs.declared.class.Class.{Class}
-use Rattle.nntp_pair.specs.Classes.{class_of}
-use Rattle.nntp_explain.specs.Explaining.{front_lines, place_lines, IsEndReason}
-use Rattle.nntp_explain.specs.ExplainingView.{Kept, cited_of, kept_of, standing_of, title_of}
-use Rattle.nntp_explain.specs.Standing.{Cited}
-use Rattle.nntp_explain.proofs.AnswerLemmas.{told_reason}
+use Rattle.std.{proofs.Common.{◌∙◌, ◌++◌, sym, subst, ap, true, false, refl, ℕ, [], Option, append-nil}, specs.Option.{option_map, option_copied}}
+use Rattle.nntp_pair.specs.{declared.class.Class.{Class}, Classes.{class_of}}
+use Rattle.nntp_explain.specs.{Explaining.{front_lines, place_lines, IsEndReason}, Inner.ExplainingView.{Kept, cited_of, kept_of, standing_of, title_of}}
+use Rattle.nntp_explain.{specs.Standing.{Cited}, proofs.AnswerLemmas.{told_reason}}
 use Rattle.nntp_explain.proofs.explainer.Explainer.refuse_octets.Goals as goal
 
 pub returns-in_ok-put_end_reason-clause-text : goal.returns-in_ok-put_end_reason-clause-text

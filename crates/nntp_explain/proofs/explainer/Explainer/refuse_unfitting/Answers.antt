@@ -1,15 +1,11 @@
-use Rattle.std.proofs.Common.{◌≡◌, ◌∙◌, ◌++◌, sym, ap, true, false, refl, append-nil, ℕ, List, [], Option, length, map, drop, arith}
-use Rattle.std.proofs.lemmas.List.{drop-map, length-map}
-use Rattle.std.specs.Option.{option_map, option_map_or}
+use Rattle.std.proofs.{Common.{◌≡◌, ◌∙◌, ◌++◌, sym, ap, true, false, refl, append-nil, ℕ, List, [], Option, length, map, drop, arith}, lemmas.List.{drop-map}}
+use Rattle.std.{proofs.lemmas.List.{length-map}, specs.Option.{option_map, option_map_or}}
 use Rattle.nntp_wire.specs.Answer.{Response}
 use Rattle.nntp_article.specs.Session.Misfit.{Misfit}
 use Rattle.nntp_facts.specs.Conflict.{Placed}
 use Rattle.nntp_pair.specs.declared.class.Class.TheVariants.{OutOfPlace}
-use Rattle.nntp_explain.specs.Explaining.{front_lines, place_lines}
-use Rattle.nntp_explain.specs.ExplainingView.{Kept, kept_of, cited_of, standing_of, title_of, unfitting_told}
-use Rattle.nntp_explain.specs.Reasons.{unfitting_lines}
-use Rattle.nntp_explain.specs.Standing.{Cited}
-use Rattle.nntp_explain.proofs.AnswerLemmas.{told_reason}
+use Rattle.nntp_explain.specs.{Explaining.{front_lines, place_lines}, Inner.ExplainingView.{Kept, kept_of, cited_of, standing_of, title_of, unfitting_told}}
+use Rattle.nntp_explain.{specs.{Reasons.{unfitting_lines}, Standing.{Cited}}, proofs.AnswerLemmas.{told_reason}}
 use Rattle.nntp_explain.proofs.explainer.Explainer.refuse_unfitting.Goals as goal
 
 -- those of earlier sessions are among all

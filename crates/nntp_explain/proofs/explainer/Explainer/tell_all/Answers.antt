@@ -1,8 +1,5 @@
-use Rattle.std.proofs.Common.{refl, sym, length}
-use Rattle.std.proofs.lemmas.List.{length-map}
-use Rattle.nntp_explain.specs.ExplainingView.{kept_of, cited_of}
-use Rattle.nntp_explain.proofs.ExplainLemmas.{if_ok}
-use Rattle.nntp_explain.proofs.EndLemmas.{explained_all}
+use Rattle.std.proofs.{Common.{refl, sym, length}, lemmas.List.{length-map}}
+use Rattle.nntp_explain.{specs.Inner.ExplainingView.{kept_of, cited_of}, proofs.{ExplainLemmas.{if_ok}, EndLemmas.{explained_all}}}
 use Rattle.nntp_explain.proofs.explainer.Explainer.tell_all.Goals as goal
 
 pub returns : goal.returns

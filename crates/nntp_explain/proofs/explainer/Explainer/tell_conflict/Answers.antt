@@ -1,11 +1,7 @@
-use Rattle.std.proofs.Common.{◌∙◌, ◌++◌, ◌∷◌, [], refl, ap, subst, sym, List, map}
-use Rattle.std.specs.Prelude.{⊤, Contains, MatchOption}
-use Rattle.nntp_facts.specs.Noted.{profile_kept}
-use Rattle.nntp_facts.proofs.Members.{all_at, all_both, in_contains}
-use Rattle.nntp_explain.specs.Explaining.{ToldContradiction, IsConflictOf}
-use Rattle.nntp_explain.specs.ExplainingView.{AreReasons, cited_of, kept_of}
-use Rattle.nntp_explain.proofs.ReasonsGoOn.{in_any_case, extended}
-use Rattle.nntp_explain.proofs.SaysLemmas.{on_ok}
+use Rattle.std.{proofs.Common.{◌∙◌, ◌++◌, ◌∷◌, [], refl, ap, subst, sym, List}, specs.Prelude.{⊤, Contains, MatchOption}}
+use Rattle.nntp_facts.{specs.Inner.Noted.{profile_kept}, proofs.Members.{all_at, all_both, in_contains}}
+use Rattle.nntp_explain.{specs.Inner.{Explaining.{ToldContradiction}, ExplainingView.{AreReasons, TellsConflict, kept_of}}, proofs.ReasonsGoOn.{in_any_case}}
+use Rattle.nntp_explain.proofs.{ReasonsGoOn.{extended}, SaysLemmas.{on_ok}}
 use Rattle.nntp_explain.proofs.explainer.Explainer.tell_conflict.Goals as goal
 
 pub returns-in-Some-clause-kept : goal.returns-in-Some-clause-kept
@@ -24,8 +20,8 @@ returns-in-Some-clause-text g c =
     (λ put. (
       c.in-Some.reason.now,
       put,
-      all_at (λ (t : ToldContradiction). IsConflictOf self.session (profile_kept self.facts) t.bad self.placed.items (map cited_of self.cited.items) t.reason) here self.contradictions.items
-          c.requires.reasons (in_contains here self.contradictions.items there),
+      all_at (λ (t : ToldContradiction). TellsConflict (kept_of self) t.bad t.reason) here self.contradictions.items c.requires.reasons
+          (in_contains here self.contradictions.items there),
     ))
     (extended c.extend_from_slice.result c.extend_from_slice.new.self.items self.text.items c.in-Some.reason.now c.extend_from_slice.ensures.items)
 
@@ -33,8 +29,8 @@ pub returns-clause-reasons : goal.returns-clause-reasons
 returns-clause-reasons g c =
     let self = c.args.self.now in
     let goes = c.in_ok-put_found.ensures in
-    let told = λ (t : ToldContradiction). IsConflictOf self.session (profile_kept self.facts) t.bad self.placed.items (map cited_of self.cited.items) t.reason in
+    let told = λ (t : ToldContradiction). TellsConflict (kept_of self) t.bad t.reason in
     let whole = goes.1 ∙ ap (λ t. t ++ goes.0) c.new-reason.ensures.items in
-    let here = subst (IsConflictOf self.session (profile_kept self.facts) c.args.bad self.placed.items (map cited_of self.cited.items)) (sym whole) goes.2 in
+    let here = subst (TellsConflict (kept_of self) c.args.bad) (sym whole) goes.2 in
     subst (AreReasons (profile_kept self.facts) (kept_of self)) (sym c.in_ok-push.ensures.items)
     (all_both told self.contradictions.items (c.new.result ∷ []) c.requires.reasons (subst told (sym c.new.ensures) here, tt))

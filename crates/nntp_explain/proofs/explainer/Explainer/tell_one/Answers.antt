@@ -1,9 +1,6 @@
-use Rattle.std.proofs.Common.{refl, sym, length, arith}
-use Rattle.std.proofs.lemmas.List.{length-map}
-use Rattle.nntp_facts.specs.Noted.{profile_kept}
-use Rattle.nntp_explain.specs.ExplainingView.{kept_of, cited_of}
-use Rattle.nntp_explain.proofs.ExplainLemmas.{if_ok}
-use Rattle.nntp_explain.proofs.EndLemmas.{alone, told_alone, explained_alone}
+use Rattle.std.proofs.{Common.{refl, sym, length, arith}, lemmas.List.{length-map}}
+use Rattle.nntp_facts.specs.Inner.Noted.{profile_kept}
+use Rattle.nntp_explain.{specs.Inner.ExplainingView.{kept_of, cited_of}, proofs.{ExplainLemmas.{if_ok}, EndLemmas.{alone, told_alone, explained_alone}}}
 use Rattle.nntp_explain.proofs.explainer.Explainer.tell_one.Goals as goal
 
 pub begin-requires : goal.begin-requires

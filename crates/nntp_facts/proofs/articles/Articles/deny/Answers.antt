@@ -1,8 +1,6 @@
 use Rattle.std.proofs.Common.{map, ap, ◌∙◌}
+use Rattle.nntp_facts.{specs.Inner.{Articles.{denied, with_new, with_denied}, ArticleView.{entries_value}}, proofs.Keeping.KeptIds.{one_more_denied}}
 use Rattle.std.specs.FinMap as finite
-use Rattle.nntp_facts.specs.Articles.{denied, with_new, with_denied}
-use Rattle.nntp_facts.specs.ArticleView.{entries_value}
-use Rattle.nntp_facts.proofs.Keeping.KeptIds.{one_more_denied}
 use Rattle.nntp_facts.proofs.articles.Articles.deny.Goals as goal
 
 pub returns : goal.returns

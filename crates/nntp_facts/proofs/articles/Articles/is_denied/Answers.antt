@@ -1,10 +1,6 @@
-use Rattle.std.proofs.Common.{◌&&◌, not, ap, sym, ◌∙◌}
-use Rattle.std.specs.List.{list_any}
-use Rattle.std.specs.Ordering.{nat_cmp, is_eq}
-use Rattle.std.specs.Cmp.Lexicographic.{slice_cmp}
+use Rattle.std.{proofs.Common.{◌&&◌, not, ap, sym, ◌∙◌}, specs.{List.{list_any}, Ordering.{nat_cmp, is_eq}, Cmp.Lexicographic.{slice_cmp}}}
+use Rattle.nntp_facts.{specs.Inner.Articles.{is_there}, proofs.Keeping.KeptIds.{denied_there}}
 use Rattle.std.specs.FinMap as finite
-use Rattle.nntp_facts.specs.Articles.{is_there}
-use Rattle.nntp_facts.proofs.Keeping.KeptIds.{denied_there}
 use Rattle.nntp_facts.proofs.articles.Articles.is_denied.Goals as goal
 
 pub returns-then-contains : goal.returns-then-contains

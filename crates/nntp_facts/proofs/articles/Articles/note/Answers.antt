@@ -1,32 +1,26 @@
 use Rattle.std.proofs.Common.{◌≡◌, ◌∙◌, Some, sym, ap, subst}
-use Rattle.nntp_facts.specs.declared.joins.Joins.TheVariants.{Again}
-use Rattle.nntp_said.specs.Facts.{NoArticle}
-use Rattle.nntp_facts.specs.Saying.{IsToExist}
-use Rattle.nntp_facts.specs.ArticleView.{is_added}
-use Rattle.nntp_facts.specs.Kept.{IsFactAdded}
-use Rattle.nntp_facts.specs.KeptSaying.{IsThereAlready, MayBeSaid, article_fact}
-use Rattle.nntp_facts.specs.SayingView.{article_said}
-use Rattle.nntp_facts.proofs.OkResults.{if_ok}
+use Rattle.nntp_facts.specs.{declared.joins.Joins.TheVariants.{Again}, Inner.{Saying.{Lacks, IsToExist}, ArticleView.{is_added}, KeptSaying.{IsThereAlready}}}
+use Rattle.nntp_facts.{specs.Inner.{KeptSaying.{MayBeSaid, IsArticleAdded}, SayingView.{article_said}}, proofs.OkResults.{if_ok}}
 use Rattle.nntp_facts.proofs.articles.Articles.note.Goals as goal
 
 pub returns-in-Exists-clause-added : goal.returns-in-Exists-clause-added
 returns-in-Exists-clause-added g c =
-    if_ok c.note_there.result (λ added adds facts name n kept may already.
+    if_ok c.note_there.result (λ added adds facts kept may already.
     let shown = λ (again : c.args.joins ≡ Again). subst (λ p. IsThereAlready facts (Some (article_said p))) c.in-Exists.is (already again) in
-    subst (λ p. IsFactAdded facts (article_fact name n (article_said p)) c.args.self.now c.note_there.new.self (is_added added)) (sym c.in-Exists.is) (adds facts name n kept shown)) c.note_there.ensures.added
+    subst (λ p. IsArticleAdded facts (Some (article_said p)) c.args.self.now c.note_there.new.self (is_added added)) (sym c.in-Exists.is) (adds facts kept shown)) c.note_there.ensures.added
 
 pub returns-in-Sends-clause-added : goal.returns-in-Sends-clause-added
 returns-in-Sends-clause-added g c =
     let s = c.in-Sends in
-    if_ok c.note_sent.result (λ added adds facts name n kept may already.
+    if_ok c.note_sent.result (λ added adds facts kept may already.
     let fits = subst (λ p. MayBeSaid (article_said p)) s.is may in
-    subst (λ p. IsFactAdded facts (article_fact name n (article_said p)) c.args.self.now c.note_sent.new.self (is_added added)) (sym s.is)
+    subst (λ p. IsArticleAdded facts (Some (article_said p)) c.args.self.now c.note_sent.new.self (is_added added)) (sym s.is)
     (adds facts s.what s.block.now kept (c.of.ensures.head s.id.now fits) (c.of.ensures.body s.id.now fits))) c.note_sent.ensures.added
 
 pub returns-in_ok-note_lack-in-Lacks-clause-added : goal.returns-in_ok-note_lack-in-Lacks-clause-added
-returns-in_ok-note_lack-in-Lacks-clause-added g c facts name n kept may already =
-    subst (λ p. IsFactAdded facts (article_fact name n (article_said p)) c.args.self.now c.note_lack.new.self (is_added c.unnamed_if.result)) (sym c.in-Lacks.is)
-    (subst (λ does. IsFactAdded facts (NoArticle c.in-Lacks.id.now) c.args.self.now c.note_lack.new.self does) (sym c.unnamed_if.ensures.added) (c.in_ok-note_lack-in-Lacks.ensures facts kept))
+returns-in_ok-note_lack-in-Lacks-clause-added g c facts kept may already =
+    subst (λ p. IsArticleAdded facts (Some (article_said p)) c.args.self.now c.note_lack.new.self (is_added c.unnamed_if.result)) (sym c.in-Lacks.is)
+    (subst (λ does. IsArticleAdded facts (Some (c.in-Lacks.id.now, Lacks)) c.args.self.now c.note_lack.new.self does) (sym c.unnamed_if.ensures.added) (c.in_ok-note_lack-in-Lacks.ensures facts kept))
 
 pub returns-in_ok-note_lack-in-Lacks-clause-text : goal.returns-in_ok-note_lack-in-Lacks-clause-text
 returns-in_ok-note_lack-in-Lacks-clause-text g c other is id exists = absurd (subst (λ p. IsToExist (Some (article_said p)) id) c.in-Lacks.is exists)

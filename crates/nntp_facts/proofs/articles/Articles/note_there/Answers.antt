@@ -1,12 +1,11 @@
-use Rattle.nntp_facts.proofs.Keeping.NotedArticles.{there_already}
-use Rattle.nntp_facts.proofs.OkResults.{if_ok}
+use Rattle.nntp_facts.proofs.{Keeping.NotedArticles.{there_already}, OkResults.{if_ok}}
 use Rattle.nntp_facts.proofs.articles.Articles.note_there.Goals as goal
 
 pub returns-in-Again-clause-added : goal.returns-in-Again-clause-added
-returns-in-Again-clause-added g c facts name n kept shown = there_already facts c.args.self.now name n c.args.id.now kept (shown c.in-Again.is)
+returns-in-Again-clause-added g c facts kept shown = there_already facts c.args.self.now c.args.id.now kept (shown c.in-Again.is)
 
 pub returns-in_default : goal.returns-in_default
 returns-in_default g c = record {
-  added = if_ok c.stand.result (λ added adds facts name n kept shown. adds facts name n kept) c.stand.ensures.added;
+  added = if_ok c.stand.result (λ added adds facts kept shown. adds facts kept) c.stand.ensures.added;
   text = if_ok c.stand.result (λ added text other does. text does) c.stand.ensures.text;
 }

@@ -1,15 +1,11 @@
-use Rattle.std.proofs.Common.{◌≡◌, ℕ, List, Some, rules, ap, sym, subst, ◌∙◌}
-use Rattle.std.specs.Prelude.{unwrap_or}
-use Rattle.nntp_facts.specs.Kept.{IsAddedIf}
-use Rattle.nntp_facts.specs.Articles.{MayBeSent, with_sent}
-use Rattle.nntp_facts.specs.ArticleView.{is_added, known_article}
-use Rattle.nntp_facts.proofs.Keeping.NotedArticles.{sent_noted, sent_denied}
-use Rattle.nntp_facts.proofs.Keeping.NamedArticles.{text_cmp, put_in, had, same_key}
+use Rattle.std.{proofs.Common.{◌≡◌, ℕ, List, Some, rules, refl, ap, sym, subst, ◌∙◌}, specs.Prelude.{unwrap_or}}
+use Rattle.nntp_facts.specs.Inner.{Kept.{IsAddedIf}, Saying.{Sends}, Articles.{MayBeSent, with_sent}, ArticleView.{is_added, known_article}}
+use Rattle.nntp_facts.proofs.Keeping.{NotedArticles.{sent_noted, of_denied}, NamedArticles.{text_cmp, put_in, had, same_key}}
 use Rattle.nntp_facts.proofs.articles.Articles.send.Goals as goal
 
 pub returns-then-is_denied-clause-added : goal.returns-then-is_denied-clause-added
 returns-then-is_denied-clause-added g c facts what lines kept heads bodies =
-    sent_denied facts c.args.self.now what c.args.id.now lines c.args.sent.now.head c.args.sent.now.body kept (sym c.is_denied.ensures ∙ c.if-is_denied.true) heads bodies
+    of_denied facts c.args.self.now c.args.id.now (Sends what lines) kept refl (sym c.is_denied.ensures ∙ c.if-is_denied.true)
 
 pub returns-clause-added : goal.returns-clause-added
 returns-clause-added g c facts what lines kept heads bodies =
@@ -25,7 +21,8 @@ returns-clause-added g c facts what lines kept heads bodies =
     let same = c.in_ok-from_str.ensures.ok in
     let free = sym c.is_denied.ensures ∙ c.if-is_denied.false in
     let found = c.or_insert-article.ensures.value ∙ ap (λ o. unwrap_or o c.unsent.result) c.in_ok-entry.ensures.value in
-    let does = subst (IsAddedIf (MayBeSent (known_article old) head body) (λ k. k ≡ with_sent (known_article old) head body) (known_article old) (known_article new)) (sym c.named_if.ensures.added) c.in_ok-note.ensures in
+    let does = subst (IsAddedIf (MayBeSent (known_article old) head body) (λ k. k
+    ≡ with_sent (known_article old) head body) (known_article old) (known_article new)) (sym c.named_if.ensures.added) c.in_ok-note.ensures in
     sent_noted facts M _ what id lines head body (known_article old) (known_article new) (is_added c.named_if.result) kept
     (had es ks M c.self.view_is key id same free c.unsent.result old c.unsent.ensures found) (put_in es ks M c.self.view_is key id same _ new (search rules)) heads bodies does
 

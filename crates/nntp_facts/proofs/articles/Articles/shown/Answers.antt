@@ -1,12 +1,8 @@
-use Rattle.std.proofs.Common.{map, ap, sym, ◌∙◌}
-use Rattle.std.specs.Ordering.{nat_cmp}
-use Rattle.std.specs.Cmp.Lexicographic.{slice_cmp, nat_list_cmp_total}
-use Rattle.std.specs.FinMap as finite
-use Rattle.std.specs.Rc.{rc_str_bytes}
+use Rattle.std.{proofs.Common.{map, ap, sym, ◌∙◌}, specs.{Ordering.{nat_cmp}, Cmp.Lexicographic.{slice_cmp, nat_list_cmp_total}, Rc.{rc_str_bytes}}}
 use Rattle.nntp_wire.proofs.ShownMaps.{entries-shown}
-use Rattle.nntp_facts.specs.Readers.{shown_article, articles_shown_in, shown_articles}
-use Rattle.nntp_facts.specs.ArticleView.{known_article, entries_value}
+use Rattle.nntp_facts.specs.Inner.{Readers.{shown_article, articles_shown_in, shown_articles}, ArticleView.{known_article, entries_value}}
 use Rattle.nntp_facts.proofs.Keeping.KeptIds.{articles-with_denied}
+use Rattle.std.specs.FinMap as finite
 use Rattle.nntp_facts.proofs.articles.Articles.shown.Goals as goal
 
 pub returns : goal.returns

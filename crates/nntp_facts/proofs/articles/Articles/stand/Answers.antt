@@ -1,19 +1,18 @@
-use Rattle.std.proofs.Common.{ℕ, List, Some, rules, ap, sym, ◌∙◌}
-use Rattle.std.specs.Prelude.{unwrap_or}
-use Rattle.nntp_facts.proofs.Keeping.NotedArticles.{there_noted, there_denied}
-use Rattle.nntp_facts.proofs.Keeping.NamedArticles.{text_cmp, kept_new, same_key}
+use Rattle.std.{proofs.Common.{ℕ, List, Some, rules, refl, ap, sym, ◌∙◌}, specs.Prelude.{unwrap_or}}
+use Rattle.nntp_facts.{specs.Inner.Saying.{Exists}, proofs.Keeping.{NotedArticles.{there_noted, of_denied}, NamedArticles.{text_cmp, kept_new, same_key}}}
 use Rattle.nntp_facts.proofs.articles.Articles.stand.Goals as goal
 
 pub returns-then-is_denied-clause-added : goal.returns-then-is_denied-clause-added
-returns-then-is_denied-clause-added g c facts name n kept = there_denied facts c.args.self.now name n c.args.id.now kept (sym c.is_denied.ensures ∙ c.if-is_denied.true)
+returns-then-is_denied-clause-added g c facts kept = of_denied facts c.args.self.now c.args.id.now Exists kept refl (sym c.is_denied.ensures ∙ c.if-is_denied.true)
 
 pub returns-clause-added : goal.returns-clause-added
-returns-clause-added g c facts name n kept =
+returns-clause-added g c facts kept =
     let M = c.args.self.now in
     let free = sym c.is_denied.ensures ∙ c.if-is_denied.false in
     let found = c.or_insert.ensures.value ∙ ap (λ o. unwrap_or o c.unsent.result) c.in_ok-entry.ensures.value in
-    there_noted facts M _ name n c.args.id.now kept free
-    (kept_new c.self.inside.known.entries c.self.inside.denied.keys M c.self.view_is c.in_ok-from_str.field-0 c.args.id.now c.in_ok-from_str.ensures.ok free c.unsent.result c.or_insert.result.now c.unsent.ensures
+    there_noted facts M _ c.args.id.now kept free
+    (kept_new c.self.inside.known.entries c.self.inside.denied.keys M c.self.view_is c.in_ok-from_str.field-0 c.args.id.now c.in_ok-from_str.ensures.ok free c.unsent.result c.or_insert.result.now
+    c.unsent.ensures
     found _ (search rules))
 
 pub returns-clause-text : goal.returns-clause-text

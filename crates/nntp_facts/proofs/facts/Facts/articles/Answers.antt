@@ -1,7 +1,5 @@
 use Rattle.std.proofs.Common.{sym, subst, ◌∙◌, ap}
-use Rattle.nntp_facts.specs.Noted.{said_behind}
-use Rattle.nntp_facts.specs.Readers.{AreShownArticles, shown_articles}
-use Rattle.nntp_facts.proofs.Keeping.ArticleReaders.{articles_shown}
+use Rattle.nntp_facts.{specs.Inner.{Noted.{said_behind}, Readers.{AreShownArticles, shown_articles}}, proofs.Keeping.ArticleReaders.{articles_shown}}
 use Rattle.nntp_facts.proofs.facts.Facts.articles.Goals as goal
 
 pub returns : goal.returns

@@ -1,10 +1,8 @@
-use Rattle.std.proofs.Common.{refl, sym, ap, subst, ◌∙◌}
-use Rattle.std.proofs.Math.Path.{ap₂}
+use Rattle.std.proofs.{Common.{refl, sym, ap, subst, ◌∙◌}, Math.Path.{ap₂}}
 use Rattle.nntp_article.specs.Session.Machine.{visible_after}
 use Rattle.nntp_said.specs.Asks.{position_after}
-use Rattle.nntp_facts.specs.SayingView.{saying_of}
-use Rattle.nntp_facts.specs.Noted.{profile_kept, HasNotedBehind}
-use Rattle.nntp_facts.proofs.Keeping.NotedExchange.{Adds, unfit, weighed, refused, accepted}
+use Rattle.nntp_facts.{specs.Inner.{SayingView.{saying_of}, Noted.{profile_kept, HasNotedBehind}}, proofs.Keeping.NotedExchange.{Adds, unfit, weighed, refused}}
+use Rattle.nntp_facts.proofs.Keeping.NotedExchange.{accepted}
 use Rattle.nntp_facts.proofs.facts.Facts.try_note.Goals as goal
 
 pub returns-then-not-branch : goal.returns-then-not-branch

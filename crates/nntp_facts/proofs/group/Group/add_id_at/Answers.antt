@@ -1,5 +1,4 @@
-use Rattle.std.proofs.Common.{is_some, sym, ap, ◌∙◌}
-use Rattle.std.specs.Rc.{rc_str_bytes}
+use Rattle.std.{proofs.Common.{is_some, sym, ap, ◌∙◌}, specs.Rc.{rc_str_bytes}}
 use Rattle.nntp_wire.proofs.ShownMaps.{is_some-option_map}
 use Rattle.nntp_facts.proofs.Keeping.KeptGroups.{same_id}
 use Rattle.nntp_facts.proofs.group.Group.add_id_at.Goals as goal

@@ -1,9 +1,6 @@
-use Rattle.std.proofs.Common.{option_map, ap, sym, ◌∙◌}
-use Rattle.std.specs.Ordering.{nat_cmp}
-use Rattle.std.specs.Cmp.{nat_cmp_total}
-use Rattle.std.specs.FinMap as map
-use Rattle.std.specs.Rc.{rc_str_bytes}
+use Rattle.std.{proofs.Common.{option_map, ap, sym, ◌∙◌}, specs.{Ordering.{nat_cmp}, Cmp.{nat_cmp_total}, Rc.{rc_str_bytes}}}
 use Rattle.nntp_wire.proofs.ShownMaps.{get-shown, option_map-option_map}
+use Rattle.std.specs.FinMap as map
 use Rattle.nntp_facts.proofs.group.Group.id_text.Goals as goal
 
 pub returns : goal.returns

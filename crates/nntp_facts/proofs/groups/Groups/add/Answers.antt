@@ -1,14 +1,9 @@
-use Rattle.std.proofs.Common.{◌≡◌, Some, sym, subst, ap, ◌∙◌}
-use Rattle.std.specs.Prelude.{map as list_map}
-use Rattle.std.specs.Option.{option_copied_mut}
-use Rattle.std.specs.Ordering.{nat_cmp}
+use Rattle.std.{proofs.Common.{◌≡◌, Some, sym, subst, ap, ◌∙◌}, specs.{Prelude.{map as list_map}, Option.{option_copied_mut}, Ordering.{nat_cmp}}}
 use Rattle.std.specs.Cmp.Lexicographic.{slice_cmp, nat_list_cmp_total}
-use Rattle.std.specs.FinMap as map
 use Rattle.nntp_wire.proofs.ShownMaps.{replaced, missing}
-use Rattle.nntp_facts.specs.SayingView.{id_at}
-use Rattle.nntp_facts.specs.Kept.{AreKept, MayHave, ids_with, places_with}
-use Rattle.nntp_facts.proofs.Keeping.KeptGroups.{kept_of, part_kept, new_kept, may_have_told, empty_may_have, empty_agree, agree_kept}
-use Rattle.nntp_facts.proofs.OkResults.{on_ok, on_both}
+use Rattle.nntp_facts.{specs.Inner.{SayingView.{id_at}, Kept.{AreKept, MayHave, ids_with, places_with}}, proofs.Keeping.KeptGroups.{kept_of, part_kept}}
+use Rattle.nntp_facts.proofs.{Keeping.KeptGroups.{new_kept, may_have_told, empty_may_have, empty_agree, agree_kept}, OkResults.{on_ok, on_both}}
+use Rattle.std.specs.FinMap as map
 use Rattle.nntp_facts.proofs.groups.Groups.add.Goals as goal
 
 pub returns-in-Some : goal.returns-in-Some

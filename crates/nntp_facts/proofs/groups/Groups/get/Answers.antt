@@ -1,8 +1,6 @@
-use Rattle.std.proofs.Common.{ap, sym, ◌∙◌}
-use Rattle.std.specs.Ordering.{nat_cmp}
-use Rattle.std.specs.Cmp.Lexicographic.{slice_cmp, nat_list_cmp_total}
-use Rattle.std.specs.FinMap as map
+use Rattle.std.{proofs.Common.{ap, sym, ◌∙◌}, specs.{Ordering.{nat_cmp}, Cmp.Lexicographic.{slice_cmp, nat_list_cmp_total}}}
 use Rattle.nntp_wire.proofs.ShownMaps.{get-shown, option_map_id}
+use Rattle.std.specs.FinMap as map
 use Rattle.nntp_facts.proofs.groups.Groups.get.Goals as goal
 
 pub returns : goal.returns

@@ -1,11 +1,8 @@
 use Rattle.std.proofs.Common.{◌++◌, Some, None, refl, sym, subst, ◌∙◌}
-use Rattle.nntp_facts.specs.SayingView.{id_at, of_group}
-use Rattle.nntp_facts.specs.Together.{AsksStand}
-use Rattle.nntp_facts.specs.Kept.{MayHave}
-use Rattle.std.specs.FinMap as map
-use Rattle.nntp_facts.proofs.Keeping.KeptGroups.{kept_of, bounded_more, may_have_told, empty_may_have, untold_may_show, agree_kept, empty_agree}
-use Rattle.nntp_facts.proofs.Keeping.MoreAsks.{none_stand}
+use Rattle.nntp_facts.{specs.Inner.{SayingView.{id_at, of_group}, Together.{AsksStand}, Kept.{MayHave}}, proofs.Keeping.KeptGroups.{kept_of, bounded_more}}
+use Rattle.nntp_facts.proofs.Keeping.{KeptGroups.{may_have_told, empty_may_have, untold_may_show, agree_kept, empty_agree}, MoreAsks.{none_stand}}
 use Rattle.nntp_facts.proofs.Keeping.SaidAgain.{joins_again, kept_again}
+use Rattle.std.specs.FinMap as map
 use Rattle.nntp_facts.proofs.groups.Groups.joins.Goals as goal
 
 pub returns-in-Some-clause-at_all : goal.returns-in-Some-clause-at_all

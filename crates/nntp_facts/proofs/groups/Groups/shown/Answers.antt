@@ -1,10 +1,7 @@
-use Rattle.std.proofs.Common.{ap, sym, ◌∙◌}
-use Rattle.std.specs.Ordering.{nat_cmp}
-use Rattle.std.specs.Cmp.Lexicographic.{slice_cmp, nat_list_cmp_total}
-use Rattle.std.specs.FinMap as map
+use Rattle.std.{proofs.Common.{ap, sym, ◌∙◌}, specs.{Ordering.{nat_cmp}, Cmp.Lexicographic.{slice_cmp, nat_list_cmp_total}}}
 use Rattle.nntp_wire.proofs.ShownMaps.{entries-shown}
-use Rattle.nntp_facts.specs.Readers.{shown_in, shown_groups}
-use Rattle.nntp_facts.specs.ReadersView.{named}
+use Rattle.nntp_facts.specs.Inner.{Readers.{shown_in, shown_groups}, ReadersView.{named}}
+use Rattle.std.specs.FinMap as map
 use Rattle.nntp_facts.proofs.groups.Groups.shown.Goals as goal
 
 pub returns : goal.returns

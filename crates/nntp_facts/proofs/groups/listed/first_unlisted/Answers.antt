@@ -1,11 +1,6 @@
-use Rattle.std.proofs.Common.{◌≡◌, ◌&&◌, not, true, false, inl, inr, sym, subst, ◌∙◌}
-use Rattle.std.specs.Prelude.{IsTrue, MatchOption}
-use Rattle.std.specs.List.{list_any}
-use Rattle.std.specs.Option.{option_map_or}
-use Rattle.std.specs.Cmp.Lexicographic.{same_text}
-use Rattle.std.proofs.lemmas.Bool.{true≢false, or_cases, or_left, or_right}
-use Rattle.nntp_wire.specs.Decided.{matches_name}
-use Rattle.nntp_wire.specs.Name.{IsGroupName}
+use Rattle.std.proofs.{Common.{◌≡◌, ◌&&◌, not, true, false, inl, inr, sym, subst, ◌∙◌}, lemmas.Bool.{true≢false, or_cases, or_left, or_right}}
+use Rattle.std.specs.{Prelude.{IsTrue, MatchOption}, List.{list_any}, Option.{option_map_or}, Cmp.Lexicographic.{same_text}}
+use Rattle.nntp_wire.specs.{Decided.{matches_name}, Name.{IsGroupName}}
 use Rattle.nntp_article.specs.Session.Machine.{is_same}
 use Rattle.nntp_facts.proofs.Together.FactsOfASpoolStand.{same_itself}
 use Rattle.nntp_facts.proofs.groups.listed.first_unlisted.Goals as goal
@@ -13,7 +8,8 @@ use Rattle.nntp_facts.proofs.groups.listed.first_unlisted.Goals as goal
 pub returns-in-Some-group_unlisted : goal.returns-in-Some-group_unlisted
 returns-in-Some-group_unlisted g c =
     let name = c.in-Some-group_unlisted.group in
-    let found = subst (λ o. MatchOption o (IsGroupName c.as_slice.result.now → (option_map_or (λ w. matches_name w c.as_slice.result.now) c.args.wildmat.now true && not (list_any (λ k. is_same k.now c.as_slice.result.now) c.args.listed.now.keys)) ≡ false)
+    let found = subst (λ o. MatchOption o (IsGroupName c.as_slice.result.now
+    → (option_map_or (λ w. matches_name w c.as_slice.result.now) c.args.wildmat.now true && not (list_any (λ k. is_same k.now c.as_slice.result.now) c.args.listed.now.keys)) ≡ false)
     (λ group. (c.as_slice.result.now ≡ group) × IsTrue (option_map_or (λ w. matches_name w group) c.args.wildmat.now true && not (list_any (λ k. is_same k.now group) c.args.listed.now.keys))))
     c.in-Some-group_unlisted.is c.group_unlisted.ensures in
     let same = sym c.as_slice.ensures.value ∙ found.0 in (
@@ -25,7 +21,8 @@ returns-in-Some-group_unlisted g c =
 pub loop-name-preserved : goal.loop-name-preserved
 loop-name-preserved g c =
     let key = c.in-Some.name.now.items in
-    let none = subst (λ o. MatchOption o (IsGroupName c.as_slice.result.now → (option_map_or (λ w. matches_name w c.as_slice.result.now) c.args.wildmat.now true && not (list_any (λ k. is_same k.now c.as_slice.result.now) c.args.listed.now.keys)) ≡ false)
+    let none = subst (λ o. MatchOption o (IsGroupName c.as_slice.result.now
+    → (option_map_or (λ w. matches_name w c.as_slice.result.now) c.args.wildmat.now true && not (list_any (λ k. is_same k.now c.as_slice.result.now) c.args.listed.now.keys)) ≡ false)
     (λ group. (c.as_slice.result.now ≡ group) × IsTrue (option_map_or (λ w. matches_name w group) c.args.wildmat.now true && not (list_any (λ k. is_same k.now group) c.args.listed.now.keys))))
     c.in_default-group_unlisted.is c.group_unlisted.ensures in (
       tt,

@@ -1,12 +1,6 @@
-use Rattle.std.proofs.Common.{◌&&◌, not, true}
-use Rattle.std.specs.Prelude.{IsTrue}
-use Rattle.std.specs.BTreeMap.{keys}
-use Rattle.std.specs.List.{list_any}
-use Rattle.std.specs.Option.{option_map_or}
-use Rattle.nntp_wire.specs.Decided.{matches_name}
-use Rattle.nntp_wire.specs.Name.{IsGroupName}
-use Rattle.nntp_article.specs.Session.Spool.{Name}
-use Rattle.nntp_article.specs.Session.Machine.{is_same}
+use Rattle.std.{proofs.Common.{◌&&◌, not, true}, specs.{Prelude.{IsTrue}, BTreeMap.{keys}, List.{list_any}, Option.{option_map_or}}}
+use Rattle.nntp_wire.specs.{Decided.{matches_name}, Name.{IsGroupName}}
+use Rattle.nntp_article.specs.Session.{Spool.{Name}, Machine.{is_same}}
 use Rattle.nntp_facts.proofs.groups.listed.first_unlisted.Given as goal
 
 -- what is left are names of groups, and a name before it is listed, or doesn't match

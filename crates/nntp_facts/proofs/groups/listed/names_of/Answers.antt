@@ -1,4 +1,4 @@
-use Rattle.nntp_wire.specs.View.{active_value}
+use Rattle.nntp_wire.specs.Inner.View.{active_value}
 use Rattle.nntp_facts.proofs.Keeping.ListedNames.{name_moved}
 use Rattle.nntp_facts.proofs.groups.listed.names_of.Goals as goal
 

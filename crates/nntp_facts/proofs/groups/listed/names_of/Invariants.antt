@@ -1,9 +1,7 @@
-use Rattle.std.proofs.Common.{◌≡◌, ◌||◌}
-use Rattle.std.specs.List.{list_any}
+use Rattle.std.{proofs.Common.{◌≡◌, ◌||◌}, specs.List.{list_any}}
 use Rattle.nntp_wire.specs.Listing.{active_groups}
-use Rattle.nntp_article.specs.Session.Spool.{Name}
-use Rattle.nntp_article.specs.Session.Machine.{is_same}
-use Rattle.nntp_facts.specs.ListedGroups.{is_listed}
+use Rattle.nntp_article.specs.Session.{Spool.{Name}, Machine.{is_same}}
+use Rattle.nntp_facts.specs.Inner.ListedGroups.{is_listed}
 use Rattle.nntp_facts.proofs.groups.listed.names_of.Given as goal
 
 abbrev pub invariant-loop-group : goal.invariant-loop-group

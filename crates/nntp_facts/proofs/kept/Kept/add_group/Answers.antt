@@ -1,10 +1,5 @@
-use Rattle.std.proofs.Common.{sym, ap, subst, ◌∙◌}
-use Rattle.std.specs.Prelude.{option_map, IfSome}
-use Rattle.std.specs.Rc.{rc_str_bytes}
-use Rattle.nntp_facts.specs.KeptSaying.{IsTextOf}
-use Rattle.nntp_facts.specs.SayingView.{of_group}
-use Rattle.nntp_facts.specs.Kept.{AreKeptGroups}
-use Rattle.nntp_facts.proofs.OkResults.{on_ok}
+use Rattle.std.{proofs.Common.{sym, ap, subst, ◌∙◌}, specs.{Prelude.{option_map, IfSome}, Rc.{rc_str_bytes}}}
+use Rattle.nntp_facts.{specs.Inner.{KeptSaying.{IsTextOf}, SayingView.{of_group}, Kept.{AreKeptGroups}}, proofs.OkResults.{on_ok}}
 use Rattle.nntp_facts.proofs.Keeping.PartsJoin.{group_added, groups_alike}
 use Rattle.nntp_facts.proofs.kept.Kept.add_group.Goals as goal
 

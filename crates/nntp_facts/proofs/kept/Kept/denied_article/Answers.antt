@@ -1,12 +1,7 @@
-use Rattle.std.proofs.Common.{rules, ◌≡◌, cond, ap, refl, sym, ◌∙◌, None, Some}
-use Rattle.std.specs.Prelude.{option_map}
-use Rattle.nntp_facts.specs.Conflict.{Article}
-use Rattle.nntp_facts.specs.Saying.{Lacks, Exists, Sends}
-use Rattle.nntp_facts.specs.SayingView.{article_said}
-use Rattle.nntp_facts.specs.PointView.{point_of}
-use Rattle.nntp_facts.specs.StatementView.{statement_of}
-use Rattle.nntp_facts.proofs.Keeping.SaidOfArticles.{says}
-use Rattle.nntp_facts.proofs.PointsFound.KindsOfPoints.{lacks, has, no_article}
+use Rattle.std.{proofs.Common.{rules, ◌≡◌, cond, ap, refl, sym, ◌∙◌, None, Some}, specs.Prelude.{option_map}}
+use Rattle.nntp_facts.specs.{Conflict.{Article}, Inner.{Saying.{Lacks, Exists, Sends}, SayingView.{article_said}, PointView.{point_of}}}
+use Rattle.nntp_facts.{specs.Inner.StatementView.{statement_of}, proofs.{Keeping.KeptArticles.{shown_kept, denied_kept}, PointsFound.ArticlesBeside.{lacks}}}
+use Rattle.nntp_facts.proofs.PointsFound.ArticlesBeside.{has, no_article}
 use Rattle.nntp_facts.proofs.kept.Kept.denied_article.Goals as goal
 
 pub returns-in-None : goal.returns-in-None
@@ -16,15 +11,15 @@ pub returns-in-Some-Lacks : goal.returns-in-Some-Lacks
 returns-in-Some-Lacks g c profile facts more h =
     let id = c.in-Some-Lacks.id.now in
     let said : option_map article_said c.args.told.now.saying.article ≡ Some (id, Lacks) = search rules in
-    lacks profile facts c.args.self.now (statement_of c.args.told.now) more h id said (option_map point_of c.shown_article.result)
-    (c.shown_article.ensures ∙ ap (λ b. cond b (Some (Article id)) None) (sym (says facts c.args.self.now.articles id h.kept.articles).shown))
+    lacks profile facts c.args.self.now (statement_of c.args.told.now) more h id Lacks said refl (option_map point_of c.shown_article.result)
+    (c.shown_article.ensures ∙ ap (λ b. cond b (Some (Article id)) None) (sym (shown_kept facts c.args.self.now.articles id h.kept.articles)))
 
 pub returns-in-Some-Exists : goal.returns-in-Some-Exists
 returns-in-Some-Exists g c profile facts more h =
     let id = c.in-Some-Exists.id.now in
     let said : option_map article_said c.args.told.now.saying.article ≡ Some (id, Exists) = search rules in
-    has profile facts c.args.self.now (statement_of c.args.told.now) more h id Exists said (λ other. refl) (λ other. refl) (option_map point_of c.lacked_article.result)
-    (c.lacked_article.ensures ∙ ap (λ b. cond b (Some (Article id)) None) (sym (says facts c.args.self.now.articles id h.kept.articles).denied))
+    has profile facts c.args.self.now (statement_of c.args.told.now) more h id Exists said refl (option_map point_of c.lacked_article.result)
+    (c.lacked_article.ensures ∙ ap (λ b. cond b (Some (Article id)) None) (sym (denied_kept facts c.args.self.now.articles id h.kept.articles)))
 
 pub returns-in-Some-Sends : goal.returns-in-Some-Sends
 returns-in-Some-Sends g c profile facts more h =
@@ -32,5 +27,5 @@ returns-in-Some-Sends g c profile facts more h =
     let id = w.id.now in
     let a = Sends w.field-0-1 w.field-0-2.now in
     let said : option_map article_said c.args.told.now.saying.article ≡ Some (id, a) = search rules in
-    has profile facts c.args.self.now (statement_of c.args.told.now) more h id a said (λ other. refl) (λ other. refl) (option_map point_of c.lacked_article-in-Some-Sends.result)
-    (c.lacked_article-in-Some-Sends.ensures ∙ ap (λ b. cond b (Some (Article id)) None) (sym (says facts c.args.self.now.articles id h.kept.articles).denied))
+    has profile facts c.args.self.now (statement_of c.args.told.now) more h id a said refl (option_map point_of c.lacked_article-in-Some-Sends.result)
+    (c.lacked_article-in-Some-Sends.ensures ∙ ap (λ b. cond b (Some (Article id)) None) (sym (denied_kept facts c.args.self.now.articles id h.kept.articles)))

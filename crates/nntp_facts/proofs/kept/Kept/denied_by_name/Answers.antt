@@ -1,9 +1,5 @@
-use Rattle.std.proofs.Common.{◌≡◌, Some, inl, subst}
-use Rattle.std.specs.Prelude.{MatchOption, IfSome, IsTrue, IsFalse}
-use Rattle.std.specs.List.{list_any}
-use Rattle.nntp_facts.specs.Together.{denies_group}
-use Rattle.nntp_facts.specs.StatementView.{statement_of}
-use Rattle.nntp_facts.proofs.PointsFound.KindsOfPoints.{named_group, missing_group}
+use Rattle.std.{proofs.Common.{◌≡◌, Some, inl, subst}, specs.{Prelude.{MatchOption, IfSome, IsTrue, IsFalse}, List.{list_any}}}
+use Rattle.nntp_facts.{specs.{Together.{denies_group}, Inner.StatementView.{statement_of}}, proofs.PointsFound.KindsOfPoints.{named_group, missing_group}}
 use Rattle.nntp_facts.proofs.kept.Kept.denied_by_name.Goals as goal
 
 pub returns-in-Some : goal.returns-in-Some

@@ -1,8 +1,5 @@
-use Rattle.std.proofs.Common.{◌++◌, ap, sym, subst}
-use Rattle.std.specs.Prelude.{option_map}
-use Rattle.nntp_facts.specs.Points.{IsPointOf}
-use Rattle.nntp_facts.specs.SayingView.{active_said}
-use Rattle.nntp_facts.specs.StatementView.{statement_of}
+use Rattle.std.{proofs.Common.{◌++◌, ap, sym, subst}, specs.Prelude.{option_map}}
+use Rattle.nntp_facts.specs.Inner.{Points.{IsPointOf}, SayingView.{active_said}, StatementView.{statement_of}}
 use Rattle.nntp_facts.proofs.kept.Kept.denied_group.Goals as goal
 
 pub returns-in-None : goal.returns-in-None

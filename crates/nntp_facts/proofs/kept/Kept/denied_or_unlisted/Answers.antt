@@ -1,11 +1,5 @@
-use Rattle.std.proofs.Common.{sym, subst}
-use Rattle.std.specs.Prelude.{MatchOption, IsTrue, IsFalse}
-use Rattle.std.specs.List.{AllByRecursion, list_any}
-use Rattle.nntp_facts.specs.Together.{denies_group}
-use Rattle.nntp_facts.specs.ListedGroups.{is_listed}
-use Rattle.nntp_facts.specs.SayingView.{active_said}
-use Rattle.nntp_facts.specs.Kept.{IsKept}
-use Rattle.nntp_facts.proofs.OkResults.{if_ok}
+use Rattle.std.{proofs.Common.{sym, subst}, specs.{Prelude.{MatchOption, IsTrue, IsFalse}, List.{AllByRecursion, list_any}}}
+use Rattle.nntp_facts.{specs.{Together.{denies_group}, Inner.{ListedGroups.{is_listed}, SayingView.{active_said}, Kept.{IsKept}}}, proofs.OkResults.{if_ok}}
 use Rattle.nntp_facts.proofs.PointsFound.KindsOfPoints.{unlisted_group}
 use Rattle.nntp_facts.proofs.kept.Kept.denied_or_unlisted.Goals as goal
 

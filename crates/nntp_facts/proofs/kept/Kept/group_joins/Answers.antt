@@ -1,11 +1,7 @@
-use Rattle.std.proofs.Common.{◌≡◌, ◌++◌, None, Some, refl, sym, ap, subst, ◌∙◌}
-use Rattle.std.specs.Prelude.{◌↔◌, IfSome, IsTrue, option_map}
-use Rattle.nntp_facts.specs.SayingView.{of_group}
-use Rattle.nntp_facts.specs.Saying.{asked_id, facts_in}
-use Rattle.nntp_facts.specs.Kept.{joins_at_all, IsKept, AreKeptGroups, told}
-use Rattle.nntp_facts.specs.KeptSaying.{GroupJoins}
-use Rattle.nntp_facts.proofs.Keeping.PartsJoin.{agree_told, shown_told, says_then, bounded_then, group_changes, groups_alike}
-use Rattle.nntp_facts.proofs.Keeping.SaidAgain.{there_before, none_there}
+use Rattle.std.{proofs.Common.{◌≡◌, ◌++◌, None, Some, refl, sym, ap, subst, ◌∙◌}, specs.Prelude.{◌↔◌, IfSome, IsTrue, option_map}}
+use Rattle.nntp_facts.specs.Inner.{SayingView.{of_group}, Saying.{asked_id, facts_in}, Kept.{joins_at_all, IsKept, AreKeptGroups, told}}
+use Rattle.nntp_facts.{specs.Inner.KeptSaying.{GroupJoins}, proofs.Keeping.PartsJoin.{agree_told, shown_told, says_then, bounded_then, group_changes}}
+use Rattle.nntp_facts.proofs.Keeping.{PartsJoin.{groups_alike}, SaidAgain.{there_before, none_there}}
 use Rattle.nntp_facts.proofs.kept.Kept.group_joins.Goals as goal
 
 pub returns-in-Some-clause-at_all : goal.returns-in-Some-clause-at_all

@@ -1,8 +1,6 @@
-use Rattle.std.proofs.Common.{◌≡◌, ℕ, Bool, true, false, List, Option, Bor, refl, sym, subst, ◌∙◌}
-use Rattle.std.specs.Prelude.{◌↔◌, IfSome, IsTrue, IsFalse, not, option_map}
-use Rattle.std.proofs.lemmas.Bool.{true≢false}
-use Rattle.nntp_facts.specs.Given.{is_shown_group}
-use Rattle.nntp_facts.specs.Kept.{IsKept, told}
+use Rattle.std.{proofs.{Common.{◌≡◌, ℕ, Bool, true, false, List, Option, Bor, refl, sym, subst, ◌∙◌}, lemmas.Bool.{true≢false}}, specs.Prelude.{◌↔◌, IfSome}}
+use Rattle.std.specs.Prelude.{IsTrue, IsFalse, not, option_map}
+use Rattle.nntp_facts.specs.{Given.{is_shown_group}, Inner.Kept.{IsKept, told}}
 use Rattle.nntp_facts.proofs.kept.Kept.may_be_missing.Goals as goal
 
 -- a test that has to fail

@@ -1,19 +1,22 @@
-use Rattle.std.proofs.Common.{refl, sym}
-use Rattle.std.proofs.lemmas.Bool.{true≢false}
+use Rattle.std.proofs.{Common.{sym, ◌∙◌}, lemmas.Bool.{true≢false, Decides.{Decides-eqb}}}
 use Rattle.nntp_wire.specs.Listing.{active_groups}
-use Rattle.nntp_facts.proofs.Keeping.ListedGroups.{listing_joins}
-use Rattle.nntp_facts.proofs.OkResults.{if_ok}
+use Rattle.nntp_facts.proofs.Keeping.{ListedGroups.{listing_joins}, CountedGroups.{as_many_shown}}
 use Rattle.nntp_facts.proofs.kept.Kept.may_list_groups.Goals as goal
 
-pub returns-then-not-may_bound_all : goal.returns-then-not-may_bound_all
-returns-then-not-may_bound_all g c facts kept t formed may =
-    let joins = listing_joins facts c.args.wildmat.now (active_groups c.args.block.now) t formed may.differ in
-    (λ never. absurd (true≢false (sym never)), λ join. (c.if-not-may_bound_all.ensures facts kept t).1 (joins.0 join).0)
+pub returns-in-Some : goal.returns-in-Some
+returns-in-Some g c facts kept t formed may =
+    let p = c.args.wildmat.now in
+    let lines = active_groups c.args.block.now in
+    let joins = listing_joins facts p lines t formed may.differ in
+    let counted = c.in-Some.ensures facts kept t in
+    let as_many = as_many_shown facts c.args.self.now.groups kept.groups t p lines may in
+    let asked = c.count_asked.ensures facts kept t in
+    let same = Decides-eqb c.in-Some.shown c.count_asked.result in (
+      λ yes. joins.1 (counted.0, as_many.0 (sym counted.1 ∙ same.0 yes ∙ asked)),
+      λ join. same.1 (counted.1 ∙ as_many.1 (joins.0 join).1 ∙ sym asked),
+    )
 
-pub returns : goal.returns
-returns g c =
-    if_ok c.none_is_missing.result (λ none missing facts kept t formed may.
+pub returns-in-None : goal.returns-in-None
+returns-in-None g c facts kept t formed may =
     let joins = listing_joins facts c.args.wildmat.now (active_groups c.args.block.now) t formed may.differ in
-    let bounded = (c.if-not-may_bound_all.ensures facts kept t).0 refl in
-    let all = missing facts kept t may bounded in
-    (λ yes. joins.1 (bounded, all.0 yes), λ join. all.1 (joins.0 join).1)) c.none_is_missing.ensures
+    (λ never. absurd (true≢false (sym never)), λ join. absurd (c.in-None.ensures facts kept t (joins.0 join).0))

@@ -1,9 +1,6 @@
-use Rattle.std.proofs.Common.{ap}
-use Rattle.std.specs.Option.{option_map}
-use Rattle.std.proofs.lemmas.Result.{IfOk-weaker}
+use Rattle.std.{proofs.{Common.{ap}, lemmas.Result.{IfOk-weaker}}, specs.Option.{option_map}}
 use Rattle.nntp_wire.specs.Listing.{active_groups}
-use Rattle.nntp_facts.specs.SayingView.{active_said, saying_of}
-use Rattle.nntp_facts.proofs.Keeping.NotedParts.{list_added}
+use Rattle.nntp_facts.{specs.Inner.SayingView.{active_said, saying_of}, proofs.Keeping.NotedParts.{list_added}}
 use Rattle.nntp_facts.proofs.kept.Kept.note.Goals as goal
 
 pub returns-in-None : goal.returns-in-None

@@ -1,7 +1,4 @@
-use Rattle.nntp_facts.specs.Conflict.{a_group}
-use Rattle.nntp_facts.specs.SayingView.{saying_of}
-use Rattle.nntp_facts.proofs.OkResults.{if_ok}
-use Rattle.nntp_facts.proofs.Keeping.ToldAnswers.{widest_told}
+use Rattle.nntp_facts.{specs.{Conflict.{a_group}, Inner.SayingView.{saying_of}}, proofs.{OkResults.{if_ok}, Keeping.ToldAnswers.{widest_told}}}
 use Rattle.nntp_facts.proofs.kept.Kept.note_group.Goals as goal
 
 pub returns : goal.returns

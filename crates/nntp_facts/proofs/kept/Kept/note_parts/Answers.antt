@@ -1,13 +1,7 @@
-use Rattle.std.proofs.Common.{[], ◌++◌, refl, sym, subst, ◌∙◌}
-use Rattle.std.specs.Prelude.{IfSome}
-use Rattle.nntp_facts.specs.ArticleView.{is_added}
-use Rattle.nntp_facts.specs.SayingView.{saying_of}
-use Rattle.nntp_facts.specs.Kept.{joins_at_all, AreKeptNames, AreKeptGroups, AreKeptArticles, IsAddedIf}
-use Rattle.nntp_facts.specs.Saying.{facts_in}
-use Rattle.nntp_facts.specs.Together.{JoinArticles}
-use Rattle.nntp_facts.specs.KeptSaying.{IsTextOf, article_facts}
-use Rattle.nntp_facts.proofs.Keeping.NotedParts.{kept_is, may_be_said, texts_of, no_groups_join, no_article_joins, parts_kept}
-use Rattle.nntp_facts.proofs.Keeping.PartsJoin.{denied_only}
+use Rattle.std.{proofs.Common.{◌++◌, refl, sym, subst, ◌∙◌}, specs.Prelude.{IfSome}}
+use Rattle.nntp_facts.specs.Inner.{ArticleView.{is_added}, SayingView.{saying_of}, Kept.{joins_at_all, AreKeptNames, AreKeptGroups}, Saying.{facts_in}}
+use Rattle.nntp_facts.{specs.Inner.KeptSaying.{IsTextOf, IsArticleAdded}, proofs.Keeping.NotedParts.{kept_is, may_be_said, texts_of, no_groups_join}}
+use Rattle.nntp_facts.proofs.Keeping.{NotedParts.{no_article_joins, parts_kept}, PartsJoin.{denied_only}}
 use Rattle.nntp_facts.proofs.kept.Kept.note_parts.Goals as goal
 
 pub returns-then-not-at_all : goal.returns-then-not-at_all
@@ -20,9 +14,9 @@ returns-then-not-at_all g c no_list facts more kept together formed t = (
 pub returns-then-not-at_all-2 : goal.returns-then-not-at_all-2
 returns-then-not-at_all-2 g c no_list facts more kept together formed t =
     let s = saying_of c.args.saying.now in
-    let article = c.in_ok-added.ensures.added facts [] 0 kept.articles (may_be_said s.group s.article t.may.article)
+    let article = c.in_ok-added.ensures.added facts kept.articles (may_be_said s.group s.article t.may.article)
     (λ again. c.groups_join-joins.ensures.there again facts t.asks kept t.may) in
-    let refused = no_article_joins facts more s no_list t together formed (is_added c.in_ok-added.added) _ (AreKeptArticles (facts ++ article_facts [] 0 s.article)) _ _
+    let refused = no_article_joins facts more s no_list t together formed (is_added c.in_ok-added.added) _ _
     (sym c.at_all-2.ensures ∙ c.if-not-at_all-2.true) article in
     (refused.0, kept_is _ _ c.note_article.ensures.rest.0 c.note_article.ensures.rest.1 refused.1)
 
@@ -36,13 +30,12 @@ returns g c no_list facts more kept together formed t =
     let added = is_added c.in_ok-added.added in
     let does = sym c.at_all-2.ensures ∙ c.if-not-at_all-2.false in
     let same = c.deny.ensures.rest.0 ∙ c.note_article.ensures.rest.0 in
-    let article = c.in_ok-added.ensures.added facts [] 0 kept.articles (may_be_said s.group s.article t.may.article) (λ again. joins.ensures.there again facts t.asks kept t.may) in
+    let article = c.in_ok-added.ensures.added facts kept.articles (may_be_said s.group s.article t.may.article) (λ again. joins.ensures.there again facts t.asks kept t.may) in
     let names = c.in_ok-deny.ensures.names facts (facts_in s t.asks) (subst (AreKeptNames facts) (sym c.note_article.ensures.rest.1) kept.names) (denied_only facts s t.asks no_list t.may) in
     let groups = c.in_ok-add_new_group.ensures.groups facts s t.asks refl no_list together t.may (test.0 passed).group (subst (AreKeptGroups facts) (sym same) kept.groups)
     (λ again. subst (AreKeptGroups all) (sym same) (joins.ensures.again again facts t.asks no_list kept together t.may))
     (λ other. subst (λ text. IfSome s.group (λ g. IsTextOf text g.id)) (sym c.text.ensures) (texts_of _ s.article s.group (c.in_ok-added.ensures.text other does) t.may.placed)) in
     parts_kept facts more s no_list t together formed added (joins_at_all joins.result) c.add_new_group.new.self does passed test c.args.self.now
-    (subst (λ articles. IsAddedIf (JoinArticles facts (article_facts [] 0 s.article))
-    (AreKeptArticles (facts ++ article_facts [] 0 s.article)) c.args.self.now.articles articles added)
+    (subst (λ articles. IsArticleAdded facts s.article c.args.self.now.articles articles added)
     (sym (c.add_new_group.ensures.rest.1 ∙ c.deny.ensures.rest.1)) article)
     (subst (AreKeptNames all) (sym c.add_new_group.ensures.rest.0) names) groups

@@ -1,31 +1,26 @@
-use Rattle.std.proofs.Common.{rules, ◌≡◌, Some, ap}
-use Rattle.std.specs.Prelude.{option_map}
-use Rattle.nntp_facts.specs.Saying.{Lacks, Exists, Sends}
-use Rattle.nntp_facts.specs.SayingView.{article_said}
-use Rattle.nntp_facts.specs.PointView.{point_of}
-use Rattle.nntp_facts.specs.Points.{Head, part_told}
-use Rattle.nntp_facts.specs.StatementView.{statement_of}
-use Rattle.nntp_facts.proofs.PointsFound.KindsOfPoints.{no_head, head_point}
+use Rattle.std.{proofs.Common.{rules, ◌≡◌, None, Some, refl, ap}, specs.Prelude.{option_map}}
+use Rattle.nntp_facts.specs.Inner.{Saying.{Lacks, Exists, Sends}, SayingView.{article_said}, PointView.{point_of}, StatementView.{statement_of}}
+use Rattle.nntp_facts.proofs.PointsFound.ArticlesBeside.{Head, no_part, part_point}
 use Rattle.nntp_facts.proofs.kept.Kept.other_head.Goals as goal
 
 pub returns-in-None : goal.returns-in-None
 returns-in-None g c profile facts more h =
-    no_head profile facts c.args.self.now (statement_of c.args.told.now) more h (λ id. ap (part_told Head id) (ap (option_map article_said) c.in-None.is))
+    no_part profile facts c.args.self.now (statement_of c.args.told.now) more h Head None (ap (option_map article_said) c.in-None.is) tt
 
 pub returns-in-Some-Lacks : goal.returns-in-Some-Lacks
 returns-in-Some-Lacks g c profile facts more h =
     let said : option_map article_said c.args.told.now.saying.article ≡ Some (c.in-Some-Lacks.field-0-0.now, Lacks) = search rules in
-    no_head profile facts c.args.self.now (statement_of c.args.told.now) more h (λ id. ap (part_told Head id) said)
+    no_part profile facts c.args.self.now (statement_of c.args.told.now) more h Head (Some (c.in-Some-Lacks.field-0-0.now, Lacks)) said refl
 
 pub returns-in-Some-Exists : goal.returns-in-Some-Exists
 returns-in-Some-Exists g c profile facts more h =
     let said : option_map article_said c.args.told.now.saying.article ≡ Some (c.in-Some-Exists.field-0-0.now, Exists) = search rules in
-    no_head profile facts c.args.self.now (statement_of c.args.told.now) more h (λ id. ap (part_told Head id) said)
+    no_part profile facts c.args.self.now (statement_of c.args.told.now) more h Head (Some (c.in-Some-Exists.field-0-0.now, Exists)) said refl
 
 pub returns-in-Some-Sends : goal.returns-in-Some-Sends
 returns-in-Some-Sends g c profile facts more h =
     let w = c.in-Some-Sends in
     let id = w.id.now in
     let said : option_map article_said c.args.told.now.saying.article ≡ Some (id, Sends w.what w.block.now) = search rules in
-    head_point profile facts c.args.self.now (statement_of c.args.told.now) more h id w.what w.block.now said c.of.result.head (c.of.ensures.head id)
+    part_point profile facts c.args.self.now (statement_of c.args.told.now) more h Head id w.what w.block.now said c.of.result.head (c.of.ensures.head id)
     (option_map point_of c.other_head_sent.result) (c.other_head_sent.ensures facts h.kept)

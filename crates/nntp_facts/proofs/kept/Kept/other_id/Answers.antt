@@ -1,12 +1,6 @@
-use Rattle.std.proofs.Common.{Option, ◌≡◌, ◌++◌, ap, refl, sym, subst, ◌∙◌}
-use Rattle.std.specs.Prelude.{IfSome, option_map}
-use Rattle.std.proofs.lemmas.Bool.{true≢false}
+use Rattle.std.{proofs.{Common.{Option, ◌≡◌, ◌++◌, ap, refl, sym, subst, ◌∙◌}, lemmas.Bool.{true≢false}}, specs.Prelude.{IfSome, option_map}}
 use Rattle.nntp_article.specs.Article.Parts.{Id}
-use Rattle.nntp_facts.specs.Kept.{IsKept, told}
-use Rattle.nntp_facts.specs.Points.{IsPointOf}
-use Rattle.nntp_facts.specs.PointView.{point_of}
-use Rattle.nntp_facts.specs.SayingView.{of_group, id_at}
-use Rattle.nntp_facts.specs.StatementView.{statement_of}
+use Rattle.nntp_facts.specs.Inner.{Kept.{IsKept, told}, Points.{IsPointOf}, PointView.{point_of}, SayingView.{of_group, id_at}, StatementView.{statement_of}}
 use Rattle.nntp_facts.proofs.PointsFound.KindsOfPoints.{no_ids, no_id, other_id, same_id}
 use Rattle.nntp_facts.proofs.kept.Kept.other_id.Goals as goal
 

@@ -1,13 +1,6 @@
-use Rattle.std.proofs.Common.{ℕ, Option, ◌≡◌, ◌++◌, ap, refl, sym, subst, ◌∙◌}
-use Rattle.std.specs.Prelude.{IfSome, option_map}
-use Rattle.std.proofs.lemmas.Bool.{true≢false}
-use Rattle.nntp_facts.specs.Together.{GiveOne, number_in}
-use Rattle.nntp_facts.specs.Kept.{IsKept, told}
-use Rattle.nntp_facts.specs.Points.{IsPointOf}
-use Rattle.nntp_facts.specs.PointView.{point_of}
-use Rattle.nntp_facts.specs.SayingView.{of_group, id_at}
-use Rattle.nntp_facts.specs.StatementView.{statement_of}
-use Rattle.nntp_facts.proofs.PointsFound.KindsOfPoints.{no_places, no_place, other_place, same_place}
+use Rattle.std.{proofs.{Common.{ℕ, Option, ◌≡◌, ◌++◌, ap, refl, sym, subst, ◌∙◌}, lemmas.Bool.{true≢false}}, specs.Prelude.{IfSome, option_map}}
+use Rattle.nntp_facts.specs.{Together.{GiveOne, number_in}, Inner.{Kept.{IsKept, told}, Points.{IsPointOf}, PointView.{point_of}, SayingView.{of_group, id_at}}}
+use Rattle.nntp_facts.{specs.Inner.StatementView.{statement_of}, proofs.PointsFound.KindsOfPoints.{no_places, no_place, other_place, same_place}}
 use Rattle.nntp_facts.proofs.kept.Kept.other_place.Goals as goal
 
 pub returns-in_default : goal.returns-in_default
@@ -28,8 +21,10 @@ returns-then-is_number g c profile facts more h =
 pub returns : goal.returns
 returns g c profile facts more h =
     let k = subst (IsKept facts) (sym c.self.view_is) h.kept in (
-      subst (λ id. GiveOne (number_in c.in-Some.group.name.now id) (facts ++ more) → ⊥) (sym c.as_bytes.ensures.value) (other_place profile facts c.args.self.now (statement_of c.args.told.now) more h (of_group c.in-Some.group) c.in_ok-at.at.number c.in_ok-at.at.id.now
+      subst (λ id. GiveOne (number_in c.in-Some.group.name.now id) (facts ++ more)
+          → ⊥) (sym c.as_bytes.ensures.value) (other_place profile facts c.args.self.now (statement_of c.args.told.now) more h (of_group c.in-Some.group) c.in_ok-at.at.number c.in_ok-at.at.id.now
           (ap (option_map of_group) c.in-Some.is) (ap id_at c.in_ok-at.was)
-          (λ same. true≢false (sym (c.is_number.ensures.1 (subst (λ (o : Option ℕ). IfSome o (λ y. c.in_ok-at.at.number ≡ y)) (sym (c.place.ensures (told facts) k.groups)) same)) ∙ c.if-is_number.false))),
+          (λ same. true≢false (sym (c.is_number.ensures.1 (subst (λ (o : Option ℕ). IfSome o (λ y. c.in_ok-at.at.number ≡ y)) (sym (c.place.ensures (told facts) k.groups)) same))
+          ∙ c.if-is_number.false))),
       refl,
     )

@@ -1,11 +1,6 @@
-use Rattle.std.proofs.Common.{◌++◌, ap, ◌∙◌}
-use Rattle.std.specs.Prelude.{option_map}
-use Rattle.nntp_facts.specs.SayingView.{active_said}
-use Rattle.nntp_facts.specs.PointView.{point_of}
-use Rattle.nntp_facts.specs.StatementView.{rank_of_numbers}
-use Rattle.nntp_facts.proofs.OkResults.{if_ok}
-use Rattle.nntp_facts.proofs.PointsFound.KindsOfPoints.{listed_point, no_numbers_free}
-use Rattle.nntp_facts.proofs.PointsFound.NumbersBeside.{above_one, below_five}
+use Rattle.std.{proofs.Common.{◌++◌, ap, ◌∙◌}, specs.Prelude.{option_map}}
+use Rattle.nntp_facts.{specs.Inner.{SayingView.{active_said}, PointView.{point_of}, StatementView.{rank_of_numbers}}, proofs.OkResults.{if_ok}}
+use Rattle.nntp_facts.proofs.PointsFound.{KindsOfPoints.{listed_point, no_numbers_free}, NumbersBeside.{above_one, below_five}}
 use Rattle.nntp_facts.proofs.kept.Kept.point_of_active.Goals as goal
 
 pub returns-in-Some : goal.returns-in-Some

@@ -1,10 +1,7 @@
 use Rattle.std.proofs.Common.{◌++◌, ◌∷◌, [], sym, subst, ◌∙◌, append_assoc}
 use Rattle.nntp_wire.specs.declared.marks.Marks.TheVariants.{Lenient}
 use Rattle.nntp_said.specs.Asks.{Estimates}
-use Rattle.nntp_facts.specs.Given.{asks_of}
-use Rattle.nntp_facts.specs.Conflict.{widest}
-use Rattle.nntp_facts.specs.Kept.{IsKept, told}
-use Rattle.nntp_facts.specs.Summary.{IsSummary, AreBounded}
+use Rattle.nntp_facts.specs.{Given.{asks_of}, Conflict.{widest}, Inner.{Kept.{IsKept, told}, Summary.{IsSummary, AreBounded}}}
 use Rattle.nntp_facts.proofs.PointsFound.NumbersBeside.{bounded_behind, bounded_widest}
 use Rattle.nntp_facts.proofs.kept.Kept.point_of_group.Goals as goal
 

@@ -1,13 +1,7 @@
-use Rattle.std.proofs.Common.{◌≡◌, ◌++◌, ◌∷◌, [], sym, subst, ◌∙◌}
+use Rattle.std.{proofs.Common.{◌≡◌, ◌++◌, ◌∷◌, [], sym, subst, ◌∙◌}, specs.Prelude.{option_map}}
 use Rattle.nntp_said.specs.Asks.{Bounds}
-use Rattle.nntp_facts.specs.Given.{asks_of}
-use Rattle.nntp_facts.specs.Kept.{IsKept, told}
-use Rattle.nntp_facts.specs.Summary.{IsSummary, AreBounded}
-use Rattle.nntp_facts.specs.Points.{IsPointIn}
-use Rattle.nntp_facts.specs.PointView.{point_of}
-use Rattle.nntp_facts.specs.StatementView.{rank_of_numbers}
-use Rattle.std.specs.Prelude.{option_map}
-use Rattle.nntp_facts.proofs.PointsFound.NumbersBeside.{bounded_behind}
+use Rattle.nntp_facts.specs.{Given.{asks_of}, Inner.{Kept.{IsKept, told}, Summary.{IsSummary, AreBounded}, Points.{IsPointIn}, PointView.{point_of}}}
+use Rattle.nntp_facts.{specs.Inner.StatementView.{rank_of_numbers}, proofs.PointsFound.NumbersBeside.{bounded_behind}}
 use Rattle.nntp_facts.proofs.kept.Kept.point_of_line.Goals as goal
 
 pub returns : goal.returns

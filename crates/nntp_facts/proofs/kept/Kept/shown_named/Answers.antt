@@ -1,10 +1,6 @@
-use Rattle.std.proofs.Common.{◌≡◌, inl, inr, sym, subst, ◌∙◌}
-use Rattle.std.specs.Prelude.{MatchOption, SomeIff, IsTrue, IsFalse}
-use Rattle.std.proofs.lemmas.Bool.{cases_Bool}
+use Rattle.std.{proofs.{Common.{◌≡◌, inl, inr, sym, subst, ◌∙◌}, lemmas.Bool.{cases_Bool}}, specs.Prelude.{MatchOption, SomeIff, IsTrue, IsFalse}}
 use Rattle.nntp_wire.specs.Name.{IsGroupName}
-use Rattle.nntp_facts.specs.Given.{is_shown_group}
-use Rattle.nntp_facts.specs.Kept.{IsKept, told}
-use Rattle.nntp_facts.proofs.Keeping.ShownNames.{shown_named}
+use Rattle.nntp_facts.{specs.{Given.{is_shown_group}, Inner.Kept.{IsKept, told}}, proofs.Keeping.ShownNames.{shown_named}}
 use Rattle.nntp_facts.proofs.kept.Kept.shown_named.Goals as goal
 
 pub returns-in_err-group : goal.returns-in_err-group

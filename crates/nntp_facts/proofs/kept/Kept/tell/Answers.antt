@@ -1,12 +1,7 @@
 use Rattle.std.proofs.Common.{sym, subst, ◌∙◌, refl}
-use Rattle.nntp_article.specs.Session.Limit.{profile_of}
-use Rattle.nntp_article.specs.Session.Machine.{start}
+use Rattle.nntp_article.specs.Session.{Limit.{profile_of}, Machine.{start}}
 use Rattle.nntp_said.specs.Facts.{group_of}
-use Rattle.nntp_facts.specs.Conflict.{said, the_group}
-use Rattle.nntp_facts.specs.Kept.{AreAdded}
-use Rattle.nntp_facts.specs.Saying.{TellsThere}
-use Rattle.nntp_facts.specs.SayingView.{saying_of}
-use Rattle.nntp_facts.proofs.OkResults.{if_ok}
+use Rattle.nntp_facts.{specs.{Conflict.{said, the_group}, Inner.{Kept.{AreAdded}, Saying.{TellsThere}, SayingView.{saying_of}}}, proofs.OkResults.{if_ok}}
 use Rattle.nntp_facts.proofs.Keeping.ToldAnswers.{there_told, group_refused, answer_told}
 use Rattle.nntp_facts.proofs.kept.Kept.tell.Goals as goal
 

@@ -1,6 +1,5 @@
 use Rattle.std.proofs.Common.{refl}
-use Rattle.nntp_facts.specs.Noted.{advanced}
-use Rattle.nntp_facts.proofs.Keeping.NotedExchange.{stand_together, shows_selected, noted_consistent, noted_contradiction}
+use Rattle.nntp_facts.{specs.Inner.Noted.{advanced}, proofs.Keeping.NotedExchange.{stand_together, shows_selected, noted_consistent, noted_contradiction}}
 use Rattle.nntp_facts.proofs.laws.sessions.exchange_is_noted_behind_others.Goals as goal
 
 pub returns : goal.returns

@@ -1,4 +1,5 @@
-use Rattle.nntp_facts.proofs.Given.SessionsByFacts.{permitted_together_of_all, some_or_none_of_all, made_for_all, given_exists_of_all, given_permits_all, least_of_all}
+use Rattle.nntp_facts.proofs.Given.SessionsByFacts.{permitted_together_of_all, some_or_none_of_all, made_for_all, given_exists_of_all, given_permits_all}
+use Rattle.nntp_facts.proofs.Given.SessionsByFacts.{least_of_all}
 use Rattle.nntp_facts.proofs.laws.sessions.sessions_are_permitted_where_all_stands_together.Goals as goal
 
 pub returns : goal.returns

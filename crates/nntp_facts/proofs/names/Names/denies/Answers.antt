@@ -1,6 +1,5 @@
 use Rattle.std.proofs.Common.{◌||◌, sym, subst, ◌∙◌}
-use Rattle.nntp_facts.specs.Kept.{AreKeptNames}
-use Rattle.nntp_facts.proofs.Keeping.KeptNames.{some_matches, key_text}
+use Rattle.nntp_facts.{specs.Inner.Kept.{AreKeptNames}, proofs.Keeping.KeptNames.{some_matches, key_text}}
 use Rattle.nntp_facts.proofs.names.Names.denies.Goals as goal
 
 pub returns : goal.returns

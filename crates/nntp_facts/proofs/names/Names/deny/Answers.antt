@@ -1,10 +1,6 @@
-use Rattle.std.proofs.Common.{◌≡◌, sym, refl, subst}
-use Rattle.std.specs.List.{list_any}
-use Rattle.nntp_article.specs.Session.Spool.{Name}
-use Rattle.nntp_article.specs.Session.Machine.{is_same}
-use Rattle.nntp_facts.specs.Together.{denies_group}
-use Rattle.nntp_facts.specs.Kept.{AreKeptNames}
-use Rattle.nntp_facts.proofs.Keeping.KeptNames.{name_denied}
+use Rattle.std.{proofs.Common.{◌≡◌, sym, refl, subst}, specs.List.{list_any}}
+use Rattle.nntp_article.specs.Session.{Spool.{Name}, Machine.{is_same}}
+use Rattle.nntp_facts.{specs.{Together.{denies_group}, Inner.Kept.{AreKeptNames}}, proofs.Keeping.KeptNames.{name_denied}}
 use Rattle.nntp_facts.proofs.names.Names.deny.Goals as goal
 
 pub returns : goal.returns

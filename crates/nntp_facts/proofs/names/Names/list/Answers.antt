@@ -1,9 +1,6 @@
-use Rattle.std.proofs.Common.{◌≡◌, sym, refl, subst, ◌∙◌}
-use Rattle.std.specs.Prelude.{IsTrue, None, Some}
+use Rattle.std.{proofs.Common.{◌≡◌, sym, refl, subst, ◌∙◌}, specs.Prelude.{IsTrue, None, Some}}
 use Rattle.nntp_wire.specs.Wildmat.{is_wildmat}
-use Rattle.nntp_facts.specs.Kept.{AreKeptNames}
-use Rattle.nntp_facts.specs.ListedGroups.{MayList}
-use Rattle.nntp_facts.proofs.Keeping.KeptNames.{wildmat_listed, all_listed}
+use Rattle.nntp_facts.{specs.Inner.{Kept.{AreKeptNames}, ListedGroups.{MayList}}, proofs.Keeping.KeptNames.{wildmat_listed, all_listed}}
 use Rattle.nntp_facts.proofs.names.Names.list.Goals as goal
 
 pub returns-in_ok-insert-in-Some : goal.returns-in_ok-insert-in-Some

@@ -1,8 +1,5 @@
-use Rattle.std.proofs.Common.{◌≡◌, Some, sym, subst, ◌∙◌}
-use Rattle.std.specs.Prelude.{IfSome}
-use Rattle.nntp_facts.specs.Kept.{AreKeptNames}
-use Rattle.nntp_facts.specs.ListedGroups.{WereListed}
-use Rattle.nntp_facts.proofs.Keeping.KeptNames.{answered_found}
+use Rattle.std.{proofs.Common.{◌≡◌, Some, sym, subst, ◌∙◌}, specs.Prelude.{IfSome}}
+use Rattle.nntp_facts.{specs.Inner.{Kept.{AreKeptNames}, ListedGroups.{WereListed}}, proofs.Keeping.KeptNames.{answered_found}}
 use Rattle.nntp_facts.proofs.names.Names.listed.Goals as goal
 
 pub returns-in-Some : goal.returns-in-Some

@@ -1,5 +1,4 @@
-use Rattle.nntp_facts.specs.PartView.{said}
-use Rattle.nntp_facts.proofs.Keeping.MoreAsks.{added}
+use Rattle.nntp_facts.{specs.Inner.PartView.{said}, proofs.Keeping.MoreAsks.{added}}
 use Rattle.nntp_facts.proofs.numbers.Numbers.add.Goals as goal
 
 pub returns : goal.returns

@@ -1,8 +1,7 @@
 use Rattle.std.proofs.Common.{◌≡◌, ◌+◌, ◌∙◌, ap, cond, sym}
-use Rattle.nntp_facts.specs.Part.{is_within}
-use Rattle.nntp_facts.proofs.Keeping.ConflictsOfNumbers.{too_many_if}
+use Rattle.nntp_facts.{specs.Inner.Part.{is_within}, proofs.{Keeping.ConflictsOfNumbers.{too_many_if}, numbers.Numbers.are_too_many.Goals.{then-has_one_more}}}
+use Rattle.nntp_facts.proofs.numbers.Numbers.are_too_many.Goals.{else-has_one_more}
 use Rattle.nntp_facts.proofs.numbers.Numbers.are_too_many.Goals as goal
-use Rattle.nntp_facts.proofs.numbers.Numbers.are_too_many.Goals.{then-has_one_more, else-has_one_more}
 
 pub returns : goal.returns
 returns g c = λ asks sum bounded apart.

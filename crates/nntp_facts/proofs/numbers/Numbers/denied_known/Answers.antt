@@ -1,6 +1,5 @@
 use Rattle.std.proofs.Common.{subst, None}
-use Rattle.nntp_facts.specs.Summary.{has, DeniedAmong}
-use Rattle.nntp_facts.proofs.Keeping.ConflictsOfNumbers.{end_or_apart}
+use Rattle.nntp_facts.{specs.Inner.Summary.{has, DeniedAmong}, proofs.Keeping.ConflictsOfNumbers.{end_or_apart}}
 use Rattle.nntp_facts.proofs.numbers.Numbers.denied_known.Goals as goal
 
 pub returns-in-None : goal.returns-in-None

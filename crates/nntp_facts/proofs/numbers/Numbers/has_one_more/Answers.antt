@@ -1,10 +1,7 @@
-use Rattle.std.proofs.Common.{ap, is_some, ◌&&◌, ◌∙◌, subst, sym}
-use Rattle.std.proofs.lemmas.Bool.{true≢false}
-use Rattle.nntp_facts.specs.Given.{is_known, demand, wants}
-use Rattle.nntp_facts.specs.Summary.{PassSoMany}
-use Rattle.nntp_facts.proofs.Keeping.ConflictsOfNumbers.{more_found}
-use Rattle.nntp_facts.proofs.numbers.Numbers.has_one_more.Goals as goal
+use Rattle.std.proofs.{Common.{ap, is_some, ◌&&◌, ◌∙◌, subst, sym}, lemmas.Bool.{true≢false}}
+use Rattle.nntp_facts.{specs.{Given.{is_known, demand, wants}, Inner.Summary.{PassSoMany}}, proofs.Keeping.ConflictsOfNumbers.{more_found}}
 use Rattle.nntp_facts.proofs.numbers.Numbers.has_one_more.Goals.{in-Absent, in_default}
+use Rattle.nntp_facts.proofs.numbers.Numbers.has_one_more.Goals as goal
 
 pub returns-then-matches : goal.returns-then-matches
 returns-then-matches g c = λ asks sum bounded found.

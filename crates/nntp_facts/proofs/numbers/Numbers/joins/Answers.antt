@@ -1,14 +1,8 @@
-use Rattle.std.proofs.Common.{◌≡◌, ◌||◌, ap, subst, sym, ◌∙◌}
-use Rattle.std.proofs.lemmas.Bool.{true≢false}
-use Rattle.nntp_facts.specs.Given.{join}
-use Rattle.nntp_facts.specs.Part.{is_end_of}
-use Rattle.nntp_facts.specs.PartView.{said}
-use Rattle.nntp_facts.specs.Summary.{Summary, shown_after, ends_after, denied_after, AreOpen, IsTally}
-use Rattle.nntp_facts.proofs.Keeping.MoreAsks.{joins_then, joins_else}
-use Rattle.nntp_facts.proofs.Keeping.GapsOfAPart.{agrees_open}
-use Rattle.nntp_facts.proofs.Keeping.UnseenNumbers.{free_below}
-use Rattle.nntp_facts.proofs.numbers.Numbers.joins.Goals as goal
+use Rattle.std.proofs.{Common.{◌≡◌, ◌||◌, ap, subst, sym, ◌∙◌}, lemmas.Bool.{true≢false}}
+use Rattle.nntp_facts.specs.{Given.{join}, Inner.{Part.{is_end_of}, PartView.{said}, Summary.{Summary, shown_after, ends_after, denied_after, AreOpen}}}
+use Rattle.nntp_facts.{specs.Inner.Summary.{IsTally}, proofs.Keeping.{MoreAsks.{joins_then, joins_else}, GapsOfAPart.{agrees_open}, UnseenNumbers.{free_below}}}
 use Rattle.nntp_facts.proofs.numbers.Numbers.joins.Goals.{then-agrees, else-agrees}
+use Rattle.nntp_facts.proofs.numbers.Numbers.joins.Goals as goal
 
 pub returns-then-leaves : goal.returns-then-leaves
 returns-then-leaves g c = λ asks more sum stand bounded says.

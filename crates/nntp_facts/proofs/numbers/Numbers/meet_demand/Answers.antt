@@ -1,7 +1,5 @@
 use Rattle.std.proofs.Common.{◌≡◌, ◌∙◌, ap, sym}
-use Rattle.nntp_facts.specs.Given.{demand}
-use Rattle.nntp_facts.specs.Summary.{is_met}
-use Rattle.nntp_facts.proofs.Keeping.ConflictsOfNumbers.{known_met, more_met}
+use Rattle.nntp_facts.{specs.{Given.{demand}, Inner.Summary.{is_met}}, proofs.Keeping.ConflictsOfNumbers.{known_met, more_met}}
 use Rattle.nntp_facts.proofs.numbers.Numbers.meet_demand.Goals as goal
 
 pub returns-then-is_met : goal.returns-then-is_met

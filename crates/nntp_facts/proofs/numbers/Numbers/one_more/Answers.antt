@@ -1,9 +1,6 @@
-use Rattle.std.proofs.Common.{ap, sym, ◌∙◌, ◌&&◌, subst, cond, arith, None, Some}
-use Rattle.std.specs.Prelude.{MatchOption}
-use Rattle.nntp_intervals.specs.Intervals.{IsLeastFree, IsFullFrom}
-use Rattle.nntp_facts.specs.Given.{wants}
-use Rattle.nntp_facts.specs.Summary.{has, PassSoMany}
-use Rattle.nntp_facts.proofs.Keeping.UnseenNumbers.{met, none_free, one_free}
+use Rattle.std.{proofs.Common.{ap, sym, ◌∙◌, ◌&&◌, subst, cond, arith, None, Some}, specs.Prelude.{MatchOption}}
+use Rattle.nntp_intervals.specs.Inner.Intervals.{IsLeastFree, IsFullFrom}
+use Rattle.nntp_facts.{specs.{Given.{wants}, Inner.Summary.{has, PassSoMany}}, proofs.Keeping.UnseenNumbers.{met, none_free, one_free}}
 use Rattle.nntp_facts.proofs.numbers.Numbers.one_more.Goals as goal
 
 pub returns-in_default : goal.returns-in_default

@@ -1,8 +1,5 @@
 use Rattle.std.proofs.Common.{◌||◌, [], refl, subst}
-use Rattle.nntp_facts.specs.Part.{is_end_of}
-use Rattle.nntp_facts.specs.Readers.{known_ends_in}
-use Rattle.nntp_facts.specs.Summary.{shown_after, IsTally}
-use Rattle.nntp_facts.proofs.Keeping.ConflictsOfNumbers.{known_tally}
+use Rattle.nntp_facts.{specs.Inner.{Part.{is_end_of}, Readers.{known_ends_in}, Summary.{shown_after, IsTally}}, proofs.Keeping.ConflictsOfNumbers.{known_tally}}
 use Rattle.nntp_facts.proofs.numbers.Numbers.tally.Goals as goal
 
 pub returns-clause-tally : goal.returns-clause-tally

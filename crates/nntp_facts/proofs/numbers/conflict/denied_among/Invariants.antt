@@ -1,6 +1,6 @@
 use Rattle.std.proofs.Common.{◌≡◌, ℕ, true, false, ◌<◌, ◌^◌}
-use Rattle.nntp_intervals.specs.Intervals.{holds}
-use Rattle.nntp_facts.specs.Summary.{has}
+use Rattle.nntp_intervals.specs.Inner.Intervals.{holds}
+use Rattle.nntp_facts.specs.Inner.Summary.{has}
 use Rattle.nntp_facts.proofs.numbers.conflict.denied_among.Given as goal
 
 abbrev pub invariant-loop-n : goal.invariant-loop-n

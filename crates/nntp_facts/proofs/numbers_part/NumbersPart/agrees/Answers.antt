@@ -1,9 +1,7 @@
-use Rattle.std.proofs.Common.{sym, ◌∙◌}
-use Rattle.std.proofs.lemmas.Bool.{true≢false}
-use Rattle.nntp_facts.specs.PartView.{said}
-use Rattle.nntp_facts.proofs.Keeping.GapsOfAPart.{part_agrees, agrees_open}
+use Rattle.std.proofs.{Common.{sym, ◌∙◌}, lemmas.Bool.{true≢false}}
+use Rattle.nntp_facts.{specs.Inner.PartView.{said}, proofs.{Keeping.GapsOfAPart.{part_agrees, agrees_open}, numbers_part.NumbersPart.agrees.Goals.{then-self}}}
+use Rattle.nntp_facts.proofs.numbers_part.NumbersPart.agrees.Goals.{else-self}
 use Rattle.nntp_facts.proofs.numbers_part.NumbersPart.agrees.Goals as goal
-use Rattle.nntp_facts.proofs.numbers_part.NumbersPart.agrees.Goals.{then-self, else-self}
 
 pub returns-then-denies_none : goal.returns-then-denies_none
 returns-then-denies_none g c =

@@ -1,5 +1,4 @@
-use Rattle.nntp_facts.specs.PartView.{said}
-use Rattle.nntp_facts.proofs.Keeping.GapsOfAPart.{none_denied}
+use Rattle.nntp_facts.{specs.Inner.PartView.{said}, proofs.Keeping.GapsOfAPart.{none_denied}}
 use Rattle.nntp_facts.proofs.numbers_part.NumbersPart.denies_none.Goals as goal
 
 pub returns-then-none_outside : goal.returns-then-none_outside

@@ -1,6 +1,5 @@
 use Rattle.std.proofs.Common.{sym, arith}
-use Rattle.nntp_facts.specs.PartView.{said}
-use Rattle.nntp_facts.proofs.Keeping.FirstFreeOfAPart.{may_begin, first_of_part}
+use Rattle.nntp_facts.{specs.Inner.PartView.{said}, proofs.Keeping.FirstFreeOfAPart.{may_begin, first_of_part}}
 use Rattle.nntp_facts.proofs.numbers_part.NumbersPart.first_free.Goals as goal
 
 pub returns-in-Some : goal.returns-in-Some

@@ -1,9 +1,6 @@
-use Rattle.std.proofs.Common.{subst}
-use Rattle.std.specs.List.{AllByRecursion}
-use Rattle.nntp_facts.specs.Conflict.{Placed}
+use Rattle.std.{proofs.Common.{subst}, specs.List.{AllByRecursion}}
+use Rattle.nntp_facts.{specs.{Conflict.{Placed}, Inner.Together.{IsWellFormed}}, proofs.Together.WellFormed.{spelled_formed}}
 use Rattle.nntp_said.specs.Facts.{facts_of}
-use Rattle.nntp_facts.specs.Together.{IsWellFormed}
-use Rattle.nntp_facts.proofs.Together.WellFormed.{spelled_formed}
 use Rattle.nntp_facts.proofs.placed.Placed.answer.Goals as goal
 
 pub returns-clause-well_formed : goal.returns-clause-well_formed

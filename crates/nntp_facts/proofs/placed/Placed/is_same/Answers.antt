@@ -1,7 +1,7 @@
 use Rattle.std.proofs.Common.{◌≡◌, ◌∙◌, sym}
 use Rattle.nntp_pair.specs.Pairing.{asked_at}
-use Rattle.nntp_facts.proofs.placed.Placed.is_same.Goals as goal
 use Rattle.nntp_facts.proofs.placed.Placed.is_same.Goals.{then-is_same_name, else-is_same_name, then-is_same_position, else-is_same_position}
+use Rattle.nntp_facts.proofs.placed.Placed.is_same.Goals as goal
 
 pub returns-then-is_same_line : goal.returns-then-is_same_line
 returns-then-is_same_line g h = elim g.if-is_same_position.branch [

@@ -1,9 +1,7 @@
 use Rattle.std.proofs.Common.{◌++◌, ℕ, List, sym, ap, subst, ◌∙◌}
-use Rattle.nntp_facts.specs.Conflict.{Placed, FitsThere, told, told_with}
-use Rattle.nntp_facts.specs.Saying.{numbers_listed}
-use Rattle.nntp_facts.specs.Points.{TellsAlone}
-use Rattle.nntp_facts.specs.StatementView.{held_of, statement_of}
-use Rattle.nntp_facts.proofs.PointsFound.PointsChained.{beside, all_formed, kind_ranked, moved_before, given_there, none_there, none_at_all}
+use Rattle.nntp_facts.specs.{Conflict.{Placed, told, told_with}, Inner.{Conflict.{FitsThere}, Saying.{numbers_listed}, Points.{TellsAlone}}}
+use Rattle.nntp_facts.{specs.Inner.StatementView.{held_of, statement_of}, proofs.PointsFound.PointsChained.{beside, all_formed, kind_ranked, moved_before}}
+use Rattle.nntp_facts.proofs.PointsFound.PointsChained.{given_there, none_there, none_at_all}
 use Rattle.nntp_facts.proofs.points.Conflict.point.Goals as goal
 
 pub returns-in-Some : goal.returns-in-Some

@@ -1,9 +1,6 @@
-use Rattle.std.proofs.Common.{◌∷◌, List, ℕ}
-use Rattle.std.specs.List.{AllByRecursion}
+use Rattle.std.{proofs.Common.{◌∷◌, List, ℕ}, specs.List.{AllByRecursion}}
 use Rattle.nntp_article.specs.declared.session.profile.Profile.{Profile}
-use Rattle.nntp_facts.specs.Conflict.{Placed, FitsThere, told_with}
-use Rattle.nntp_facts.specs.Points.{AreHeld, NoneBefore}
-use Rattle.nntp_facts.specs.StatementView.{held_of}
+use Rattle.nntp_facts.specs.{Conflict.{Placed, told_with}, Inner.{Conflict.{FitsThere}, Points.{AreHeld, NoneBefore}, StatementView.{held_of}}}
 use Rattle.nntp_facts.proofs.points.Conflict.point.Given as goal
 
 -- at no point of the kinds so far the answers conflict

@@ -1,6 +1,5 @@
 use Rattle.std.proofs.Common.{◌≡◌}
-use Rattle.nntp_facts.specs.Saying.{HasSmall, nothing, saying_by}
-use Rattle.nntp_facts.specs.SayingView.{saying_of}
+use Rattle.nntp_facts.specs.Inner.{Saying.{HasSmall, nothing, saying_by}, SayingView.{saying_of}}
 use Rattle.nntp_facts.proofs.saying.Saying.by.Given as goal
 
 -- with the facts that are left, this is what all of them say

@@ -1,7 +1,5 @@
-use Rattle.std.proofs.Common.{sym, ap}
-use Rattle.std.specs.Prelude.{option_map}
-use Rattle.nntp_facts.specs.SayingView.{saying_of, of_group}
-use Rattle.nntp_facts.proofs.Keeping.ToldAnswers.{group_said, none_said, selected_spoken}
+use Rattle.std.{proofs.Common.{sym, ap}, specs.Prelude.{option_map}}
+use Rattle.nntp_facts.{specs.Inner.SayingView.{saying_of, of_group}, proofs.Keeping.ToldAnswers.{group_said, none_said, selected_spoken}}
 use Rattle.nntp_facts.proofs.saying.Saying.group_of.Goals as goal
 
 pub returns-in-Some-default : goal.returns-in-Some-default

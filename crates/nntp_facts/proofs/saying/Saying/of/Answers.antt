@@ -1,9 +1,7 @@
 use Rattle.std.proofs.Common.{subst, sym, ◌∙◌}
-use Rattle.nntp_wire.specs.View.{asked}
-use Rattle.nntp_wire.specs.AnswerView.{response}
+use Rattle.nntp_wire.specs.Inner.{View.{asked}, AnswerView.{response}}
 use Rattle.nntp_said.specs.Facts.{facts_of}
-use Rattle.nntp_facts.specs.Saying.{HasSmall, TellsHere, nothing, numbers_shown, saying_by}
-use Rattle.nntp_facts.proofs.Keeping.SayingRows.{answer_row}
+use Rattle.nntp_facts.{specs.Inner.Saying.{HasSmall, TellsHere, nothing, numbers_shown, saying_by}, proofs.Keeping.SayingRows.{answer_row}}
 use Rattle.nntp_facts.proofs.saying.Saying.of.Goals as goal
 
 pub returns : goal.returns
@@ -12,5 +10,6 @@ returns c profile v facts may is_shown here listed =
     let r = response c.args.answer.now in
     let more = facts_of c.args.how v c.args.at q r in
     let made = c.by.ensures.says ∙ (λ i. saying_by (c.numbers_shown.ensures i) nothing (c.facts_of-facts.ensures v here i)) in
-    let told = answer_row v facts is_shown (record profile { marks = c.args.how }) c.args.at q r c.args.numbers.now (λ i. (c.type_inv.numbers i).fits) listed may (subst HasSmall made c.by.ensures.small) in
+    let told = answer_row v facts is_shown (record profile { marks = c.args.how }) c.args.at q r c.args.numbers.now (λ i. (c.type_inv.numbers i).fits) listed may
+    (subst HasSmall made c.by.ensures.small) in
     subst (λ s. TellsHere c.args.selected.now facts s more) (sym made) (subst (λ name. TellsHere name facts (saying_by (numbers_shown c.args.numbers.now r) nothing more) more) (sym here) told)

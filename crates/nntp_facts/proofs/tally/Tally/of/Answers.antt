@@ -1,9 +1,7 @@
 use Rattle.std.proofs.Common.{◌≡◌, sym, subst, ◌||◌, ◌==◌, ◌∙◌}
-use Rattle.nntp_facts.specs.Part.{is_end_of}
-use Rattle.nntp_facts.specs.Summary.{shown_after, IsTally}
-use Rattle.nntp_facts.proofs.Keeping.Tallies.{tally_no_ends, tally_ends, low_there, high_there}
+use Rattle.nntp_facts.{specs.Inner.{Part.{is_end_of}, Summary.{shown_after, IsTally}}, proofs.Keeping.Tallies.{tally_no_ends, tally_ends, low_there}}
+use Rattle.nntp_facts.proofs.{Keeping.Tallies.{high_there}, tally.Tally.of.Goals.{then-ends, else-ends}}
 use Rattle.nntp_facts.proofs.tally.Tally.of.Goals as goal
-use Rattle.nntp_facts.proofs.tally.Tally.of.Goals.{then-ends, else-ends}
 
 pub returns-in_default-clause-tally : goal.returns-in_default-clause-tally
 returns-in_default-clause-tally g c = λ up.

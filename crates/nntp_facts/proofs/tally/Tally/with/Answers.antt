@@ -1,8 +1,7 @@
 use Rattle.std.proofs.Common.{◌+◌, ◌==◌, ◌||◌, ◌∙◌, sym, subst}
-use Rattle.nntp_facts.specs.Summary.{IsTally}
-use Rattle.nntp_facts.proofs.Keeping.Tallies.{tally_there, tally_wanted, tally_unwanted}
+use Rattle.nntp_facts.{specs.Inner.Summary.{IsTally}, proofs.{Keeping.Tallies.{tally_there, tally_wanted, tally_unwanted}, tally.Tally.with.Goals.{then-wants}}}
+use Rattle.nntp_facts.proofs.tally.Tally.with.Goals.{else-wants}
 use Rattle.nntp_facts.proofs.tally.Tally.with.Goals as goal
-use Rattle.nntp_facts.proofs.tally.Tally.with.Goals.{then-wants, else-wants}
 
 pub returns-then-is_there-clause-tally : goal.returns-then-is_there-clause-tally
 returns-then-is_there-clause-tally c = λ p there t.

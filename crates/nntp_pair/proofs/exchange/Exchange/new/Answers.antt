@@ -1,10 +1,6 @@
-use Rattle.std.proofs.Common.{ℕ, List, ◌<◌, ◌^◌, length, refl, sym, subst, arith}
-use Rattle.std.specs.Option.{option_copied}
-use Rattle.nntp_wire.specs.Answer.{Spells}
-use Rattle.nntp_wire.specs.Frame.{frame_octets}
-use Rattle.nntp_wire.specs.AnswerView.{response}
-use Rattle.nntp_pair.specs.Pairing.{IsSpelled, asked_at}
-use Rattle.nntp_pair.proofs.PairLemmas.{spelled}
+use Rattle.std.{proofs.Common.{ℕ, List, ◌<◌, ◌^◌, length, refl, sym, subst, arith}, specs.Option.{option_copied}}
+use Rattle.nntp_wire.specs.{Answer.{Spells}, Frame.{frame_octets}, Inner.AnswerView.{response}}
+use Rattle.nntp_pair.{specs.{Inner.Pairing.{IsSpelled}, Pairing.{asked_at}}, proofs.PairLemmas.{spelled}}
 use Rattle.nntp_pair.proofs.exchange.Exchange.new.Goals as goal
 
 pub invariant_of-result : goal.invariant_of-result

@@ -1,10 +1,6 @@
-use Rattle.std.proofs.Common.{◌∙◌, ap, sym}
-use Rattle.std.specs.Option.{option_copied}
-use Rattle.nntp_pair.specs.Pairing.{line_ahead}
-use Rattle.nntp_pair.specs.Feeding.{left_of}
-use Rattle.nntp_pair.proofs.FeedLemmas.{begins-here}
+use Rattle.std.{proofs.Common.{◌∙◌, ap, sym}, specs.Option.{option_copied}}
+use Rattle.nntp_pair.{specs.{Pairing.{line_ahead}, Inner.Feeding.{left_of}}, proofs.{FeedLemmas.{begins-here}, feed.Feed.ahead.Goals.{in-Some, in-None}}}
 use Rattle.nntp_pair.proofs.feed.Feed.ahead.Goals as goal
-use Rattle.nntp_pair.proofs.feed.Feed.ahead.Goals.{in-Some, in-None}
 
 pub returns-clause-line : goal.returns-clause-line
 returns-clause-line g c =

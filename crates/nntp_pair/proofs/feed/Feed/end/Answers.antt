@@ -1,16 +1,10 @@
-use Rattle.std.proofs.Common.{◌≢◌, ◌∙◌, length, ℕ, List, [], Option, MatchOption, refl, sym, ap, subst}
-use Rattle.std.specs.Prelude.{⊤, nat_lt}
-use Rattle.nntp_wire.specs.Lines.{lines_of_stream}
-use Rattle.nntp_wire.specs.Search.{IsFrameThrough}
-use Rattle.nntp_pair.specs.Pairing.{Awaits, IsBad}
-use Rattle.nntp_pair.specs.Feeding.{IsEnding, HasNext, EndsForGood, left_of}
-use Rattle.nntp_pair.specs.Searching.{left_from, IsForNext}
-use Rattle.nntp_pair.specs.declared.class.PairClass.{PairClass}
-use Rattle.nntp_pair.specs.declared.ending.Ending.TheVariants as ending
-use Rattle.nntp_pair.proofs.FeedLemmas.{is-empty, not-empty, cut-left, surplus-left}
-use Rattle.nntp_pair.proofs.PairLemmas.{lines-count}
-use Rattle.nntp_pair.proofs.feed.Feed.end.Goals as goal
+use Rattle.std.{proofs.Common.{◌≢◌, ◌∙◌, length, ℕ, List, [], Option, MatchOption, refl, sym, ap, subst}, specs.Prelude.{⊤, nat_lt}}
+use Rattle.nntp_wire.specs.{Lines.{lines_of_stream}, Inner.Search.{IsFrameThrough}}
+use Rattle.nntp_pair.specs.{Pairing.{Awaits, IsBad}, Inner.{Feeding.{IsEnding, EndsForGood, left_of}, Searching.{left_from, IsForNext}}, Feeding.{HasNext}}
+use Rattle.nntp_pair.{specs.declared.class.PairClass.{PairClass}, proofs.{FeedLemmas.{is-empty, not-empty, cut-left, surplus-left}, PairLemmas.{lines-count}}}
 use Rattle.nntp_pair.proofs.feed.Feed.end.Goals.{in-Some, in-None}
+use Rattle.nntp_pair.specs.declared.ending.Ending.TheVariants as ending
+use Rattle.nntp_pair.proofs.feed.Feed.end.Goals as goal
 
 pub returns-then-is_empty : goal.returns-then-is_empty
 returns-then-is_empty g c =

@@ -1,10 +1,7 @@
 use Rattle.std.proofs.Common.{◌≡◌, ◌∙◌, ◌++◌, ◌+◌, ◌*◌, ◌^◌, ◌<◌, ◌≤◌, ℕ, List, length, arith, ap, sym, subst, length-append}
-use Rattle.nntp_pair.specs.Feeding.{Fed, IsFed, with_octets}
-use Rattle.nntp_pair.specs.Sides.{given, count_of}
-use Rattle.nntp_pair.specs.declared.octet_counts.OctetCounts.{OctetCounts}
-use Rattle.nntp_pair.specs.declared.side.Side.TheVariants.{Client, Server}
-use Rattle.nntp_pair.specs.Searching.{IsInStep}
-use Rattle.nntp_pair.proofs.FeedLemmas.{searched-more, in-step, fed-more, counted-small}
+use Rattle.nntp_pair.specs.Inner.{Feeding.{Fed, IsFed, with_octets}, Sides.{given, count_of}, Searching.{IsInStep}}
+use Rattle.nntp_pair.{specs.declared.{octet_counts.OctetCounts.{OctetCounts}, side.Side.TheVariants.{Client, Server}}, proofs.FeedLemmas.{searched-more}}
+use Rattle.nntp_pair.proofs.FeedLemmas.{in-step, fed-more, counted-small}
 use Rattle.nntp_pair.proofs.feed.Feed.feed.Goals as goal
 
 pub invariant_of-self : goal.invariant_of-self

@@ -1,15 +1,9 @@
-use Rattle.std.proofs.Common.{ℕ, List, Option, MatchOption, refl, sym, subst, drop}
-use Rattle.std.specs.Prelude.{⊤}
-use Rattle.std.specs.Option.{option_copied}
-use Rattle.nntp_wire.specs.Frame.{HasFrame}
-use Rattle.nntp_wire.specs.Search.{IsFrameThrough}
-use Rattle.nntp_pair.specs.Pairing.{Awaits, IsAnswered, IsMalformed, asked_at}
-use Rattle.nntp_pair.specs.Feeding.{IsPeek}
-use Rattle.nntp_pair.specs.Searching.{left_from, IsForNext}
-use Rattle.nntp_pair.specs.declared.class.PairClass.TheVariants.{Malformed}
+use Rattle.std.{proofs.Common.{ℕ, List, Option, MatchOption, refl, sym, subst, drop}, specs.{Prelude.{⊤}, Option.{option_copied}}}
+use Rattle.nntp_wire.specs.{Frame.{HasFrame}, Inner.Search.{IsFrameThrough}}
+use Rattle.nntp_pair.specs.{Pairing.{Awaits, IsAnswered, IsMalformed, asked_at}, Inner.{Feeding.{IsPeek}, Searching.{left_from, IsForNext}}}
+use Rattle.nntp_pair.{specs.declared.class.PairClass.TheVariants.{Malformed}, proofs.{PairLemmas.{malformed}, FeedLemmas.{nothing, begins-awaits, for-next}}}
+use Rattle.nntp_pair.proofs.FeedLemmas.{next-of, malformed-for_good}
 use Rattle.nntp_pair.specs.declared.peek.Peek.TheVariants as peek
-use Rattle.nntp_pair.proofs.PairLemmas.{malformed}
-use Rattle.nntp_pair.proofs.FeedLemmas.{nothing, begins-awaits, for-next, next-of, malformed-for_good}
 use Rattle.nntp_pair.proofs.feed.Feed.peek.Goals as goal
 
 pub returns-in_default-frame : goal.returns-in_default-frame
@@ -58,6 +52,7 @@ returns-in_default-parse g c =
     let frame = c.in-Some-frame-2.frame in
     let is = subst (λ f. MatchOption f ⊤ (IsForNext left)) c.in-Some-frame.is c.self.invariant.searched.frame in
     let has = c.in-Some-frame-2.ensures.found (asked_at place) (for-next left c.in-Some-frame.search place is awaits) in
-    let bad = malformed place c.as_slice-server.result.now frame.initial frame.block (drop frame.len c.as_slice-server.result.now) (asked_at place) refl has (λ r. rw (← c.prompt_at-prompt.ensures) (c.in_default-parse.ensures r)) in
+    let bad = malformed place c.as_slice-server.result.now frame.initial frame.block (drop frame.len c.as_slice-server.result.now) (asked_at place) refl has
+    (λ r. rw (← c.prompt_at-prompt.ensures) (c.in_default-parse.ensures r)) in
     let why = subst (λ t. IsMalformed (asked_at place) t) c.as_slice-server.ensures bad in
     subst (λ fed. IsPeek fed (peek.Bad c.self.inside.index Malformed)) c.self.view_is (c.if-self.false, refl, malformed-for_good left place awaits why)

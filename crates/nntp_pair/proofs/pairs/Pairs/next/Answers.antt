@@ -1,11 +1,6 @@
-use Rattle.std.proofs.Common.{◌≢◌, [], refl, subst, drop, arith}
-use Rattle.std.proofs.lemmas.Grind.{common_steps}
-use Rattle.std.specs.Option.{option_copied}
-use Rattle.nntp_wire.specs.View.{asked}
-use Rattle.nntp_pair.specs.Pairing.{Unpaired, Awaits}
-use Rattle.nntp_pair.specs.Step.{IsStep}
-use Rattle.nntp_pair.specs.declared.class.PairClass.TheVariants.{Malformed}
-use Rattle.nntp_pair.specs.declared.step.Step.TheVariants.{Bad}
+use Rattle.std.{proofs.{Common.{◌≢◌, [], refl, subst, drop, arith}, lemmas.Grind.{common_steps}}, specs.Option.{option_copied}}
+use Rattle.nntp_wire.specs.Inner.View.{asked}
+use Rattle.nntp_pair.specs.{Pairing.{Unpaired, Awaits}, Inner.Step.{IsStep}, declared.{class.PairClass.TheVariants.{Malformed}, step.Step.TheVariants.{Bad}}}
 use Rattle.nntp_pair.proofs.PairLemmas.{malformed}
 use Rattle.nntp_pair.proofs.pairs.Pairs.next.Goals as goal
 
@@ -17,7 +12,8 @@ returns-in_default-parse-clause-step c =
     let why = malformed place server frame.initial frame.block (drop frame.len server) (asked c.prompt_at-prompt.result) c.prompt_at-prompt.ensures c.in-Some-frame.ensures.found
     c.in_default-parse.ensures in
     let some : server ≢ [] = grind arith in
-    let awaits : Awaits (record { index = c.self.inside.index; places = c.self.inside.places; server = server; is_closed = c.self.inside.is_closed }) place = record { is_open = c.if-self.false; places = c.in-Some.places; first = c.in-Some.ensures } in
+    let awaits : Awaits (record { index = c.self.inside.index; places = c.self.inside.places; server = server; is_closed = c.self.inside.is_closed }) place =
+    record { is_open = c.if-self.false; places = c.in-Some.places; first = c.in-Some.ensures } in
     rw c.bad-in_default-parse.ensures (
     subst (λ (left : Unpaired). IsStep left (Bad left.index Malformed) left) c.self.view_is
     (refl, (some, (place, awaits, why)), refl)

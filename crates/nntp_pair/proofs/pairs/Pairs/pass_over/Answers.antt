@@ -1,8 +1,6 @@
-use Rattle.std.proofs.Common.{◌∙◌, ap, drop}
-use Rattle.std.specs.Option.{option_copied}
-use Rattle.nntp_wire.specs.View.{asked}
-use Rattle.nntp_pair.specs.Pairing.{Unpaired}
-use Rattle.nntp_pair.proofs.PassedLemmas.{passed-found}
+use Rattle.std.{proofs.Common.{◌∙◌, ap, drop}, specs.Option.{option_copied}}
+use Rattle.nntp_wire.specs.Inner.View.{asked}
+use Rattle.nntp_pair.{specs.Pairing.{Unpaired}, proofs.PassedLemmas.{passed-found}}
 use Rattle.nntp_pair.proofs.pairs.Pairs.pass_over.Goals as goal
 
 pub returns-clause-passed : goal.returns-clause-passed

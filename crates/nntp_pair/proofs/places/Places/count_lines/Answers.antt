@@ -1,5 +1,4 @@
-use Rattle.std.proofs.Common.{◌∙◌, sym, ap}
-use Rattle.std.specs.Prelude.{count_by, is_some}
+use Rattle.std.{proofs.Common.{◌∙◌, sym, ap}, specs.Prelude.{count_by, is_some}}
 use Rattle.nntp_pair.proofs.PairLemmas.{lines-count}
 use Rattle.nntp_pair.proofs.places.Places.count_lines.Goals as goal
 

@@ -1,5 +1,4 @@
-use Rattle.std.proofs.Common.{false, refl, ◌∙◌}
-use Rattle.std.specs.Option.{option_copied}
+use Rattle.std.{proofs.Common.{false, refl, ◌∙◌}, specs.Option.{option_copied}}
 use Rattle.nntp_pair.proofs.FeedLemmas.{begins-awaits}
 use Rattle.nntp_pair.proofs.searches.Searches.begin_frame.Goals as goal
 

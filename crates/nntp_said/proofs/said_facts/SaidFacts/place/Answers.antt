@@ -1,8 +1,5 @@
-use Rattle.std.proofs.Common.{[], refl, sym, subst, ◌∙◌}
-use Rattle.std.proofs.lemmas.Bool.{true≢false}
-use Rattle.nntp_said.specs.FactView.{with_fact}
-use Rattle.nntp_said.specs.Places.{Place}
-use Rattle.nntp_said.proofs.PlacedIds.{placed_first, placed_second, placed_third, placed_last}
+use Rattle.std.proofs.{Common.{[], refl, sym, subst, ◌∙◌}, lemmas.Bool.{true≢false}}
+use Rattle.nntp_said.{specs.Inner.{FactView.{with_fact}, Places.{Place}}, proofs.PlacedIds.{placed_first, placed_second, placed_third, placed_last}}
 use Rattle.nntp_said.proofs.said_facts.SaidFacts.place.Goals as goal
 
 pub returns-then-places : goal.returns-then-places

@@ -1,8 +1,5 @@
-use Rattle.std.proofs.Common.{[], ap, sym, subst, ◌∙◌, ◌++◌}
-use Rattle.std.proofs.lemmas.Result.{err_from_is_err_and}
-use Rattle.nntp_spool.specs.Writing.{Wrote, WritesBut}
-use Rattle.nntp_spool.specs.Buffering.{taken, waiting}
-use Rattle.nntp_spool.proofs.Written.{Wrote-first, Writes-last}
+use Rattle.std.proofs.{Common.{[], ap, sym, subst, ◌∙◌, ◌++◌}, lemmas.Result.{err_from_is_err_and}}
+use Rattle.nntp_spool.{specs.{Writing.{Wrote}, Inner.{Writing.{WritesBut}, Buffering.{taken, waiting}}}, proofs.Written.{Wrote-first, Writes-last}}
 use Rattle.nntp_spool.proofs.buffered_output.BufferedOutput.put.Goals as goal
 
 pub returns-in_err-hand_on-clause-text : goal.returns-in_err-hand_on-clause-text

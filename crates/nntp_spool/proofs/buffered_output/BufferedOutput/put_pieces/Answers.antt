@@ -1,6 +1,4 @@
-use Rattle.std.proofs.Common.{refl, arith, ◌∙◌}
-use Rattle.std.specs.List.{flat_map}
-use Rattle.std.proofs.lemmas.Result.{err_from_is_err_and}
+use Rattle.std.{proofs.{Common.{refl, arith, ◌∙◌}, lemmas.Result.{err_from_is_err_and}}, specs.List.{flat_map}}
 use Rattle.nntp_spool.proofs.Written.{Wrote-item}
 use Rattle.nntp_spool.proofs.buffered_output.BufferedOutput.put_pieces.Goals as goal
 

@@ -1,10 +1,9 @@
-use Rattle.std.proofs.Common.{◌≡◌, ◌∙◌, refl, sym, ap, ℕ, Bool, true, false, Option, Some, None, List, [], ◌∷◌}
+use Rattle.std.proofs.{Common.{◌≡◌, ◌∙◌, refl, sym, ap, ℕ, Bool, true, false, Option, Some, None, List, [], ◌∷◌}, lemmas.Bool.{not-true, not-false}}
 use Rattle.std.specs.Prelude.{◌&&◌, not, if◌then◌else◌, bytes_eq, codes}
-use Rattle.std.proofs.lemmas.Bool.{not-true, not-false}
 use Rattle.nntp_article.specs.Article.Parts.{is_empty}
-use Rattle.nntp_spool.specs.Fields.{OpeningValue, Article, is_count, value_of, opening_of}
-use Rattle.nntp_spool.proofs.SplitLines.{length_is_empty}
-use Rattle.nntp_spool.proofs.text.fields.article_opening.Goals.{then-ne-via-then-ne, then-ne-via-else-ne+then-is_empty, in_default-via-in-Some+in_default, in_default-via-in_default}
+use Rattle.nntp_spool.{specs.Fields.{OpeningValue, Article, is_count, value_of, opening_of}, proofs.SplitLines.{length_is_empty}}
+use Rattle.nntp_spool.proofs.text.fields.article_opening.Goals.{then-ne-via-then-ne, then-ne-via-else-ne+then-is_empty, in_default-via-in-Some+in_default}
+use Rattle.nntp_spool.proofs.text.fields.article_opening.Goals.{in_default-via-in_default}
 use Rattle.nntp_spool.proofs.text.fields.article_opening.Goals as goal
 
 -- four tests, of which one fails

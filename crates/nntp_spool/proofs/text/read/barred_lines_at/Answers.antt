@@ -1,6 +1,5 @@
 use Rattle.std.proofs.lemmas.Result.{err_from_is_err_and}
-use Rattle.nntp_spool.specs.Reading.{barred_line_at}
-use Rattle.nntp_spool.proofs.RepeatedSteps.{goes_on, ends}
+use Rattle.nntp_spool.{specs.Reading.{barred_line_at}, proofs.RepeatedSteps.{goes_on, ends}}
 use Rattle.nntp_spool.proofs.text.read.barred_lines_at.Goals as goal
 
 pub returns-in_err-rest : goal.returns-in_err-rest

@@ -1,6 +1,5 @@
 use Rattle.std.proofs.Common.{◌≡◌, ◌-◌}
-use Rattle.nntp_spool.specs.Reading.{barred_lines_at, barred_line_at, repeat}
-use Rattle.nntp_spool.specs.ReadingView.{place_shown}
+use Rattle.nntp_spool.specs.{Reading.{barred_lines_at, barred_line_at, repeat}, Inner.ReadingView.{place_shown}}
 use Rattle.nntp_spool.proofs.text.read.barred_lines_at.Given as goal
 
 abbrev pub invariant-loop : goal.invariant-loop

@@ -1,7 +1,5 @@
-use Rattle.std.proofs.Common.{Ok, ap, ◌∙◌}
-use Rattle.std.proofs.lemmas.Result.{err_from_is_err_and}
-use Rattle.nntp_spool.specs.ReadingView.{turn_shown}
-use Rattle.nntp_spool.proofs.RepeatedSteps.{item_goes_on, item_ends, item_fails}
+use Rattle.std.proofs.{Common.{Ok, ap, ◌∙◌}, lemmas.Result.{err_from_is_err_and}}
+use Rattle.nntp_spool.{specs.Inner.ReadingView.{turn_shown}, proofs.RepeatedSteps.{item_goes_on, item_ends, item_fails}}
 use Rattle.nntp_spool.proofs.text.read.items_at.Goals as goal
 
 pub loop-preserved : goal.loop-preserved

@@ -1,6 +1,5 @@
 use Rattle.std.proofs.Common.{◌≡◌, ◌-◌, false}
-use Rattle.nntp_spool.specs.Reading.{items_at}
-use Rattle.nntp_spool.specs.ReadingView.{place_shown}
+use Rattle.nntp_spool.specs.{Reading.{items_at}, Inner.ReadingView.{place_shown}}
 use Rattle.nntp_spool.proofs.text.read.items_at.Given as goal
 
 abbrev pub invariant-loop : goal.invariant-loop

@@ -1,9 +1,6 @@
 use Rattle.std.proofs.Common.{◌≡◌, ◌∙◌, refl, sym, ℕ, true, false, Ok}
-use Rattle.nntp_spool.specs.Content.{no_spool}
+use Rattle.nntp_spool.{specs.{Content.{no_spool}, Reading.{Place, is_end, items_at, content_at}, Inner.ReadingView.{place_shown}}, proofs.SplitLines.{ended}}
 use Rattle.nntp_article.specs.Session.Spool.{Spool}
-use Rattle.nntp_spool.specs.Reading.{Place, is_end, items_at, content_at}
-use Rattle.nntp_spool.specs.ReadingView.{place_shown}
-use Rattle.nntp_spool.proofs.SplitLines.{ended}
 use Rattle.nntp_spool.proofs.text.read.items_to_end.Goals as goal
 
 -- the items are all where they end at the end of the text

@@ -1,9 +1,7 @@
-use Rattle.std.proofs.Common.{◌≡◌, refl, sym, ℕ, Bool, true, false, List, None, Some, Ok}
-use Rattle.std.specs.Prelude.{if◌then◌else◌}
+use Rattle.std.{proofs.Common.{◌≡◌, refl, sym, ℕ, Bool, true, false, List, None, Some, Ok}, specs.Prelude.{if◌then◌else◌}}
 use Rattle.nntp_wire.specs.Decided.{is_message_id}
 use Rattle.nntp_article.specs.Session.Machine.{is_article_number}
-use Rattle.nntp_spool.specs.Fields.{fields_of, number_and_id, value_of}
-use Rattle.nntp_spool.specs.Reading.{number_in}
+use Rattle.nntp_spool.specs.{Fields.{fields_of, number_and_id, value_of}, Reading.{number_in}}
 use Rattle.nntp_spool.proofs.text.read.number_in.Goals as goal
 
 passed : (is : Bool) (value number : ℕ) → Some number ≡ (if is then Some value else None) → (is ≡ true) × (value ≡ number)

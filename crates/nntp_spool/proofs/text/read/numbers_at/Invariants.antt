@@ -1,6 +1,5 @@
 use Rattle.std.proofs.Common.{◌≡◌, ◌-◌}
-use Rattle.nntp_spool.specs.Reading.{numbers_at, number_at, repeat}
-use Rattle.nntp_spool.specs.ReadingView.{place_shown}
+use Rattle.nntp_spool.specs.{Reading.{numbers_at, number_at, repeat}, Inner.ReadingView.{place_shown}}
 use Rattle.nntp_spool.proofs.text.read.numbers_at.Given as goal
 
 abbrev pub invariant-loop : goal.invariant-loop

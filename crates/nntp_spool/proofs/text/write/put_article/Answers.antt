@@ -1,10 +1,6 @@
-use Rattle.std.proofs.Common.{length, ap, ◌++◌, ◌∙◌, subst}
-use Rattle.std.proofs.lemmas.Result.{err_from_is_err_and}
-use Rattle.nntp_spool.specs.Text.{with_line_ends, barred}
-use Rattle.nntp_spool.specs.Writing.{Wrote, WritesBut}
-use Rattle.nntp_spool.specs.Buffering.{taken, waiting}
-use Rattle.nntp_spool.proofs.Written.{Writes-last}
-use Rattle.nntp_spool.proofs.WrittenLines.{Article-first, Lines-next}
+use Rattle.std.proofs.{Common.{length, ap, ◌++◌, ◌∙◌, subst}, lemmas.Result.{err_from_is_err_and}}
+use Rattle.nntp_spool.specs.{Text.{with_line_ends, barred}, Writing.{Wrote}, Inner.{Writing.{WritesBut}, Buffering.{taken, waiting}}}
+use Rattle.nntp_spool.proofs.{Written.{Writes-last}, WrittenLines.{Article-first, Lines-next}}
 use Rattle.nntp_spool.proofs.text.write.put_article.Goals as goal
 
 pub returns-in_err-put_article_line-clause-text : goal.returns-in_err-put_article_line-clause-text
@@ -38,9 +34,11 @@ returns-clause-text g c =
     let first = Article-first _ _ (waiting c.args.output.now) c.args.id.now c.line_count.result _ c.line_count-2.result _ _ _ heads bodies c.in_ok-put_article_line.ensures.text in
     let second = Lines-next _ _ _ _ _ (barred a.head.value) (barred a.body.value) _ first
     (subst (λ ls. Wrote (taken g.W.Write.contents c.put_article_line.new.output)
-    (taken g.W.Write.contents c.put_barred_lines.new.output) (waiting c.put_article_line.new.output ++ with_line_ends (barred ls)) (waiting c.put_barred_lines.new.output)) (c.as_block-head.ensures.same ∙ c.as_ref.ensures)
+    (taken g.W.Write.contents c.put_barred_lines.new.output) (waiting c.put_article_line.new.output
+    ++ with_line_ends (barred ls)) (waiting c.put_barred_lines.new.output)) (c.as_block-head.ensures.same ∙ c.as_ref.ensures)
     c.in_ok-put_barred_lines.ensures.text) in
     Writes-last c.put_barred_lines-2.result _ _ _ _ _ _ second
     (subst (λ ls. WritesBut c.put_barred_lines-2.result (taken g.W.Write.contents c.put_barred_lines.new.output)
-    (taken g.W.Write.contents c.put_barred_lines-2.new.output) (waiting c.put_barred_lines.new.output ++ with_line_ends (barred ls)) (waiting c.put_barred_lines-2.new.output)) (c.as_block-body.ensures.same ∙ c.as_ref-2.ensures)
+    (taken g.W.Write.contents c.put_barred_lines-2.new.output) (waiting c.put_barred_lines.new.output
+    ++ with_line_ends (barred ls)) (waiting c.put_barred_lines-2.new.output)) (c.as_block-body.ensures.same ∙ c.as_ref-2.ensures)
     c.put_barred_lines-2.ensures.text)

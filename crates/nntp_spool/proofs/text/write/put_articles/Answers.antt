@@ -1,14 +1,8 @@
-use Rattle.std.proofs.Common.{T, arith, refl, sym, subst, ◌∙◌, ap, map as list_map}
-use Rattle.std.specs.List.{flat_map}
-use Rattle.std.specs.Cmp.Lexicographic.{nat_list_cmp_total}
-use Rattle.std.proofs.lemmas.Result.{err_from_is_err_and}
-use Rattle.std.specs.Rc.{rc_str_bytes}
-use Rattle.nntp_spool.specs.Text.{with_line_ends, article_lines}
-use Rattle.nntp_spool.specs.ArticleLines.{text_stored}
+use Rattle.std.{proofs.{Common.{T, arith, refl, sym, subst, ◌∙◌, ap, map as list_map}, lemmas.Result.{err_from_is_err_and}}, specs.List.{flat_map}}
+use Rattle.std.specs.{Cmp.Lexicographic.{nat_list_cmp_total}, Rc.{rc_str_bytes}}
+use Rattle.nntp_spool.{specs.{Text.{with_line_ends, article_lines}, Inner.ArticleLines.{text_stored}}, proofs.{ShownMaps.{octet_keys}, Written.{Wrote-item}}}
+use Rattle.nntp_spool.proofs.{Written.{Wrote-all}, WrittenLines.{with_line_ends-append}}
 use Rattle.nntp_wire.proofs.ShownMaps.{entries-from_entries}
-use Rattle.nntp_spool.proofs.ShownMaps.{octet_keys}
-use Rattle.nntp_spool.proofs.Written.{Wrote-item, Wrote-all}
-use Rattle.nntp_spool.proofs.WrittenLines.{with_line_ends-append}
 use Rattle.nntp_spool.proofs.text.write.put_articles.Goals as goal
 
 pub returns-in_err-put_article-clause-text : goal.returns-in_err-put_article-clause-text
@@ -19,7 +13,8 @@ returns-in_err-put_article-clause-text g c =
       _,
       Wrote-item (λ es. with_line_ends (flat_map article_lines (list_map (λ e. (rc_str_bytes e.0, text_stored e.1)) es)))
           (λ x. with_line_ends (article_lines (rc_str_bytes x.0, text_stored x.1)))
-          (λ x xs. with_line_ends-append (article_lines (rc_str_bytes x.0, text_stored x.1)) _) _ _ _ _ _ c.args.articles.now c.loop-article.article-index c.article-item.result _ w.0 c.loop-article-test.true
+          (λ x xs. with_line_ends-append (article_lines (rc_str_bytes x.0, text_stored x.1)) _) _ _ _ _ _ c.args.articles.now c.loop-article.article-index c.article-item.result _ w.0
+          c.loop-article-test.true
           (ap (λ s. with_line_ends (article_lines (s, text_stored c.article-item.result.1))) (c.as_bytes.ensures.value ∙ c.as_str.ensures.value)
           ∙ ap (λ e. with_line_ends (article_lines (rc_str_bytes e.0, text_stored e.1))) c.article-item.is)
           c.loop-article.invariant.wrote w.1,
@@ -29,7 +24,8 @@ pub loop-article-preserved : goal.loop-article-preserved
 loop-article-preserved g c = record {
   wrote = Wrote-item (λ es. with_line_ends (flat_map article_lines (list_map (λ e. (rc_str_bytes e.0, text_stored e.1)) es)))
       (λ x. with_line_ends (article_lines (rc_str_bytes x.0, text_stored x.1)))
-      (λ x xs. with_line_ends-append (article_lines (rc_str_bytes x.0, text_stored x.1)) _) _ _ _ _ _ c.args.articles.now c.loop-article.article-index c.article-item.result _ _ c.loop-article-test.true
+      (λ x xs. with_line_ends-append (article_lines (rc_str_bytes x.0, text_stored x.1)) _) _ _ _ _ _ c.args.articles.now c.loop-article.article-index c.article-item.result _ _
+      c.loop-article-test.true
       (ap (λ s. with_line_ends (article_lines (s, text_stored c.article-item.result.1))) (c.as_bytes.ensures.value ∙ c.as_str.ensures.value)
       ∙ ap (λ e. with_line_ends (article_lines (rc_str_bytes e.0, text_stored e.1))) c.article-item.is)
       c.loop-article.invariant.wrote c.in_ok-put_article.ensures.text;

@@ -1,13 +1,6 @@
-use Rattle.std.proofs.Common.{arith, refl, sym, ◌∙◌, ap, map as list_map}
-use Rattle.std.specs.List.{flat_map}
-use Rattle.std.proofs.lemmas.Result.{err_from_is_err_and}
-use Rattle.std.specs.Rc.{rc_str_bytes}
-use Rattle.nntp_spool.specs.Text.{with_line_ends, article_lines}
-use Rattle.nntp_spool.specs.ArticleLines.{text_stored}
-use Rattle.nntp_spool.specs.ArticlesView.{articles_shown}
-use Rattle.nntp_spool.proofs.ShownMaps.{article_entries}
-use Rattle.nntp_spool.proofs.Written.{Wrote-head, Wrote-all}
-use Rattle.nntp_spool.proofs.WrittenLines.{with_line_ends-append}
+use Rattle.std.{proofs.{Common.{arith, refl, sym, ◌∙◌, ap, map as list_map}, lemmas.Result.{err_from_is_err_and}}, specs.{List.{flat_map}, Rc.{rc_str_bytes}}}
+use Rattle.nntp_spool.specs.{Text.{with_line_ends, article_lines}, Inner.{ArticleLines.{text_stored}, ArticlesView.{articles_shown}}}
+use Rattle.nntp_spool.proofs.{ShownMaps.{article_entries}, Written.{Wrote-head, Wrote-all}, WrittenLines.{with_line_ends-append}}
 use Rattle.nntp_spool.proofs.text.write.put_articles_of_map.Goals as goal
 
 pub returns-in_err-put_article-clause-text : goal.returns-in_err-put_article-clause-text

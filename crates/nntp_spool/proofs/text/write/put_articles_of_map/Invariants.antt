@@ -1,12 +1,6 @@
-use Rattle.std.proofs.Common.{◌≡◌, ◌++◌, map as list_map}
-use Rattle.std.specs.List.{flat_map}
-use Rattle.std.specs.FinMap.{entries}
-use Rattle.std.specs.Rc.{rc_str_bytes}
-use Rattle.nntp_spool.specs.Text.{with_line_ends, article_lines}
-use Rattle.nntp_spool.specs.ArticleLines.{text_stored}
-use Rattle.nntp_spool.specs.ArticlesView.{articles_shown}
-use Rattle.nntp_spool.specs.Writing.{Wrote}
-use Rattle.nntp_spool.specs.Buffering.{taken, waiting, writer_failed, IsSameWriter}
+use Rattle.std.{proofs.Common.{◌≡◌, ◌++◌, map as list_map}, specs.{List.{flat_map}, FinMap.{entries}, Rc.{rc_str_bytes}}}
+use Rattle.nntp_spool.specs.{Text.{with_line_ends, article_lines}, Inner.{ArticleLines.{text_stored}, ArticlesView.{articles_shown}, Buffering.{taken}}}
+use Rattle.nntp_spool.specs.{Inner.Buffering.{waiting, writer_failed, IsSameWriter}, Writing.{Wrote}}
 use Rattle.nntp_spool.proofs.text.write.put_articles_of_map.Given as goal
 
 abbrev pub invariant-loop-id : goal.invariant-loop-id

@@ -1,7 +1,5 @@
-use Rattle.std.proofs.Common.{arith, [], ◌∷◌, ◌++◌, ◌∙◌, refl}
-use Rattle.std.proofs.lemmas.Result.{err_from_is_err_and}
-use Rattle.nntp_spool.specs.Text.{with_line_ends, barred}
-use Rattle.nntp_spool.proofs.Written.{Wrote-head}
+use Rattle.std.proofs.{Common.{arith, [], ◌∷◌, ◌++◌, ◌∙◌, refl}, lemmas.Result.{err_from_is_err_and}}
+use Rattle.nntp_spool.{specs.Text.{with_line_ends, barred}, proofs.Written.{Wrote-head}}
 use Rattle.nntp_spool.proofs.text.write.put_barred_lines.Goals as goal
 
 pub returns-in_err-put_pieces-clause-text : goal.returns-in_err-put_pieces-clause-text

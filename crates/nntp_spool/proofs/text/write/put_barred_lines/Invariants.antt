@@ -1,7 +1,5 @@
 use Rattle.std.proofs.Common.{◌≡◌, ◌++◌}
-use Rattle.nntp_spool.specs.Text.{with_line_ends, barred}
-use Rattle.nntp_spool.specs.Writing.{Wrote}
-use Rattle.nntp_spool.specs.Buffering.{taken, waiting, writer_failed, IsSameWriter}
+use Rattle.nntp_spool.specs.{Text.{with_line_ends, barred}, Writing.{Wrote}, Inner.Buffering.{taken, waiting, writer_failed, IsSameWriter}}
 use Rattle.nntp_spool.proofs.text.write.put_barred_lines.Given as goal
 
 abbrev pub invariant-loop-line : goal.invariant-loop-line

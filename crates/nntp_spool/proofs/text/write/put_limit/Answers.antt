@@ -1,6 +1,5 @@
 use Rattle.std.proofs.Common.{sym, subst}
-use Rattle.nntp_spool.specs.Buffering.{Buffers}
-use Rattle.nntp_spool.specs.Text.{with_line_ends, limit_lines}
+use Rattle.nntp_spool.specs.{Inner.Buffering.{Buffers}, Text.{with_line_ends, limit_lines}}
 use Rattle.nntp_spool.proofs.text.write.put_limit.Goals as goal
 
 pub returns-in-Wide-clause-text : goal.returns-in-Wide-clause-text

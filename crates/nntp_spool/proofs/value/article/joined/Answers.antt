@@ -1,8 +1,6 @@
 use Rattle.std.proofs.Common.{◌≡◌, ℕ, ◌+◌, ◌<◌, length, [], ◌∷◌, ◌++◌, List, Vec, true, drop, get_or, sym, ap, ◌∙◌, drop-cons, add-one, append_assoc}
-use Rattle.std.specs.List.{list_all}
-use Rattle.std.proofs.lemmas.Bool.{and_parts}
-use Rattle.nntp_wire.specs.Held.{held}
-use Rattle.nntp_wire.specs.Octets.{is_clean}
+use Rattle.std.{proofs.lemmas.Bool.{and_parts}, specs.List.{list_all}}
+use Rattle.nntp_wire.specs.{Inner.Held.{held}, Octets.{is_clean}}
 use Rattle.nntp_article.specs.Session.Spool.{is_line}
 use Rattle.nntp_spool.proofs.value.article.joined.Given.{Over}
 use Rattle.nntp_spool.proofs.value.article.joined.Goals as goal

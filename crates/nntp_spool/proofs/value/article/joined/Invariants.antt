@@ -1,7 +1,6 @@
-use Rattle.std.proofs.Common.{◌≡◌, ◌++◌, drop, IsTrue}
-use Rattle.std.specs.List.{list_all}
+use Rattle.std.{proofs.Common.{◌≡◌, ◌++◌, drop, IsTrue}, specs.List.{list_all}}
 use Rattle.nntp_article.specs.Session.Spool.{is_line}
-use Rattle.nntp_wire.specs.Held.{held}
+use Rattle.nntp_wire.specs.Inner.Held.{held}
 use Rattle.nntp_spool.proofs.value.article.joined.Given as goal
 
 -- the lines that were copied, and those that are left

@@ -1,12 +1,7 @@
-use Rattle.std.proofs.Common.{rules}
-use Rattle.std.specs.Ordering.{nat_cmp}
-use Rattle.std.specs.Cmp.Lexicographic.{slice_cmp, nat_list_cmp_total}
+use Rattle.std.{proofs.{Common.{rules}, lemmas.Fn.{always_returns_same}}, specs.{Ordering.{nat_cmp}, Cmp.Lexicographic.{slice_cmp, nat_list_cmp_total}}}
 use Rattle.std.specs.Rc.{rc_str_bytes}
-use Rattle.std.proofs.lemmas.Fn.{always_returns_same}
 use borrow.Author.Tests.{tests}
-use Rattle.nntp_spool.specs.ArticleLines.{text_stored}
-use Rattle.nntp_spool.proofs.SearchedEntries.{found_at, none_at, searchable}
-use Rattle.nntp_spool.proofs.ShownMaps.{octet_keys}
+use Rattle.nntp_spool.{specs.Inner.ArticleLines.{text_stored}, proofs.{SearchedEntries.{found_at, none_at, searchable}, ShownMaps.{octet_keys}}}
 use Rattle.nntp_spool.proofs.value.articles.article_among.Goals as goal
 
 pub returns-in-Ok : goal.returns-in-Ok

@@ -1,5 +1,4 @@
-use Rattle.std.proofs.Common.{◌≡◌, ◌++◌}
-use Rattle.std.specs.Vec.{vec_len}
+use Rattle.std.{proofs.Common.{◌≡◌, ◌++◌}, specs.Vec.{vec_len}}
 use Rattle.nntp_spool.proofs.value.ascending.map_of.Given as goal
 
 abbrev pub invariant-loop-key : goal.invariant-loop-key

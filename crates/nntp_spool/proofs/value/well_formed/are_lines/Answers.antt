@@ -1,6 +1,4 @@
-use Rattle.std.proofs.Common.{sym, ◌∙◌, rules}
-use Rattle.std.proofs.lemmas.Iterator.{YieldsList-from_slice}
-use Rattle.std.proofs.lemmas.Iterator.Search.{all_from_yields_List}
+use Rattle.std.proofs.{Common.{sym, ◌∙◌, rules}, lemmas.Iterator.{YieldsList-from_slice, Search.{all_from_yields_List}}}
 use borrow.Author.Tests.{tests}
 use Rattle.nntp_wire.proofs.ShownMaps.{list_all-map}
 use Rattle.nntp_article.specs.Session.Spool.{is_line}

@@ -1,10 +1,6 @@
-use Rattle.std.proofs.Common.{◌≡◌, true, List, [], ◌∷◌, refl}
-use Rattle.std.specs.List.{list_all}
-use Rattle.std.proofs.lemmas.Bool.{and_from, and_parts}
-use Rattle.nntp_wire.specs.Octets.{are_octets, is_clean}
-use Rattle.nntp_wire.specs.Block.{AreClean}
-use Rattle.nntp_article.specs.Article.Parts.{Line}
-use Rattle.nntp_article.specs.Session.Spool.{is_line}
+use Rattle.std.{proofs.{Common.{◌≡◌, true, List, [], ◌∷◌, refl}, lemmas.Bool.{and_from, and_parts}}, specs.List.{list_all}}
+use Rattle.nntp_wire.specs.{Inner.Octets.{are_octets}, Octets.{is_clean}, Block.{AreClean}}
+use Rattle.nntp_article.specs.{Article.Parts.{Line}, Session.Spool.{is_line}}
 use Rattle.nntp_spool.proofs.value.well_formed.block_has_lines.Goals as goal
 
 -- clean lines of octets are lines

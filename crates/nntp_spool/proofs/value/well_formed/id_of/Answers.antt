@@ -1,6 +1,5 @@
 use Rattle.std.proofs.Common.{is_some, false, ap, sym}
-use Rattle.nntp_wire.specs.Decided.{is_message_id}
-use Rattle.nntp_wire.proofs.ValuesByTests.{some-test}
+use Rattle.nntp_wire.{specs.Decided.{is_message_id}, proofs.ValuesByTests.{some-test}}
 use Rattle.nntp_spool.proofs.value.well_formed.id_of.Goals as goal
 
 pub returns-in-None : goal.returns-in-None

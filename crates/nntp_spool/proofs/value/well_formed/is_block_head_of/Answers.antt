@@ -1,11 +1,7 @@
-use Rattle.std.proofs.Common.{◌≡◌, true, List, [], ◌∷◌, Option, None, Some, refl, sym, ap, ◌∙◌}
-use Rattle.std.specs.List.{list_all}
+use Rattle.std.{proofs.{Common.{◌≡◌, true, List, [], ◌∷◌, Option, None, Some, refl, sym, ap, ◌∙◌}, lemmas.Bool.{and_from}}, specs.List.{list_all}}
 use Rattle.std.specs.Option.{option_map_or}
-use Rattle.std.proofs.lemmas.Bool.{and_from}
-use Rattle.nntp_wire.specs.Octets.{is_clean}
-use Rattle.nntp_wire.specs.Block.{AreClean}
-use Rattle.nntp_article.specs.Article.Parts.{Id, Line, is_head, said_id}
-use Rattle.nntp_article.specs.Session.Machine.{is_same}
+use Rattle.nntp_wire.specs.{Octets.{is_clean}, Block.{AreClean}}
+use Rattle.nntp_article.specs.{Article.Parts.{Id, Line, is_head, said_id}, Session.Machine.{is_same}}
 use Rattle.nntp_spool.specs.Content.{is_head_of}
 use Rattle.nntp_spool.proofs.value.well_formed.is_block_head_of.Goals as goal
 

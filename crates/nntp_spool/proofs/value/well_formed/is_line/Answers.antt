@@ -1,10 +1,5 @@
-use Rattle.std.proofs.Common.{sym, ap, ◌∙◌, arith}
-use Rattle.std.specs.Prelude.{◌&&◌, ◌≡◌}
-use Rattle.std.proofs.Math.Bool.{and-true}
-use Rattle.std.proofs.lemmas.Bool.Decides.{nat_tests}
-use Rattle.nntp_wire.specs.Octets.{is_clean}
-use Rattle.nntp_wire.proofs.WordLemmas.{clean_by_search}
-use Rattle.nntp_wire.proofs.OctetLemmas.{octets-fit}
+use Rattle.std.{proofs.{Common.{sym, ap, ◌∙◌, arith}, Math.Bool.{and-true}, lemmas.Bool.Decides.{nat_tests}}, specs.Prelude.{◌&&◌, ◌≡◌}}
+use Rattle.nntp_wire.{specs.Octets.{is_clean}, proofs.{WordLemmas.{clean_by_search}, OctetLemmas.{octets-fit}}}
 use Rattle.nntp_spool.proofs.value.well_formed.is_line.Goals as goal
 
 pub returns : goal.returns

@@ -1,6 +1,5 @@
 use Rattle.std.proofs.Common.{is_some, false, ap, sym}
-use Rattle.nntp_wire.specs.Decided.{is_group_name}
-use Rattle.nntp_wire.proofs.ValuesByTests.{some-test}
+use Rattle.nntp_wire.{specs.Decided.{is_group_name}, proofs.ValuesByTests.{some-test}}
 use Rattle.nntp_spool.proofs.value.well_formed.name_of.Goals as goal
 
 pub returns-in-None : goal.returns-in-None

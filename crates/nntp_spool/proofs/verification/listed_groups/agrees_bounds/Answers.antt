@@ -1,6 +1,4 @@
-use Rattle.std.proofs.Common.{◌≡◌, ℕ, ◌≤◌, Some, is_some, sym, ap, subst, ◌∙◌}
-use Rattle.std.specs.Prelude.{unwrap_or, option_copied}
-use Rattle.std.specs.FinMap.{get, empty}
+use Rattle.std.{proofs.Common.{◌≡◌, ℕ, ◌≤◌, Some, is_some, sym, ap, subst, ◌∙◌}, specs.{Prelude.{unwrap_or, option_copied}, FinMap.{get, empty}}}
 use Rattle.nntp_article.specs.Session.Spool.{Numbers, IsNumber, numbers}
 use Rattle.nntp_spool.proofs.verification.listed_groups.agrees_bounds.Goals as goal
 

@@ -1,5 +1,4 @@
-use Rattle.std.proofs.Common.{◌≤◌, ℕ, sym, subst, ◌∙◌}
-use Rattle.std.proofs.lemmas.Bool.{true≢false}
+use Rattle.std.proofs.{Common.{◌≤◌, ℕ, sym, subst, ◌∙◌}, lemmas.Bool.{true≢false}}
 use Rattle.nntp_article.specs.Session.Spool.{Name, IsGroup, IsNumber, numbers}
 use Rattle.nntp_spool.proofs.verification.listed_groups.agrees_line.Goals as goal
 

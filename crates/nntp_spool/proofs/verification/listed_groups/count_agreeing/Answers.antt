@@ -1,8 +1,6 @@
-use Rattle.std.proofs.Common.{◌<◌, ◌^◌, length, List, sym, ap, subst, ◌∙◌, arith}
-use Rattle.std.specs.Prelude.{◌↔◌}
-use Rattle.std.specs.List.{AllByRecursion}
+use Rattle.std.{proofs.Common.{◌<◌, ◌^◌, length, List, sym, ap, subst, ◌∙◌, arith}, specs.{Prelude.{◌↔◌}, List.{AllByRecursion}}}
 use Rattle.nntp_wire.specs.Listing.{ActiveValue, active_groups}
-use Rattle.nntp_spool.specs.ListedGroups.{LineAgrees}
+use Rattle.nntp_spool.specs.Inner.ListedGroups.{LineAgrees}
 use Rattle.nntp_spool.proofs.verification.listed_groups.count_agreeing.Goals as goal
 
 pub loop-group-init : goal.loop-group-init

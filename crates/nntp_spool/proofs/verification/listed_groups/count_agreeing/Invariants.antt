@@ -1,8 +1,6 @@
-use Rattle.std.proofs.Common.{◌≡◌, ◌+◌, ◌<◌, ◌^◌, length}
-use Rattle.std.specs.Prelude.{◌↔◌}
-use Rattle.std.specs.List.{AllByRecursion}
+use Rattle.std.{proofs.Common.{◌≡◌, ◌+◌, ◌<◌, ◌^◌, length}, specs.{Prelude.{◌↔◌}, List.{AllByRecursion}}}
 use Rattle.nntp_wire.specs.Listing.{active_groups}
-use Rattle.nntp_spool.specs.ListedGroups.{LineAgrees}
+use Rattle.nntp_spool.specs.Inner.ListedGroups.{LineAgrees}
 use Rattle.nntp_spool.proofs.verification.listed_groups.count_agreeing.Given as goal
 
 abbrev pub invariant-loop-group : goal.invariant-loop-group

@@ -1,6 +1,4 @@
-use Rattle.std.proofs.Common.{sym, ◌∙◌}
-use Rattle.std.proofs.lemmas.Bool.{true≢false}
-use Rattle.std.proofs.lemmas.Bool.Decides.{Decides-eqb}
+use Rattle.std.proofs.{Common.{sym, ◌∙◌}, lemmas.Bool.{true≢false, Decides.{Decides-eqb}}}
 use Rattle.nntp_wire.specs.Listing.{active_groups}
 use Rattle.nntp_spool.proofs.ListedGroups.{agree-lines, agree-count, decided_by}
 use Rattle.nntp_spool.proofs.verification.listed_groups.lists_groups.Goals as goal

@@ -1,7 +1,6 @@
 use Rattle.std.proofs.Common.{[], ◌∙◌, ap, sym, subst}
 use Rattle.nntp_article.specs.Session.Limit.{profile_of}
-use Rattle.nntp_verdict.specs.Checking.{IsToldBad, without_session}
-use Rattle.nntp_verdict.proofs.BadLemmas.{told-alone}
+use Rattle.nntp_verdict.{specs.{Checking.{IsToldBad}, Inner.Checking.{without_session}}, proofs.BadLemmas.{told-alone}}
 use Rattle.nntp_verdict.proofs.checker.Checker.bad.Goals as goal
 
 pub returns : goal.returns

@@ -1,10 +1,7 @@
 use Rattle.std.proofs.Common.{sym, subst}
 use Rattle.nntp_article.specs.Session.Limit.{profile_of}
 use Rattle.nntp_several.specs.Told.{IsToldBadOfAll}
-use Rattle.nntp_verdict.specs.Checking.{StandsForAll}
-use Rattle.nntp_verdict.specs.CheckerView.{of_state}
-use Rattle.nntp_verdict.specs.Verdict.{sessions_verdict_shown}
-use Rattle.nntp_verdict.proofs.BadLemmas.{decided-told}
+use Rattle.nntp_verdict.{specs.{Inner.{Checking.{StandsForAll}, CheckerView.{of_state}}, Verdict.{sessions_verdict_shown}}, proofs.BadLemmas.{decided-told}}
 use Rattle.nntp_verdict.proofs.checker.Checker.bad_of_sessions.Goals as goal
 
 pub returns-in-Decided-clause-told : goal.returns-in-Decided-clause-told

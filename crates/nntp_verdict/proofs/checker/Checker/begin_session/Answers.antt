@@ -1,7 +1,5 @@
 use Rattle.std.proofs.Common.{◌∙◌, ◌≡◌, ap, sym, subst}
-use Rattle.nntp_verdict.specs.Checking.{HasBegun, decided}
-use Rattle.nntp_verdict.specs.CheckerView.{checked, of_state}
-use Rattle.nntp_verdict.specs.Verdict.{sessions_verdict_shown}
+use Rattle.nntp_verdict.specs.{Inner.{Checking.{HasBegun, decided}, CheckerView.{checked, of_state}}, Verdict.{sessions_verdict_shown}}
 use Rattle.nntp_verdict.proofs.CheckerLemmas.{begun-decided}
 use Rattle.nntp_verdict.proofs.checker.Checker.begin_session.Goals as goal
 

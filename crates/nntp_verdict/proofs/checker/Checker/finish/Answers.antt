@@ -1,8 +1,5 @@
 use Rattle.std.proofs.Common.{sym, subst}
-use Rattle.nntp_verdict.specs.Checking.{IsFinished}
-use Rattle.nntp_verdict.specs.CheckerView.{checked}
-use Rattle.nntp_verdict.specs.Verdict.{sessions_verdict_shown}
-use Rattle.nntp_verdict.proofs.CheckerLemmas.{finished-alone}
+use Rattle.nntp_verdict.{specs.{Inner.{Checking.{IsFinished}, CheckerView.{checked}}, Verdict.{sessions_verdict_shown}}, proofs.CheckerLemmas.{finished-alone}}
 use Rattle.nntp_verdict.proofs.checker.Checker.finish.Goals as goal
 
 pub returns : goal.returns

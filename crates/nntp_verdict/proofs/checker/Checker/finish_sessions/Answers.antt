@@ -1,9 +1,7 @@
 use Rattle.std.proofs.Common.{ap, sym, subst}
 use Rattle.nntp_article.specs.Session.Limit.{profile_of}
-use Rattle.nntp_verdict.specs.Checking.{Held, HasPassed, StandsForAll, has_failed, IsFinishedOfAll}
-use Rattle.nntp_verdict.specs.CheckerView.{of_state}
-use Rattle.nntp_verdict.specs.Verdict.{sessions_verdict_shown}
-use Rattle.nntp_verdict.proofs.CheckerLemmas.{decided-verdict}
+use Rattle.nntp_verdict.specs.Inner.{Checking.{Held, HasPassed, StandsForAll, has_failed, IsFinishedOfAll}, CheckerView.{of_state}}
+use Rattle.nntp_verdict.{specs.Verdict.{sessions_verdict_shown}, proofs.CheckerLemmas.{decided-verdict}}
 use Rattle.nntp_verdict.proofs.checker.Checker.finish_sessions.Goals as goal
 
 pub returns-in-Decided : goal.returns-in-Decided

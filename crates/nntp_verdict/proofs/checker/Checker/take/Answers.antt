@@ -1,9 +1,6 @@
 use Rattle.std.proofs.Common.{◌∙◌, ◌≡◌, ◌+◌, ◌^◌, ◌<◌, length, ap, sym, subst}
-use Rattle.nntp_pair.specs.Sides.{given, count_of, counted}
-use Rattle.nntp_pair.specs.declared.side.Side.TheVariants.{Client, Server}
-use Rattle.nntp_verdict.specs.Checking.{IsTaken, decided, counts_of}
-use Rattle.nntp_verdict.specs.CheckerView.{checked, of_state}
-use Rattle.nntp_verdict.specs.Verdict.{sessions_verdict_shown}
+use Rattle.nntp_pair.specs.{Inner.Sides.{given, count_of, counted}, declared.side.Side.TheVariants.{Client, Server}}
+use Rattle.nntp_verdict.specs.{Inner.{Checking.{IsTaken, decided, counts_of}, CheckerView.{checked, of_state}}, Verdict.{sessions_verdict_shown}}
 use Rattle.nntp_verdict.proofs.CheckerLemmas.{taken-decided}
 use Rattle.nntp_verdict.proofs.checker.Checker.take.Goals as goal
 

@@ -1,9 +1,6 @@
 use Rattle.std.proofs.Common.{sym, subst, ◌∙◌}
-use Rattle.nntp_pair.specs.Feeding.{left_of}
-use Rattle.nntp_verdict.specs.Checking.{Held, HasPassed}
-use Rattle.nntp_verdict.proofs.JudgeLemmas.{as-many-ended}
-use Rattle.nntp_verdict.proofs.CheckerLemmas.{passed-now}
-use Rattle.nntp_verdict.proofs.BadLemmas.{told, untold}
+use Rattle.nntp_pair.specs.Inner.Feeding.{left_of}
+use Rattle.nntp_verdict.{specs.Inner.Checking.{Held, HasPassed}, proofs.{JudgeLemmas.{as-many-ended}, CheckerLemmas.{passed-now}, BadLemmas.{told, untold}}}
 use Rattle.nntp_verdict.proofs.checker.Ongoing.bad.Goals as goal
 
 pub returns-in-Bad : goal.returns-in-Bad

@@ -1,12 +1,9 @@
 use Rattle.std.proofs.Common.{[], ◌∷◌, ◌++◌, ap, refl, sym, subst}
 use Rattle.nntp_article.specs.Session.Limit.{profile_of}
-use Rattle.nntp_facts.specs.Noted.{profile_kept}
-use Rattle.nntp_pair.specs.Feeding.{Fed}
-use Rattle.nntp_verdict.specs.Checking.{Held, HasBegun, judging, unrecorded}
-use Rattle.nntp_verdict.specs.CheckerView.{of_state}
-use Rattle.nntp_verdict.specs.Verdict.{sessions_verdict_shown}
-use Rattle.nntp_verdict.proofs.JudgeLemmas.{passes, refuses}
-use Rattle.nntp_verdict.proofs.CheckerLemmas.{held, session-begins, begun-told}
+use Rattle.nntp_facts.specs.Inner.Noted.{profile_kept}
+use Rattle.nntp_pair.specs.Inner.Feeding.{Fed}
+use Rattle.nntp_verdict.specs.{Inner.{Checking.{Held, HasBegun, judging, unrecorded}, CheckerView.{of_state}}, Verdict.{sessions_verdict_shown}}
+use Rattle.nntp_verdict.proofs.{JudgeLemmas.{passes, refuses}, CheckerLemmas.{held, session-begins, begun-told}}
 use Rattle.nntp_verdict.proofs.checker.Ongoing.begin_session.Goals as goal
 
 pub end_session-requires : goal.end_session-requires

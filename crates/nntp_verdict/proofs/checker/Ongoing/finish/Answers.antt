@@ -1,9 +1,8 @@
 use Rattle.std.proofs.Common.{[], ◌∷◌, ◌++◌, sym, subst}
 use Rattle.nntp_article.specs.Session.Limit.{profile_of}
-use Rattle.nntp_facts.specs.Noted.{profile_kept}
+use Rattle.nntp_facts.specs.Inner.Noted.{profile_kept}
 use Rattle.nntp_witness.proofs.Aims.{noted_as_kept}
-use Rattle.nntp_verdict.specs.Checking.{Held, HasPassed}
-use Rattle.nntp_verdict.proofs.JudgeLemmas.{passes, refuses, told_of}
+use Rattle.nntp_verdict.{specs.Inner.Checking.{Held, HasPassed}, proofs.JudgeLemmas.{passes, refuses, told_of}}
 use Rattle.nntp_verdict.proofs.checker.Ongoing.finish.Goals as goal
 
 pub end_session-requires : goal.end_session-requires

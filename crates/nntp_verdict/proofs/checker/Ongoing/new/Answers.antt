@@ -1,8 +1,7 @@
 use Rattle.std.proofs.Common.{[], ap}
-use Rattle.nntp_pair.specs.Feeding.{Fed}
+use Rattle.nntp_pair.specs.Inner.Feeding.{Fed}
 use Rattle.nntp_article.specs.Session.Limit.{profile_of}
-use Rattle.nntp_verdict.specs.Checking.{unrecorded}
-use Rattle.nntp_verdict.proofs.CheckerLemmas.{held, session-begins}
+use Rattle.nntp_verdict.{specs.Inner.Checking.{unrecorded}, proofs.CheckerLemmas.{held, session-begins}}
 use Rattle.nntp_verdict.proofs.checker.Ongoing.new.Goals as goal
 
 pub invariant_of-result : goal.invariant_of-result

@@ -1,12 +1,9 @@
 use Rattle.std.proofs.Common.{sym, subst}
-use Rattle.nntp_facts.specs.Noted.{profile_kept}
-use Rattle.nntp_pair.specs.Sides.{given}
-use Rattle.nntp_pair.specs.declared.side.Side.TheVariants.{Client, Server}
+use Rattle.nntp_facts.specs.Inner.Noted.{profile_kept}
+use Rattle.nntp_pair.specs.{Inner.Sides.{given}, declared.side.Side.TheVariants.{Client, Server}}
 use Rattle.nntp_several.specs.Told.{with_more}
-use Rattle.nntp_verdict.specs.Checking.{Held, IsTaken, StandsForAll, judging, decided}
-use Rattle.nntp_verdict.specs.Verdict.{sessions_verdict_shown}
-use Rattle.nntp_verdict.proofs.JudgeLemmas.{passes, refuses}
-use Rattle.nntp_verdict.proofs.CheckerLemmas.{held, keeps-taken, taken-whole, taken-judging}
+use Rattle.nntp_verdict.{specs.{Inner.Checking.{Held, IsTaken, StandsForAll, judging, decided}, Verdict.{sessions_verdict_shown}}, proofs.JudgeLemmas.{passes}}
+use Rattle.nntp_verdict.proofs.{JudgeLemmas.{refuses}, CheckerLemmas.{held, keeps-taken, taken-whole, taken-judging}}
 use Rattle.nntp_verdict.proofs.checker.Ongoing.take.Goals as goal
 
 pub go_on-requires : goal.go_on-requires

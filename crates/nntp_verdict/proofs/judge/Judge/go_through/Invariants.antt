@@ -1,9 +1,8 @@
 use Rattle.std.proofs.Common.{List, length}
-use Rattle.nntp_wire.specs.declared.limit.Limit.{Limit}
-use Rattle.nntp_wire.specs.declared.marks.Marks.{Marks}
+use Rattle.nntp_wire.specs.declared.{limit.Limit.{Limit}, marks.Marks.{Marks}}
 use Rattle.nntp_article.specs.Session.Limit.{profile_of}
 use Rattle.nntp_several.specs.Sessions.{Recorded}
-use Rattle.nntp_verdict.specs.Judging.{HaveEnded, Passed}
+use Rattle.nntp_verdict.specs.Inner.Judging.{HaveEnded, Passed}
 use Rattle.nntp_verdict.proofs.judge.Judge.go_through.Given as goal
 
 abbrev pub invariant-loop-exchange : goal.invariant-loop-exchange

@@ -1,7 +1,6 @@
 use Rattle.std.proofs.Common.{take}
 use Rattle.nntp_article.specs.Session.Limit.{profile_of}
-use Rattle.nntp_verdict.specs.Verdict.{sessions_verdict_shown}
-use Rattle.nntp_verdict.proofs.JudgeLemmas.{passes, refuses, from-here, ended-next, ended-all}
+use Rattle.nntp_verdict.{specs.Verdict.{sessions_verdict_shown}, proofs.JudgeLemmas.{passes, refuses, from-here, ended-next, ended-all}}
 use Rattle.nntp_verdict.proofs.judge.Judge.go_through_all.Goals as goal
 
 pub loop-session-init : goal.loop-session-init

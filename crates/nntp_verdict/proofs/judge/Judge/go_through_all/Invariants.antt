@@ -1,8 +1,7 @@
 use Rattle.std.proofs.Common.{[], take}
-use Rattle.nntp_wire.specs.declared.limit.Limit.{Limit}
-use Rattle.nntp_wire.specs.declared.marks.Marks.{Marks}
+use Rattle.nntp_wire.specs.declared.{limit.Limit.{Limit}, marks.Marks.{Marks}}
 use Rattle.nntp_article.specs.Session.Limit.{profile_of}
-use Rattle.nntp_verdict.specs.Judging.{HaveEnded}
+use Rattle.nntp_verdict.specs.Inner.Judging.{HaveEnded}
 use Rattle.nntp_verdict.proofs.judge.Judge.go_through_all.Given as goal
 
 -- the sessions so far have ended

@@ -1,8 +1,6 @@
-use Rattle.std.proofs.Common.{sym, subst}
-use Rattle.std.specs.Option.{option_copied}
+use Rattle.std.{proofs.Common.{sym, subst}, specs.Option.{option_copied}}
 use Rattle.nntp_article.specs.Session.Limit.{profile_of}
-use Rattle.nntp_verdict.specs.Judging.{IsVerdictFrom}
-use Rattle.nntp_verdict.proofs.JudgeLemmas.{one-more, refused}
+use Rattle.nntp_verdict.{specs.Inner.Judging.{IsVerdictFrom}, proofs.JudgeLemmas.{one-more, refused}}
 use Rattle.nntp_verdict.proofs.judge.Judge.note.Goals as goal
 
 pub returns-in_default-class_noted-clause-judged : goal.returns-in_default-class_noted-clause-judged

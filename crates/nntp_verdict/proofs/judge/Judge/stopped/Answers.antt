@@ -1,13 +1,9 @@
-use Rattle.std.proofs.Common.{List}
-use Rattle.std.specs.Option.{option_copied}
-use Rattle.nntp_wire.specs.declared.limit.Limit.{Limit}
-use Rattle.nntp_wire.specs.declared.marks.Marks.{Marks}
+use Rattle.std.{proofs.Common.{List}, specs.Option.{option_copied}}
+use Rattle.nntp_wire.specs.declared.{limit.Limit.{Limit}, marks.Marks.{Marks}}
 use Rattle.nntp_article.specs.Session.Limit.{profile_of}
 use Rattle.nntp_pair.specs.Pairing.{Unpaired}
 use Rattle.nntp_several.specs.Sessions.{Recorded}
-use Rattle.nntp_verdict.specs.Judging.{IsVerdictFrom, Passed, StopsHere}
-use Rattle.nntp_verdict.specs.Verdict.{JudgementOfAll}
-use Rattle.nntp_verdict.proofs.JudgeLemmas.{stopped, told}
+use Rattle.nntp_verdict.{specs.{Inner.Judging.{IsVerdictFrom, Passed, StopsHere}, Verdict.{JudgementOfAll}}, proofs.JudgeLemmas.{stopped, told}}
 use Rattle.nntp_verdict.proofs.judge.Judge.stopped.Goals as goal
 
 pub returns-clause-verdict : goal.returns-clause-verdict

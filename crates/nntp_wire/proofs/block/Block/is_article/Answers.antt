@@ -1,12 +1,6 @@
-use Rattle.std.proofs.Common.{◌≡◌, ◌≢◌, ◌++◌, ◌∷◌, [], List, ℕ, sym, subst, ap, ◌∙◌}
-use Rattle.std.proofs.lemmas.Bool.{false≢true}
-use Rattle.std.proofs.lemmas.Bool.Decides.{Decides-eqb}
-use Rattle.std.proofs.lemmas.List.{append_cancel_left}
-use Rattle.std.proofs.lemmas.Slice.Eq.{strip_prefix_is, slice_eq-Decides}
-use Rattle.std.specs.Option.{MatchOption}
-use Rattle.nntp_wire.specs.Octets.{crlf}
-use Rattle.nntp_wire.specs.Block.{Sends, sent}
-use Rattle.nntp_wire.proofs.SubBlockLemmas.{article-iff, sent-append}
+use Rattle.std.proofs.{Common.{◌≡◌, ◌≢◌, ◌++◌, ◌∷◌, [], List, ℕ, sym, subst, ap, ◌∙◌}, lemmas.Bool.{false≢true, Decides.{Decides-eqb}}}
+use Rattle.std.{proofs.lemmas.{List.{append_cancel_left}, Slice.Eq.{strip_prefix_is, slice_eq-Decides}}, specs.Option.{MatchOption}}
+use Rattle.nntp_wire.{specs.{Octets.{crlf}, Inner.Block.{Sends}, Block.{sent}}, proofs.SubBlockLemmas.{article-iff, sent-append}}
 use Rattle.nntp_wire.proofs.block.Block.is_article.Goals as goal
 
 pub returns-in_default : goal.returns-in_default

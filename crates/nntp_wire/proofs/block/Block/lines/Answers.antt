@@ -1,6 +1,5 @@
 use Rattle.std.proofs.Common.{ap, length, arith}
-use Rattle.nntp_wire.specs.Block.{received}
-use Rattle.nntp_wire.proofs.SubBlockLemmas.{length-lines}
+use Rattle.nntp_wire.{specs.Inner.Block.{received}, proofs.SubBlockLemmas.{length-lines}}
 use Rattle.nntp_wire.proofs.block.Block.lines.Goals as goal
 
 pub returns-clause-short : goal.returns-clause-short

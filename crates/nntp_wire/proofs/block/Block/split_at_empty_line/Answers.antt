@@ -1,14 +1,11 @@
-use Rattle.std.proofs.Common.{◌∙◌, ◌≡◌, ap, arith, length, subst, sym}
-use Rattle.std.proofs.lemmas.Bool.{false≢true}
-use Rattle.std.proofs.lemmas.Bool.Decides.{Decides-eqb}
-use Rattle.std.proofs.lemmas.Slice.Eq.{slice_eq-Decides}
-use Rattle.nntp_wire.specs.Block.{HasNoEmptyLine}
-use Rattle.nntp_wire.specs.Octets.{crlf}
-use Rattle.nntp_wire.proofs.EmptyLineLemmas.{IsSplit, nonempty-start, nonempty-more, nonempty-end, next-is, next-fits, split-empty}
+use Rattle.std.proofs.{Common.{◌∙◌, ◌≡◌, ap, arith, length, subst, sym}, lemmas.{Bool.{false≢true, Decides.{Decides-eqb}}, Slice.Eq.{slice_eq-Decides}}}
+use Rattle.nntp_wire.{specs.{Inner.Block.{HasNoEmptyLine}, Octets.{crlf}}, proofs.EmptyLineLemmas.{IsSplit, nonempty-start, nonempty-more, nonempty-end}}
+use Rattle.nntp_wire.proofs.EmptyLineLemmas.{next-is, next-fits, split-empty}
 use Rattle.nntp_wire.proofs.block.Block.split_at_empty_line.Goals as goal
 
 pub loop-line-init : goal.loop-line-init
-loop-line-init c = nonempty-start c.self.inside.sent.now c.into_iter-line-iterator.result c.self.invariant (c.into_iter-line-iterator.ensures.into_iter_gives ∙ c.lines_with_terminator-line-items.ensures.value)
+loop-line-init c = nonempty-start c.self.inside.sent.now c.into_iter-line-iterator.result c.self.invariant (c.into_iter-line-iterator.ensures.into_iter_gives
+    ∙ c.lines_with_terminator-line-items.ensures.value)
 
 pub split_at-requires : goal.split_at-requires
 split_at-requires c =

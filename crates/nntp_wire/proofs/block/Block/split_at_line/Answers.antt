@@ -1,6 +1,5 @@
 use Rattle.std.proofs.Common.{take, drop, ◌∙◌, sym, ap, subst}
-use Rattle.nntp_wire.specs.Block.{Sends}
-use Rattle.nntp_wire.proofs.SubBlockLemmas.{front_sends, back_sends, received-of}
+use Rattle.nntp_wire.{specs.Inner.Block.{Sends}, proofs.SubBlockLemmas.{front_sends, back_sends, received-of}}
 use Rattle.nntp_wire.proofs.block.Block.split_at_line.Goals as goal
 
 pub invariant_of-result : goal.invariant_of-result

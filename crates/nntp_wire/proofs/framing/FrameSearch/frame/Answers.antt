@@ -1,13 +1,7 @@
 use Rattle.std.proofs.Common.{◌≡◌, ◌∙◌, ◌+◌, ◌-◌, ℕ, Bool, Option, ap, List, ◌++◌, length, take, refl, sym, subst, arith, length-append, true}
-use Rattle.nntp_wire.specs.Octets.{crlf}
-use Rattle.nntp_wire.specs.Lines.{HasNoCrlf}
-use Rattle.nntp_wire.specs.Block.{dot_line, end_of_block}
-use Rattle.nntp_wire.specs.Answer.{Asked, code_of}
-use Rattle.nntp_wire.specs.Frame.{is_due_by}
-use Rattle.nntp_wire.specs.Search.{IsSearched, IsThrough}
-use Rattle.nntp_wire.specs.declared.search.Search.{Search}
-use Rattle.nntp_wire.specs.declared.search.Search.TheVariants.{Found}
-use Rattle.nntp_wire.proofs.FrameLemmas.{no_line_no_frame, undue_frame, due_frame, no_block_no_frame, block_found, IsBlockAt}
+use Rattle.nntp_wire.specs.{Octets.{crlf}, Lines.{HasNoCrlf}, Block.{dot_line}, Inner.{Block.{end_of_block}, Search.{IsSearched, IsThrough}}, Answer.{Asked}}
+use Rattle.nntp_wire.{specs.{Answer.{code_of}, Frame.{is_due_by}, declared.search.Search.{Search, TheVariants.{Found}}}, proofs.FrameLemmas.{no_line_no_frame}}
+use Rattle.nntp_wire.proofs.FrameLemmas.{undue_frame, due_frame, no_block_no_frame, block_found, IsBlockAt}
 use Rattle.nntp_wire.proofs.framing.FrameSearch.frame.Goals as goal
 
 -- what the search for the block's end found

@@ -1,10 +1,5 @@
-use Rattle.std.proofs.Common.{◌≡◌, ◌∙◌, ◌++◌, ℕ, List, Option, sym, ap}
-use Rattle.std.proofs.lemmas.Bool.{false≢true}
-use Rattle.nntp_wire.specs.Octets.{crlf}
-use Rattle.nntp_wire.specs.Lines.{HasNoCrlf}
-use Rattle.nntp_wire.specs.Answer.{code_of}
-use Rattle.nntp_wire.specs.Frame.{is_due_by}
-use Rattle.nntp_wire.proofs.FrameLemmas.{one_line, no_line_first}
+use Rattle.std.proofs.{Common.{◌≡◌, ◌∙◌, ◌++◌, ℕ, List, Option, sym, ap}, lemmas.Bool.{false≢true}}
+use Rattle.nntp_wire.{specs.{Octets.{crlf}, Lines.{HasNoCrlf}, Answer.{code_of}, Frame.{is_due_by}}, proofs.FrameLemmas.{one_line, no_line_first}}
 use Rattle.nntp_wire.proofs.framing.FrameSearch.go_on.Goals as goal
 
 -- what is read of the line that the search split off is read of each first line

@@ -1,4 +1,4 @@
-use Rattle.nntp_wire.specs.Block.{end_of_block}
+use Rattle.nntp_wire.specs.Inner.Block.{end_of_block}
 use Rattle.nntp_wire.proofs.framing.FrameSearch.new.Goals as goal
 
 pub returns-clause-searched : goal.returns-clause-searched

@@ -1,8 +1,5 @@
-use Rattle.std.proofs.Common.{IsTrue, ap, length, arith, subst, ◌∙◌}
-use Rattle.std.specs.List.{list_all}
-use Rattle.nntp_wire.specs.Octets.{are_octets}
-use Rattle.nntp_wire.specs.Block.{AreClean, received}
-use Rattle.nntp_wire.proofs.SubBlockLemmas.{length-lines}
+use Rattle.std.{proofs.Common.{IsTrue, ap, length, arith, subst, ◌∙◌}, specs.List.{list_all}}
+use Rattle.nntp_wire.{specs.{Inner.{Octets.{are_octets}, Block.{received}}, Block.{AreClean}}, proofs.SubBlockLemmas.{length-lines}}
 use Rattle.nntp_wire.proofs.owned_block.OwnedBlock.as_block.Goals as goal
 
 pub returns-clause-clean : goal.returns-clause-clean

@@ -1,6 +1,5 @@
 use Rattle.std.proofs.Common.{[]}
-use Rattle.nntp_wire.proofs.BlockLemmas.{sends-received}
-use Rattle.nntp_wire.proofs.SubBlockLemmas.{received-of}
+use Rattle.nntp_wire.proofs.{BlockLemmas.{sends-received}, SubBlockLemmas.{received-of}}
 use Rattle.nntp_wire.proofs.owned_block.OwnedBlock.new.Goals as goal
 
 pub invariant_of-result : goal.invariant_of-result

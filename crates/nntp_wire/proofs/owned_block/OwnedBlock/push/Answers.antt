@@ -1,7 +1,5 @@
 use Rattle.std.proofs.Common.{◌++◌, ◌∷◌, [], ap, ◌∙◌}
-use Rattle.nntp_wire.specs.Block.{received}
-use Rattle.nntp_wire.proofs.BlockLemmas.{sends-received}
-use Rattle.nntp_wire.proofs.SubBlockLemmas.{received-of, sends-snoc}
+use Rattle.nntp_wire.{specs.Inner.Block.{received}, proofs.{BlockLemmas.{sends-received}, SubBlockLemmas.{received-of, sends-snoc}}}
 use Rattle.nntp_wire.proofs.owned_block.OwnedBlock.push.Goals as goal
 
 pub invariant_of-self : goal.invariant_of-self

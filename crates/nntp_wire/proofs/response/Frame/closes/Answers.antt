@@ -1,7 +1,5 @@
 use Rattle.std.proofs.Common.{◌≡◌, ◌∙◌, ℕ, Option, None, Some, ap}
-use Rattle.nntp_wire.specs.Answer.{plain}
-use Rattle.nntp_wire.specs.Session.{closes}
-use Rattle.nntp_wire.proofs.ClosingLemmas.{spelled-closes}
+use Rattle.nntp_wire.{specs.{Answer.{plain}, Session.{closes}}, proofs.ClosingLemmas.{spelled-closes}}
 use Rattle.nntp_wire.proofs.response.Frame.closes.Goals as goal
 
 pub returns-in-Some : goal.returns-in-Some

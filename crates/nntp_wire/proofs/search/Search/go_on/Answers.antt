@@ -1,6 +1,5 @@
 use Rattle.std.proofs.Common.{subst}
-use Rattle.nntp_wire.specs.Search.{IsSearched, IsPassed}
-use Rattle.nntp_wire.proofs.SearchLemmas.{found-ahead, nowhere-ahead, all-passed}
+use Rattle.nntp_wire.{specs.Inner.Search.{IsSearched, IsPassed}, proofs.SearchLemmas.{found-ahead, nowhere-ahead, all-passed}}
 use Rattle.nntp_wire.proofs.search.Search.go_on.Goals as goal
 
 pub returns-in-Some-clause-searched : goal.returns-in-Some-clause-searched

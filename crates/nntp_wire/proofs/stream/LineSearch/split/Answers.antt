@@ -1,8 +1,5 @@
 use Rattle.std.proofs.Common.{◌∙◌, subst, ap, take, drop}
-use Rattle.nntp_wire.specs.Octets.{crlf}
-use Rattle.nntp_wire.specs.Lines.{lines_of_stream}
-use Rattle.nntp_wire.specs.Search.{IsSearched, IsThrough}
-use Rattle.nntp_wire.proofs.FrameLemmas.{line_found}
+use Rattle.nntp_wire.{specs.{Octets.{crlf}, Lines.{lines_of_stream}, Inner.Search.{IsSearched, IsThrough}}, proofs.FrameLemmas.{line_found}}
 use Rattle.nntp_wire.proofs.StreamLemmas.{lines-none, lines-first}
 use Rattle.nntp_wire.proofs.stream.LineSearch.split.Goals as goal
 

@@ -1,6 +1,4 @@
-use Rattle.std.proofs.Common.{◌∙◌}
-use Rattle.std.specs.Rc.{rc_str_bytes}
-use Rattle.std.proofs.lemmas.Result.{err_from_is_err_and}
+use Rattle.std.{proofs.{Common.{◌∙◌}, lemmas.Result.{err_from_is_err_and}}, specs.Rc.{rc_str_bytes}}
 use Rattle.nntp_article.specs.Session.Spool.{Text}
 use Rattle.nntp_witness.proofs.ArticleSteps.{article_added}
 use Rattle.nntp_witness.proofs.maker.SpoolMaker.add_article.Goals as goal

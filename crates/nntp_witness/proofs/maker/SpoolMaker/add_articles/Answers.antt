@@ -1,9 +1,6 @@
-use Rattle.std.proofs.Common.{List, [], sym, subst, ◌∙◌}
-use Rattle.std.proofs.lemmas.Result.{err_from_is_err_and}
-use Rattle.nntp_facts.specs.Readers.{ShownArticle, AreShownArticles}
-use Rattle.nntp_witness.specs.Making.{Makes, ArticlesLeft}
-use Rattle.nntp_witness.proofs.Aims.{so_of_said}
-use Rattle.nntp_witness.proofs.ArticleSteps.{articles_start}
+use Rattle.std.proofs.{Common.{List, [], sym, subst, ◌∙◌}, lemmas.Result.{err_from_is_err_and}}
+use Rattle.nntp_facts.specs.Inner.Readers.{ShownArticle, AreShownArticles}
+use Rattle.nntp_witness.{specs.Inner.Making.{Makes, ArticlesLeft}, proofs.{Aims.{so_of_said}, ArticleSteps.{articles_start}}}
 use Rattle.nntp_witness.proofs.maker.SpoolMaker.add_articles.Goals as goal
 
 pub loop-article-init : goal.loop-article-init

@@ -1,8 +1,7 @@
 use Rattle.std.proofs.Common.{List, []}
 use Rattle.nntp_article.specs.Session.Spool.{Spool as SpoolValue}
 use Rattle.nntp_said.specs.Facts.{Fact}
-use Rattle.nntp_witness.specs.Witness.{HaveNoted, IsGivenSpool}
-use Rattle.nntp_witness.specs.Making.{GroupsLeft, ArticlesLeft}
+use Rattle.nntp_witness.specs.Inner.{Witness.{HaveNoted, IsGivenSpool}, Making.{GroupsLeft, ArticlesLeft}}
 use Rattle.nntp_witness.proofs.maker.SpoolMaker.add_articles.Given as goal
 
 -- the articles that are left are those that the reader has left

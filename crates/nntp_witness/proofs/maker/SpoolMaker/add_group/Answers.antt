@@ -1,8 +1,5 @@
-use Rattle.std.proofs.Common.{◌∙◌, ◌++◌, [], refl}
-use Rattle.std.proofs.lemmas.Result.{err_from_is_err_and}
-use Rattle.nntp_witness.specs.Making.{unshown_of, unseen_number}
-use Rattle.nntp_witness.proofs.Faults.{memory_passed}
-use Rattle.nntp_witness.proofs.GroupSteps.{group_refused, numbers_next, group_makes}
+use Rattle.std.proofs.{Common.{◌∙◌, ◌++◌, [], refl}, lemmas.Result.{err_from_is_err_and}}
+use Rattle.nntp_witness.{specs.Inner.Making.{unshown_of, unseen_number}, proofs.{Faults.{memory_passed}, GroupSteps.{group_refused, numbers_next, group_makes}}}
 use Rattle.nntp_witness.proofs.maker.SpoolMaker.add_group.Goals as goal
 
 pub returns-in_err-group : goal.returns-in_err-group

@@ -1,7 +1,5 @@
-use Rattle.std.proofs.Common.{◌∷◌, option_map, ap, subst}
-use Rattle.std.specs.Rc.{rc_str_bytes}
-use Rattle.nntp_witness.specs.Making.{NumbersLeft}
-use Rattle.nntp_witness.proofs.NumberSteps.{shown_makes}
+use Rattle.std.{proofs.Common.{◌∷◌, option_map, ap, subst}, specs.Rc.{rc_str_bytes}}
+use Rattle.nntp_witness.{specs.Inner.Making.{NumbersLeft}, proofs.NumberSteps.{shown_makes}}
 use Rattle.nntp_witness.proofs.maker.SpoolMaker.add_number.Goals as goal
 
 pub returns-in-Some : goal.returns-in-Some

@@ -1,7 +1,6 @@
-use Rattle.std.proofs.Common.{List, ◌++◌, ℕ, Option, subst, ◌∙◌}
-use Rattle.std.proofs.lemmas.Result.{err_from_is_err_and}
+use Rattle.std.proofs.{Common.{List, ◌++◌, ℕ, Option, subst, ◌∙◌}, lemmas.Result.{err_from_is_err_and}}
 use Rattle.nntp_article.specs.Article.Parts.{Id}
-use Rattle.nntp_witness.specs.Making.{NumbersLeft}
+use Rattle.nntp_witness.specs.Inner.Making.{NumbersLeft}
 use Rattle.nntp_witness.proofs.maker.SpoolMaker.add_shown.Goals as goal
 
 pub loop-shown-init : goal.loop-shown-init

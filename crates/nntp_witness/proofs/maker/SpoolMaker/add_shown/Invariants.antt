@@ -1,9 +1,7 @@
 use Rattle.std.proofs.Common.{ℕ, List, ◌++◌, Option}
-use Rattle.nntp_article.specs.Article.Parts.{Id}
-use Rattle.nntp_article.specs.Session.Spool.{Spool}
+use Rattle.nntp_article.specs.{Article.Parts.{Id}, Session.Spool.{Spool}}
 use Rattle.nntp_said.specs.Facts.{Fact}
-use Rattle.nntp_witness.specs.Witness.{HaveNoted, IsGivenSpool}
-use Rattle.nntp_witness.specs.Making.{NumbersLeft}
+use Rattle.nntp_witness.specs.Inner.{Witness.{HaveNoted, IsGivenSpool}, Making.{NumbersLeft}}
 use Rattle.nntp_witness.proofs.maker.SpoolMaker.add_shown.Given as goal
 
 -- the numbers that are left are those that the reader has left, and those behind them

@@ -1,5 +1,5 @@
 use Rattle.std.proofs.Common.{◌++◌, subst}
-use Rattle.nntp_witness.specs.Making.{NumbersLeft, unseen_number}
+use Rattle.nntp_witness.specs.Inner.Making.{NumbersLeft, unseen_number}
 use Rattle.nntp_witness.proofs.maker.SpoolMaker.add_unseen.Goals as goal
 
 pub returns-in-Some : goal.returns-in-Some

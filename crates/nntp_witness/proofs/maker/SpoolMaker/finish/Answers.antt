@@ -1,6 +1,5 @@
 use Rattle.std.proofs.Common.{◌≡◌, refl, sym, subst, ◌∙◌}
-use Rattle.nntp_witness.specs.Making.{Makes}
-use Rattle.nntp_witness.proofs.WholeWitness.{finished_is_given}
+use Rattle.nntp_witness.{specs.Inner.Making.{Makes}, proofs.WholeWitness.{finished_is_given}}
 use Rattle.nntp_witness.proofs.maker.SpoolMaker.finish.Goals as goal
 
 pub returns-clause-given : goal.returns-clause-given

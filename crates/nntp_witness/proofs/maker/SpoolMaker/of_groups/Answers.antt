@@ -1,11 +1,7 @@
 use Rattle.std.proofs.Common.{◌∷◌, ◌∙◌, false, ap, sym, subst}
-use Rattle.nntp_facts.specs.Readers.{AreShownGroups}
-use Rattle.nntp_spool.specs.Building.{Building}
-use Rattle.nntp_spool.specs.Content.{no_spool}
-use Rattle.nntp_witness.specs.Making.{GroupsLeft}
-use Rattle.nntp_witness.proofs.Aims.{so_of_said}
-use Rattle.nntp_witness.proofs.Faults.{memory_passed}
-use Rattle.nntp_witness.proofs.GroupsInOrder.{all_left}
+use Rattle.nntp_facts.specs.Inner.Readers.{AreShownGroups}
+use Rattle.nntp_spool.specs.{Inner.Building.{Building}, Content.{no_spool}}
+use Rattle.nntp_witness.{specs.Inner.Making.{GroupsLeft}, proofs.{Aims.{so_of_said}, Faults.{memory_passed}, GroupsInOrder.{all_left}}}
 use Rattle.nntp_witness.proofs.maker.SpoolMaker.of_groups.Goals as goal
 
 pub loop-group-init : goal.loop-group-init

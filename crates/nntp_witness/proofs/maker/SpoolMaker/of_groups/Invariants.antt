@@ -1,8 +1,7 @@
 use Rattle.std.proofs.Common.{List}
 use Rattle.nntp_article.specs.Session.Spool.{Spool as SpoolValue}
 use Rattle.nntp_said.specs.Facts.{Fact}
-use Rattle.nntp_witness.specs.Witness.{HaveNoted, IsGivenSpool}
-use Rattle.nntp_witness.specs.Making.{GroupsLeft}
+use Rattle.nntp_witness.specs.Inner.{Witness.{HaveNoted, IsGivenSpool}, Making.{GroupsLeft}}
 use Rattle.nntp_witness.proofs.maker.SpoolMaker.of_groups.Given as goal
 
 -- the groups that the iterator has are left

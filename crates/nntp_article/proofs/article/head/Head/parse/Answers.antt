@@ -1,9 +1,5 @@
-use Rattle.std.proofs.Common.{◌≡◌, ◌∷◌, sym, ◌∙◌, ap, refl}
-use Rattle.std.specs.Prelude.{◌&&◌}
-use Rattle.std.specs.List.{list_all}
-use Rattle.nntp_article.specs.Article.Parts.{is_head_line}
-use Rattle.nntp_article.specs.Article.SaidId.{id_by}
-use Rattle.nntp_article.proofs.ArticleLemmas.HeadLemmas.{is_head-parts}
+use Rattle.std.{proofs.Common.{◌≡◌, ◌∷◌, sym, ◌∙◌, ap, refl}, specs.{Prelude.{◌&&◌}, List.{list_all}}}
+use Rattle.nntp_article.{specs.Inner.{Parts.{is_head_line}, SaidId.{id_by}}, proofs.ArticleLemmas.HeadLemmas.{is_head-parts}}
 use Rattle.nntp_article.proofs.article.head.Head.parse.Goals as goal
 
 pub loop-line-init : goal.loop-line-init

@@ -1,7 +1,5 @@
-use Rattle.std.proofs.Common.{◌≡◌}
-use Rattle.std.specs.List.{list_all}
-use Rattle.nntp_article.specs.Article.Parts.{is_head, is_head_line, said_id}
-use Rattle.nntp_article.specs.Article.SaidId.{id_by}
+use Rattle.std.{proofs.Common.{◌≡◌}, specs.List.{list_all}}
+use Rattle.nntp_article.specs.{Article.Parts.{is_head, said_id}, Inner.{Parts.{is_head_line}, SaidId.{id_by}}}
 use Rattle.nntp_article.proofs.article.head.Head.parse.Given as goal
 
 -- the lines that are left decide, and what they say with what is known so far

@@ -1,12 +1,8 @@
-use Rattle.std.proofs.Common.{◌∙◌, ap}
-use Rattle.std.proofs.lemmas.Bool.{false_from_ne_true}
-use Rattle.std.specs.List.{flat_map}
+use Rattle.std.{proofs.{Common.{◌∙◌, ap}, lemmas.Bool.{false_from_ne_true}}, specs.List.{flat_map}}
 use Rattle.nntp_wire.specs.Words.{words_of}
-use Rattle.nntp_article.specs.Article.SaidId.{names_id, id_with, ids_behind}
-use Rattle.nntp_article.proofs.ArticleLemmas.HeadLemmas.{more}
-use Rattle.nntp_article.proofs.ArticleLemmas.SaidLemmas.{begun-other, begun-first, begun-again}
+use Rattle.nntp_article.{specs.Inner.SaidId.{names_id, id_with, ids_behind}, proofs.ArticleLemmas.{HeadLemmas.{more}, SaidLemmas.{begun-other, begun-first}}}
+use Rattle.nntp_article.proofs.{ArticleLemmas.SaidLemmas.{begun-again}, article.said_id.SaidId.begin.Goals.{in-NoHeader, in_default-found}}
 use Rattle.nntp_article.proofs.article.said_id.SaidId.begin.Goals as goal
-use Rattle.nntp_article.proofs.article.said_id.SaidId.begin.Goals.{in-NoHeader, in_default-found}
 
 pub returns-in_default : goal.returns-in_default
 returns-in_default c = λ lines.

@@ -1,7 +1,5 @@
-use Rattle.std.proofs.Common.{arith}
-use Rattle.std.proofs.lemmas.Bool.Decides.{nat_tests}
-use Rattle.nntp_wire.specs.View.{asked}
-use Rattle.nntp_wire.specs.AnswerView.{response}
+use Rattle.std.proofs.{Common.{arith}, lemmas.Bool.Decides.{nat_tests}}
+use Rattle.nntp_wire.specs.Inner.{View.{asked}, AnswerView.{response}}
 use Rattle.nntp_article.proofs.SessionLemmas.Misfits.{fits_by_reason}
 use Rattle.nntp_article.proofs.session.visible.Visible.fits.Goals as goal
 

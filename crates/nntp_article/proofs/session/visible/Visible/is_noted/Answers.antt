@@ -1,14 +1,9 @@
-use Rattle.std.proofs.Common.{◌≡◌, ◌∙◌, ℕ, Option, None, Some, IsTrue, false, arith, ap, sym, subst, cond}
-use Rattle.std.proofs.lemmas.Bool.Decides.{nat_tests}
-use Rattle.std.proofs.lemmas.Bool.{false≢true}
-use Rattle.std.proofs.lemmas.Slice.Eq.{bytes_eq-Decides}
-use Rattle.std.specs.Prelude.{nat_eq}
-use Rattle.std.specs.Option.{option_eq}
-use Rattle.std.specs.Ordering.{nat_cmp}
-use Rattle.std.specs.Cmp.Lexicographic.{slice_cmp, nat_list_cmp_total}
-use Rattle.std.specs.FinMap as map
+use Rattle.std.proofs.{Common.{◌≡◌, ◌∙◌, ℕ, Option, None, Some, IsTrue, false, arith, ap, sym, subst, cond}, lemmas.Bool.{false≢true, Decides.{nat_tests}}}
+use Rattle.std.{proofs.lemmas.Slice.Eq.{bytes_eq-Decides}, specs.{Prelude.{nat_eq}, Option.{option_eq}, Ordering.{nat_cmp}, Cmp.Lexicographic.{slice_cmp}}}
+use Rattle.std.specs.Cmp.Lexicographic.{nat_list_cmp_total}
 use Rattle.nntp_wire.proofs.ShownMaps.{insert-same}
 use Rattle.nntp_article.specs.Session.Machine.{are_zeros}
+use Rattle.std.specs.FinMap as map
 use Rattle.nntp_article.proofs.session.visible.Visible.is_noted.Goals as goal
 
 -- a number that is there

@@ -1,8 +1,6 @@
 use Rattle.std.proofs.Common.{Some, sym, ap, ◌∙◌}
-use Rattle.nntp_wire.specs.View.{asked}
-use Rattle.nntp_wire.specs.Reason.{unless}
-use Rattle.nntp_article.specs.Session.Misfit.{code_misfit}
-use Rattle.nntp_article.proofs.SessionLemmas.Misfits.{plain_alone}
+use Rattle.nntp_wire.specs.{Inner.View.{asked}, Reason.{unless}}
+use Rattle.nntp_article.{specs.Session.Misfit.{code_misfit}, proofs.SessionLemmas.Misfits.{plain_alone}}
 use Rattle.nntp_article.proofs.session.visible.Visible.plain_misfit.Goals as goal
 
 pub returns-then-fits_plain : goal.returns-then-fits_plain

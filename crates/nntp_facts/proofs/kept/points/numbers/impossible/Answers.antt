@@ -1,8 +1,5 @@
-use Rattle.std.proofs.Common.{ap, refl}
-use Rattle.std.specs.Prelude.{option_map}
-use Rattle.nntp_facts.specs.SayingView.{of_group}
-use Rattle.nntp_facts.specs.StatementView.{statement_of}
-use Rattle.nntp_facts.proofs.PointsFound.KindsOfPoints.{step_found, no_step, possible_step}
+use Rattle.std.{proofs.Common.{ap, refl}, specs.Prelude.{option_map}}
+use Rattle.nntp_facts.{specs.Inner.{SayingView.{of_group}, StatementView.{statement_of}}, proofs.PointsFound.KindsOfPoints.{step_found, no_step, possible_step}}
 use Rattle.nntp_facts.proofs.kept.points.numbers.impossible.Goals as goal
 
 pub returns-in_default : goal.returns-in_default

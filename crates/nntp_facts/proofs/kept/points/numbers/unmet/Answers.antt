@@ -1,7 +1,5 @@
-use Rattle.std.proofs.Common.{arith, refl, sym, ◌∙◌}
-use Rattle.std.proofs.lemmas.Bool.{true≢false}
-use Rattle.nntp_facts.specs.Given.{asks_of}
-use Rattle.nntp_facts.proofs.PointsFound.NumbersBeside.{apart, first_free}
+use Rattle.std.proofs.{Common.{arith, refl, sym, ◌∙◌}, lemmas.Bool.{true≢false}}
+use Rattle.nntp_facts.{specs.Given.{asks_of}, proofs.PointsFound.NumbersBeside.{apart, first_free}}
 use Rattle.nntp_facts.proofs.kept.points.numbers.unmet.Goals as goal
 
 pub returns-then-meet_demand : goal.returns-then-meet_demand

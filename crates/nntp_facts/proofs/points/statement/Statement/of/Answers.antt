@@ -1,8 +1,6 @@
 use Rattle.std.proofs.Common.{◌∙◌, sym, subst, ap}
 use Rattle.nntp_article.specs.Session.Machine.{start}
-use Rattle.nntp_facts.specs.Saying.{TellsThere, numbers_listed}
-use Rattle.nntp_facts.specs.SayingView.{saying_of}
-use Rattle.nntp_facts.specs.Conflict.{said}
+use Rattle.nntp_facts.specs.{Inner.{Saying.{TellsThere, numbers_listed}, SayingView.{saying_of}}, Conflict.{said}}
 use Rattle.nntp_facts.proofs.PointsFound.StatementsTold.{there_told_so, told_alone}
 use Rattle.nntp_facts.proofs.points.statement.Statement.of.Goals as goal
 

@@ -1,10 +1,6 @@
-use Rattle.std.proofs.Common.{ap, ◌∙◌}
-use Rattle.std.specs.Ordering.{nat_cmp}
-use Rattle.std.specs.Cmp.Lexicographic.{slice_cmp, nat_list_cmp_total}
-use Rattle.std.specs.String.{string_bytes}
+use Rattle.std.{proofs.Common.{ap, ◌∙◌}, specs.{Ordering.{nat_cmp}, Cmp.Lexicographic.{slice_cmp, nat_list_cmp_total}, String.{string_bytes}}}
 use Rattle.nntp_wire.proofs.ShownMaps.{shown}
-use Rattle.nntp_spool.proofs.GatheredEntries.{sorted_listed}
-use Rattle.nntp_spool.proofs.ShownMaps.{octet_keys, spool_is}
+use Rattle.nntp_spool.proofs.{GatheredEntries.{sorted_listed}, ShownMaps.{octet_keys, spool_is}}
 use Rattle.nntp_spool.proofs.text.gathered.Gathered.into_content.Goals as goal
 
 pub map_of-requires : goal.map_of-requires

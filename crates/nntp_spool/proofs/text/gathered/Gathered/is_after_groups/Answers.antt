@@ -1,11 +1,6 @@
-use Rattle.std.proofs.Common.{◌-◌, length, ap, ◌∙◌}
-use Rattle.std.specs.List.{slice_get}
-use Rattle.std.specs.Ordering.{nat_cmp, is_lt}
-use Rattle.std.specs.Cmp.Lexicographic.{slice_cmp, nat_list_cmp_total}
+use Rattle.std.{proofs.Common.{◌-◌, length, ap, ◌∙◌}, specs.{List.{slice_get}, Ordering.{nat_cmp, is_lt}, Cmp.Lexicographic.{slice_cmp, nat_list_cmp_total}}}
 use Rattle.std.specs.String.{string_bytes}
-use Rattle.nntp_spool.proofs.GatheredEntries.{last_listed, none_listed}
-use Rattle.nntp_spool.proofs.GreatestKeys.{none_shown}
-use Rattle.nntp_spool.proofs.ShownMaps.{octet_keys}
+use Rattle.nntp_spool.proofs.{GatheredEntries.{last_listed, none_listed}, GreatestKeys.{none_shown}, ShownMaps.{octet_keys}}
 use Rattle.nntp_spool.proofs.text.gathered.Gathered.is_after_groups.Goals as goal
 
 pub returns-in-Some : goal.returns-in-Some

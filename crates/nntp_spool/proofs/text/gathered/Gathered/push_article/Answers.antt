@@ -1,8 +1,5 @@
-use Rattle.std.proofs.Common.{inl, inr, ⊎_elim}
-use Rattle.std.specs.Rc.{rc_str_bytes}
-use Rattle.nntp_spool.specs.ArticleLines.{text_stored}
-use Rattle.nntp_spool.specs.ContentView.{spool_stored}
-use Rattle.nntp_spool.proofs.ShownMaps.{one_of, still_counted}
+use Rattle.std.{proofs.Common.{inl, inr, ⊎_elim}, specs.Rc.{rc_str_bytes}}
+use Rattle.nntp_spool.{specs.Inner.{ArticleLines.{text_stored}, ContentView.{spool_stored}}, proofs.ShownMaps.{one_of, still_counted}}
 use Rattle.nntp_spool.proofs.text.gathered.Gathered.push_article.Goals as goal
 
 pub invariant_of-self : goal.invariant_of-self

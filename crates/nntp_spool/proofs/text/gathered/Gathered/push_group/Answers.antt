@@ -1,11 +1,5 @@
-use Rattle.std.proofs.Common.{ap, ◌∙◌}
-use Rattle.std.specs.Ordering.{nat_cmp}
-use Rattle.std.specs.Cmp.Lexicographic.{slice_cmp, nat_list_cmp_total}
-use Rattle.std.specs.FinMap.{insert}
-use Rattle.std.specs.String.{string_bytes}
-use Rattle.nntp_spool.specs.Ascending.{is_last}
-use Rattle.nntp_spool.proofs.GatheredEntries.{one_more}
-use Rattle.nntp_spool.proofs.ShownMaps.{octet_keys, spool_is}
+use Rattle.std.{proofs.Common.{ap, ◌∙◌}, specs.{Ordering.{nat_cmp}, Cmp.Lexicographic.{slice_cmp, nat_list_cmp_total}, FinMap.{insert}, String.{string_bytes}}}
+use Rattle.nntp_spool.{specs.Ascending.{is_last}, proofs.{GatheredEntries.{one_more}, ShownMaps.{octet_keys, spool_is}}}
 use Rattle.nntp_spool.proofs.text.gathered.Gathered.push_group.Goals as goal
 
 pub invariant_of-self-2 : goal.invariant_of-self-2

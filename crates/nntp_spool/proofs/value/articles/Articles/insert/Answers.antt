@@ -1,11 +1,7 @@
-use Rattle.std.proofs.Common.{ap, ◌∙◌}
-use Rattle.std.specs.Ordering.{nat_cmp}
-use Rattle.std.specs.Cmp.Lexicographic.{slice_cmp, nat_list_cmp_total}
-use Rattle.std.specs.FinMap as map
-use Rattle.std.specs.Rc.{rc_str_bytes}
-use Rattle.nntp_spool.specs.ArticleLines.{text_stored}
+use Rattle.std.{proofs.Common.{ap, ◌∙◌}, specs.{Ordering.{nat_cmp}, Cmp.Lexicographic.{slice_cmp, nat_list_cmp_total}, Rc.{rc_str_bytes}}}
+use Rattle.nntp_spool.{specs.Inner.ArticleLines.{text_stored}, proofs.ShownMaps.{octet_keys}}
 use Rattle.nntp_wire.proofs.ShownMaps.{insert-shown}
-use Rattle.nntp_spool.proofs.ShownMaps.{octet_keys}
+use Rattle.std.specs.FinMap as map
 use Rattle.nntp_spool.proofs.value.articles.Articles.insert.Goals as goal
 
 pub returns-clause-ok : goal.returns-clause-ok

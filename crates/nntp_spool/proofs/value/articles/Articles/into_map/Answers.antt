@@ -1,13 +1,7 @@
-use Rattle.std.proofs.Common.{ap, subst, sym, ◌∙◌}
-use Rattle.std.specs.Ordering.{nat_cmp}
-use Rattle.std.specs.Cmp.Lexicographic.{slice_cmp, nat_list_cmp_total}
-use Rattle.std.specs.FinMap.{is_sorted}
-use Rattle.std.specs.Rc.{rc_str_bytes}
-use Rattle.std.proofs.lemmas.Result.{IfOk-weaker}
-use Rattle.nntp_spool.specs.ArticleLines.{text_stored}
-use Rattle.nntp_spool.specs.ArticlesView.{articles_shown, entries_held, AreInOrder}
-use Rattle.nntp_spool.proofs.GatheredEntries.{sorted_listed}
-use Rattle.nntp_spool.proofs.ShownMaps.{octet_keys}
+use Rattle.std.{proofs.{Common.{ap, subst, sym, ◌∙◌}, lemmas.Result.{IfOk-weaker}}, specs.{Ordering.{nat_cmp}, Cmp.Lexicographic.{slice_cmp}}}
+use Rattle.std.specs.{Cmp.Lexicographic.{nat_list_cmp_total}, FinMap.{is_sorted}, Rc.{rc_str_bytes}}
+use Rattle.nntp_spool.specs.Inner.{ArticleLines.{text_stored}, ArticlesView.{articles_shown, entries_held, AreInOrder}}
+use Rattle.nntp_spool.proofs.{GatheredEntries.{sorted_listed}, ShownMaps.{octet_keys}}
 use Rattle.nntp_spool.proofs.value.articles.Articles.into_map.Goals as goal
 
 pub map_of-requires : goal.map_of-requires

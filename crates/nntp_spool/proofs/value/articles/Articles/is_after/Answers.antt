@@ -1,15 +1,7 @@
-use Rattle.std.proofs.Common.{◌<◌, ◌-◌, length, sym, ap, subst, ◌∙◌, arith}
-use Rattle.std.specs.List.{slice_get}
-use Rattle.std.specs.Ordering.{nat_cmp}
-use Rattle.std.specs.Cmp.Lexicographic.{slice_cmp, nat_list_cmp_total}
-use Rattle.std.specs.Rc.{rc_str_bytes}
-use Rattle.std.proofs.lemmas.Bool.{true≢false}
-use Rattle.std.proofs.lemmas.List.{nil_from_length}
-use Rattle.nntp_spool.specs.ArticleLines.{text_stored}
-use Rattle.nntp_spool.specs.ArticlesView.{articles_shown, entries_held, AreInOrder}
-use Rattle.nntp_spool.proofs.GatheredEntries.{last_listed, none_listed}
-use Rattle.nntp_spool.proofs.GreatestKeys.{last_shown, none_shown}
-use Rattle.nntp_spool.proofs.ShownMaps.{octet_keys}
+use Rattle.std.{proofs.{Common.{◌<◌, ◌-◌, length, sym, ap, subst, ◌∙◌, arith}, lemmas.{Bool.{true≢false}, List.{nil_from_length}}}, specs.List.{slice_get}}
+use Rattle.std.specs.{Ordering.{nat_cmp}, Cmp.Lexicographic.{slice_cmp, nat_list_cmp_total}, Rc.{rc_str_bytes}}
+use Rattle.nntp_spool.{specs.Inner.{ArticleLines.{text_stored}, ArticlesView.{articles_shown, entries_held, AreInOrder}}, proofs.GatheredEntries.{last_listed}}
+use Rattle.nntp_spool.proofs.{GatheredEntries.{none_listed}, GreatestKeys.{last_shown, none_shown}, ShownMaps.{octet_keys}}
 use Rattle.nntp_spool.proofs.value.articles.Articles.is_after.Goals as goal
 
 pub returns-in-Some : goal.returns-in-Some

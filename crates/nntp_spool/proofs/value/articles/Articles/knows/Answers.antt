@@ -1,12 +1,8 @@
-use Rattle.std.proofs.Common.{is_some, option_map, ap, sym, ◌∙◌}
-use Rattle.std.specs.Ordering.{nat_cmp}
-use Rattle.std.specs.Cmp.Lexicographic.{slice_cmp, nat_list_cmp_total}
-use Rattle.std.specs.FinMap as map
+use Rattle.std.{proofs.Common.{is_some, option_map, ap, sym, ◌∙◌}, specs.{Ordering.{nat_cmp}, Cmp.Lexicographic.{slice_cmp, nat_list_cmp_total}}}
 use Rattle.std.specs.Rc.{rc_str_bytes}
-use Rattle.nntp_spool.specs.ArticleLines.{text_stored}
-use Rattle.nntp_spool.specs.ArticlesView.{entries_held}
+use Rattle.nntp_spool.{specs.Inner.{ArticleLines.{text_stored}, ArticlesView.{entries_held}}, proofs.TextKeys.{no_key}}
 use Rattle.nntp_wire.proofs.ShownMaps.{get-shown}
-use Rattle.nntp_spool.proofs.TextKeys.{no_key}
+use Rattle.std.specs.FinMap as map
 use Rattle.nntp_spool.proofs.value.articles.Articles.knows.Goals as goal
 
 pub returns-in-Err : goal.returns-in-Err

@@ -1,13 +1,8 @@
-use Rattle.std.proofs.Common.{T, sym, ap, subst, ◌∙◌}
-use Rattle.std.specs.Ordering.{nat_cmp}
-use Rattle.std.specs.Cmp.Lexicographic.{slice_cmp, nat_list_cmp_total}
-use Rattle.std.specs.FinMap as map
-use Rattle.std.specs.Rc.{rc_str_bytes}
-use Rattle.std.proofs.lemmas.List.{length-map}
-use Rattle.nntp_spool.specs.ArticleLines.{text_stored}
-use Rattle.nntp_spool.specs.ArticlesView.{articles_shown, entries_held, AreInOrder}
+use Rattle.std.{proofs.{Common.{T, sym, ap, subst, ◌∙◌}, lemmas.List.{length-map}}, specs.{Ordering.{nat_cmp}, Cmp.Lexicographic.{slice_cmp}}}
+use Rattle.std.specs.{Cmp.Lexicographic.{nat_list_cmp_total}, Rc.{rc_str_bytes}}
+use Rattle.nntp_spool.{specs.Inner.{ArticleLines.{text_stored}, ArticlesView.{articles_shown, entries_held, AreInOrder}}, proofs.ShownMaps.{octet_keys}}
 use Rattle.nntp_wire.proofs.ShownMaps.{len-shown, len-from_sorted_entries, shown_entry}
-use Rattle.nntp_spool.proofs.ShownMaps.{octet_keys}
+use Rattle.std.specs.FinMap as map
 use Rattle.nntp_spool.proofs.value.articles.Articles.len.Goals as goal
 
 pub returns-in-InOrder : goal.returns-in-InOrder

@@ -1,15 +1,9 @@
-use Rattle.std.proofs.Common.{sym, ap, subst, ◌∙◌}
-use Rattle.std.specs.Ordering.{nat_cmp}
-use Rattle.std.specs.Cmp.Lexicographic.{slice_cmp, nat_list_cmp_total}
-use Rattle.std.specs.FinMap as map
-use Rattle.std.specs.Rc.{rc_str_bytes}
-use Rattle.nntp_spool.specs.ArticleLines.{text_stored}
-use Rattle.nntp_spool.specs.ArticlesView.{articles_shown, entries_held, AreInOrder}
-use Rattle.nntp_spool.specs.Ascending.{is_last}
+use Rattle.std.{proofs.Common.{sym, ap, subst, ◌∙◌}, specs.{Ordering.{nat_cmp}, Cmp.Lexicographic.{slice_cmp, nat_list_cmp_total}, Rc.{rc_str_bytes}}}
+use Rattle.nntp_spool.specs.{Inner.{ArticleLines.{text_stored}, ArticlesView.{articles_shown, entries_held, AreInOrder}}, Ascending.{is_last}}
+use Rattle.nntp_spool.proofs.{GatheredEntries.{one_more}, ShownMaps.{octet_keys}, value.articles.Articles.push.Goals.{in-InOrder+in_ok-push-in-InOrder}}
+use Rattle.nntp_spool.proofs.value.articles.Articles.push.Goals.{in-InAnyOrder+in_ok-insert-in-InAnyOrder}
 use Rattle.nntp_wire.proofs.ShownMaps.{insert-shown}
-use Rattle.nntp_spool.proofs.GatheredEntries.{one_more}
-use Rattle.nntp_spool.proofs.ShownMaps.{octet_keys}
-use Rattle.nntp_spool.proofs.value.articles.Articles.push.Goals.{in-InOrder+in_ok-push-in-InOrder, in-InAnyOrder+in_ok-insert-in-InAnyOrder}
+use Rattle.std.specs.FinMap as map
 use Rattle.nntp_spool.proofs.value.articles.Articles.push.Goals as goal
 
 pub invariant_of-self-2 : goal.invariant_of-self-2

@@ -1,11 +1,7 @@
-use Rattle.std.proofs.Common.{option_map, ap, sym, ◌∙◌}
-use Rattle.std.specs.Ordering.{nat_cmp}
-use Rattle.std.specs.Cmp.Lexicographic.{slice_cmp, nat_list_cmp_total}
-use Rattle.std.specs.FinMap as map
-use Rattle.std.specs.Rc.{rc_str_bytes}
-use Rattle.nntp_spool.specs.ArticleLines.{text_stored}
-use Rattle.nntp_spool.specs.ArticlesView.{articles_shown, entries_held}
+use Rattle.std.{proofs.Common.{option_map, ap, sym, ◌∙◌}, specs.{Ordering.{nat_cmp}, Cmp.Lexicographic.{slice_cmp, nat_list_cmp_total}, Rc.{rc_str_bytes}}}
+use Rattle.nntp_spool.specs.Inner.{ArticleLines.{text_stored}, ArticlesView.{articles_shown, entries_held}}
 use Rattle.nntp_wire.proofs.ShownMaps.{get-shown, option_map-option_map}
+use Rattle.std.specs.FinMap as map
 use Rattle.nntp_spool.proofs.value.articles.Held.get.Goals as goal
 
 pub returns-in-InAnyOrder : goal.returns-in-InAnyOrder

@@ -1,7 +1,6 @@
 use Rattle.std.proofs.Common.{sym, subst, ◌∙◌}
 use Rattle.nntp_wire.specs.Limit.{greatest}
-use Rattle.nntp_spool.specs.Text.{IsWritten}
-use Rattle.nntp_spool.proofs.WholeSpools.{to_spool}
+use Rattle.nntp_spool.{specs.Inner.Text.{IsWritten}, proofs.WholeSpools.{to_spool}}
 use Rattle.nntp_spool.proofs.value.builder.SpoolBuilder.finish.Goals as goal
 
 pub new-requires : goal.new-requires

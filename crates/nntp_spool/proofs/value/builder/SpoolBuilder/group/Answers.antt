@@ -1,8 +1,6 @@
 use Rattle.std.proofs.Common.{subst, sym, ap, ◌∙◌}
 use Rattle.nntp_wire.specs.Limit.{greatest}
-use Rattle.nntp_spool.specs.Content.{IsContent}
-use Rattle.nntp_spool.specs.Content.{with_group}
-use Rattle.nntp_spool.proofs.BuiltContent.{group_added}
+use Rattle.nntp_spool.{specs.{Inner.Content.{IsContent}, Content.{with_group}}, proofs.BuiltContent.{group_added}}
 use Rattle.nntp_spool.proofs.value.builder.SpoolBuilder.group.Goals as goal
 
 pub invariant_of-self-in-Ok-put_group : goal.invariant_of-self-in-Ok-put_group

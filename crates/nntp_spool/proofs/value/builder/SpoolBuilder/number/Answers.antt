@@ -1,12 +1,8 @@
-use Rattle.std.proofs.Common.{◌∙◌, refl, sym, ap, subst, ℕ, List}
-use Rattle.std.specs.FinMap.{insert}
-use Rattle.std.proofs.lemmas.Result.{err_from_is_err_and}
+use Rattle.std.{proofs.{Common.{◌∙◌, refl, sym, ap, subst, ℕ, List}, lemmas.Result.{err_from_is_err_and}}, specs.FinMap.{insert}}
 use Rattle.nntp_wire.specs.Limit.{greatest}
 use Rattle.nntp_article.specs.Session.Spool.{numbers}
-use Rattle.nntp_spool.specs.Numbers.{has_id}
-use Rattle.nntp_spool.specs.Building.{Builds, number_fault, place_fault}
-use Rattle.nntp_spool.specs.Content.{with_group}
-use Rattle.nntp_spool.proofs.NumberFaults.{misplaced, repeated, unheld}
+use Rattle.nntp_spool.{specs.{Numbers.{has_id}, Inner.Building.{Builds, number_fault, place_fault}, Content.{with_group}}, proofs.NumberFaults.{misplaced}}
+use Rattle.nntp_spool.proofs.NumberFaults.{repeated, unheld}
 use Rattle.nntp_spool.proofs.value.builder.SpoolBuilder.number.Goals as goal
 
 pub returns : goal.returns
@@ -25,7 +21,8 @@ returns-in_err-name g c =
     let n = c.args.number in
     let p = err_from_is_err_and c.from_residual.result c.from_residual.ensures.1 in
     let works = ap (λ b. b.failed) (sym c.self.view_is) ∙ c.if-self.false in
-    let fault = ap (λ b. place_fault (greatest b.limit) b.spool name n id) (sym c.self.view_is) ∙ ap (λ limit. place_fault limit c.self.inside.content name n id) (sym c.value.ensures) ∙ c.in_err-name.ensures in
+    let fault = ap (λ b. place_fault (greatest b.limit) b.spool name n id) (sym c.self.view_is) ∙ ap (λ limit. place_fault limit c.self.inside.content name n id) (sym c.value.ensures)
+    ∙ c.in_err-name.ensures in
     rw (p.1, p.2) (misplaced c.args.self.now name n id c.in_err-name.field-0.0 works fault)
 
 pub returns-then-has_id : goal.returns-then-has_id

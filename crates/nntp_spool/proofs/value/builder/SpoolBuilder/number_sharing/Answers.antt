@@ -1,12 +1,7 @@
-use Rattle.std.proofs.Common.{◌∙◌, sym, ap, subst}
-use Rattle.std.specs.FinMap.{insert}
-use Rattle.std.specs.Rc.{rc_str_bytes}
-use Rattle.std.proofs.lemmas.Result.{err_from_is_err_and}
+use Rattle.std.{proofs.{Common.{◌∙◌, sym, ap, subst}, lemmas.Result.{err_from_is_err_and}}, specs.{FinMap.{insert}, Rc.{rc_str_bytes}}}
 use Rattle.nntp_article.specs.Session.Spool.{numbers}
 use Rattle.nntp_wire.specs.Limit.{greatest}
-use Rattle.nntp_spool.specs.Building.{Builds, number_fault, place_fault}
-use Rattle.nntp_spool.specs.Content.{with_group}
-use Rattle.nntp_spool.proofs.NumberFaults.{misplaced}
+use Rattle.nntp_spool.{specs.{Inner.Building.{Builds, number_fault, place_fault}, Content.{with_group}}, proofs.NumberFaults.{misplaced}}
 use Rattle.nntp_spool.proofs.value.builder.SpoolBuilder.number_sharing.Goals as goal
 
 pub returns : goal.returns

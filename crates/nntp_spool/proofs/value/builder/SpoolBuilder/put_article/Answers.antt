@@ -1,10 +1,7 @@
-use Rattle.std.proofs.Common.{⊎_elim, subst, sym, ap, ◌∙◌}
-use Rattle.std.specs.Rc.{rc_str_bytes}
+use Rattle.std.{proofs.Common.{⊎_elim, subst, sym, ap, ◌∙◌}, specs.Rc.{rc_str_bytes}}
 use Rattle.nntp_wire.specs.Limit.{greatest}
-use Rattle.nntp_spool.specs.Content.{IsContent}
-use Rattle.nntp_spool.specs.ArticleLines.{text_stored}
-use Rattle.nntp_spool.specs.Building.{article_fault}
-use Rattle.nntp_spool.proofs.BuiltContent.{article_added, articles_dropped}
+use Rattle.nntp_spool.{specs.Inner.{Content.{IsContent}, ArticleLines.{text_stored}, Building.{article_fault}}, proofs.BuiltContent.{article_added}}
+use Rattle.nntp_spool.proofs.BuiltContent.{articles_dropped}
 use Rattle.nntp_spool.proofs.value.builder.SpoolBuilder.put_article.Goals as goal
 
 pub invariant_of-self : goal.invariant_of-self

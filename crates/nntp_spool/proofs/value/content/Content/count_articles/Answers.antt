@@ -1,5 +1,5 @@
 use Rattle.std.proofs.Common.{subst}
-use Rattle.nntp_spool.specs.Text.{HasLineCounts}
+use Rattle.nntp_spool.specs.Inner.Text.{HasLineCounts}
 use Rattle.nntp_spool.proofs.value.content.Content.count_articles.Goals as goal
 
 pub returns-clause-line_counts : goal.returns-clause-line_counts

@@ -1,12 +1,9 @@
-use Rattle.std.proofs.Common.{◌+◌, cond, sym, ap, ◌∙◌, rules}
-use Rattle.std.specs.List.{count_by}
+use Rattle.std.proofs.{Common.{◌+◌, cond, sym, ap, ◌∙◌, rules}, lemmas.Iterator.Consumers.{YieldsList-at, YieldsList-from_rest, YieldsList-from_filter}}
+use Rattle.std.{proofs.lemmas.{Iterator.Consumers.{count_from_yields_List}, List.{Folds.{fold-map}, Sums.{length-filter}}}, specs.List.{count_by}}
 use Rattle.std.specs.String.{string_bytes}
-use Rattle.std.proofs.lemmas.Iterator.Consumers.{YieldsList-at, YieldsList-from_rest, YieldsList-from_filter, count_from_yields_List}
-use Rattle.std.proofs.lemmas.List.Folds.{fold-map}
-use Rattle.std.proofs.lemmas.List.Sums.{length-filter}
 use borrow.Author.Tests.{tests}
 use Rattle.nntp_article.specs.Session.Spool.{Name, Numbers}
-use Rattle.nntp_wire.specs.Decided.{is_asked}
+use Rattle.nntp_wire.specs.Inner.Decided.{is_asked}
 use Rattle.nntp_spool.proofs.ShownMaps.{group_entries}
 use Rattle.nntp_spool.proofs.value.content.Content.count_asked.Goals as goal
 

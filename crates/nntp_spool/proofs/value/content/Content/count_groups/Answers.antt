@@ -1,9 +1,6 @@
-use Rattle.std.proofs.Common.{sym, ap, ◌∙◌}
-use Rattle.std.specs.Ordering.{nat_cmp}
-use Rattle.std.specs.Cmp.Lexicographic.{slice_cmp, nat_list_cmp_total}
-use Rattle.std.specs.FinMap as map
-use Rattle.std.specs.String.{string_bytes}
+use Rattle.std.{proofs.Common.{sym, ap, ◌∙◌}, specs.{Ordering.{nat_cmp}, Cmp.Lexicographic.{slice_cmp, nat_list_cmp_total}, String.{string_bytes}}}
 use Rattle.nntp_wire.proofs.ShownMaps.{len-shown}
+use Rattle.std.specs.FinMap as map
 use Rattle.nntp_spool.proofs.value.content.Content.count_groups.Goals as goal
 
 pub returns : goal.returns

@@ -1,10 +1,8 @@
-use Rattle.std.proofs.Common.{◌≡◌, List, ◌<◌, ◌^◌, length, sym, ap, subst, ◌∙◌, sum, map as list_map, arith}
-use Rattle.std.specs.FinMap as map
+use Rattle.std.proofs.{Common.{◌≡◌, List, ◌<◌, ◌^◌, length, sym, ap, subst, ◌∙◌, sum, map as list_map, arith}, lemmas.Simd.{map-map}}
 use Rattle.std.specs.String.{string_bytes}
-use Rattle.std.proofs.lemmas.Simd.{map-map}
 use Rattle.nntp_article.specs.Session.Spool.{Name, Numbers}
-use Rattle.nntp_spool.specs.Counts.{numbers_in}
-use Rattle.nntp_spool.proofs.ShownMaps.{group_entries}
+use Rattle.nntp_spool.{specs.Counts.{numbers_in}, proofs.ShownMaps.{group_entries}}
+use Rattle.std.specs.FinMap as map
 use Rattle.nntp_spool.proofs.value.content.Content.count_numbers.Goals as goal
 
 pub loop-numbers-init : goal.loop-numbers-init

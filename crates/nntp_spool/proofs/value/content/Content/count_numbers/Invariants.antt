@@ -1,5 +1,4 @@
-use Rattle.std.proofs.Common.{◌≡◌, ◌+◌, ◌*◌, ◌^◌, ◌<◌, sum, map, length}
-use Rattle.std.specs.FinMap.{len}
+use Rattle.std.{proofs.Common.{◌≡◌, ◌+◌, ◌*◌, ◌^◌, ◌<◌, sum, map, length}, specs.FinMap.{len}}
 use Rattle.nntp_spool.specs.Counts.{numbers_in}
 use Rattle.nntp_spool.proofs.value.content.Content.count_numbers.Given as goal
 

@@ -1,8 +1,5 @@
-use Rattle.std.proofs.Common.{sym, ap, ◌∙◌}
-use Rattle.std.specs.Prelude.{option_copied}
-use Rattle.std.specs.FinMap.{get}
-use Rattle.nntp_spool.proofs.TextKeys.{no_name}
-use Rattle.nntp_spool.proofs.ShownMaps.{group_got}
+use Rattle.std.{proofs.Common.{sym, ap, ◌∙◌}, specs.{Prelude.{option_copied}, FinMap.{get}}}
+use Rattle.nntp_spool.proofs.{TextKeys.{no_name}, ShownMaps.{group_got}}
 use Rattle.nntp_spool.proofs.value.content.Content.group_named.Goals as goal
 
 pub returns-in-Some-clause-numbers : goal.returns-in-Some-clause-numbers

@@ -1,14 +1,9 @@
-use Rattle.std.proofs.Common.{sym, ap, subst, ◌∙◌, rules}
-use Rattle.std.specs.List.{list_all}
-use Rattle.std.specs.String.{string_bytes}
-use Rattle.std.proofs.lemmas.Iterator.Search.{all_from_yields_List}
-use Rattle.std.proofs.lemmas.Iterator.Consumers.{YieldsList-from_rest}
+use Rattle.std.proofs.{Common.{sym, ap, subst, ◌∙◌, rules}, lemmas.Iterator.{Search.{all_from_yields_List}, Consumers.{YieldsList-from_rest}}}
+use Rattle.std.specs.{List.{list_all}, String.{string_bytes}}
 use borrow.Author.Tests.{tests}
 use Rattle.nntp_article.specs.Session.Spool.{Name, Numbers}
-use Rattle.nntp_spool.specs.Content.{all_known}
-use Rattle.nntp_spool.specs.Text.{HasLineCounts}
+use Rattle.nntp_spool.{specs.{Content.{all_known}, Inner.Text.{HasLineCounts}}, proofs.ShownMaps.{group_entries}}
 use Rattle.nntp_wire.proofs.ShownMaps.{list_all-map}
-use Rattle.nntp_spool.proofs.ShownMaps.{group_entries}
 use Rattle.nntp_spool.proofs.value.content.Content.has_articles.Goals as goal
 
 pub returns-clause-value : goal.returns-clause-value

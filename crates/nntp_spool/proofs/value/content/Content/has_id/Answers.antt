@@ -1,9 +1,6 @@
-use Rattle.std.proofs.Common.{refl, ap, sym, ◌∙◌}
-use Rattle.std.specs.Prelude.{unwrap_or, bytes_eq}
-use Rattle.std.specs.List.{list_any}
+use Rattle.std.{proofs.Common.{refl, ap, sym, ◌∙◌}, specs.{Prelude.{unwrap_or, bytes_eq}, List.{list_any}}}
+use Rattle.nntp_spool.{specs.Numbers.{has_id}, proofs.NumbersInOrder.{entries-empty}}
 use Rattle.std.specs.FinMap as map
-use Rattle.nntp_spool.specs.Numbers.{has_id}
-use Rattle.nntp_spool.proofs.NumbersInOrder.{entries-empty}
 use Rattle.nntp_spool.proofs.value.content.Content.has_id.Goals as goal
 
 pub returns-in-None : goal.returns-in-None

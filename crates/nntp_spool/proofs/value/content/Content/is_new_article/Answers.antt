@@ -1,7 +1,5 @@
-use Rattle.std.proofs.Common.{is_none, ap, sym, ◌∙◌}
-use Rattle.std.specs.Cmp.Lexicographic.{nat_list_cmp_total}
-use Rattle.nntp_spool.proofs.GreatestKeys.{absent_above}
-use Rattle.nntp_spool.proofs.ShownMaps.{octet_keys}
+use Rattle.std.{proofs.Common.{is_none, ap, sym, ◌∙◌}, specs.Cmp.Lexicographic.{nat_list_cmp_total}}
+use Rattle.nntp_spool.proofs.{GreatestKeys.{absent_above}, ShownMaps.{octet_keys}}
 use Rattle.nntp_spool.proofs.value.content.Content.is_new_article.Goals as goal
 
 pub returns-then-is_after_articles : goal.returns-then-is_after_articles

@@ -1,9 +1,6 @@
-use Rattle.std.proofs.Common.{sym, ap, ◌∙◌}
-use Rattle.std.specs.Prelude.{option_map}
-use Rattle.std.specs.FinMap.{get, slice_cmp-IsAntisymmetric, nat_cmp-IsAntisymmetric}
+use Rattle.std.{proofs.Common.{sym, ap, ◌∙◌}, specs.{Prelude.{option_map}, FinMap.{get, slice_cmp-IsAntisymmetric, nat_cmp-IsAntisymmetric}}}
 use Rattle.std.specs.String.{string_bytes}
-use Rattle.nntp_spool.proofs.TextKeys.{no_name}
-use Rattle.nntp_spool.proofs.ShownMaps.{group_got}
+use Rattle.nntp_spool.proofs.{TextKeys.{no_name}, ShownMaps.{group_got}}
 use Rattle.nntp_spool.proofs.value.content.Content.kept_group.Goals as goal
 
 pub returns-in-Some-clause-numbers : goal.returns-in-Some-clause-numbers

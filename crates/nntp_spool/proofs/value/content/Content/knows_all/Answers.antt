@@ -1,12 +1,9 @@
-use Rattle.std.proofs.Common.{is_some, subst, ◌∙◌, rules}
-use Rattle.std.specs.FinMap as map
-use Rattle.std.proofs.lemmas.Iterator.Search.{all_from_yields_List}
-use Rattle.std.proofs.lemmas.Iterator.Consumers.{YieldsList-from_rest}
-use borrow.Author.Tests.{tests}
+use Rattle.std.proofs.{Common.{is_some, subst, ◌∙◌, rules}, lemmas.Iterator.{Search.{all_from_yields_List}, Consumers.{YieldsList-from_rest}}}
 use Rattle.std.specs.Rc.{rc_str_bytes}
+use borrow.Author.Tests.{tests}
 use Rattle.nntp_article.specs.Article.Parts.{Id}
-use Rattle.nntp_spool.specs.Numbers.{AreIdsOf}
-use Rattle.nntp_spool.proofs.NumberIds.{all_ids}
+use Rattle.nntp_spool.{specs.Inner.Numbers.{AreIdsOf}, proofs.NumberIds.{all_ids}}
+use Rattle.std.specs.FinMap as map
 use Rattle.nntp_spool.proofs.value.content.Content.knows_all.Goals as goal
 
 pub returns : goal.returns

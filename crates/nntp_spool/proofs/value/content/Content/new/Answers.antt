@@ -1,7 +1,5 @@
 use Rattle.std.proofs.Common.{sym, subst}
-use Rattle.nntp_spool.specs.ContentView.{spool_stored}
-use Rattle.nntp_spool.specs.Text.{HasLineCounts}
-use Rattle.nntp_spool.proofs.ShownMaps.{none_counted}
+use Rattle.nntp_spool.{specs.Inner.{ContentView.{spool_stored}, Text.{HasLineCounts}}, proofs.ShownMaps.{none_counted}}
 use Rattle.nntp_spool.proofs.value.content.Content.new.Goals as goal
 
 pub invariant_of-result : goal.invariant_of-result

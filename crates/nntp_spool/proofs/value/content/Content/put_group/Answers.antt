@@ -1,10 +1,7 @@
-use Rattle.std.proofs.Common.{ap, ◌∙◌}
-use Rattle.std.specs.Ordering.{nat_cmp}
-use Rattle.std.specs.Cmp.Lexicographic.{slice_cmp, nat_list_cmp_total}
-use Rattle.std.specs.FinMap as map
-use Rattle.std.specs.String.{string_bytes}
+use Rattle.std.{proofs.Common.{ap, ◌∙◌}, specs.{Ordering.{nat_cmp}, Cmp.Lexicographic.{slice_cmp, nat_list_cmp_total}, String.{string_bytes}}}
 use Rattle.nntp_wire.proofs.ShownMaps.{insert-shown}
 use Rattle.nntp_spool.proofs.ShownMaps.{spool_is}
+use Rattle.std.specs.FinMap as map
 use Rattle.nntp_spool.proofs.value.content.Content.put_group.Goals as goal
 
 pub returns-clause-ok : goal.returns-clause-ok

@@ -1,16 +1,9 @@
-use Rattle.std.proofs.Common.{◌≡◌, not, None, Ok, Err, Result, is_some, option_map, ap, sym, subst, ◌∙◌}
-use Rattle.std.specs.Prelude.{unwrap_or, OnOk, OnErr, IfOk, IfErr, false}
-use Rattle.std.specs.Option.{option_copied_mut}
-use Rattle.std.specs.Ordering.{nat_cmp}
-use Rattle.std.specs.Cmp.Lexicographic.{slice_cmp, nat_list_cmp_total}
-use Rattle.std.specs.FinMap as map
-use Rattle.std.proofs.lemmas.Bool.{true≢false}
-use Rattle.std.specs.Rc.{rc_str_bytes}
-use Rattle.std.specs.String.{string_bytes}
+use Rattle.std.proofs.{Common.{◌≡◌, not, None, Ok, Err, Result, is_some, option_map, ap, sym, subst, ◌∙◌}, lemmas.Bool.{true≢false}}
+use Rattle.std.specs.{Prelude.{unwrap_or, OnOk, OnErr, IfOk, IfErr, false}, Option.{option_copied_mut}, Ordering.{nat_cmp}, Cmp.Lexicographic.{slice_cmp}}
+use Rattle.std.specs.{Cmp.Lexicographic.{nat_list_cmp_total}, Rc.{rc_str_bytes}, String.{string_bytes}}
 use Rattle.nntp_wire.proofs.ShownMaps.{get-shown, replaced, missing, insert-same}
-use Rattle.nntp_spool.specs.Numbers.{has_id}
-use Rattle.nntp_spool.proofs.BuiltContent.{number_in_group}
-use Rattle.nntp_spool.proofs.ShownMaps.{octet_keys, spool_is}
+use Rattle.nntp_spool.{specs.Numbers.{has_id}, proofs.{BuiltContent.{number_in_group}, ShownMaps.{octet_keys, spool_is}}}
+use Rattle.std.specs.FinMap as map
 use Rattle.nntp_spool.proofs.value.content.Content.put_number.Goals as goal
 
 on_ok : {P Q T E : Type 0} (r : Result T E) → (P → Q) → OnOk r P → OnOk r Q
@@ -35,19 +28,22 @@ returns-in_default-clause-ok g c =
 
 pub put-requires : goal.put-requires
 put-requires g c =
-    let here = ap (λ s. map.get s.groups c.args.name.now) (sym c.self.view_is) ∙ get-shown (slice_cmp nat_cmp) (λ k. string_bytes k) (λ v. v) nat_list_cmp_total c.self.inside.groups.entries c.args.name.now
+    let here = ap (λ s. map.get s.groups c.args.name.now) (sym c.self.view_is)
+    ∙ get-shown (slice_cmp nat_cmp) (λ k. string_bytes k) (λ v. v) nat_list_cmp_total c.self.inside.groups.entries c.args.name.now
     ∙ ap (option_map (λ v. v)) (sym c.in-Some.ensures.value) in
     subst (λ o. map.get (unwrap_or o map.empty) c.args.number ≡ None) here c.requires.1
 
 pub returns-clause-added : goal.returns-clause-added
 returns-clause-added g c =
-    let here = ap (λ s. map.get s.groups c.args.name.now) (sym c.self.view_is) ∙ get-shown (slice_cmp nat_cmp) (λ k. string_bytes k) (λ v. v) nat_list_cmp_total c.self.inside.groups.entries c.args.name.now
+    let here = ap (λ s. map.get s.groups c.args.name.now) (sym c.self.view_is)
+    ∙ get-shown (slice_cmp nat_cmp) (λ k. string_bytes k) (λ v. v) nat_list_cmp_total c.self.inside.groups.entries c.args.name.now
     ∙ ap (option_map (λ v. v)) (sym c.in-Some.ensures.value) in
     subst (λ o. IfOk c.put.result (λ added. added ≡ not (has_id (unwrap_or o map.empty) (rc_str_bytes c.args.id.now)))) (sym here) c.put.ensures.added
 
 pub returns-clause-absent : goal.returns-clause-absent
 returns-clause-absent g c =
-    let here = ap (λ s. map.get s.groups c.args.name.now) (sym c.self.view_is) ∙ get-shown (slice_cmp nat_cmp) (λ k. string_bytes k) (λ v. v) nat_list_cmp_total c.self.inside.groups.entries c.args.name.now
+    let here = ap (λ s. map.get s.groups c.args.name.now) (sym c.self.view_is)
+    ∙ get-shown (slice_cmp nat_cmp) (λ k. string_bytes k) (λ v. v) nat_list_cmp_total c.self.inside.groups.entries c.args.name.now
     ∙ ap (option_map (λ v. v)) (sym c.in-Some.ensures.value) in
     subst (λ o. IfErr c.put.result (λ e. has_id (unwrap_or o map.empty) (rc_str_bytes c.args.id.now) ≡ false)) (sym here) c.put.ensures.absent
 

@@ -1,12 +1,7 @@
-use Rattle.std.proofs.Common.{[], ◌∷◌, ◌++◌}
-use Rattle.std.specs.Prelude.{codes}
-use Rattle.std.specs.List.{flat_map}
+use Rattle.std.{proofs.{Common.{[], ◌∷◌, ◌++◌}, lemmas.Result.{err_from_is_err_and}}, specs.{Prelude.{codes}, List.{flat_map}}}
+use Rattle.nntp_spool.{specs.{Text.{group_lines, article_lines}, Inner.Buffering.{waiting}}, proofs.{Written.{Writes-last}, WrittenLines.{Lines-first}}}
+use Rattle.nntp_spool.proofs.WrittenLines.{Lines-next}
 use Rattle.std.specs.FinMap as map
-use Rattle.std.proofs.lemmas.Result.{err_from_is_err_and}
-use Rattle.nntp_spool.specs.Text.{group_lines, article_lines}
-use Rattle.nntp_spool.specs.Buffering.{waiting}
-use Rattle.nntp_spool.proofs.Written.{Writes-last}
-use Rattle.nntp_spool.proofs.WrittenLines.{Lines-first, Lines-next}
 use Rattle.nntp_spool.proofs.value.content.Content.write.Goals as goal
 
 pub returns-in_err-write_groups-clause-text : goal.returns-in_err-write_groups-clause-text

@@ -1,10 +1,6 @@
-use Rattle.std.proofs.Common.{arith, refl, sym, ◌∙◌, ap, map as list_map}
-use Rattle.std.specs.List.{flat_map}
+use Rattle.std.{proofs.{Common.{arith, refl, sym, ◌∙◌, ap, map as list_map}, lemmas.Result.{err_from_is_err_and}}, specs.List.{flat_map}}
 use Rattle.std.specs.String.{string_bytes}
-use Rattle.std.proofs.lemmas.Result.{err_from_is_err_and}
-use Rattle.nntp_spool.specs.Text.{with_line_ends, group_lines}
-use Rattle.nntp_spool.proofs.ShownMaps.{group_entries}
-use Rattle.nntp_spool.proofs.Written.{Wrote-head, Wrote-all}
+use Rattle.nntp_spool.{specs.Text.{with_line_ends, group_lines}, proofs.{ShownMaps.{group_entries}, Written.{Wrote-head, Wrote-all}}}
 use Rattle.nntp_spool.proofs.WrittenLines.{with_line_ends-append}
 use Rattle.nntp_spool.proofs.value.content.Content.write_groups.Goals as goal
 

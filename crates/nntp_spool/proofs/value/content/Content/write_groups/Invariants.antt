@@ -1,10 +1,5 @@
-use Rattle.std.proofs.Common.{◌≡◌, ◌++◌, map as list_map}
-use Rattle.std.specs.List.{flat_map}
-use Rattle.std.specs.FinMap.{entries}
-use Rattle.std.specs.String.{string_bytes}
-use Rattle.nntp_spool.specs.Text.{with_line_ends, group_lines}
-use Rattle.nntp_spool.specs.Writing.{Wrote}
-use Rattle.nntp_spool.specs.Buffering.{taken, waiting, writer_failed, IsSameWriter}
+use Rattle.std.{proofs.Common.{◌≡◌, ◌++◌, map as list_map}, specs.{List.{flat_map}, FinMap.{entries}, String.{string_bytes}}}
+use Rattle.nntp_spool.specs.{Text.{with_line_ends, group_lines}, Writing.{Wrote}, Inner.Buffering.{taken, waiting, writer_failed, IsSameWriter}}
 use Rattle.nntp_spool.proofs.value.content.Content.write_groups.Given as goal
 
 abbrev pub invariant-loop-name : goal.invariant-loop-name

@@ -1,13 +1,10 @@
-use Rattle.std.proofs.Common.{◌<◌, length, subst, sym, Some, None, arith}
-use Rattle.std.specs.Rc.{rc_str_bytes}
-use Rattle.nntp_spool.proofs.ShownNumbers.{IsLastOf}
-use Rattle.std.proofs.lemmas.List.{nil_from_length}
-use Rattle.std.proofs.lemmas.Bool.{true≢false}
-use Rattle.nntp_spool.proofs.ShownNumbers.{last_from_bound, last_from_none}
+use Rattle.std.{proofs.{Common.{◌<◌, length, subst, sym, Some, None, arith}, lemmas.{List.{nil_from_length}, Bool.{true≢false}}}, specs.Rc.{rc_str_bytes}}
+use Rattle.nntp_spool.proofs.ShownNumbers.{IsLastOf, last_from_bound, last_from_none}
 use Rattle.nntp_spool.proofs.value.numbers.Numbers.greatest.Goals as goal
 
 pub returns-in-Some : goal.returns-in-Some
-returns-in-Some g c = subst (λ N. IsLastOf N (Some c.in-Some.number.now)) c.self.view_is (last_from_bound (λ v. rc_str_bytes v) c.self.inside.ids _ _ c.in-Some.ensures.value c.in-Some.ensures.greatest)
+returns-in-Some g c = subst (λ N. IsLastOf N (Some c.in-Some.number.now)) c.self.view_is
+    (last_from_bound (λ v. rc_str_bytes v) c.self.inside.ids _ _ c.in-Some.ensures.value c.in-Some.ensures.greatest)
 
 pub returns-in-None : goal.returns-in-None
 returns-in-None g c =

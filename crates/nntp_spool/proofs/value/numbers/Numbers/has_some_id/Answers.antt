@@ -1,6 +1,5 @@
 use Rattle.std.proofs.Common.{ap, ◌∙◌}
-use Rattle.nntp_spool.specs.Numbers.{has_id}
-use Rattle.nntp_spool.proofs.NumberIds.{any_known}
+use Rattle.nntp_spool.{specs.Numbers.{has_id}, proofs.NumberIds.{any_known}}
 use Rattle.nntp_spool.proofs.value.numbers.Numbers.has_some_id.Goals as goal
 
 pub returns : goal.returns

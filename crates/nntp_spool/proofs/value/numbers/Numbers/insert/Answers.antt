@@ -1,6 +1,6 @@
 use Rattle.std.specs.Cmp.{nat_cmp_total}
-use Rattle.std.specs.FinMap as map
 use Rattle.nntp_spool.proofs.GreatestKeys.{absent_above}
+use Rattle.std.specs.FinMap as map
 use Rattle.nntp_spool.proofs.value.numbers.Numbers.insert.Goals as goal
 
 pub put-requires : goal.put-requires

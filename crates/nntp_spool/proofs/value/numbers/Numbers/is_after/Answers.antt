@@ -1,6 +1,6 @@
 use Rattle.std.specs.Cmp.{nat_cmp_total}
-use Rattle.std.specs.FinMap as map
 use Rattle.nntp_spool.proofs.GreatestKeys.{last_number, none_last}
+use Rattle.std.specs.FinMap as map
 use Rattle.nntp_spool.proofs.value.numbers.Numbers.is_after.Goals as goal
 
 pub returns-in-Some : goal.returns-in-Some

@@ -1,8 +1,5 @@
-use Rattle.std.proofs.Common.{◌<◌, length, subst, sym, Some, None, arith}
-use Rattle.std.specs.Rc.{rc_str_bytes}
-use Rattle.nntp_article.specs.Session.Spool.{IsFirst}
-use Rattle.std.proofs.lemmas.List.{nil_from_length}
-use Rattle.std.proofs.lemmas.Bool.{true≢false}
+use Rattle.std.{proofs.{Common.{◌<◌, length, subst, sym, Some, None, arith}, lemmas.{List.{nil_from_length}, Bool.{true≢false}}}, specs.Rc.{rc_str_bytes}}
+use Rattle.nntp_article.specs.Inner.Spool.{IsFirst}
 use Rattle.nntp_spool.proofs.ShownNumbers.{first_from_bound, first_from_none}
 use Rattle.nntp_spool.proofs.value.numbers.Numbers.least.Goals as goal
 

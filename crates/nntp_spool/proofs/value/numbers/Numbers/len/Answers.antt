@@ -1,9 +1,6 @@
-use Rattle.std.proofs.Common.{ap, sym, ◌∙◌}
-use Rattle.std.specs.Ordering.{nat_cmp}
-use Rattle.std.specs.Cmp.{nat_cmp_total}
-use Rattle.std.specs.FinMap as map
-use Rattle.std.specs.Rc.{rc_str_bytes}
+use Rattle.std.{proofs.Common.{ap, sym, ◌∙◌}, specs.{Ordering.{nat_cmp}, Cmp.{nat_cmp_total}, Rc.{rc_str_bytes}}}
 use Rattle.nntp_wire.proofs.ShownMaps.{len-shown}
+use Rattle.std.specs.FinMap as map
 use Rattle.nntp_spool.proofs.value.numbers.Numbers.len.Goals as goal
 
 pub returns : goal.returns

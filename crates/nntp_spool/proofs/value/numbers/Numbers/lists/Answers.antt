@@ -1,12 +1,7 @@
-use Rattle.std.proofs.Common.{◌≡◌, true, List, ℕ, sym, subst, ◌∙◌}
-use Rattle.std.specs.Prelude.{◌↔◌, nat_lt}
-use Rattle.std.specs.List.{list_all}
-use Rattle.std.proofs.lemmas.Bool.{true≢false, and_parts}
-use Rattle.nntp_article.specs.Session.Spool.{Lists}
+use Rattle.std.{proofs.{Common.{◌≡◌, true, List, ℕ, sym, subst, ◌∙◌}, lemmas.Bool.{true≢false, and_parts}}, specs.{Prelude.{◌↔◌, nat_lt}, List.{list_all}}}
+use Rattle.nntp_article.specs.Session.{Spool.{Lists}, Machine.{is_ascending}}
 use Rattle.nntp_wire.specs.Listing.{listed_numbers}
-use Rattle.nntp_article.specs.Session.Machine.{is_ascending}
-use Rattle.nntp_spool.specs.ListedNumbers.{ListsFrom}
-use Rattle.nntp_spool.proofs.ListedNumbers.{taken, is_next, lists_from_range}
+use Rattle.nntp_spool.{specs.Inner.ListedNumbers.{ListsFrom}, proofs.ListedNumbers.{taken, is_next, lists_from_range}}
 use Rattle.nntp_spool.proofs.value.numbers.Numbers.lists.Goals as goal
 
 pub loop-number-init : goal.loop-number-init

@@ -1,9 +1,7 @@
-use Rattle.std.proofs.Common.{◌≡◌, true}
-use Rattle.std.specs.Prelude.{◌↔◌}
-use Rattle.nntp_article.specs.Session.Spool.{Lists}
+use Rattle.std.{proofs.Common.{◌≡◌, true}, specs.Prelude.{◌↔◌}}
+use Rattle.nntp_article.specs.Session.{Spool.{Lists}, Machine.{is_ascending}}
 use Rattle.nntp_wire.specs.Listing.{listed_numbers}
-use Rattle.nntp_article.specs.Session.Machine.{is_ascending}
-use Rattle.nntp_spool.specs.ListedNumbers.{ListsFrom}
+use Rattle.nntp_spool.specs.Inner.ListedNumbers.{ListsFrom}
 use Rattle.nntp_spool.proofs.value.numbers.Numbers.lists.Given as goal
 
 abbrev pub invariant-loop-number : goal.invariant-loop-number

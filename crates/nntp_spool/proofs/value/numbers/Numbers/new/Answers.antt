@@ -1,6 +1,4 @@
-use Rattle.std.proofs.Common.{ap}
-use Rattle.std.specs.Ordering.{nat_cmp}
-use Rattle.std.specs.Rc.{rc_str_bytes}
+use Rattle.std.{proofs.Common.{ap}, specs.{Ordering.{nat_cmp}, Rc.{rc_str_bytes}}}
 use Rattle.nntp_spool.proofs.NumberIds.{no_ids}
 use Rattle.nntp_wire.proofs.ShownMaps.{shown}
 use Rattle.nntp_spool.proofs.value.numbers.Numbers.new.Goals as goal

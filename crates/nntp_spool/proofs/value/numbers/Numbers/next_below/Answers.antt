@@ -1,5 +1,4 @@
-use Rattle.std.proofs.Common.{subst}
-use Rattle.std.specs.Rc.{rc_str_bytes}
+use Rattle.std.{proofs.Common.{subst}, specs.Rc.{rc_str_bytes}}
 use Rattle.nntp_article.specs.Session.Spool.{IsNextBelow, NoneBelow}
 use Rattle.nntp_spool.proofs.ShownNumbers.{next_below_from_range, none_below_from_range}
 use Rattle.nntp_spool.proofs.value.numbers.Numbers.next_below.Goals as goal

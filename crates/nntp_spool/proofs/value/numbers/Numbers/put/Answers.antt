@@ -1,13 +1,8 @@
-use Rattle.std.proofs.Common.{true, not, ap, sym, subst, ◌∙◌}
-use Rattle.std.specs.Ordering.{nat_cmp}
-use Rattle.std.specs.Cmp.{nat_cmp_total}
-use Rattle.std.specs.FinMap as map
-use Rattle.std.specs.Rc.{rc_str_bytes}
-use Rattle.std.proofs.lemmas.Bool.{not-false, not-true}
-use Rattle.std.proofs.lemmas.Result.{err_from_is_err_and}
-use Rattle.nntp_spool.specs.Numbers.{AreIdsOf, has_id}
-use Rattle.nntp_spool.proofs.NumberIds.{is_added, one_id_more, id_taken_back}
+use Rattle.std.{proofs.{Common.{true, not, ap, sym, subst, ◌∙◌}, lemmas.{Bool.{not-false, not-true}, Result.{err_from_is_err_and}}}, specs.Ordering.{nat_cmp}}
+use Rattle.std.specs.{Cmp.{nat_cmp_total}, Rc.{rc_str_bytes}}
+use Rattle.nntp_spool.{specs.{Inner.Numbers.{AreIdsOf}, Numbers.{has_id}}, proofs.NumberIds.{is_added, one_id_more, id_taken_back}}
 use Rattle.nntp_wire.proofs.ShownMaps.{insert-shown, shown}
+use Rattle.std.specs.FinMap as map
 use Rattle.nntp_spool.proofs.value.numbers.Numbers.put.Goals as goal
 
 pub returns-in_err-insert-clause-absent : goal.returns-in_err-insert-clause-absent
@@ -21,12 +16,14 @@ returns-in_err-insert-clause-absent g c =
 pub returns-then-not-branch-clause-added : goal.returns-then-not-branch-clause-added
 returns-then-not-branch-clause-added g c =
     sym c.if-not-branch.true
-    ∙ is_added c.self.inside.known.keys _ c.args.self.now (rc_str_bytes c.args.id.now) c.in-Ok.known c.in_ok-insert.field-0 c.self.invariant c.self.view_is c.in-Ok.ensures.1 c.in_ok-insert.ensures.added
+    ∙ is_added c.self.inside.known.keys _ c.args.self.now (rc_str_bytes c.args.id.now) c.in-Ok.known c.in_ok-insert.field-0 c.self.invariant c.self.view_is c.in-Ok.ensures.1
+    c.in_ok-insert.ensures.added
 
 pub returns-then-not-branch-clause-ok : goal.returns-then-not-branch-clause-ok
 returns-then-not-branch-clause-ok g c =
     let taken = sym c.if-not-branch.true
-    ∙ is_added c.self.inside.known.keys _ c.args.self.now (rc_str_bytes c.args.id.now) c.in-Ok.known c.in_ok-insert.field-0 c.self.invariant c.self.view_is c.in-Ok.ensures.1 c.in_ok-insert.ensures.added in
+    ∙ is_added c.self.inside.known.keys _ c.args.self.now (rc_str_bytes c.args.id.now) c.in-Ok.known c.in_ok-insert.field-0 c.self.invariant c.self.view_is c.in-Ok.ensures.1
+    c.in_ok-insert.ensures.added in
     rw (not-false (has_id c.args.self.now (rc_str_bytes c.args.id.now)) (sym taken)) c.self.view_is
 
 pub invariant_of-self-in-Ok-insert : goal.invariant_of-self-in-Ok-insert
@@ -43,12 +40,14 @@ invariant_of-self-in-Ok-insert g c =
 pub returns-in-Ok-insert-clause-added : goal.returns-in-Ok-insert-clause-added
 returns-in-Ok-insert-clause-added g c =
     sym c.if-not-branch.false
-    ∙ is_added c.self.inside.known.keys _ c.args.self.now (rc_str_bytes c.args.id.now) c.in-Ok.known c.in_ok-insert.field-0 c.self.invariant c.self.view_is c.in-Ok.ensures.1 c.in_ok-insert.ensures.added
+    ∙ is_added c.self.inside.known.keys _ c.args.self.now (rc_str_bytes c.args.id.now) c.in-Ok.known c.in_ok-insert.field-0 c.self.invariant c.self.view_is c.in-Ok.ensures.1
+    c.in_ok-insert.ensures.added
 
 pub returns-in-Ok-insert-clause-ok : goal.returns-in-Ok-insert-clause-ok
 returns-in-Ok-insert-clause-ok g c =
     let new = sym c.if-not-branch.false
-    ∙ is_added c.self.inside.known.keys _ c.args.self.now (rc_str_bytes c.args.id.now) c.in-Ok.known c.in_ok-insert.field-0 c.self.invariant c.self.view_is c.in-Ok.ensures.1 c.in_ok-insert.ensures.added in
+    ∙ is_added c.self.inside.known.keys _ c.args.self.now (rc_str_bytes c.args.id.now) c.in-Ok.known c.in_ok-insert.field-0 c.self.invariant c.self.view_is c.in-Ok.ensures.1
+    c.in_ok-insert.ensures.added in
     let is = insert-shown nat_cmp (λ k. k) (λ v. rc_str_bytes v) nat_cmp_total map.nat_cmp-IsAntisymmetric _ _ c.args.number c.in-Ok.held c.in-Ok-insert.ensures.entries
     ∙ ap (λ m. map.insert m c.args.number (rc_str_bytes c.in-Ok.held)) c.self.view_is
     ∙ ap (map.insert c.args.self.now c.args.number) c.in-Ok.ensures.0 in
@@ -69,5 +68,6 @@ invariant_of-self-in-Err g c =
 pub returns-clause-absent : goal.returns-clause-absent
 returns-clause-absent g c =
     let new = sym c.if-not-branch.false
-    ∙ is_added c.self.inside.known.keys _ c.args.self.now (rc_str_bytes c.args.id.now) c.in-Ok.known c.in_ok-insert.field-0 c.self.invariant c.self.view_is c.in-Ok.ensures.1 c.in_ok-insert.ensures.added in
+    ∙ is_added c.self.inside.known.keys _ c.args.self.now (rc_str_bytes c.args.id.now) c.in-Ok.known c.in_ok-insert.field-0 c.self.invariant c.self.view_is c.in-Ok.ensures.1
+    c.in_ok-insert.ensures.added in
     not-true (has_id c.args.self.now (rc_str_bytes c.args.id.now)) (sym new)

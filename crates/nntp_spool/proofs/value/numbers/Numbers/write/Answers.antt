@@ -1,10 +1,6 @@
-use Rattle.std.proofs.Common.{arith, refl, sym, ◌∙◌, [], ◌∷◌, ap, map as list_map}
-use Rattle.std.proofs.lemmas.Simd.{map-map}
-use Rattle.std.proofs.lemmas.Result.{err_from_is_err_and}
+use Rattle.std.proofs.{Common.{arith, refl, sym, ◌∙◌, [], ◌∷◌, ap, map as list_map}, lemmas.{Simd.{map-map}, Result.{err_from_is_err_and}}}
 use Rattle.std.specs.Rc.{rc_str_bytes}
-use Rattle.nntp_spool.specs.Text.{with_line_ends, number_line}
-use Rattle.nntp_spool.proofs.ShownMaps.{number_entries}
-use Rattle.nntp_spool.proofs.Written.{Wrote-head, Wrote-all}
+use Rattle.nntp_spool.{specs.Text.{with_line_ends, number_line}, proofs.{ShownMaps.{number_entries}, Written.{Wrote-head, Wrote-all}}}
 use Rattle.nntp_spool.proofs.WrittenLines.{with_line_ends-cons}
 use Rattle.nntp_spool.proofs.value.numbers.Numbers.write.Goals as goal
 

@@ -1,9 +1,5 @@
-use Rattle.std.proofs.Common.{◌≡◌, ◌++◌, map as list_map}
-use Rattle.std.specs.FinMap.{entries}
-use Rattle.std.specs.Rc.{rc_str_bytes}
-use Rattle.nntp_spool.specs.Text.{with_line_ends, number_line}
-use Rattle.nntp_spool.specs.Writing.{Wrote}
-use Rattle.nntp_spool.specs.Buffering.{taken, waiting, writer_failed, IsSameWriter}
+use Rattle.std.{proofs.Common.{◌≡◌, ◌++◌, map as list_map}, specs.{FinMap.{entries}, Rc.{rc_str_bytes}}}
+use Rattle.nntp_spool.specs.{Text.{with_line_ends, number_line}, Writing.{Wrote}, Inner.Buffering.{taken, waiting, writer_failed, IsSameWriter}}
 use Rattle.nntp_spool.proofs.value.numbers.Numbers.write.Given as goal
 
 abbrev pub invariant-loop-number : goal.invariant-loop-number

@@ -1,5 +1,5 @@
 use Rattle.std.proofs.Common.{subst}
-use Rattle.nntp_spool.specs.Text.{IsWritten}
+use Rattle.nntp_spool.specs.Inner.Text.{IsWritten}
 use Rattle.nntp_spool.proofs.value.spool.Spool.counts.Goals as goal
 
 pub returns-clause-is_written : goal.returns-clause-is_written

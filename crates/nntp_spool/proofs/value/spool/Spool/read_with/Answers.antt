@@ -1,6 +1,5 @@
 use Rattle.std.proofs.Common.{inl, sym, ap, ◌∙◌, arith}
-use Rattle.nntp_spool.specs.Text.{spool_text}
-use Rattle.nntp_spool.proofs.WholeSpools.{read_is_text, read_is_same, fault_is_no_text}
+use Rattle.nntp_spool.{specs.Text.{spool_text}, proofs.WholeSpools.{read_is_text, read_is_same, fault_is_no_text}}
 use Rattle.nntp_spool.proofs.value.spool.Spool.read_with.Goals as goal
 
 pub new-requires : goal.new-requires

@@ -1,9 +1,5 @@
-use Rattle.std.proofs.Common.{rules, [], ap, refl}
-use Rattle.std.proofs.lemmas.Result.{err_from_is_err_and}
-use Rattle.nntp_spool.specs.Watched.{inner_of}
-use Rattle.nntp_spool.specs.Text.{spool_text}
-use Rattle.nntp_spool.specs.Buffering.{waiting}
-use Rattle.nntp_spool.proofs.Written.{Wrote-last, Writes-last, Writes-at}
+use Rattle.std.proofs.{Common.{rules, [], ap, refl}, lemmas.Result.{err_from_is_err_and}}
+use Rattle.nntp_spool.{specs.{Watched.{inner_of}, Text.{spool_text}, Inner.Buffering.{waiting}}, proofs.Written.{Wrote-last, Writes-last, Writes-at}}
 use Rattle.nntp_spool.proofs.WrittenLines.{Limit-first}
 use Rattle.nntp_spool.proofs.value.spool.Spool.write.Goals as goal
 

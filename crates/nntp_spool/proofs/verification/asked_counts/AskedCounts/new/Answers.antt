@@ -1,6 +1,4 @@
-use Rattle.std.proofs.Common.{None, Some}
-use Rattle.std.specs.Ordering.{nat_cmp}
-use Rattle.std.specs.Cmp.Lexicographic.{slice_cmp, nat_list_cmp_total}
+use Rattle.std.{proofs.Common.{None, Some}, specs.{Ordering.{nat_cmp}, Cmp.Lexicographic.{slice_cmp, nat_list_cmp_total}}}
 use Rattle.nntp_wire.proofs.ShownMaps.{get-shown}
 use Rattle.nntp_spool.proofs.verification.asked_counts.AskedCounts.new.Goals as goal
 

@@ -1,9 +1,7 @@
-use Rattle.std.proofs.Common.{◌≡◌, Some, ap, sym, ◌∙◌}
-use Rattle.std.specs.Ordering.{nat_cmp}
-use Rattle.std.specs.Cmp.Lexicographic.{slice_cmp, nat_list_cmp_total}
-use Rattle.std.specs.FinMap as map
+use Rattle.std.{proofs.Common.{◌≡◌, Some, ap, sym, ◌∙◌}, specs.{Ordering.{nat_cmp}, Cmp.Lexicographic.{slice_cmp, nat_list_cmp_total}}}
 use Rattle.nntp_wire.proofs.ShownMaps.{get-shown, option_map_id}
-use Rattle.nntp_spool.specs.AskedCounts.{remembered}
+use Rattle.nntp_spool.specs.Inner.AskedCounts.{remembered}
+use Rattle.std.specs.FinMap as map
 use Rattle.nntp_spool.proofs.verification.asked_counts.AskedCounts.remembered.Goals as goal
 
 pub returns-in-Some : goal.returns-in-Some

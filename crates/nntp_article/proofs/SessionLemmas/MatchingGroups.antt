@@ -1,0 +1,141 @@
+-- Groups of a map that match, and as many names that are listed.
+use Rattle.std.proofs.Common.{◌≡◌, ℕ, Bool, true, false, cond, not, T, None, is_some, List, [], ◌∷◌, map, length, refl, sym, ap, subst, ◌∙◌, arith}
+use Rattle.std.proofs.lemmas.{Bool.{true≢false, and_parts, not-true}, List.{length-map, Sums.{length-filter}}, Map.Entries.{length-keys_of}}
+use Rattle.std.proofs.lemmas.Map.{Keys.{IsDistinct-from_sorted, IsDistinct-cons}, Made.{IsDistinct-keys_filter, length-le_from_is_member}}
+use Rattle.std.{proofs.lemmas.Map.Text.{is_eq-slice_cmp}, specs.{Prelude.{◌||◌}, declared.cmp.Ordering.{Ordering, TheVariants.{Less, Equal, Greater}}}}
+use Rattle.std.specs.{Ordering.{nat_cmp, is_lt, eq_by_cmp}, Cmp.{eq_by_cmp_equiv, Lexicographic.{slice_cmp, nat_list_cmp_total}}, List.{list_all, list_any}}
+use Rattle.std.specs.{List.{count_by, filter, AllByRecursion, IsDistinct, Sorted.{IsStrictlySortedBy}}, Map.{keys_of}, Set.{is_member}, FinMap.{FinMap, get}}
+use Rattle.std.specs.FinMap.{entries, find, is_sorted, entries_sorted, get-entries, IsAntisymmetric, nat_cmp-IsAntisymmetric, slice_cmp-IsAntisymmetric}
+use Rattle.std.specs.FinMap.Entries.{below_all, is_some-find, find-where_key}
+use Rattle.nntp_wire.{specs.Listing.{ActiveValue}, proofs.ShownMaps.{equal_is}}
+use Rattle.nntp_article.specs.Session.{Spool.{Name}, Machine.{is_same, names_differ}}
+
+abbrev pub same_name : Name → Name → Bool
+same_name a b = eq_by_cmp (slice_cmp nat_cmp) a b
+
+abbrev pub names_of : List ActiveValue → List Name
+names_of lines = map (λ line. line.name) lines
+
+-- ---- names that are listed
+
+pub member_names : (q : Name) (lines : List ActiveValue) → is_member same_name (names_of lines) q ≡ list_any (λ line. is_same q line.name) lines
+member_names q [] = refl
+member_names q (l ∷ lines) = rw (is_eq-slice_cmp q l.name) (ap (λ b. is_same q l.name || b) (member_names q lines))
+
+-- no other is the same
+none_same : (name : List ℕ) (lines : List ActiveValue) → list_any (λ line. is_same name line.name) lines ≡ false → list_all (λ other. not (is_same name other.name)) lines ≡ true
+none_same name [] e = refl
+none_same name (l ∷ lines) e = by (is_same name l.name) (list_any (λ line. is_same name line.name) lines) refl e (none_same name lines)
+  where
+    by : (a b : Bool) → is_same name l.name ≡ a → (a || b) ≡ false
+        → (b ≡ false → list_all (λ other. not (is_same name other.name)) lines ≡ true)
+        → list_all (λ other. not (is_same name other.name)) (l ∷ lines) ≡ true
+    by true b p e rest = absurd (true≢false e)
+    by false b p e rest = rw p (rest e)
+
+no_other : (name : Name) (lines : List ActiveValue) → list_all (λ other. not (is_same name other.name)) lines ≡ true → AllByRecursion (λ y. same_name name y ≡ false) (names_of lines)
+no_other name [] e = tt
+no_other name (l ∷ lines) e =
+    let both = and_parts (not (is_same name l.name)) (list_all (λ other. not (is_same name other.name)) lines) e in
+    (is_eq-slice_cmp name l.name ∙ not-true (is_same name l.name) both.0, no_other name lines both.1)
+
+distinct_names : (lines : List ActiveValue) → names_differ lines ≡ true → IsDistinct same_name (names_of lines)
+unfolding IsDistinct
+distinct_names [] e = tt
+distinct_names (l ∷ lines) e =
+    let both = and_parts (list_all (λ other. not (is_same l.name other.name)) lines) (names_differ lines) e in
+    (no_other l.name lines both.0, distinct_names lines both.1)
+
+-- ---- keys that match
+
+less_is : (r : Ordering) → is_lt r ≡ true → r ≡ Less
+less_is Less e = refl
+less_is Equal e = cc
+less_is Greater e = cc
+
+is_passed : (b : Bool) → T b → b ≡ true
+is_passed true h = refl
+is_passed false h = absurd h
+
+-- equal keys of octets are one
+octet_keys : IsAntisymmetric (slice_cmp nat_cmp)
+octet_keys = slice_cmp-IsAntisymmetric nat_cmp-IsAntisymmetric
+
+module _ {X : Type 0} where
+  below_keys : (k : Name) (es : List (Name × X)) → below_all (slice_cmp nat_cmp) k es ≡ true → AllByRecursion (λ y. slice_cmp nat_cmp k y ≡ Less) (keys_of es)
+  below_keys k [] e = tt
+  below_keys k (x ∷ es) e = let both = and_parts (is_lt (slice_cmp nat_cmp k x.0)) (below_all (slice_cmp nat_cmp) k es) e in (less_is (slice_cmp nat_cmp k x.0) both.0, below_keys k es both.1)
+
+  sorted_keys : (es : List (Name × X)) → is_sorted (slice_cmp nat_cmp) es ≡ true → IsStrictlySortedBy (slice_cmp nat_cmp) (keys_of es)
+  unfolding IsStrictlySortedBy
+  sorted_keys [] e = tt
+  sorted_keys (x ∷ es) e = let both = and_parts (below_all (slice_cmp nat_cmp) x.0 es) (is_sorted (slice_cmp nat_cmp) es) e in (below_keys x.0 es both.0, sorted_keys es both.1)
+
+  module _ (m : FinMap (slice_cmp nat_cmp) X) (t : Name → Bool) where
+    -- the keys that pass a test
+    abbrev kept : List Name
+    kept = keys_of (filter (λ e. t e.0) (entries m))
+
+    count-kept : count_by (λ e. t e.0) (entries m) ≡ length kept
+    count-kept = sym (length-filter (λ e. t e.0) (entries m)) ∙ sym (length-keys_of (filter (λ e. t e.0) (entries m)))
+
+    distinct_kept : IsDistinct same_name kept
+    distinct_kept = IsDistinct-keys_filter same_name (λ e. t e.0) (entries m)
+        (IsDistinct-from_sorted (slice_cmp nat_cmp) (keys_of (entries m))
+        (sorted_keys (entries m) (is_passed _ (entries_sorted m))))
+
+    member_kept : (q : Name) → is_member same_name kept q ≡ cond (t q) (is_some (get m q)) false
+    member_kept q =
+        sym (is_some-find (slice_cmp nat_cmp) q (filter (λ e. t e.0) (entries m)))
+        ∙ ap is_some (find-where_key (slice_cmp nat_cmp) t q (λ x tied. ap t (sym (octet_keys q x tied))) (entries m))
+        ∙ by (t q) ∙ ap (λ o. cond (t q) (is_some o) false) (sym (get-entries m q))
+      where
+        by : (b : Bool) → is_some (cond b (find (slice_cmp nat_cmp) q (entries m)) None) ≡ cond b (is_some (find (slice_cmp nat_cmp) q (entries m))) false
+        by true = refl
+        by false = refl
+
+    member_if : (q : Name) → is_some (get m q) ≡ true → t q ≡ true → is_member same_name kept q ≡ true
+    member_if q here passes = member_kept q ∙ rw passes here
+
+    member_is : (q : Name) → is_member same_name kept q ≡ true → (is_some (get m q) ≡ true) × (t q ≡ true)
+    member_is q e = by (t q) refl (sym (member_kept q) ∙ e)
+      where
+        by : (b : Bool) → t q ≡ b → cond b (is_some (get m q)) false ≡ true → (is_some (get m q) ≡ true) × (t q ≡ true)
+        by true p h = (h, p)
+        by false p h = absurd (true≢false (sym h))
+
+    module _ (lines : List ActiveValue) (differ : names_differ lines ≡ true) (are : (q : Name) → list_any (λ line. is_same q line.name) lines ≡ true → (is_some (get m q) ≡ true) × (t q ≡ true)) where
+      length-names : length (names_of lines) ≡ length lines
+      length-names = simp length-map
+
+      are_kept : (q : Name) → is_member same_name (names_of lines) q ≡ true → is_member same_name kept q ≡ true
+      are_kept q e = let a = are q (sym (member_names q lines) ∙ e) in member_if q a.0 a.1
+
+      -- where each key that passes is listed, as many are listed as pass
+      pub as_many : ((q : Name) → is_some (get m q) ≡ true → t q ≡ true → list_any (λ line. is_same q line.name) lines ≡ true) → count_by (λ e. t e.0) (entries m) ≡ length lines
+      as_many each =
+          let most = length-le_from_is_member (eq_by_cmp_equiv nat_list_cmp_total) (names_of lines) kept (distinct_names lines differ) are_kept in
+          let least = length-le_from_is_member (eq_by_cmp_equiv nat_list_cmp_total) kept (names_of lines) distinct_kept (λ q e. let is = member_is q e in member_names q lines ∙ each q is.0 is.1) in
+          let same : length kept ≡ length (names_of lines) = omega arith in
+          count-kept ∙ same ∙ length-names
+
+      -- and the other way round
+      pub each_listed : count_by (λ e. t e.0) (entries m) ≡ length lines → (q : Name) → is_some (get m q) ≡ true → t q ≡ true → list_any (λ line. is_same q line.name) lines ≡ true
+      each_listed count q here passes = by (list_any (λ line. is_same q line.name) lines) refl
+        where
+          one_more : list_any (λ line. is_same q line.name) lines ≡ false → (x : Name) → is_member same_name (q ∷ names_of lines) x ≡ true → is_member same_name kept x ≡ true
+          one_more missing x e = of (same_name x q) refl e
+            where
+              of : (b : Bool) → same_name x q ≡ b → (b || is_member same_name (names_of lines) x) ≡ true → is_member same_name kept x ≡ true
+              of true tied e = subst (λ k. is_member same_name kept k ≡ true) (sym (octet_keys x q (equal_is (slice_cmp nat_cmp x q) tied))) (member_if q here passes)
+              of false tied e = are_kept x e
+
+          apart : list_any (λ line. is_same q line.name) lines ≡ false → IsDistinct same_name (q ∷ names_of lines)
+          apart missing = IsDistinct-cons same_name q (names_of lines) (no_other q lines (none_same q lines missing)) (distinct_names lines differ)
+
+          by : (b : Bool) → list_any (λ line. is_same q line.name) lines ≡ b → b ≡ true
+          by true e = refl
+          by false e =
+              let most = length-le_from_is_member (eq_by_cmp_equiv nat_list_cmp_total) (q ∷ names_of lines) kept (apart e) (one_more e) in
+              let same : length kept ≡ length (names_of lines) = sym count-kept ∙ count ∙ sym length-names in
+              absurd (omega arith)

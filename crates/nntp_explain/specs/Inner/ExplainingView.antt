@@ -1,0 +1,224 @@
+-- What the values of src/standing.rt and src/explainer.rt mean.
+use Rattle.std.specs.{Prelude.{◌≡◌, ℕ, zero, suc, ◌+◌, ◌≤◌, List, [], ◌∷◌, ◌++◌, length, map, drop, Option, None}, List.{AllByRecursion, flat_map}}
+use Rattle.std.specs.Option.{option_copied, option_map, option_map_or}
+use Rattle.nntp_wire.specs.{Answer.{Asked}, Misspelling.{misspelling}}
+use Rattle.nntp_article.specs.{Session.Misfit.{misfit}, declared.session.profile.Profile.{Profile}}
+use Rattle.nntp_pair.specs.{Pairing.{Paired, Unpaired, asked_at, streams}, declared.class.Class.{Class}}
+use Rattle.nntp_facts.specs.{Conflict.{Placed, placed_of, SomeHas, told_with, below}, Inner.{Conflict.{FitsThere}, Noted.{FactsKept, HasNotedBehind, begun}}}
+use Rattle.nntp_facts.specs.{Inner.Noted.{profile_kept}, Noted.{ArePermittedBehind}, Reading.{Judged, accepted_of, AreJudged, IsReadingBy}}
+use Rattle.nntp_several.specs.{Conflict.{placed_of_all}, Reading.{ReadSession, IsReadingOfAll}, Sessions.{Named, Recorded, unnamed}}
+use Rattle.nntp_printing.specs.Title.{title_line}
+use Rattle.nntp_explain.specs.declared.{standing.{Standing.{Standing as StandingCode}, Cited.{Cited as CitedCode}}, explainer.Explainer.{Explainer}}
+use Rattle.nntp_explain.specs.Standing.{Standing, Cited, standing, standing_after, cited_at, cited_each, number_behind, cited_of_all, closing}
+use Rattle.nntp_explain.specs.{Inner.Explaining.{ToldContradiction}, Explaining.{IsTold, IsConflictOf, AreExplained, count_bad, IsSessionExplained, Counts}}
+use Rattle.nntp_explain.specs.{Explaining.{counts_of, titled, none_counted, AreSessionsExplained}, Reasons.{unfitting_lines, misspelling_line}}
+use Rattle.nntp_said.specs.declared.position.Position.{Position}
+
+-- where a session stands, without where the name lies in memory
+abbrev pub standing_of : StandingCode → Standing
+standing_of s = record { name = s.name; selected_by = s.selected_by; position = s.position; moved_by = s.moved_by }
+
+-- an answer as it is cited, without where its octets lie in memory
+abbrev pub cited_of : CitedCode → Cited
+cited_of c = record { session = c.session; index = c.index; line = option_copied c.line; initial = c.initial.now; stands = option_map standing_of c.standing }
+
+-- what is kept of answers that were judged: what the accepted ones say, each of them as it is placed and cited; the number of the session, how many of them are of earlier ones, and its name until it
+-- is told; where it stands, which answer closed the connection, and which contradictions of it were told; and how many are bad
+pub record Kept : Type 0 where
+  pub facts : FactsKept
+  pub placed : List Placed
+  pub cited : List Cited
+  pub session : ℕ
+  pub others : ℕ
+  pub title : Option (List ℕ)
+  pub stands : Option Standing
+  pub closing : Option Cited
+  pub contradictions : List ToldContradiction
+  pub bad : ℕ
+
+-- the same as a further session begins
+abbrev pub begins : Option (List ℕ) → Kept → Kept
+begins title k = record {
+  facts = begun k.facts;
+  placed = k.placed;
+  cited = k.cited;
+  session = k.session + 1;
+  others = length k.placed;
+  title = title;
+  stands = None;
+  closing = None;
+  contradictions = [];
+  bad = k.bad;
+}
+
+-- an answer in the selected group, at a position
+abbrev pub placed_at : Option Standing → Position → Paired → Placed
+placed_at stands position pair = record { selected = option_map (λ s. s.name) stands; position = position; asked = asked_at pair.line; response = pair.response }
+
+-- the same with one more accepted answer, before which the session stood at this position
+abbrev pub keeps : Position → Paired → Kept → Kept
+keeps position pair k = record k {
+  placed = k.placed ++ placed_at k.stands position pair ∷ [];
+  cited = k.cited ++ cited_at k.session k.stands pair ∷ [];
+  stands = standing_after k.stands pair;
+}
+
+-- the same with one more bad answer, which is told behind the name
+abbrev pub refuses : Kept → Kept
+refuses k = record k { title = None; bad = k.bad + 1 }
+
+-- the line of the name, until it is told
+abbrev pub title_of : Kept → List ℕ
+title_of k = option_map_or (title_line k.session) k.title []
+
+-- why an answer doesn't fit what is kept of its session
+abbrev pub unfitting_told : Kept → Paired → List ℕ
+unfitting_told k pair =
+    option_map_or (unfitting_lines k.session (drop k.others k.placed) (drop k.others k.cited) pair.response)
+    (misfit (profile_kept k.facts) k.facts.visible (asked_at pair.line) pair.response) []
+
+-- ---- sessions that were read whole
+
+-- this is kept of these accepted answers of sessions that were read whole
+pub record AreKept (profile : Profile) (earlier : List (List Paired)) (kept : Kept) : Type 0 where
+  pub noted : HasNotedBehind profile (begun kept.facts) earlier []
+  pub placed_are : kept.placed ≡ flat_map placed_of earlier
+  pub cited_are : kept.cited ≡ cited_each 1 earlier
+  pub session_is : kept.session ≡ length earlier
+
+-- what a session is read behind: the accepted answers of earlier ones, how many answers are bad, and what is told; and its name, if it is told
+pub record Before : Type 0 where
+  pub earlier : List (List Paired)
+  pub bad : ℕ
+  pub text : List ℕ
+  pub title : Option (List ℕ)
+
+-- ---- a session that is read
+
+-- of each of these contradictions the reason is that of the bad answer behind all accepted ones that are kept
+abbrev pub AreReasons : Profile → Kept → List ToldContradiction → Type 0
+AreReasons profile k contradictions = AllByRecursion (λ c. IsConflictOf k.session profile c.bad k.placed k.cited c.reason) contradictions
+
+-- the name that is still to be told where so many answers of the session are bad
+abbrev pub untold : Option (List ℕ) → ℕ → Option (List ℕ)
+untold title zero = title
+untold title (suc bad) = None
+
+-- the line of it that is told then
+abbrev pub title_told : ℕ → Option (List ℕ) → ℕ → List ℕ
+title_told number title bad = option_map_or (λ name. titled number name bad) title []
+
+-- answers of both streams were judged, this is kept of them, and this is told; and then this is left
+pub record AreTold (profile : Profile) (b : Before) (client server : List ℕ) (kept : Kept) (text : List ℕ) (left : Unpaired) : Type 0 where
+  pub answers : List Judged
+  pub judged : AreJudged (ArePermittedBehind profile b.earlier) [] (streams client server) answers left
+  pub noted : HasNotedBehind profile kept.facts b.earlier (accepted_of answers)
+  pub placed_are : kept.placed ≡ placed_of_all b.earlier (accepted_of answers)
+  pub cited_are : kept.cited ≡ cited_of_all b.earlier (accepted_of answers)
+  pub session_is : kept.session ≡ number_behind b.earlier
+  pub others_are : kept.others ≡ length (flat_map placed_of b.earlier)
+  pub title_is : kept.title ≡ untold b.title (count_bad answers)
+  pub stands_there : kept.stands ≡ standing (accepted_of answers)
+  pub closing_is : kept.closing ≡ closing (number_behind b.earlier) answers
+  pub reasons : AreReasons profile kept kept.contradictions
+  pub bad_are : kept.bad ≡ b.bad + count_bad answers
+  pub few : kept.bad ≤ length text
+  pub told : List ℕ
+  pub explained : AreExplained profile b.earlier b.bad [] answers told
+  pub silent : count_bad answers ≡ 0 → told ≡ []
+  pub text_is : text ≡ b.text ++ title_told (number_behind b.earlier) b.title (count_bad answers) ++ told
+
+-- both streams were read to their end, this is kept, and this is told; and so many lines have no answer
+pub record IsRead (profile : Profile) (b : Before) (client server : List ℕ) (kept : Kept) (text : List ℕ) (unanswered : ℕ) : Type 0 where
+  pub read : ReadSession
+  pub reading : IsReadingBy (ArePermittedBehind profile b.earlier) client server read.answers read.ending
+  pub noted : HasNotedBehind profile kept.facts b.earlier (accepted_of read.answers)
+  pub placed_are : kept.placed ≡ placed_of_all b.earlier (accepted_of read.answers)
+  pub cited_are : kept.cited ≡ cited_of_all b.earlier (accepted_of read.answers)
+  pub session_is : kept.session ≡ number_behind b.earlier
+  pub few : kept.bad ≤ length text
+  pub bad_are : kept.bad ≡ b.bad + (counts_of read reading.left).bad
+  pub unanswered_are : unanswered ≡ (counts_of read reading.left).unanswered
+  pub lines : List ℕ
+  pub explained : IsSessionExplained profile b.earlier b.bad read reading.left lines
+  pub text_is : text ≡ b.text ++ title_told (number_behind b.earlier) b.title (counts_of read reading.left).bad ++ lines
+
+-- ---- all sessions
+
+-- the accepted answers of these, and of sessions that were read behind them
+abbrev pub accepted_behind : List (List Paired) → List ReadSession → List (List Paired)
+accepted_behind earlier [] = earlier
+accepted_behind earlier (read ∷ readings) = accepted_behind (earlier ++ accepted_of read.answers ∷ []) readings
+
+-- these sessions were read, this is kept of them, and this is told; and so many lines have no answer
+pub record HaveRead (profile : Profile) (sessions : List Named) (kept : Kept) (text : List ℕ) (unanswered : ℕ) : Type 0 where
+  pub readings : List ReadSession
+  pub are_readings : IsReadingOfAll profile (unnamed sessions) readings
+  pub are_kept : AreKept profile (accepted_behind [] readings) kept
+  pub as_many : length (accepted_behind [] readings) ≡ length sessions
+  pub few : kept.bad ≤ length text
+  pub counts : Counts
+  pub answers_are : length kept.cited + kept.bad ≡ counts.answers
+  pub bad_are : kept.bad ≡ counts.bad
+  pub unanswered_are : unanswered ≡ counts.unanswered
+  pub explained : AreSessionsExplained profile [] none_counted sessions readings are_readings text counts
+
+-- ---- the explainer
+
+-- what an explainer keeps
+abbrev pub kept_of : {A : Type 0} → Explainer A → Kept
+kept_of e = record {
+  facts = e.facts;
+  placed = e.placed.items;
+  cited = map cited_of e.cited.items;
+  session = e.session;
+  others = e.others;
+  title = option_copied e.title;
+  stands = option_map standing_of e.standing;
+  closing = option_map cited_of e.closing;
+  contradictions = e.contradictions.items;
+  bad = e.bad;
+}
+
+-- it has read nothing
+abbrev pub HasReadNone : {A : Type 0} → Explainer A → Type 0
+HasReadNone e = AreKept (profile_kept e.facts) [] (kept_of e) × (e.bad ≡ 0) × (e.text.items ≡ [])
+
+-- what the explainer keeps and tells is that of answers of both streams
+abbrev pub HasTold : {A : Type 0} → Profile → Before → List ℕ → List ℕ → Explainer A → Unpaired → Type 0
+HasTold profile b client server e left = AreTold profile b client server (kept_of e) e.text.items left
+
+-- this is kept before any answer of a session
+abbrev pub HasBegun : {A : Type 0} → Profile → Before → Recorded → Explainer A → Type 0
+HasBegun profile b s e = HasTold profile b s.client s.server e (streams s.client s.server)
+
+-- the text goes on with more, of which this is so
+abbrev pub GoesOn : (List ℕ → Type 0) → List ℕ → List ℕ → Type 0
+GoesOn P old new = (more : List ℕ) × (new ≡ old ++ more) × P more
+
+-- ---- an answer that is bad beside what is kept
+
+-- why a frame that is passed over spells nothing
+abbrev pub unspelled_lines : Asked → List ℕ → Option (List ℕ) → List ℕ
+unspelled_lines asked initial block = option_map_or misspelling_line (misspelling asked initial block) []
+
+-- the answer of an exchange as it is placed, if it stands at this position
+abbrev pub placed_here : Kept → Position → Paired → Placed
+placed_here k position pair = placed_at k.stands position pair
+
+-- it fits where it stands, as each accepted answer does
+abbrev pub Fits : Kept → Placed → Type 0
+Fits k bad = AllByRecursion (FitsThere (profile_kept k.facts)) (bad ∷ k.placed)
+
+-- no spool has what it says and what all accepted answers say
+abbrev pub Contradicts : Kept → Placed → Type 0
+Contradicts k bad = SomeHas (profile_kept k.facts) (told_with (profile_kept k.facts) bad k.placed (below (length k.placed))) → ⊥
+
+-- the text tells with which accepted answers it conflicts, and about what
+abbrev pub TellsConflict : Kept → Placed → List ℕ → Type 0
+TellsConflict k bad text = IsConflictOf k.session (profile_kept k.facts) bad k.placed k.cited text
+
+-- the report goes on with a bad answer, behind the name of its session where that is untold: its lines, where the session stands, and a reason
+abbrev pub TellsBad : Kept → ℕ → Class → Option (List ℕ) → List ℕ → (List ℕ → Type 0) → List ℕ → List ℕ → Type 0
+TellsBad k index class line initial Reason old new =
+    GoesOn (IsTold k.bad k.stands index class line initial Reason) (old ++ title_of k) new

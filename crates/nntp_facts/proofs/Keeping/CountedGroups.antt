@@ -1,0 +1,127 @@
+-- How many groups that are listed are shown already: as many as are shown and match exactly if none is missing.
+use Rattle.std.proofs.Common.{◌≡◌, ℕ, Bool, true, false, ◌||◌, ◌&&◌, cond, not, IsTrue, is_some, List, [], ◌∷◌, ◌++◌, length, Option, refl, sym, ap, subst, ◌∙◌}
+use Rattle.std.{proofs.lemmas.{Bool.{true≢false, and_parts, and_from}, Map.Views.{any-filter_same}}, specs.{Prelude.{◌↔◌, IsFalse}, List.{AllByRecursion}}}
+use Rattle.std.specs.{List.{list_any, list_all, filter}, Option.{option_map_or}, FinMap.{get}, Cmp.Lexicographic.{same_text, nat_list_eq_equiv}}
+use Rattle.nntp_wire.{specs.{Decided.{is_group_name, matches_name}, Inner.Decided.{is_asked}, Listing.{ActiveValue}}, proofs.DecidedLemmas.{group_name-iff}}
+use Rattle.nntp_article.{specs.Session.{Spool.{Name}, Machine.{is_same, names_differ}}, proofs.SessionLemmas.MatchingGroups.{as_many, each_listed}}
+use Rattle.nntp_said.specs.Facts.{Fact, GroupsAre}
+use Rattle.nntp_facts.specs.{Given.{shows_group, is_shown_group}, Together.{denies_group}, Inner.{Together.{Together}, Kept.{told, AreKeptGroups, asked_count}}}
+use Rattle.nntp_facts.{specs.Inner.ListedGroups.{MayList, WereListed, is_listed, shown_lines, NoneIsMissing}, proofs.Members.{In, in_contains, contains_in}}
+use Rattle.nntp_facts.proofs.{Members.{in_front, all_at, any_in, found_in}, Keeping.{KeptGroups.{Groups, shown_kept}, ShownNames.{shown_named}}}
+
+-- groups that were listed are so behind more facts
+pub listed_still : (facts more : List Fact) (p : Option (List ℕ)) (count : ℕ) → WereListed facts p count → WereListed (facts ++ more) p count
+listed_still facts more p count were = record {
+  lines = were.lines;
+  said = contains_in (GroupsAre p were.lines) (facts ++ more) (in_front (GroupsAre p were.lines) facts more (in_contains (GroupsAre p were.lines) facts were.said));
+  may = were.may;
+  counted = were.counted;
+}
+
+-- ---- some of the lines
+
+-- what holds of each holds of those that pass a test
+all_filtered : {X : Type 0} (test p : X → Bool) (xs : List X) → list_all p xs ≡ true → list_all p (filter test xs) ≡ true
+all_filtered test p [] e = refl
+all_filtered test p (x ∷ xs) e = let both = and_parts (p x) (list_all p xs) e in
+    elim (test x) as (λ b. list_all p (cond b (x ∷ filter test xs) (filter test xs)) ≡ true) [
+      | true ↦ and_from (p x) (list_all p (filter test xs)) both.0 (all_filtered test p xs both.1)
+      | false ↦ all_filtered test p xs both.1
+    ]
+
+-- where no group is listed twice, none is in those
+still_differ : (test : ActiveValue → Bool) (lines : List ActiveValue) → names_differ lines ≡ true → names_differ (filter test lines) ≡ true
+still_differ test [] e = refl
+still_differ test (line ∷ lines) e =
+    let other = λ (other : ActiveValue). not (is_same line.name other.name) in
+    let both = and_parts (list_all other lines) (names_differ lines) e in
+    elim (test line) as (λ b. names_differ (cond b (line ∷ filter test lines) (filter test lines)) ≡ true) [
+      | true ↦ and_from (list_all other (filter test lines)) (names_differ (filter test lines)) (all_filtered test other lines both.0) (still_differ test lines both.1)
+      | false ↦ still_differ test lines both.1
+    ]
+
+-- the names of the lines are compared the other way round
+listed_by : (lines : List ActiveValue) (name : Name) → list_any (λ line. is_same name line.name) lines ≡ is_listed lines name
+listed_by [] name = refl
+listed_by (line ∷ lines) name = λ i. nat_list_eq_equiv.symm name line.name i || listed_by lines name i
+
+-- ---- what was listed
+
+module _ (facts : List Fact) (p : Option (List ℕ)) (t : Together facts) (before : List ActiveValue) (said : In (GroupsAre p before) facts) where
+  -- a name that matches and isn't denied was listed
+  was_listed : (name : Name) → option_map_or (λ w. matches_name w name) p true ≡ true → IsFalse (list_any (denies_group name) facts) → is_listed before name ≡ true
+  was_listed name matching free = by (is_listed before name) refl
+    where
+      by : (b : Bool) → is_listed before name ≡ b → b ≡ true
+      by true e = refl
+      by false e =
+          let denied : denies_group name (GroupsAre p before) ≡ true = and_from (option_map_or (λ w. matches_name w name) p true) (not (is_listed before name)) matching (ap not e) in
+          absurd (true≢false (sym (any_in (denies_group name) (GroupsAre p before) facts said denied) ∙ free))
+
+  -- a group that was listed is shown
+  was_shown : (name : Name) → is_listed before name ≡ true → is_shown_group facts name ≡ true
+  was_shown name there = any_in (shows_group name) (GroupsAre p before) facts said there
+
+-- a name that is listed matches, if each line does
+listed_matches : (p : Option (List ℕ)) (lines : List ActiveValue) → AllByRecursion (λ line. IsTrue (option_map_or (λ w. matches_name w line.name) p true)) lines
+    → (name : Name) → is_listed lines name ≡ true → option_map_or (λ w. matches_name w name) p true ≡ true
+listed_matches p lines matching name there =
+    let f = found_in (λ line. is_same line.name name) lines there in
+    subst (λ name. option_map_or (λ w. matches_name w name) p true ≡ true) (same_text f.0.name name (sym f.2))
+    (all_at (λ line. IsTrue (option_map_or (λ w. matches_name w line.name) p true)) f.0 lines matching f.1)
+
+-- ---- groups that are shown and match
+
+module _ (facts : List Fact) (groups : Groups) (kept : AreKeptGroups facts groups) (t : Together facts) (p : Option (List ℕ)) where
+  is_kept : (name : Name) → is_some (get groups name) ≡ is_shown_group facts name
+  is_kept name = shown_kept (told facts) groups name kept
+
+  -- there is no wildmat, or the name matches it
+  abbrev is_matched : Name → Bool
+  is_matched name = option_map_or (λ w. matches_name w name) p true
+
+  asked : (name : Name) → is_shown_group facts name ≡ true → is_matched name ≡ true → is_asked p name ≡ true
+  asked name shown matching = and_from (is_group_name name) (is_matched name) ((group_name-iff name).1 (shown_named facts name t.well_formed shown)) matching
+
+  module _ (lines : List ActiveValue) (differ : names_differ lines ≡ true) (are : (name : Name) → is_listed lines name ≡ true → (is_shown_group facts name ≡ true) × (is_matched name ≡ true)) where
+    are_asked : (name : Name) → list_any (λ line. is_same name line.name) lines ≡ true → (is_some (get groups name) ≡ true) × (is_asked p name ≡ true)
+    are_asked name e = let a = are name (sym (listed_by lines name) ∙ e) in (is_kept name ∙ a.0, asked name a.0 a.1)
+
+    -- where each of them is listed, as many are listed
+    as_many_listed : ((name : Name) → is_shown_group facts name ≡ true → is_matched name ≡ true → is_listed lines name ≡ true) → asked_count groups p ≡ length lines
+    as_many_listed each = as_many groups (is_asked p) lines differ are_asked
+        (λ name here passes. listed_by lines name ∙ each name (sym (is_kept name) ∙ here) (and_parts (is_group_name name) (is_matched name) passes).1)
+
+    -- and the other way round
+    all_listed : asked_count groups p ≡ length lines → (name : Name) → is_shown_group facts name ≡ true → is_matched name ≡ true → is_listed lines name ≡ true
+    all_listed count name shown matching =
+        sym (listed_by lines name) ∙ each_listed groups (is_asked p) lines differ are_asked count name (is_kept name ∙ shown) (asked name shown matching)
+
+  -- as many were listed for the wildmat
+  pub were_asked : (count : ℕ) → WereListed facts p count → count ≡ asked_count groups p
+  were_asked count were =
+      let said = in_contains (GroupsAre p were.lines) facts were.said in
+      sym were.counted
+      ∙ sym (as_many_listed were.lines were.may.differ (λ name there. (was_shown facts p t were.lines said name there, listed_matches p were.lines were.may.matching name there))
+      (λ name shown matching. was_listed facts p t were.lines said name matching (t.groups name shown)))
+
+  -- as many that are listed are shown, exactly if none is missing
+  pub as_many_shown : (lines : List ActiveValue) → MayList p lines → (length (shown_lines facts lines) ≡ asked_count groups p) ↔ NoneIsMissing facts p lines
+  as_many_shown lines may = (
+    λ count name shown matching. (of_shown name (all_listed (shown_lines facts lines) differ are (sym count) name shown matching)).1,
+    λ none. sym (as_many_listed (shown_lines facts lines) differ are (λ name shown matching.
+        listed_if_shown name ∙ and_from (is_shown_group facts name) (is_listed lines name) shown (none name shown matching))),
+  )
+    where
+      differ : names_differ (shown_lines facts lines) ≡ true
+      differ = still_differ (λ line. is_shown_group facts line.name) lines may.differ
+
+      listed_if_shown : (name : Name) → is_listed (shown_lines facts lines) name ≡ (is_shown_group facts name && is_listed lines name)
+      listed_if_shown name = any-filter_same (λ line. is_same line.name name) (λ line. is_shown_group facts line.name) (is_shown_group facts name)
+          (λ line e. ap (is_shown_group facts) (same_text line.name name (sym e))) lines
+
+      of_shown : (name : Name) → is_listed (shown_lines facts lines) name ≡ true → (is_shown_group facts name ≡ true) × (is_listed lines name ≡ true)
+      of_shown name e = and_parts (is_shown_group facts name) (is_listed lines name) (sym (listed_if_shown name) ∙ e)
+
+      are : (name : Name) → is_listed (shown_lines facts lines) name ≡ true → (is_shown_group facts name ≡ true) × (is_matched name ≡ true)
+      are name e = let both = of_shown name e in (both.0, listed_matches p lines may.matching name both.1)

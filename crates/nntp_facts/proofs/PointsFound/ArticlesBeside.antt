@@ -1,0 +1,204 @@
+-- Points that are about articles, where what an answer says conflicts with what is kept.
+use Rattle.std.proofs.Common.{ℕ, Bool, true, false, not, cond, IsTrue, List, ◌≡◌, ◌++◌, ◌||◌, ◌⊎◌, Option, None, Some, inl, inr, refl, sym, ap, subst, ◌∙◌}
+use Rattle.std.{proofs.lemmas.Bool.{true≢false, cases_Bool, or_cases, or_left, or_right}, specs.{Prelude.{IfSome, IsFalse, MatchOption}, List.{list_any}}}
+use Rattle.std.specs.Cmp.Lexicographic.{same_text}
+use Rattle.nntp_wire.specs.declared.command.What.{What}
+use Rattle.nntp_article.specs.{Article.Parts.{Id, Line}, Session.Machine.{is_same, head_fits}, declared.session.profile.Profile.{Profile}}
+use Rattle.nntp_said.specs.Facts.{Fact}
+use Rattle.nntp_facts.specs.{Given.{first_given, head_in, body_in}, Together.{GiveOne, shows_article, denies_article}, Inner.Together.{SaidOfArticle, said_of}}
+use Rattle.nntp_facts.specs.Inner.{Together.{said_nothing, join_said, AreSame}, Kept.{Kept, said_kept}, Saying.{OfArticle, Sends, MayBeOf}}
+use Rattle.nntp_facts.specs.{Inner.{KeptSaying.{kept_by, said_in}, Points.{Statement, IsPointOf, IsBeside}}, Conflict.{Point, Article, HeadOf, BodyOf, rank}}
+use Rattle.nntp_facts.{specs.Conflict.{ConflictAt}, proofs.{Conflicts.{at_point}, PointsByRank.{of_rank}, Together.FactsOfASpoolStand.{same_itself}}}
+use Rattle.nntp_facts.proofs.{Together.TwoListsOfFacts.{give_one_both, give_same_of_both}, Keeping.SaidOfArticles.{said_append}}
+use Rattle.nntp_facts.proofs.PointsFound.{StatementsRead.{article_told}, KindsOfPoints.{alone_once}}
+
+-- ---- the parts of an article
+
+-- its head, or its body
+pub data Part : Type 0 where
+  Head : Part
+  Body : Part
+
+-- the part in what is said of an id
+abbrev pub part_of : Part → SaidOfArticle → Option (List Line)
+part_of Head s = s.head
+part_of Body s = s.body
+
+abbrev pub part_in : Part → Id → Fact → Option (List Line)
+part_in Head = head_in
+part_in Body = body_in
+
+-- the point that facts conflict about, where they send two
+abbrev pub about : Part → Id → Point
+about Head id = HeadOf id
+about Body id = BodyOf id
+
+abbrev pub part_rank : Part → ℕ
+part_rank Head = 8
+part_rank Body = 9
+
+none_of : (part : Part) → part_of part said_nothing ≡ None
+none_of Head = refl
+none_of Body = refl
+
+rank_about : (part : Part) (id : Id) → rank (about part id) ≡ part_rank part
+rank_about Head id = refl
+rank_about Body id = refl
+
+conflict_about : (part : Part) (id : Id) (facts : List Fact) → (GiveOne (part_in part id) facts → ⊥) → ConflictAt facts (about part id)
+conflict_about Head id facts c = c
+conflict_about Body id facts c = c
+
+-- ---- one answer beside the others
+
+module _ (profile : Profile) (facts : List Fact) (k : Kept) (t : Statement) (more : List Fact) (h : IsBeside profile facts k t more) where
+  abbrev all : List Fact
+  all = facts ++ more
+
+  -- they conflict at no point of the rank
+  abbrev IsFree : ℕ → Type 0
+  IsFree n = IsPointOf all n None
+
+  abbrev Free : Point → Type 0
+  Free point = ConflictAt all point → ⊥
+
+  -- ---- whether an id has an article
+
+  said_all : (id : Id) → said_of all id ≡ join_said (said_of facts id) (said_in t.saying.article id)
+  said_all id = said_append facts more id ∙ ap (join_said (said_of facts id)) (article_told profile t more h.tells id)
+
+  shown_in_all : (id : Id) → list_any (shows_article id) all ≡ (list_any (shows_article id) facts || (said_in t.saying.article id).is_shown)
+  shown_in_all id = ap (λ (s : SaidOfArticle). s.is_shown) (said_all id)
+
+  denied_in_all : (id : Id) → list_any (denies_article id) all ≡ (list_any (denies_article id) facts || (said_in t.saying.article id).is_denied)
+  denied_in_all id = ap (λ (s : SaidOfArticle). s.is_denied) (said_all id)
+
+  article_free : ((id : Id) → IsTrue (said_in t.saying.article id).is_shown → IsFalse (list_any (denies_article id) facts))
+      → ((id : Id) → IsTrue (said_in t.saying.article id).is_denied → IsFalse (list_any (shows_article id) facts)) → IsFree 7
+  article_free shown denied = of_rank Free 7 (λ id c. elim (or_cases (list_any (shows_article id) facts) (said_in t.saying.article id).is_shown (sym (shown_in_all id) ∙ c.0)) [
+    | inl s ↦ elim (or_cases (list_any (denies_article id) facts) (said_in t.saying.article id).is_denied (sym (denied_in_all id) ∙ c.1)) [
+      | inl d ↦ at_point facts (Article id) (s, d) h.together
+      | inr d ↦ true≢false (sym s ∙ denied id d)
+    ]
+    | inr s ↦ elim (or_cases (list_any (denies_article id) facts) (said_in t.saying.article id).is_denied (sym (denied_in_all id) ∙ c.1)) [
+      | inl d ↦ true≢false (sym d ∙ shown id s)
+      | inr d ↦ apart t.saying.article id s d
+    ]
+  ])
+    where
+      apart : (o : Option (Id × OfArticle)) (id : Id) → IsTrue (said_in o id).is_shown → IsTrue (said_in o id).is_denied → ⊥
+      apart None id s d = true≢false (sym s)
+      apart (Some a) id s d = by (is_same a.0 id) s d
+        where
+          by : (b : Bool) → IsTrue (cond b (said_kept (Some (kept_by a.1))) said_nothing).is_shown → IsTrue (cond b (said_kept (Some (kept_by a.1))) said_nothing).is_denied → ⊥
+          by true s d = true≢false (sym s ∙ ap not d)
+          by false s d = true≢false (sym s)
+
+  pub no_article : t.saying.article ≡ None → IsFree 7
+  no_article e = article_free
+      (λ id s. absurd (true≢false (sym s ∙ ap (λ a. (said_in a id).is_shown) e)))
+      (λ id d. absurd (true≢false (sym d ∙ ap (λ a. (said_in a id).is_denied) e)))
+
+  -- where something is said of an id
+  module _ (id : Id) (a : OfArticle) (e : t.saying.article ≡ Some (id, a)) where
+    own : said_in t.saying.article id ≡ said_kept (Some (kept_by a))
+    own = ap (λ o. said_in o id) e ∙ ap (λ b. cond b (said_kept (Some (kept_by a))) said_nothing) (same_itself id)
+
+    -- of others nothing is
+    others : (q : Id) → (id ≡ q) ⊎ (said_in t.saying.article q ≡ said_nothing)
+    others q = elim (cases_Bool (is_same id q)) [
+      | inl s ↦ inl (same_text id q (sym s))
+      | inr s ↦ inr (ap (λ o. said_in o q) e ∙ ap (λ b. cond b (said_kept (Some (kept_by a))) said_nothing) s)
+    ]
+
+    own_free : (IsTrue (not (kept_by a).is_denied) → IsFalse (list_any (denies_article id) facts)) → (IsTrue (kept_by a).is_denied → IsFalse (list_any (shows_article id) facts)) → IsFree 7
+    own_free shown denied = article_free
+        (λ q s. elim (others q) [
+          | inl same ↦ subst (λ q. IsFalse (list_any (denies_article q) facts)) same
+              (shown (sym (ap (λ (s : SaidOfArticle). s.is_shown) own) ∙ subst (λ q. IsTrue (said_in t.saying.article q).is_shown) (sym same) s))
+          | inr none ↦ absurd (true≢false (sym s ∙ ap (λ (s : SaidOfArticle). s.is_shown) none))
+        ])
+        (λ q d. elim (others q) [
+          | inl same ↦ subst (λ q. IsFalse (list_any (shows_article q) facts)) same
+              (denied (sym (ap (λ (s : SaidOfArticle). s.is_denied) own) ∙ subst (λ q. IsTrue (said_in t.saying.article q).is_denied) (sym same) d))
+          | inr none ↦ absurd (true≢false (sym d ∙ ap (λ (s : SaidOfArticle). s.is_denied) none))
+        ])
+
+    -- that it has no article
+    pub lacks : (kept_by a).is_denied ≡ true → (o : Option Point) → o ≡ cond (list_any (shows_article id) facts) (Some (Article id)) None → IsPointOf all 7 o
+    lacks denied o is = subst (IsPointOf all 7) (sym is) (by (list_any (shows_article id) facts) refl)
+      where
+        by : (b : Bool) → list_any (shows_article id) facts ≡ b → IsPointOf all 7 (cond b (Some (Article id)) None)
+        by true s = (
+          (
+            shown_in_all id ∙ or_left (list_any (shows_article id) facts) _ s,
+            denied_in_all id ∙ or_right (list_any (denies_article id) facts) _ (ap (λ (s : SaidOfArticle). s.is_denied) own ∙ denied),
+          ),
+          refl,
+        )
+        by false s = own_free (λ free. absurd (true≢false (sym free ∙ ap not denied))) (λ d. s)
+
+    -- or that it has one
+    pub has : (kept_by a).is_denied ≡ false → (o : Option Point) → o ≡ cond (list_any (denies_article id) facts) (Some (Article id)) None → IsPointOf all 7 o
+    has free o is = subst (IsPointOf all 7) (sym is) (by (list_any (denies_article id) facts) refl)
+      where
+        by : (b : Bool) → list_any (denies_article id) facts ≡ b → IsPointOf all 7 (cond b (Some (Article id)) None)
+        by true d = (
+          (
+            shown_in_all id ∙ or_right (list_any (shows_article id) facts) _ (ap (λ (s : SaidOfArticle). s.is_shown) own ∙ ap not free),
+            denied_in_all id ∙ or_left (list_any (denies_article id) facts) _ d,
+          ),
+          refl,
+        )
+        by false d = own_free (λ shown. d) (λ denied. absurd (true≢false (sym denied ∙ free)))
+
+  -- ---- heads and bodies
+
+  part_given : (part : Part) (id : Id) → first_given (part_in part id) more ≡ part_of part (said_in t.saying.article id)
+  part_given Head id = ap (λ (s : SaidOfArticle). s.head) (article_told profile t more h.tells id)
+  part_given Body id = ap (λ (s : SaidOfArticle). s.body) (article_told profile t more h.tells id)
+
+  -- what is sent was sent alike
+  abbrev IsAlike : Part → Id → Option (List Line) → Type 0
+  IsAlike part id sent = AreSame sent (first_given (part_in part id) facts)
+
+  part_once : (part : Part) (id : Id) → IsAlike part id (part_of part (said_in t.saying.article id)) → GiveOne (part_in part id) all
+  part_once Head id same = give_one_both (head_in id) facts more (h.together.heads id)
+      (alone_once profile (head_in id) (λ name. refl) (λ name ask. refl) t more h.tells (h.tells.agree.heads id)) (subst (IsAlike Head id) (sym (part_given Head id)) same)
+  part_once Body id same = give_one_both (body_in id) facts more (h.together.bodies id)
+      (alone_once profile (body_in id) (λ name. refl) (λ name ask. refl) t more h.tells (h.tells.agree.bodies id)) (subst (IsAlike Body id) (sym (part_given Body id)) same)
+
+  part_free : (part : Part) → ((id : Id) → IsAlike part id (part_of part (said_in t.saying.article id))) → IsFree (part_rank part)
+  part_free Head same = of_rank Free 8 (λ id c. c (part_once Head id (same id)))
+  part_free Body same = of_rank Free 9 (λ id c. c (part_once Body id (same id)))
+
+  -- of an answer that sends no such part
+  pub no_part : (part : Part) (o : Option (Id × OfArticle)) → t.saying.article ≡ o → IfSome o (λ a. part_of part (said_kept (Some (kept_by a.1))) ≡ None) → IsFree (part_rank part)
+  no_part part o e none = part_free part (λ id. subst (IsAlike part id) (sym (ap (λ a. part_of part (said_in a id)) e ∙ by o none id)) tt)
+    where
+      by : (o : Option (Id × OfArticle)) → IfSome o (λ a. part_of part (said_kept (Some (kept_by a.1))) ≡ None) → (id : Id) → part_of part (said_in o id) ≡ None
+      by None none id = none_of part
+      by (Some a) none id = at (is_same a.0 id)
+        where
+          at : (b : Bool) → part_of part (cond b (said_kept (Some (kept_by a.1))) said_nothing) ≡ None
+          at true = none
+          at false = none_of part
+
+  -- of one that sends it, if it sends one
+  module _ (part : Part) (id : Id) (what : What) (lines : Option (List Line)) (e : t.saying.article ≡ Some (id, Sends what lines)) (sent : Option (List Line))
+      (is : IsTrue (head_fits what id lines) → sent ≡ part_of part (said_kept (Some (kept_by (Sends what lines))))) where
+    said_part : part_of part (said_in t.saying.article id) ≡ sent
+    said_part = ap (part_of part) (own id (Sends what lines) e) ∙ sym (is (subst (λ o. IfSome o (MayBeOf t.saying.group)) e h.tells.tells.may.article))
+
+    same_part : IsAlike part id sent → IsFree (part_rank part)
+    same_part same = part_free part (λ q. elim (others id (Sends what lines) e q) [
+      | inl s ↦ subst (λ q. IsAlike part q (part_of part (said_in t.saying.article q))) s (subst (IsAlike part id) (sym said_part) same)
+      | inr none ↦ subst (IsAlike part q) (sym (ap (part_of part) none ∙ none_of part)) tt
+    ])
+
+    other_part : (IsAlike part id sent → ⊥) → ConflictAt all (about part id)
+    other_part other = conflict_about part id all (λ one. other (subst (IsAlike part id) (part_given part id ∙ said_part) (give_same_of_both (part_in part id) facts more one)))
+
+    pub part_point : (o : Option Point) → MatchOption o (IsAlike part id sent) (λ point. (point ≡ about part id) × (IsAlike part id sent → ⊥)) → IsPointOf all (part_rank part) o
+    part_point None same = same_part same
+    part_point (Some point) (at, other) = subst (λ point. ConflictAt all point × (rank point ≡ part_rank part)) (sym at) (other_part other, rank_about part id)

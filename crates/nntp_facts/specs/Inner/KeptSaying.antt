@@ -1,0 +1,64 @@
+-- What each part of an answer has to join, and what is kept then.
+use Rattle.std.specs.{Prelude.{◌≡◌, ℕ, Bool, if◌then◌else◌, List, ◌++◌, Option, None, Some, MatchOption, IfSome, IsTrue, IsFalse, ⊤}, List.{list_any}}
+use Rattle.std.specs.{Ordering.{nat_cmp}, Cmp.Lexicographic.{slice_cmp}, FinMap.{FinMap, get}}
+use Rattle.nntp_article.specs.{Article.Parts.{Id}, Session.Machine.{is_same, head_fits}}
+use Rattle.nntp_said.specs.{Asks.{Ask}, Facts.{Fact}}
+use Rattle.nntp_facts.specs.{Given.{asks_of, is_shown_group}, Inner.Together.{AsksStand, SaidOfArticle, said_of, said_nothing, join_said, JoinArticle}}
+use Rattle.nntp_facts.specs.Inner.{Part.{only_has}, Summary.{AddsNothing}, Saying.{OfGroup, OfArticle, Lacks, Exists, Sends, Saying, asked_id}}
+use Rattle.nntp_facts.specs.Inner.{Kept.{KeptGroup, told, MayShow, KeptArticle, said_kept, IsAddedIf}, Articles.{head_sent, body_sent, denied, unsent}}
+use Rattle.nntp_facts.specs.{Inner.Articles.{with_sent}, Together.{denies_group, shows_article}}
+
+-- ---- of a group
+
+-- what is asked of it stands together with what was asked, and the number may have the id
+abbrev pub GroupJoins : List Fact → List Ask → OfGroup → Type 0
+GroupJoins facts asks g = AsksStand (asks_of g.name facts ++ (asks ++ asked_id g.id)) × MayShow (told facts g.name) g.id
+
+-- all that is said was said before: of no id; or that a number is there, with the id that is shown there
+abbrev pub HasSaid : KeptGroup → OfGroup → Type 0
+HasSaid g p = MatchOption p.id (AddsNothing g.numbers p.numbers) (λ e. (p.numbers ≡ only_has e.0) × (get g.ids e.0 ≡ Some e.1))
+
+-- what is said of names and of a group joins what was said before
+pub record JoinGroups (facts : List Fact) (s : Saying) (asks : List Ask) : Type 0 where
+  pub there_is : IfSome s.there_is (λ name. IsFalse (list_any (denies_group name) facts))
+  pub there_is_no : IfSome s.there_is_no (λ name. IsFalse (is_shown_group facts name))
+  pub group : IfSome s.group (GroupJoins facts asks)
+
+-- ---- of an id
+
+-- the text is that of the id, where a number is said to have one
+abbrev pub IsTextOf : Option Id → Option (ℕ × Id) → Type 0
+IsTextOf text id = IfSome id (λ e. text ≡ Some e.1)
+
+-- where no more is said of an id than that it has an article, it was said before that it has
+abbrev pub IsThereAlready : List Fact → Option (Id × OfArticle) → Type 0
+IsThereAlready facts (Some (id, Exists)) = IsTrue (list_any (shows_article id) facts)
+IsThereAlready facts article = ⊤
+
+-- the lines are a head, where a head is sent
+abbrev pub MayBeSaid : Id × OfArticle → Type 0
+MayBeSaid (id, Sends what lines) = IsTrue (head_fits what id lines)
+MayBeSaid a = ⊤
+
+-- what is kept of an id of which this alone is said
+abbrev pub kept_by : OfArticle → KeptArticle
+kept_by Lacks = denied
+kept_by Exists = unsent
+kept_by (Sends what lines) = with_sent unsent (head_sent what lines) (body_sent what lines)
+
+-- what is said of each id, where this is said of one
+abbrev pub said_in : Option (Id × OfArticle) → Id → SaidOfArticle
+said_in None id = said_nothing
+said_in (Some a) id = if is_same a.0 id then said_kept (Some (kept_by a.1)) else said_nothing
+
+-- what is said of an id joins what was said
+abbrev pub ArticleJoins : List Fact → Option (Id × OfArticle) → Type 0
+ArticleJoins facts article = (id : Id) → JoinArticle (said_of facts id) (said_in article id)
+
+-- once it is said too, this is kept
+abbrev pub AreKeptThen : List Fact → Option (Id × OfArticle) → FinMap (slice_cmp nat_cmp) KeptArticle → Type 0
+AreKeptThen facts article articles = (id : Id) → join_said (said_of facts id) (said_in article id) ≡ said_kept (get articles id)
+
+-- it is added, if it joins
+abbrev pub IsArticleAdded : List Fact → Option (Id × OfArticle) → FinMap (slice_cmp nat_cmp) KeptArticle → FinMap (slice_cmp nat_cmp) KeptArticle → Bool → Type 0
+IsArticleAdded facts article old new does = IsAddedIf (ArticleJoins facts article) (AreKeptThen facts article) old new does

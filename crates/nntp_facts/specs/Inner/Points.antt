@@ -1,0 +1,105 @@
+-- What a bad answer and accepted ones say, each by itself, as points of conflict are looked for.
+use Rattle.std.specs.Prelude.{◌≡◌, true, false, ◌<◌, ◌||◌, ◌&&◌, not, ℕ, Bool, List, [], ◌∷◌, ◌++◌, Option, None, option_map, if◌then◌else◌, MatchOption}
+use Rattle.std.specs.{List.{AllByRecursion, flat_map}, Option.{option_map_or}}
+use Rattle.nntp_article.specs.{Article.Parts.{Id}, Session.{Spool.{Name}, Machine.{is_same}}, declared.session.profile.Profile.{Profile}}
+use Rattle.nntp_wire.specs.{Decided.{matches_name}, Listing.{ActiveValue}}
+use Rattle.nntp_said.specs.{Asks.{Ask, Bounds}, Facts.{Fact, group_of}}
+use Rattle.nntp_facts.specs.Inner.{Together.{IsWellFormed, AgreeWithin, Together}, Kept.{id_of, place_of, Kept, IsKept}, ListedGroups.{is_listed}}
+use Rattle.nntp_facts.specs.{Inner.{Saying.{Saying, Tells, numbers_listed}, Conflict.{FitsThere}}, Conflict.{Placed, told, told_with, with_group, Point}}
+use Rattle.nntp_facts.specs.Conflict.{Number, Count, First, rank, ConflictAt}
+
+-- ---- what the last answer of a conflict says
+
+-- what an answer says, and the group of which it speaks
+pub record Statement : Type 0 where
+  pub group : Option Name
+  pub saying : Saying
+
+-- by itself the answer tells these facts
+pub record TellsAlone (profile : Profile) (t : Statement) (facts : List Fact) : Type 0 where
+  pub own : List Fact
+  pub whole : with_group profile own ≡ facts
+  pub before : List Fact
+  pub tells : Tells before t.saying own
+  pub group : t.group ≡ group_of own
+  pub named : option_map (λ g. g.name) t.saying.group ≡ t.group
+  pub formed : AllByRecursion IsWellFormed facts
+  pub agree : AgreeWithin own
+
+-- ---- what is looked at
+
+-- it says what can't be
+abbrev pub is_impossible : Name → Statement → Bool
+is_impossible name t = option_map_or (λ g. is_same g.name name && not g.numbers.possible) t.saying.group false
+
+-- it shows the group
+abbrev pub shows_name : Name → Statement → Bool
+shows_name name t = option_map_or (λ g. is_same g name) t.group false || option_map_or (λ l. is_listed l.1 name) t.saying.groups false
+
+-- it says that there is no such group
+abbrev pub denies_name : Name → Statement → Bool
+denies_name name t = option_map_or (λ g. is_same g name) t.saying.there_is_no false || option_map_or (λ l. option_map_or (λ w. matches_name w name) l.0 true && not
+    (is_listed l.1 name)) t.saying.groups false
+
+-- the id that it shows at the number
+abbrev pub id_told : Name → ℕ → Statement → Option Id
+id_told name n t = option_map_or (λ g. if is_same g.name name then id_of g.id n else None) t.saying.group None
+
+-- the number at which it shows the id
+abbrev pub place_told : Name → Id → Statement → Option ℕ
+place_told name id t = option_map_or (λ g. if is_same g.name name then place_of g.id id else None) t.saying.group None
+
+-- the bounds between which the group is listed
+abbrev pub bounds_of : Name → List ActiveValue → List Ask
+bounds_of name lines = flat_map (λ line. if is_same line.name name then Bounds line.low line.high ∷ [] else []) lines
+
+-- ---- points
+
+-- at no point of the rank the facts conflict, or they conflict at this one
+abbrev pub IsPointOf : List Fact → ℕ → Option Point → Type 0
+IsPointOf facts k point = MatchOption point ((other : Point) → rank other ≡ k → ¬ (ConflictAt facts other)) (λ point. ConflictAt facts point × (rank point ≡ k))
+
+-- at no point of a kind that is told before the facts conflict
+abbrev pub NoneBefore : List Fact → ℕ → Type 0
+NoneBefore facts k = (other : Point) → rank other < k → ¬ (ConflictAt facts other)
+
+-- the point is about the numbers of the group
+abbrev pub IsAbout : Name → Point → Type 0
+IsAbout name (Number other n) = name ≡ other
+IsAbout name (Count other) = name ≡ other
+IsAbout name (First other) = name ≡ other
+IsAbout name point = ⊥
+
+-- at no point of the rank that is about the numbers of the group the facts conflict, or they conflict at this one
+abbrev pub IsPointIn : List Fact → Name → ℕ → Option Point → Type 0
+IsPointIn facts name k point = MatchOption point ((other : Point) → rank other ≡ k → IsAbout name other → ¬ (ConflictAt facts other)) (λ point. ConflictAt facts point × (rank point ≡ k))
+
+-- ---- the last answer beside the others
+
+-- the facts stand together and are kept, and the answer tells more of them by itself
+pub record IsBeside (profile : Profile) (facts : List Fact) (k : Kept) (t : Statement) (more : List Fact) : Type 0 where
+  pub kept : IsKept facts k
+  pub together : Together facts
+  pub tells : TellsAlone profile t more
+
+-- an answer with the numbers that it lists
+abbrev pub with_numbers : Placed → Placed × List ℕ
+with_numbers a = (a, numbers_listed a.response)
+
+-- what is held of answers that conflict: what is kept of all but the last, and the last one with the numbers that it lists
+pub record Answers : Type 0 where
+  pub profile : Profile
+  pub kept : Kept
+  pub last : Placed × List ℕ
+
+-- this is held of the bad answer and those at the places: they conflict, and without the last one they stand together
+pub record AreHeld (profile : Profile) (bad : Placed) (answers : List Placed) (places : List ℕ) (held : Answers) : Type 0 where
+  pub judged : held.profile ≡ profile
+  pub last : Placed
+  pub listed : held.last ≡ with_numbers last
+  pub fits : FitsThere profile last
+  pub facts : List Fact
+  pub kept : IsKept facts held.kept
+  pub together : Together facts
+  pub whole : facts ++ told profile last ≡ told_with profile bad answers places
+  pub conflict : Together (told_with profile bad answers places) → ⊥

@@ -1,0 +1,35 @@
+-- What the values of src/saying.rt mean.
+use Rattle.std.specs.Prelude.{ℕ, List, Option, option_map}
+use Rattle.nntp_wire.specs.Listing.{ActiveValue, active_groups}
+use Rattle.nntp_article.specs.Article.Parts.{Id}
+use Rattle.nntp_facts.specs.{Inner.PartView.{said}, declared.saying.{IdAt.{IdAt}, GroupPart.{GroupPart}, ArticlePart.{ArticlePart, TheVariants.{Lacks}}}}
+use Rattle.nntp_facts.specs.declared.saying.{ArticlePart.TheVariants.{Exists, Sends}, ActivePart.{ActivePart}, Saying.{Saying}}
+use Rattle.nntp_facts.specs.Inner.Saying as said_of
+
+-- the id at a number
+abbrev pub id_at : Option IdAt → Option (ℕ × Id)
+id_at id = option_map (λ e. (e.number, e.id.now)) id
+
+-- what is said of a group
+abbrev pub of_group : GroupPart → said_of.OfGroup
+of_group g = record { name = g.name.now; numbers = said g.numbers; id = id_at g.id }
+
+-- the id, and what is said of it
+abbrev pub article_said : ArticlePart → Id × said_of.OfArticle
+article_said (Lacks id) = (id.now, said_of.Lacks)
+article_said (Exists id) = (id.now, said_of.Exists)
+article_said (Sends id what block) = (id.now, said_of.Sends what block.now)
+
+-- the groups that match
+abbrev pub active_said : ActivePart → Option (List ℕ) × List ActiveValue
+active_said l = (l.wildmat.now, active_groups l.block.now)
+
+-- all that is said
+abbrev pub saying_of : Saying → said_of.Saying
+saying_of s = record {
+  there_is = option_map (λ name. name.now) s.there_is;
+  there_is_no = option_map (λ name. name.now) s.there_is_no;
+  group = option_map of_group s.group;
+  article = option_map article_said s.article;
+  groups = option_map active_said s.groups;
+}

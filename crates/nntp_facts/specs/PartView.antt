@@ -1,7 +1,0 @@
--- What the values of src/numbers_part.rt mean.
-use Rattle.nntp_facts.specs.Part.{Said}
-use Rattle.nntp_facts.specs.declared.numbers_part.NumbersPart.{NumbersPart}
-
--- what the part says
-abbrev pub said : NumbersPart → Said
-said p = record { possible = p.is_possible; low = p.low; high = p.high; first = p.first; last = p.last; numbers = p.numbers.now; estimate = p.estimate; ends = p.ends; demand = p.demand }

@@ -1,0 +1,36 @@
+-- What is said with the words of `Pairing.antt`, and needn't be believed.
+use Rattle.std.specs.Prelude.{◌≡◌, ℕ, Bool, true, false, List, ◌++◌, Option, Some, map, length, IsTrue, ⊤}
+use Rattle.nntp_wire.specs.{Inner.Octets.{are_octets}, Lines.{lines_of_stream}, Answer.{to, Response, numbers_are, active_are, Spells}, Frame.{frame_octets}}
+use Rattle.nntp_pair.specs.{declared.class.PairClass.{PairClass, TheVariants.{Surplus, Cut, Malformed}}, Pairing.{places_of, asked_at, Paired, Unpaired}}
+use Rattle.nntp_pair.specs.Pairing.{AreNext, responses_of}
+
+-- the same once the greeting's place is behind
+abbrev pub places_from : Bool → List ℕ → List (Option (List ℕ))
+places_from false client = places_of client
+places_from true client = map Some (lines_of_stream client)
+
+-- with some block the initial line spells the response to what is asked at the place, in octets
+pub record IsSpelled (place : Option (List ℕ)) (initial : List ℕ) (response : Response) : Type 0 where
+  pub block : Option (List ℕ)
+  pub spells : Spells (asked_at place) response (frame_octets initial block)
+  pub octets : IsTrue (are_octets (frame_octets initial block))
+
+-- how many lines with a name or a number a response has
+abbrev pub lines_in : Response → ℕ
+lines_in (numbers_are m name lines) = length lines
+lines_in (active_are lines) = length lines
+lines_in response = 0
+
+-- and no octets that follow can change that
+abbrev pub IsLasting : PairClass → Unpaired → Type 0
+IsLasting Surplus left = left.is_closed ≡ true
+IsLasting Cut left = ⊥
+IsLasting Malformed left = ⊤
+
+-- pairs with these responses come next, and then the rest of the server's octets
+abbrev pub HasPairs : Unpaired → List Response → List ℕ → Type 0
+HasPairs before responses rest = (pairs : List Paired) × (left : Unpaired) × AreNext before pairs left × (responses_of pairs ≡ responses) × (left.server ≡ rest)
+
+-- what is left, with more places and more octets behind
+abbrev pub with_more : List (Option (List ℕ)) → List ℕ → Unpaired → Unpaired
+with_more places octets left = record { index = left.index; places = left.places ++ places; server = left.server ++ octets; is_closed = left.is_closed }

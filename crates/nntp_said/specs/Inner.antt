@@ -1,0 +1,4 @@
+pub mod Asks
+pub mod Facts
+pub mod FactView
+pub mod Places

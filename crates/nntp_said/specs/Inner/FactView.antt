@@ -1,0 +1,35 @@
+-- What the values of src/fact.rt mean.
+use Rattle.std.specs.Prelude.{List, ◌∷◌, Option, None, Some}
+use Rattle.nntp_wire.specs.Listing.{active_groups, listed_numbers}
+use Rattle.nntp_said.specs.declared.fact.Ask.{Ask, TheVariants.{Estimates, Bounds, Lists, Lacks, StandsAt, StandsNowhere, StepsUp, StepsDown, IsTop, IsBottom}}
+use Rattle.nntp_said.specs.declared.fact.Fact.{Fact, TheVariants.{ThereIs, ThereIsNo, Asks, IdAt, TextIs, NoArticle, GroupsAre}}
+use Rattle.nntp_said.specs.Asks as asks
+use Rattle.nntp_said.specs.Facts as facts
+
+-- what is asked of the numbers of a group, without where the lines of a list lie in memory
+abbrev pub ask_of : Ask → asks.Ask
+ask_of (Estimates how marks) = asks.Estimates how marks
+ask_of (Bounds low high) = asks.Bounds low high
+ask_of (Lists range block) = asks.ListsIn range (listed_numbers block.now)
+ask_of (Lacks number) = asks.Lacks number
+ask_of (StandsAt at number) = asks.StandsAt at number
+ask_of (StandsNowhere at) = asks.StandsNowhere at
+ask_of (StepsUp at number) = asks.StepsUp at number
+ask_of (StepsDown at number) = asks.StepsDown at number
+ask_of (IsTop at) = asks.IsTop at
+ask_of (IsBottom at) = asks.IsBottom at
+
+-- the fact, without where its octets lie in memory
+abbrev pub fact_of : Fact → facts.Fact
+fact_of (ThereIs name) = facts.ThereIs name.now
+fact_of (ThereIsNo name) = facts.ThereIsNo name.now
+fact_of (Asks name ask) = facts.Asks name.now (ask_of ask)
+fact_of (IdAt name number id) = facts.IdAt name.now number id.now
+fact_of (TextIs what id block) = facts.TextIs what id.now block.now
+fact_of (NoArticle id) = facts.NoArticle id.now
+fact_of (GroupsAre wildmat block) = facts.GroupsAre wildmat.now (active_groups block.now)
+
+-- the fact, if there is one, and then those
+abbrev pub with_fact : Option Fact → List facts.Fact → List facts.Fact
+with_fact None more = more
+with_fact (Some fact) more = fact_of fact ∷ more

@@ -1,0 +1,15 @@
+pub mod Octets
+pub mod Lines
+pub mod Wildmat
+pub mod Pattern
+pub mod Block
+pub mod Decided
+pub mod Frame
+pub mod Prompts
+pub mod Search
+pub mod View
+pub mod Keyword
+pub mod AnswerView
+pub mod Session
+pub mod Held
+pub mod Misspelling
