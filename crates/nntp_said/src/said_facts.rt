@@ -126,12 +126,8 @@ impl<'s> Iterator for SaidFacts<'s> {
     ghost remaining = { item_count (λ facts. facts) };
 
     fn next(&mut self) -> Option<Fact<'s>> {
-        if let Some(fact) = self.first.take() {
-            return Some(fact);
-        }
-        if let Some(fact) = self.second.take() {
-            return Some(fact);
-        }
-        self.third.take()
+        let fact = self.first().copied();
+        self.pass_first();
+        fact
     }
 }
