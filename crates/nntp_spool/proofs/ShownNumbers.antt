@@ -23,26 +23,38 @@ module _ {V : Type 0} (value : V → List ℕ) where
   pub none-shown : (m : BTreeMap ℕ V) (q : ℕ) → get nat_cmp m q ≡ None → map.get (as_numbers m) q ≡ None
   none-shown m q e = get-shown nat_cmp (λ k. k) value nat_cmp_total m.entries q ∙ none-option_map _ e
 
+  -- with its value
+  value-shown : (m : BTreeMap ℕ V) (q : ℕ) (v : V) → get nat_cmp m q ≡ Some v → map.get (as_numbers m) q ≡ Some (value v)
+  value-shown m q v e = get-shown nat_cmp (λ k. k) value nat_cmp_total m.entries q ∙ ap (option_map value) e
+
   pub first_from_bound : (m : BTreeMap ℕ V) (n : ℕ) (v : V) → get nat_cmp m n ≡ Some v → IsLowerBound nat_cmp m n → IsFirst (as_numbers m) (Some n)
   first_from_bound m n v here least = (is_number-shown m n ∙ ap is_some here, λ q s. let below = least q (sym (is_number-shown m q) ∙ s) in grind (arith, nat_tests))
 
-  pub next_above_from_range : (m : BTreeMap ℕ V) (n k : ℕ) (v : V) (r rest : List (ℕ × V)) → IsRangeOf nat_cmp (Excluded n) Unbounded m r → r ≡ (k, v) ∷ rest → IsNextAbove (as_numbers m) n k
+  pub next_above_from_range : (m : BTreeMap ℕ V) (n k : ℕ) (v : V) (r rest : List (ℕ × V)) → IsRangeOf nat_cmp (Excluded n) Unbounded m r → r ≡ (k, v) ∷ rest
+      → IsNextAbove (as_numbers m) n k × (map.get (as_numbers m) k ≡ Some (value v))
   next_above_from_range m n k v r rest is e =
       let at : IsRangeOf nat_cmp (Excluded n) Unbounded m ((k, v) ∷ rest) = subst (IsRangeOf nat_cmp (Excluded n) Unbounded m) e is in (
-        grind (arith, nat_tests, at.1.0.0),
-        is_number-shown m k ∙ ap is_some at.1.1,
-        λ q h s. let below = at.2 q (grind (arith, nat_tests), tt) (sym (is_number-shown m q) ∙ s) in grind (arith, nat_tests),
+        (
+          grind (arith, nat_tests, at.1.0.0),
+          is_number-shown m k ∙ ap is_some at.1.1,
+          λ q h s. let below = at.2 q (grind (arith, nat_tests), tt) (sym (is_number-shown m q) ∙ s) in grind (arith, nat_tests),
+        ),
+        value-shown m k v at.1.1,
       )
 
   pub none_above_from_range : (m : BTreeMap ℕ V) (n : ℕ) (r : List (ℕ × V)) → IsRangeOf nat_cmp (Excluded n) Unbounded m r → r ≡ [] → NoneAbove (as_numbers m) n
   none_above_from_range m n r is e q h = none-shown m q (is.5 e q (grind (arith, nat_tests), tt))
 
-  pub next_below_from_range : (m : BTreeMap ℕ V) (n k : ℕ) (v : V) (r rest : List (ℕ × V)) → IsRangeOf nat_cmp Unbounded (Excluded n) m r → r ≡ rest ++ (k, v) ∷ [] → IsNextBelow (as_numbers m) n k
+  pub next_below_from_range : (m : BTreeMap ℕ V) (n k : ℕ) (v : V) (r rest : List (ℕ × V)) → IsRangeOf nat_cmp Unbounded (Excluded n) m r → r ≡ rest ++ (k, v) ∷ []
+      → IsNextBelow (as_numbers m) n k × (map.get (as_numbers m) k ≡ Some (value v))
   next_below_from_range m n k v r rest is e =
       let here = is.3 (k, v) rest e in (
-        grind (arith, nat_tests, here.0.1),
-        is_number-shown m k ∙ ap is_some here.1,
-        λ q h s. let below = is.4 (k, v) rest e q (tt, grind (arith, nat_tests)) (sym (is_number-shown m q) ∙ s) in grind (arith, nat_tests),
+        (
+          grind (arith, nat_tests, here.0.1),
+          is_number-shown m k ∙ ap is_some here.1,
+          λ q h s. let below = is.4 (k, v) rest e q (tt, grind (arith, nat_tests)) (sym (is_number-shown m q) ∙ s) in grind (arith, nat_tests),
+        ),
+        value-shown m k v here.1,
       )
 
   pub none_below_from_range : (m : BTreeMap ℕ V) (n : ℕ) (r : List (ℕ × V)) → IsRangeOf nat_cmp Unbounded (Excluded n) m r → r ≡ [] → NoneBelow (as_numbers m) n

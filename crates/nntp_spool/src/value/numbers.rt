@@ -144,30 +144,30 @@ impl<A: Allocator> Numbers<A> {
         }
     }
 
-    /// Returns the least number above this one.
-    pub(crate) fn next_above(&self, number: u64) -> Option<u64>
-        ensures { MatchOption result (NoneAbove self.now number) (λ next. IsNextAbove self.now number next) }
+    /// Returns the least number above this one, and the id there.
+    pub(crate) fn next_above(&self, number: u64) -> Option<(u64, &str)>
+        ensures { MatchOption result (NoneAbove self.now number) (λ next. IsNextAbove self.now number next.0 × (map.get self.now next.0 ≡ Some next.1.now)) }
     {
         match self
             .ids
             .range((Bound::Excluded(number), Bound::Unbounded))
             .next()
         {
-            Some((next, _)) => Some(*next),
+            Some((next, id)) => Some((*next, id.as_str())),
             None => None,
         }
     }
 
-    /// Returns the greatest number below this one.
-    pub(crate) fn next_below(&self, number: u64) -> Option<u64>
-        ensures { MatchOption result (NoneBelow self.now number) (λ next. IsNextBelow self.now number next) }
+    /// Returns the greatest number below this one, and the id there.
+    pub(crate) fn next_below(&self, number: u64) -> Option<(u64, &str)>
+        ensures { MatchOption result (NoneBelow self.now number) (λ next. IsNextBelow self.now number next.0 × (map.get self.now next.0 ≡ Some next.1.now)) }
     {
         match self
             .ids
             .range((Bound::Unbounded, Bound::Excluded(number)))
             .next_back()
         {
-            Some((next, _)) => Some(*next),
+            Some((next, id)) => Some((*next, id.as_str())),
             None => None,
         }
     }

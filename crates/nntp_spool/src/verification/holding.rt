@@ -76,8 +76,8 @@ fn holds<A: Allocator + Copy, S: Allocator>(
     match fact {
         Fact::ThereIs(name) => Ok(group.find(name.as_slice()).is_some()),
         Fact::ThereIsNo(word) => Ok(group.find(*word).is_none()),
-        Fact::Asks(name, ask) => Ok(group.numbers_of(*name).meet(ask)),
-        Fact::IdAt(name, number, id) => Ok(group.numbers_of(*name).has_id(*number, id.as_str())),
+        Fact::Asks(name, ask) => Ok(group.meets(*name, ask)),
+        Fact::IdAt(name, number, id) => Ok(group.has_id(*name, *number, id.as_str())),
         Fact::TextIs { what, id, block } => Ok(sends(group.spool(), *what, id.as_str(), *block)),
         Fact::NoArticle(word) => Ok(!group.spool().knows(*word)),
         Fact::GroupsAre { wildmat, block } => lists_groups(group.spool(), counts, *wildmat, *block),

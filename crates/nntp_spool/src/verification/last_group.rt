@@ -1,19 +1,25 @@
 //! The group of a spool that was looked up last: the next answer mostly speaks of it too.
-ghost use Rattle.std.specs.Prelude.{◌≡◌, ◌↔◌, IsTrue, option_copied, option_map, IfSome};
+ghost use Rattle.std.specs.Prelude.{◌≡◌, ◌↔◌, true, Some, IsTrue, option_map, IfSome};
 ghost use Rattle.std.specs.FinMap as map;
 ghost use Rattle.nntp_article.specs.Session.Spool.{numbers as numbers_of};
+ghost use Rattle.nntp_said.specs.Asks.{Meets};
+ghost use Rattle.nntp_said.specs.Inner.FactView.{ask_of};
+ghost use Rattle.nntp_spool.specs.Inner.Sessions.{are_ascending};
 
 use crate::value::content::Content;
 use crate::value::numbers::Numbers;
+use nntp_said::Ask;
 use std::alloc::Allocator;
 use std::marker::Model;
+
+/// A group: its name, its numbers, and the number to which a step in it led last, with the id there.
+type Group<'s, S> = (&'s str, &'s Numbers<S>, Option<(u64, &'s str)>);
 
 /// A spool, and of its groups the one that was looked up last.
 #[derive(Drop)]
 pub(crate) struct LastGroup<'s, S: Allocator> {
     spool: &'s Content<S>,
-    /// The name of the group, and its numbers.
-    group: Option<(&'s str, &'s Numbers<S>)>,
+    group: Option<Group<'s, S>>,
 }
 
 impl<'s, S: Allocator> Model for LastGroup<'s, S> {
@@ -28,7 +34,8 @@ impl<'s, S: Allocator> Model for LastGroup<'s, S> {
 
     ghost view = { λ s. s.spool.now };
 
-    ghost invariant = { λ s. IfSome s.group (λ g. map.get s.spool.now.groups g.0.now ≡ Some g.1.now) };
+    ghost invariant = { λ s. IfSome s.group (λ g. (map.get s.spool.now.groups g.0.now ≡ Some g.1.now)
+        × IfSome g.2 (λ e. map.get g.1.now e.0 ≡ Some e.1.now)) };
 }
 
 impl<'s, S: Allocator> LastGroup<'s, S> {
@@ -46,32 +53,53 @@ impl<'s, S: Allocator> LastGroup<'s, S> {
         self.spool
     }
 
-    /// Returns the numbers of the group that the word names. They are looked for only where it isn't
-    /// the group of the last lookup.
-    pub(crate) fn find(&mut self, word: &[u8]) -> Option<&'s Numbers<S>>
-        ensures numbers { option_copied result ≡ map.get self.old.groups word.now }
+    /// Returns the group that the word names. It is looked for only where it isn't the one of the last
+    /// lookup.
+    pub(crate) fn find(&mut self, word: &[u8]) -> Option<Group<'s, S>>
+        ensures numbers { option_map (λ g. g.1.now) result ≡ map.get self.old.groups word.now }
+        ensures name { IfSome result (λ g. g.0.now ≡ word.now) }
+        ensures entry { IfSome result (λ g. IfSome g.2 (λ e. map.get g.1.now e.0 ≡ Some e.1.now)) }
         ensures spool { self.new ≡ self.old }
     {
-        if let Some((name, numbers)) = self.group {
+        if let Some((name, numbers, entry)) = self.group {
             if name.as_bytes() == word {
-                return Some(numbers);
+                return Some((name, numbers, entry));
             }
         }
-        self.group = self.spool.kept_group(word);
-        match self.group {
-            Some((_, numbers)) => Some(numbers),
+        self.group = match self.spool.kept_group(word) {
+            Some((name, numbers)) => Some((name, numbers, None)),
             None => None,
-        }
+        };
+        self.group
     }
 
-    /// Returns the numbers of the group that the word names. Where it names none there are none.
-    pub(crate) fn numbers_of(&mut self, word: &[u8]) -> &'s Numbers<S>
-        ensures numbers { result.now ≡ numbers_of self.old word.now }
+    /// Tells whether the numbers of the group that the word names meet what is asked. Where it names
+    /// none there are none.
+    pub(crate) fn meets(&mut self, word: &[u8], ask: &Ask<'_>) -> bool
+        requires { are_ascending (ask_of ask.now) ≡ true }
+        ensures meets { IsTrue result ↔ Meets (numbers_of self.old word.now) (ask_of ask.now) }
         ensures spool { self.new ≡ self.old }
     {
         match self.find(word) {
-            Some(numbers) => numbers,
-            None => self.spool.no_numbers(),
+            Some((name, numbers, mut entry)) => {
+                let meets = numbers.meet(ask, &mut entry);
+                self.group = Some((name, numbers, entry));
+                meets
+            }
+            None => self.spool.no_numbers().meet(ask, &mut None),
+        }
+    }
+
+    /// Tells whether the number has this id in the group that the word names. Where a step led to the
+    /// number last, the id isn't looked for.
+    pub(crate) fn has_id(&mut self, word: &[u8], number: u64, id: &str) -> bool
+        ensures has { IsTrue result ↔ (map.get (numbers_of self.old word.now) number ≡ Some id.now) }
+        ensures spool { self.new ≡ self.old }
+    {
+        match self.find(word) {
+            Some((_, _, Some((at, there)))) if at == number => there == id,
+            Some((_, numbers, _)) => numbers.has_id(number, id),
+            None => false,
         }
     }
 }

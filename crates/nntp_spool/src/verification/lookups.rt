@@ -16,10 +16,13 @@ use nntp_wire::{Block, Marks, Range, WaterMarks};
 use std::alloc::Allocator;
 
 impl<A: Allocator> Numbers<A> {
-    /// Tells whether the numbers meet what is asked.
-    pub(crate) fn meet(&self, ask: &Ask<'_>) -> bool
-        requires { are_ascending (ask_of ask.now) ≡ true }
-        ensures { IsTrue result ↔ Meets self.now (ask_of ask.now) }
+    /// Tells whether the numbers meet what is asked. Where it is a step, the number to which that
+    /// leads, and the id there, are kept in `entry`.
+    pub(crate) fn meet<'s>(&'s self, ask: &Ask<'_>, entry: &mut Option<(u64, &'s str)>) -> bool
+        requires ascending { are_ascending (ask_of ask.now) ≡ true }
+        requires entry { IfSome entry.old (λ e. map.get self.now e.0 ≡ Some e.1.now) }
+        ensures meet { IsTrue result ↔ Meets self.now (ask_of ask.now) }
+        ensures entry { IfSome entry.new (λ e. map.get self.now e.0 ≡ Some e.1.now) }
     {
         match ask {
             Ask::Estimates { how, marks } => self.is_bound(*how, *marks),
@@ -28,10 +31,10 @@ impl<A: Allocator> Numbers<A> {
             Ask::Lacks(number) => self.id(*number).is_none(),
             Ask::StandsAt(at, number) => self.current(*at) == Some(*number),
             Ask::StandsNowhere(at) => self.current(*at).is_none(),
-            Ask::StepsUp(at, number) => self.steps_up(self.current(*at), *number),
-            Ask::StepsDown(at, number) => self.steps_down(self.current(*at), *number),
-            Ask::IsTop(at) => self.is_at_top(self.current(*at)),
-            Ask::IsBottom(at) => self.is_at_bottom(self.current(*at)),
+            Ask::StepsUp(at, number) => leads(self.above(*at), *number, entry),
+            Ask::StepsDown(at, number) => leads(self.below(*at), *number, entry),
+            Ask::IsTop(at) => self.current(*at).is_some() && self.above(*at).is_none(),
+            Ask::IsBottom(at) => self.current(*at).is_some() && self.below(*at).is_none(),
         }
     }
 
@@ -64,50 +67,20 @@ impl<A: Allocator> Numbers<A> {
         }
     }
 
-    /// Tells whether a step up from the current article leads to this number.
-    fn steps_up(&self, current: Option<u64>, number: u64) -> bool
-        ensures { IsTrue result ↔ MatchOption current ⊥ (λ c. IsNextAbove self.now c number) }
+    /// Returns the number above the current article, and the id there.
+    fn above(&self, at: Position) -> Option<(u64, &str)>
+        ensures { MatchOption (current_in self.now at) (result ≡ None) (λ c. MatchOption result (NoneAbove self.now c)
+            (λ next. IsNextAbove self.now c next.0 × (map.get self.now next.0 ≡ Some next.1.now))) }
     {
-        match current {
-            Some(current) => match self.next_above(current) {
-                Some(above) => above == number,
-                None => false,
-            },
-            None => false,
-        }
+        self.next_above(self.current(at)?)
     }
 
-    /// Tells whether a step down from the current article leads to this number.
-    fn steps_down(&self, current: Option<u64>, number: u64) -> bool
-        ensures { IsTrue result ↔ MatchOption current ⊥ (λ c. IsNextBelow self.now c number) }
+    /// Returns the number below the current article, and the id there.
+    fn below(&self, at: Position) -> Option<(u64, &str)>
+        ensures { MatchOption (current_in self.now at) (result ≡ None) (λ c. MatchOption result (NoneBelow self.now c)
+            (λ next. IsNextBelow self.now c next.0 × (map.get self.now next.0 ≡ Some next.1.now))) }
     {
-        match current {
-            Some(current) => match self.next_below(current) {
-                Some(below) => below == number,
-                None => false,
-            },
-            None => false,
-        }
-    }
-
-    /// Tells whether the current article is a number that has none above it.
-    fn is_at_top(&self, current: Option<u64>) -> bool
-        ensures { IsTrue result ↔ MatchOption current ⊥ (NoneAbove self.now) }
-    {
-        match current {
-            Some(current) => self.next_above(current).is_none(),
-            None => false,
-        }
-    }
-
-    /// Tells whether the current article is a number that has none below it.
-    fn is_at_bottom(&self, current: Option<u64>) -> bool
-        ensures { IsTrue result ↔ MatchOption current ⊥ (NoneBelow self.now) }
-    {
-        match current {
-            Some(current) => self.next_below(current).is_none(),
-            None => false,
-        }
+        self.next_below(self.current(at)?)
     }
 
     /// Tells whether there is such a number.
@@ -155,7 +128,10 @@ impl<A: Allocator> Numbers<A> {
         ensures { IsNextFrom self.now before result }
     {
         match before {
-            Some(number) => self.next_above(number),
+            Some(number) => match self.next_above(number) {
+                Some((above, _)) => Some(above),
+                None => None,
+            },
             None => self.least(),
         }
     }
@@ -191,6 +167,18 @@ impl<A: Allocator> Numbers<A> {
             Some(number) => is_beyond(range.last, number),
             None => true,
         }
+    }
+}
+
+/// Tells whether a step leads to this number, and keeps where it leads.
+fn leads<'s>(found: Option<(u64, &'s str)>, number: u64, entry: &mut Option<(u64, &'s str)>) -> bool
+    ensures leads { IsTrue result ↔ MatchOption found.entry ⊥ (λ next. next.0 ≡ number) }
+    ensures entry { entry.new ≡ found.entry }
+{
+    *entry = found;
+    match found {
+        Some((next, _)) => next == number,
+        None => false,
     }
 }
 

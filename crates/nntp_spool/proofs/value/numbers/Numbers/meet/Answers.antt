@@ -1,4 +1,4 @@
 use Rattle.nntp_spool.proofs.value.numbers.Numbers.meet.Goals as goal
 
-pub returns-in-Lists : goal.returns-in-Lists
-returns-in-Lists g c = rw c.in-Lists.is c.lists.ensures
+pub returns-in-Lists-clause-meet : goal.returns-in-Lists-clause-meet
+returns-in-Lists-clause-meet g c = rw c.in-Lists.is c.lists.ensures
