@@ -10,3 +10,4 @@ pub mod Misfits
 pub mod AllowedCodes
 pub mod ReasonsAreSo
 pub mod MatchingGroups
+pub mod LinesLeft

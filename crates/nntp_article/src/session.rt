@@ -7,4 +7,4 @@ mod visible;
 
 pub use misfit::Misfit;
 pub use profile::Profile;
-pub use visible::{Visible, is_article_number, is_generic_failure};
+pub use visible::{Visible, groups_listed, is_article_number, is_generic_failure, numbers_listed};

@@ -12,9 +12,9 @@ ghost use Rattle.nntp_facts.specs.Inner.Readers.{ShownGroup as GroupValue, Shown
 use crate::articles::{ShownArticle, ShownArticles};
 use crate::kept::Kept;
 use crate::noted::{FactsError, Noted};
-use crate::saying::{Saying, numbers_listed};
+use crate::saying::Saying;
 use crate::shown_groups::{ShownGroup, ShownGroups};
-use nntp_article::{Misfit, Profile, Visible};
+use nntp_article::{Misfit, Profile, Visible, groups_listed, numbers_listed};
 use nntp_pair::Exchange;
 use nntp_said::Position;
 use nntp_wire::{Limit, Marks};
@@ -155,13 +155,17 @@ impl<A: Allocator + Copy> Facts<A> {
         let prompt = exchange.prompt();
         let answer = exchange.answer();
         let profile = self.profile();
-        if !self.visible.fits(profile, prompt, answer)? {
+        let numbers = numbers_listed(self.alloc, answer)?;
+        let groups = groups_listed(self.alloc, answer)?;
+        let why = self
+            .visible
+            .misfit_as_read(profile, prompt, answer, &numbers, &groups)?;
+        if why.is_some() {
             return Ok(Noted::OutOfPlace);
         }
-        let numbers = numbers_listed(self.alloc, answer)?;
         let here = self.visible.selected_name();
         let saying = Saying::of(self.marks, here, self.position, prompt, answer, &numbers);
-        if !self.kept.note(&saying)? {
+        if !self.kept.note(&saying, &groups)? {
             return Ok(Noted::Contradiction);
         }
         self.visible.advance(prompt, answer)?;

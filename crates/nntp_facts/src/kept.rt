@@ -1,8 +1,9 @@
 //! What is kept of all answers of a session.
-ghost use Rattle.std.specs.Prelude.{◌≡◌, ◌≢◌, ◌↔◌, ◌++◌, [], false, None, Some, List, IsTrue, IsFalse, IfSome, IfOk, OnOk, option_map};
+ghost use Rattle.std.specs.Prelude.{◌≡◌, ◌≢◌, ◌↔◌, ◌++◌, [], false, None, Some, List, map, IsTrue, IsFalse, IfSome, IfOk, OnOk, option_map};
 ghost use Rattle.std.specs.List.{AllByRecursion, list_any};
 ghost use Rattle.std.specs.Option.{option_map_or};
 ghost use Rattle.std.specs.Rc.{rc_str_bytes};
+ghost use Rattle.nntp_wire.specs.Inner.View.{active_value};
 ghost use Rattle.nntp_article.specs.Article.Parts.{Id};
 ghost use Rattle.nntp_article.specs.Session.Spool.{Name};
 ghost use Rattle.nntp_article.specs.Session.Machine.{is_same};
@@ -11,7 +12,7 @@ ghost use Rattle.nntp_said.specs.Facts.{Fact};
 ghost use Rattle.nntp_facts.specs.Given.{is_shown_group, is_mentioned};
 ghost use Rattle.nntp_facts.specs.Inner.Together.{IsWellFormed, Together};
 ghost use Rattle.nntp_facts.specs.Together.{denies_group};
-ghost use Rattle.nntp_facts.specs.Inner.Saying.{Saying as SayingValue, facts_in, IsToExist, MaySay, Tells};
+ghost use Rattle.nntp_facts.specs.Inner.Saying.{AreListed, Saying as SayingValue, facts_in, IsToExist, MaySay, Tells};
 ghost use Rattle.nntp_facts.specs.Inner.SayingView.{of_group, article_said, saying_of};
 ghost use Rattle.nntp_facts.specs.Inner.ArticleView.{is_added, text_of};
 ghost use Rattle.nntp_facts.specs.Inner.Kept.{joins_at_all, IsKept, AreKeptGroups, AreKeptNames, AreKeptArticles, AreAdded};
@@ -29,7 +30,7 @@ use crate::joins::Joins;
 use crate::names::Names;
 use crate::saying::{ArticlePart, GroupPart, Saying};
 use crate::shown_groups::ShownGroups;
-use nntp_wire::GroupName;
+use nntp_wire::{ActiveLine, GroupName};
 use std::alloc::{AllocError, Allocator, Global};
 use std::marker::Model;
 use std::rc::RcStr;
@@ -79,13 +80,19 @@ impl<A: Allocator + Copy> Kept<A> {
     }
 
     /// Adds what an answer says, if it stands together with all before, and tells whether it does. If not,
-    /// the value stays as it was. After an error it says nothing of use.
-    pub(crate) fn note(&mut self, saying: &Saying<'_>) -> Result<bool, AllocError>
-        ensures { IfOk result (λ does. (facts more : List Fact) → IsKept facts self.old → Together facts → AllByRecursion IsWellFormed more
+    /// the value stays as it was. After an error it says nothing of use. `groups` are those that the
+    /// answer lists.
+    pub(crate) fn note(
+        &mut self,
+        saying: &Saying<'_>,
+        groups: &[ActiveLine<'_>],
+    ) -> Result<bool, AllocError>
+        ensures { IfOk result (λ does. AreListed (saying_of saying.now) (map active_value groups.now)
+            → (facts more : List Fact) → IsKept facts self.old → Together facts → AllByRecursion IsWellFormed more
             → Tells facts (saying_of saying.now) more → AreAdded facts more self.old self.new does) }
     {
         match &saying.groups {
-            Some(list) => self.note_groups(list.wildmat, list.block),
+            Some(list) => self.note_groups(list.wildmat, groups),
             None => self.note_parts(saying),
         }
     }

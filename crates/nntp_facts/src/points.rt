@@ -16,7 +16,7 @@ use crate::conflict::{Core, tell_all};
 use crate::kept::Kept;
 use crate::placed::Placed;
 use crate::point::Point;
-use crate::saying::numbers_listed;
+use nntp_article::numbers_listed;
 use nntp_wire::{Limit, Marks};
 pub(crate) use statement::Statement;
 use std::alloc::{AllocError, Allocator, Global};

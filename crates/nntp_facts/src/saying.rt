@@ -1,14 +1,15 @@
 //! What an answer says of the spool (RFC 3977, sections 6 and 7.6.3).
-ghost use Rattle.std.specs.Prelude.{◌≡◌, List, [], ◌∷◌, None, Some, option_map, IfOk, IsTrue};
+ghost use Rattle.std.specs.Prelude.{◌≡◌, List, [], ◌∷◌, None, Some, option_map, IsTrue};
 ghost use Rattle.nntp_wire.specs.Name.{IsGroupName};
 ghost use Rattle.nntp_wire.specs.Inner.View.{asked};
 ghost use Rattle.nntp_wire.specs.Inner.AnswerView.{response};
-ghost use Rattle.nntp_wire.specs.Listing.{listed_numbers};
+ghost use Rattle.nntp_wire.specs.Listing.{ActiveValue};
 ghost use Rattle.nntp_article.specs.declared.session.profile.Profile.{Profile};
 ghost use Rattle.nntp_article.specs.Session.Machine.{Visible, fits};
+ghost use Rattle.nntp_article.specs.Inner.Misfit.{groups_of, numbers_of};
 ghost use Rattle.nntp_said.specs.Facts.{Fact as FactValue, Asks, IdAt as IdIs, here, facts_of, group_of};
 ghost use Rattle.nntp_said.specs.Inner.FactView.{ask_of, fact_of};
-ghost use Rattle.nntp_facts.specs.Inner.Saying.{HasSmall, IsSelectedShown, TellsHere, TellsThere, begun, nothing, numbers_listed, numbers_shown, saying_by};
+ghost use Rattle.nntp_facts.specs.Inner.Saying.{AreListed, HasSmall, IsSelectedShown, TellsHere, TellsThere, begun, nothing, numbers_shown, saying_by};
 ghost use Rattle.nntp_facts.specs.Inner.Saying.{saying_with};
 ghost use Rattle.nntp_said.specs.Asks.{Bounds};
 ghost use Rattle.nntp_facts.specs.Inner.Part.{Says};
@@ -19,7 +20,6 @@ ghost use Rattle.nntp_facts.specs.Inner.Summary.{AreBounded};
 use crate::numbers_part::NumbersPart;
 use nntp_said::{Ask, Fact, Position, SaidFacts, facts_of};
 use nntp_wire::{ActiveLine, Answer, Block, GroupName, Marks, MessageId, Prompt, What, Wildmat};
-use std::alloc::{AllocError, Allocator};
 use std::slice;
 
 /// A number of a group, and the message-id that it has.
@@ -131,10 +131,11 @@ impl<'s> Saying<'s> {
         answer: &'s Answer<'s>,
         numbers: &'s [u64],
     ) -> Saying<'s>
-        ensures { (profile : Profile) (v : Visible) (facts : List FactValue) → IsTrue (fits profile v (asked prompt.now) (response answer.now))
+        ensures tells { (profile : Profile) (v : Visible) (facts : List FactValue) → IsTrue (fits profile v (asked prompt.now) (response answer.now))
             → IsSelectedShown v facts
-            → selected.now ≡ here v → numbers.now ≡ numbers_listed (response answer.now)
+            → selected.now ≡ here v → numbers.now ≡ numbers_of (response answer.now)
             → TellsHere selected.now facts (saying_of result) (facts_of how v at (asked prompt.now) (response answer.now)) }
+        ensures groups { (groups : List ActiveValue) → groups ≡ groups_of (response answer.now) → AreListed (saying_of result) groups }
     {
         let facts = facts_of(how, selected, at, prompt, answer);
         Saying::by(facts, numbers_shown(answer, numbers))
@@ -255,28 +256,4 @@ fn numbers_shown<'s>(answer: &'s Answer<'s>, listed: &'s [u64]) -> &'s [u64]
         Answer::Sent { number, .. } => slice::from_ref(number),
         _ => listed,
     }
-}
-
-/// Collects the numbers that an answer to LISTGROUP lists. Another answer lists none.
-pub(crate) fn numbers_listed<A: Allocator + Copy>(
-    alloc: A,
-    answer: &Answer<'_>,
-) -> Result<Vec<u64, A>, AllocError>
-    ensures { IfOk result (λ numbers. numbers.items ≡ numbers_listed (response answer.now)) }
-{
-    match answer {
-        Answer::Numbers { block, .. } => numbers_of(alloc, block),
-        _ => Ok(Vec::new(alloc)),
-    }
-}
-
-/// Collects the numbers that a block lists.
-fn numbers_of<A: Allocator + Copy>(alloc: A, block: &Block<'_>) -> Result<Vec<u64, A>, AllocError>
-    ensures { IfOk result (λ numbers. numbers.items ≡ listed_numbers block.now) }
-{
-    let mut numbers = Vec::new(alloc);
-    for number in block.numbers() {
-        numbers.push(number)?;
-    }
-    Ok(numbers)
 }

@@ -182,6 +182,11 @@ fits_by_reason profile v asked response (Some reason) e = ap is_none e ∙ none_
 
 -- ---- loops that end at the first reason
 
+-- the first of two reasons
+pub why_or : (a b : Option Reason) → why_if (option_or a b) ≡ option_or (why_if a) (why_if b)
+why_or None b = refl
+why_or (Some a) b = refl
+
 pub plain_alone : (profile : Profile) (v : Visible) (asked : Asked) (code : ℕ)
     → misfit profile v asked (plain code) ≡ unless (fits profile v asked (plain code)) (code_misfit v asked code)
 plain_alone profile v greeting code = refl

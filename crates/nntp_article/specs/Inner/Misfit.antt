@@ -55,10 +55,14 @@ sent_head (to (retrieve Article which)) (sends sent) = option_map head_part sent
 sent_head (to (retrieve Head which)) (sends sent) = sent.block
 sent_head asked response = None
 
--- the names of the groups that the answer lists (section 7.6.3)
+-- the groups that the answer lists (section 7.6.3)
+abbrev pub groups_of : Response → List ActiveValue
+groups_of (active_are lines) = active_groups lines
+groups_of response = []
+
+-- the names of these
 abbrev pub names_of : Response → List Name
-names_of (active_are lines) = map (λ line. line.name) (active_groups lines)
-names_of response = []
+names_of response = map (λ line. line.name) (groups_of response)
 
 -- the numbers that the answer lists (section 6.1.2)
 abbrev pub numbers_of : Response → List ℕ

@@ -15,9 +15,10 @@ mod misfits;
 mod numbers;
 
 pub use codes::is_generic_failure;
+pub use groups::groups_listed;
 use marks::are_zeros;
 use nntp_wire::{Answer, Prompt, WaterMarks};
-pub use numbers::is_article_number;
+pub use numbers::{is_article_number, numbers_listed};
 use std::alloc::{AllocError, Allocator, Global};
 use std::collections::BTreeMap;
 use std::marker::Model;

@@ -4,15 +4,15 @@ use Rattle.std.proofs.Common.{◌≡◌, ℕ, ◌+◌, ◌<◌, ◌≤◌, ◌^�
 use Rattle.std.{proofs.{Common.{sym, ap, ap₂, subst, ◌∙◌, arith, append_assoc, length-append}, lemmas.List.{length-map, map-append}}, specs.Prelude.{IsFalse}}
 use Rattle.std.specs.List.{AllByRecursion, list_any}
 use Rattle.nntp_article.specs.Session.{Limit.{profile_of}, Spool.{Spool, Name}, Machine.{Visible, Run, start, fits, visible_after}}
-use Rattle.nntp_article.specs.declared.session.profile.Profile.{Profile}
+use Rattle.nntp_article.specs.{declared.session.profile.Profile.{Profile}, Inner.Misfit.{numbers_of}}
 use Rattle.nntp_pair.specs.{Pairing.{Paired, asked_at, asked_of, responses_of}, Inner.Pairing.{IsSpelled, lines_in}}
 use Rattle.nntp_said.specs.{Asks.{position_after}, declared.position.Position.{Position, TheVariants.{Nowhere}}, Facts.{Fact, here, facts_of}}
 use Rattle.nntp_said.specs.Inner.Facts.{FitsAll}
 use Rattle.nntp_facts.specs.{Given.{facts_of_session, shows_group}, Inner.{Given.{size}, Together.{IsWellFormed, Together, Join}, Kept.{Kept, IsKept}}}
-use Rattle.nntp_facts.specs.Inner.{Kept.{AreAdded}, Saying.{Saying, IsSelectedShown, Tells, TellsHere, numbers_listed}, Noted.{FactsKept, said_by, said_behind}}
-use Rattle.nntp_facts.specs.{Inner.Noted.{AreFew, HasNotedBehind, IsDue, MayBeNoted, said_then, IsNotedBehind}, Answered.{Answered, SomePermitsEach}}
-use Rattle.nntp_facts.specs.{Answered.{facts_of_all}, Classes.{visible_from, position_from}, Noted.{exchanged, ArePermittedBehind}}
-use Rattle.nntp_facts.{specs.declared.noted.Noted.TheVariants.{Consistent, OutOfPlace, Contradiction}, proofs.Members.{all_both, all_front, all_back, any_back}}
+use Rattle.nntp_facts.specs.Inner.{Kept.{AreAdded}, Saying.{Saying, IsSelectedShown, Tells, TellsHere}, Noted.{FactsKept, said_by, said_behind, AreFew}}
+use Rattle.nntp_facts.specs.{Inner.Noted.{HasNotedBehind, IsDue, MayBeNoted, said_then, IsNotedBehind}, Answered.{Answered, SomePermitsEach, facts_of_all}}
+use Rattle.nntp_facts.specs.{Classes.{visible_from, position_from}, Noted.{exchanged, ArePermittedBehind}, declared.noted.Noted.TheVariants.{Consistent}}
+use Rattle.nntp_facts.{specs.declared.noted.Noted.TheVariants.{OutOfPlace, Contradiction}, proofs.Members.{all_both, all_front, all_back, any_back}}
 use Rattle.nntp_facts.proofs.Session.{LaterPrompts.{run_longer, facts_longer, visible_longer, position_longer, next_behind}, OneMoreAnswer.{facts_grow}}
 use Rattle.nntp_facts.proofs.Session.{OneMoreAnswer.{visible_grows, position_grows}, SelectedGroupIsShown.{selected_shown}}
 use Rattle.nntp_facts.proofs.{Given.SessionsByFacts.{stand_each}, Together.WellFormed.{spelled_formed}, Keeping.NotedSessions.{facts_behind}}
@@ -231,8 +231,8 @@ pub weighed : (profile used : Profile) (facts old : FactsKept) (pair : Paired) (
     (response : Response) (saying : Saying) (name : Name) (numbers : List ℕ) (does : Bool)
     → facts ≡ old → profile_of facts.limit facts.marks ≡ profile → IsDue old pair → pair.index < 2 ^ 63 → lines_in pair.response < 2 ^ 64 → IsSpelled pair.line pair.initial pair.response
     → asked ≡ asked_at pair.line → response ≡ pair.response → used ≡ profile_of facts.limit facts.marks → does ≡ fits used facts.visible asked response → does ≡ true
-    → name ≡ here facts.visible → numbers ≡ numbers_listed response
-    → ((profile : Profile) (v : Visible) (all : List Fact) → IsTrue (fits profile v asked response) → IsSelectedShown v all → name ≡ here v → numbers ≡ numbers_listed response
+    → name ≡ here facts.visible → numbers ≡ numbers_of response
+    → ((profile : Profile) (v : Visible) (all : List Fact) → IsTrue (fits profile v asked response) → IsSelectedShown v all → name ≡ here v → numbers ≡ numbers_of response
     → TellsHere name all saying (facts_of facts.marks v facts.position asked response))
     → Weighed profile facts pair saying
 weighed profile used facts old pair asked response saying name numbers does is profile_is due low few spelled to by judged tested fitting named listed tells =

@@ -6,7 +6,7 @@ use Rattle.nntp_wire.specs.Listing.{ActiveValue}
 use Rattle.nntp_said.specs.{Asks.{Ask}, Facts.{Fact, GroupsAre}}
 use Rattle.nntp_facts.specs.Inner.{Together.{IsWellFormed, said_of, join_said, Together, Join}, ListedGroups.{MayList}, Saying.{OfGroup, OfArticle, Lacks}}
 use Rattle.nntp_facts.specs.Inner.Saying.{Exists, Sends, Saying, sent_facts, there_facts, group_facts, missing_facts, lack_facts, groups_facts, facts_in}
-use Rattle.nntp_facts.specs.Inner.{Saying.{IsToExist, MayBeOf, IsAlone, Tells}, Kept.{Kept, IsKept, AreKeptNames, AreKeptGroups, AreAdded}}
+use Rattle.nntp_facts.specs.Inner.{Saying.{AreListed, IsToExist, MayBeOf, IsAlone, Tells}, Kept.{Kept, IsKept, AreKeptNames, AreKeptGroups, AreAdded}}
 use Rattle.nntp_facts.{specs.Inner.KeptSaying.{IsTextOf, JoinGroups, MayBeSaid, ArticleJoins, IsArticleAdded}, proofs.Keeping.PartsJoin.{parts_join}}
 use Rattle.nntp_facts.proofs.Keeping.{PartsJoin.{said_of_parts}, SaidOfArticles.{said_append}, KeptArticles.{Articles}}
 
@@ -44,13 +44,14 @@ listed_alone s asks wildmat lines alone is =
     ∙ ap groups_facts is
 
 -- so what is added of it is added
-pub list_added : (facts more : List Fact) (s : Saying) (wildmat : Option (List ℕ)) (lines : List ActiveValue) (old new : Kept) (does : Bool) → s.groups ≡ Some (wildmat, lines)
-    → Tells facts s more → AllByRecursion IsWellFormed more
-    → (AllByRecursion IsWellFormed (GroupsAre wildmat lines ∷ []) → MayList wildmat lines → AreAdded facts (GroupsAre wildmat lines ∷ []) old new does) → AreAdded facts more old new does
-list_added facts more s wildmat lines old new does is t formed adds =
+pub list_added : (facts more : List Fact) (s : Saying) (wildmat : Option (List ℕ)) (lines groups : List ActiveValue) (old new : Kept) (does : Bool) → s.groups ≡ Some (wildmat, lines)
+    → AreListed s groups → Tells facts s more → AllByRecursion IsWellFormed more
+    → (AllByRecursion IsWellFormed (GroupsAre wildmat groups ∷ []) → MayList wildmat groups → AreAdded facts (GroupsAre wildmat groups ∷ []) old new does) → AreAdded facts more old new does
+list_added facts more s wildmat lines groups old new does is listed t formed adds =
     let may = subst (λ o. IfSome o (λ l. MayList l.0 l.1 × IsAlone s)) is t.may.groups in
-    let same : GroupsAre wildmat lines ∷ [] ≡ more = sym (listed_alone s t.asks wildmat lines may.1 is) ∙ t.same in
-    subst (λ more. AreAdded facts more old new does) same (adds (subst (AllByRecursion IsWellFormed) (sym same) formed) may.0)
+    let these : groups ≡ lines = subst (λ o. IfSome o (λ l. groups ≡ l.1)) is listed in
+    let same : GroupsAre wildmat groups ∷ [] ≡ more = ap (λ lines. GroupsAre wildmat lines ∷ []) these ∙ sym (listed_alone s t.asks wildmat lines may.1 is) ∙ t.same in
+    subst (λ more. AreAdded facts more old new does) same (adds (subst (AllByRecursion IsWellFormed) (sym same) formed) (subst (MayList wildmat) (sym these) may.0))
 
 module _ (facts more : List Fact) (s : Saying) (no_list : s.groups ≡ None) (t : Tells facts s more) (together : Together facts) (formed : AllByRecursion IsWellFormed more) where
   -- all joins exactly if the groups do and the article does

@@ -2,12 +2,13 @@
 use Rattle.std.proofs.Common.{◌≡◌, ℕ, ◌<◌, ◌^◌, get_or, true, IsTrue, List, [], ◌∷◌, Option, None, Some, is_some, inl, inr, refl, sym, ap, subst}
 use Rattle.std.{proofs.lemmas.Bool.{true≢false}, specs.Prelude.{IfSome, unwrap_or}}
 use Rattle.nntp_article.specs.{Article.Parts.{Id}, Session.{Spool.{Name}, Machine.{Visible, fits}}, declared.session.profile.Profile.{Profile}}
-use Rattle.nntp_wire.specs.{Answer.{Asked, Response}, Command.{group, last}, Listing.{active_groups, listed_numbers}, declared.marks.Marks.{Marks}}
+use Rattle.nntp_article.specs.Inner.Misfit.{groups_of, numbers_of}
+use Rattle.nntp_wire.specs.{Answer.{Asked, Response}, Command.{group, last}, Listing.{ActiveValue, active_groups, listed_numbers}, declared.marks.Marks.{Marks}}
 use Rattle.nntp_wire.specs.declared.{range.Range.{Range}, water_marks.WaterMarks.{WaterMarks}}
 use Rattle.nntp_said.specs.{declared.position.Position.{Position}, Asks.{Ask, Estimates, ListsIn, Has, Lacks, StandsAt, StandsNowhere, StepsUp, StepsDown}}
 use Rattle.nntp_said.specs.{Asks.{IsTop, IsBottom}, Facts.{Fact, ThereIs, Asks, IdAt, here, facts_of, group_of}}
 use Rattle.nntp_facts.specs.{Given.{is_shown_group}, Inner.{Part.{Said, Says, AreListable}, PartOf.{IsSmall, nothing_said, part_with}, Summary.{AreBounded}}}
-use Rattle.nntp_facts.specs.Inner.Saying.{HasSmall, Saying, TellsHere, IsSelectedShown, IsShownThen, nothing, numbers_listed, numbers_shown, saying_by}
+use Rattle.nntp_facts.specs.Inner.Saying.{AreListed, HasSmall, Saying, TellsHere, IsSelectedShown, IsShownThen, nothing, numbers_shown, saying_by}
 use Rattle.nntp_facts.proofs.Keeping.{KeptGroups.{bounded_more}, SaidInARange.{says_range}, SaidOfAsks.{says_marks, marks_bounded, says_has, says_lacks}}
 use Rattle.nntp_facts.proofs.{Keeping.SaidOfAsks.{says_stands, says_nowhere, says_up, says_down, says_top, says_bottom}, Session.FittingAnswers.{listable}}
 use Rattle.nntp_facts.proofs.Session.FittingAnswers.{may_list, numbered}
@@ -36,6 +37,16 @@ tells_marks {selected} facts name p how m s more says bounded s_is same =
     })
 
 -- ---- rows
+
+-- the groups that match are those that the answer lists
+said_groups : {profile : Profile} {v : Visible} {at : Position} {Fits : Type 0} {a : Response} {more : List Fact} (shown : List ℕ) → rows.Row profile v at Fits a more
+    → (groups : List ActiveValue) → groups ≡ groups_of a → AreListed (saying_by shown nothing more) groups
+said_groups shown (rows.active p lines known) groups e = e
+said_groups shown r groups e = tt
+
+pub groups_said : (profile : Profile) (v : Visible) (at : Position) (asked : Asked) (response : Response) (shown : List ℕ) (groups : List ActiveValue) → groups ≡ groups_of response
+    → AreListed (saying_by shown nothing (facts_of profile.marks v at asked response)) groups
+groups_said profile v at asked response shown groups e = said_groups shown (rows.row profile v at asked response) groups e
 
 module _ (v : Visible) (facts : List Fact) (is_shown : IsSelectedShown v facts) where
   -- what is said by facts of an answer that shows these numbers, if all numbers are below 2^64, tells them
@@ -81,8 +92,8 @@ module _ (v : Visible) (facts : List Fact) (is_shown : IsSelectedShown v facts) 
   }
 
   -- a row of the table whose condition holds
-  said_row : {profile : Profile} {at : Position} {Fits : Type 0} {a : Response} {more : List Fact} → ((i : ℕ) → get_or (numbers_listed a) i 0 < 2 ^ 64)
-      → rows.Row profile v at Fits a more → Fits → Row (numbers_shown (numbers_listed a) a) more
+  said_row : {profile : Profile} {at : Position} {Fits : Type 0} {a : Response} {more : List Fact} → ((i : ℕ) → get_or (numbers_of a) i 0 < 2 ^ 64)
+      → rows.Row profile v at Fits a more → Fits → Row (numbers_shown (numbers_of a) a) more
   said_row {at = at} fit (rows.nowhere code known) f small = ask_row [] (StandsNowhere at) (known f) (λ _. says_nowhere [] at) small
   said_row {at = at} fit (rows.top code known) f small = ask_row [] (IsTop at) (known f) (λ small. says_top [] at small.high) small
   said_row {at = at} fit (rows.bottom code known) f small = ask_row [] (IsBottom at) (known f) (λ _. says_bottom [] at) small
@@ -108,7 +119,7 @@ module _ (v : Visible) (facts : List Fact) (is_shown : IsSelectedShown v facts) 
   said_row fit r f small = record { tells = record { asks = []; same = refl; may = assumption }; group = refl; there = tt }
 
   -- an answer that fits
-  pub answer_row : (profile : Profile) (at : Position) (asked : Asked) (response : Response) (listed : List ℕ) → ((i : ℕ) → get_or listed i 0 < 2 ^ 64) → listed ≡ numbers_listed response
+  pub answer_row : (profile : Profile) (at : Position) (asked : Asked) (response : Response) (listed : List ℕ) → ((i : ℕ) → get_or listed i 0 < 2 ^ 64) → listed ≡ numbers_of response
       → IsTrue (fits profile v asked response) → Row (numbers_shown listed response) (facts_of profile.marks v at asked response)
   answer_row profile at asked response listed small is may =
       subst (λ ns. Row (numbers_shown ns response) (facts_of profile.marks v at asked response)) (sym is)

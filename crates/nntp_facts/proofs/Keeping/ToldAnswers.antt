@@ -6,10 +6,11 @@ use Rattle.std.specs.Option.{option_map_or}
 use Rattle.nntp_wire.specs.{declared.marks.Marks.TheVariants.{Lenient}, Answer.{Asked, Response}}
 use Rattle.nntp_pair.specs.Inner.Pairing.{lines_in}
 use Rattle.nntp_article.specs.{Session.{Spool.{Name}, Machine.{Visible, start, fits, is_same}}, declared.session.profile.Profile.{Profile}}
+use Rattle.nntp_article.specs.Inner.Misfit.{numbers_of}
 use Rattle.nntp_said.specs.{declared.position.Position.{Position}, Asks.{Estimates}, Facts.{Fact, Holds, ThereIs, here, facts_of, group_of}}
 use Rattle.nntp_facts.specs.{Given.{is_shown_group, shows_group}, Inner.{Given.{size}, Part.{Said, Says}, Summary.{AreBounded}, Together.{Together}}}
 use Rattle.nntp_facts.specs.Inner.{Together.{AgreeWithin, Join, IsWellFormed}, Conflict.{FitsThere}, Kept.{Kept, IsKept, AreAdded}, Saying.{Saying, OfGroup}}
-use Rattle.nntp_facts.specs.Inner.{Saying.{Tells, TellsHere, TellsThere, IsShownThen, IsSelectedShown, numbers_listed}, Told.{AreTold, AreToldWith, PlacesTold}}
+use Rattle.nntp_facts.specs.Inner.{Saying.{Tells, TellsHere, TellsThere, IsShownThen, IsSelectedShown}, Told.{AreTold, AreToldWith, PlacesTold}}
 use Rattle.nntp_facts.{specs.Conflict.{Placed, said, widest, a_group, the_group, told, SomeHas, told_at, told_with}, proofs.Members.{any_back, all_front}}
 use Rattle.nntp_facts.proofs.{Given.FirstBadAnswer.{size-append}, Ids.SizeOfASession.{answer_size}, Session.GroupOfAnAnswer.{same_selected}}
 use Rattle.nntp_facts.proofs.Together.{FactsJoin.{together_more, none_agrees, group_agrees, answer_agrees}, FactsOfASpoolStand.{stand, same_itself}}
@@ -116,8 +117,8 @@ module _ (selected : Option Name) (s : Saying) (more : List Fact) (t : TellsTher
 
 -- what it says, behind the selected group
 pub there_told : (profile : Profile) (a : Placed) (asked : Asked) (response : Response) (at : Position) (name : Name) (numbers : List ℕ) (s : Saying)
-    → FitsThere profile a → asked ≡ a.asked → response ≡ a.response → at ≡ a.position → name ≡ unwrap_or a.selected [] → numbers ≡ numbers_listed response
-    → ((other : Profile) (v : Visible) (all : List Fact) → IsTrue (fits other v asked response) → IsSelectedShown v all → name ≡ here v → numbers ≡ numbers_listed response
+    → FitsThere profile a → asked ≡ a.asked → response ≡ a.response → at ≡ a.position → name ≡ unwrap_or a.selected [] → numbers ≡ numbers_of response
+    → ((other : Profile) (v : Visible) (all : List Fact) → IsTrue (fits other v asked response) → IsSelectedShown v all → name ≡ here v → numbers ≡ numbers_of response
     → TellsHere name all s (facts_of profile.marks v at asked response))
     → TellsThere a.selected s (said profile.marks a)
 there_told profile a asked response at name numbers s (v, e, f) to by stands named listed tells all shown =

@@ -3,11 +3,12 @@ use Rattle.std.{proofs.{Common.{◌≡◌, ℕ, true, List, [], Option, None, So
 use Rattle.std.specs.{Prelude.{unwrap_or}, List.{AllByRecursion}}
 use Rattle.nntp_wire.specs.{Name.{IsGroupName}, Answer.{Asked, Response}, declared.marks.Marks.{Marks}}
 use Rattle.nntp_article.specs.{Session.{Spool.{Name}, Machine.{Visible, start, fits, is_same}}, declared.session.profile.Profile.{Profile}}
+use Rattle.nntp_article.specs.Inner.Misfit.{numbers_of}
 use Rattle.nntp_said.specs.{declared.position.Position.{Position}, Facts.{Fact, ThereIs, here, facts_of, group_of}}
 use Rattle.nntp_facts.specs.{Given.{is_shown_group}, Inner.{Together.{IsWellFormed}, Saying.{Saying, OfGroup, TellsHere, TellsThere, IsSelectedShown}}}
-use Rattle.nntp_facts.specs.{Inner.{Saying.{numbers_listed, sent_facts, there_facts}, Conflict.{FitsThere}, Points.{TellsAlone}}, Conflict.{Placed, said}}
-use Rattle.nntp_facts.{specs.Conflict.{the_group, told}, proofs.{Members.{In, in_front, in_back, all_at, all_both}, Together.FactsJoin.{answer_agrees}}}
-use Rattle.nntp_facts.proofs.{Together.FactsOfASpoolStand.{same_itself}, Keeping.ToldAnswers.{there_told, group_said, none_said, selected_spoken}}
+use Rattle.nntp_facts.specs.{Inner.{Saying.{sent_facts, there_facts}, Conflict.{FitsThere}, Points.{TellsAlone}}, Conflict.{Placed, said, the_group, told}}
+use Rattle.nntp_facts.proofs.{Members.{In, in_front, in_back, all_at, all_both}, Together.{FactsJoin.{answer_agrees}, FactsOfASpoolStand.{same_itself}}}
+use Rattle.nntp_facts.proofs.Keeping.ToldAnswers.{there_told, group_said, none_said, selected_spoken}
 
 -- facts that show the selected group
 shown_by : (profile : Profile) (selected : Option Name) → IfSome selected (λ name. is_shown_group (the_group profile selected) name ≡ true)
@@ -52,8 +53,8 @@ module _ (profile : Profile) (a : Placed) (s : Saying) (t : TellsThere a.selecte
 
 -- what it says tells its facts, where marks are read so
 pub there_told_so : (profile : Profile) (a : Placed) (asked : Asked) (response : Response) (at : Position) (name : Name) (numbers : List ℕ) (s : Saying) (how : Marks) → profile.marks ≡ how
-    → FitsThere profile a → asked ≡ a.asked → response ≡ a.response → at ≡ a.position → name ≡ unwrap_or a.selected [] → numbers ≡ numbers_listed response
-    → ((other : Profile) (v : Visible) (all : List Fact) → IsTrue (fits other v asked response) → IsSelectedShown v all → name ≡ here v → numbers ≡ numbers_listed response
+    → FitsThere profile a → asked ≡ a.asked → response ≡ a.response → at ≡ a.position → name ≡ unwrap_or a.selected [] → numbers ≡ numbers_of response
+    → ((other : Profile) (v : Visible) (all : List Fact) → IsTrue (fits other v asked response) → IsSelectedShown v all → name ≡ here v → numbers ≡ numbers_of response
     → TellsHere name all s (facts_of how v at asked response))
     → TellsThere a.selected s (said profile.marks a)
 there_told_so profile a asked response at name numbers s how marks fit to by stands named listed tells =

@@ -2,11 +2,12 @@
 use Rattle.std.specs.Prelude.{◌≡◌, true, false, ◌<◌, ◌||◌, ◌&&◌, not, ℕ, Bool, List, [], ◌∷◌, ◌++◌, Option, None, option_map, if◌then◌else◌, MatchOption}
 use Rattle.std.specs.{List.{AllByRecursion, flat_map}, Option.{option_map_or}}
 use Rattle.nntp_article.specs.{Article.Parts.{Id}, Session.{Spool.{Name}, Machine.{is_same}}, declared.session.profile.Profile.{Profile}}
+use Rattle.nntp_article.specs.Inner.Misfit.{numbers_of}
 use Rattle.nntp_wire.specs.{Decided.{matches_name}, Listing.{ActiveValue}}
 use Rattle.nntp_said.specs.{Asks.{Ask, Bounds}, Facts.{Fact, group_of}}
 use Rattle.nntp_facts.specs.Inner.{Together.{IsWellFormed, AgreeWithin, Together}, Kept.{id_of, place_of, Kept, IsKept}, ListedGroups.{is_listed}}
-use Rattle.nntp_facts.specs.{Inner.{Saying.{Saying, Tells, numbers_listed}, Conflict.{FitsThere}}, Conflict.{Placed, told, told_with, with_group, Point}}
-use Rattle.nntp_facts.specs.Conflict.{Number, Count, First, rank, ConflictAt}
+use Rattle.nntp_facts.specs.{Inner.{Saying.{Saying, Tells}, Conflict.{FitsThere}}, Conflict.{Placed, told, told_with, with_group, Point, Number, Count, First}}
+use Rattle.nntp_facts.specs.Conflict.{rank, ConflictAt}
 
 -- ---- what the last answer of a conflict says
 
@@ -84,7 +85,7 @@ pub record IsBeside (profile : Profile) (facts : List Fact) (k : Kept) (t : Stat
 
 -- an answer with the numbers that it lists
 abbrev pub with_numbers : Placed → Placed × List ℕ
-with_numbers a = (a, numbers_listed a.response)
+with_numbers a = (a, numbers_of a.response)
 
 -- what is held of answers that conflict: what is kept of all but the last, and the last one with the numbers that it lists
 pub record Answers : Type 0 where

@@ -170,10 +170,9 @@ TellsThere selected s more = (facts : List Fact) → IfSome selected (λ name. i
 abbrev pub IsSelectedShown : Visible → List Fact → Type 0
 IsSelectedShown v facts = IfSome v.selected (λ name. is_shown_group facts name ≡ true)
 
--- the numbers that an answer to LISTGROUP lists
-abbrev pub numbers_listed : Response → List ℕ
-numbers_listed (numbers_are m name lines) = listed_numbers lines
-numbers_listed response = []
+-- these groups are those that match, if the saying lists them
+abbrev pub AreListed : Saying → List ActiveValue → Type 0
+AreListed s groups = IfSome s.groups (λ l. groups ≡ l.1)
 
 -- the numbers that an answer shows: the one that it gives, or those that it lists
 abbrev pub numbers_shown : List ℕ → Response → List ℕ

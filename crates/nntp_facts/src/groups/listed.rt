@@ -1,10 +1,11 @@
 //! The groups that LIST ACTIVE lists, beside those that are kept (RFC 3977, section 7.6.3).
-ghost use Rattle.std.specs.Prelude.{◌≡◌, ℕ, ◌++◌, ◌∷◌, ◌&&◌, not, [], false, true, List, length, Option, IsTrue, IfOk, OnOk, MatchOption};
+ghost use Rattle.std.specs.Prelude.{◌≡◌, ℕ, ◌++◌, ◌∷◌, ◌&&◌, not, [], false, true, List, map, Option, IsTrue, IfOk, OnOk, MatchOption};
 ghost use Rattle.std.specs.Option.{option_map_or};
 ghost use Rattle.nntp_wire.specs.Decided.{matches_name};
 ghost use Rattle.std.specs.List.{list_any};
 ghost use Rattle.std.specs.BTreeMap.{keys};
 ghost use Rattle.nntp_wire.specs.Listing.{active_groups};
+ghost use Rattle.nntp_wire.specs.Inner.View.{active_value};
 ghost use Rattle.nntp_article.specs.Session.Spool.{Name};
 ghost use Rattle.nntp_article.specs.Session.Machine.{is_same};
 ghost use Rattle.nntp_said.specs.Facts.{Fact, GroupsAre};
@@ -18,7 +19,7 @@ ghost use Rattle.nntp_facts.specs.Inner.ListedGroups.{is_listed, NoneIsMissing};
 use crate::group::Group;
 use crate::groups::Groups;
 use crate::saying::GroupPart;
-use nntp_wire::{Block, GroupName, Wildmat, is_asked, matches_if_given};
+use nntp_wire::{ActiveLine, Block, GroupName, Wildmat, is_asked, matches_if_given};
 use std::alloc::{AllocError, Allocator};
 use std::collections::{BTreeMap, BTreeSet};
 
@@ -35,19 +36,16 @@ impl<A: Allocator> Groups<A> {
 }
 
 impl<A: Allocator + Copy> Groups<A> {
-    /// Adds that the listed groups are there, with their numbers between the marks, and returns how
-    /// many are listed. After an error the value says nothing of use.
-    pub(crate) fn bound_all(&mut self, block: &Block<'_>) -> Result<usize, AllocError>
-        ensures count { IfOk result (λ count. count ≡ length (active_groups block.now)) }
-        ensures groups { OnOk result ((facts : List Fact) (wildmat : Option (List ℕ)) → AreKeptGroups facts self.old
-            → AreKeptGroups (facts ++ GroupsAre wildmat (active_groups block.now) ∷ []) self.new) }
+    /// Adds that the listed groups are there, with their numbers between the marks. After an error the
+    /// value says nothing of use.
+    pub(crate) fn bound_all(&mut self, groups: &[ActiveLine<'_>]) -> Result<(), AllocError>
+        ensures { OnOk result ((facts : List Fact) (wildmat : Option (List ℕ)) → AreKeptGroups facts self.old
+            → AreKeptGroups (facts ++ GroupsAre wildmat (map active_value groups.now) ∷ []) self.new) }
     {
-        let mut count = 0;
-        for group in block.groups() {
-            self.add(&GroupPart::of_bounds(&group), None)?;
-            count += 1;
+        for group in groups {
+            self.add(&GroupPart::of_bounds(group), None)?;
         }
-        Ok(count)
+        Ok(())
     }
 
     /// Returns the first group that is shown and matches, and isn't listed.

@@ -1,7 +1,6 @@
 //! What an answer to LIST ACTIVE says beside all that was said before (RFC 3977, section 7.6.3).
-ghost use Rattle.std.specs.Prelude.{◌≡◌, ◌↔◌, ◌++◌, ◌∷◌, [], List, length, MatchOption, IsTrue, IfOk, OnOk};
+ghost use Rattle.std.specs.Prelude.{◌≡◌, ◌↔◌, ◌++◌, ◌∷◌, [], List, length, map, MatchOption, IsTrue, IfOk, OnOk};
 ghost use Rattle.std.specs.List.{AllByRecursion};
-ghost use Rattle.nntp_wire.specs.Listing.{active_groups};
 ghost use Rattle.nntp_wire.specs.Inner.View.{active_value};
 ghost use Rattle.nntp_said.specs.Facts.{Fact, GroupsAre};
 ghost use Rattle.nntp_facts.specs.Inner.Together.{IsWellFormed, Together, Join};
@@ -11,7 +10,7 @@ ghost use Rattle.nntp_facts.specs.Inner.ListedGroups.{MayList, LineJoins, shown_
 
 use crate::kept::Kept;
 use crate::saying::GroupPart;
-use nntp_wire::{ActiveLine, Block, Wildmat};
+use nntp_wire::{ActiveLine, Wildmat};
 use std::alloc::{AllocError, Allocator};
 
 impl<A: Allocator + Copy> Kept<A> {
@@ -20,28 +19,29 @@ impl<A: Allocator + Copy> Kept<A> {
     pub(crate) fn note_groups(
         &mut self,
         wildmat: &Option<Wildmat<'_>>,
-        block: &Block<'_>,
+        groups: &[ActiveLine<'_>],
     ) -> Result<bool, AllocError>
         ensures { IfOk result (λ does. (facts : List Fact) → IsKept facts self.old → Together facts
-            → AllByRecursion IsWellFormed (GroupsAre wildmat.now (active_groups block.now) ∷ [])
-            → MayList wildmat.now (active_groups block.now) → AreAdded facts (GroupsAre wildmat.now (active_groups block.now) ∷ []) self.old self.new does) }
+            → AllByRecursion IsWellFormed (GroupsAre wildmat.now (map active_value groups.now) ∷ [])
+            → MayList wildmat.now (map active_value groups.now)
+            → AreAdded facts (GroupsAre wildmat.now (map active_value groups.now) ∷ []) self.old self.new does) }
     {
-        if !self.may_list_groups(wildmat, block) {
+        if !self.may_list_groups(wildmat, groups) {
             return Ok(false);
         }
-        self.list_groups(wildmat, block)?;
+        self.list_groups(wildmat, groups)?;
         Ok(true)
     }
 
     /// Tells whether the groups that an answer lists as all that match stand together with all that
     /// was said before. Each of them matches, and none is listed twice, so none that is shown is
     /// missing where as many of them are shown as match.
-    fn may_list_groups(&self, wildmat: &Option<Wildmat<'_>>, block: &Block<'_>) -> bool
+    fn may_list_groups(&self, wildmat: &Option<Wildmat<'_>>, groups: &[ActiveLine<'_>]) -> bool
         ensures { (facts : List Fact) → IsKept facts self.now → Together facts
-            → AllByRecursion IsWellFormed (GroupsAre wildmat.now (active_groups block.now) ∷ []) → MayList wildmat.now (active_groups block.now)
-            → IsTrue result ↔ Join facts (GroupsAre wildmat.now (active_groups block.now) ∷ []) }
+            → AllByRecursion IsWellFormed (GroupsAre wildmat.now (map active_value groups.now) ∷ []) → MayList wildmat.now (map active_value groups.now)
+            → IsTrue result ↔ Join facts (GroupsAre wildmat.now (map active_value groups.now) ∷ []) }
     {
-        match self.count_joining(block) {
+        match self.count_joining(groups) {
             Some(shown) => shown == self.count_asked(wildmat),
             None => false,
         }
@@ -63,30 +63,29 @@ impl<A: Allocator + Copy> Kept<A> {
     fn list_groups(
         &mut self,
         wildmat: &Option<Wildmat<'_>>,
-        block: &Block<'_>,
+        groups: &[ActiveLine<'_>],
     ) -> Result<(), AllocError>
-        ensures { OnOk result ((facts : List Fact) → IsKept facts self.old → MayList wildmat.now (active_groups block.now)
-            → Join facts (GroupsAre wildmat.now (active_groups block.now) ∷ [])
-            → IsKept (facts ++ GroupsAre wildmat.now (active_groups block.now) ∷ []) self.new) }
+        ensures { OnOk result ((facts : List Fact) → IsKept facts self.old → MayList wildmat.now (map active_value groups.now)
+            → Join facts (GroupsAre wildmat.now (map active_value groups.now) ∷ [])
+            → IsKept (facts ++ GroupsAre wildmat.now (map active_value groups.now) ∷ []) self.new) }
     {
-        let count = self.groups.bound_all(block)?;
-        self.names.list(self.alloc, wildmat, count)?;
-        Ok(())
+        self.groups.bound_all(groups)?;
+        self.names.list(self.alloc, wildmat, groups.len())
     }
 }
 
 impl<A: Allocator + Copy> Kept<A> {
     /// Returns how many of the listed groups are shown already, if each may be there, with its numbers
     /// between the marks.
-    fn count_joining(&self, block: &Block<'_>) -> Option<usize>
+    fn count_joining(&self, groups: &[ActiveLine<'_>]) -> Option<usize>
         ensures { (facts : List Fact) → IsKept facts self.now → Together facts → MatchOption result
-            (AllByRecursion (LineJoins facts) (active_groups block.now) → ⊥)
-            (λ shown. AllByRecursion (LineJoins facts) (active_groups block.now) × (shown ≡ length (shown_lines facts (active_groups block.now)))) }
+            (AllByRecursion (LineJoins facts) (map active_value groups.now) → ⊥)
+            (λ shown. AllByRecursion (LineJoins facts) (map active_value groups.now) × (shown ≡ length (shown_lines facts (map active_value groups.now)))) }
     {
         let mut shown = 0;
-        for line in block.groups() {
+        for line in groups {
             let is_shown = self.groups.is_shown(line.name.as_slice());
-            if !self.may_bound(&line, is_shown) {
+            if !self.may_bound(line, is_shown) {
                 return None;
             }
             shown += usize::from(is_shown);

@@ -16,7 +16,8 @@ ghost use Rattle.nntp_facts.specs.Inner.Told.{AreTold, AreToldWith, PlacesTold};
 use crate::kept::Kept;
 use crate::numbers_part::NumbersPart;
 use crate::placed::Placed;
-use crate::saying::{Saying, numbers_listed};
+use crate::saying::Saying;
+use nntp_article::{groups_listed, numbers_listed};
 use nntp_wire::{GroupName, Limit, Marks};
 use std::alloc::{AllocError, Allocator};
 
@@ -34,6 +35,7 @@ impl<A: Allocator + Copy> Kept<A> {
     {
         let response = answer.answer();
         let numbers = numbers_listed(self.alloc, response)?;
+        let groups = groups_listed(self.alloc, response)?;
         let saying = Saying::of(
             marks,
             answer.selected_name(),
@@ -45,7 +47,7 @@ impl<A: Allocator + Copy> Kept<A> {
         if !self.tell_group(limit, &saying, answer.selected())? {
             return Ok(false);
         }
-        self.note(&saying)
+        self.note(&saying, &groups)
     }
 
     /// Adds that there is the group of which the answer speaks, if it speaks of one and this stands
@@ -73,7 +75,7 @@ impl<A: Allocator + Copy> Kept<A> {
             → AreAdded facts (a_group profile name.now) self.old self.new does) }
     {
         let numbers = NumbersPart::of_widest(limit);
-        self.note(&Saying::selects(name, numbers))
+        self.note(&Saying::selects(name, numbers), &[])
     }
 
     /// Adds what the answer at the place says by itself, as [`tell`](Kept::tell) does. Where there is

@@ -1,7 +1,7 @@
 //! What an answer says by itself.
 ghost use Rattle.std.specs.Prelude.{◌≡◌};
 ghost use Rattle.nntp_article.specs.declared.session.profile.Profile.{Profile};
-ghost use Rattle.nntp_facts.specs.Inner.Saying.{numbers_listed};
+ghost use Rattle.nntp_article.specs.Inner.Misfit.{numbers_of};
 ghost use Rattle.nntp_facts.specs.Inner.Conflict.{FitsThere};
 ghost use Rattle.nntp_facts.specs.Conflict.{told};
 ghost use Rattle.nntp_facts.specs.Inner.Points.{TellsAlone};
@@ -23,7 +23,7 @@ pub(crate) struct Statement<'s> {
 impl<'s> Statement<'s> {
     /// Returns what an answer says where marks are read so; `numbers` are those that it lists.
     pub(crate) fn of(marks: Marks, answer: &'s Placed<'s>, numbers: &'s [u64]) -> Statement<'s>
-        ensures { (profile : Profile) → profile.marks ≡ marks → FitsThere profile answer.now → numbers.now ≡ numbers_listed answer.now.response
+        ensures { (profile : Profile) → profile.marks ≡ marks → FitsThere profile answer.now → numbers.now ≡ numbers_of answer.now.response
             → TellsAlone profile (statement_of result) (told profile answer.now) }
     {
         let saying = Saying::of(

@@ -1,14 +1,15 @@
 //! The groups of LIST ACTIVE (RFC 3977, section 7.6.3).
 ghost use Rattle.std.specs.Prelude.{◌≡◌, IfOk, map, [], ◌∷◌};
-ghost use Rattle.nntp_wire.specs.Listing.{active_groups};
 ghost use Rattle.nntp_wire.specs.Reason.{first};
 ghost use Rattle.nntp_wire.specs.Inner.View.{active_value};
+ghost use Rattle.nntp_wire.specs.Inner.AnswerView.{response};
 ghost use Rattle.nntp_article.specs.Session.Misfit.{active_marks_misfit, active_misfit, twice_misfit};
+ghost use Rattle.nntp_article.specs.Inner.Misfit.{groups_of};
 ghost use Rattle.nntp_article.specs.Inner.MisfitView.{why_if};
 
 use crate::session::misfit::Misfit;
 use crate::session::profile::Profile;
-use nntp_wire::{ActiveLine, Block, Wildmat, matches_if_given};
+use nntp_wire::{ActiveLine, Answer, Wildmat, matches_if_given};
 use std::alloc::{AllocError, Allocator};
 use std::collections::BTreeSet;
 
@@ -45,21 +46,43 @@ fn active_misfit<'a>(
     None
 }
 
+/// Collects the groups that an answer lists: a 215 to LIST ACTIVE (RFC 3977, section 7.6.3). Another
+/// answer lists none.
+///
+/// # Errors
+///
+/// If memory is refused.
+pub fn groups_listed<'a, A: Allocator + Copy>(
+    alloc: A,
+    answer: &Answer<'a>,
+) -> Result<Vec<ActiveLine<'a>, A>, AllocError>
+    ensures { IfOk result (λ groups. map active_value groups.items ≡ groups_of (response answer.now)) }
+{
+    let mut groups = Vec::new(alloc);
+    let Answer::Active(block) = answer else {
+        return Ok(groups);
+    };
+    for group in block.groups() {
+        groups.push(group)?;
+    }
+    Ok(groups)
+}
+
 /// Why the listed groups don't fit the command, if they don't: the first that doesn't by itself, or
 /// else the first that an earlier line lists too.
 pub(crate) fn groups_misfit<'a, A: Allocator + Copy>(
     alloc: A,
     profile: Profile,
     wildmat: &Option<Wildmat<'_>>,
-    block: &Block<'a>,
+    groups: &[ActiveLine<'a>],
 ) -> Result<Option<Misfit<'a>>, AllocError>
     ensures { IfOk result (λ reason. why_if reason
-        ≡ first (first (map (active_misfit profile wildmat.now) (active_groups block.now)) ∷ twice_misfit [] (active_groups block.now) ∷ [])) }
+        ≡ first (first (map (active_misfit profile wildmat.now) (map active_value groups.now)) ∷ twice_misfit [] (map active_value groups.now) ∷ [])) }
 {
     let mut names = BTreeSet::new(alloc);
     let mut twice = None;
-    for group in block.groups() {
-        if let Some(why) = active_misfit(profile, wildmat, &group) {
+    for group in groups {
+        if let Some(why) = active_misfit(profile, wildmat, group) {
             return Ok(Some(why));
         }
         let name = group.name.as_slice();

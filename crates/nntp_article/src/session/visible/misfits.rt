@@ -1,25 +1,27 @@
 //! Whether an answer fits what a session shows, and why not, a row of the machine's table at a time.
-ghost use Rattle.std.specs.Prelude.{◌≡◌, IfOk, option_copied, false};
+ghost use Rattle.std.specs.Prelude.{◌≡◌, ℕ, List, map, IfOk, option_copied, false};
 ghost use Rattle.std.specs.Option.{option_map_or, option_or};
-ghost use Rattle.nntp_wire.specs.Inner.View.{asked};
+ghost use Rattle.nntp_wire.specs.Inner.View.{active_value, asked};
 ghost use Rattle.nntp_wire.specs.Inner.AnswerView.{response};
 ghost use Rattle.nntp_wire.specs.Answer.{plain, sends, group_is, numbers_are, active_are};
+ghost use Rattle.nntp_wire.specs.Listing.{active_groups, listed_numbers};
 ghost use Rattle.nntp_article.specs.Session.Machine.{fits, is_same};
 ghost use Rattle.nntp_article.specs.Session.Misfit.{name_misfit, misfit};
+ghost use Rattle.nntp_article.specs.Inner.Misfit.{groups_of, numbers_of};
 ghost use Rattle.nntp_article.specs.Inner.MisfitView.{why, why_if};
 
 use crate::session::misfit::Misfit;
 use crate::session::profile::Profile;
 use crate::session::visible::Visible;
-use crate::session::visible::groups::groups_misfit;
+use crate::session::visible::groups::{groups_listed, groups_misfit};
 use crate::session::visible::heads::{head_misfit, is_same};
-use crate::session::visible::numbers::numbers_misfit;
-use nntp_wire::{Answer, Block, Command, Prompt, WaterMarks, success_code};
+use crate::session::visible::numbers::{numbers_listed, numbers_misfit};
+use nntp_wire::{ActiveLine, Answer, Block, Command, Prompt, WaterMarks, success_code};
 use std::alloc::{AllocError, Allocator};
 
 impl<A: Allocator + Copy> Visible<A> {
     /// Whether the answer may follow the prompt in this visible state, whatever the spool, where
-    /// the connection is open. Only the names that LIST ACTIVE lists need memory.
+    /// the connection is open. Only the numbers and the groups that are listed need memory.
     ///
     /// # Errors
     ///
@@ -37,8 +39,8 @@ impl<A: Allocator + Copy> Visible<A> {
     }
 
     /// Why the answer can't follow the prompt in this visible state, whatever the spool, where the
-    /// connection is open. None exactly where it fits. Only the names that LIST ACTIVE lists need
-    /// memory.
+    /// connection is open. None exactly where it fits. Only the numbers and the groups that are listed
+    /// need memory.
     ///
     /// # Errors
     ///
@@ -51,13 +53,36 @@ impl<A: Allocator + Copy> Visible<A> {
     ) -> Result<Option<Misfit<'a>>, AllocError>
         ensures { IfOk result (λ reason. why_if reason ≡ misfit profile self.now (asked prompt.now) (response answer.now)) }
     {
+        let numbers = numbers_listed(self.alloc, answer)?;
+        let groups = groups_listed(self.alloc, answer)?;
+        self.misfit_as_read(profile, prompt, answer, &numbers, &groups)
+    }
+
+    /// Why the answer can't follow the prompt, as [`misfit`](Visible::misfit) tells, where the numbers
+    /// and the groups that it lists were read before. Only the names of these groups need memory.
+    ///
+    /// # Errors
+    ///
+    /// Where memory was refused.
+    pub fn misfit_as_read<'a>(
+        &self,
+        profile: Profile,
+        prompt: &Prompt<'_>,
+        answer: &Answer<'a>,
+        numbers: &[u64],
+        groups: &[ActiveLine<'a>],
+    ) -> Result<Option<Misfit<'a>>, AllocError>
+        requires numbers { numbers.now ≡ numbers_of (response answer.now) }
+        requires groups { map active_value groups.now ≡ groups_of (response answer.now) }
+        ensures { IfOk result (λ reason. why_if reason ≡ misfit profile self.now (asked prompt.now) (response answer.now)) }
+    {
         match answer {
             Answer::Plain { code } => Ok(self.plain_misfit(prompt, *code)),
             Answer::Group { marks, name } => {
                 Ok(self.group_misfit(profile, prompt, *marks, name.as_slice()))
             }
-            Answer::Numbers { marks, name, block } => {
-                Ok(self.numbers_misfit(profile, prompt, *marks, name.as_slice(), block))
+            Answer::Numbers { marks, name, .. } => {
+                Ok(self.numbers_misfit(profile, prompt, *marks, name.as_slice(), numbers))
             }
             Answer::Sent {
                 code,
@@ -65,7 +90,7 @@ impl<A: Allocator + Copy> Visible<A> {
                 id,
                 block,
             } => Ok(self.sent_misfit(profile, prompt, *code, *number, id.as_slice(), block)),
-            Answer::Active(block) => self.active_misfit(profile, prompt, block),
+            Answer::Active(_) => self.active_misfit(profile, prompt, groups),
         }
     }
 
@@ -107,9 +132,10 @@ impl<A: Allocator + Copy> Visible<A> {
         prompt: &Prompt<'_>,
         marks: WaterMarks,
         name: &'a [u8],
-        block: &Block<'_>,
+        numbers: &[u64],
     ) -> Option<Misfit<'a>>
-        ensures { why_if result ≡ misfit profile self.now (asked prompt.now) (numbers_are marks name.now block.now) }
+        ensures { (lines : List (List ℕ)) → numbers.now ≡ listed_numbers lines
+            → why_if result ≡ misfit profile self.now (asked prompt.now) (numbers_are marks name.now lines) }
     {
         let wrong_code = self.code_misfit(prompt, 211);
         match prompt {
@@ -120,7 +146,7 @@ impl<A: Allocator + Copy> Visible<A> {
                 if let Some(why) = self.marks_misfit(profile, name, marks) {
                     return Some(why);
                 }
-                numbers_misfit(profile.limit, *range, block)
+                numbers_misfit(profile.limit, *range, numbers)
             }
             _ => Some(wrong_code),
         }
@@ -196,13 +222,14 @@ impl<A: Allocator + Copy> Visible<A> {
         &self,
         profile: Profile,
         prompt: &Prompt<'_>,
-        block: &Block<'a>,
+        groups: &[ActiveLine<'a>],
     ) -> Result<Option<Misfit<'a>>, AllocError>
-        ensures { IfOk result (λ reason. why_if reason ≡ misfit profile self.now (asked prompt.now) (active_are block.now)) }
+        ensures { IfOk result (λ reason. (lines : List (List ℕ)) → map active_value groups.now ≡ active_groups lines
+            → why_if reason ≡ misfit profile self.now (asked prompt.now) (active_are lines)) }
     {
         match prompt {
             Prompt::To(Command::ListActive(wildmat)) => {
-                groups_misfit(self.alloc, profile, wildmat, block)
+                groups_misfit(self.alloc, profile, wildmat, groups)
             }
             _ => Ok(Some(self.code_misfit(prompt, 215))),
         }

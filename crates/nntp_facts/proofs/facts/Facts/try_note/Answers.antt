@@ -1,27 +1,43 @@
-use Rattle.std.proofs.{Common.{refl, sym, ap, subst, ◌∙◌}, Math.Path.{ap₂}}
-use Rattle.nntp_article.specs.Session.Machine.{visible_after}
+use Rattle.std.proofs.{Common.{◌≡◌, Bool, true, false, map, Option, None, Some, is_some, refl, sym, ap, subst, ◌∙◌}, Math.Path.{ap₂}, lemmas.Bool.{true≢false}}
+use Rattle.std.specs.Prelude.{is_none}
+use Rattle.nntp_wire.specs.Inner.{View.{active_value, asked}, AnswerView.{response}}
+use Rattle.nntp_article.{specs.Session.Machine.{visible_after}, proofs.SessionLemmas.Misfits.{fits_by_reason}}
 use Rattle.nntp_said.specs.Asks.{position_after}
 use Rattle.nntp_facts.{specs.Inner.{SayingView.{saying_of}, Noted.{profile_kept, HasNotedBehind}}, proofs.Keeping.NotedExchange.{Adds, unfit, weighed, refused}}
 use Rattle.nntp_facts.proofs.Keeping.NotedExchange.{accepted}
 use Rattle.nntp_facts.proofs.facts.Facts.try_note.Goals as goal
 
-pub returns-then-not-branch : goal.returns-then-not-branch
-returns-then-not-branch g c profile earlier past stands =
+-- where there is a reason, it isn't none
+some_reason : {X : Type 0} (o : Option X) → is_some o ≡ true → is_none o ≡ false
+some_reason None e = absurd (true≢false (sym e))
+some_reason (Some why) e = refl
+
+no_reason : {X : Type 0} (o : Option X) → is_some o ≡ false → is_none o ≡ true
+no_reason None e = refl
+no_reason (Some why) e = absurd (true≢false e)
+
+pub returns-then-is_some : goal.returns-then-is_some
+returns-then-is_some g c profile earlier past stands =
     let before = subst (λ facts. HasNotedBehind profile facts earlier past) (sym c.self.view_is) stands in
     unfit profile _ _ _ earlier past c.args.exchange.now _ _ _ c.self.view_is before c.prompt-prompt.ensures c.answer-answer.ensures.value
-    (c.profile-profile.ensures ∙ ap profile_kept (sym c.self.view_is)) c.in_ok-fits.ensures c.if-not-branch.true
+    (c.profile-profile.ensures ∙ ap profile_kept (sym c.self.view_is))
+    (fits_by_reason c.profile-profile.result c.self.inside.visible (asked c.prompt-prompt.result.now) (response c.answer-answer.result.now) c.in_ok-why.why c.in_ok-why.ensures)
+    (some_reason c.in_ok-why.why (sym c.is_some.ensures ∙ c.if-is_some.true))
 
-pub returns-then-not-branch-2 : goal.returns-then-not-branch-2
-returns-then-not-branch-2 g c profile earlier past stands =
+pub returns-then-not-branch : goal.returns-then-not-branch
+returns-then-not-branch g c profile earlier past stands =
     let pair = c.args.exchange.now in
     let says = c.answer-answer.ensures in
     let is = c.self.view_is in
     let before = subst (λ facts. HasNotedBehind profile facts earlier past) (sym is) stands in
     let saying = saying_of c.of-saying.result in
     let w = weighed profile _ _ _ pair _ _ saying _ _ _ is before.profile_is c.requires says.low_index says.few_lines says.is_spelled c.prompt-prompt.ensures says.value
-    (c.profile-profile.ensures ∙ ap profile_kept (sym c.self.view_is)) c.in_ok-fits.ensures c.if-not-branch.false
-    c.selected_name-here.ensures (c.deref.ensures.value ∙ c.in_ok-numbers.ensures) c.of-saying.ensures in
-    refused profile _ _ c.note.new.self earlier past pair saying is w before (subst (Adds c.self.inside.kept c.note.new.self saying) c.if-not-branch-2.true c.in_ok-note.ensures)
+    (c.profile-profile.ensures ∙ ap profile_kept (sym c.self.view_is))
+    (fits_by_reason c.profile-profile.result c.self.inside.visible (asked c.prompt-prompt.result.now) (response c.answer-answer.result.now) c.in_ok-why.why c.in_ok-why.ensures)
+    (no_reason c.in_ok-why.why (sym c.is_some.ensures ∙ c.if-is_some.false))
+    c.selected_name-here.ensures (c.deref-3.ensures.value ∙ c.in_ok-numbers.ensures) c.of-saying.ensures.tells in
+    let adds = c.in_ok-note.ensures (c.of-saying.ensures.groups _ (ap (map active_value) c.deref-4.ensures.value ∙ c.in_ok-groups.ensures)) in
+    refused profile _ _ c.note.new.self earlier past pair saying is w before (subst (Adds c.self.inside.kept c.note.new.self saying) c.if-not-branch.true adds)
 
 pub returns : goal.returns
 returns g c profile earlier past stands =
@@ -31,8 +47,11 @@ returns g c profile earlier past stands =
     let before = subst (λ facts. HasNotedBehind profile facts earlier past) (sym is) stands in
     let saying = saying_of c.of-saying.result in
     let w = weighed profile _ _ _ pair _ _ saying _ _ _ is before.profile_is c.requires says.low_index says.few_lines says.is_spelled c.prompt-prompt.ensures says.value
-    (c.profile-profile.ensures ∙ ap profile_kept (sym c.self.view_is)) c.in_ok-fits.ensures c.if-not-branch.false
-    c.selected_name-here.ensures (c.deref.ensures.value ∙ c.in_ok-numbers.ensures) c.of-saying.ensures in
+    (c.profile-profile.ensures ∙ ap profile_kept (sym c.self.view_is))
+    (fits_by_reason c.profile-profile.result c.self.inside.visible (asked c.prompt-prompt.result.now) (response c.answer-answer.result.now) c.in_ok-why.why c.in_ok-why.ensures)
+    (no_reason c.in_ok-why.why (sym c.is_some.ensures ∙ c.if-is_some.false))
+    c.selected_name-here.ensures (c.deref-3.ensures.value ∙ c.in_ok-numbers.ensures) c.of-saying.ensures.tells in
+    let adds = c.in_ok-note.ensures (c.of-saying.ensures.groups _ (ap (map active_value) c.deref-4.ensures.value ∙ c.in_ok-groups.ensures)) in
     accepted profile _ c.args.self.now _ earlier past pair saying w before (record {
       limit = refl;
       marks = refl;
@@ -40,4 +59,4 @@ returns g c profile earlier past stands =
       count = refl;
       visible = c.in_ok-advance.ensures.ok ∙ ap₂ (λ asked response. visible_after c.self.inside.visible asked response) c.prompt-prompt.ensures says.value;
       position = c.after-self-inside.ensures ∙ ap₂ (λ asked response. position_after c.self.inside.position asked response) c.prompt-prompt.ensures says.value;
-    }) (subst (Adds c.self.inside.kept c.note.new.self saying) c.if-not-branch-2.false c.in_ok-note.ensures)
+    }) (subst (Adds c.self.inside.kept c.note.new.self saying) c.if-not-branch.false adds)

@@ -1,7 +1,8 @@
-use Rattle.std.proofs.{Common.{◌≡◌, ◌+◌, ◌≤◌, Bool, true, false, cond, List, ◌∷◌, length, refl, sym, ap, subst, ◌∙◌, arith}, lemmas.Bool.{true≢false}}
-use Rattle.std.specs.{Prelude.{◌↔◌}, List.{AllByRecursion}}
+use Rattle.std.proofs.Common.{◌≡◌, ◌+◌, ◌≤◌, Bool, true, false, cond, List, ◌∷◌, length, map, drop, refl, sym, ap, subst, ◌∙◌, arith}
+use Rattle.std.{proofs.lemmas.Bool.{true≢false}, specs.{Prelude.{◌↔◌}, List.{AllByRecursion}}}
 use mir.Val.{bool_byte}
-use Rattle.nntp_wire.specs.{Listing.{ActiveValue, active_groups}, Inner.View.{active_value}}
+use Rattle.nntp_wire.specs.{Listing.{ActiveValue}, Inner.View.{active_value}}
+use Rattle.nntp_article.proofs.SessionLemmas.LinesLeft.{next_left, none_left}
 use Rattle.nntp_said.specs.Facts.{Fact}
 use Rattle.nntp_facts.specs.{Given.{is_shown_group}, Inner.{Kept.{IsKept, told}, ListedGroups.{LineJoins, shown_lines}}}
 use Rattle.nntp_facts.proofs.kept.Kept.count_joining.Goals as goal
@@ -29,24 +30,34 @@ one_at_most false = omega arith
 pub returns-then-not-may_bound : goal.returns-then-not-may_bound
 returns-then-not-may_bound g c facts kept t all =
     let k = subst (IsKept facts) (sym c.self.view_is) kept in
+    let steps = next_left active_value c.args.groups.now c.loop-line.line-index c.line-item.result c.loop-line-test.true c.line-item.is in
     let is = c.is_shown-is_shown.ensures (told facts) k.groups ∙ ap (is_shown_group facts) c.as_slice.ensures.value in
-    let left = subst (AllByRecursion (LineJoins facts)) c.in-Some.ensures.steps ((c.loop-line.invariant.3 facts kept t).0.1 all) in
+    let left = subst (AllByRecursion (LineJoins facts)) steps ((c.loop-line.invariant.1 facts kept t).0.1 all) in
     true≢false (sym ((c.if-not-may_bound.ensures facts kept t is).1 left.0))
 
 pub loop-line-preserved : goal.loop-line-preserved
 loop-line-preserved g c =
-    let line = active_value c.in-Some.line in
-    let rest = c.next.new.self in
-    let lines = c.loop-line.line-iterator in
+    let groups = c.args.groups.now in
+    let i = c.loop-line.line-index in
+    let line = active_value c.line-item.result in
+    let rest = map active_value (drop (i + 1) groups) in
+    let lines = map active_value (drop i groups) in
+    let steps = next_left active_value groups i c.line-item.result c.loop-line-test.true c.line-item.is in
     let more = c.from-shown.ensures in (
-      tt,
-      tt,
-      (let next = ap length c.in-Some.ensures.steps in let room = c.loop-line.invariant.2 in let one = one_at_most c.is_shown-is_shown.result in omega arith),
+      (let room = c.loop-line.invariant.0 in let one = one_at_most c.is_shown-is_shown.result in omega arith),
       λ facts kept t.
           let k = subst (IsKept facts) (sym c.self.view_is) kept in
           let is = c.is_shown-is_shown.ensures (told facts) k.groups ∙ ap (is_shown_group facts) c.as_slice.ensures.value in
-          let known = c.loop-line.invariant.3 facts kept t in
-          let one = counted facts line rest lines c.is_shown-is_shown.result c.in-Some.ensures.steps (sym is) in
+          let known = c.loop-line.invariant.1 facts kept t in
+          let one = counted facts line rest lines c.is_shown-is_shown.result steps (sym is) in
           let before = known.1 in
-          (joined (LineJoins facts) line rest lines (active_groups c.args.block.now) c.in-Some.ensures.steps ((c.if-not-may_bound.ensures facts kept t is).0 refl) known.0, omega arith),
+          (joined (LineJoins facts) line rest lines (map active_value groups) steps ((c.if-not-may_bound.ensures facts kept t is).0 refl) known.0, omega arith),
     )
+
+pub returns : goal.returns
+returns g c facts kept t =
+    let none = none_left active_value c.args.groups.now c.loop-line.line-index (omega (arith, c.loop-line-test.false)) in
+    let known = c.loop-line.invariant.1 facts kept t in
+    let count = known.1 in
+    let empty = ap (λ lines. length (shown_lines facts lines)) none in
+    (known.0.0 (subst (AllByRecursion (LineJoins facts)) (sym none) tt), omega arith)

@@ -1,5 +1,5 @@
-use Rattle.std.{proofs.Common.{◌≡◌, ◌+◌, ◌<◌, ◌^◌, List, length}, specs.{Prelude.{◌↔◌}, List.{AllByRecursion}}}
-use Rattle.nntp_wire.specs.Listing.{active_groups}
+use Rattle.std.{proofs.Common.{◌≡◌, ◌+◌, ◌≤◌, List, length, map, drop}, specs.{Prelude.{◌↔◌}, List.{AllByRecursion}}}
+use Rattle.nntp_wire.specs.Inner.View.{active_value}
 use Rattle.nntp_said.specs.Facts.{Fact}
 use Rattle.nntp_facts.specs.Inner.{Together.{Together}, Kept.{IsKept}, ListedGroups.{LineJoins, shown_lines}}
 use Rattle.nntp_facts.proofs.kept.Kept.count_joining.Given as goal
@@ -7,8 +7,7 @@ use Rattle.nntp_facts.proofs.kept.Kept.count_joining.Given as goal
 -- all lines join if those do that are left, and so many of the others are of groups that are shown
 abbrev pub invariant-loop-line : goal.invariant-loop-line
 invariant-loop-line g l =
-    (goal.iterator-loop-line g).can_next l.line-iterator × (goal.iterator-loop-line g).is_finite l.line-iterator
-    × (l.shown + length l.line-iterator < 2 ^ 64)
+    (l.shown ≤ l.line-index)
     × ((facts : List Fact) → IsKept facts l.self → Together facts
-    → (AllByRecursion (LineJoins facts) l.line-iterator ↔ AllByRecursion (LineJoins facts) (active_groups l.block))
-    × (l.shown + length (shown_lines facts l.line-iterator) ≡ length (shown_lines facts (active_groups l.block))))
+    → (AllByRecursion (LineJoins facts) (map active_value (drop l.line-index l.groups)) ↔ AllByRecursion (LineJoins facts) (map active_value l.groups))
+    × (l.shown + length (shown_lines facts (map active_value (drop l.line-index l.groups))) ≡ length (shown_lines facts (map active_value l.groups))))

@@ -1,15 +1,15 @@
-use Rattle.std.proofs.Common.{[], ◌∷◌, refl, sym, subst}
-use Rattle.nntp_wire.specs.Listing.{active_groups}
+use Rattle.std.proofs.{Common.{[], ◌∷◌, map, refl, sym, subst, ◌∙◌}, lemmas.List.{length-map}}
+use Rattle.nntp_wire.specs.Inner.View.{active_value}
 use Rattle.nntp_said.specs.Facts.{GroupsAre}
-use Rattle.nntp_facts.{specs.Inner.Kept.{IsKept}, proofs.Keeping.SaidOfArticles.{articles_kept}}
+use Rattle.nntp_facts.{specs.Inner.Kept.{IsKept}, proofs.{OkResults.{on_ok}, Keeping.SaidOfArticles.{articles_kept}}}
 use Rattle.nntp_facts.proofs.kept.Kept.list_groups.Goals as goal
 
 pub returns : goal.returns
-returns g c facts kept may join =
+returns g c = on_ok c.list.result (λ listed facts kept may join.
     let k = subst (IsKept facts) (sym c.self.view_is) kept in
-    let lines = active_groups c.args.block.now in
+    let lines = map active_value c.args.groups.now in
     record {
-      groups = c.in_ok-count.ensures.groups facts c.args.wildmat.now k.groups;
-      names = c.in_ok-list.ensures facts lines k.names may (sym c.in_ok-count.ensures.count);
+      groups = c.in_ok-bound_all.ensures facts c.args.wildmat.now k.groups;
+      names = listed facts lines k.names may (length-map c.args.groups.now active_value);
       articles = articles_kept facts (GroupsAre c.args.wildmat.now lines ∷ []) c.self.inside.articles (λ id. refl) k.articles;
-    }
+    }) c.list.ensures

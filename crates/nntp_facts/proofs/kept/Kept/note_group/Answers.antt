@@ -1,9 +1,11 @@
-use Rattle.nntp_facts.{specs.{Conflict.{a_group}, Inner.SayingView.{saying_of}}, proofs.{OkResults.{if_ok}, Keeping.ToldAnswers.{widest_told}}}
+use Rattle.std.proofs.Common.{[], sym, subst}
+use Rattle.nntp_facts.{specs.{Conflict.{a_group}, Inner.{Saying.{AreListed}, SayingView.{saying_of}}}, proofs.OkResults.{if_ok}}
+use Rattle.nntp_facts.proofs.Keeping.ToldAnswers.{widest_told}
 use Rattle.nntp_facts.proofs.kept.Kept.note_group.Goals as goal
 
 pub returns : goal.returns
 returns g c = if_ok c.note.result (λ does adds profile facts limit kept together.
     let name = c.args.name.now in
     let says = c.of_widest-numbers.ensures in
-    adds facts (a_group profile name) kept together (c.selects.ensures.is_name, (tt, tt))
+    adds (subst (λ s. AreListed s []) (sym c.selects.ensures.says) tt) facts (a_group profile name) kept together (c.selects.ensures.is_name, (tt, tt))
     (widest_told profile facts name _ (saying_of c.selects.result) (says.says profile limit) (says.bounded profile limit) c.selects.ensures.says)) c.note.ensures

@@ -1,7 +1,7 @@
 use Rattle.std.proofs.Common.{◌++◌, ℕ, List, sym, ap, subst, ◌∙◌}
-use Rattle.nntp_facts.specs.{Conflict.{Placed, told, told_with}, Inner.{Conflict.{FitsThere}, Saying.{numbers_listed}, Points.{TellsAlone}}}
-use Rattle.nntp_facts.{specs.Inner.StatementView.{held_of, statement_of}, proofs.PointsFound.PointsChained.{beside, all_formed, kind_ranked, moved_before}}
-use Rattle.nntp_facts.proofs.PointsFound.PointsChained.{given_there, none_there, none_at_all}
+use Rattle.nntp_facts.specs.{Conflict.{Placed, told, told_with}, Inner.{Conflict.{FitsThere}, Points.{TellsAlone}, StatementView.{held_of, statement_of}}}
+use Rattle.nntp_facts.proofs.PointsFound.PointsChained.{beside, all_formed, kind_ranked, moved_before, given_there, none_there, none_at_all}
+use Rattle.nntp_article.specs.Inner.Misfit.{numbers_of}
 use Rattle.nntp_facts.proofs.points.Conflict.point.Goals as goal
 
 pub returns-in-Some : goal.returns-in-Some
@@ -12,7 +12,7 @@ returns-in-Some g c profile bad answers places fits held =
     let t = statement_of c.of-told.result in
     let tells = subst (λ a. TellsAlone profile t (told profile a)) (ap (λ (p : Placed × List ℕ). p.0) held.listed)
     (c.of-told.ensures profile (ap (λ p. p.marks) (sym held.judged)) (subst (FitsThere profile) (sym (ap (λ (p : Placed × List ℕ). p.0) held.listed)) held.fits)
-    (c.deref.ensures.value ∙ ap (λ (p : Placed × List ℕ). p.1) held.listed ∙ ap (λ (p : Placed × List ℕ). numbers_listed p.0.response) (sym held.listed))) in
+    (c.deref.ensures.value ∙ ap (λ (p : Placed × List ℕ). p.1) held.listed ∙ ap (λ (p : Placed × List ℕ). numbers_of p.0.response) (sym held.listed))) in
     given_there (held.facts ++ told profile held.last) facts _ i c.in_ok-point.field-0 c.in-Some.point held.whole c.in-Some.is (kind_ranked i _ c.loop-kind-test.true) before
     (c.in_ok-point.ensures profile held.facts (told profile held.last) (ap (λ p. p.limit) (sym held.judged)) (beside profile bad answers places (held_of c.args.self.now) held t tells)
     (moved_before (held.facts ++ told profile held.last) facts _ i held.whole (kind_ranked i _ c.loop-kind-test.true) before))
@@ -25,7 +25,7 @@ loop-kind-preserved g c profile bad answers places fits held =
     let t = statement_of c.of-told.result in
     let tells = subst (λ a. TellsAlone profile t (told profile a)) (ap (λ (p : Placed × List ℕ). p.0) held.listed)
     (c.of-told.ensures profile (ap (λ p. p.marks) (sym held.judged)) (subst (FitsThere profile) (sym (ap (λ (p : Placed × List ℕ). p.0) held.listed)) held.fits)
-    (c.deref.ensures.value ∙ ap (λ (p : Placed × List ℕ). p.1) held.listed ∙ ap (λ (p : Placed × List ℕ). numbers_listed p.0.response) (sym held.listed))) in
+    (c.deref.ensures.value ∙ ap (λ (p : Placed × List ℕ). p.1) held.listed ∙ ap (λ (p : Placed × List ℕ). numbers_of p.0.response) (sym held.listed))) in
     none_there (held.facts ++ told profile held.last) facts _ i c.in_ok-point.field-0 held.whole c.in_default.is (kind_ranked i _ c.loop-kind-test.true) before
     (c.in_ok-point.ensures profile held.facts (told profile held.last) (ap (λ p. p.limit) (sym held.judged)) (beside profile bad answers places (held_of c.args.self.now) held t tells)
     (moved_before (held.facts ++ told profile held.last) facts _ i held.whole (kind_ranked i _ c.loop-kind-test.true) before))
@@ -38,5 +38,5 @@ returns g c profile bad answers places fits held =
     let t = statement_of c.of-told.result in
     let tells = subst (λ a. TellsAlone profile t (told profile a)) (ap (λ (p : Placed × List ℕ). p.0) held.listed)
     (c.of-told.ensures profile (ap (λ p. p.marks) (sym held.judged)) (subst (FitsThere profile) (sym (ap (λ (p : Placed × List ℕ). p.0) held.listed)) held.fits)
-    (c.deref.ensures.value ∙ ap (λ (p : Placed × List ℕ). p.1) held.listed ∙ ap (λ (p : Placed × List ℕ). numbers_listed p.0.response) (sym held.listed))) in
+    (c.deref.ensures.value ∙ ap (λ (p : Placed × List ℕ). p.1) held.listed ∙ ap (λ (p : Placed × List ℕ). numbers_of p.0.response) (sym held.listed))) in
     held.conflict (none_at_all profile bad answers places fits (all_formed profile bad answers places (held_of c.args.self.now) held t tells) i c.loop-kind-test.false before)

@@ -1,7 +1,7 @@
 use Rattle.std.proofs.Common.{◌∙◌, sym, subst, ap}
-use Rattle.nntp_article.specs.Session.Machine.{start}
-use Rattle.nntp_facts.specs.{Inner.{Saying.{TellsThere, numbers_listed}, SayingView.{saying_of}}, Conflict.{said}}
-use Rattle.nntp_facts.proofs.PointsFound.StatementsTold.{there_told_so, told_alone}
+use Rattle.nntp_article.specs.{Session.Machine.{start}, Inner.Misfit.{numbers_of}}
+use Rattle.nntp_facts.{specs.{Inner.{Saying.{TellsThere}, SayingView.{saying_of}}, Conflict.{said}}, proofs.PointsFound.StatementsTold.{there_told_so}}
+use Rattle.nntp_facts.proofs.PointsFound.StatementsTold.{told_alone}
 use Rattle.nntp_facts.proofs.points.statement.Statement.of.Goals as goal
 
 pub returns : goal.returns
@@ -10,6 +10,6 @@ returns c profile marks fit listed =
     let saying = saying_of c.of-saying.result in
     let there : TellsThere a.selected saying (said profile.marks a) =
     there_told_so profile a _ _ _ _ _ saying _ marks fit c.prompt.ensures c.answer.ensures.value c.position.ensures c.selected_name.ensures.value (listed
-    ∙ ap numbers_listed (sym c.answer.ensures.value)) c.of-saying.ensures in
+    ∙ ap numbers_of (sym c.answer.ensures.value)) c.of-saying.ensures.tells in
     told_alone profile a saying there _ (c.group_of.ensures (said profile.marks a) (subst (λ o. TellsThere o saying (said profile.marks a)) (sym c.selected.ensures) there))
     (c.answer.ensures.well_formed profile.marks (record start.visible { selected = a.selected }) a.position) c.selected_name.ensures.is_name
