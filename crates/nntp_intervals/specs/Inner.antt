@@ -1,2 +1,3 @@
 pub mod Intervals
 pub mod Neighbours
+pub mod Outside

@@ -1,36 +1,34 @@
 //! The set of numbers, and the questions that it answers.
-ghost use Rattle.std.specs.Prelude.{◌≡◌, ℕ, ◌||◌, ◌↔◌, [], if◌then◌else◌, IsSome, IsTrue, IfOk, OnOk, OnErr, MatchOption};
-ghost use Rattle.std.specs.Ordering.{nat_cmp};
-ghost use Rattle.std.specs.BTreeMap.{get, IsOrdered};
-ghost use Rattle.nntp_intervals.specs.Inner.Intervals.{holds, is_between, IsLeastFree, IsFullFrom, Covers, Meets};
-ghost use Rattle.nntp_intervals.specs.Inner.Neighbours.{IsLastUpTo, IsFreeUpTo, IsFirstJoined, IsLastJoined, is_within};
+ghost use Rattle.std.specs.Prelude.{◌≡◌, ℕ, ◌||◌, ◌↔◌, [], IfSome, IsTrue, IfOk, OnOk, OnErr, MatchOption};
+ghost use Rattle.nntp_intervals.specs.Inner.Intervals.{holds, is_between, IsLeastFree, IsFullFrom, Meets};
+ghost use Rattle.nntp_intervals.specs.Inner.Outside.{outside, is_outside};
 
+use crate::intervals::Intervals;
 use std::alloc::{AllocError, Allocator, Global};
-use std::collections::BTreeMap;
 use std::marker::Model;
-use std::ops::Bound;
 
-/// A set of numbers of 64 bits, kept as few intervals: between two of them there is a number that
-/// is not in the set.
+/// A set of numbers of 64 bits, kept as few intervals. As long as it has those alone that aren't
+/// between two marks, it takes no memory.
 ///
 /// Each operation takes time logarithmic in the number of intervals; `insert` does so on average
 /// over the insertions so far, since it may join intervals that these added.
 #[derive(Drop)]
 pub struct IntervalSet<A: Allocator = Global> {
-    /// The last number of each interval, looked up by its first number.
-    lasts: BTreeMap<u64, u64, A>,
+    /// Each number below it is in the set.
+    low: u64,
+    /// Each number above it is in the set.
+    high: u64,
+    /// The other numbers of the set. Once there are some, the marks stay as they are.
+    others: Intervals<A>,
 }
 
 impl<A: Allocator> Model for IntervalSet<A> {
-    ghost use Rattle.std.specs.Prelude.{List, ℕ};
+    ghost use Rattle.std.specs.Prelude.{List, ℕ, ◌++◌};
+    ghost use Rattle.nntp_intervals.specs.Inner.Outside.{outside};
 
     ghost Value = { List (ℕ × ℕ) };
 
-    ghost view = { λ a. a.lasts.entries };
-
-    ghost use Rattle.nntp_intervals.specs.Inner.Intervals.{AreApart};
-
-    ghost invariant = { λ a. AreApart a.lasts.entries };
+    ghost view = { λ a. a.others ++ outside a.low a.high };
 }
 
 impl<A: Allocator + Copy> IntervalSet<A> {
@@ -38,8 +36,17 @@ impl<A: Allocator + Copy> IntervalSet<A> {
     pub fn new(alloc: A) -> IntervalSet<A>
         ensures { result ≡ [] }
     {
+        IntervalSet::outside(alloc, 0, u64::MAX)
+    }
+
+    /// Creates the set of the numbers below `low` and of those above `high`. It takes no memory.
+    pub fn outside(alloc: A, low: u64, high: u64) -> IntervalSet<A>
+        ensures { result ≡ outside low high }
+    {
         IntervalSet {
-            lasts: BTreeMap::new(alloc),
+            low,
+            high,
+            others: Intervals::new(alloc),
         }
     }
 
@@ -52,7 +59,9 @@ impl<A: Allocator + Copy> IntervalSet<A> {
         ensures { IfOk result (λ set. set ≡ self.now) }
     {
         Ok(IntervalSet {
-            lasts: self.lasts.clone()?,
+            low: self.low,
+            high: self.high,
+            others: self.others.copy()?,
         })
     }
 
@@ -66,14 +75,17 @@ impl<A: Allocator + Copy> IntervalSet<A> {
         ensures ok { OnOk result ((n : ℕ) → holds self.new n ≡ (holds self.old n || is_between first last n)) }
         ensures err { OnErr result (self.new ≡ self.old) }
     {
-        if self.covers(first, last) {
+        if last < self.low || self.high < first {
             return Ok(());
         }
-        let start = self.first_joined(first);
-        let end = self.last_joined(last);
-        self.lasts.insert(start, end)?;
-        remove_within(&mut self.lasts, start, end);
-        Ok(())
+        if self.others.is_empty() {
+            if let Some((low, high)) = marks_after(self.low, self.high, first, last) {
+                self.low = low;
+                self.high = high;
+                return Ok(());
+            }
+        }
+        self.others.insert(first, last)
     }
 }
 
@@ -82,10 +94,7 @@ impl<A: Allocator> IntervalSet<A> {
     pub fn contains(&self, n: u64) -> bool
         ensures { result ≡ holds self.now n }
     {
-        match self.last_up_to(n) {
-            Some((_, last)) => n <= last,
-            None => false,
-        }
+        n < self.low || self.high < n || self.others.contains(n)
     }
 
     /// Returns the least number from `n` on that isn't in the set, or `None` if each number of 64
@@ -93,19 +102,9 @@ impl<A: Allocator> IntervalSet<A> {
     pub fn least_free_from(&self, n: u64) -> Option<u64>
         ensures { MatchOption result (IsFullFrom self.now n) (IsLeastFree self.now n) }
     {
-        match self.last_up_to(n) {
-            Some((_, last)) if n <= last => last.checked_add(1),
-            _ => Some(n),
-        }
-    }
-
-    /// Tells whether each number from `first` to `last`, both included, is in the set.
-    fn covers(&self, first: u64, last: u64) -> bool
-        ensures { IsTrue result ↔ Covers self.now first last }
-    {
-        match self.least_free_from(first) {
-            Some(free) => last < free,
-            None => true,
+        match self.others.least_free_from(n.max(self.low)) {
+            Some(free) if free <= self.high => Some(free),
+            _ => None,
         }
     }
 
@@ -113,68 +112,31 @@ impl<A: Allocator> IntervalSet<A> {
     pub fn meets(&self, first: u64, last: u64) -> bool
         ensures { IsTrue result ↔ Meets self.now first last }
     {
-        match self.last_up_to(last) {
-            Some((_, end)) => first <= last && first <= end,
-            None => false,
-        }
+        first <= last && (first < self.low || self.high < last || self.others.meets(first, last))
     }
 
-    /// Returns the first and the last number of the last interval that begins at `n` or before it.
-    fn last_up_to(&self, n: u64) -> Option<(u64, u64)>
-        ensures { MatchOption result (IsFreeUpTo self.now n) (λ i. IsLastUpTo self.now n i.0 i.1) }
+    /// Returns the two marks, if the set has only numbers that aren't between them.
+    pub fn marks(&self) -> Option<(u64, u64)>
+        ensures { IfSome result (λ marks. self.now ≡ outside marks.0 marks.1) }
     {
-        match self
-            .lasts
-            .range((Bound::Unbounded, Bound::Included(n)))
-            .next_back()
-        {
-            Some((first, last)) => Some((*first, *last)),
-            None => None,
-        }
-    }
-
-    /// Returns the first number of the interval that numbers from `first` on become a part of.
-    fn first_joined(&self, first: u64) -> u64
-        ensures { IsFirstJoined self.now first result }
-    {
-        match self.last_up_to(first) {
-            Some((start, end)) if first <= end.saturating_add(1) => start,
-            _ => first,
-        }
-    }
-
-    /// Returns the last number of the interval that numbers up to `last` become a part of.
-    fn last_joined(&self, last: u64) -> u64
-        ensures { IsLastJoined self.now last result }
-    {
-        match self.last_up_to(last.saturating_add(1)) {
-            Some((_, end)) if last < end => end,
-            _ => last,
+        if self.others.is_empty() {
+            Some((self.low, self.high))
+        } else {
+            None
         }
     }
 }
 
-/// Removes the intervals that begin behind `start` and not behind `end`.
-fn remove_within<A: Allocator>(lasts: &mut BTreeMap<u64, u64, A>, start: u64, end: u64)
-    ensures gone { (n : ℕ) → get nat_cmp lasts.new n ≡ (if is_within start end n then None else get nat_cmp lasts.old n) }
-    ensures ordered { IsOrdered nat_cmp lasts.old → IsOrdered nat_cmp lasts.new }
+/// Returns the marks that the numbers from `first` to `last` aren't between either, if the numbers
+/// between those and the ones before are these alone.
+fn marks_after(low: u64, high: u64, first: u64, last: u64) -> Option<(u64, u64)>
+    ensures { IfSome result (λ marks. (n : ℕ) → is_outside marks.0 marks.1 n ≡ (is_outside low high n || is_between first last n)) }
 {
-    while let Some(first) = first_within(lasts, start, end) {
-        lasts.remove(&first);
-    }
-}
-
-/// Returns where the first interval begins that begins behind `start`, if it doesn't begin behind
-/// `end`.
-fn first_within<A: Allocator>(lasts: &BTreeMap<u64, u64, A>, start: u64, end: u64) -> Option<u64>
-    ensures { MatchOption result ((n : ℕ) → IsTrue (is_within start end n) → get nat_cmp lasts.now n ≡ None) (λ n. IsTrue (is_within start end n)
-        × IsSome (get nat_cmp lasts.now n)) }
-{
-    match lasts
-        .range((Bound::Excluded(start), Bound::Unbounded))
-        .next()
-    {
-        Some((first, _)) if *first <= end => Some(*first),
-        _ => None,
+    if first <= low && last < u64::MAX {
+        Some((low.max(last + 1), high))
+    } else if high <= last && 0 < first {
+        Some((low, high.min(first - 1)))
+    } else {
+        None
     }
 }

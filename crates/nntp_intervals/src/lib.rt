@@ -2,5 +2,6 @@
 #![tactic(auto)]
 
 mod interval_set;
+mod intervals;
 
 pub use interval_set::IntervalSet;

@@ -1,6 +1,6 @@
 use Rattle.std.proofs.Common.{subst}
 use Rattle.nntp_intervals.{specs.Inner.Neighbours.{IsLastUpTo, IsFreeUpTo}, proofs.LastUpTo.{last_up_to, none_up_to}}
-use Rattle.nntp_intervals.proofs.interval_set.IntervalSet.last_up_to.Goals as goal
+use Rattle.nntp_intervals.proofs.intervals.Intervals.last_up_to.Goals as goal
 
 pub returns-in-Some : goal.returns-in-Some
 returns-in-Some g c =

@@ -1,6 +1,6 @@
 use Rattle.std.{proofs.Common.{◌≡◌, ℕ, None, length, cond}, specs.{Ordering.{nat_cmp}, BTreeMap.{get, IsOrdered}}}
 use Rattle.nntp_intervals.specs.Inner.Neighbours.{is_within}
-use Rattle.nntp_intervals.proofs.interval_set.remove_within.Given as goal
+use Rattle.nntp_intervals.proofs.intervals.remove_within.Given as goal
 
 abbrev pub invariant-loop-first : goal.invariant-loop-first
 invariant-loop-first g l = record {
