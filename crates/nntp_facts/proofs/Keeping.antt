@@ -13,6 +13,7 @@ pub mod NotedParts
 pub mod SayingRows
 pub mod AsksSettled
 pub mod MoreAsks
+pub mod MarksAlone
 pub mod SaidAgain
 pub mod PassingNumbers
 pub mod Tallies

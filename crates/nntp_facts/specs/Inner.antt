@@ -14,6 +14,8 @@ pub mod KeptSaying
 pub mod Articles
 pub mod ArticleView
 pub mod GroupView
+pub mod Between
+pub mod GroupHeld
 pub mod ListedGroups
 pub mod Noted
 pub mod KeptView

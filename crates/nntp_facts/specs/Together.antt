@@ -5,7 +5,7 @@ use Rattle.nntp_wire.specs.Decided.{matches_name}
 use Rattle.nntp_article.specs.{Article.Parts.{Id}, Session.{Spool.{Name, Numbers}, Machine.{is_in_range, is_same}}}
 use Rattle.nntp_said.specs.Asks.{Ask, Estimates, ListsIn, StandsAt, StandsNowhere, StepsUp, StepsDown, IsTop, IsBottom}
 use Rattle.nntp_said.specs.{declared.position.Position.TheVariants.{Nowhere, Known}, Facts.{Fact, ThereIsNo, IdAt, TextIs, NoArticle, GroupsAre}}
-use Rattle.nntp_facts.specs.{Given.{demand, first_given}, declared.demand.Demand.{Demand, TheVariants.{NoDemand, NotEmpty, OnlyOne, SecondIs, Impossible}}}
+use Rattle.nntp_facts.specs.{Given.{first_given}, declared.demand.Demand.{Demand, TheVariants.{NoDemand, NotEmpty, OnlyOne, SecondIs, Impossible}}}
 
 -- ---- the numbers of one group
 

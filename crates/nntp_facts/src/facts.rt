@@ -5,7 +5,9 @@ ghost use Rattle.nntp_article.specs.declared.session.profile.Profile.{Profile};
 ghost use Rattle.nntp_article.specs.Session.Limit.{profile_of};
 ghost use Rattle.nntp_article.specs.Session.Misfit.{misfit};
 ghost use Rattle.nntp_article.specs.Inner.MisfitView.{why_if};
+ghost use Rattle.nntp_said.specs.Facts.{Fact};
 ghost use Rattle.nntp_facts.specs.Given.{is_mentioned};
+ghost use Rattle.nntp_facts.specs.Inner.Kept.{AreKeptArticles};
 ghost use Rattle.nntp_facts.specs.Inner.Noted.{HasNoted, HasNotedBehind, IsDue, IsNotedBehind, NotesBehind, begun, profile_kept, said_behind};
 ghost use Rattle.nntp_facts.specs.Inner.Readers.{ShownGroup as GroupValue, ShownArticle as ArticleValue, AreShownGroups, AreShownArticles};
 
@@ -14,6 +16,7 @@ use crate::kept::Kept;
 use crate::noted::{FactsError, Noted};
 use crate::saying::Saying;
 use crate::shown_groups::{ShownGroup, ShownGroups};
+use crate::taken_groups::TakenGroups;
 use nntp_article::{Misfit, Profile, Visible, groups_listed, numbers_listed};
 use nntp_pair::Exchange;
 use nntp_said::Position;
@@ -176,6 +179,18 @@ impl<A: Allocator + Copy> Facts<A> {
 }
 
 impl<A: Allocator + Copy> Facts<A> {
+    /// Gives away the groups that the accepted answers of all sessions show, in byte order of their
+    /// names, with what is kept of them. Of the facts then only what they say of ids and articles is of
+    /// use: no group is left to note a further exchange by.
+    pub fn take_groups(&mut self) -> TakenGroups<A>
+        ensures groups { (profile : Profile) (earlier : List (List Paired)) (past : List Paired) → HasNotedBehind profile self.old earlier past
+            → AreShownGroups (said_behind profile.marks earlier past) result }
+        ensures articles { self.new.kept.articles ≡ self.old.kept.articles }
+        ensures limit { self.new.limit ≡ self.old.limit }
+    {
+        self.kept.take_groups()
+    }
+
     /// Tells why the answer of an exchange doesn't fit what the accepted ones of the session leave
     /// visible, whatever the spool. Returns `None` exactly if it fits.
     ///
@@ -243,8 +258,9 @@ impl<A: Allocator> Facts<A> {
     /// Returns the articles that the accepted answers of all sessions show, in byte order of their
     /// message-ids. Every spool that permits the exchanges has them.
     pub fn articles(&self) -> ShownArticles<'_, A>
-        ensures { (profile : Profile) (earlier : List (List Paired)) (past : List Paired) → HasNotedBehind profile self.now earlier past
+        ensures noted { (profile : Profile) (earlier : List (List Paired)) (past : List Paired) → HasNotedBehind profile self.now earlier past
             → AreShownArticles (said_behind profile.marks earlier past) result }
+        ensures kept { (facts : List Fact) → AreKeptArticles facts self.now.kept.articles → AreShownArticles facts result }
     {
         self.kept.articles()
     }
@@ -263,8 +279,9 @@ impl<A: Allocator> Facts<A> {
     /// Tells whether an accepted answer of any session mentions the message-id: names it, or says that
     /// it has no article.
     pub fn mentions(&self, id: &[u8]) -> bool
-        ensures { (profile : Profile) (earlier : List (List Paired)) (past : List Paired) → HasNotedBehind profile self.now earlier past → result
+        ensures noted { (profile : Profile) (earlier : List (List Paired)) (past : List Paired) → HasNotedBehind profile self.now earlier past → result
             ≡ is_mentioned (said_behind profile.marks earlier past) id.now }
+        ensures kept { (facts : List Fact) → AreKeptArticles facts self.now.kept.articles → result ≡ is_mentioned facts id.now }
     {
         self.kept.mentions(id)
     }

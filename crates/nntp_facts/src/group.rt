@@ -1,72 +1,72 @@
-//! What is kept of one group: its numbers, and the ids that are shown at numbers.
-ghost use Rattle.std.specs.Prelude.{◌≡◌, ◌↔◌, List, [], ◌++◌, IsTrue, IfSome, IfOk, OnOk, Some, option_map};
+//! What is kept of one group, in as little memory as it needs.
+ghost use Rattle.std.specs.Prelude.{◌≡◌, ◌↔◌, List, [], ◌++◌, IsTrue, IfOk, OnOk, MatchOption, option_map};
 ghost use Rattle.std.specs.Option.{option_copied};
 ghost use Rattle.std.specs.Rc.{rc_str_bytes};
-ghost use Rattle.std.specs.FinMap.{get, insert, empty};
+ghost use Rattle.std.specs.FinMap.{get};
 ghost use Rattle.nntp_said.specs.Asks.{Ask};
 ghost use Rattle.nntp_facts.specs.Inner.Together.{AsksStand};
 ghost use Rattle.nntp_facts.specs.Inner.Part.{Says};
 ghost use Rattle.nntp_facts.specs.Inner.PartView.{said};
 ghost use Rattle.nntp_facts.specs.Inner.SayingView.{id_at, of_group};
 ghost use Rattle.nntp_facts.specs.Inner.Summary.{IsSummary, AreBounded};
-ghost use Rattle.nntp_facts.specs.Inner.Kept.{Agree, IsFree, MayHave, ids_with, places_with};
+ghost use Rattle.nntp_facts.specs.Inner.Kept.{Agree, MayHave, ids_with, places_with};
+ghost use Rattle.nntp_facts.specs.Inner.Between.{IsBetween};
 ghost use Rattle.nntp_facts.specs.Inner.KeptSaying.{HasSaid, IsTextOf};
 ghost use Rattle.nntp_facts.specs.Inner.Readers.{unseen_in, unseen_high_in};
 
+use crate::details::Details;
 use crate::numbers::Numbers;
-use crate::saying::{GroupPart, IdAt};
-use crate::shown::find;
+use crate::saying::GroupPart;
 use std::alloc::{AllocError, Allocator, Global};
-use std::collections::{BTreeMap, BTreeSet};
+use std::boxed::Box;
+use std::collections::BTreeSet;
 use std::marker::Model;
 use std::rc::RcStr;
 
 /// What is kept of one group.
 #[derive(Drop)]
 pub(crate) struct Group<A: Allocator = Global> {
-    numbers: Numbers<A>,
-    /// The ids that are shown, each by its number.
-    ids: BTreeMap<u64, RcStr<A>, A>,
-    /// The numbers at which ids are shown, each by its id.
-    places: BTreeMap<RcStr<A>, u64, A>,
+    held: Held<A>,
+}
+
+/// What is kept of a group, by how much is said of it.
+#[derive(Drop)]
+pub(crate) enum Held<A: Allocator> {
+    /// It is said alone that no number is below the first of these marks or above the second.
+    Between(u64, u64),
+    /// More is said.
+    Whole(Box<Details<A>, A>),
 }
 
 impl<A: Allocator> Model for Group<A> {
-    ghost use Rattle.std.specs.Prelude.{map};
-    ghost use Rattle.std.specs.FinMap.{from_entries};
-    ghost use Rattle.std.specs.Rc.{rc_str_bytes};
     ghost use Rattle.nntp_facts.specs.Inner.Kept.{KeptGroup};
     ghost use Rattle.nntp_facts.specs.Inner.GroupView.{coded_group};
+    ghost use Rattle.nntp_facts.specs.Inner.GroupHeld.{group_held};
 
     ghost Value = { KeptGroup };
 
     ghost coded = { coded_group };
 
-    ghost view = { λ g. record {
-      numbers = g.numbers;
-      ids = from_entries (map (λ e. (e.0, rc_str_bytes e.1)) g.ids.entries);
-      places = from_entries
-          (map (λ e. (rc_str_bytes e.0, e.1)) g.places.entries);
-    } };
+    ghost view = { λ g. group_held g.held };
 }
 
 impl<A: Allocator + Copy> Group<A> {
-    /// Creates what is kept of a group of which nothing is said yet.
-    pub(crate) fn new(alloc: A) -> Group<A>
-        ensures numbers { IsSummary result.numbers [] }
-        ensures ids { (result.ids ≡ empty) × (result.places ≡ empty) }
+    /// Holds these details. Where they are two marks alone it takes no memory.
+    pub(crate) fn of(alloc: A, details: Details<A>) -> Result<Group<A>, AllocError>
+        ensures { IfOk result (λ group. group ≡ details) }
     {
-        Group {
-            numbers: Numbers::new(alloc),
-            ids: BTreeMap::new(alloc),
-            places: BTreeMap::new(alloc),
-        }
+        let held = match details.marks() {
+            Some((low, high)) => Held::Between(low, high),
+            None => Held::Whole(Box::new(alloc, details)?),
+        };
+        Ok(Group { held })
     }
 
     /// Adds what is said of the group, with the text of the id that a number has. After an error the
     /// value says nothing of use.
     pub(crate) fn add(
         &mut self,
+        alloc: A,
         part: &GroupPart<'_>,
         text: Option<RcStr<A>>,
     ) -> Result<(), AllocError>
@@ -76,121 +76,60 @@ impl<A: Allocator + Copy> Group<A> {
             → Agree (get self.old.ids) (get self.old.places) (id_at part.now.id) → MayHave self.old.ids self.old.places (id_at part.now.id)
             → (self.new.ids ≡ ids_with self.old.ids (id_at part.now.id)) × (self.new.places ≡ places_with self.old.places (id_at part.now.id))) }
     {
-        self.numbers.add(&part.numbers)?;
-        self.add_id(part.id, text)
-    }
-
-    /// Adds that the number has the id of this text, if it may have it. After an error the value says
-    /// nothing of use.
-    fn add_id(&mut self, id: Option<IdAt<'_>>, text: Option<RcStr<A>>) -> Result<(), AllocError>
-        ensures numbers { self.new.numbers ≡ self.old.numbers }
-        ensures ids { OnOk result (IsTextOf (option_map (λ text. rc_str_bytes text) text) (id_at id.entry)
-            → Agree (get self.old.ids) (get self.old.places) (id_at id.entry) → MayHave self.old.ids self.old.places (id_at id.entry)
-            → (self.new.ids ≡ ids_with self.old.ids (id_at id.entry)) × (self.new.places ≡ places_with self.old.places (id_at id.entry))) }
-    {
-        match (id, text) {
-            (Some(at), Some(text)) => self.add_id_at(at.number, text),
-            _ => Ok(()),
-        }
-    }
-
-    /// Adds that the number has the id of this text, if it may have it. Nothing is added where an id is
-    /// shown at the number already. After an error the value says nothing of use.
-    fn add_id_at(&mut self, number: u64, id: RcStr<A>) -> Result<(), AllocError>
-        ensures numbers { self.new.numbers ≡ self.old.numbers }
-        ensures ids { OnOk result (Agree (get self.old.ids) (get self.old.places) (Some (number, rc_str_bytes id))
-            → IsFree (get self.old.ids number) (get self.old.places (rc_str_bytes id)) (number, rc_str_bytes id)
-            → (self.new.ids ≡ insert self.old.ids number (rc_str_bytes id)) × (self.new.places ≡ insert self.old.places (rc_str_bytes id) number)) }
-    {
-        if self.id(number).is_some() {
-            return Ok(());
-        }
-        self.identify(number, id)
-    }
-
-    /// Adds that the number has the id. After an error the value says nothing of use.
-    fn identify(&mut self, number: u64, id: RcStr<A>) -> Result<(), AllocError>
-        ensures numbers { self.new.numbers ≡ self.old.numbers }
-        ensures ids { OnOk result ((self.new.ids ≡ insert self.old.ids number (rc_str_bytes id))
-            × (self.new.places ≡ insert self.old.places (rc_str_bytes id) number)) }
-    {
-        self.ids.insert(number, id.clone()?)?;
-        self.places.insert(id, number)?;
+        let (low, high) = match &mut self.held {
+            Held::Whole(details) => return details.as_mut().add(part, text),
+            Held::Between(low, high) => (*low, *high),
+        };
+        let mut details = Details::between(alloc, low, high);
+        details.add(part, text)?;
+        *self = Group::of(alloc, details)?;
         Ok(())
     }
-}
 
-impl<A: Allocator + Copy> Group<A> {
     /// Returns what is said of the numbers of the group.
-    pub(crate) fn numbers(&self) -> Result<Numbers<A>, AllocError>
+    pub(crate) fn numbers(&self, alloc: A) -> Result<Numbers<A>, AllocError>
         ensures { IfOk result (λ numbers. numbers ≡ self.now.numbers) }
     {
-        self.numbers.copy()
+        match &self.held {
+            Held::Whole(details) => details.numbers(),
+            Held::Between(low, high) => Ok(Numbers::between(alloc, *low, *high)),
+        }
     }
-}
 
-impl<A: Allocator> Group<A> {
     /// Tells whether what is said of the group stands together with all that was said before: what
     /// is said of its numbers, and that the number has the id, which is shown at no other number,
     /// and no other id there.
-    pub(crate) fn joins(&self, part: &GroupPart<'_>) -> bool
+    pub(crate) fn joins(&self, alloc: A, part: &GroupPart<'_>) -> bool
         ensures { (asks more : List Ask) → IsSummary self.now.numbers asks → AsksStand asks → AreBounded (asks ++ more) → Says (said part.now.numbers) more
             → Agree (get self.now.ids) (get self.now.places) (id_at part.now.id) → IsTrue result
             ↔ (AsksStand (asks ++ more) × MayHave self.now.ids self.now.places (id_at part.now.id)) }
     {
-        self.numbers.joins(&part.numbers) && self.may_have(part.id)
+        match &self.held {
+            Held::Whole(details) => details.joins(part),
+            Held::Between(low, high) => Details::between(alloc, *low, *high).joins(part),
+        }
     }
 
     /// Tells whether all that is said was said before: of no id, or only that a number is there,
     /// with the id that is shown there already.
-    pub(crate) fn has_said(&self, part: &GroupPart<'_>) -> bool
+    pub(crate) fn has_said(&self, alloc: A, part: &GroupPart<'_>) -> bool
         ensures { IsTrue result ↔ HasSaid self.now (of_group part.now) }
     {
-        match part.id {
-            Some(at) => part.numbers.says_only(at.number) && self.has_id(at),
-            None => self.numbers.has_said(&part.numbers),
+        match &self.held {
+            Held::Whole(details) => details.has_said(part),
+            Held::Between(low, high) => Details::between(alloc, *low, *high).has_said(part),
         }
     }
+}
 
-    /// Tells whether the id is shown at the number.
-    fn has_id(&self, at: IdAt<'_>) -> bool
-        ensures { IsTrue result ↔ (get self.now.ids at.entry.number ≡ Some at.entry.id.now) }
+impl<A: Allocator> Group<A> {
+    /// Returns the details, if more is said than marks.
+    fn details(&self) -> Option<&Details<A>>
+        ensures { MatchOption result (IsBetween self.now) (λ details. details.now ≡ self.now) }
     {
-        match self.id(at.number) {
-            Some(id) => id == at.id,
-            None => false,
-        }
-    }
-
-    /// Tells whether the number may have the id.
-    fn may_have(&self, id: Option<IdAt<'_>>) -> bool
-        ensures { Agree (get self.now.ids) (get self.now.places) (id_at id.entry) → IsTrue result ↔ MayHave self.now.ids self.now.places (id_at id.entry) }
-    {
-        match id {
-            Some(at) => self.is_free(at),
-            None => true,
-        }
-    }
-
-    /// Tells whether no other id is shown at the number, and the id at no other number: an id that
-    /// is shown there already is shown nowhere else.
-    fn is_free(&self, at: IdAt<'_>) -> bool
-        ensures { Agree (get self.now.ids) (get self.now.places) (Some (at.entry.number, at.entry.id.now))
-            → IsTrue result ↔ IsFree (get self.now.ids at.entry.number) (get self.now.places at.entry.id.now) (at.entry.number, at.entry.id.now) }
-    {
-        match self.id(at.number) {
-            Some(other) => other == at.id,
-            None => self.has_no_other_place(at),
-        }
-    }
-
-    /// Tells whether the id is shown at no other number.
-    fn has_no_other_place(&self, at: IdAt<'_>) -> bool
-        ensures { IsTrue result ↔ IfSome (get self.now.places at.entry.id.now) (λ other. at.entry.number ≡ other) }
-    {
-        match self.place(at.id) {
-            Some(other) => other == at.number,
-            None => true,
+        match &self.held {
+            Held::Whole(details) => Some(details.as_ref()),
+            Held::Between(_, _) => None,
         }
     }
 
@@ -198,7 +137,7 @@ impl<A: Allocator> Group<A> {
     pub(crate) fn unseen(&self) -> Option<u64>
         ensures { result ≡ unseen_in self.now.numbers }
     {
-        self.numbers.unseen()
+        self.details()?.unseen()
     }
 
     /// Returns the greatest number that the group is given, where it is neither shown nor the
@@ -206,37 +145,37 @@ impl<A: Allocator> Group<A> {
     pub(crate) fn unseen_high(&self) -> Option<u64>
         ensures { result ≡ unseen_high_in self.now.numbers }
     {
-        self.numbers.unseen_high()
+        self.details()?.unseen_high()
     }
 
-    /// Returns the numbers that are shown, ascending.
-    pub(crate) fn shown(&self) -> &BTreeSet<u64, A>
-        ensures { result.now.keys ≡ self.now.numbers.shown }
+    /// Returns the numbers that are shown, ascending, if there may be some.
+    pub(crate) fn shown(&self) -> Option<&BTreeSet<u64, A>>
+        ensures { MatchOption result (self.now.numbers.shown ≡ []) (λ shown. shown.now.keys ≡ self.now.numbers.shown) }
     {
-        self.numbers.shown()
+        match self.details() {
+            Some(details) => Some(details.shown()),
+            None => None,
+        }
     }
 
     /// Returns the id at the number, if one is shown.
     pub(crate) fn id(&self, number: u64) -> Option<&str>
         ensures { option_copied result ≡ get self.now.ids number }
     {
-        match self.id_text(number) {
-            Some(id) => Some(id.as_str()),
-            None => None,
-        }
+        self.details()?.id(number)
     }
 
     /// Returns the text of the id at the number, if one is shown.
     pub(crate) fn id_text(&self, number: u64) -> Option<&RcStr<A>>
         ensures { option_map (λ id. rc_str_bytes id.now) result ≡ get self.now.ids number }
     {
-        find(&self.ids, number)
+        self.details()?.id_text(number)
     }
 
     /// Returns the number of the id, if one is shown.
     pub(crate) fn place(&self, id: &str) -> Option<u64>
         ensures { result ≡ get self.now.places id.now }
     {
-        self.places.get(id).copied()
+        self.details()?.place(id)
     }
 }

@@ -16,14 +16,17 @@ ghost use Rattle.nntp_facts.specs.Inner.Readers.{shown_groups};
 
 mod listed;
 
+use crate::details::Details;
 use crate::group::Group;
 use crate::joins::Joins;
 use crate::numbers::Numbers;
 use crate::saying::GroupPart;
 use crate::shown_groups::ShownGroups;
+use crate::taken_groups::TakenGroups;
 use std::alloc::{AllocError, Allocator, Global};
 use std::collections::BTreeMap;
 use std::marker::Model;
+use std::mem;
 use std::rc::RcStr;
 
 /// The groups that are shown, by their names, with what is kept of each.
@@ -73,11 +76,11 @@ impl<A: Allocator + Copy> Groups<A> {
             → AreKeptWith before part.now.name.now asks (id_at part.now.id) self.new) }
     {
         if let Some(group) = self.groups.get_mut(part.name) {
-            return group.add(part, text);
+            return group.add(self.alloc, part, text);
         }
-        let mut group = Group::new(self.alloc);
-        group.add(part, text)?;
-        self.put(part.name, group)
+        let mut details = Details::new(self.alloc);
+        details.add(part, text)?;
+        self.put(part.name, Group::of(self.alloc, details)?)
     }
 
     /// Adds a group, or puts it in the place of the one of its name.
@@ -103,20 +106,28 @@ impl<A: Allocator + Copy> Groups<A> {
         ensures said { result ≡ Again → MatchOption (map.get self.now part.now.name.now) ⊥ (λ group. HasSaid group (of_group part.now)) }
     {
         match self.get(part.name) {
-            Some(group) if group.has_said(part) => Joins::Again,
-            Some(group) => Joins::new_if(group.joins(part)),
-            None => Joins::new_if(Group::new(self.alloc).joins(part)),
+            Some(group) if group.has_said(self.alloc, part) => Joins::Again,
+            Some(group) => Joins::new_if(group.joins(self.alloc, part)),
+            None => Joins::new_if(Details::new(self.alloc).joins(part)),
         }
     }
 }
 
 impl<A: Allocator + Copy> Groups<A> {
+    /// Gives the groups away, in byte order of their names. None is left.
+    pub(crate) fn take(&mut self) -> TakenGroups<A>
+        ensures { result ≡ shown_groups self.old }
+    {
+        let groups = mem::replace(&mut self.groups, BTreeMap::new(self.alloc));
+        TakenGroups::new(groups.into_iter())
+    }
+
     /// Returns what is said of the numbers of a group: nothing where it isn't shown.
     pub(crate) fn numbers(&self, name: &[u8]) -> Result<Numbers<A>, AllocError>
         ensures { IfOk result (λ numbers. (tells : Name → Told) → AreKept tells self.now → IsSummary numbers (tells name.now).asks) }
     {
         match self.get(name) {
-            Some(group) => group.numbers(),
+            Some(group) => group.numbers(self.alloc),
             None => Ok(Numbers::new(self.alloc)),
         }
     }

@@ -30,6 +30,7 @@ use crate::joins::Joins;
 use crate::names::Names;
 use crate::saying::{ArticlePart, GroupPart, Saying};
 use crate::shown_groups::ShownGroups;
+use crate::taken_groups::TakenGroups;
 use nntp_wire::{ActiveLine, GroupName};
 use std::alloc::{AllocError, Allocator, Global};
 use std::marker::Model;
@@ -249,6 +250,16 @@ impl<A: Allocator + Copy> Kept<A> {
     }
 }
 
+impl<A: Allocator + Copy> Kept<A> {
+    /// Gives away the groups that are shown, in byte order of their names. None is left.
+    pub(crate) fn take_groups(&mut self) -> TakenGroups<A>
+        ensures groups { result ≡ shown_groups self.old.groups }
+        ensures articles { self.new.articles ≡ self.old.articles }
+    {
+        self.groups.take()
+    }
+}
+
 impl<A: Allocator> Kept<A> {
     /// Tells whether the name may be that of a group.
     pub(crate) fn may_be(&self, name: &GroupName<'_>) -> bool
@@ -275,7 +286,7 @@ impl<A: Allocator> Kept<A> {
 
     /// Tells whether an answer mentions the id.
     pub(crate) fn mentions(&self, id: &[u8]) -> bool
-        ensures { (facts : List Fact) → IsKept facts self.now → result ≡ is_mentioned facts id.now }
+        ensures { (facts : List Fact) → AreKeptArticles facts self.now.articles → result ≡ is_mentioned facts id.now }
     {
         self.articles.mentions(id)
     }

@@ -1,5 +1,5 @@
 //! What all answers so far say of the numbers of one group.
-ghost use Rattle.std.specs.Prelude.{◌≡◌, ℕ, true, nat_lt, ◌^◌, ◌-◌, ◌<◌, ◌↔◌, ◌&&◌, ◌||◌, List, [], ◌++◌, Option, IsTrue, IfOk, OnOk};
+ghost use Rattle.std.specs.Prelude.{◌≡◌, ℕ, true, nat_lt, ◌^◌, ◌-◌, ◌<◌, ◌↔◌, ◌&&◌, ◌||◌, List, [], ◌++◌, Option, IsTrue, IfSome, IfOk, OnOk};
 ghost use Rattle.std.specs.List.{list_all};
 ghost use Rattle.nntp_intervals.specs.Inner.Intervals.{holds};
 ghost use Rattle.nntp_said.specs.Asks.{Ask};
@@ -9,6 +9,7 @@ ghost use Rattle.nntp_facts.specs.Inner.PartView.{said};
 ghost use Rattle.nntp_facts.specs.Given.{join};
 ghost use Rattle.nntp_facts.specs.Inner.Readers.{known_ends_in, unless_shown, one_more_in, unseen_in, unseen_high_in};
 ghost use Rattle.nntp_facts.specs.Inner.Summary.{IsSummary, AreBounded, AddsNothing, ends_after, denied_after, is_open, FirstFreeBelow, has_room, is_settled};
+ghost use Rattle.nntp_facts.specs.Inner.Between.{numbers_between};
 
 mod conflict;
 
@@ -64,6 +65,20 @@ impl<A: Allocator + Copy> Numbers<A> {
         }
     }
 
+    /// Creates what is kept of a group of which it is said alone that no number is below `low` or
+    /// above `high`. It takes no memory.
+    pub(crate) fn between(alloc: A, low: u64, high: u64) -> Numbers<A>
+        ensures { result ≡ numbers_between low high }
+    {
+        Numbers {
+            shown: BTreeSet::new(alloc),
+            denied: IntervalSet::outside(alloc, low, high),
+            estimate: None,
+            ends: None,
+            demand: Demand::NoDemand,
+        }
+    }
+
     /// Returns the same.
     pub(crate) fn copy(&self) -> Result<Numbers<A>, AllocError>
         ensures { IfOk result (λ numbers. numbers ≡ self.now) }
@@ -91,6 +106,16 @@ impl<A: Allocator + Copy> Numbers<A> {
 }
 
 impl<A: Allocator> Numbers<A> {
+    /// Returns two marks, if it is said alone that no number is below the first or above the second.
+    pub(crate) fn marks(&self) -> Option<(u64, u64)>
+        ensures { IfSome result (λ marks. self.now ≡ numbers_between marks.0 marks.1) }
+    {
+        match (self.estimate, self.ends, self.demand) {
+            (None, None, Demand::NoDemand) if self.shown.is_empty() => self.denied.marks(),
+            _ => None,
+        }
+    }
+
     /// Tells whether what the part says stands together with all that was said before.
     pub(crate) fn joins(&self, part: &NumbersPart<'_>) -> bool
         ensures { (asks more : List Ask) → IsSummary self.now asks → AsksStand asks → AreBounded (asks ++ more) → Says (said part.now) more

@@ -1,7 +1,7 @@
 //! The groups that answers show, one after the other.
 ghost use Rattle.std.specs.Prelude.{◌≡◌, option_map, slice_get};
 ghost use Rattle.std.specs.Iterator.{YieldsFirst, item_count};
-ghost use Rattle.nntp_facts.specs.Inner.Readers.{shown_in};
+ghost use Rattle.nntp_facts.specs.Inner.Readers.{shown_in, shown_group};
 ghost use Rattle.nntp_facts.specs.Inner.ReadersView.{named, number_value};
 
 use crate::group::Group;
@@ -29,6 +29,13 @@ impl<'a, A: Allocator> Model for ShownGroup<'a, A> {
 }
 
 impl<'a, A: Allocator> ShownGroup<'a, A> {
+    /// Lends a group of this name.
+    pub(crate) fn new(name: &'a [u8], group: &'a Group<A>) -> ShownGroup<'a, A>
+        ensures { result ≡ shown_group name.now group.now }
+    {
+        ShownGroup { name, group }
+    }
+
     /// Returns the octets of the group's name.
     pub fn name(&self) -> &'a [u8]
         ensures { result.now ≡ self.now.name }
@@ -108,10 +115,7 @@ impl<'a, A: Allocator> Iterator for ShownGroups<'a, A> {
 
     fn next(&mut self) -> Option<ShownGroup<'a, A>> {
         match self.rest.next() {
-            Some((name, group)) => Some(ShownGroup {
-                name: name.as_slice(),
-                group,
-            }),
+            Some((name, group)) => Some(ShownGroup::new(name.as_slice(), group)),
             None => None,
         }
     }

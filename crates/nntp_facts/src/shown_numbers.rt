@@ -22,18 +22,18 @@ pub struct ShownNumber<'a, A: Allocator = Global> {
 /// An iterator over the numbers that answers show in a group, ascending.
 #[derive(Drop)]
 pub struct ShownNumbers<'a, A: Allocator = Global> {
-    rest: btree_set::Iter<'a, u64>,
+    rest: Option<btree_set::Iter<'a, u64>>,
     group: &'a Group<A>,
 }
 
 impl<'a, A: Allocator> Model for ShownNumbers<'a, A> {
-    ghost use Rattle.std.specs.Prelude.{List, ℕ, Option};
+    ghost use Rattle.std.specs.Prelude.{List, [], ℕ, Option, unwrap_or};
     ghost use Rattle.nntp_article.specs.Article.Parts.{Id};
     ghost use Rattle.nntp_facts.specs.Inner.Readers.{with_ids};
 
     ghost Value = { List (ℕ × Option Id) };
 
-    ghost view = { λ s. with_ids s.group.now s.rest };
+    ghost view = { λ s. with_ids s.group.now (unwrap_or s.rest []) };
 }
 
 impl<'a, A: Allocator> ShownNumbers<'a, A> {
@@ -41,10 +41,11 @@ impl<'a, A: Allocator> ShownNumbers<'a, A> {
     pub(crate) fn new(group: &'a Group<A>) -> ShownNumbers<'a, A>
         ensures { result ≡ with_ids group.now group.now.numbers.shown }
     {
-        ShownNumbers {
-            rest: group.shown().iter(),
-            group,
-        }
+        let rest = match group.shown() {
+            Some(shown) => Some(shown.iter()),
+            None => None,
+        };
+        ShownNumbers { rest, group }
     }
 }
 
@@ -56,12 +57,10 @@ impl<'a, A: Allocator> Iterator for ShownNumbers<'a, A> {
     ghost remaining = { item_count (λ numbers. numbers) };
 
     fn next(&mut self) -> Option<ShownNumber<'a, A>> {
-        match self.rest.next() {
-            Some(number) => Some(ShownNumber {
-                number: *number,
-                id: self.group.id_text(*number),
-            }),
-            None => None,
-        }
+        let number = self.rest.as_mut()?.next()?;
+        Some(ShownNumber {
+            number: *number,
+            id: self.group.id_text(*number),
+        })
     }
 }

@@ -94,10 +94,10 @@ fn exchanges_of_worked_sessions_are_noted_by_strict_marks(rt: HostRuntime) -> Re
 fn make_spool<A: Allocator + Copy>(alloc: Global, heap: A, ample: A, session: &Session) -> Ended {
     let (client, server) = session.streams();
     let Choice { limit, marks } = session.choice;
-    let Ok(whole) = note_all(ample, limit, marks, client, server) else {
+    let Ok(mut whole) = note_all(ample, limit, marks, client, server) else {
         return Ended::Wrong;
     };
-    match witness(heap, &whole.facts) {
+    match witness(heap, &mut whole.facts) {
         Ok(spool) => right_if_written(alloc, &spool, session.given.0.as_bytes()),
         Err(AllocError) => Ended::Memory,
     }

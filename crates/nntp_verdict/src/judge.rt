@@ -222,7 +222,8 @@ impl<A: Allocator + Copy> Judge<A> {
             → HaveEnded (profile_of limit marks) sessions self.facts self.answers.items
             → IsVerdictOfAll limit marks sessions (sessions_verdict_shown verdict)) }
     {
-        let spool = witness(self.alloc, &self.facts)?;
+        let mut facts = self.facts;
+        let spool = witness(self.alloc, &mut facts)?;
         Ok(SessionsVerdict::Consistent {
             spool,
             answers: self.answers,

@@ -2,8 +2,8 @@
 use Rattle.std.{proofs.Common.{List, [], ◌∷◌, ◌++◌, map, refl, sym, subst}, specs.List.{AllByRecursion}}
 use Rattle.nntp_article.specs.{declared.session.profile.Profile.{Profile}, Session.Spool.{Spool}}
 use Rattle.nntp_pair.specs.Pairing.{Paired}
-use Rattle.nntp_facts.specs.{Answered.{Answered}, Given.{IsGiven}, Inner.Noted.{FactsKept, HasNotedBehind, profile_kept, said_behind}, Noted.{exchanged}}
-use Rattle.nntp_facts.proofs.Given.SessionsByFacts.{given_exists_of_all, given_permits_all, made_for_all, said_each, stand_each}
+use Rattle.nntp_facts.specs.{Answered.{Answered}, Given.{IsGiven}, Inner.{Noted.{FactsKept, HasNotedBehind, profile_kept, said_behind}, Kept.{AreKeptArticles}}}
+use Rattle.nntp_facts.{specs.Noted.{exchanged}, proofs.Given.SessionsByFacts.{given_exists_of_all, given_permits_all, made_for_all, said_each, stand_each}}
 use Rattle.nntp_facts.proofs.Keeping.NotedSessions.{facts_behind, small_behind}
 use Rattle.nntp_said.specs.Facts.{Fact, Holds}
 use Rattle.nntp_witness.specs.Inner.Witness.{HaveNoted, IsGivenSpool, IsWitness}
@@ -22,6 +22,10 @@ noted_say facts earlier past stands = record { earlier = earlier; past = past; s
 pub so_of_said : (facts : FactsKept) (said : List Fact) (P : List Fact → Type 0) → HaveNoted facts said
     → ((profile : Profile) (earlier : List (List Paired)) (past : List Paired) → HasNotedBehind profile facts earlier past → P (said_behind profile.marks earlier past)) → P said
 so_of_said facts said P noted so = subst P noted.said_is (so (profile_kept facts) noted.earlier noted.past noted.stands)
+
+-- what was said of ids is kept then
+pub articles_noted : (facts : FactsKept) (said : List Fact) → HaveNoted facts said → AreKeptArticles said facts.kept.articles
+articles_noted facts said noted = so_of_said facts said (λ said. AreKeptArticles said facts.kept.articles) noted (λ profile earlier past stands. stands.kept.articles)
 
 -- exchanges that were noted have a witness
 pub aim : (profile : Profile) (facts : FactsKept) (earlier : List (List Paired)) (past : List Paired) → HasNotedBehind profile facts earlier past → (G : Spool) × IsWitness profile earlier past G

@@ -22,17 +22,18 @@ use std::alloc::{AllocError, Allocator};
 /// needs it has one number more, and a number has a message-id of the form `<wK@invented.invalid>`
 /// where none is shown.
 ///
-/// The facts must not have failed. It takes time in the order of what the facts hold, but for
-/// logarithms.
+/// The facts must not have failed. They give each group away as it is made, so no group is left of
+/// them, and what is said of groups isn't held beside the spool. It takes time in the order of what
+/// the facts hold, but for logarithms.
 ///
 /// # Errors
 ///
 /// [`AllocError`], if memory is refused.
-pub fn witness<A: Allocator + Copy>(alloc: A, facts: &Facts<A>) -> Result<Spool<A>, AllocError>
-    requires { HaveNotedSome facts.now }
+pub fn witness<A: Allocator + Copy>(alloc: A, facts: &mut Facts<A>) -> Result<Spool<A>, AllocError>
+    requires { HaveNotedSome facts.old }
     ensures given { IfOk result (λ spool. (profile : Profile) (earlier : List (List Paired)) (past : List Paired)
-        → HasNotedBehind profile facts.now earlier past
-        → IsWitnessWithin facts.now.limit profile earlier past spool) }
+        → HasNotedBehind profile facts.old earlier past
+        → IsWitnessWithin facts.old.limit profile earlier past spool) }
     ensures is_written { IfOk result IsWritten }
 {
     match make(alloc, facts) {
@@ -43,12 +44,13 @@ pub fn witness<A: Allocator + Copy>(alloc: A, facts: &Facts<A>) -> Result<Spool<
 }
 
 /// Makes the given spool. No fault of the builder comes but want of memory.
-fn make<A: Allocator + Copy>(alloc: A, facts: &Facts<A>) -> Result<Spool<A>, SpoolFault>
-    ensures given { (said : List Fact) (G : SpoolValue) → HaveNoted facts.now said → IsGivenSpool facts.now.limit said G
-        → Makes result (λ spool. spool ≡ record { limit = facts.now.limit; spool = G }) }
+fn make<A: Allocator + Copy>(alloc: A, facts: &mut Facts<A>) -> Result<Spool<A>, SpoolFault>
+    ensures given { (said : List Fact) (G : SpoolValue) → HaveNoted facts.old said → IsGivenSpool facts.old.limit said G
+        → Makes result (λ spool. spool ≡ record { limit = facts.old.limit; spool = G }) }
     ensures is_written { IfOk result IsWritten }
 {
-    let mut maker = SpoolMaker::of_groups(alloc, facts)?;
+    let groups = facts.take_groups();
+    let mut maker = SpoolMaker::of_groups(alloc, facts, groups)?;
     maker.add_articles(facts)?;
     maker.finish()
 }

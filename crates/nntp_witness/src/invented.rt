@@ -3,7 +3,7 @@ ghost use Rattle.std.specs.Prelude.{◌≡◌, ◌-◌, ◌<◌, ◌^◌, List, 
 ghost use Rattle.std.specs.Rc.{rc_str_bytes};
 ghost use Rattle.nntp_said.specs.Facts.{Fact};
 ghost use Rattle.nntp_facts.specs.Given.{invented, is_mentioned, IsFirstFree};
-ghost use Rattle.nntp_witness.specs.Inner.Witness.{HaveNoted};
+ghost use Rattle.nntp_witness.specs.Inner.Witness.{HaveArticles};
 
 use itoa::Buffer;
 use nntp_facts::Facts;
@@ -28,7 +28,7 @@ pub(crate) fn invent<A: Allocator + Copy>(
 ) -> Result<Invented<A>, AllocError>
     ensures is { IfOk result (λ i. rc_str_bytes i.id ≡ invented i.number) }
     ensures small { IfOk result (λ i. i.number < 2 ^ 64 - 1) }
-    ensures first { IfOk result (λ i. (said : List Fact) → HaveNoted facts.now said
+    ensures first { IfOk result (λ i. (said : List Fact) → HaveArticles facts.now said
         → IsFirstFree (λ k. is_mentioned said (invented k)) from i.number) }
 {
     for number in from..u64::MAX {

@@ -4,15 +4,15 @@ ghost use Rattle.nntp_wire.specs.declared.limit.Limit.{Limit};
 ghost use Rattle.nntp_article.specs.Article.Parts.{Id};
 ghost use Rattle.nntp_article.specs.Session.Spool.{Spool as SpoolValue};
 ghost use Rattle.nntp_said.specs.Facts.{Fact};
-ghost use Rattle.nntp_facts.specs.Inner.Readers.{ShownGroup as GroupValue, ShownArticle as ArticleValue};
+ghost use Rattle.nntp_facts.specs.Inner.Readers.{ShownGroup as GroupValue, ShownArticle as ArticleValue, AreShownGroups};
 ghost use Rattle.nntp_facts.specs.Inner.ReadersView.{number_value};
 ghost use Rattle.nntp_spool.specs.Inner.Text.{IsWritten};
-ghost use Rattle.nntp_witness.specs.Inner.Witness.{HaveNoted, IsGivenSpool};
+ghost use Rattle.nntp_witness.specs.Inner.Witness.{HaveArticles, IsGivenSpool};
 ghost use Rattle.nntp_witness.specs.Inner.Making.{Makes, unseen_number, GroupsLeft, NumbersLeft, ArticlesLeft};
 
 use crate::article::{given_body, given_head, no_lines, plain_head};
 use crate::invented::invent;
-use nntp_facts::{Facts, ShownArticle, ShownGroup, ShownNumber, ShownNumbers};
+use nntp_facts::{Facts, ShownArticle, ShownGroup, ShownNumber, ShownNumbers, TakenGroups};
 use nntp_spool::{Spool, SpoolBuilder, SpoolFault};
 use nntp_wire::OwnedBlock;
 use std::alloc::Allocator;
@@ -32,9 +32,13 @@ pub(crate) struct SpoolMaker<A: Allocator> {
 
 impl<A: Allocator + Copy> SpoolMaker<A> {
     /// Makes the groups that are shown, with their numbers, and articles of the ids that are
-    /// invented for them.
-    pub(crate) fn of_groups(alloc: A, facts: &Facts<A>) -> Result<SpoolMaker<A>, SpoolFault>
-        ensures { (said : List Fact) (G : SpoolValue) → HaveNoted facts.now said
+    /// invented for them. The facts have given the groups away.
+    pub(crate) fn of_groups(
+        alloc: A,
+        facts: &Facts<A>,
+        mut groups: TakenGroups<A>,
+    ) -> Result<SpoolMaker<A>, SpoolFault>
+        ensures { (said : List Fact) (G : SpoolValue) → HaveArticles facts.now said → AreShownGroups said groups
             → IsGivenSpool facts.now.limit said G
             → Makes result (λ maker. GroupsLeft facts.now.limit said G [] maker.builder maker.next) }
     {
@@ -44,9 +48,8 @@ impl<A: Allocator + Copy> SpoolMaker<A> {
             next: 0,
             no_lines: no_lines(alloc)?,
         };
-        let mut groups = facts.groups();
         while let Some(group) = groups.next() {
-            maker.add_group(facts, &group)?;
+            maker.add_group(facts, &group.shown())?;
         }
         Ok(maker)
     }
@@ -54,7 +57,7 @@ impl<A: Allocator + Copy> SpoolMaker<A> {
     /// Adds a group with its numbers.
     fn add_group(&mut self, facts: &Facts<A>, group: &ShownGroup<'_, A>) -> Result<(), SpoolFault>
         ensures { (said : List Fact) (G : SpoolValue) (left : List GroupValue)
-            → HaveNoted facts.now said → IsGivenSpool facts.now.limit said G
+            → HaveArticles facts.now said → IsGivenSpool facts.now.limit said G
             → GroupsLeft facts.now.limit said G (group.now ∷ left) self.old.builder self.old.next
             → Makes result (λ _. GroupsLeft facts.now.limit said G left self.new.builder self.new.next) }
     {
@@ -73,7 +76,7 @@ impl<A: Allocator + Copy> SpoolMaker<A> {
         unseen: Option<u64>,
     ) -> Result<(), SpoolFault>
         ensures { (said : List Fact) (G before : SpoolValue) (behind : List Id) (left : List (ℕ × Option Id))
-            → HaveNoted facts.now said → IsGivenSpool facts.now.limit said G
+            → HaveArticles facts.now said → IsGivenSpool facts.now.limit said G
             → NumbersLeft facts.now.limit said G before name.now behind (unseen_number unseen ++ left) self.old.builder self.old.next
             → Makes result (λ _. NumbersLeft facts.now.limit said G before name.now behind left self.new.builder self.new.next) }
     {
@@ -91,7 +94,7 @@ impl<A: Allocator + Copy> SpoolMaker<A> {
         mut numbers: ShownNumbers<'_, A>,
     ) -> Result<(), SpoolFault>
         ensures { (said : List Fact) (G before : SpoolValue) (behind : List Id) (left : List (ℕ × Option Id))
-            → HaveNoted facts.now said → IsGivenSpool facts.now.limit said G
+            → HaveArticles facts.now said → IsGivenSpool facts.now.limit said G
             → NumbersLeft facts.now.limit said G before name.now behind (numbers.entry ++ left) self.old.builder self.old.next
             → Makes result (λ _. NumbersLeft facts.now.limit said G before name.now behind left self.new.builder self.new.next) }
     {
@@ -109,7 +112,7 @@ impl<A: Allocator + Copy> SpoolMaker<A> {
         shown: &ShownNumber<'_, A>,
     ) -> Result<(), SpoolFault>
         ensures { (said : List Fact) (G before : SpoolValue) (behind : List Id) (left : List (ℕ × Option Id))
-            → HaveNoted facts.now said → IsGivenSpool facts.now.limit said G
+            → HaveArticles facts.now said → IsGivenSpool facts.now.limit said G
             → NumbersLeft facts.now.limit said G before name.now behind (number_value shown.now ∷ left) self.old.builder self.old.next
             → Makes result (λ _. NumbersLeft facts.now.limit said G before name.now behind left self.new.builder self.new.next) }
     {
@@ -122,7 +125,7 @@ impl<A: Allocator + Copy> SpoolMaker<A> {
     /// Adds a number with an id that is invented, and the article of that id.
     fn add_invented(&mut self, facts: &Facts<A>, name: &[u8], number: u64) -> Result<(), SpoolFault>
         ensures { (said : List Fact) (G before : SpoolValue) (behind : List Id) (left : List (ℕ × Option Id))
-            → HaveNoted facts.now said → IsGivenSpool facts.now.limit said G
+            → HaveArticles facts.now said → IsGivenSpool facts.now.limit said G
             → NumbersLeft facts.now.limit said G before name.now behind ((number, None) ∷ left) self.old.builder self.old.next
             → Makes result (λ _. NumbersLeft facts.now.limit said G before name.now behind left self.new.builder self.new.next) }
     {
@@ -138,7 +141,7 @@ impl<A: Allocator + Copy> SpoolMaker<A> {
 
     /// Adds the articles that are shown.
     pub(crate) fn add_articles(&mut self, facts: &Facts<A>) -> Result<(), SpoolFault>
-        ensures { (said : List Fact) (G : SpoolValue) → HaveNoted facts.now said
+        ensures { (said : List Fact) (G : SpoolValue) → HaveArticles facts.now said
             → IsGivenSpool facts.now.limit said G
             → GroupsLeft facts.now.limit said G [] self.old.builder self.old.next
             → Makes result (λ _. ArticlesLeft facts.now.limit said G [] self.new.builder) }

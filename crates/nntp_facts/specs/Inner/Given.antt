@@ -1,6 +1,5 @@
 -- What is said with the words of `Given.antt`, and needn't be believed.
 use Rattle.std.specs.Prelude.{ℕ, ◌+◌, List, [], ◌∷◌, length}
-use Rattle.nntp_article.specs.Session.Spool.{numbers}
 use Rattle.nntp_said.specs.{Asks.{Estimates, ListsIn, StandsNowhere, IsTop, IsBottom}, Facts.{Fact, Asks, GroupsAre}}
 use Rattle.nntp_wire.specs.Answer.{Response}
 use Rattle.nntp_pair.specs.Inner.Pairing.{lines_in}

@@ -3,7 +3,8 @@ use Rattle.std.specs.{Prelude.{◌≡◌, List, [], ◌∷◌, ◌++◌, map}, L
 use Rattle.nntp_wire.specs.{Limit.{greatest}, declared.limit.Limit.{Limit}}
 use Rattle.nntp_article.specs.{declared.session.profile.Profile.{Profile}, Session.Spool.{Spool, IsSpool}}
 use Rattle.nntp_pair.specs.Pairing.{Paired}
-use Rattle.nntp_facts.specs.{Answered.{PermitsEach}, Given.{IsGiven}, Inner.Noted.{FactsKept, HasNotedBehind, profile_kept, said_behind}, Noted.{exchanged}}
+use Rattle.nntp_facts.specs.{Answered.{PermitsEach}, Given.{IsGiven}, Inner.Noted.{FactsKept, HasNotedBehind, profile_kept, said_behind}}
+use Rattle.nntp_facts.specs.{Inner.Kept.{AreKeptArticles}, Noted.{exchanged}}
 use Rattle.nntp_said.specs.Facts.{Fact, Holds}
 use Rattle.nntp_spool.specs.Limited.{LimitedSpool}
 
@@ -19,6 +20,10 @@ pub record HaveNoted (facts : FactsKept) (said : List Fact) : Type 0 where
   pub past : List Paired
   pub stands : HasNotedBehind (profile_kept facts) facts earlier past
   pub said_is : said_behind facts.marks earlier past ≡ said
+
+-- the facts have what was said of ids, though they may have given their groups away
+abbrev pub HaveArticles : FactsKept → List Fact → Type 0
+HaveArticles facts said = AreKeptArticles said facts.kept.articles
 
 -- the spool is the one that is given for what was said, and has all of it
 pub record IsGivenSpool (limit : Limit) (said : List Fact) (S : Spool) : Type 0 where

@@ -1,9 +1,8 @@
-use Rattle.std.{proofs.Common.{option_map, ap, sym, ◌∙◌}, specs.{Ordering.{nat_cmp}, Cmp.{nat_cmp_total}, Rc.{rc_str_bytes}}}
-use Rattle.nntp_wire.proofs.ShownMaps.{get-shown, option_map-option_map}
-use Rattle.std.specs.FinMap as map
+use Rattle.std.{proofs.Common.{◌≡◌, MatchOption, option_map, sym, ap, subst, ◌∙◌}, specs.Rc.{rc_str_bytes}}
+use Rattle.nntp_facts.{specs.Inner.Between.{IsBetween}, proofs.Keeping.MarksAlone.{none_identified}}
 use Rattle.nntp_facts.proofs.group.Group.id_text.Goals as goal
 
-pub returns : goal.returns
-returns g c =
-    option_map-option_map (λ r. r.now) (λ v. rc_str_bytes v) c.find.result ∙ ap (option_map (λ v. rc_str_bytes v)) c.find.ensures
-    ∙ sym (get-shown nat_cmp (λ k. k) (λ v. rc_str_bytes v) nat_cmp_total c.self.inside.ids.entries c.args.number) ∙ ap (λ g. map.get g.ids c.args.number) c.self.view_is
+pub returns-in_err-details : goal.returns-in_err-details
+returns-in_err-details g c =
+    let marks = subst (λ o. MatchOption o (IsBetween c.args.self.now) (λ d. d.now ≡ c.args.self.now)) c.in_err-details.was c.details.ensures in
+    ap (option_map (λ id. rc_str_bytes id.now)) c.from_residual.ensures ∙ sym (none_identified c.args.self.now marks c.args.number)

@@ -33,14 +33,14 @@ returns g c =
     let none = missing (slice_cmp nat_cmp) (λ k. k.items)
     (λ v. v) nat_list_cmp_total same c.self.inside.groups.entries M name c.self.view_is
     (ap option_copied_mut (sym c.in_default.is) ∙ c.get_mut.ensures.value) in
-    let begun = c.new-group.ensures.ids in
+    let begun = c.new-details.ensures.ids in
     on_ok c.put.result (λ is before asks text kept says bounded each free after changes.
     let was = kept_of before M name _ none kept in
-    let grown = c.in_ok-add.ensures.ids text (empty_agree c.new-group.result id begun.0)
-    (subst (λ ids. MayHave ids c.new-group.result.places id) (sym begun.0)
+    let grown = c.in_ok-add.ensures.ids text (empty_agree c.new-details.result id begun.0)
+    (subst (λ ids. MayHave ids c.new-details.result.places id) (sym begun.0)
     (subst (λ places. MayHave map.empty places id) (sym begun.1) (empty_may_have id))) in
     let whole : c.put.new.self ≡ map.insert M name group = is
     ∙ (λ i. map.insert (map.from_entries (list_map (λ e. (e.0.items, e.1)) (c.get_mut.follows.holds-at-none i).entries)) name
-    group) ∙ ap (λ m. map.insert m name group) c.self.view_is in
-    subst (AreKept after) (sym whole) (new_kept before after M name group asks id kept none (bounded was.not_shown) free changes (c.in_ok-add.ensures.numbers _ asks c.new-group.ensures.numbers says)
+    (c.in_ok-of.ensures i)) ∙ ap (λ m. map.insert m name group) c.self.view_is in
+    subst (AreKept after) (sym whole) (new_kept before after M name group asks id kept none (bounded was.not_shown) free changes (c.in_ok-add.ensures.numbers _ asks c.new-details.ensures.numbers says)
     (grown.0 ∙ ap (λ ids. ids_with ids id) begun.0) (grown.1 ∙ ap (λ places. places_with places id) begun.1))) c.put.ensures

@@ -1,12 +1,12 @@
 use Rattle.std.proofs.{Common.{List, [], sym, subst, ◌∙◌}, lemmas.Result.{err_from_is_err_and}}
-use Rattle.nntp_facts.specs.Inner.Readers.{ShownArticle, AreShownArticles}
-use Rattle.nntp_witness.{specs.Inner.Making.{Makes, ArticlesLeft}, proofs.{Aims.{so_of_said}, ArticleSteps.{articles_start}}}
+use Rattle.nntp_facts.specs.Inner.Readers.{ShownArticle}
+use Rattle.nntp_witness.{specs.Inner.Making.{Makes, ArticlesLeft}, proofs.ArticleSteps.{articles_start}}
 use Rattle.nntp_witness.proofs.maker.SpoolMaker.add_articles.Goals as goal
 
 pub loop-article-init : goal.loop-article-init
 loop-article-init g c said G stands witness groups = articles_start c.args.facts.now.limit said G
     c.articles-articles.result c.args.self.now.builder c.args.self.now.next witness
-    (so_of_said c.args.facts.now said (λ facts. AreShownArticles facts c.articles-articles.result) stands c.articles-articles.ensures) groups
+    (c.articles-articles.ensures.kept said stands) groups
 
 pub loop-article-preserved : goal.loop-article-preserved
 loop-article-preserved g c said G stands witness groups =

@@ -1,7 +1,7 @@
 use Rattle.std.{proofs.Common.{ap, ◌∙◌}, specs.{Ordering.{nat_cmp}, Cmp.{nat_cmp_total, Lexicographic.{slice_cmp, nat_list_cmp_total}}, Rc.{rc_str_bytes}}}
 use Rattle.nntp_wire.proofs.ShownMaps.{insert-shown}
 use Rattle.std.specs.FinMap as map
-use Rattle.nntp_facts.proofs.group.Group.identify.Goals as goal
+use Rattle.nntp_facts.proofs.details.Details.identify.Goals as goal
 
 pub returns-clause-ids : goal.returns-clause-ids
 returns-clause-ids g c =

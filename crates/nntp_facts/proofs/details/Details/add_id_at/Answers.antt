@@ -1,7 +1,7 @@
 use Rattle.std.{proofs.Common.{is_some, sym, ap, ◌∙◌}, specs.Rc.{rc_str_bytes}}
 use Rattle.nntp_wire.proofs.ShownMaps.{is_some-option_map}
 use Rattle.nntp_facts.proofs.Keeping.KeptGroups.{same_id}
-use Rattle.nntp_facts.proofs.group.Group.add_id_at.Goals as goal
+use Rattle.nntp_facts.proofs.details.Details.add_id_at.Goals as goal
 
 pub returns-then-is_some-clause-ids : goal.returns-then-is_some-clause-ids
 returns-then-is_some-clause-ids g c each free = same_id c.args.self.now c.args.number (rc_str_bytes c.args.id) c.is_some.result
